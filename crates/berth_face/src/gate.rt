@@ -1,0 +1,20 @@
+// A place for tests to hold a lane or a turn.
+
+/// A place for tests to hold a lane before a command, or a caller inside a table's turn. It changes no answer.
+pub trait Gate: Sync {
+    /// Called before a lane's command, with the lane's number and the command's place in the lane, both from 0.
+    fn pass(&self, lane: u32, step: u32);
+
+    /// Called inside a turn of that table of that leaf.
+    fn within(&self, leaf: u32, table: u32);
+}
+
+/// A gate that holds nobody.
+#[derive(Clone, Copy, Debug)]
+pub struct OpenGate;
+
+impl Gate for OpenGate {
+    fn pass(&self, _lane: u32, _step: u32) {}
+
+    fn within(&self, _leaf: u32, _table: u32) {}
+}

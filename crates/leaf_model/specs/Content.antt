@@ -1,0 +1,44 @@
+-- What a table holds after a list of writes.
+use Rattle.std.specs.Prelude.{ℕ, ◌-◌, List, [], ◌++◌, length, drop, fold, filter, ℤ, pos, int_le}
+use Rattle.std.specs.Int.{int_max}
+use Rattle.leaf_model.specs.declared.content.Contents.{Contents}
+use Rattle.leaf_model.specs.declared.rows.Row.{Row}
+use Rattle.leaf_model.specs.declared.writes.Write.{Write}
+use Rattle.leaf_model.specs.declared.writes.Write.TheVariants.{Add, Expire, Keep}
+
+-- no rows, and every time is welcome
+abbrev pub nothing : Contents
+nothing = record { rows = []; horizon = pos 0 }
+
+-- the rows whose time is at least the horizon
+abbrev pub rows_from : ℤ → List Row → List Row
+rows_from horizon rows = filter (λ (row : Row). int_le horizon row.time) rows
+
+-- the last n rows
+abbrev pub last_rows : ℕ → List Row → List Row
+last_rows n rows = drop (length rows - n) rows
+
+-- one write: an add keeps the rows that are not late, an expiry raises the horizon and removes what is below it, a keep leaves the last n rows
+abbrev pub content_after : Contents → Write → Contents
+content_after c (Add rows) = record { rows = c.rows ++ rows_from c.horizon rows; horizon = c.horizon }
+content_after c (Expire horizon) = record { rows = rows_from (int_max c.horizon horizon) c.rows; horizon = int_max c.horizon horizon }
+content_after c (Keep n) = record { rows = last_rows n c.rows; horizon = c.horizon }
+
+-- a list of writes, one after another
+abbrev pub content_from : Contents → List Write → Contents
+content_from c writes = fold content_after c writes
+
+-- a list of writes to an empty table
+abbrev pub content : List Write → Contents
+content writes = content_from nothing writes
+
+-- how many of the rows an add to this content keeps, and how many are late
+abbrev pub kept_count : Contents → List Row → ℕ
+kept_count c rows = length (rows_from c.horizon rows)
+
+abbrev pub late_count : Contents → List Row → ℕ
+late_count c rows = length rows - kept_count c rows
+
+-- how many rows a write takes away
+abbrev pub removed_count : Contents → Write → ℕ
+removed_count c write = length c.rows - length (content_after c write).rows

@@ -1,0 +1,146 @@
+-- What a query answers over a plain list of rows: which rows pass, and the groups of those, by key.
+use Rattle.std.specs.Prelude.{ℕ, Bool, false, ◌&&◌, not, List, [], ◌∷◌, length, map, fold, filter, ℤ, pos, ◌+ℤ◌, int_le, Option, Some, None, if◌then◌else◌, bytes_eq, filter_map, option_and_then}
+use Rattle.std.specs.List.{list_all}
+use Rattle.std.specs.Int.{int_min, int_max}
+use Rattle.std.specs.declared.cmp.Ordering.{Ordering}
+use Rattle.std.specs.declared.cmp.Ordering.TheVariants.{Less, Equal, Greater}
+use Rattle.std.specs.Ordering.{is_eq, is_lt, is_le, is_gt, is_ge, nat_cmp, int_cmp}
+use Rattle.std.specs.Cmp.Lexicographic.{slice_cmp}
+use Rattle.leaf_model.specs.declared.rows.Value.{Value}
+use Rattle.leaf_model.specs.declared.rows.Value.TheVariants as value
+use Rattle.leaf_model.specs.declared.rows.Cell.{Cell}
+use Rattle.leaf_model.specs.declared.rows.Row.{Row}
+use Rattle.leaf_model.specs.declared.queries.Op.{Op}
+use Rattle.leaf_model.specs.declared.queries.Op.TheVariants.{Eq, Ne, Lt, Le, Gt, Ge}
+use Rattle.leaf_model.specs.declared.queries.Cond.{Cond}
+use Rattle.leaf_model.specs.declared.queries.Agg.{Agg}
+use Rattle.leaf_model.specs.declared.queries.Agg.TheVariants.{Count, Sum, Min, Max, Avg}
+use Rattle.leaf_model.specs.declared.queries.Query.{Query}
+use Rattle.leaf_model.specs.declared.groups.Key.{Key}
+use Rattle.leaf_model.specs.declared.groups.Key.TheVariants as key
+use Rattle.leaf_model.specs.declared.groups.Fold.{Fold}
+use Rattle.leaf_model.specs.declared.groups.Group.{Group}
+use Rattle.leaf_model.specs.Values.{time_name}
+
+-- the value of the cell of that name
+abbrev pub cell_value : List ℕ → List Cell → Option Value
+cell_value name [] = None
+cell_value name (c ∷ cs) = if bytes_eq name c.name then Some c.value else cell_value name cs
+
+-- what a row has under a name: `time` is its time
+abbrev pub value_of : List ℕ → Row → Option Value
+value_of name row = if bytes_eq name time_name then Some (value.Int row.time) else cell_value name row.cells
+
+-- texts compare by their bytes
+abbrev pub text_cmp : List ℕ → List ℕ → Ordering
+text_cmp = slice_cmp nat_cmp
+
+abbrev pub op_accepts : Op → Ordering → Bool
+op_accepts Eq o = is_eq o
+op_accepts Ne o = not (is_eq o)
+op_accepts Lt o = is_lt o
+op_accepts Le o = is_le o
+op_accepts Gt o = is_gt o
+op_accepts Ge o = is_ge o
+
+-- an integer and a text meet no operator
+abbrev pub compares : Op → Value → Value → Bool
+compares op (value.Int a) (value.Int b) = op_accepts op (int_cmp a b)
+compares op (value.Text a) (value.Text b) = op_accepts op (text_cmp a b)
+compares op (value.Int a) (value.Text b) = false
+compares op (value.Text a) (value.Int b) = false
+
+-- a missing cell meets no condition
+abbrev pub cond_accepts : Cond → Option Value → Bool
+cond_accepts c None = false
+cond_accepts c (Some v) = compares c.op v c.value
+
+-- the time is in the range, and each condition holds
+abbrev pub passes : Query → Row → Bool
+passes q row = int_le q.from row.time && (int_le row.time q.to && list_all (λ (c : Cond). cond_accepts c (value_of c.name row)) q.conds)
+
+abbrev pub key_of : Option Value → Key
+key_of None = key.Missing
+key_of (Some (value.Int n)) = key.Int n
+key_of (Some (value.Text t)) = key.Text t
+
+-- what the row has under the names of GROUP BY
+abbrev pub keys_of : Query → Row → List Key
+keys_of q row = map (λ name. key_of (value_of name row)) q.keys
+
+-- missing, then integers ascending, then texts by their bytes
+abbrev pub key_cmp : Key → Key → Ordering
+key_cmp key.Missing key.Missing = Equal
+key_cmp key.Missing (key.Int b) = Less
+key_cmp key.Missing (key.Text b) = Less
+key_cmp (key.Int a) key.Missing = Greater
+key_cmp (key.Int a) (key.Int b) = int_cmp a b
+key_cmp (key.Int a) (key.Text b) = Less
+key_cmp (key.Text a) key.Missing = Greater
+key_cmp (key.Text a) (key.Int b) = Greater
+key_cmp (key.Text a) (key.Text b) = text_cmp a b
+
+-- lists of keys compare from the left
+abbrev pub keys_cmp : List Key → List Key → Ordering
+keys_cmp = slice_cmp key_cmp
+
+-- an ascending list of distinct key lists, with one more in its place
+abbrev pub with_keys_at : Ordering → List Key → List Key → List (List Key) → List (List Key) → List (List Key)
+with_keys_at Less k j js further = k ∷ j ∷ js
+with_keys_at Equal k j js further = j ∷ js
+with_keys_at Greater k j js further = j ∷ further
+
+abbrev pub with_keys : List Key → List (List Key) → List (List Key)
+with_keys k [] = k ∷ []
+with_keys k (j ∷ js) = let further = with_keys k js in with_keys_at (keys_cmp k j) k j js further
+
+-- the key lists of the rows, ascending, each once
+abbrev pub distinct_keys : Query → List Row → List (List Key)
+distinct_keys q [] = []
+distinct_keys q (row ∷ rows) = with_keys (keys_of q row) (distinct_keys q rows)
+
+-- the integer that stands in a cell
+abbrev pub as_int : Value → Option ℤ
+as_int (value.Int n) = Some n
+as_int (value.Text t) = None
+
+-- the integer cells of a name
+abbrev pub ints_of : List ℕ → List Row → List ℤ
+ints_of name rows = filter_map (λ row. option_and_then as_int (value_of name row)) rows
+
+abbrev pub int_sum : List ℤ → ℤ
+int_sum ns = fold ◌+ℤ◌ (pos 0) ns
+
+abbrev pub least : List ℤ → Option ℤ
+least [] = None
+least (n ∷ ns) = Some (fold int_min n ns)
+
+abbrev pub greatest : List ℤ → Option ℤ
+greatest [] = None
+greatest (n ∷ ns) = Some (fold int_max n ns)
+
+-- the number, sum, least and greatest of the integers
+abbrev pub fold_of : List ℤ → Fold
+fold_of ns = record { seen = length ns; sum = int_sum ns; min = least ns; max = greatest ns }
+
+-- the integers that an aggregate looks at: COUNT looks at none
+abbrev pub agg_ints : Agg → List Row → List ℤ
+agg_ints Count rows = []
+agg_ints (Sum name) rows = ints_of name rows
+agg_ints (Min name) rows = ints_of name rows
+agg_ints (Max name) rows = ints_of name rows
+agg_ints (Avg name) rows = ints_of name rows
+
+-- the rows with these keys
+abbrev pub rows_with : Query → List Key → List Row → List Row
+rows_with q ks rows = filter (λ row. is_eq (keys_cmp (keys_of q row) ks)) rows
+
+-- the count of the rows, and a fold for each aggregate
+abbrev pub group_of : Query → List Key → List Row → Group
+group_of q ks rows = record { keys = ks; count = length rows; folds = map (λ agg. fold_of (agg_ints agg rows)) q.aggs }
+
+-- the groups of the passing rows, by key ascending
+abbrev pub groups : Query → List Row → List Group
+groups q rows =
+    let passing = filter (passes q) rows in
+    map (λ ks. group_of q ks (rows_with q ks passing)) (distinct_keys q passing)

@@ -1,0 +1,50 @@
+-- What rows, writes and queries may be.
+use Rattle.std.specs.Prelude.{ℕ, ◌<◌, ◌≤◌, ◌^◌, ◌≢◌, List, length, map, ℤ, pos, ◌≤ℤ◌, codes, IsUtf8, FitsSigned}
+use Rattle.std.specs.List.{AllByRecursion}
+use Rattle.std.specs.List.Sorted.{IsStrictlySortedBy}
+use Rattle.std.specs.Int.{w64}
+use Rattle.std.specs.Ordering.{nat_cmp}
+use Rattle.std.specs.Cmp.Lexicographic.{slice_cmp}
+use Rattle.leaf_model.specs.declared.rows.Value.{Value}
+use Rattle.leaf_model.specs.declared.rows.Value.TheVariants.{Int, Text}
+use Rattle.leaf_model.specs.declared.rows.Cell.{Cell}
+use Rattle.leaf_model.specs.declared.rows.Row.{Row}
+use Rattle.leaf_model.specs.declared.writes.Write.{Write}
+use Rattle.leaf_model.specs.declared.writes.Write.TheVariants.{Add, Expire, Keep}
+
+-- the name that always means the row's time
+abbrev pub time_name : List ℕ
+time_name = codes "time"
+
+-- 0 to 2^63 - 1
+abbrev pub IsTime : ℤ → Type 0
+IsTime t = (pos 0 ≤ℤ t) × FitsSigned w64 t
+
+-- 1 to 255 bytes of UTF-8, and not `time`
+pub record IsCellName (name : List ℕ) : Type 0 where
+  pub text : IsUtf8 name
+  pub some : 0 < length name
+  pub short : length name ≤ 255
+  pub other : name ≢ time_name
+
+-- an i64, or a text of at most 65,535 bytes
+abbrev pub IsValue : Value → Type 0
+IsValue (Int n) = FitsSigned w64 n
+IsValue (Text t) = IsUtf8 t × (length t ≤ 65535)
+
+pub record IsCell (c : Cell) : Type 0 where
+  pub name : IsCellName c.name
+  pub value : IsValue c.value
+
+-- a time, and at most 1,024 cells with ascending, distinct names
+pub record IsRow (row : Row) : Type 0 where
+  pub time : IsTime row.time
+  pub few : length row.cells ≤ 1024
+  pub cells : AllByRecursion IsCell row.cells
+  pub ascending : IsStrictlySortedBy (slice_cmp nat_cmp) (map (λ (c : Cell). c.name) row.cells)
+
+-- at most 100,000 rows, a horizon that is a time, or a number of rows to keep
+abbrev pub IsWrite : Write → Type 0
+IsWrite (Add rows) = (length rows ≤ 100000) × AllByRecursion IsRow rows
+IsWrite (Expire horizon) = IsTime horizon
+IsWrite (Keep n) = n < 2 ^ 64

@@ -1,0 +1,153 @@
+// Rows: a time, and cells in the order of their names.
+ghost use Rattle.std.specs.Prelude.{◌≡◌, ◌≤◌, length, IfOk};
+
+use crate::text::Text;
+use std::alloc::AllocError;
+use std::marker::Model;
+
+/// What a cell holds.
+#[derive(Debug, Drop)]
+pub enum Value {
+    Int(i64),
+    Text(Text),
+}
+
+impl Value {
+    pub fn copy(&self) -> Result<Value, AllocError>
+        ensures { IfOk result (λ copy. copy ≡ self.now) }
+    {
+        match self {
+            Value::Int(number) => Ok(Value::Int(*number)),
+            Value::Text(text) => Ok(Value::Text(text.copy()?)),
+        }
+    }
+}
+
+/// A named value of a row. The name `time` never names a cell.
+#[derive(Debug, Drop)]
+pub struct Cell {
+    pub name: Text,
+    pub value: Value,
+}
+
+impl Cell {
+    pub fn copy(&self) -> Result<Cell, AllocError>
+        ensures { IfOk result (λ copy. copy ≡ self.now) }
+    {
+        Ok(Cell {
+            name: self.name.copy()?,
+            value: self.value.copy()?,
+        })
+    }
+}
+
+/// The cells of a row. Contracts see them as the list.
+#[derive(Debug, Drop)]
+pub struct Cells {
+    inner: Vec<Cell>,
+}
+
+impl Model for Cells {
+    ghost use Rattle.std.specs.Prelude.{List};
+    ghost use Rattle.leaf_model.specs.declared.rows.Cell.{Cell};
+
+    ghost Value = { List Cell };
+
+    ghost view = { λ list. list.inner.items };
+}
+
+impl Cells {
+    pub fn of(inner: Vec<Cell>) -> Cells
+        ensures { result ≡ inner.items }
+    {
+        Cells { inner }
+    }
+
+    pub fn as_slice(&self) -> &[Cell]
+        ensures { result.now ≡ self.now }
+    {
+        self.inner.as_slice()
+    }
+
+    pub fn into_inner(self) -> Vec<Cell>
+        ensures { result.items ≡ self }
+    {
+        self.inner
+    }
+
+    pub fn copy(&self) -> Result<Cells, AllocError>
+        ensures { IfOk result (λ copy. copy ≡ self.now) }
+    {
+        let mut inner: Vec<Cell> = Vec::new(*self.inner.allocator());
+        for item in self.inner.as_slice() {
+            inner.push(item.copy()?)?;
+        }
+        Ok(Cells { inner })
+    }
+}
+
+/// A time from 0 to 2^63 - 1, and at most 1,024 cells with ascending, distinct names.
+#[derive(Debug, Drop)]
+pub struct Row {
+    pub time: i64,
+    pub cells: Cells,
+}
+
+impl Row {
+    pub fn copy(&self) -> Result<Row, AllocError>
+        ensures { IfOk result (λ copy. copy ≡ self.now) }
+    {
+        Ok(Row {
+            time: self.time,
+            cells: self.cells.copy()?,
+        })
+    }
+}
+
+/// The rows of one add, at most 100,000. Contracts see them as the list.
+#[derive(Debug, Drop)]
+pub struct Rows {
+    inner: Vec<Row>,
+}
+
+impl Model for Rows {
+    ghost use Rattle.std.specs.Prelude.{List, ◌≤◌, length};
+    ghost use Rattle.leaf_model.specs.declared.rows.Row.{Row};
+
+    ghost Value = { List Row };
+
+    ghost view = { λ list. list.inner.items };
+
+    ghost invariant = { λ list. length list.inner.items ≤ 100000 };
+}
+
+impl Rows {
+    pub fn of(inner: Vec<Row>) -> Rows
+        requires { length inner.items ≤ 100000 }
+        ensures { result ≡ inner.items }
+    {
+        Rows { inner }
+    }
+
+    pub fn as_slice(&self) -> &[Row]
+        ensures { result.now ≡ self.now }
+    {
+        self.inner.as_slice()
+    }
+
+    pub fn into_inner(self) -> Vec<Row>
+        ensures { result.items ≡ self }
+    {
+        self.inner
+    }
+
+    pub fn copy(&self) -> Result<Rows, AllocError>
+        ensures { IfOk result (λ copy. copy ≡ self.now) }
+    {
+        let mut inner: Vec<Row> = Vec::new(*self.inner.allocator());
+        for item in self.inner.as_slice() {
+            inner.push(item.copy()?)?;
+        }
+        Ok(Rows { inner })
+    }
+}
