@@ -12,7 +12,7 @@ mod writes;
 
 pub use groups::{Fold, Folds, Group, Groups, Key, Keys};
 pub use queries::{Agg, Aggs, Cond, Conds, Op, Query};
-pub use rows::{Cell, Cells, Row, Rows, Value};
+pub use rows::{Cell, Cells, Row, Rows, TableRows, Value};
 pub use steps::Steps;
 pub use text::{Names, Text, Texts};
 pub use writes::{Write, Writes};
