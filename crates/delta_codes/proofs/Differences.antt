@@ -1,7 +1,7 @@
 -- Codes of differences: they fit 64 bits, they stand for one difference each, and what they do to a value.
-use Rattle.std.proofs.Common.{◌≡◌, ℕ, zero, suc, ◌+◌, ◌-◌, ◌*◌, ◌/◌, ◌%◌, ◌^◌, ◌<◌, ℤ, pos, negsuc, ◌+ℤ◌, ◌-ℤ◌, FitsSigned, w64, refl, ap, sym, ◌∙◌, arith, rules}
+use Rattle.std.proofs.Common.{◌≡◌, ℕ, ◌^◌, ◌<◌, ℤ, pos, negsuc, ◌+ℤ◌, ◌-ℤ◌, FitsSigned, w64, ap, ◌∙◌, arith}
 use Rattle.std.specs.Int.{int_wrap}
-use Rattle.std.proofs.lemmas.Int.{ints, wraps, int_wrap-add_right, int_wrap_fits, SFits-int_wrap}
+use Rattle.std.proofs.lemmas.Int.{ints, int_wrap-add_right, int_wrap_fits, SFits-int_wrap}
 use Rattle.delta_codes.specs.Slots.{zigzag, unzigzag, after}
 
 -- the code of an i64 is a u64

@@ -1,5 +1,5 @@
 -- The rule of a slot, place by place, and that what is written for values means them.
-use Rattle.std.proofs.Common.{◌≡◌, ◌≢◌, ℕ, zero, suc, ◌+◌, ◌-◌, ◌*◌, ◌/◌, ◌%◌, ◌^◌, ◌<◌, ◌≤◌, List, length, map, ℤ, pos, ◌+ℤ◌, ◌-ℤ◌, FitsSigned, w64, slice_index, slice_index_or, slice_set, to_z, of_z, [], ◌∷◌, ◌++◌, refl, ap, sym, ◌∙◌, inl, inr, arith, rules}
+use Rattle.std.proofs.Common.{◌≡◌, ◌≢◌, ℕ, zero, suc, ◌+◌, ◌-◌, ◌*◌, ◌/◌, ◌%◌, ◌<◌, List, length, map, ℤ, pos, ◌-ℤ◌, FitsSigned, w64, slice_index, slice_index_or, slice_set, to_z, of_z, [], ◌∷◌, ◌++◌, refl, ap, sym, ◌∙◌, inl, inr, arith}
 use Rattle.std.specs.List.{range_with_len}
 use Rattle.std.specs.Int.{int_wrap, div_ceil}
 use Rattle.std.proofs.lemmas.Bool.{cases_eq, cases_lt}
@@ -7,7 +7,7 @@ use Rattle.std.proofs.lemmas.Int.{SFits-int_wrap, to_z-of_z}
 use Rattle.std.proofs.lemmas.List.{get_or_past}
 use Rattle.std.proofs.lemmas.List.Edits.{fill_by_more}
 use Rattle.std.proofs.lemmas.List.FromFn.{length-map-range_with_len, get_or-map-range_with_len, map-range_with_len_more, fill_by_all}
-use Rattle.delta_codes.specs.Slots.{zigzag, unzigzag, after, slot, slots, anchors_of, code_of, codes_of}
+use Rattle.delta_codes.specs.Slots.{zigzag, after, slot, slots, anchors_of, code_of, codes_of}
 use Rattle.delta_codes.proofs.Differences.{after_difference}
 
 -- one slot for each code

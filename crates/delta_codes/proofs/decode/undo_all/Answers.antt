@@ -1,4 +1,4 @@
-use Rattle.std.proofs.Common.{◌≡◌, ◌*◌, ◌<◌, ℕ, min, pos, length, arith}
+use Rattle.std.proofs.Common.{pos, length, arith}
 use Rattle.std.proofs.lemmas.List.FromFn.{fill_by_all}
 use Rattle.delta_codes.specs.Slots.{slot}
 use Rattle.delta_codes.proofs.decode.undo_all.Goals as goal

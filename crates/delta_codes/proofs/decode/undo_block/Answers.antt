@@ -1,4 +1,4 @@
-use Rattle.std.proofs.Common.{rules, ◌≡◌, ◌+◌, ◌-◌, ◌/◌, ◌%◌, ◌≢◌, ◌<◌, ℕ, length, pos, w64, ℤ, FitsSigned, to_z, of_z, slice_index, slice_index_or, sym, ap, ◌∙◌, arith}
+use Rattle.std.proofs.Common.{rules, ◌≡◌, ◌+◌, ◌-◌, ◌/◌, ◌%◌, ◌≢◌, length, pos, w64, FitsSigned, to_z, of_z, slice_index, slice_index_or, sym, ap, ◌∙◌, arith}
 use Rattle.std.proofs.lemmas.Int.{to_z-of_z}
 use Rattle.std.proofs.lemmas.List.{length-set}
 use Rattle.delta_codes.specs.Slots.{slot, after}

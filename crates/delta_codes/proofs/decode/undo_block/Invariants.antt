@@ -1,4 +1,4 @@
-use Rattle.std.proofs.Common.{◌≡◌, ℕ, ◌-◌, ◌<◌, ◌≤◌, pos, slice_index_or}
+use Rattle.std.proofs.Common.{◌≡◌, ℕ, ◌-◌, ◌<◌, pos, slice_index_or}
 use Rattle.delta_codes.specs.Slots.{slot}
 use Rattle.delta_codes.proofs.decode.undo_block.Given as goal
 

@@ -1,4 +1,4 @@
-use Rattle.std.proofs.Common.{rules, ◌≡◌, ℤ, ◌+ℤ◌, ap, ◌∙◌, w64, FitsSigned}
+use Rattle.std.proofs.Common.{rules, ◌+ℤ◌, ap, ◌∙◌, w64, FitsSigned}
 use Rattle.std.specs.Int.{int_wrap}
 use Rattle.std.proofs.lemmas.Int.{wrapping_add_is}
 use Rattle.delta_codes.proofs.difference.undo.Goals as goal

@@ -1,4 +1,4 @@
-use Rattle.std.proofs.Common.{◌≡◌, ℕ, ◌*◌, map, pos, slice_index_or}
+use Rattle.std.proofs.Common.{◌≡◌, ◌*◌, map, pos, slice_index_or}
 use Rattle.std.specs.List.{range_with_len}
 use Rattle.delta_codes.proofs.encode.anchors.Given as goal
 

@@ -1,4 +1,4 @@
-use Rattle.std.proofs.Common.{rules, ◌≡◌, ◌+◌, ◌-◌, ◌-ℤ◌, pos, w64, FitsSigned, slice_index_or, sym, ap, ◌∙◌, arith}
+use Rattle.std.proofs.Common.{rules, ◌-◌, pos, w64, FitsSigned, slice_index_or, sym, ap, ◌∙◌, arith}
 use Rattle.std.proofs.lemmas.Int.{wrapping_sub_is}
 use Rattle.delta_codes.specs.Slots.{zigzag}
 use Rattle.delta_codes.proofs.Slots.{code_between}

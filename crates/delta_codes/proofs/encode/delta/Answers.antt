@@ -1,5 +1,5 @@
-use Rattle.std.proofs.Common.{rules, ◌≡◌, length, ap, ◌∙◌, arith}
-use Rattle.delta_codes.specs.Slots.{slots, codes_of}
+use Rattle.std.proofs.Common.{rules, ◌≡◌, length, ap, ◌∙◌}
+use Rattle.delta_codes.specs.Slots.{codes_of}
 use Rattle.delta_codes.proofs.Slots.{written, length_anchors_of, codes_at_anchors}
 use Rattle.std.proofs.lemmas.List.{take_at}
 use Rattle.delta_codes.proofs.encode.delta.Goals as goal
