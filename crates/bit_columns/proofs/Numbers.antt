@@ -1,14 +1,11 @@
 -- Bytes as one number: its parts, and what it is below.
-use Rattle.std.proofs.Common.{◌≡◌, ℕ, zero, suc, ◌+◌, ◌-◌, ◌*◌, ◌/◌, ◌%◌, ◌^◌, ◌<◌, ◌≤◌, List, [], ◌∷◌, ◌++◌, length, take, drop, slice_index, refl, sym, ap, ap₂, ◌∙◌, arith}
+use Rattle.std.proofs.Common.{◌≡◌, ℕ, zero, suc, ◌+◌, ◌-◌, ◌*◌, ◌/◌, ◌%◌, ◌^◌, ◌<◌, List, [], ◌∷◌, ◌++◌, length, take, drop, refl, sym, ap, ap₂, ◌∙◌, arith, inl, inr}
 use Rattle.std.proofs.Math.Nat.{zero-div, zero-mod, div-one, mul_left_comm}
 use Rattle.std.proofs.lemmas.Nat.{pow-add, mod-pow-add, shr-shr, shr_high, mod_low, mod_below, pow_pos, from_le_bytes-to_le_bytes_8}
-use Rattle.std.proofs.lemmas.List.{get_or-drop, take_all}
+use Rattle.std.proofs.lemmas.List.{get_or-drop, get_or_append_left, get_or-append_right, take_all}
+use Rattle.std.proofs.lemmas.Bool.{cases_lt}
 use Rattle.std.specs.Int.{w64, to_le_bytes}
-use Rattle.bit_columns.specs.Number.{number}
-
--- each is a byte
-abbrev pub AreBytes : List ℕ → Type 0
-AreBytes bytes = (i : ℕ) → slice_index bytes i < 256
+use Rattle.bit_columns.specs.Number.{number, AreBytes}
 
 pub number-low : (b : ℕ) (bytes : List ℕ) → b < 256 → number (b ∷ bytes) % 2 ^ 8 ≡ b
 number-low b bytes h = ap (λ n. n % 2 ^ 8) (omega arith) ∙ mod_low (number bytes) 8 b h
@@ -34,8 +31,8 @@ number-take (suc m) (b ∷ bytes) h =
     let e : 8 * m + 8 ≡ 8 * suc m = omega arith in
     let parts = mod-pow-add (number (b ∷ bytes)) (8 * m) 8 in
     let cut : number (b ∷ bytes) % 2 ^ (8 * suc m) ≡ (number bytes % 2 ^ (8 * m)) * 2 ^ 8 + b =
-        ap (λ n. number (b ∷ bytes) % 2 ^ n) (sym e) ∙ parts
-        ∙ ap₂ (λ x y. (x % 2 ^ (8 * m)) * 2 ^ 8 + y) (number-high b bytes (h 0)) (number-low b bytes (h 0)) in
+    ap (λ n. number (b ∷ bytes) % 2 ^ n) (sym e) ∙ parts
+    ∙ ap₂ (λ x y. (x % 2 ^ (8 * m)) * 2 ^ 8 + y) (number-high b bytes (h 0)) (number-low b bytes (h 0)) in
     omega arith
 
 pub number-append : (xs ys : List ℕ) → number (xs ++ ys) ≡ number xs + number ys * 2 ^ (8 * length xs)
@@ -64,3 +61,26 @@ number-lt bytes h =
     let all = take_all (length bytes) bytes (omega arith) in
     let below = mod_below (number bytes) (2 ^ (8 * length bytes)) (pow_pos (8 * length bytes)) in
     omega (arith, number-take (length bytes) bytes h, ap number all)
+
+pub AreBytes-to_le_bytes : (n : ℕ) → AreBytes (to_le_bytes w64 n)
+AreBytes-to_le_bytes n zero = omega arith
+AreBytes-to_le_bytes n (suc zero) = mod_below (n / 256 ^ 1) 256 (omega arith)
+AreBytes-to_le_bytes n (suc (suc zero)) = mod_below (n / 256 ^ 2) 256 (omega arith)
+AreBytes-to_le_bytes n (suc (suc (suc zero))) = mod_below (n / 256 ^ 3) 256 (omega arith)
+AreBytes-to_le_bytes n (suc (suc (suc (suc zero)))) = mod_below (n / 256 ^ 4) 256 (omega arith)
+AreBytes-to_le_bytes n (suc (suc (suc (suc (suc zero))))) = mod_below (n / 256 ^ 5) 256 (omega arith)
+AreBytes-to_le_bytes n (suc (suc (suc (suc (suc (suc zero)))))) = mod_below (n / 256 ^ 6) 256 (omega arith)
+AreBytes-to_le_bytes n (suc (suc (suc (suc (suc (suc (suc zero))))))) = mod_below (n / 256 ^ 7) 256 (omega arith)
+AreBytes-to_le_bytes n (suc (suc (suc (suc (suc (suc (suc (suc i)))))))) = omega arith
+
+pub AreBytes-append : (xs ys : List ℕ) → AreBytes xs → AreBytes ys → AreBytes (xs ++ ys)
+AreBytes-append xs ys h k i = elim (cases_lt i (length xs)) [
+  | inl first ↦ omega (arith, get_or_append_left xs ys 0 i first, h i)
+  | inr later ↦ omega (arith, get_or-append_right xs ys (length xs) i 0 refl later, k (i - length xs))
+]
+
+pub AreBytes-take : (n : ℕ) (xs : List ℕ) → AreBytes xs → AreBytes (take n xs)
+AreBytes-take zero xs h i = omega arith
+AreBytes-take (suc n) [] h i = omega arith
+AreBytes-take (suc n) (x ∷ xs) h zero = h 0
+AreBytes-take (suc n) (x ∷ xs) h (suc i) = AreBytes-take n xs (λ k. h (suc k)) i

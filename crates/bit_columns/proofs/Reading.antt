@@ -1,13 +1,10 @@
 -- What a word shows of a bit string: the steps of reading it, in plain numbers.
-use Rattle.std.proofs.Common.{◌≡◌, ℕ, zero, suc, ◌+◌, ◌-◌, ◌*◌, ◌/◌, ◌%◌, ◌^◌, ◌<◌, ◌≤◌, List, [], ◌∷◌, ◌++◌, length, take, drop, get_or, slice_index, bit_or, refl, sym, ap, ap₂, ◌∙◌, arith}
-use Rattle.std.proofs.Math.Nat.{pow-le-pow_right, mul_assoc, mul_comm, add-mul-div_right}
-use Rattle.std.proofs.Math.Pow.{mod-mod-pow}
-use Rattle.std.proofs.lemmas.Nat.{pow-add, mod-pow-add, shr_high, mod_low, mod_below, pow_pos, or_comm, or_shifted, shr_below, shl_whole}
-use Rattle.std.proofs.lemmas.List.{take_all, take_more, drop_more, length-drop, get_or-drop, length-take-le}
-use Rattle.bit_columns.specs.Number.{number}
-use Rattle.bit_columns.specs.Bits.{bits_from}
-use Rattle.bit_columns.proofs.Numbers.{AreBytes, number-append, number-lt}
-use Rattle.bit_columns.proofs.Bits.{bits_from-window}
+use Rattle.std.proofs.Common.{◌≡◌, ℕ, ◌+◌, ◌-◌, ◌*◌, ◌/◌, ◌%◌, ◌^◌, ◌<◌, ◌≤◌, List, [], ◌∷◌, ◌++◌, length, take, drop, get_or, slice_index, bit_or, sym, ap, ap₂, ◌∙◌, arith}
+use Rattle.std.proofs.Math.Nat.{pow-le-pow_right, mul_assoc, add-mul-div_right}
+use Rattle.std.proofs.lemmas.Nat.{pow-add, mod-pow-add, shr_high, mod_low, pow_pos, or_comm, or_shifted, shr_below, shl_whole}
+use Rattle.std.proofs.lemmas.List.{take_more, drop_more, length-drop, get_or-drop, length-take-le}
+use Rattle.bit_columns.specs.Number.{number, AreBytes}
+use Rattle.bit_columns.proofs.Numbers.{number-append, number-lt}
 
 -- a word's upper bits, and a byte's lower ones above them
 pub or_crossing : (word next s t : ℕ) → s + t ≡ 64 → word < 2 ^ 64
@@ -17,17 +14,17 @@ or_crossing word next s t e h =
     let whole : 2 ^ 64 ≡ 2 ^ t * 2 ^ s = ap (λ n. 2 ^ n) (let f : 64 ≡ t + s = omega arith in f) ∙ pow-add 2 t s in
     let cut : (n : ℕ) → n % 2 ^ 64 ≡ (n / 2 ^ t % 2 ^ s) * 2 ^ t + n % 2 ^ t = λ n. ap (λ k. n % 2 ^ k) (sym e) ∙ mod-pow-add n s t in
     let shifted : next * 2 ^ t % 2 ^ 64 ≡ (next % 2 ^ s) * 2 ^ t =
-        let zeroed : next * 2 ^ t + 0 ≡ next * 2 ^ t = omega arith in
-        let top = shr_high next t 0 (pow_pos t) in
-        let bottom = mod_low next t 0 (pow_pos t) in
-        let parts = cut (next * 2 ^ t + 0) in
-        ap (λ n. n % 2 ^ 64) (sym zeroed) ∙ parts ∙ ap₂ (λ a b. (a % 2 ^ s) * 2 ^ t + b) top bottom ∙ (omega arith) in
+    let zeroed : next * 2 ^ t + 0 ≡ next * 2 ^ t = omega arith in
+    let top = shr_high next t 0 (pow_pos t) in
+    let bottom = mod_low next t 0 (pow_pos t) in
+    let parts = cut (next * 2 ^ t + 0) in
+    ap (λ n. n % 2 ^ 64) (sym zeroed) ∙ parts ∙ ap₂ (λ a b. (a % 2 ^ s) * 2 ^ t + b) top bottom ∙ (omega arith) in
     let moved : (next * 2 ^ 64 + word) / 2 ^ s ≡ next * 2 ^ t + word / 2 ^ s =
-        let split : next * 2 ^ 64 + word ≡ word + next * 2 ^ t * 2 ^ s = omega (arith, ap (λ n. next * n) whole, mul_assoc next (2 ^ t) (2 ^ s)) in
-        ap (λ n. n / 2 ^ s) split ∙ add-mul-div_right word (next * 2 ^ t) (pow_pos s) ∙ (omega arith) in
+    let split : next * 2 ^ 64 + word ≡ word + next * 2 ^ t * 2 ^ s = omega (arith, ap (λ n. next * n) whole, mul_assoc next (2 ^ t) (2 ^ s)) in
+    ap (λ n. n / 2 ^ s) split ∙ add-mul-div_right word (next * 2 ^ t) (pow_pos s) ∙ (omega arith) in
     let parts = cut (next * 2 ^ t + word / 2 ^ s) in
     let below : (next * 2 ^ t + word / 2 ^ s) % 2 ^ 64 ≡ (next % 2 ^ s) * 2 ^ t + word / 2 ^ s =
-        parts ∙ ap₂ (λ a b. (a % 2 ^ s) * 2 ^ t + b) (shr_high next t (word / 2 ^ s) high) (mod_low next t (word / 2 ^ s) high) in
+    parts ∙ ap₂ (λ a b. (a % 2 ^ s) * 2 ^ t + b) (shr_high next t (word / 2 ^ s) high) (mod_low next t (word / 2 ^ s) high) in
     ap (bit_or (word / 2 ^ s)) shifted ∙ or_comm (word / 2 ^ s) ((next % 2 ^ s) * 2 ^ t)
     ∙ or_shifted (next % 2 ^ s) t (word / 2 ^ s) high
     ∙ sym below ∙ ap (λ n. n % 2 ^ 64) (sym moved)

@@ -1,11 +1,11 @@
 -- Bits that are put behind others, in plain numbers.
-use Rattle.std.proofs.Common.{◌≡◌, ℕ, zero, suc, ◌+◌, ◌-◌, ◌*◌, ◌/◌, ◌%◌, ◌^◌, ◌<◌, ◌≤◌, List, ◌++◌, length, take, refl, sym, ap, ap₂, ◌∙◌, arith}
+use Rattle.std.proofs.Common.{◌≡◌, ℕ, ◌+◌, ◌*◌, ◌/◌, ◌%◌, ◌^◌, ◌<◌, ◌≤◌, List, ◌++◌, length, take, sym, ap, ◌∙◌, arith}
 use Rattle.std.proofs.Math.Nat.{mul_assoc, add-mul, pow-le-pow_right, mod-eq_of_lt}
 use Rattle.std.proofs.lemmas.Nat.{pow-add, mul-add-lt, div-add-mod', mod_below}
 use Rattle.std.proofs.lemmas.List.{length-append}
 use Rattle.std.specs.Int.{w64, to_le_bytes, div_ceil}
-use Rattle.bit_columns.specs.Number.{number}
-use Rattle.bit_columns.proofs.Numbers.{AreBytes, number-append, number-take, number-to_le_bytes}
+use Rattle.bit_columns.specs.Number.{number, AreBytes}
+use Rattle.bit_columns.proofs.Numbers.{number-append, number-take, number-to_le_bytes}
 
 -- bits above bits
 pub above_lt : (waiting value count width : ℕ) → waiting < 2 ^ count → value < 2 ^ width
@@ -27,7 +27,7 @@ written_waiting front waiting value count bytes =
 -- a whole word goes to the bytes, and the rest waits
 pub written_word : (bytes : List ℕ) (all : ℕ)
     → number (bytes ++ to_le_bytes w64 (all % 2 ^ 64)) + all / 2 ^ 64 * 2 ^ (8 * length (bytes ++ to_le_bytes w64 (all % 2 ^ 64)))
-        ≡ number bytes + all * 2 ^ (8 * length bytes)
+    ≡ number bytes + all * 2 ^ (8 * length bytes)
 written_word bytes all =
     let low = all % 2 ^ 64 in
     let high = all / 2 ^ 64 in
@@ -38,7 +38,7 @@ written_word bytes all =
     let len = length-append bytes word in
     let e : 8 * length (bytes ++ word) ≡ 64 + 8 * length bytes = omega arith in
     let grown : high * 2 ^ (8 * length (bytes ++ word)) ≡ high * 2 ^ 64 * size =
-        ap (λ n. high * 2 ^ n) e ∙ ap (λ n. high * n) (pow-add 2 64 (8 * length bytes)) ∙ sym (mul_assoc high (2 ^ 64) size) in
+    ap (λ n. high * 2 ^ n) e ∙ ap (λ n. high * n) (pow-add 2 64 (8 * length bytes)) ∙ sym (mul_assoc high (2 ^ 64) size) in
     let whole = div-add-mod' all (2 ^ 64) in
     let spread : all * size ≡ high * 2 ^ 64 * size + low * size = ap (λ n. n * size) (sym whole) ∙ add-mul (high * 2 ^ 64) low size in
     omega arith
@@ -53,6 +53,6 @@ written_last bytes waiting count few low are =
     let wide : 2 ^ count ≤ 2 ^ 64 = pow-le-pow_right {n = 2} (omega arith) {i = count} {j = 64} (omega arith) in
     let held : 2 ^ count ≤ 2 ^ (8 * used) = pow-le-pow_right {n = 2} (omega arith) {i = count} {j = 8 * used} (omega arith) in
     let value : number (take used word) ≡ waiting =
-        number-take used word are ∙ ap (λ n. n % 2 ^ (8 * used)) (number-to_le_bytes waiting (omega arith))
-        ∙ mod-eq_of_lt {n = waiting} {m = 2 ^ (8 * used)} (omega arith) in
+    number-take used word are ∙ ap (λ n. n % 2 ^ (8 * used)) (number-to_le_bytes waiting (omega arith))
+    ∙ mod-eq_of_lt {n = waiting} {m = 2 ^ (8 * used)} (omega arith) in
     number-append bytes (take used word) ∙ ap (λ n. number bytes + n * 2 ^ (8 * length bytes)) value

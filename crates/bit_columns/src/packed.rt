@@ -32,7 +32,11 @@ impl<'a> Packed<'a> {
         ensures view { IfSome result (λ packed. packed ≡ record { bytes = bytes.now; count = count; width = width }) }
     {
         if is_bits(bytes, u64::from(count) * u64::from(width)) {
-            Some(Packed { bytes, count, width })
+            Some(Packed {
+                bytes,
+                count,
+                width,
+            })
         } else {
             None
         }
@@ -44,7 +48,11 @@ impl<'a> Packed<'a> {
         ensures code { result ≡ code self.now.bytes self.now.width i }
         ensures below { result < 2 ^ self.now.width }
     {
-        bits_at(self.bytes, i as usize * self.width as usize, u32::from(self.width))
+        bits_at(
+            self.bytes,
+            i as usize * self.width as usize,
+            u32::from(self.width),
+        )
     }
 
     /// Writes all codes in order.

@@ -2,7 +2,7 @@
 ghost use Rattle.std.specs.Prelude.{◌≡◌, ℕ, ◌+◌, ◌*◌, ◌/◌, ◌%◌, ◌^◌, ◌≤◌, ◌<◌, IfOk, OnOk, length};
 ghost use Rattle.std.specs.List.{All};
 ghost use Rattle.std.specs.Int.{div_ceil};
-ghost use Rattle.bit_columns.specs.Number.{number};
+ghost use Rattle.bit_columns.specs.Number.{number, AreBytes};
 ghost use Rattle.bit_columns.specs.Bits.{IsBits, codes, presence};
 
 use std::alloc::{AllocError, Global};
@@ -17,17 +17,17 @@ struct BitWriter {
 }
 
 impl Model for BitWriter {
-    ghost use Rattle.std.specs.Prelude.{◌+◌, ◌*◌, ◌^◌, ◌<◌, length};
-    ghost use Rattle.bit_columns.specs.Number.{number, Written};
+    ghost use Rattle.std.specs.Prelude.{◌+◌, ◌*◌, ◌^◌, length};
+    ghost use Rattle.bit_columns.specs.Number.{number, Written, AreWaiting};
 
     ghost Value = { Written };
 
     ghost view = { λ writer. record {
-        value = number writer.bytes.items + writer.waiting * 2 ^ (8 * length writer.bytes.items);
-        bits = 8 * length writer.bytes.items + writer.count
+      value = number writer.bytes.items + writer.waiting * 2 ^ (8 * length writer.bytes.items);
+      bits = 8 * length writer.bytes.items + writer.count;
     } };
 
-    ghost invariant = { λ writer. (writer.count < 64) × (writer.waiting < 2 ^ writer.count) };
+    ghost invariant = { λ writer. AreWaiting writer.bytes.items writer.waiting writer.count };
 }
 
 // A value above so many bits.
@@ -87,9 +87,14 @@ impl BitWriter {
 
     fn finish(self) -> Result<Vec<u8>, AllocError>
         ensures value { IfOk result (λ bytes. number bytes.items ≡ self.value) }
+        ensures bytes { IfOk result (λ bytes. AreBytes bytes.items) }
         ensures whole { IfOk result (λ bytes. length bytes.items ≡ div_ceil self.bits 8) }
     {
-        let BitWriter { mut bytes, waiting, count } = self;
+        let BitWriter {
+            mut bytes,
+            waiting,
+            count,
+        } = self;
         let used = count.div_ceil(8) as usize;
         bytes.extend_from_slice(&waiting.to_le_bytes()[..used])?;
         Ok(bytes)
@@ -107,7 +112,8 @@ pub fn pack(alloc: Global, values: &[u64], width: u8) -> Result<Vec<u8>, AllocEr
     for value in values {
         writer.push(*value, u32::from(width))?;
     }
-    writer.finish()
+    let bytes = writer.finish()?;
+    Ok(bytes)
 }
 
 /// The bytes whose bits are 1 where the bits are true. The spare bits of the last byte are 0.
@@ -119,5 +125,6 @@ pub fn pack_bits(alloc: Global, bits: &[bool]) -> Result<Vec<u8>, AllocError>
     for bit in bits {
         writer.push(u64::from(*bit), 1)?;
     }
-    writer.finish()
+    let bytes = writer.finish()?;
+    Ok(bytes)
 }

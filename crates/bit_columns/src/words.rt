@@ -40,7 +40,8 @@ fn last_word(bytes: &[u8], at: usize) -> u64
 #[inline(always)]
 pub(crate) fn low_bits(number: u64, width: u32) -> u64
     requires { width ≤ 64 }
-    ensures { result ≡ number % 2 ^ width }
+    ensures value { result ≡ number % 2 ^ width }
+    ensures below { result < 2 ^ width }
 {
     if width < 64 {
         number & ((1 << width) - 1)
@@ -54,7 +55,8 @@ pub(crate) fn low_bits(number: u64, width: u32) -> u64
 pub(crate) fn bits_at(bytes: &[u8], from: usize, width: u32) -> u64
     requires width { width ≤ 64 }
     requires inside { from + width ≤ 8 * length bytes.now }
-    ensures { result ≡ bits_from bytes.now from width }
+    ensures value { result ≡ bits_from bytes.now from width }
+    ensures below { result < 2 ^ width }
 {
     let at = from / 8;
     let skipped = (from % 8) as u32;
@@ -81,5 +83,6 @@ fn crossing(word: u64, next: u8, skipped: u32) -> u64
 pub(crate) fn is_bits(bytes: &[u8], bits: u64) -> bool
     ensures { IsTrue result ↔ IsBits bytes.now bits }
 {
-    bytes.len() as u64 == bits.div_ceil(8) && (bits % 8 == 0 || bytes[bytes.len() - 1] >> (bits % 8) == 0)
+    bytes.len() as u64 == bits.div_ceil(8)
+        && (bits % 8 == 0 || bytes[bytes.len() - 1] >> (bits % 8) == 0)
 }

@@ -1,7 +1,6 @@
 use Rattle.std.proofs.Common.{◌≡◌, ◌+◌, ◌-◌, ◌*◌, ◌%◌, ◌^◌, drop, bit_or, sym, ap, ap₂, ◌∙◌, arith}
 use Rattle.std.proofs.lemmas.List.{take_all, length-drop}
-use Rattle.bit_columns.specs.Number.{number}
-use Rattle.bit_columns.proofs.Numbers.{AreBytes}
+use Rattle.bit_columns.specs.Number.{number, AreBytes}
 use Rattle.bit_columns.proofs.Reading.{or_byte}
 use Rattle.bit_columns.proofs.words.last_word.Goals as goal
 
@@ -13,9 +12,9 @@ loop-end-preserved c =
     let next : c.loop-end.end ≡ place + 1 = omega arith in
     let word : c.loop-end.word ≡ number (drop (place + 1) bytes) = c.loop-end.invariant.read ∙ ap (λ k. number (drop k bytes)) next in
     record {
-        read = ap₂ (λ w b. bit_or (w * 2 ^ 8 % 2 ^ 64) b) word c.from.ensures ∙ or_byte bytes place are (omega arith) (omega arith);
-        from = omega arith;
-        to = omega arith
+      read = ap₂ (λ w b. bit_or (w * 2 ^ 8 % 2 ^ 64) b) word c.from.ensures ∙ or_byte bytes place are (omega arith) (omega arith);
+      from = omega arith;
+      to = omega arith;
     }
 
 pub returns : goal.returns

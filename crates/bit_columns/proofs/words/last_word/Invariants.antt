@@ -1,4 +1,4 @@
-use Rattle.std.proofs.Common.{◌-◌, ◌≡◌, ℕ, ◌≤◌, length, drop}
+use Rattle.std.proofs.Common.{◌-◌, ◌≡◌, ◌≤◌, length, drop}
 use Rattle.bit_columns.specs.Number.{number}
 use Rattle.bit_columns.proofs.words.last_word.Given as goal
 
