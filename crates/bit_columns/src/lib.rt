@@ -1,9 +1,12 @@
 //! Bit strings and packed codes: numbers of a few bits each, one after the other in bytes.
 #![tactic(auto)]
 
+mod decode;
 mod packed;
 mod packing;
 mod presence;
+#[cfg(test)]
+mod tests;
 mod width;
 mod words;
 

@@ -2,6 +2,7 @@
 ghost use Rattle.std.specs.Prelude.{◌≡◌, ℕ, ◌*◌, ◌^◌, ◌≤◌, ◌<◌, ◌↔◌, IsSome, IfSome, length};
 ghost use Rattle.bit_columns.specs.Bits.{IsBits, code, codes};
 
+use crate::decode::fill_codes;
 use crate::words::{bits_at, is_bits};
 use std::marker::Model;
 
@@ -60,10 +61,6 @@ impl<'a> Packed<'a> {
         requires { length out.old ≡ self.now.count }
         ensures { out.new ≡ codes self.now.bytes self.now.width self.now.count }
     {
-        let bytes = self.bytes;
-        let width = self.width as usize;
-        for i in 0..out.len() {
-            out[i] = bits_at(bytes, i * width, width as u32);
-        }
+        fill_codes(self.bytes, out, self.count, u32::from(self.width));
     }
 }

@@ -6,6 +6,8 @@ use Rattle.bit_columns.proofs.packed.Packed.fill.Goals as goal
 pub returns : goal.returns
 returns c =
     let inside = c.self.inside in
-    let len : length c.loop-i.out ≡ inside.count = omega (arith, ap (λ (p : PackedCodes). p.count) c.self.view_is) in
-    fill_by_all (code inside.bytes.now inside.width) c.loop-i.out inside.count 0 len (λ k h. c.loop-i.invariant k (omega arith))
+    let out = c.fill_codes.new.out in
+    let width : c.from.result ≡ inside.width = c.from.ensures in
+    let len : length out ≡ inside.count = omega (arith, ap (λ (p : PackedCodes). p.count) c.self.view_is) in
+    fill_by_all (code inside.bytes.now inside.width) out inside.count 0 len (λ k h. c.fill_codes.ensures k h ∙ ap (λ w. code inside.bytes.now w k) width)
     ∙ ap (λ (p : PackedCodes). codes p.bytes p.width p.count) c.self.view_is
