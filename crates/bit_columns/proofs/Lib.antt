@@ -1,0 +1,6 @@
+pub mod Numbers
+pub mod Bits
+pub mod Joined
+pub mod Reading
+pub mod Spare
+pub mod Writing

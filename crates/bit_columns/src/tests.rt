@@ -1,0 +1,65 @@
+// The vectors of the format, and each public call once with ample memory.
+ghost use Rattle.std.specs.Prelude.{◌≡◌, ◌≤◌, ◌<◌, ◌^◌, length};
+ghost use Rattle.std.specs.List.{All};
+
+use crate::{Packed, PresenceBits, pack, pack_bits, width_of};
+use std::alloc::{AllocError, Global};
+
+// Whether values that are packed are these bytes, and are read back from them, one by one and in order.
+fn is_read_back(alloc: Global, values: &[u64], width: u8, bytes: &[u8]) -> Result<bool, AllocError>
+    requires width { width ≤ 64 }
+    requires fit { All (λ value. value < 2 ^ width) values.now }
+    requires few { length values.now < 2 ^ 32 }
+{
+    let written = pack(alloc, values, width)?;
+    let mut filled = vec![in alloc; 0u64; values.len()]?;
+    let mut got = Vec::new(alloc);
+    if let Some(packed) = Packed::view(bytes, values.len() as u32, width) {
+        packed.fill(&mut filled);
+        for i in 0..values.len() {
+            got.push(packed.get(i as u32))?;
+        }
+    }
+    Ok(written.as_slice() == bytes && filled.as_slice() == values && got.as_slice() == values)
+}
+
+#[test]
+fn codes_are_written_and_read(rt: HostRuntime) -> Result<(), AllocError> {
+    let alloc = rt.alloc();
+    let few: [u64; 3] = [5, 1, 7];
+    assert_eq!(rt; width_of(&few), 3);
+    assert!(rt; is_read_back(alloc, &few, 3, &[0xcd, 0x01])?);
+    assert!(rt; Packed::view(&[0xcd, 0x03], 3, 3).is_none());
+    assert!(rt; Packed::view(&[0xcd], 3, 3).is_none());
+    assert!(rt; Packed::view(&[0xcd, 0x01, 0], 3, 3).is_none());
+    assert_eq!(rt; width_of(&[]), 0);
+    assert!(rt; is_read_back(alloc, &[], 64, &[])?);
+    let greatest: [u64; 1] = [u64::MAX];
+    assert_eq!(rt; width_of(&greatest), 64);
+    assert!(rt; is_read_back(alloc, &greatest, 64, &[0xff; 8])?);
+    let zeros: [u64; 2] = [0, 0];
+    assert_eq!(rt; width_of(&zeros), 0);
+    assert!(rt; is_read_back(alloc, &zeros, 0, &[])?);
+    Ok(())
+}
+
+#[test]
+fn a_whole_block_is_written_and_read(rt: HostRuntime) -> Result<(), AllocError> {
+    let alloc = rt.alloc();
+    let values = vec![in alloc; 1u64; 65536]?;
+    assert!(rt; is_read_back(alloc, &values, 1, vec![in alloc; 0xffu8; 8192]?.as_slice())?);
+    Ok(())
+}
+
+#[test]
+fn presence_is_written_and_read(rt: HostRuntime) -> Result<(), AllocError> {
+    let written = pack_bits(rt.alloc(), &[true, false, true])?;
+    assert_eq!(rt; written.as_slice(), [0x05u8].as_slice());
+    let Some(bits) = PresenceBits::view(&[0x05], 3) else {
+        panic!(rt; "no bits");
+    };
+    assert!(rt; bits.get(0) && !bits.get(1) && bits.get(2));
+    assert!(rt; PresenceBits::view(&[0x0d], 3).is_none());
+    assert!(rt; PresenceBits::view(&[], 3).is_none());
+    Ok(())
+}
