@@ -1,0 +1,44 @@
+-- Writes and rows as bytes. All numbers are little endian.
+use Rattle.std.specs.Prelude.{ℕ, List, ◌∷◌, ◌++◌, length, ℤ}
+use Rattle.std.specs.List.{flat_map}
+use Rattle.std.specs.Int.{w16, w32, w64, to_le_bytes, cast_unsigned}
+use Rattle.leaf_model.specs.declared.rows.Value.{Value}
+use Rattle.leaf_model.specs.declared.rows.Value.TheVariants.{Int, Text}
+use Rattle.leaf_model.specs.declared.rows.Cell.{Cell}
+use Rattle.leaf_model.specs.declared.rows.Row.{Row}
+use Rattle.leaf_model.specs.declared.writes.Write.{Write}
+use Rattle.leaf_model.specs.declared.writes.Write.TheVariants.{Add, Expire, Keep}
+
+abbrev pub u16_bytes : ℕ → List ℕ
+u16_bytes n = to_le_bytes w16 n
+
+abbrev pub u32_bytes : ℕ → List ℕ
+u32_bytes n = to_le_bytes w32 n
+
+abbrev pub u64_bytes : ℕ → List ℕ
+u64_bytes n = to_le_bytes w64 n
+
+abbrev pub i64_bytes : ℤ → List ℕ
+i64_bytes n = to_le_bytes w64 (cast_unsigned w64 n)
+
+-- a byte of length, and the name
+abbrev pub name_bytes : List ℕ → List ℕ
+name_bytes name = length name ∷ name
+
+abbrev pub value_bytes : Value → List ℕ
+value_bytes (Int n) = 1 ∷ i64_bytes n
+value_bytes (Text t) = 2 ∷ (u16_bytes (length t) ++ t)
+
+abbrev pub cell_bytes : Cell → List ℕ
+cell_bytes c = name_bytes c.name ++ value_bytes c.value
+
+abbrev pub row_bytes : Row → List ℕ
+row_bytes row = i64_bytes row.time ++ u16_bytes (length row.cells) ++ flat_map cell_bytes row.cells
+
+abbrev pub rows_bytes : List Row → List ℕ
+rows_bytes rows = flat_map row_bytes rows
+
+abbrev pub write_bytes : Write → List ℕ
+write_bytes (Add rows) = 1 ∷ (u32_bytes (length rows) ++ rows_bytes rows)
+write_bytes (Expire horizon) = 2 ∷ i64_bytes horizon
+write_bytes (Keep n) = 3 ∷ u64_bytes n
