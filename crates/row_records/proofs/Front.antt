@@ -5,10 +5,9 @@ use Rattle.std.proofs.lemmas.List.{take_at, drop_at, take-append-drop}
 use Rattle.std.proofs.lemmas.List.Concat.{flat_map-cons}
 use Rattle.leaf_model.specs.declared.rows.Row.{Row}
 use Rattle.leaf_model.specs.Values.{IsRow}
-use Rattle.row_records.specs.Bytes.{row_bytes, rows_bytes}
-use Rattle.row_records.specs.Pending.{Begins}
-use Rattle.row_records.specs.Reading.{rows_at, StandsInFront}
-use Rattle.row_records.proofs.Fields.{IsBytes, some_is}
+use Rattle.row_records.specs.Bytes.{row_bytes, rows_bytes, Begins, IsBytes, StandsInFront}
+use Rattle.row_records.specs.Reading.{rows_at}
+use Rattle.row_records.proofs.Fields.{some_is}
 use Rattle.row_records.proofs.Records.{rows_take, rows_again}
 
 -- what begins with more begins with less
@@ -46,7 +45,8 @@ in_front count bytes rows rest taken fits e size =
 pub front_again : (count : ℕ) (bytes : List ℕ) (rows : List Row) (rest : List ℕ) → AllByRecursion IsRow rows → length rows ≡ count → bytes ≡ rows_bytes rows ++ rest → rows_at count bytes ≡ Some (rows, rest)
 front_again count bytes rows rest fits n e = ap (rows_at count) e ∙ ap (λ (k : ℕ). rows_at k (rows_bytes rows ++ rest)) (sym n) ∙ rows_again rows rest fits
 
-abbrev rows_and_rest : List Row → List ℕ → List Row × List ℕ
+-- rows and what follows them
+abbrev pub rows_and_rest : List Row → List ℕ → List Row × List ℕ
 rows_and_rest rows rest = (rows, rest)
 
 -- what was read is what stands in front
@@ -63,10 +63,3 @@ none_and_some (Some y) x none some = cc
 -- where nothing was read, no such rows stand in front
 pub no_front : (count : ℕ) (bytes : List ℕ) (rows : List Row) (rest : List ℕ) → rows_at count bytes ≡ None → AllByRecursion IsRow rows → length rows ≡ count → bytes ≡ rows_bytes rows ++ rest → ⊥
 no_front count bytes rows rest none fits n e = none_and_some (rows_at count bytes) (rows, rest) none (front_again count bytes rows rest fits n e)
-
--- Bytes that begin with as many rows begin with the same rows.
-pub one_reading : (rows others : List Row) (rest more : List ℕ) → AllByRecursion IsRow rows → AllByRecursion IsRow others → length rows ≡ length others
-    → rows_bytes rows ++ rest ≡ rows_bytes others ++ more → (rows ≡ others) × (rest ≡ more)
-one_reading rows others rest more fits others_fit n e =
-    let both = some_is (rows_and_rest rows rest) (rows_and_rest others more) (sym (rows_again rows rest fits) ∙ front_again (length rows) (rows_bytes rows ++ rest) others more others_fit (sym n) e) in
-    (ap (λ (x : List Row × List ℕ). x.0) both, ap (λ (x : List Row × List ℕ). x.1) both)

@@ -5,3 +5,4 @@ pub mod Records
 pub mod Growing
 pub mod Pended
 pub mod Front
+pub mod Once

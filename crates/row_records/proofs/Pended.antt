@@ -5,12 +5,12 @@ use Rattle.std.specs.List.{flat_map, AllByRecursion}
 use Rattle.std.proofs.lemmas.List.Concat.{flat_map-cons}
 use Rattle.leaf_model.specs.declared.writes.Write.{Write}
 use Rattle.leaf_model.specs.declared.writes.Write.TheVariants.{Add, Expire, Keep}
-use Rattle.row_records.specs.Bytes.{u64_bytes, name_bytes, write_bytes}
+use Rattle.row_records.specs.Bytes.{u64_bytes, name_bytes, write_bytes, IsBytes}
 use Rattle.leaf_model.specs.Values.{IsWrite}
 use Rattle.row_records.specs.Records.{LogRecord, IsRecord, record_body, record_bytes}
 use Rattle.row_records.specs.Reading.{record_of}
 use Rattle.row_records.specs.Pending.{pending_bytes, pending_count, pending_of, with_write, with_push}
-use Rattle.row_records.proofs.Fields.{IsBytes, IsBytes-take}
+use Rattle.row_records.proofs.Fields.{IsBytes-take}
 use Rattle.row_records.proofs.Records.{record_found, record_again}
 use Rattle.row_records.proofs.Growing.{ungated, fields_of}
 
@@ -26,7 +26,7 @@ if_held None bytes fits e = tt
 if_held (Some r) bytes fits e = held_record r bytes fits e
 
 -- a write has a byte at least
-writes_fit : (writes : List Write) → length writes ≤ length (flat_map write_bytes writes)
+pub writes_fit : (writes : List Write) → length writes ≤ length (flat_map write_bytes writes)
 writes_fit [] = omega arith
 writes_fit (w ∷ writes) = omega (arith, ap length (flat_map-cons write_bytes w writes), length-append (write_bytes w) (flat_map write_bytes writes), writes_fit writes, some w)
   where

@@ -21,11 +21,11 @@ use Rattle.leaf_model.specs.declared.rows.Cell.{Cell}
 use Rattle.leaf_model.specs.declared.rows.Row.{Row}
 use Rattle.leaf_model.specs.declared.writes.Write.{Write}
 use Rattle.leaf_model.specs.declared.writes.Write.TheVariants.{Add, Expire, Keep}
-use Rattle.row_records.specs.Bytes.{name_bytes, value_bytes, cell_bytes, row_bytes, rows_bytes, write_bytes, i64_bytes}
+use Rattle.row_records.specs.Bytes.{name_bytes, value_bytes, cell_bytes, row_bytes, rows_bytes, write_bytes, i64_bytes, IsBytes}
 use Rattle.leaf_model.specs.Values.{time_name, IsTime, IsCellName, IsValue, IsCell, IsRow, IsWrite}
-use Rattle.row_records.specs.Records.{LogRecord, IsRecord, record_body, record_bytes}
-use Rattle.row_records.specs.Reading.{◌>>=◌, byte_at, number_at, text_at, name_at, time_at, value_at, may_follow, cell_at, cells_at, row_at, rows_at, add_at, write_at, writes_at, flush_at, body_of, record_of, flush_of, Gives}
-use Rattle.row_records.proofs.Fields.{IsBytes, IsBytes-rest, bind_some, passed, held, some_is, Takes, Takes-then, byte_takes, wide16, wide32, wide64, number_takes, number_again, text_takes, text_again, name_takes, name_again, time_takes, time_again, cast_fits, unsigned_below}
+use Rattle.row_records.specs.Records.{LogRecord, IsRecord, record_body, record_bytes, flush_of}
+use Rattle.row_records.specs.Reading.{◌>>=◌, byte_at, number_at, text_at, name_at, time_at, value_at, may_follow, cell_at, cells_at, row_at, rows_at, add_at, write_at, writes_at, flush_at, body_of, record_of, Gives}
+use Rattle.row_records.proofs.Fields.{IsBytes-rest, bind_some, passed, held, some_is, Takes, Takes-then, byte_takes, wide16, wide32, wide64, number_takes, number_again, text_takes, text_again, name_takes, name_again, time_takes, time_again, cast_fits, unsigned_below}
 
 -- ---- values
 

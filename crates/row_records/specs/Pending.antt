@@ -1,5 +1,5 @@
 -- The record that is gathered of a table's writes.
-use Rattle.std.specs.Prelude.{◌≡◌, ℕ, ◌-◌, List, [], ◌∷◌, ◌++◌, length, take, ◌<◌, get_or, Option, Some, None}
+use Rattle.std.specs.Prelude.{◌≡◌, ℕ, ◌-◌, List, [], ◌∷◌, ◌++◌, length, take, Option, Some, None}
 use Rattle.leaf_model.specs.declared.writes.Write.{Write}
 use Rattle.row_records.specs.Records.{LogRecord, record_bytes}
 use Rattle.row_records.specs.Reading.{record_of}
@@ -22,13 +22,7 @@ pending_of bytes = record_of (take (length bytes - 1) bytes)
 abbrev pub with_write : Write → LogRecord → LogRecord
 with_write write r = record { name = r.name; writes = r.writes ++ write ∷ [] }
 
+-- one push: the first makes the record
 abbrev pub with_push : List ℕ → Write → Option LogRecord → LogRecord
 with_push table write None = record { name = table; writes = write ∷ [] }
 with_push table write (Some r) = with_write write r
-
-abbrev pub IsBytes : List ℕ → Type 0
-IsBytes bytes = (i : ℕ) → get_or bytes i 0 < 256
-
--- what is written now begins with what was written before
-abbrev pub Begins : List ℕ → List ℕ → Type 0
-Begins before now = take (length before) now ≡ before

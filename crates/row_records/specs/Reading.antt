@@ -1,5 +1,5 @@
 -- Reading a record from left to right: each field is a value and the bytes after it, or nothing.
-use Rattle.std.specs.Prelude.{◌≡◌, ℕ, zero, suc, ◌^◌, ℤ, pos, List, [], ◌∷◌, length, take, drop, ◌++◌, codes, Bool, not, ◌&&◌, ◌||◌, ◌==◌, nat_lt, if◌then◌else◌, Option, Some, None, Result, Ok, Err}
+use Rattle.std.specs.Prelude.{◌≡◌, ℕ, zero, suc, ◌^◌, ℤ, pos, List, [], ◌∷◌, length, take, drop, codes, Bool, not, ◌&&◌, ◌||◌, ◌==◌, nat_lt, if◌then◌else◌, Option, Some, None, Result, Ok, Err}
 use Rattle.std.specs.Str.{bytes_eq, is_utf8}
 use Rattle.std.specs.Ordering.{nat_cmp, is_lt}
 use Rattle.std.specs.Cmp.Lexicographic.{slice_cmp}
@@ -10,13 +10,12 @@ use Rattle.leaf_model.specs.declared.rows.Cell.{Cell}
 use Rattle.leaf_model.specs.declared.rows.Row.{Row}
 use Rattle.leaf_model.specs.declared.writes.Write.{Write}
 use Rattle.leaf_model.specs.declared.writes.Write.TheVariants.{Add, Expire, Keep}
-use Rattle.std.specs.List.{AllByRecursion}
-use Rattle.leaf_model.specs.Values.{time_name, IsRow}
-use Rattle.row_records.specs.Bytes.{rows_bytes}
+use Rattle.leaf_model.specs.Values.{time_name}
 use Rattle.row_records.specs.Records.{LogRecord}
 use Rattle.row_records.specs.declared.fault.ReadError.{ReadError}
 use Rattle.row_records.specs.declared.fault.ReadError.TheVariants as errors
 
+-- the next step, where there was something to read
 infixl 10 ◌>>=◌
 abbrev pub ◌>>=◌ : {A B : Type 0} → Option A → (A → Option B) → Option B
 (Some x) >>= f = f x
@@ -74,11 +73,13 @@ value_at (suc (suc (suc b)) ∷ rest) = None
 unfoldable pub may_follow : List ℕ → List ℕ → Bool
 may_follow last name = is_lt (slice_cmp nat_cmp last name) && not (bytes_eq name time_name)
 
+-- a name that may stand there, and its value
 unfoldable pub cell_at : List ℕ → List ℕ → Option (Cell × List ℕ)
 cell_at last bytes = do
   name ← name_at bytes
   if may_follow last name.0 then (value_at name.1 >>= λ value. Some (record { name = name.0; value = value.0 }, value.1)) else None
 
+-- so many cells, each above the last
 unfoldable pub cells_at : ℕ → List ℕ → List ℕ → Option (List Cell × List ℕ)
 cells_at zero last bytes = Some ([], bytes)
 cells_at (suc n) last bytes = do
@@ -86,12 +87,14 @@ cells_at (suc n) last bytes = do
   others ← cells_at n first.0.name first.1
   Some (first.0 ∷ others.0, others.1)
 
+-- a time, and at most 1,024 cells behind their number
 unfoldable pub row_at : List ℕ → Option (Row × List ℕ)
 row_at bytes = do
   time ← time_at bytes
   count ← number_at w16 time.1
   if nat_lt 1024 count.0 then None else (cells_at count.0 [] count.1 >>= λ cells. Some (record { time = time.0; cells = cells.0 }, cells.1))
 
+-- so many rows
 unfoldable pub rows_at : ℕ → List ℕ → Option (List Row × List ℕ)
 rows_at zero bytes = Some ([], bytes)
 rows_at (suc n) bytes = do
@@ -99,12 +102,13 @@ rows_at (suc n) bytes = do
   others ← rows_at n first.1
   Some (first.0 ∷ others.0, others.1)
 
--- rows behind a 1, a horizon behind a 2, how many to keep behind a 3
+-- at most 100,000 rows behind their number
 unfoldable pub add_at : List ℕ → Option (Write × List ℕ)
 add_at bytes = do
   count ← number_at w32 bytes
   if nat_lt 100000 count.0 then None else (rows_at count.0 count.1 >>= λ rows. Some (Add rows.0, rows.1))
 
+-- rows behind a 1, a horizon behind a 2, how many to keep behind a 3
 unfoldable pub write_at : List ℕ → Option (Write × List ℕ)
 write_at [] = None
 write_at (zero ∷ rest) = None
@@ -117,6 +121,7 @@ write_at (suc (suc (suc zero)) ∷ rest) = do
   Some (Keep n.0, n.1)
 write_at (suc (suc (suc (suc b))) ∷ rest) = None
 
+-- so many writes
 unfoldable pub writes_at : ℕ → List ℕ → Option (List Write × List ℕ)
 writes_at zero bytes = Some ([], bytes)
 writes_at (suc n) bytes = do
@@ -151,14 +156,3 @@ abbrev pub last_name : List Cell → List ℕ
 last_name [] = []
 last_name (c ∷ []) = c.name
 last_name (c ∷ d ∷ cs) = last_name (d ∷ cs)
-
--- a name and writes as one record
-abbrev pub flush_of : List ℕ × List Write → LogRecord
-flush_of flush = record { name = flush.0; writes = flush.1 }
-
--- so many rows stand at the front of the bytes, and take so many of them
-pub record StandsInFront (count : ℕ) (bytes : List ℕ) (rows : List Row) (taken : ℕ) : Type 0 where
-  pub each : AllByRecursion IsRow rows
-  pub count_is : length rows ≡ count
-  pub taken_is : taken ≡ length (rows_bytes rows)
-  pub begins : bytes ≡ rows_bytes rows ++ drop taken bytes

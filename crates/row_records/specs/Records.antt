@@ -26,3 +26,7 @@ pub record IsRecord (r : LogRecord) : Type 0 where
   pub count : length r.writes < 2 ^ 64
   pub each : AllByRecursion IsWrite r.writes
   pub whole : length (record_body r) < 2 ^ 64
+
+-- a name and writes as one record
+abbrev pub flush_of : List ℕ × List Write → LogRecord
+flush_of flush = record { name = flush.0; writes = flush.1 }

@@ -1,7 +1,8 @@
 ghost use Rattle.std.specs.Prelude.{◌≡◌, ◌≤◌, length, Option, Some, None, OnOk, OnErr, IfSome, IsSome};
 ghost use Rattle.leaf_model.specs.Values.{IsWrite};
+ghost use Rattle.row_records.specs.Bytes.{IsBytes};
 ghost use Rattle.row_records.specs.Records.{IsRecord};
-ghost use Rattle.row_records.specs.Pending.{pending_bytes, pending_count, pending_of, with_push, IsBytes};
+ghost use Rattle.row_records.specs.Pending.{pending_bytes, pending_count, pending_of, with_push};
 
 use crate::record_writer::{add_write, first_record};
 use leaf_model::{Text, Write};

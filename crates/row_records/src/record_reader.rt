@@ -1,7 +1,7 @@
 // Reading a record: the table's name and its writes.
 ghost use Rattle.std.specs.Prelude.{◌≡◌, IfOk, IfSome, Some, option_map};
-ghost use Rattle.row_records.specs.Records.{LogRecord, IsRecord, record_bytes};
-ghost use Rattle.row_records.specs.Reading.{Gives, add_at, write_at, writes_at, flush_at, body_of, record_of, flush_of};
+ghost use Rattle.row_records.specs.Records.{LogRecord, IsRecord, record_bytes, flush_of};
+ghost use Rattle.row_records.specs.Reading.{Gives, add_at, write_at, writes_at, flush_at, body_of, record_of};
 
 use crate::fault::ReadError;
 use crate::row_reader::{name_of, rows_of, time_of, u32_at, u64_at};
@@ -35,8 +35,7 @@ fn write_of(alloc: Global, bytes: &[u8]) -> Result<(Write, &[u8]), ReadError>
             let (rows, rest) = u64_at(rest)?;
             Ok((Write::Keep(rows), rest))
         }
-        [_, ..] => Err(ReadError::Broken),
-        [] => Err(ReadError::Broken),
+        _ => Err(ReadError::Broken),
     }
 }
 
@@ -79,8 +78,7 @@ fn body_of(alloc: Global, bytes: &[u8]) -> Result<(Text, Writes), ReadError>
             }
             Ok(flush)
         }
-        [_, ..] => Err(ReadError::Broken),
-        [] => Err(ReadError::Broken),
+        _ => Err(ReadError::Broken),
     }
 }
 

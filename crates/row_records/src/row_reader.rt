@@ -4,8 +4,8 @@ ghost use Rattle.std.specs.Int.{w16, w32, w64};
 ghost use Rattle.std.specs.List.{AllByRecursion};
 ghost use Rattle.leaf_model.specs.declared.rows.Row.{Row};
 ghost use Rattle.leaf_model.specs.Values.{IsRow};
-ghost use Rattle.row_records.specs.Bytes.{rows_bytes};
-ghost use Rattle.row_records.specs.Reading.{Gives, number_at, byte_at, text_at, name_at, time_at, value_at, may_follow, cell_at, cells_at, row_at, rows_at, last_name, StandsInFront};
+ghost use Rattle.row_records.specs.Bytes.{rows_bytes, StandsInFront};
+ghost use Rattle.row_records.specs.Reading.{Gives, number_at, byte_at, text_at, name_at, time_at, value_at, may_follow, cell_at, cells_at, row_at, rows_at, last_name};
 
 use crate::fault::ReadError;
 use leaf_model::{Cell, Cells, Row, Text, Value};
@@ -119,9 +119,7 @@ fn value_of(alloc: Global, bytes: &[u8]) -> Result<(Value, &[u8]), ReadError>
             let (text, rest) = text_of(alloc, len as usize, rest)?;
             Ok((Value::Text(text), rest))
         }
-        [0, ..] => Err(ReadError::Broken),
-        [_, ..] => Err(ReadError::Broken),
-        [] => Err(ReadError::Broken),
+        _ => Err(ReadError::Broken),
     }
 }
 

@@ -2,8 +2,7 @@
 ghost use Rattle.std.specs.Prelude.{◌≡◌, ◌≤◌, ◌++◌, length, OnOk, OnErr};
 ghost use Rattle.std.specs.List.{flat_map, AllByRecursion};
 ghost use Rattle.leaf_model.specs.Values.{IsValue, IsCell, IsRow};
-ghost use Rattle.row_records.specs.Bytes.{name_bytes, value_bytes, cell_bytes, row_bytes, rows_bytes, i64_bytes, u16_bytes};
-ghost use Rattle.row_records.specs.Pending.{Begins};
+ghost use Rattle.row_records.specs.Bytes.{name_bytes, value_bytes, cell_bytes, row_bytes, rows_bytes, i64_bytes, u16_bytes, Begins};
 
 use leaf_model::{Cell, Row, Value};
 use std::alloc::AllocError;
