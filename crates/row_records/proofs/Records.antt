@@ -1,6 +1,6 @@
 -- The two laws of a record: what is read is spelled so, and what is spelled so is read.
-use Rattle.std.proofs.Common.{◌≡◌, ℕ, zero, suc, ◌+◌, ◌^◌, ◌<◌, ◌≤◌, ◌&&◌, ℤ, pos, Bool, true, false, cond, ltb, eqb, not, List, [], ◌∷◌, ◌++◌, length, map, get_or, take, drop, Option, Some, None, Result, Ok, Err, Less, Equal, Greater, nat_cmp, refl, sym, ap, subst, ◌∙◌, append_assoc, arith}
-use Rattle.std.specs.Prelude.{FitsSigned, ◌≢◌, IfOk}
+use Rattle.std.proofs.Common.{◌≡◌, ℕ, zero, suc, ◌^◌, ◌<◌, ◌≤◌, ◌&&◌, Bool, true, false, cond, ltb, eqb, not, List, [], ◌∷◌, ◌++◌, length, map, Some, None, Result, Ok, Err, Less, Equal, Greater, nat_cmp, refl, sym, ap, subst, ◌∙◌, append_assoc, arith}
+use Rattle.std.specs.Prelude.{◌≢◌, IfOk}
 use Rattle.row_records.specs.declared.fault.ReadError.{ReadError}
 use Rattle.std.specs.Ordering.{is_lt}
 use Rattle.std.specs.declared.cmp.Ordering.{Ordering}
@@ -8,11 +8,11 @@ use Rattle.std.specs.Cmp.Lexicographic.{slice_cmp}
 use Rattle.std.specs.List.{flat_map, AllByRecursion}
 use Rattle.std.specs.List.Sorted.{IsStrictlySortedBy}
 use Rattle.std.specs.Str.{IsUtf8, bytes_eq}
-use Rattle.std.specs.Int.{w16, w32, w64, to_le_bytes, from_le_bytes, cast_signed, cast_unsigned}
-use Rattle.std.proofs.lemmas.Bool.{ltb-false, le-ltb, lt-ltb, eqb-true, eqb-false, eq-eqb, ne_eqb}
+use Rattle.std.specs.Int.{w16, w32, w64, to_le_bytes, cast_signed, cast_unsigned}
+use Rattle.std.proofs.lemmas.Bool.{ltb-false, le-ltb, eqb-true, eqb-false, eq-eqb, ne_eqb}
 use Rattle.std.proofs.lemmas.List.{append-nil, nil_from_length}
 use Rattle.std.proofs.lemmas.List.Concat.{flat_map-cons}
-use Rattle.std.proofs.lemmas.Int.{of_z-to_z, to_z-of_z, ints}
+use Rattle.std.proofs.lemmas.Int.{of_z-to_z, to_z-of_z}
 use Rattle.std.proofs.lemmas.Slice.Eq.{bytes_eq-Decides}
 use Rattle.std.proofs.lemmas.Cmp.{nat_list_cmp_total}
 use Rattle.leaf_model.specs.declared.rows.Value.{Value}
@@ -22,10 +22,10 @@ use Rattle.leaf_model.specs.declared.rows.Row.{Row}
 use Rattle.leaf_model.specs.declared.writes.Write.{Write}
 use Rattle.leaf_model.specs.declared.writes.Write.TheVariants.{Add, Expire, Keep}
 use Rattle.row_records.specs.Bytes.{name_bytes, value_bytes, cell_bytes, row_bytes, rows_bytes, write_bytes, i64_bytes, IsBytes}
-use Rattle.leaf_model.specs.Values.{time_name, IsTime, IsCellName, IsValue, IsCell, IsRow, IsWrite}
+use Rattle.leaf_model.specs.Values.{time_name, IsValue, IsCell, IsRow, IsWrite}
 use Rattle.row_records.specs.Records.{LogRecord, IsRecord, record_body, record_bytes, flush_of}
-use Rattle.row_records.specs.Reading.{◌>>=◌, byte_at, number_at, text_at, name_at, time_at, value_at, may_follow, cell_at, cells_at, row_at, rows_at, add_at, write_at, writes_at, flush_at, body_of, record_of, Gives}
-use Rattle.row_records.proofs.Fields.{IsBytes-rest, bind_some, passed, held, some_is, Takes, Takes-then, byte_takes, wide16, wide32, wide64, number_takes, number_again, text_takes, text_again, name_takes, name_again, time_takes, time_again, cast_fits, unsigned_below}
+use Rattle.row_records.specs.Reading.{◌>>=◌, number_at, text_at, name_at, time_at, value_at, may_follow, cell_at, cells_at, row_at, rows_at, add_at, write_at, writes_at, flush_at, body_of, record_of, Gives}
+use Rattle.row_records.proofs.Fields.{IsBytes-rest, bind_some, passed, held, some_is, Takes, Takes-then, wide16, wide32, wide64, number_takes, number_again, text_takes, text_again, name_takes, name_again, time_takes, time_again, cast_fits, unsigned_below}
 
 -- ---- values
 

@@ -17,11 +17,7 @@ const EACH_KIND: &[u8] =
     b"\x22\0\0\0\0\0\0\0\x01\x01u\x03\0\0\0\0\0\0\0\x01\0\0\0\0\x02\xff\xff\xff\xff\xff\xff\xff\x7f\x03\xff\xff\xff\xff\xff\xff\xff\xff";
 
 /// The rows of the bytes, written again, and how many bytes they took.
-fn reread(
-    alloc: Global,
-    bytes: &[u8],
-    count: u64,
-) -> Result<Option<(Vec<u8>, usize)>, AllocError> {
+fn reread(alloc: Global, bytes: &[u8], count: u64) -> Result<Option<(Vec<u8>, usize)>, AllocError> {
     match read_rows(alloc, bytes, count)? {
         Some((rows, taken)) => {
             let mut out = Vec::new(alloc);
@@ -54,7 +50,9 @@ fn rows_are_read_as_they_are_written(rt: HostRuntime) -> Result<(), Fail> {
     let mut more = all.clone()?;
     more.push(7)?;
     let found = reread(alloc, &more, 6)?;
-    assert!(rt; matches!(&found, Some((out, taken)) if *taken == all.len() && out.as_slice() == all.as_slice()));
+    assert!(rt;
+        matches!(&found, Some((out, taken)) if *taken == all.len() && out.as_slice() == all.as_slice())
+    );
     for count in [7, 1 << 40] {
         assert!(rt; reread(alloc, &more, count)?.is_none(), "{count}");
     }
@@ -67,15 +65,36 @@ fn what_is_no_row_is_not_read(rt: HostRuntime) -> Result<(), Fail> {
     let cases: [(&str, &[u8]); 11] = [
         ("nine bytes", b"\x05\0\0\0\0\0\0\0\0"),
         ("a time of 2^63", b"\0\0\0\0\0\0\0\x80\0\0"),
-        ("a cell that is not there", b"\0\0\0\0\0\0\0\0\x02\0\x01a\x02\0\0"),
-        ("names that fall", b"\0\0\0\0\0\0\0\0\x02\0\x01b\x02\0\0\x01a\x02\0\0"),
-        ("one name twice", b"\0\0\0\0\0\0\0\0\x02\0\x01a\x02\0\0\x01a\x02\0\0"),
+        (
+            "a cell that is not there",
+            b"\0\0\0\0\0\0\0\0\x02\0\x01a\x02\0\0",
+        ),
+        (
+            "names that fall",
+            b"\0\0\0\0\0\0\0\0\x02\0\x01b\x02\0\0\x01a\x02\0\0",
+        ),
+        (
+            "one name twice",
+            b"\0\0\0\0\0\0\0\0\x02\0\x01a\x02\0\0\x01a\x02\0\0",
+        ),
         ("the name time", b"\0\0\0\0\0\0\0\0\x01\0\x04time\x02\0\0"),
         ("no name", b"\0\0\0\0\0\0\0\0\x01\0\0\x02\0\0"),
-        ("a name that is no text", b"\0\0\0\0\0\0\0\0\x01\0\x01\xff\x02\0\0"),
-        ("a value that is no text", b"\0\0\0\0\0\0\0\0\x01\0\x01a\x02\x01\0\xff"),
-        ("a value of kind 0", b"\0\0\0\0\0\0\0\0\x01\0\x01a\0\0\0\0\0\0\0\0\0"),
-        ("a value of kind 3", b"\0\0\0\0\0\0\0\0\x01\0\x01a\x03\0\0\0\0\0\0\0\0"),
+        (
+            "a name that is no text",
+            b"\0\0\0\0\0\0\0\0\x01\0\x01\xff\x02\0\0",
+        ),
+        (
+            "a value that is no text",
+            b"\0\0\0\0\0\0\0\0\x01\0\x01a\x02\x01\0\xff",
+        ),
+        (
+            "a value of kind 0",
+            b"\0\0\0\0\0\0\0\0\x01\0\x01a\0\0\0\0\0\0\0\0\0",
+        ),
+        (
+            "a value of kind 3",
+            b"\0\0\0\0\0\0\0\0\x01\0\x01a\x03\0\0\0\0\0\0\0\0",
+        ),
     ];
     for (what, bytes) in cases {
         assert!(rt; reread(alloc, bytes, 1)?.is_none(), "{what}");

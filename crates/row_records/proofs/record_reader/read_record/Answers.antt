@@ -1,9 +1,7 @@
-use Rattle.std.proofs.Common.{◌≡◌, ◌∙◌, sym, ap, subst, arith, Some, None, Option, option_map, ℕ, List}
-use Rattle.row_records.specs.Bytes.{IsBytes}
-use Rattle.row_records.specs.Records.{LogRecord, record_bytes, flush_of}
+use Rattle.std.proofs.Common.{◌∙◌, sym, ap, subst, arith}
+use Rattle.row_records.specs.Records.{flush_of}
 use Rattle.row_records.specs.Reading.{record_of, Fails}
 use Rattle.row_records.specs.declared.fault.ReadError.{ReadError}
-use Rattle.row_records.proofs.Fields.{some_is}
 use Rattle.row_records.proofs.Records.{record_found, record_again}
 use Rattle.row_records.proofs.record_reader.read_record.Goals as goal
 

@@ -1,4 +1,4 @@
-use Rattle.std.proofs.Common.{◌≡◌, ◌+◌, ◌++◌, ◌∷◌, [], ◌-◌, ◌∙◌, ap}
+use Rattle.std.proofs.Common.{◌+◌, ◌-◌}
 use Rattle.std.proofs.lemmas.Result.{err_from_is_err_and}
 use Rattle.row_records.specs.Reading.{writes_at}
 use Rattle.row_records.proofs.Loop.{goes_on, ends, is_done, write_read, write_fails, writes_done}

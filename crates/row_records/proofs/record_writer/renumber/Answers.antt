@@ -1,4 +1,4 @@
-use Rattle.std.proofs.Common.{◌≡◌, ◌∙◌, ◌-◌, length, ap, rules, subst, sym}
+use Rattle.std.proofs.Common.{◌∙◌, ◌-◌, length}
 use Rattle.row_records.proofs.Growing.{renumbered}
 use Rattle.row_records.proofs.record_writer.renumber.Goals as goal
 

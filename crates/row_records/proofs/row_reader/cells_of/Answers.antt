@@ -1,4 +1,4 @@
-use Rattle.std.proofs.Common.{◌≡◌, ◌+◌, ◌++◌, ◌∷◌, [], ◌-◌, ◌∙◌, ap, subst, ℕ, List, Some}
+use Rattle.std.proofs.Common.{◌≡◌, ◌+◌, [], ◌-◌, ◌∙◌, ap, subst, ℕ, List, Some}
 use Rattle.std.proofs.lemmas.Result.{err_from_is_err_and}
 use Rattle.row_records.specs.Reading.{Fails, cell_at, cells_at, last_name}
 use Rattle.row_records.proofs.Loop.{goes_on, ends, is_done, cell_read, cell_fails, cells_done, last_of}

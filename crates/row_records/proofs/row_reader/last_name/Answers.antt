@@ -1,4 +1,4 @@
-use Rattle.std.proofs.Common.{rules, ◌≡◌, ◌∙◌, arith}
+use Rattle.std.proofs.Common.{rules}
 use Rattle.row_records.proofs.Texts.{last_is}
 use Rattle.row_records.proofs.row_reader.last_name.Goals as goal
 

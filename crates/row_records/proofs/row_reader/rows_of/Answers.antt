@@ -1,4 +1,4 @@
-use Rattle.std.proofs.Common.{◌≡◌, ◌+◌, ◌++◌, ◌∷◌, [], ◌-◌, ◌∙◌, ap, arith, length, length-append}
+use Rattle.std.proofs.Common.{◌+◌, ◌∷◌, [], ◌-◌, arith, length-append}
 use Rattle.std.proofs.lemmas.Result.{err_from_is_err_and}
 use Rattle.row_records.specs.Reading.{rows_at}
 use Rattle.row_records.proofs.Loop.{goes_on, ends, is_done, row_read, row_fails, rows_done}

@@ -1,6 +1,4 @@
-use Rattle.std.proofs.Common.{rules, ◌≡◌, ◌≤◌, ◌∙◌, length, take, drop, sym, ap, subst, arith, Option, Some}
-use Rattle.std.specs.Str.{IsUtf8}
-use Rattle.row_records.specs.Reading.{text_at}
+use Rattle.std.proofs.Common.{rules, ◌≡◌, ◌∙◌, sym}
 use Rattle.row_records.proofs.Texts.{text_found, text_broken}
 use Rattle.row_records.proofs.row_reader.text_of.Goals as goal
 

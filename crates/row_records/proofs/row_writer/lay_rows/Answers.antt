@@ -1,6 +1,5 @@
 use Rattle.std.proofs.Common.{rules, take}
-use Rattle.std.specs.List.{flat_map}
-use Rattle.row_records.specs.Bytes.{cell_bytes, rows_bytes, Begins}
+use Rattle.row_records.specs.Bytes.{rows_bytes, Begins}
 use Rattle.row_records.proofs.Front.{begins_within}
 use Rattle.row_records.proofs.row_writer.lay_rows.Goals as goal
 

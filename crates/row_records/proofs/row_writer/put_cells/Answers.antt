@@ -1,6 +1,6 @@
 use Rattle.std.proofs.Common.{rules, take}
 use Rattle.std.specs.List.{flat_map}
-use Rattle.row_records.specs.Bytes.{cell_bytes, rows_bytes, Begins}
+use Rattle.row_records.specs.Bytes.{cell_bytes, Begins}
 use Rattle.row_records.proofs.Front.{begins_within}
 use Rattle.row_records.proofs.row_writer.put_cells.Goals as goal
 

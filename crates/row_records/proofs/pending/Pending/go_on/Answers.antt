@@ -1,4 +1,4 @@
-use Rattle.std.proofs.Common.{rules, ◌≡◌, ◌≤◌, ◌<◌, ◌^◌, ◌∙◌, length, refl, sym, ap, subst, arith, List, ℕ}
+use Rattle.std.proofs.Common.{rules, ◌<◌, ◌^◌, ◌∙◌, length, ap, subst, arith}
 use Rattle.row_records.specs.Pending.{pending_bytes, pending_count}
 use Rattle.row_records.specs.Bytes.{IsBytes}
 use Rattle.row_records.proofs.Pended.{few, room, gone_on}
