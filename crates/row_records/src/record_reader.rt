@@ -1,0 +1,108 @@
+// Reading a record: the table's name and its writes.
+ghost use Rattle.std.specs.Prelude.{◌≡◌, IfOk, IfSome, Some, option_map};
+ghost use Rattle.row_records.specs.Records.{LogRecord, IsRecord, record_bytes, flush_of};
+ghost use Rattle.row_records.specs.Reading.{Gives, add_at, write_at, writes_at, flush_at, body_of, record_of};
+
+use crate::fault::ReadError;
+use crate::row_reader::{name_of, rows_of, time_of, u32_at, u64_at};
+use leaf_model::{Rows, Text, Write, Writes};
+use std::alloc::{AllocError, Global};
+
+#[tactic(auto, unfolding(crate::specs::Reading::add_at))]
+fn add_of(alloc: Global, bytes: &[u8]) -> Result<(Write, &[u8]), ReadError>
+    ensures { Gives (λ x. (x.0, x.1.now)) result (add_at bytes.now) }
+{
+    let (count, rest) = u32_at(bytes)?;
+    if count > 100_000 {
+        return Err(ReadError::Broken);
+    }
+    let (rows, rest) = rows_of(alloc, count as u64, rest)?;
+    let rows = Rows::of(rows);
+    Ok((Write::Add(rows), rest))
+}
+
+#[tactic(auto, unfolding(crate::specs::Reading::write_at))]
+fn write_of(alloc: Global, bytes: &[u8]) -> Result<(Write, &[u8]), ReadError>
+    ensures { Gives (λ x. (x.0, x.1.now)) result (write_at bytes.now) }
+{
+    match bytes {
+        [1, rest @ ..] => add_of(alloc, rest),
+        [2, rest @ ..] => {
+            let (horizon, rest) = time_of(rest)?;
+            Ok((Write::Expire(horizon), rest))
+        }
+        [3, rest @ ..] => {
+            let (rows, rest) = u64_at(rest)?;
+            Ok((Write::Keep(rows), rest))
+        }
+        _ => Err(ReadError::Broken),
+    }
+}
+
+fn writes_of(alloc: Global, count: u64, bytes: &[u8]) -> Result<(Vec<Write>, &[u8]), ReadError>
+    ensures { Gives (λ x. (x.0.items, x.1.now)) result (writes_at count bytes.now) }
+{
+    let mut writes = Vec::new(alloc);
+    let mut rest = bytes;
+    for _ in 0..count {
+        let (write, after) = write_of(alloc, rest)?;
+        writes.push(write)?;
+        rest = after;
+    }
+    Ok((writes, rest))
+}
+
+#[tactic(auto, unfolding(crate::specs::Reading::flush_at))]
+fn flush_of(alloc: Global, bytes: &[u8]) -> Result<((Text, Writes), &[u8]), ReadError>
+    ensures { Gives (λ x. (flush_of x.0, x.1.now)) result (flush_at bytes.now) }
+{
+    let (name, rest) = name_of(alloc, bytes)?;
+    let (count, rest) = u64_at(rest)?;
+    if count == 0 {
+        return Err(ReadError::Broken);
+    }
+    let (writes, rest) = writes_of(alloc, count, rest)?;
+    let writes = Writes::of(writes);
+    Ok(((name, writes), rest))
+}
+
+#[tactic(auto, unfolding(crate::specs::Reading::body_of))]
+fn body_of(alloc: Global, bytes: &[u8]) -> Result<(Text, Writes), ReadError>
+    ensures { Gives flush_of result (body_of bytes.now) }
+{
+    match bytes {
+        [1, rest @ ..] => {
+            let (flush, rest) = flush_of(alloc, rest)?;
+            if !rest.is_empty() {
+                return Err(ReadError::Broken);
+            }
+            Ok(flush)
+        }
+        _ => Err(ReadError::Broken),
+    }
+}
+
+#[tactic(auto, unfolding(crate::specs::Reading::record_of))]
+fn record_of(alloc: Global, bytes: &[u8]) -> Result<(Text, Writes), ReadError>
+    ensures { Gives flush_of result (record_of bytes.now) }
+{
+    let (len, rest) = u64_at(bytes)?;
+    if len != rest.len() as u64 {
+        return Err(ReadError::Broken);
+    }
+    body_of(alloc, rest)
+}
+
+/// The table and the writes of a record, or nothing where the bytes are no record.
+pub fn read_record(alloc: Global, bytes: &[u8]) -> Result<Option<(Text, Writes)>, AllocError>
+    // What is read is spelled so.
+    ensures found { IfOk result (λ found. IfSome found (λ flush. IsRecord (flush_of flush) × (bytes.now ≡ record_bytes (flush_of flush)))) }
+    // What is spelled so is read, unless memory runs out.
+    ensures only { (r : LogRecord) → IsRecord r → bytes.now ≡ record_bytes r → IfOk result (λ found. option_map flush_of found ≡ Some r) }
+{
+    match record_of(alloc, bytes) {
+        Ok(flush) => Ok(Some(flush)),
+        Err(ReadError::Broken) => Ok(None),
+        Err(ReadError::Memory) => Err(AllocError),
+    }
+}

@@ -1,0 +1,199 @@
+// Reading rows, field by field from the left: each field is a value and the bytes after it.
+ghost use Rattle.std.specs.Prelude.{◌≡◌, ◌++◌, ◌*◌, ◌<◌, List, ℕ, [], length, IfOk, IfSome, MatchOption, Ok, None};
+ghost use Rattle.std.specs.Int.{w16, w32, w64};
+ghost use Rattle.std.specs.List.{AllByRecursion};
+ghost use Rattle.leaf_model.specs.declared.rows.Row.{Row};
+ghost use Rattle.leaf_model.specs.Values.{IsRow};
+ghost use Rattle.row_records.specs.Bytes.{rows_bytes, StandsInFront};
+ghost use Rattle.row_records.specs.Reading.{Gives, number_at, byte_at, text_at, name_at, time_at, value_at, may_follow, cell_at, cells_at, row_at, rows_at, last_name};
+
+use crate::fault::ReadError;
+use leaf_model::{Cell, Cells, Row, Text, Value};
+use std::alloc::{AllocError, Global};
+
+/// The rows at the front of the bytes, and how many bytes they take; nothing where so many rows do not stand there.
+/// A count that is too great for the bytes takes no memory.
+pub fn read_rows(
+    alloc: Global,
+    bytes: &[u8],
+    count: u64,
+) -> Result<Option<(Vec<Row>, usize)>, AllocError>
+    // What is read stands in front.
+    ensures found { IfOk result (λ found. IfSome found (λ read. StandsInFront count bytes.now read.0.items read.1)) }
+    // What stands in front is read, unless memory runs out.
+    ensures only { (rows : List Row) (rest : List ℕ) → AllByRecursion IsRow rows → length rows ≡ count → bytes.now ≡ rows_bytes rows ++ rest
+        → IfOk result (λ found. MatchOption found ⊥ (λ read. (read.0.items ≡ rows) × (read.1 ≡ length (rows_bytes rows)))) }
+    // Each row takes ten bytes at least.
+    ensures far { length bytes.now < 10 * count → result ≡ Ok None }
+{
+    if count > bytes.len() as u64 / 10 {
+        return Ok(None);
+    }
+    match rows_of(alloc, count, bytes) {
+        Ok((rows, rest)) => Ok(Some((rows, bytes.len() - rest.len()))),
+        Err(ReadError::Broken) => Ok(None),
+        Err(ReadError::Memory) => Err(AllocError),
+    }
+}
+
+pub(crate) fn u8_at(bytes: &[u8]) -> Result<(u8, &[u8]), ReadError>
+    ensures { Gives (λ x. (x.0, x.1.now)) result (byte_at bytes.now) }
+{
+    match bytes {
+        [] => Err(ReadError::Broken),
+        [first, rest @ ..] => Ok((*first, rest)),
+    }
+}
+
+fn u16_at(bytes: &[u8]) -> Result<(u16, &[u8]), ReadError>
+    ensures { Gives (λ x. (x.0, x.1.now)) result (number_at w16 bytes.now) }
+{
+    match bytes.split_first_chunk::<2>() {
+        Some((front, rest)) => Ok((u16::from_le_bytes(*front), rest)),
+        None => Err(ReadError::Broken),
+    }
+}
+
+pub(crate) fn u32_at(bytes: &[u8]) -> Result<(u32, &[u8]), ReadError>
+    ensures { Gives (λ x. (x.0, x.1.now)) result (number_at w32 bytes.now) }
+{
+    match bytes.split_first_chunk::<4>() {
+        Some((front, rest)) => Ok((u32::from_le_bytes(*front), rest)),
+        None => Err(ReadError::Broken),
+    }
+}
+
+pub(crate) fn u64_at(bytes: &[u8]) -> Result<(u64, &[u8]), ReadError>
+    ensures { Gives (λ x. (x.0, x.1.now)) result (number_at w64 bytes.now) }
+{
+    match bytes.split_first_chunk::<8>() {
+        Some((front, rest)) => Ok((u64::from_le_bytes(*front), rest)),
+        None => Err(ReadError::Broken),
+    }
+}
+
+#[tactic(auto, unfolding(crate::specs::Reading::text_at))]
+fn text_of(alloc: Global, len: usize, bytes: &[u8]) -> Result<(Text, &[u8]), ReadError>
+    ensures { Gives (λ x. (x.0, x.1.now)) result (text_at len bytes.now) }
+{
+    if bytes.len() < len {
+        return Err(ReadError::Broken);
+    }
+    let (front, rest) = bytes.split_at(len);
+    match std::str::from_utf8(front) {
+        Ok(text) => Ok((Text::of(String::from_str(alloc, text)?), rest)),
+        Err(_) => Err(ReadError::Broken),
+    }
+}
+
+#[tactic(auto, unfolding(crate::specs::Reading::name_at))]
+pub(crate) fn name_of(alloc: Global, bytes: &[u8]) -> Result<(Text, &[u8]), ReadError>
+    ensures { Gives (λ x. (x.0, x.1.now)) result (name_at bytes.now) }
+{
+    let (len, rest) = u8_at(bytes)?;
+    text_of(alloc, len as usize, rest)
+}
+
+#[tactic(auto, unfolding(crate::specs::Reading::time_at))]
+pub(crate) fn time_of(bytes: &[u8]) -> Result<(i64, &[u8]), ReadError>
+    ensures { Gives (λ x. (x.0, x.1.now)) result (time_at bytes.now) }
+{
+    let (number, rest) = u64_at(bytes)?;
+    if number >= 1 << 63 {
+        return Err(ReadError::Broken);
+    }
+    Ok((number as i64, rest))
+}
+
+#[tactic(auto, unfolding(crate::specs::Reading::value_at))]
+fn value_of(alloc: Global, bytes: &[u8]) -> Result<(Value, &[u8]), ReadError>
+    ensures { Gives (λ x. (x.0, x.1.now)) result (value_at bytes.now) }
+{
+    match bytes {
+        [1, rest @ ..] => {
+            let (number, rest) = u64_at(rest)?;
+            Ok((Value::Int(number.cast_signed()), rest))
+        }
+        [2, rest @ ..] => {
+            let (len, rest) = u16_at(rest)?;
+            let (text, rest) = text_of(alloc, len as usize, rest)?;
+            Ok((Value::Text(text), rest))
+        }
+        _ => Err(ReadError::Broken),
+    }
+}
+
+/// Whether a cell of this name may stand behind the last one.
+#[tactic(auto, unfolding(crate::specs::Reading::may_follow))]
+fn may_follow(last: &[u8], name: &str) -> bool
+    ensures { result ≡ may_follow last.now name.now }
+{
+    last.cmp(name.as_bytes()).is_lt() && name != "time"
+}
+
+#[tactic(auto, unfolding(crate::specs::Reading::cell_at))]
+fn cell_of<'a>(alloc: Global, last: &[u8], bytes: &'a [u8]) -> Result<(Cell, &'a [u8]), ReadError>
+    ensures { Gives (λ x. (x.0, x.1.now)) result (cell_at last.now bytes.now) }
+{
+    let (name, rest) = name_of(alloc, bytes)?;
+    if !may_follow(last, name.as_str()) {
+        return Err(ReadError::Broken);
+    }
+    let (value, rest) = value_of(alloc, rest)?;
+    Ok((Cell { name, value }, rest))
+}
+
+/// The name of the last cell, or nothing before the first.
+fn last_name(cells: &[Cell]) -> &[u8]
+    ensures { result.now ≡ last_name cells.now }
+{
+    match cells {
+        [] => &[],
+        [.., last] => last.name.as_str().as_bytes(),
+    }
+}
+
+fn cells_of(alloc: Global, count: u16, bytes: &[u8]) -> Result<(Vec<Cell>, &[u8]), ReadError>
+    ensures { Gives (λ x. (x.0.items, x.1.now)) result (cells_at count [] bytes.now) }
+{
+    let mut cells = Vec::new(alloc);
+    let mut rest = bytes;
+    for _ in 0..count {
+        let (cell, after) = cell_of(alloc, last_name(&cells), rest)?;
+        cells.push(cell)?;
+        rest = after;
+    }
+    Ok((cells, rest))
+}
+
+#[tactic(auto, unfolding(crate::specs::Reading::row_at))]
+fn row_of(alloc: Global, bytes: &[u8]) -> Result<(Row, &[u8]), ReadError>
+    ensures { Gives (λ x. (x.0, x.1.now)) result (row_at bytes.now) }
+{
+    let (time, rest) = time_of(bytes)?;
+    let (count, rest) = u16_at(rest)?;
+    if count > 1024 {
+        return Err(ReadError::Broken);
+    }
+    let (cells, rest) = cells_of(alloc, count, rest)?;
+    let cells = Cells::of(cells);
+    Ok((Row { time, cells }, rest))
+}
+
+pub(crate) fn rows_of(
+    alloc: Global,
+    count: u64,
+    bytes: &[u8],
+) -> Result<(Vec<Row>, &[u8]), ReadError>
+    ensures given { Gives (λ x. (x.0.items, x.1.now)) result (rows_at count bytes.now) }
+    ensures count { IfOk result (λ x. length x.0.items ≡ count) }
+{
+    let mut rows = Vec::new(alloc);
+    let mut rest = bytes;
+    for _ in 0..count {
+        let (row, after) = row_of(alloc, rest)?;
+        rows.push(row)?;
+        rest = after;
+    }
+    Ok((rows, rest))
+}
