@@ -12,3 +12,6 @@ mod stream;
 pub use berth::MemBerth;
 pub use faults::{Fail, Fails, Method};
 pub use stream::{MemSink, MemSource};
+
+#[cfg(test)]
+mod tests;
