@@ -1,18 +1,28 @@
 -- Which pairs a picker may hand out of a record of calls.
-use Rattle.std.specs.Prelude.{◌≡◌, ℕ, List, [], ◌∷◌, if◌then◌else◌, ◌==◌, ◌%◌}
+use Rattle.std.specs.Prelude.{◌≡◌, ℕ, List, [], ◌∷◌, ⊤, if◌then◌else◌, ◌==◌, ◌%◌}
 use Rattle.berth_face.specs.Berth.{Pair}
 use Rattle.berth_mem.specs.declared.record.Call.{Call}
-use Rattle.berth_mem.specs.Record.{region_before, disk_before, during, resting}
+use Rattle.berth_mem.specs.declared.record.Call.TheVariants.{WroteRegion, CutRegion, WroteDisk, SyncedDisk}
+use Rattle.berth_mem.specs.Record.{region_before, during}
 
--- between two calls: what stands, or that without the region
-abbrev pub stands_at : List Call → List ℕ → List ℕ → Pair → Type 0
-stands_at calls region disk p = resting (region_before calls region) (λ d. d ≡ disk_before calls disk) p
+-- a call that is no sync
+abbrev pub IsUnsynced : Call → Type 0
+IsUnsynced (WroteRegion w) = ⊤
+IsUnsynced (CutRegion c) = ⊤
+IsUnsynced (WroteDisk w) = ⊤
+IsUnsynced SyncedDisk = ⊥
 
--- inside the first of these calls, from what stood before it
+-- no sync is among these calls
+abbrev pub Unsynced : List Call → Type 0
+Unsynced [] = ⊤
+Unsynced (c ∷ calls) = IsUnsynced c × Unsynced calls
+
+-- inside the first of these calls, from what the region was before it and from this disk
 abbrev pub breaks_at : List Call → List ℕ → List ℕ → Pair → Type 0
-breaks_at [] region disk p = ⊥
-breaks_at (c ∷ calls) region disk p = during c (region_before (c ∷ calls) region) (λ d. d ≡ disk_before (c ∷ calls) disk) p
+breaks_at [] region from p = ⊥
+breaks_at (c ∷ calls) region from p = during c (region_before (c ∷ calls) region) (λ d. d ≡ from) p
 
--- how many images are offered of a moment
+-- how many images are offered of a moment: each with the region and without it, with the writes since the last sync and
+-- without them, and inside a call with nothing of its bytes, half of them, all, and others in their place
 abbrev pub images_at : ℕ → ℕ
-images_at t = if t % 2 == 0 then 2 else 8
+images_at t = if t % 2 == 0 then 4 else 16

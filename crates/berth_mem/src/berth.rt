@@ -80,7 +80,7 @@ impl MemBerth {
         requires { moment ≤ (meaning self.now).clock }
         ensures { result ≡ images_at moment }
     {
-        if moment % 2 == 0 { 2 } else { 8 }
+        if moment % 2 == 0 { 4 } else { 16 }
     }
 
     /// A plain berth on what a crash at that moment may have left.
@@ -90,7 +90,15 @@ impl MemBerth {
         ensures left { IfOk result (λ b. (p : Pair) × (meaning self.now).leaves moment p × Made p.region p.disk b) }
         ensures plan { IfOk result (λ b. berth_plan b ≡ Plain) }
     {
-        let (region, disk) = pick::image(&self.region, &self.disk, &self.calls, moment, image / 2)?;
+        let unsynced_lost = image / 2 % 2 == 1;
+        let (region, disk) = pick::image(
+            &self.region,
+            &self.disk,
+            &self.calls,
+            moment,
+            unsynced_lost,
+            image / 4,
+        )?;
         let alloc = *self.region.allocator();
         if image % 2 == 0 {
             Ok(MemBerth::new(region, disk))

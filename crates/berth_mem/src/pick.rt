@@ -1,7 +1,7 @@
 // A crash image of any moment, as a berth of its own.
-ghost use Rattle.std.specs.Prelude.{◌≡◌, ◌+◌, ◌*◌, ◌^◌, ◌<◌, ◌≤◌, List, ℕ, length, take, drop, IfOk, OnOk, ◌⊎◌, []};
+ghost use Rattle.std.specs.Prelude.{◌≡◌, ◌+◌, ◌-◌, ◌*◌, ◌^◌, ◌<◌, ◌≤◌, List, ℕ, length, take, drop, false, IfOk, OnOk, ◌⊎◌, []};
 ghost use Rattle.berth_face.specs.Berth.{Torn, Cut};
-ghost use Rattle.berth_mem.specs.Picked.{breaks_at};
+ghost use Rattle.berth_mem.specs.Picked.{IsUnsynced, Unsynced, breaks_at};
 ghost use Rattle.berth_mem.specs.Record.{moments, leaves_at, undone, region_undone, disk_undone, region_before, disk_before};
 
 use crate::bytes::{is_far, overwritten};
@@ -130,54 +130,80 @@ fn broken(
     Ok(made)
 }
 
-// The region and the disk that a crash inside the k-th call left, of its shape.
+// Where the writes that a crash takes begin: at the k-th call, or just behind the last sync before it.
+fn kept(calls: &[Call], k: usize, unsynced_lost: bool) -> usize
+    requires { k ≤ length calls.now }
+    ensures bound { result ≤ k }
+    ensures unsynced { Unsynced (take (k - result) (drop result calls.now)) }
+{
+    let mut from = k;
+    while unsynced_lost && from > 0 && !is_sync(&calls[from - 1]) {
+        from -= 1;
+    }
+    from
+}
+
+fn is_sync(call: &Call) -> bool
+    ensures { result ≡ false → IsUnsynced call.now }
+{
+    match call {
+        Call::WroteRegion(_) => false,
+        Call::CutRegion(_) => false,
+        Call::WroteDisk(_) => false,
+        Call::SyncedDisk => true,
+    }
+}
+
+// The region and the disk that a crash inside the k-th call left, of its shape, where this disk was left before it.
 fn broken_at(
     region: &Vec<u8>,
     disk: &Vec<u8>,
     calls: &[Call],
     k: usize,
+    from: Vec<u8>,
     shape: u64,
 ) -> Result<(Vec<u8>, Vec<u8>), AllocError>
     requires { k < length calls.now }
-    ensures { IfOk result (λ made. breaks_at (drop k calls.now) region.now.items disk.now.items (record { region = made.0.items; disk = made.1.items })) }
+    ensures { IfOk result (λ made. breaks_at (drop k calls.now) region.now.items from.items (record { region = made.0.items; disk = made.1.items })) }
 {
     let alloc = *region.allocator();
     let old_region = region_at(region, calls, k)?;
-    let old_disk = disk_at(disk, calls, k)?;
     match &calls[k] {
         Call::WroteRegion(wrote) => {
             let after = region_at(region, calls, k + 1)?;
             let made = broken(alloc, &old_region, &after, wrote, shape)?;
-            Ok((made, old_disk))
+            Ok((made, from))
         }
-        Call::CutRegion(_) => Ok((old_region, old_disk)),
+        Call::CutRegion(_) => Ok((old_region, from)),
         Call::WroteDisk(wrote) => {
             let after = disk_at(disk, calls, k + 1)?;
-            let made = broken(alloc, &old_disk, &after, wrote, shape)?;
+            let made = broken(alloc, &from, &after, wrote, shape)?;
             Ok((old_region, made))
         }
-        Call::SyncedDisk => Ok((old_region, old_disk)),
+        Call::SyncedDisk => Ok((old_region, from)),
     }
 }
 
-/// The contents that a crash at this moment left: of each shape with the region and without it.
+/// The region and the disk that a crash at this moment left, with the writes since the last sync or without them.
 pub fn image(
     region: &Vec<u8>,
     disk: &Vec<u8>,
     calls: &[Call],
     moment: u64,
-    image: u64,
+    unsynced_lost: bool,
+    shape: u64,
 ) -> Result<(Vec<u8>, Vec<u8>), AllocError>
     requires { moment ≤ moments calls.now }
     ensures { IfOk result (λ made. leaves_at calls.now region.now.items disk.now.items (λ d. d ≡ disk_before calls.now disk.now.items) moment (record { region = made.0.items; disk = made.1.items })) }
 {
     let k = (moment / 2) as usize;
+    let from = kept(calls, k, unsynced_lost);
+    let old_disk = disk_at(disk, calls, from)?;
     if moment % 2 == 0 {
         let old_region = region_at(region, calls, k)?;
-        let old_disk = disk_at(disk, calls, k)?;
         Ok((old_region, old_disk))
     } else {
-        let made = broken_at(region, disk, calls, k, image)?;
+        let made = broken_at(region, disk, calls, k, old_disk, shape)?;
         Ok(made)
     }
 }
