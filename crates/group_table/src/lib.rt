@@ -1,0 +1,10 @@
+//! Groups of rows: rows folded by their keys, and two tables of groups merged into one.
+#![tactic(auto)]
+
+mod fold;
+mod join;
+mod order;
+mod reads;
+
+pub use fold::fold_rows;
+pub use join::merge;
