@@ -90,7 +90,6 @@ fn groups_of_row(alloc: Global, query: &Query, row: &Row) -> Result<Groups, Allo
 
 /// Folds each half of the rows and joins the two tables.
 pub fn fold_rows(alloc: Global, query: &Query, rows: &[Row]) -> Result<Groups, AllocError>
-    requires { length rows.now ≤ 2 ^ 40 }
     ensures value { IfOk result (λ gs. gs ≡ groups query.now rows.now) }
     ensures within { IfOk result (λ gs. AllByRecursion (IsWithin (length rows.now)) gs) }
 {
