@@ -1,17 +1,18 @@
 -- Joining the groups of two lists of rows gives the groups of both.
-use Rattle.std.proofs.Common.{◌≡◌, true, false, List, [], ◌∷◌, ◌++◌, map, filter, refl, sym, ap, ◌∙◌}
+use Rattle.std.proofs.Common.{◌≡◌, ℕ, ◌+◌, ◌<◌, take, get_or, true, false, List, [], ◌∷◌, ◌++◌, length, map, filter, refl, sym, ap, subst, ◌∙◌}
 use Rattle.std.specs.Ordering.{is_eq, ordering_reverse}
 use Rattle.std.specs.List.{AllByRecursion}
 use Rattle.std.specs.declared.cmp.Ordering.{Ordering}
 use Rattle.std.specs.declared.cmp.Ordering.TheVariants.{Less, Equal, Greater}
 use Rattle.std.proofs.lemmas.Cmp.{alike_right, tied_itself}
 use Rattle.std.proofs.lemmas.List.Elements.{filter-append}
+use Rattle.std.proofs.lemmas.List.{length-map, take_more}
 use Rattle.leaf_model.specs.declared.rows.Row.{Row}
 use Rattle.leaf_model.specs.declared.queries.Query.{Query}
 use Rattle.leaf_model.specs.declared.groups.Key.{Key}
 use Rattle.leaf_model.specs.declared.groups.Group.{Group}
-use Rattle.leaf_model.specs.Groups.{keys_cmp, keys_of, passes, with_keys, with_keys_at, distinct_keys, group_of, rows_with, groups}
-use Rattle.group_table.specs.Joined.{joined_group, joined, joined_from, next_of}
+use Rattle.leaf_model.specs.Groups.{keys_cmp, keys_of, passes, with_keys, with_keys_at, distinct_keys, group_of, rows_with, fold_of, agg_ints, groups}
+use Rattle.group_table.specs.Joined.{joined_group, joined, joined_from, next_of, keys_in, Above, Ascends, IsTable}
 use Rattle.group_table.proofs.KeyOrder.{keys_cmp_total, exact_keys}
 use Rattle.group_table.proofs.Monoid.{group_assoc, group_of-append}
 
@@ -23,7 +24,7 @@ pub joined-nil : (gs : List Group) → joined gs [] ≡ gs
 joined-nil [] = refl
 joined-nil (g ∷ gs) = ap (λ hs. g ∷ hs) (joined-nil gs)
 
-chain : (a b c : List Key) → keys_cmp a b ≡ Less → keys_cmp b c ≡ Less → keys_cmp a c ≡ Less
+pub chain : (a b c : List Key) → keys_cmp a b ≡ Less → keys_cmp b c ≡ Less → keys_cmp a c ≡ Less
 chain a b c h k = keys_cmp_total.trans a b c h k
 
 turn : (a b : List Key) → keys_cmp a b ≡ Greater → keys_cmp b a ≡ Less
@@ -69,13 +70,6 @@ with_joined g [] hs = refl
 with_joined g (a ∷ gs) hs = step g a gs (with_joined g gs) hs
 
 -- ---- lists of keys
-
-abbrev Above : List Key → List (List Key) → Type 0
-Above k js = AllByRecursion (λ j. keys_cmp k j ≡ Less) js
-
-abbrev Ascends : List (List Key) → Type 0
-Ascends [] = Unit
-Ascends (j ∷ js) = Above j js × Ascends js
 
 abbrev Absent : List Key → List (List Key) → Type 0
 Absent k js = AllByRecursion (λ j. is_eq (keys_cmp k j) ≡ false) js
@@ -219,3 +213,32 @@ groups-append q xs ys = ap (all_made q) (filter-append (passes q) xs ys) ∙ bot
 -- the groups of one row that passes
 pub one_row : (q : Query) (row : Row) → passes q row ≡ true → groups q (row ∷ []) ≡ single q row ∷ []
 one_row q row h = rw h (ap (λ g. g ∷ []) (made-alone q row [] refl))
+
+-- the groups of rows ascend by their keys
+keys_made : (q : Query) (rows : List Row) (js : List (List Key)) → keys_in (map (made q rows) js) ≡ js
+keys_made q rows [] = refl
+keys_made q rows (j ∷ js) = ap (λ ks. j ∷ ks) (keys_made q rows js)
+
+pub groups_ascend : (q : Query) (rows : List Row) → Ascends (keys_in (groups q rows))
+groups_ascend q rows =
+    let passing = filter (passes q) rows in
+    subst Ascends (sym (keys_made q passing (distinct_keys q passing))) (ascends q passing)
+
+shaped_made : (q : Query) (rows : List Row) (js : List (List Key)) → AllByRecursion (λ (g : Group). length g.folds ≡ length q.aggs) (map (made q rows) js)
+shaped_made q rows [] = tt
+shaped_made q rows (j ∷ js) = (length-map q.aggs (λ agg. fold_of (agg_ints agg (rows_with q j rows))), shaped_made q rows js)
+
+pub groups_table : (q : Query) (rows : List Row) → IsTable q (groups q rows)
+groups_table q rows =
+    let passing = filter (passes q) rows in
+    record { ascends = groups_ascend q rows; shaped = shaped_made q passing (distinct_keys q passing) }
+
+-- a row that does not pass has no group
+pub no_row : (q : Query) (row : Row) → passes q row ≡ false → groups q (row ∷ []) ≡ []
+no_row q row h = rw h refl
+
+-- the groups of one row more
+pub next_row : (q : Query) (rows : List Row) (i : ℕ) (row : Row) → i < length rows → get_or rows i row ≡ row
+    → groups q (take (i + 1) rows) ≡ joined (groups q (take i rows)) (groups q (row ∷ []))
+next_row q rows i row h is =
+    ap (groups q) (take_more rows i row h ∙ ap (λ r. take i rows ++ r ∷ []) is) ∙ groups-append q (take i rows) (row ∷ [])

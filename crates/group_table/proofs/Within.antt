@@ -63,3 +63,7 @@ folds_fit n (f ∷ fs) h w = (fold_fits n f h w.0, folds_fit n fs h w.1)
 pub groups_fit : (n : ℕ) (gs : List Group) → n ≤ 2 ^ 63 → AllByRecursion (IsWithin n) gs → AllByRecursion FitsGroup gs
 groups_fit n [] h w = tt
 groups_fit n (g ∷ gs) h w = (record { count = omega (arith, w.0.count); folds = folds_fit n g.folds h w.0.folds }, groups_fit n gs h w.1)
+
+-- what `merge` asks of two tables, from the numbers of rows that they come from
+pub joined_fit : (m n : ℕ) (as_ bs : List Group) → m + n ≤ 2 ^ 63 → AllByRecursion (IsWithin m) as_ → AllByRecursion (IsWithin n) bs → AllByRecursion FitsGroup (joined as_ bs)
+joined_fit m n as_ bs h v w = groups_fit (m + n) (joined as_ bs) h (joined_within m n as_ bs v w)

@@ -38,7 +38,7 @@ fn greater(a: Option<i64>, b: Option<i64>) -> Option<i64>
     }
 }
 
-fn join_fold(mine: &mut Fold, theirs: &Fold)
+pub fn join_fold(mine: &mut Fold, theirs: &Fold)
     requires { FitsFold (joined_fold mine.old theirs.now) }
     ensures { mine.new ≡ joined_fold mine.old theirs.now }
 {

@@ -5,6 +5,8 @@ mod fold;
 mod join;
 mod order;
 mod reads;
+mod rows;
+mod table;
 
 pub use fold::fold_rows;
 pub use join::merge;
