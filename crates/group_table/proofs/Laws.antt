@@ -39,7 +39,7 @@ chain_back a b c h k = turn_back c a (chain c b a (turn b c k) (turn a b h))
 tie_left : (a b c : List Key) (o : Ordering) → keys_cmp a b ≡ Equal → keys_cmp b c ≡ o → keys_cmp a c ≡ o
 tie_left a b c o h k = keys_cmp_total.congr a b c h ∙ k
 
-tie_right : (a b c : List Key) (o : Ordering) → keys_cmp a b ≡ o → keys_cmp b c ≡ Equal → keys_cmp a c ≡ o
+pub tie_right : (a b c : List Key) (o : Ordering) → keys_cmp a b ≡ o → keys_cmp b c ≡ Equal → keys_cmp a c ≡ o
 tie_right a b c o h k = sym (alike_right keys_cmp_total b c a k) ∙ h
 
 abbrev Same : Group → List Group → List Group → Type 0

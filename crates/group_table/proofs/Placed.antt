@@ -9,7 +9,7 @@ use Rattle.leaf_model.specs.declared.groups.Key.{Key}
 use Rattle.leaf_model.specs.declared.groups.Group.{Group}
 use Rattle.leaf_model.specs.Groups.{keys_cmp}
 use Rattle.group_table.specs.Joined.{joined_group, joined, next_of, keys_in, Above, Ascends, is_first, put_first}
-use Rattle.group_table.proofs.Laws.{joined-nil, chain}
+use Rattle.group_table.proofs.Laws.{joined-nil, chain, tie_right}
 
 is_less : (o : Ordering) → is_lt o ≡ true → o ≡ Less
 is_less Less h = refl
@@ -64,3 +64,21 @@ before-all g (a ∷ gs) h = rw h refl
 
 pub put_before : (g : Group) (gs : List Group) (i : ℕ) → is_first g.keys (drop i gs) ≡ false → insert gs i g ≡ take i gs ++ put_first g (drop i gs)
 put_before g gs i h = ap (λ hs. take i gs ++ hs) (before-all g (drop i gs) h)
+
+is_equal : (o : Ordering) → is_eq o ≡ true → o ≡ Equal
+is_equal Less h = cc
+is_equal Equal h = refl
+is_equal Greater h = cc
+
+above_first : (k : List Key) (g : Group) (gs : List Group) (i : ℕ) → Above k (keys_in gs) → is_first g.keys (drop i gs) ≡ true → keys_cmp k g.keys ≡ Less
+above_first k g [] zero up h = cc
+above_first k g [] (suc i) up h = cc
+above_first k g (a ∷ gs) zero up h = tie_right k a.keys g.keys Less up.0 (is_equal (keys_cmp a.keys g.keys) h)
+above_first k g (a ∷ gs) (suc i) up h = above_first k g gs i up.1 h
+
+-- where a group of these keys stands is their place, however it was found
+pub found : (g : Group) (gs : List Group) (i : ℕ) → Ascends (keys_in gs) → is_first g.keys (drop i gs) ≡ true → joined gs (g ∷ []) ≡ take i gs ++ put_first g (drop i gs)
+found g [] zero up h = cc
+found g [] (suc i) up h = cc
+found g (a ∷ gs) zero up h = first-at g a gs Equal (is_equal (keys_cmp a.keys g.keys) h) refl
+found g (a ∷ gs) (suc i) up h = rw (above_first a.keys g gs i up.0 h) (ap (λ hs. a ∷ hs) (found g gs i up.1 h))

@@ -10,15 +10,16 @@ use leaf_model::{Group, Groups, Query, Row};
 use std::alloc::{AllocError, Global};
 
 /// So many rows go into one table, which stays small enough to be searched and shifted; more are folded in halves.
-const FEW_ROWS: usize = 256;
+const FEW_ROWS: usize = 512;
 
 fn fold_few(alloc: Global, query: &Query, rows: &[Row]) -> Result<Groups, AllocError>
     ensures value { IfOk result (λ gs. gs ≡ groups query.now rows.now) }
     ensures within { IfOk result (λ gs. AllByRecursion (IsWithin (length rows.now)) gs) }
 {
     let mut table: Vec<Group> = Vec::new(alloc);
+    let mut guesses = [0; 256];
     for row in rows {
-        table = add_row(alloc, query, table, row)?;
+        table = add_row(alloc, query, table, &mut guesses, row)?;
     }
     Ok(Groups::of(table))
 }

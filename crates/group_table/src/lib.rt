@@ -2,6 +2,7 @@
 #![tactic(auto)]
 
 mod fold;
+mod guess;
 mod join;
 mod order;
 mod reads;

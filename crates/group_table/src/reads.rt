@@ -2,13 +2,14 @@ ghost use Rattle.std.specs.Prelude.{◌≡◌, IfOk, option_and_then, map, Some,
 ghost use Rattle.std.specs.List.{list_all};
 ghost use Rattle.leaf_model.specs.Groups.{cell_value, value_of, op_accepts, cond_accepts, passes, key_of, as_int};
 ghost use Rattle.leaf_model.specs.Values.{time_name};
-ghost use Rattle.group_table.specs.Reads.{seen_value};
+ghost use Rattle.group_table.specs.Reads.{seen_value, seen_key};
 
 use leaf_model::{Cell, Cond, Key, Keys, Op, Query, Row, Text, Value};
 use std::alloc::{AllocError, Global};
 use std::cmp::Ordering;
 
 /// What a row has under a name.
+#[derive(Clone, Copy)]
 pub enum Seen<'a> {
     Missing,
     Int(i64),
@@ -98,22 +99,48 @@ pub fn is_passing(query: &Query, row: &Row) -> bool
     query.from <= row.time && row.time <= query.to && meets_all(query.conds.as_slice(), row)
 }
 
-fn key_at(name: &Text, row: &Row) -> Result<Key, AllocError>
-    ensures { IfOk result (λ k. k ≡ key_of (value_of name.now row.now)) }
+/// What a row has under each of the names.
+pub fn look_all<'a>(
+    alloc: Global,
+    names: &[Text],
+    row: &'a Row,
+) -> Result<Vec<Seen<'a>>, AllocError>
+    ensures { IfOk result (λ seen. map seen_key seen.items ≡ map (λ name. key_of (value_of name row.now)) names.now) }
 {
-    match look(name, row) {
+    let mut seen: Vec<Seen<'a>> = Vec::with_capacity(alloc, names.len())?;
+    for name in names {
+        seen.push(look(name, row))?;
+    }
+    Ok(seen)
+}
+
+/// A key of a table, as a row's are seen.
+pub fn see_key(key: &Key) -> Seen<'_>
+    ensures { seen_key result ≡ key.now }
+{
+    match key {
+        Key::Missing => Seen::Missing,
+        Key::Int(n) => Seen::Int(*n),
+        Key::Text(text) => Seen::Text(text),
+    }
+}
+
+fn own_key(seen: Seen) -> Result<Key, AllocError>
+    ensures { IfOk result (λ k. k ≡ seen_key seen.entry) }
+{
+    match seen {
         Seen::Missing => Ok(Key::Missing),
         Seen::Int(n) => Ok(Key::Int(n)),
         Seen::Text(text) => Ok(Key::Text(text.copy()?)),
     }
 }
 
-pub fn keys_at(alloc: Global, names: &[Text], row: &Row) -> Result<Keys, AllocError>
-    ensures { IfOk result (λ ks. ks ≡ map (λ name. key_of (value_of name row.now)) names.now) }
+pub fn own_keys(alloc: Global, seen: &[Seen]) -> Result<Keys, AllocError>
+    ensures { IfOk result (λ ks. ks ≡ map seen_key seen.now) }
 {
-    let mut keys: Vec<Key> = Vec::new(alloc);
-    for name in names {
-        keys.push(key_at(name, row)?)?;
+    let mut keys: Vec<Key> = Vec::with_capacity(alloc, seen.len())?;
+    for one in seen {
+        keys.push(own_key(*one)?)?;
     }
     Ok(Keys::of(keys))
 }

@@ -5,33 +5,61 @@ ghost use Rattle.std.specs.Vec.{vec_len};
 ghost use Rattle.leaf_model.specs.declared.groups.Key.{Key};
 ghost use Rattle.leaf_model.specs.declared.groups.Group.{Group};
 ghost use Rattle.leaf_model.specs.Groups.{groups, group_of, fold_of, agg_ints};
+ghost use Rattle.group_table.specs.Reads.{seen_key};
 ghost use Rattle.group_table.specs.Joined.{joined_fold, joined_folds, joined_group, joined, Ascends, keys_in, is_first, put_first, IsTable, IsWithin, IsFoldWithin};
 
+use crate::guess::guess_of;
 use crate::join::join_fold;
-use crate::order::compare_keys;
-use crate::reads::{is_passing, keys_at};
+use crate::order::compare_with;
+use crate::reads::{Seen, is_passing, look_all, own_keys};
 use crate::rows::{fold_row, folds_of_row};
-use leaf_model::{Agg, Fold, Folds, Group, Key, Keys, Query, Row};
+use leaf_model::{Agg, Fold, Folds, Group, Query, Row};
 use std::alloc::{AllocError, Global};
 use std::cmp::Ordering;
 
-/// Where those keys stand, or would stand, in an ascending table.
-fn place_of(table: &[Group], keys: &[Key]) -> usize
-    requires { Ascends (keys_in table.now) }
-    ensures bound { result ≤ length table.now }
-    ensures place { (g : Group) → g.keys ≡ keys.now → joined table.now (g ∷ []) ≡ take result table.now ++ put_first g (drop result table.now) }
-{
-    table.partition_point(|group| compare_keys(group.keys.as_slice(), keys) == Ordering::Less)
+/// A place in a table, and whether the keys that were looked for stand there.
+#[derive(Clone, Copy)]
+struct Place {
+    at: usize,
+    is_there: bool,
 }
 
-fn stands_at(table: &[Group], place: usize, keys: &[Key]) -> bool
-    ensures value { result ≡ is_first keys.now (drop place table.now) }
+fn stands_at(table: &[Group], place: usize, keys: &[Seen]) -> bool
+    ensures value { result ≡ is_first (map seen_key keys.now) (drop place table.now) }
     ensures inside { result ≡ true → place < length table.now }
 {
     match table.get(place) {
         None => false,
-        Some(group) => compare_keys(group.keys.as_slice(), keys) == Ordering::Equal,
+        Some(group) => compare_with(group.keys.as_slice(), keys) == Ordering::Equal,
     }
+}
+
+/// Past the groups whose keys are below these.
+fn search_for(table: &[Group], keys: &[Seen]) -> usize
+    requires { Ascends (keys_in table.now) }
+    ensures bound { result ≤ length table.now }
+    ensures place { (g : Group) → g.keys ≡ map seen_key keys.now → joined table.now (g ∷ []) ≡ take result table.now ++ put_first g (drop result table.now) }
+{
+    table.partition_point(|group| compare_with(group.keys.as_slice(), keys) == Ordering::Less)
+}
+
+/// Where those keys stand, or would stand, in an ascending table. The guess is tried first.
+fn place_of(table: &[Group], keys: &[Seen], guess: usize) -> Place
+    requires { Ascends (keys_in table.now) }
+    ensures bound { result.at ≤ length table.now }
+    ensures there { result.is_there ≡ is_first (map seen_key keys.now) (drop result.at table.now) }
+    ensures inside { result.is_there ≡ true → result.at < length table.now }
+    ensures place { (g : Group) → g.keys ≡ map seen_key keys.now → joined table.now (g ∷ []) ≡ take result.at table.now ++ put_first g (drop result.at table.now) }
+{
+    if stands_at(table, guess, keys) {
+        return Place {
+            at: guess,
+            is_there: true,
+        };
+    }
+    let at = search_for(table, keys);
+    let is_there = stands_at(table, at, keys);
+    Place { at, is_there }
 }
 
 fn add_cell(mine: &mut Fold, agg: &Agg, row: &Row)
@@ -73,23 +101,26 @@ fn put_row(
     alloc: Global,
     query: &Query,
     mut table: Vec<Group>,
-    place: usize,
-    keys: Keys,
+    place: Place,
+    keys: &[Seen],
     row: &Row,
 ) -> Result<Vec<Group>, AllocError>
-    requires bound { place ≤ vec_len table }
+    requires bound { place.at ≤ vec_len table }
+    requires there { place.is_there ≡ is_first (map seen_key keys.now) (drop place.at table.items) }
+    requires inside { place.is_there ≡ true → place.at < vec_len table }
     requires same { AllByRecursion (λ (g : Group). length g.folds ≡ length query.now.aggs) table.items }
     requires within { AllByRecursion (IsWithin (2 ^ 62)) table.items }
-    ensures value { IfOk result (λ gs. gs.items ≡ take place table.items ++ put_first (group_of query.now keys (row.now ∷ [])) (drop place table.items)) }
-    ensures row { IfOk result (λ gs. AllByRecursion (IsWithin 1) (group_of query.now keys (row.now ∷ []) ∷ [])) }
+    ensures value { IfOk result (λ gs. gs.items ≡ take place.at table.items ++ put_first (group_of query.now (map seen_key keys.now) (row.now ∷ [])) (drop place.at table.items)) }
+    ensures row { IfOk result (λ gs. AllByRecursion (IsWithin 1) (group_of query.now (map seen_key keys.now) (row.now ∷ []) ∷ [])) }
 {
-    if stands_at(table.as_slice(), place, keys.as_slice()) {
-        add_to(alloc, &mut table[place], query, row);
+    if place.is_there {
+        add_to(alloc, &mut table[place.at], query, row);
         return Ok(table);
     }
+    let keys = own_keys(alloc, keys)?;
     let folds = folds_of_row(alloc, query.aggs.as_slice(), row)?;
     table.insert(
-        place,
+        place.at,
         Group {
             keys,
             count: 1,
@@ -99,11 +130,12 @@ fn put_row(
     Ok(table)
 }
 
-/// The table with one row more.
+/// The table with one row more. The guesses say where keys stood when they were last met.
 pub fn add_row(
     alloc: Global,
     query: &Query,
     table: Vec<Group>,
+    guesses: &mut [usize; 256],
     row: &Row,
 ) -> Result<Vec<Group>, AllocError>
     requires table { IsTable query.now table.items }
@@ -114,7 +146,9 @@ pub fn add_row(
     if !is_passing(query, row) {
         return Ok(table);
     }
-    let keys = keys_at(alloc, query.keys.as_slice(), row)?;
-    let place = place_of(table.as_slice(), keys.as_slice());
-    put_row(alloc, query, table, place, keys, row)
+    let keys = look_all(alloc, query.keys.as_slice(), row)?;
+    let guess = guess_of(keys.as_slice());
+    let place = place_of(table.as_slice(), keys.as_slice(), guesses[guess]);
+    guesses[guess] = place.at;
+    put_row(alloc, query, table, place, keys.as_slice(), row)
 }
