@@ -1,0 +1,51 @@
+-- Where one of two lists of keys ends, and folds cut to the others' number.
+use Rattle.std.proofs.Common.{◌≡◌, ℕ, suc, ◌≤◌, List, [], ◌∷◌, length, drop, take, map, refl, ap, ◌∙◌, arith}
+use Rattle.std.specs.Ordering.{nat_cmp}
+use Rattle.std.specs.declared.cmp.Ordering.TheVariants.{Less, Greater}
+use Rattle.std.proofs.lemmas.Bool.Decides.{nat_tests}
+use Rattle.leaf_model.specs.declared.groups.Key.{Key}
+use Rattle.leaf_model.specs.declared.groups.Fold.{Fold}
+use Rattle.leaf_model.specs.Groups.{keys_cmp}
+use Rattle.group_table.specs.declared.reads.Seen.{Seen}
+use Rattle.group_table.specs.Reads.{seen_key}
+use Rattle.group_table.specs.Joined.{joined_fold, joined_folds}
+
+zero_first : (n : ℕ) → Less ≡ nat_cmp 0 (suc n)
+zero_first n = grind (arith, nat_tests)
+
+zero_last : (n : ℕ) → Greater ≡ nat_cmp (suc n) 0
+zero_last n = grind (arith, nat_tests)
+
+one_less : (m n : ℕ) → nat_cmp m n ≡ nat_cmp (suc m) (suc n)
+one_less m n = grind (arith, nat_tests)
+
+pub left_ends : (a b : List Key) → length a ≤ length b → keys_cmp (drop (length a) a) (drop (length a) b) ≡ nat_cmp (length a) (length b)
+left_ends [] [] h = refl
+left_ends [] (y ∷ b) h = zero_first (length b)
+left_ends (x ∷ a) [] h = absurd (omega arith)
+left_ends (x ∷ a) (y ∷ b) h = left_ends a b (omega arith) ∙ one_less (length a) (length b)
+
+pub right_ends : (a b : List Key) → length b ≤ length a → keys_cmp (drop (length b) a) (drop (length b) b) ≡ nat_cmp (length a) (length b)
+right_ends [] [] h = refl
+right_ends (x ∷ a) [] h = zero_last (length a)
+right_ends [] (y ∷ b) h = absurd (omega arith)
+right_ends (x ∷ a) (y ∷ b) h = right_ends a b (omega arith) ∙ one_less (length a) (length b)
+
+pub cut_folds : (fs hs : List Fold) → joined_folds (take (length hs) fs) hs ≡ joined_folds fs hs
+cut_folds [] [] = refl
+cut_folds [] (h ∷ hs) = refl
+cut_folds (f ∷ fs) [] = refl
+cut_folds (f ∷ fs) (h ∷ hs) = ap (λ rest. joined_fold f h ∷ rest) (cut_folds fs hs)
+
+-- the same, where the keys on the right are still a row's
+pub left_ends_with : (a : List Key) (b : List Seen) → length a ≤ length b → keys_cmp (drop (length a) a) (map seen_key (drop (length a) b)) ≡ nat_cmp (length a) (length b)
+left_ends_with [] [] h = refl
+left_ends_with [] (y ∷ b) h = zero_first (length b)
+left_ends_with (x ∷ a) [] h = absurd (omega arith)
+left_ends_with (x ∷ a) (y ∷ b) h = left_ends_with a b (omega arith) ∙ one_less (length a) (length b)
+
+pub right_ends_with : (a : List Key) (b : List Seen) → length b ≤ length a → keys_cmp (drop (length b) a) (map seen_key (drop (length b) b)) ≡ nat_cmp (length a) (length b)
+right_ends_with [] [] h = refl
+right_ends_with (x ∷ a) [] h = zero_last (length a)
+right_ends_with [] (y ∷ b) h = absurd (omega arith)
+right_ends_with (x ∷ a) (y ∷ b) h = right_ends_with a b (omega arith) ∙ one_less (length a) (length b)

@@ -1,0 +1,15 @@
+use Rattle.std.proofs.Common.{length, ◌-◌, ◌≡◌, ◌≤◌, drop, map}
+use Rattle.leaf_model.specs.Groups.{keys_cmp}
+use Rattle.group_table.specs.Reads.{seen_key}
+use Rattle.group_table.proofs.order.compare_with.Given as goal
+
+-- what is left decides
+abbrev pub invariant-loop-i : goal.invariant-loop-i
+invariant-loop-i l = record {
+  mine : l.i ≤ length l.a;
+  theirs : l.i ≤ length l.b;
+  same : keys_cmp l.a (map seen_key l.b) ≡ keys_cmp (drop l.i l.a) (map seen_key (drop l.i l.b));
+}
+
+abbrev pub decreases-loop-i : goal.decreases-loop-i
+decreases-loop-i l = length l.a - l.i

@@ -1,0 +1,100 @@
+-- Two ascending lists of groups as one.
+use Rattle.std.specs.Prelude.{◌≡◌, ℕ, ◌+◌, ◌<◌, ◌^◌, Bool, false, if◌then◌else◌, List, [], ◌∷◌, length, map, ℤ, pos, ◌+ℤ◌, ◌≤ℤ◌, ◌*◌, ◌≤◌, Option, Some, None, FitsSigned}
+use Rattle.std.specs.List.{AllByRecursion}
+use Rattle.std.specs.Int.{int_min, int_max, w128}
+use Rattle.std.specs.declared.cmp.Ordering.{Ordering}
+use Rattle.std.specs.declared.cmp.Ordering.TheVariants.{Less, Equal, Greater}
+use Rattle.std.specs.Ordering.{is_eq}
+use Rattle.leaf_model.specs.declared.queries.Query.{Query}
+use Rattle.leaf_model.specs.declared.groups.Key.{Key}
+use Rattle.leaf_model.specs.declared.groups.Fold.{Fold}
+use Rattle.leaf_model.specs.declared.groups.Group.{Group}
+use Rattle.leaf_model.specs.Groups.{keys_cmp}
+
+-- the lesser, or greater, of those that are there
+abbrev pub either : (ℤ → ℤ → ℤ) → Option ℤ → Option ℤ → Option ℤ
+either choose None b = b
+either choose (Some a) None = Some a
+either choose (Some a) (Some b) = Some (choose a b)
+
+-- the fold of both lists of integers together
+abbrev pub joined_fold : Fold → Fold → Fold
+joined_fold a b = record { seen = a.seen + b.seen; sum = a.sum +ℤ b.sum; min = either int_min a.min b.min; max = either int_max a.max b.max }
+
+abbrev pub joined_folds : List Fold → List Fold → List Fold
+joined_folds [] bs = []
+joined_folds (a ∷ as_) [] = []
+joined_folds (a ∷ as_) (b ∷ bs) = joined_fold a b ∷ joined_folds as_ bs
+
+-- the group of both lists of rows, which have one key list
+abbrev pub joined_group : Group → Group → Group
+joined_group a b = record { keys = a.keys; count = a.count + b.count; folds = joined_folds a.folds b.folds }
+
+-- a counted number below 2^64, and a sum that is an i128
+pub record FitsFold (f : Fold) : Type 0 where
+  pub seen : f.seen < 2 ^ 64
+  pub sum : FitsSigned w128 f.sum
+
+pub record FitsGroup (g : Group) : Type 0 where
+  pub count : g.count < 2 ^ 64
+  pub folds : AllByRecursion FitsFold g.folds
+
+-- what n rows can give: at most n cells, each an i64
+pub record IsFoldWithin (n : ℕ) (f : Fold) : Type 0 where
+  pub seen : f.seen ≤ n
+  pub low : pos 0 ≤ℤ (f.sum +ℤ pos (n * 2 ^ 63))
+  pub high : f.sum ≤ℤ pos (n * 2 ^ 63)
+
+pub record IsWithin (n : ℕ) (g : Group) : Type 0 where
+  pub count : g.count ≤ n
+  pub folds : AllByRecursion (IsFoldWithin n) g.folds
+
+-- what stands first where two lists begin with a and b; the rests are given
+abbrev pub next_of : Ordering → Group → Group → List Group → List Group → List Group → List Group
+next_of Less a b left both right = a ∷ left
+next_of Equal a b left both right = joined_group a b ∷ both
+next_of Greater a b left both right = b ∷ right
+
+-- a group, what joins the groups behind it with a list, and that list
+abbrev pub joined_from : Group → (List Group → List Group) → List Group → List Group
+joined_from a rest [] = a ∷ rest []
+joined_from a rest (b ∷ bs) = next_of (keys_cmp a.keys b.keys) a b (rest (b ∷ bs)) (rest bs) (joined_from a rest bs)
+
+-- both lists in one, by key; groups of one key list are joined
+abbrev pub joined : List Group → List Group → List Group
+joined [] bs = bs
+joined (a ∷ as_) bs = joined_from a (λ cs. joined as_ cs) bs
+
+-- the lists of keys of a table, in its order
+abbrev pub keys_in : List Group → List (List Key)
+keys_in gs = map (λ (g : Group). g.keys) gs
+
+-- keys below each of those of a list
+abbrev pub Above : List Key → List (List Key) → Type 0
+Above k js = AllByRecursion (λ j. keys_cmp k j ≡ Less) js
+
+-- each list of keys is below all that come after it
+abbrev pub Ascends : List (List Key) → Type 0
+Ascends [] = Unit
+Ascends (j ∷ js) = Above j js × Ascends js
+
+-- a table of groups as a query makes it: by key ascending, with a fold for each aggregate
+pub record IsTable (q : Query) (gs : List Group) : Type 0 where
+  pub ascends : Ascends (keys_in gs)
+  pub shaped : AllByRecursion (λ (g : Group). length g.folds ≡ length q.aggs) gs
+
+-- whether the first group has these keys
+abbrev pub is_first : List Key → List Group → Bool
+is_first ks [] = false
+is_first ks (a ∷ rest) = is_eq (keys_cmp a.keys ks)
+
+-- a group put before a table, or joined to the first group of it where that has its keys
+abbrev pub put_first : Group → List Group → List Group
+put_first g [] = g ∷ []
+put_first g (a ∷ rest) = if is_eq (keys_cmp a.keys g.keys) then joined_group a g ∷ rest else g ∷ a ∷ rest
+
+-- what holds of the first groups, where both lists have one
+abbrev pub IfBoth : (Group → Group → Type 0) → List Group → List Group → Type 0
+IfBoth P [] bs = Unit
+IfBoth P (a ∷ as_) [] = Unit
+IfBoth P (a ∷ as_) (b ∷ bs) = P a b

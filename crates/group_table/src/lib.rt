@@ -1,0 +1,13 @@
+//! Groups of rows: rows folded by their keys, and two tables of groups merged into one.
+#![tactic(auto)]
+
+mod fold;
+mod guess;
+mod join;
+mod order;
+mod reads;
+mod rows;
+mod table;
+
+pub use fold::fold_rows;
+pub use join::merge;

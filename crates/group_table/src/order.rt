@@ -1,0 +1,61 @@
+// The order of keys, and of lists of keys.
+ghost use Rattle.std.specs.Prelude.{◌≡◌, map};
+ghost use Rattle.leaf_model.specs.Groups.{key_cmp, keys_cmp};
+ghost use Rattle.group_table.specs.Reads.{seen_key};
+
+use crate::reads::{Seen, see_key};
+use leaf_model::Key;
+use std::cmp::Ordering;
+
+/// Missing, then integers, then texts by their bytes.
+fn compare_seen(a: Seen, b: Seen) -> Ordering
+    ensures { result ≡ key_cmp (seen_key a.entry) (seen_key b.entry) }
+{
+    match a {
+        Seen::Missing => match b {
+            Seen::Missing => Ordering::Equal,
+            Seen::Int(_m) => Ordering::Less,
+            Seen::Text(_u) => Ordering::Less,
+        },
+        Seen::Int(n) => match b {
+            Seen::Missing => Ordering::Greater,
+            Seen::Int(m) => n.cmp(&m),
+            Seen::Text(_u) => Ordering::Less,
+        },
+        Seen::Text(t) => match b {
+            Seen::Missing => Ordering::Greater,
+            Seen::Int(_m) => Ordering::Greater,
+            Seen::Text(u) => t.as_str().cmp(u.as_str()),
+        },
+    }
+}
+
+/// Lists of keys compare from the left.
+pub fn compare_keys(a: &[Key], b: &[Key]) -> Ordering
+    ensures { result ≡ keys_cmp a.now b.now }
+{
+    let mut i: usize = 0;
+    while i < a.len() && i < b.len() {
+        match compare_seen(see_key(&a[i]), see_key(&b[i])) {
+            Ordering::Less => return Ordering::Less,
+            Ordering::Equal => i += 1,
+            Ordering::Greater => return Ordering::Greater,
+        }
+    }
+    a.len().cmp(&b.len())
+}
+
+/// The same, where a row's keys are not copied yet.
+pub fn compare_with(a: &[Key], b: &[Seen]) -> Ordering
+    ensures { result ≡ keys_cmp a.now (map seen_key b.now) }
+{
+    let mut i: usize = 0;
+    while i < a.len() && i < b.len() {
+        match compare_seen(see_key(&a[i]), b[i]) {
+            Ordering::Less => return Ordering::Less,
+            Ordering::Equal => i += 1,
+            Ordering::Greater => return Ordering::Greater,
+        }
+    }
+    a.len().cmp(&b.len())
+}

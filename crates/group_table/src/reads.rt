@@ -1,0 +1,156 @@
+ghost use Rattle.std.specs.Prelude.{◌≡◌, IfOk, option_and_then, map, Some, bytes_eq};
+ghost use Rattle.std.specs.List.{list_all};
+ghost use Rattle.leaf_model.specs.Groups.{cell_value, value_of, op_accepts, cond_accepts, passes, key_of, as_int};
+ghost use Rattle.leaf_model.specs.Values.{time_name};
+ghost use Rattle.group_table.specs.Reads.{seen_value, seen_key};
+
+use leaf_model::{Cell, Cond, Key, Keys, Op, Query, Row, Text, Value};
+use std::alloc::{AllocError, Global};
+use std::cmp::Ordering;
+
+/// What a row has under a name.
+#[derive(Clone, Copy)]
+pub enum Seen<'a> {
+    Missing,
+    Int(i64),
+    Text(&'a Text),
+}
+
+fn is_time(name: &Text) -> bool
+    ensures { result ≡ bytes_eq name.now time_name }
+{
+    name.as_str() == "time"
+}
+
+fn seen_cell<'a>(name: &Text, cells: &'a [Cell]) -> Seen<'a>
+    ensures { seen_value result ≡ cell_value name.now cells.now }
+{
+    for cell in cells {
+        if name.as_str() == cell.name.as_str() {
+            return see(&cell.value);
+        }
+    }
+    Seen::Missing
+}
+
+fn see<'a>(value: &'a Value) -> Seen<'a>
+    ensures { seen_value result ≡ Some value.now }
+{
+    match value {
+        Value::Int(n) => Seen::Int(*n),
+        Value::Text(text) => Seen::Text(text),
+    }
+}
+
+/// The name `time` is the row's time.
+pub fn look<'a>(name: &Text, row: &'a Row) -> Seen<'a>
+    ensures { seen_value result ≡ value_of name.now row.now }
+{
+    if is_time(name) {
+        Seen::Int(row.time)
+    } else {
+        seen_cell(name, row.cells.as_slice())
+    }
+}
+
+fn accepts(op: &Op, order: Ordering) -> bool
+    ensures { result ≡ op_accepts op.now order }
+{
+    match op {
+        Op::Eq => order == Ordering::Equal,
+        Op::Ne => order != Ordering::Equal,
+        Op::Lt => order == Ordering::Less,
+        Op::Le => order != Ordering::Greater,
+        Op::Gt => order == Ordering::Greater,
+        Op::Ge => order != Ordering::Less,
+    }
+}
+
+fn meets(cond: &Cond, row: &Row) -> bool
+    ensures { result ≡ cond_accepts cond.now (value_of cond.now.name row.now) }
+{
+    match look(&cond.name, row) {
+        Seen::Missing => false,
+        Seen::Int(n) => match &cond.value {
+            Value::Int(m) => accepts(&cond.op, n.cmp(m)),
+            Value::Text(_text) => false,
+        },
+        Seen::Text(text) => match &cond.value {
+            Value::Int(_m) => false,
+            Value::Text(other) => accepts(&cond.op, text.as_str().cmp(other.as_str())),
+        },
+    }
+}
+
+fn meets_all(conds: &[Cond], row: &Row) -> bool
+    ensures { result ≡ list_all (λ c. cond_accepts c (value_of c.name row.now)) conds.now }
+{
+    for cond in conds {
+        if !meets(cond, row) {
+            return false;
+        }
+    }
+    true
+}
+
+pub fn is_passing(query: &Query, row: &Row) -> bool
+    ensures { result ≡ passes query.now row.now }
+{
+    query.from <= row.time && row.time <= query.to && meets_all(query.conds.as_slice(), row)
+}
+
+/// What a row has under each of the names.
+pub fn look_all<'a>(
+    alloc: Global,
+    names: &[Text],
+    row: &'a Row,
+) -> Result<Vec<Seen<'a>>, AllocError>
+    ensures { IfOk result (λ seen. map seen_key seen.items ≡ map (λ name. key_of (value_of name row.now)) names.now) }
+{
+    let mut seen: Vec<Seen<'a>> = Vec::with_capacity(alloc, names.len())?;
+    for name in names {
+        seen.push(look(name, row))?;
+    }
+    Ok(seen)
+}
+
+/// A key of a table, as a row's are seen.
+pub fn see_key(key: &Key) -> Seen<'_>
+    ensures { seen_key result ≡ key.now }
+{
+    match key {
+        Key::Missing => Seen::Missing,
+        Key::Int(n) => Seen::Int(*n),
+        Key::Text(text) => Seen::Text(text),
+    }
+}
+
+fn own_key(seen: Seen) -> Result<Key, AllocError>
+    ensures { IfOk result (λ k. k ≡ seen_key seen.entry) }
+{
+    match seen {
+        Seen::Missing => Ok(Key::Missing),
+        Seen::Int(n) => Ok(Key::Int(n)),
+        Seen::Text(text) => Ok(Key::Text(text.copy()?)),
+    }
+}
+
+pub fn own_keys(alloc: Global, seen: &[Seen]) -> Result<Keys, AllocError>
+    ensures { IfOk result (λ ks. ks ≡ map seen_key seen.now) }
+{
+    let mut keys: Vec<Key> = Vec::with_capacity(alloc, seen.len())?;
+    for one in seen {
+        keys.push(own_key(*one)?)?;
+    }
+    Ok(Keys::of(keys))
+}
+
+pub fn int_at(name: &Text, row: &Row) -> Option<i64>
+    ensures { result ≡ option_and_then as_int (value_of name.now row.now) }
+{
+    match look(name, row) {
+        Seen::Missing => None,
+        Seen::Int(n) => Some(n),
+        Seen::Text(_text) => None,
+    }
+}
