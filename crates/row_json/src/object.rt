@@ -1,0 +1,169 @@
+// A row from its JSON text.
+ghost use Rattle.std.specs.Prelude.{◌≡◌, ◌≢◌, ◌↔◌, ◌≤ℤ◌, ℕ, List, Ok, Err, IfOk, IfSome, pos, string_bytes, string_cmp};
+ghost use Rattle.std.specs.List.{AllByRecursion};
+ghost use Rattle.std.specs.List.Sorted.{IsStrictlySortedBy};
+ghost use Rattle.std.specs.Map.{keys_of};
+ghost use Rattle.serde_json.specs.View.{view, members_view};
+ghost use Rattle.leaf_model.specs.Values.{IsCell, IsRow, IsValue};
+ghost use Rattle.row_json.specs.Meaning.{Gives, Refuses};
+ghost use Rattle.row_json.specs.Row.{row_of, row_of_data, row_of_members, time_of, cell_count, cells_of, cell_of, value_of, items_of};
+
+use leaf_model::{Cell, Cells, Row, Text, Value};
+use std::alloc::Global;
+use std::collections::BTreeMap;
+
+/// The most cells of a row.
+const MAX_CELLS: usize = 1024;
+
+/// The most bytes of a cell's name.
+const MAX_NAME: usize = 255;
+
+/// Why a text is no row. `Name` and `Value` carry the name of the member at fault.
+#[derive(Debug, Drop)]
+pub enum RowFault {
+    Json,
+    NotObject,
+    NoTime,
+    TooMany,
+    Name(Text),
+    Value(Text),
+    NoMemory,
+}
+
+type Members = BTreeMap<String, serde_json::Value>;
+
+/// The row that a text of JSON is, or its first fault: `Json`, `NotObject`, `NoTime`, `TooMany`,
+/// and then `Name` and `Value` of the first member at fault. `NoMemory` may come at any place.
+pub fn row(alloc: Global, text: &[u8]) -> Result<Row, RowFault>
+    ensures exact { result ≢ Err RowFault.NoMemory → result ≡ row_of text.now }
+    ensures is_row { IfOk result IsRow }
+{
+    match serde_json::Value::from_slice(alloc, text) {
+        Ok(value) => row_of_value(alloc, value),
+        Err(error) => {
+            if error.is_memory() {
+                Err(RowFault::NoMemory)
+            } else {
+                Err(RowFault::Json)
+            }
+        }
+    }
+}
+
+/// Law: what is a row, and what each fault means, in terms of the members of the text's object.
+#[tactic(auto, using(crate::proofs::Meaning::rows_meaning, crate::proofs::Meaning::faults_meaning))]
+pub fn row_meaning()
+    ensures rows { (text : List ℕ) → (row : Row) → row_of text ≡ Ok row → Gives text row }
+    ensures faults { (text : List ℕ) → (fault : RowFault) → (row_of text ≡ Err fault) ↔ Refuses text fault }
+{
+}
+
+fn row_of_value(alloc: Global, value: serde_json::Value) -> Result<Row, RowFault>
+    ensures exact { result ≢ Err RowFault.NoMemory → result ≡ row_of_data (view value) }
+    ensures is_row { IfOk result IsRow }
+{
+    let time = time_of(&value);
+    match value {
+        serde_json::Value::Object(members) => row_of_members(alloc, time, members),
+        serde_json::Value::Null => Err(RowFault::NotObject),
+        serde_json::Value::Bool(_is) => Err(RowFault::NotObject),
+        serde_json::Value::Number(_number) => Err(RowFault::NotObject),
+        serde_json::Value::String(_text) => Err(RowFault::NotObject),
+        serde_json::Value::Array(_items) => Err(RowFault::NotObject),
+    }
+}
+
+fn row_of_members(alloc: Global, time: Option<i64>, members: Members) -> Result<Row, RowFault>
+    requires { IfSome time (λ t. pos 0 ≤ℤ t) }
+    ensures exact { result ≢ Err RowFault.NoMemory → result ≡ row_of_members time (members_view members.entries) }
+    ensures is_row { IfOk result IsRow }
+{
+    let Some(time) = time else {
+        return Err(RowFault::NoTime);
+    };
+    if cell_count(&members) > MAX_CELLS {
+        return Err(RowFault::TooMany);
+    }
+    let cells = cells(alloc, members)?;
+    Ok(Row {
+        time,
+        cells: Cells::of(cells),
+    })
+}
+
+/// The time of an object, which is not below 0.
+fn time_of(value: &serde_json::Value) -> Option<i64>
+    ensures exact { result ≡ time_of (view value.now) }
+    ensures not_negative { IfSome result (λ t. pos 0 ≤ℤ t) }
+{
+    let time = value.get("time")?.as_i64()?;
+    if time < 0 { None } else { Some(time) }
+}
+
+/// How many members are neither the time nor null.
+fn cell_count(members: &Members) -> usize
+    ensures { result ≡ cell_count (members_view members.now.entries) }
+{
+    let mut count = 0;
+    for (name, value) in members {
+        if name.as_str() != "time" && !value.is_null() {
+            count += 1;
+        }
+    }
+    count
+}
+
+/// The cells of an object, in the order of their names.
+#[tactic(auto, using(crate::proofs::Rows::before_append, crate::proofs::Order::are_cells_with))]
+fn cells(alloc: Global, members: Members) -> Result<Vec<Cell>, RowFault>
+    ensures exact { result ≢ Err RowFault.NoMemory → items_of result ≡ cells_of (members_view members.entries) }
+    ensures are_cells { IfOk result (λ cells. AllByRecursion IsCell cells.items) }
+    ensures ordered { IsStrictlySortedBy string_cmp (keys_of members.entries) }
+{
+    let mut cells = Vec::new(alloc);
+    for (name, value) in members {
+        if let Some(cell) = cell_of(name, value)? {
+            if cells.push(cell).is_err() {
+                return Err(RowFault::NoMemory);
+            }
+        }
+    }
+    Ok(cells)
+}
+
+/// The cell that a member is, where it is one.
+fn cell_of(name: String, value: serde_json::Value) -> Result<Option<Cell>, RowFault>
+    ensures exact { result ≡ cell_of (string_bytes name) (view value) }
+    ensures is_cell { IfOk result (λ found. IfSome found IsCell) }
+{
+    if name.as_str() == "time" {
+        return Ok(None);
+    }
+    let name = Text::of(name);
+    let length = name.as_str().len();
+    if length == 0 || length > MAX_NAME {
+        return Err(RowFault::Name(name));
+    }
+    if value.is_null() {
+        return Ok(None);
+    }
+    match value_of(value) {
+        Some(value) => Ok(Some(Cell { name, value })),
+        None => Err(RowFault::Value(name)),
+    }
+}
+
+/// What a member holds, where a cell can hold it.
+fn value_of(value: serde_json::Value) -> Option<Value>
+    ensures exact { result ≡ value_of (view value) }
+    ensures is_value { IfSome result IsValue }
+{
+    match value {
+        serde_json::Value::Number(number) => Some(Value::Int(number.as_i64()?)),
+        serde_json::Value::Null => None,
+        serde_json::Value::Bool(_is) => None,
+        serde_json::Value::String(_text) => None,
+        serde_json::Value::Array(_items) => None,
+        serde_json::Value::Object(_members) => None,
+    }
+}
