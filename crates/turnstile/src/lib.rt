@@ -5,6 +5,8 @@ mod object;
 mod plays;
 mod seat;
 mod steps;
+#[cfg(test)]
+mod tests;
 mod turnstile;
 mod view;
 
