@@ -29,15 +29,20 @@ module _ {B C R : Type 0} where
   -- what the seat j knows
   pub record Knows (base : B) (log : List (Entry C R)) (serving tickets out : ℕ) (owner holder : ℕ → ℕ) (j : ℕ) (v : View B C R) : Type 0 where
     pub based : (b : B) → v.base ≡ Some b → b ≡ base
+    -- what it has seen begins the history, and so does what was handed to it
     pub begins : IsPrefix v.seen log
     pub other_begins : IsPrefix v.other log
     -- every entry of one of its ids has been seen
     pub apart : (k : ℕ) (e : Entry C R) → length v.seen ≤ k → length v.other ≤ k → get_elem? log k ≡ some e → ¬ Owns v e.by
+    -- no entry has one of its later ids, which it may give away
     pub fresh : (k : ℕ) (e : Entry C R) → get_elem? log k ≡ some e → ¬ Fresh v e.by
+    -- no id is two seats', and none stands twice
     pub holder_is : (x : ℕ) → Owns v x → holder x ≡ j
     pub taken_is : (x : ℕ) → Among x v.taken → ¬ InRange v x
+    -- with a ticket it has an id of its own
     pub turn : ticketed v.stage ≤ v.share
     pub stage : Stands log serving tickets out owner j v v.stage
+    -- only an entry after the 2^62nd takes from its room
     pub room : v.share ≤ v.room + 1
     pub caller : v.id ≢ 0 → length v.seen < 2 ^ 62 → v.share ≤ v.room
 
@@ -48,6 +53,7 @@ module _ {B C R : Type 0} where
     pub tickets : ℕ
     -- 0: the value is at home; 1: it is out, and its turn's entry is not posted; 2: it is posted
     pub out : ℕ
+    -- which seat has which ticket, and which id
     pub owner : ℕ → ℕ
     pub holder : ℕ → ℕ
     pub is_legal : legal base log
@@ -56,6 +62,8 @@ module _ {B C R : Type 0} where
     pub busy : 0 < out → serving < tickets
     pub home : Homes (stands base) log out s.homes
     pub each : (j : ℕ) (v : View B C R) → get_elem? s.views j ≡ some v → Knows base log serving tickets out owner holder j v
+    -- the tickets from the one that is served on are held, each by one seat
     pub waiting : serving + total_of holds_ticket s.views ≡ tickets
     pub shares : total_of share_of s.views ≤ 65537
+    -- so the history stays below 2^63 entries
     pub rooms : (length log - 2 ^ 62) + total_of room_of s.views ≤ 66560
