@@ -1,0 +1,13 @@
+use Rattle.std.proofs.Common.{sym, ap, ◌∙◌, subst}
+use Rattle.turnstile.specs.Seats.{Told}
+use Rattle.turnstile.specs.Places.{standing, standing_of}
+use Rattle.turnstile.proofs.Calling.{met_both}
+use Rattle.turnstile.proofs.turnstile.Turnstile.meet.Goals as goal
+
+pub returns-clause-same : goal.returns-clause-same
+returns-clause-same g c =
+    let from = c.tell.ensures.from in
+    let b = standing_of c.b.inside.place in
+    let b' = standing_of c.tell.new.to in
+    let told = subst (λ s. Told b s b') (λ i. standing (sym from.0 i) (sym from.1 i).0) c.tell.ensures.told in
+    (met_both (standing_of c.tell.new.from) b (standing_of c.tell-2.new.to) b' told c.tell-2.ensures.told).1 ∙ sym (ap (λ m. m.0.seen) c.tell-2.ensures.from.1)

@@ -1,0 +1,82 @@
+-- What a seat and a turnstile are to a contract, and what each call asks of its seats and tells them.
+use Rattle.std.specs.Prelude.{◌≡◌, ◌≢◌, ◌⊎◌, ℕ, ◌+◌, ◌-◌, ◌<◌, ◌≤◌, ◌^◌, List, [], ◌∷◌, ◌++◌, length, Option, Some}
+use Rattle.std.specs.List.{AllByRecursion}
+use Rattle.atomic_table.specs.Seated.{TableId}
+use Rattle.turnstile.specs.declared.object.Entry.{Entry}
+use Rattle.turnstile.specs.Ids.{run_of, OwnsId, LongerOf}
+use Rattle.turnstile.specs.Objects.{entry_of}
+
+-- a turnstile: which one it is, and what its histories begin from
+pub record Site (B : Type 0) : Type 0 where
+  pub at : TableId
+  pub base : B
+
+-- a seat: where it is, the history as far as it has seen it, and its ids
+pub record Standing (B C R : Type 0) : Type 0 where
+  pub at : TableId
+  pub base : Option B
+  pub seen : List (Entry C R)
+  -- its own ids: as many as its share, from this one on
+  pub id : ℕ
+  pub share : ℕ
+  -- the ids that it took over
+  pub taken : List ℕ
+  -- how many entries after the 2^62nd it may still make
+  pub room : ℕ
+
+module _ {B C R : Type 0} where
+  -- the seat is one of this turnstile's, and has an id of its own
+  pub record IsSeatOf (s : Standing B C R) (t : Site B) : Type 0 where
+    pub at : s.at ≡ t.at
+    pub base : s.base ≡ Some t.base
+    pub has_id : 0 < s.share
+
+  -- a seat that has seen nothing
+  abbrev pub unused_seat : Site B → ℕ → ℕ → ℕ → Standing B C R
+  unused_seat t id share room = record { at = t.at; base = Some t.base; seen = []; id = id; share = share; taken = []; room = room }
+
+  -- the id is one of the seat's
+  abbrev pub Owns : Standing B C R → ℕ → Type 0
+  Owns s x = OwnsId s.id s.share s.taken x
+
+  -- these entries are other seats'
+  abbrev pub Others : Standing B C R → List (Entry C R) → Type 0
+  Others s es = AllByRecursion (λ (e : Entry C R). ¬ Owns s e.by) es
+
+  -- the seat may make the call after whatever others do first
+  abbrev pub MayCall : (B → List (Entry C R) → Type 0) → (B → List (Entry C R) → ℕ → C → Type 0) → B → Standing B C R → C → Type 0
+  MayCall legal may b s call = (between : List (Entry C R)) → Others s between → legal b (s.seen ++ between) → may b (s.seen ++ between) s.id call
+
+  -- a seat that may still make an entry after the 2^62nd for each of its ids, or a caller's that has seen fewer than 2^62
+  abbrev pub HasRoom : Standing B C R → Type 0
+  HasRoom s = (s.share ≤ s.room) ⊎ ((s.id ≢ 0) × (length s.seen < 2 ^ 62))
+
+  -- One entry was made, the last that the seat has seen. Before it others may have made theirs.
+  pub record Called (legal : B → List (Entry C R) → Type 0) (b : B) (clock : ℕ) (s : Standing B C R) (call : C) (reply : R) (s' : Standing B C R) : Type 0 where
+    pub between : List (Entry C R)
+    pub room : ℕ
+    pub view : s' ≡ record s { seen = (s.seen ++ between) ++ entry_of s.id clock call reply ∷ []; room = room }
+    pub others : Others s between
+    pub is_legal : legal b s'.seen
+    -- only an entry after the 2^62nd takes room
+    pub room_falls : (room ≤ s.room) × (s.room ≤ room + 1) × (length (s.seen ++ between) < 2 ^ 62 → room ≡ s.room)
+
+  -- the seat gives away its last k ids
+  abbrev pub keeps_all_but : ℕ → Standing B C R → Standing B C R
+  keeps_all_but k s = record s { share = s.share - k; room = s.room - k }
+
+  -- the new seat has them, and has seen as much
+  abbrev pub given : ℕ → Standing B C R → Standing B C R
+  given k s = record s { id = s.id + (s.share - k); share = k; taken = []; room = k }
+
+  -- the seat s has taken over the seat u: its ids, and what it had seen
+  pub record Joined (s u s' : Standing B C R) : Type 0 where
+    pub seen : List (Entry C R)
+    pub view : s' ≡ record s { seen = seen; taken = s.taken ++ (run_of u.id u.share ++ u.taken); room = s.room + u.room }
+    pub longer : LongerOf s.seen u.seen seen
+
+  -- the seat s was told what the seat u had seen, and nothing else of it has changed
+  pub record Told (s u s' : Standing B C R) : Type 0 where
+    pub seen : List (Entry C R)
+    pub view : s' ≡ record s { seen = seen }
+    pub longer : LongerOf s.seen u.seen seen

@@ -1,0 +1,15 @@
+//! An object that threads share by turns, whose calls stand in one legal history.
+#![tactic(auto)]
+
+mod object;
+mod plays;
+mod seat;
+mod steps;
+#[cfg(test)]
+mod tests;
+mod turnstile;
+mod view;
+
+pub use object::{Clock, Entry, Object};
+pub use seat::Seat;
+pub use turnstile::Turnstile;

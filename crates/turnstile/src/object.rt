@@ -1,0 +1,50 @@
+// What is shared by turns, and the entries of its history.
+ghost use Rattle.std.specs.Prelude.{ℕ};
+
+use std::marker::Brand;
+
+/// One call and its reply. Its number is its place in the history, from 1.
+pub struct Entry<C, R> {
+    /// The id of the seat that made the call.
+    pub by: u64,
+    /// The moment that the call's `Clock` names.
+    pub clock: u64,
+    pub call: C,
+    pub reply: R,
+}
+
+/// A value that makes one step a call. Contracts see its calls as entries of a history.
+pub trait Object: Send + Drop {
+    type Call;
+
+    type Reply;
+
+    /// What the histories begin from. It is fixed when the turnstile is made.
+    type Base: Drop;
+
+    ghost use Rattle.turnstile.specs.declared.object.Entry.{Entry};
+
+    /// Which histories are legal from a base.
+    ghost legal: { Self.Base → List (Entry Self.Call Self.Reply) → Type 0 };
+    /// Which histories a value stands for.
+    ghost stands: { Self.Base → List (Entry Self.Call Self.Reply) → Self → Type 0 };
+    /// Which call may be made after a history, and by which id.
+    ghost may: { Self.Base → List (Entry Self.Call Self.Reply) → ℕ → Self.Call → Type 0 };
+
+    ghost use Rattle.std.specs.Prelude.{ℕ, List};
+    ghost use Rattle.turnstile.specs.Objects.{MayStep, Steps};
+
+    /// Makes the call, whose entry has this number.
+    fn step(&mut self, call: Self::Call, number: u64) -> Self::Reply
+        requires { MayStep legal stands may self.old call number }
+        ensures { Steps legal stands may self.old call number result self.new };
+}
+
+/// The moment that an entry carries. Contracts alone see it, and each call may pick it.
+pub trait Clock {
+    ghost now: { ℕ };
+}
+
+impl Clock for Brand {
+    ghost now = { 0 };
+}

@@ -1,0 +1,73 @@
+// What each seat knows, and the rule of the table. Word 0 is the number of entries, word 1 the next ticket, word 2 the
+// ticket that is served, and the slot has the value. No value of these types but `Start` is ever made.
+use crate::object::{Entry, Object};
+use atomic_table::{Seat, Shared, Table, TableRule};
+use std::alloc::Global;
+use std::collections::LinkedList;
+use std::marker::PhantomData;
+
+/// How far a seat's turn has come, with its ticket.
+pub enum Stage {
+    Rests,
+    Waits(u64),
+    Inside(u64),
+    Posted(u64),
+}
+
+/// What a seat knows.
+pub struct View<B, C, R> {
+    pub base: Option<B>,
+    /// The history as far as the seat has seen it.
+    pub seen: LinkedList<Entry<C, R>>,
+    /// What another seat had seen that was joined to it, until the next look at the number of entries.
+    pub other: LinkedList<Entry<C, R>>,
+    pub id: u64,
+    pub share: u64,
+    /// The ids that it took over. A clause reads an array as a list, of any length.
+    pub taken: [u64; 0],
+    /// How many entries after the 2^62nd it may still make.
+    pub room: u64,
+    pub stage: Stage,
+}
+
+/// What a table is made with.
+#[derive(Drop)]
+pub struct Start<B> {
+    pub base: B,
+    pub share: u64,
+}
+
+/// The rule.
+pub struct InTurn<O> {
+    object: PhantomData<O>,
+}
+
+impl<O: Object> TableRule<Option<O>, View<O::Base, O::Call, O::Reply>, Start<O::Base>>
+    for InTurn<O> {
+    ghost use Rattle.turnstile.specs.Rule.{Turned};
+    ghost use Rattle.turnstile.specs.Views.{first_view};
+
+    ghost holds = { λ key s. Turned O.legal O.stands key.base s };
+
+    ghost first = { first_view };
+}
+
+/// The table as threads see it.
+pub type Turns<O: Object> = Shared<
+    Option<O>,
+    View<O::Base, O::Call, O::Reply>,
+    Start<O::Base>,
+    InTurn<O>,
+>;
+
+/// A seat's token in it.
+pub type Place<O: Object> = Seat<Option<O>, View<O::Base, O::Call, O::Reply>>;
+
+/// The table as its owner has it.
+pub type TurnTable<O: Object> = Table<
+    Option<O>,
+    View<O::Base, O::Call, O::Reply>,
+    Start<O::Base>,
+    InTurn<O>,
+    Global,
+>;
