@@ -1,0 +1,65 @@
+-- What a table holds stays what a table may hold.
+use Rattle.std.proofs.Common.{cond, ◌≡◌, ℕ, zero, suc, ◌+◌, ◌-◌, ◌≤◌, ◌^◌, Bool, true, false, List, [], ◌∷◌, ◌++◌, length, drop, refl, arith, length-append, subst, sym}
+use Rattle.std.specs.Prelude.{ℤ, int_le}
+use Rattle.std.specs.List.{AllByRecursion, filter}
+use Rattle.std.proofs.lemmas.List.{length-drop}
+use Rattle.leaf_model.specs.declared.rows.Row.{Row}
+use Rattle.leaf_model.specs.Values.{IsRow, IsTime}
+use Rattle.leaf_model.specs.Content.{Contents, rows_from, last_rows}
+use Rattle.table_state.specs.Tables.{IsHeld, IsHeldRow, most_rows}
+
+module _ (P : Row → Type 0) where
+  pub each-append : (xs ys : List Row) → AllByRecursion P xs → AllByRecursion P ys → AllByRecursion P (xs ++ ys)
+  each-append [] ys a b = b
+  each-append (x ∷ xs) ys a b = (a.0, each-append xs ys a.1 b)
+
+  pub each-drop : (n : ℕ) (xs : List Row) → AllByRecursion P xs → AllByRecursion P (drop n xs)
+  each-drop zero xs a = a
+  each-drop (suc n) [] a = tt
+  each-drop (suc n) (x ∷ xs) a = each-drop n xs a.1
+
+rows_held : (h : ℤ) (xs : List Row) → AllByRecursion (IsHeldRow h) xs → AllByRecursion IsRow xs
+rows_held h [] a = tt
+rows_held h (x ∷ xs) a = (a.0.0, rows_held h xs a.1)
+
+one_from : (h : ℤ) (x : Row) (rest : List Row) (b : Bool) → int_le h x.time ≡ b → IsRow x → AllByRecursion (IsHeldRow h) rest → AllByRecursion (IsHeldRow h) (cond b (x ∷ rest) rest)
+one_from h x rest true is row a = ((row, is), a)
+one_from h x rest false is row a = a
+
+-- the rows that are not below a horizon may be held under it
+pub each_from : (h : ℤ) (xs : List Row) → AllByRecursion IsRow xs → AllByRecursion (IsHeldRow h) (rows_from h xs)
+each_from h [] a = tt
+each_from h (x ∷ xs) a = one_from h x (rows_from h xs) (int_le h x.time) refl a.0 (each_from h xs a.1)
+
+one_more : (x : Row) (rest : List Row) (b : Bool) (n : ℕ) → length rest ≤ n → length (cond b (x ∷ rest) rest) ≤ suc n
+one_more x rest true n h = omega arith
+one_more x rest false n h = omega arith
+
+few_from : (h : ℤ) (xs : List Row) → length (rows_from h xs) ≤ length xs
+few_from h [] = omega arith
+few_from h (x ∷ xs) = one_more x (rows_from h xs) (int_le h x.time) (length xs) (few_from h xs)
+
+-- an add keeps what may be held
+pub held_added : (h : ℤ) (rows more : List Row) → IsHeld (record { rows = rows; horizon = h }) → AllByRecursion IsRow more → length rows + length (rows_from h more) ≤ most_rows
+    → IsHeld (record { rows = rows ++ rows_from h more; horizon = h })
+held_added h rows more held are few = record {
+  horizon = held.horizon;
+  few = omega (arith, length-append rows (rows_from h more));
+  each = each-append (IsHeldRow h) rows (rows_from h more) held.each (each_from h more are);
+}
+
+-- so does an expiry
+pub held_expired : (h now : ℤ) (rows : List Row) → IsHeld (record { rows = rows; horizon = h }) → IsTime now → IsHeld (record { rows = rows_from now rows; horizon = now })
+held_expired h now rows held time = record {
+  horizon = time;
+  few = let shorter = few_from now rows in omega (arith, shorter, held.few);
+  each = each_from now rows (rows_held h rows held.each);
+}
+
+-- and a keep
+pub held_last : (h : ℤ) (n : ℕ) (rows : List Row) → IsHeld (record { rows = rows; horizon = h }) → IsHeld (record { rows = last_rows n rows; horizon = h })
+held_last h n rows held = record {
+  horizon = held.horizon;
+  few = let shorter = length-drop (length rows - n) rows in omega (arith, shorter, held.few);
+  each = each-drop (IsHeldRow h) (length rows - n) rows held.each;
+}
