@@ -20,7 +20,8 @@ pub fn run<S: Source, K: Sink>(
     source: &mut S,
     sink: &mut K,
 ) -> Status
-    ensures done { result ≡ Status.Done → IsCounted (map string_bytes words.now) (S.left source.old) (S.left source.new) (K.written sink.old) (K.written sink.new) }
+    ensures done { result ≡ Status.Done → IsCounted (map string_bytes words.now)
+        (S.left source.old) (S.left source.new) (K.written sink.old) (K.written sink.new) }
 
     // Each other status has its cause, but for want of memory.
     ensures words { (result ≡ Status.Words) ↔ (range_of (map string_bytes words.now) ≡ None) }
@@ -29,7 +30,8 @@ pub fn run<S: Source, K: Sink>(
     ensures write_fault { result ≡ Status.WriteFault → Rose (K.faults sink.old) (K.faults sink.new) }
 
     // The words and the text decide the status, unless the outside fails or memory runs out.
-    ensures exact { IfSome (S.left source.old) (λ text. UnlessCutOff result (result ≡ verdict (map string_bytes words.now) text)) }
+    ensures exact { IfSome (S.left source.old)
+        (λ text. UnlessCutOff result (result ≡ verdict (map string_bytes words.now) text)) }
 
     // What a run takes: one byte too much exactly where the text is refused as too long.
     ensures takes { TakesAtMost (S.left source.old) (S.left source.new) most_taken }
@@ -38,7 +40,8 @@ pub fn run<S: Source, K: Sink>(
 
     // What it writes: nothing but at Done and WriteFault, and then the line or a front of it.
     ensures unwritten { UnlessWritten result (sink.new ≡ sink.old) }
-    ensures cut_short { result ≡ Status.WriteFault → IsCutShort (map string_bytes words.now) (S.left source.old) (S.left source.new) (K.written sink.old) (K.written sink.new) }
+    ensures cut_short { result ≡ Status.WriteFault → IsCutShort (map string_bytes words.now)
+        (S.left source.old) (S.left source.new) (K.written sink.old) (K.written sink.new) }
 {
     let Some(range) = range_of(words) else {
         return Status::Words;

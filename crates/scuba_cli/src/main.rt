@@ -1,6 +1,9 @@
 //! The program: `scuba DIR WORD..`.
 #![tactic(auto)]
 
+ghost use Rattle.std.specs.Prelude.{◌≡◌};
+ghost use Rattle.scuba_cli.specs.Exit.{exit_number};
+
 mod standard;
 
 use play::{Status, run};
@@ -42,7 +45,9 @@ fn words_of(rt: &HostRuntime) -> io::Result<Vec<String>> {
 }
 
 /// The number of a status as the program ends with it.
-fn status_number(status: &Status) -> u8 {
+fn status_number(status: &Status) -> u8
+    ensures { result ≡ exit_number status.now }
+{
     match status {
         Status::Done => 0,
         Status::Words => WORDS,
