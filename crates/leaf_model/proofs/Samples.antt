@@ -9,7 +9,7 @@ use Rattle.leaf_model.specs.declared.queries.Cond.{Cond}
 use Rattle.leaf_model.specs.declared.queries.Op.TheVariants.{Ne, Lt}
 use Rattle.leaf_model.specs.declared.groups.Fold.{Fold}
 use Rattle.leaf_model.specs.declared.groups.Key.TheVariants as key
-use Rattle.leaf_model.specs.Content.{content, nothing, late_count, kept_count, removed_count}
+use Rattle.leaf_model.specs.Content.{content, late_count, kept_count, removed_count}
 use Rattle.leaf_model.specs.Groups.{groups, passes}
 
 abbrev at : ℕ → Row

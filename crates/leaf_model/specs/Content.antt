@@ -1,10 +1,14 @@
 -- What a table holds after a list of writes.
 use Rattle.std.specs.Prelude.{ℕ, ◌-◌, List, [], ◌++◌, length, drop, fold, filter, ℤ, pos, int_le}
 use Rattle.std.specs.Int.{int_max}
-use Rattle.leaf_model.specs.declared.content.Contents.{Contents}
 use Rattle.leaf_model.specs.declared.rows.Row.{Row}
 use Rattle.leaf_model.specs.declared.writes.Write.{Write}
 use Rattle.leaf_model.specs.declared.writes.Write.TheVariants.{Add, Expire, Keep}
+
+-- what a table holds: its rows in order of arrival, and the least time that an added row may have
+pub record Contents : Type 0 where
+  pub rows : List Row
+  pub horizon : ℤ
 
 -- no rows, and every time is welcome
 abbrev pub nothing : Contents

@@ -1,18 +1,18 @@
-//! The plain types of the store: texts, rows, writes, queries, groups, and what a table holds.
+//! The plain types of the store: texts, rows, writes, queries, groups.
 #![tactic(auto)]
 
-mod content;
 mod groups;
 mod queries;
 mod rows;
 mod steps;
+#[cfg(test)]
+mod tests;
 mod text;
 mod writes;
 
-pub use content::{Contents, TableRows};
 pub use groups::{Fold, Folds, Group, Groups, Key, Keys};
 pub use queries::{Agg, Aggs, Cond, Conds, Op, Query};
-pub use rows::{Cell, Cells, Row, Rows, Value};
+pub use rows::{Cell, Cells, Row, Rows, TableRows, Value};
 pub use steps::Steps;
 pub use text::{Names, Text, Texts};
 pub use writes::{Write, Writes};

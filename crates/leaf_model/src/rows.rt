@@ -151,3 +151,38 @@ impl Rows {
         Ok(Rows { inner })
     }
 }
+
+/// The rows of a table in order of arrival, of any number. Contracts see them as the list.
+#[derive(Debug, Drop)]
+pub struct TableRows {
+    inner: Vec<Row>,
+}
+
+impl Model for TableRows {
+    ghost use Rattle.std.specs.Prelude.{List};
+    ghost use Rattle.leaf_model.specs.declared.rows.Row.{Row};
+
+    ghost Value = { List Row };
+
+    ghost view = { λ list. list.inner.items };
+}
+
+impl TableRows {
+    pub fn of(inner: Vec<Row>) -> TableRows
+        ensures { result ≡ inner.items }
+    {
+        TableRows { inner }
+    }
+
+    pub fn as_slice(&self) -> &[Row]
+        ensures { result.now ≡ self.now }
+    {
+        self.inner.as_slice()
+    }
+
+    pub fn into_inner(self) -> Vec<Row>
+        ensures { result.items ≡ self }
+    {
+        self.inner
+    }
+}

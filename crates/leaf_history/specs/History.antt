@@ -1,0 +1,198 @@
+-- Histories of one table: its state after a list of entries, and which entries may follow.
+use Rattle.std.specs.Prelude.{◌≡◌, ℕ, ◌+◌, ◌-◌, ◌<◌, ◌≤◌, ◌^◌, max, Bool, true, false, List, [], ◌∷◌, ◌++◌, length, take, drop, fold, if◌then◌else◌, ⊤}
+use Rattle.leaf_history.specs.Calls.{Call}
+use Rattle.leaf_history.specs.Calls as call
+use Rattle.leaf_history.specs.Replies.{Reply}
+use Rattle.leaf_history.specs.Replies as reply
+use Rattle.leaf_model.specs.declared.rows.Row.{Row}
+use Rattle.leaf_model.specs.declared.queries.Query.{Query}
+use Rattle.leaf_model.specs.declared.writes.Write.{Write}
+use Rattle.leaf_model.specs.declared.writes.Write.TheVariants as write
+use Rattle.leaf_model.specs.Content.{Contents, content_from, nothing, kept_count, late_count, removed_count}
+use Rattle.leaf_model.specs.Groups.{groups}
+
+-- One turn of a table. Its number is its place in the history, from 1. The steward is caller 0.
+pub record Entry : Type 0 where
+  pub caller : ℕ
+  pub call : Call
+  pub reply : Reply
+  pub clock : ℕ  -- of a steward's entry, the clock of the leaf's berth at the call; no rule looks at it
+
+-- Where a table stands. W is its accepted writes: those that were handed in with `before`, and then `writes`.
+-- A table of a berth's base is handed in nothing, so that W is `writes`.
+pub record TableState : Type 0 where
+  pub before : Contents  -- what the writes handed in come to
+  pub handed_in : ℕ  -- how many those are
+  pub writes : List Write  -- the accepted writes since then
+  pub live : Bool  -- open
+  pub taken : ℕ  -- how many writes the steward has taken
+  pub flushed : ℕ  -- how many the disk is known to hold
+  pub handed : Bool  -- drained, and not opened since
+
+-- the length of W
+abbrev pub write_count : TableState → ℕ
+write_count s = s.handed_in + length s.writes
+
+-- the writes of W that were not taken
+abbrev pub untaken : TableState → List Write
+untaken s = drop (s.taken - s.handed_in) s.writes
+
+-- what the table holds
+abbrev pub held : TableState → Contents
+held s = content_from s.before s.writes
+
+-- a shut table of these writes, of which the disk is known to hold so many
+abbrev pub base_of : List Write → ℕ → TableState
+base_of writes flushed = record {
+  before = nothing;
+  handed_in = 0;
+  writes = writes;
+  live = false;
+  taken = length writes;
+  flushed = flushed;
+  handed = false;
+}
+
+-- a table of which nothing is known begins shut and with no writes
+abbrev pub no_base : TableState
+no_base = base_of [] 0
+
+-- one more accepted write
+abbrev pub written : TableState → Write → TableState
+written s w = record s { writes = s.writes ++ w ∷ [] }
+
+-- the accepted writes among the first n that came after those handed in
+abbrev pub first_writes : TableState → ℕ → List Write
+first_writes s n = take (n - s.handed_in) s.writes
+
+-- opened again: a founded table with the first n of its writes, any other with what is handed in
+abbrev pub opened : Bool → TableState → ℕ → Contents → TableState
+opened true s n contents = record s {
+  writes = first_writes s n;
+  live = true;
+  taken = n;
+  flushed = n;
+  handed = false;
+}
+opened false s n contents = record {
+  before = contents;
+  handed_in = n;
+  writes = [];
+  live = true;
+  taken = n;
+  flushed = n;
+  handed = false;
+}
+
+-- what a call that was accepted changes
+abbrev pub changed : Bool → TableState → Call → TableState
+changed founded s (call.Add rows) = written s (write.Add rows)
+changed founded s (call.Expire horizon) = written s (write.Expire horizon)
+changed founded s (call.Keep n) = written s (write.Keep n)
+changed founded s (call.Ask q) = s
+changed founded s call.Take = record s { taken = write_count s }
+changed founded s (call.Flushed n) = record s { flushed = max s.flushed n }
+changed founded s call.Shut = record s { live = false; taken = write_count s }
+changed founded s call.Done = record s { handed = true }
+changed founded s (call.Open n contents) = opened founded s n contents
+
+abbrev pub is_refusal : Reply → Bool
+is_refusal (reply.Added kept late) = false
+is_refusal (reply.Removed rows) = false
+is_refusal (reply.Groups gs) = false
+is_refusal reply.Shut = true
+is_refusal reply.Full = true
+is_refusal reply.NoMemory = true
+is_refusal (reply.Counted n) = false
+is_refusal reply.Noted = false
+
+-- the state after one entry: a refusal changes nothing
+abbrev pub after_entry : Bool → TableState → Entry → TableState
+after_entry founded s e = if is_refusal e.reply then s else changed founded s e.call
+
+-- the state after a history
+abbrev pub after : Bool → TableState → List Entry → TableState
+after founded s entries = fold (after_entry founded) s entries
+
+-- the table would pass 2^40 rows
+abbrev pub IsFull : TableState → List Row → Type 0
+IsFull s rows = 2 ^ 40 < length (held s).rows + kept_count (held s) rows
+
+abbrev pub HasRoom : TableState → List Row → Type 0
+HasRoom s rows = length (held s).rows + kept_count (held s) rows ≤ 2 ^ 40
+
+-- which replies an add may have
+abbrev pub AddReply : TableState → List Row → Reply → Type 0
+AddReply s rows reply.Shut = s.live ≡ false
+AddReply s rows reply.NoMemory = s.live ≡ true
+AddReply s rows reply.Full = (s.live ≡ true) × IsFull s rows
+AddReply s rows (reply.Added kept late) = (s.live ≡ true) × HasRoom s rows × (kept ≡ kept_count (held s) rows) × (late ≡ late_count (held s) rows)
+AddReply s rows (reply.Removed n) = ⊥
+AddReply s rows (reply.Groups gs) = ⊥
+AddReply s rows (reply.Counted n) = ⊥
+AddReply s rows reply.Noted = ⊥
+
+-- which replies an expiry or a keep may have
+abbrev pub RemoveReply : TableState → Write → Reply → Type 0
+RemoveReply s w reply.Shut = s.live ≡ false
+RemoveReply s w reply.NoMemory = s.live ≡ true
+RemoveReply s w (reply.Removed n) = (s.live ≡ true) × (n ≡ removed_count (held s) w)
+RemoveReply s w reply.Full = ⊥
+RemoveReply s w (reply.Added kept late) = ⊥
+RemoveReply s w (reply.Groups gs) = ⊥
+RemoveReply s w (reply.Counted n) = ⊥
+RemoveReply s w reply.Noted = ⊥
+
+-- which replies a query may have
+abbrev pub AskReply : TableState → Query → Reply → Type 0
+AskReply s q reply.Shut = s.live ≡ false
+AskReply s q reply.NoMemory = s.live ≡ true
+AskReply s q (reply.Groups gs) = (s.live ≡ true) × (gs ≡ groups q (held s).rows)
+AskReply s q reply.Full = ⊥
+AskReply s q (reply.Added kept late) = ⊥
+AskReply s q (reply.Removed n) = ⊥
+AskReply s q (reply.Counted n) = ⊥
+AskReply s q reply.Noted = ⊥
+
+-- the reply tells the length of W
+abbrev pub CountReply : TableState → Reply → Type 0
+CountReply s (reply.Counted n) = n ≡ write_count s
+CountReply s (reply.Added kept late) = ⊥
+CountReply s (reply.Removed n) = ⊥
+CountReply s (reply.Groups gs) = ⊥
+CountReply s reply.Shut = ⊥
+CountReply s reply.Full = ⊥
+CountReply s reply.NoMemory = ⊥
+CountReply s reply.Noted = ⊥
+
+-- a founded table is opened with the first n of its writes, among them each flushed one, and with all of them where it was drained
+pub record MayOpen (s : TableState) (n : ℕ) (contents : Contents) : Type 0 where
+  pub flushed : s.flushed ≤ n
+  pub accepted : n ≤ write_count s
+  pub all : s.handed ≡ true → n ≡ write_count s
+  pub contents_are : contents ≡ content_from s.before (first_writes s n)
+
+abbrev pub OpenAllowed : Bool → TableState → ℕ → Contents → Type 0
+OpenAllowed true s n contents = MayOpen s n contents
+OpenAllowed false s n contents = ⊤
+
+-- what may come next: who calls, and which reply agrees with the state
+abbrev pub Allowed : Bool → TableState → ℕ → Call → Reply → Type 0
+Allowed founded s caller (call.Add rows) r = (0 < caller) × AddReply s rows r
+Allowed founded s caller (call.Expire horizon) r = (0 < caller) × RemoveReply s (write.Expire horizon) r
+Allowed founded s caller (call.Keep n) r = (0 < caller) × RemoveReply s (write.Keep n) r
+Allowed founded s caller (call.Ask q) r = (0 < caller) × AskReply s q r
+Allowed founded s caller call.Take r = (caller ≡ 0) × (s.live ≡ true) × CountReply s r
+Allowed founded s caller (call.Flushed n) r = (caller ≡ 0) × (n ≤ s.taken) × (r ≡ reply.Noted)
+Allowed founded s caller call.Shut r = (caller ≡ 0) × (s.live ≡ true) × CountReply s r
+Allowed founded s caller call.Done r = (caller ≡ 0) × (s.live ≡ false) × (r ≡ reply.Noted)
+Allowed founded s caller (call.Open n contents) r = (caller ≡ 0) × (s.live ≡ false) × OpenAllowed founded s n contents × (r ≡ reply.Noted)
+
+-- each entry agrees with the state that the entries before it give
+abbrev pub LegalFrom : Bool → TableState → List Entry → Type 0
+LegalFrom founded s [] = ⊤
+LegalFrom founded s (e ∷ es) = Allowed founded s e.caller e.call e.reply × LegalFrom founded (after_entry founded s e) es
+
+-- of a founded table
+abbrev pub Legal : TableState → List Entry → Type 0
+Legal base entries = LegalFrom true base entries
