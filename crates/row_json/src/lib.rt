@@ -3,4 +3,4 @@
 
 mod object;
 
-pub use object::{RowFault, row};
+pub use object::{RowFault, row, row_meaning};

@@ -1,0 +1,103 @@
+-- What a row and each fault say of a text, in terms of the members of its object.
+use Rattle.std.specs.Prelude.{◌≡◌, ◌≢◌, ◌⊎◌, ℕ, ◌<◌, ◌≤◌, ◌≤ℤ◌, ℤ, pos, List, true, false, Option, Some, None, option_and_then, Contains, IsUtf8}
+use Rattle.std.specs.Cmp.Lexicographic.{slice_cmp}
+use Rattle.std.specs.List.{AllByRecursion}
+use Rattle.std.specs.Ordering.{nat_cmp}
+use Rattle.std.specs.declared.cmp.Ordering.TheVariants.{Less}
+use Rattle.serde_json.specs.Data.{Data, null, object, Members}
+use Rattle.serde_json.specs.Find.{get_member, as_number, as_object, as_i64}
+use Rattle.serde_json.specs.Read.{read}
+use Rattle.leaf_model.specs.Values.{time_name}
+use Rattle.leaf_model.specs.declared.rows.Value.{Value}
+use Rattle.leaf_model.specs.declared.rows.Value.TheVariants.{Int, Text}
+use Rattle.leaf_model.specs.declared.rows.Row.{Row}
+use Rattle.row_json.specs.Row.{cell_count, is_bad_name, named_cell}
+use Rattle.row_json.specs.declared.object.RowFault.{RowFault}
+use Rattle.row_json.specs.declared.object.RowFault.TheVariants.{Json, NotObject, NoTime, TooMany, Name, NoMemory}
+use Rattle.row_json.specs.declared.object.RowFault.TheVariants as fault
+
+-- the text is this object; where it repeats a name, the last value counts
+pub record IsObject (text : List ℕ) (all : Members) : Type 0 where
+  pub utf8 : IsUtf8 text
+  pub reads : read text ≡ Some (object all)
+
+-- the object has this member
+abbrev pub Has : Members → List ℕ → Data → Type 0
+Has all name d = get_member name all ≡ Some d
+
+-- the JSON value is this integer, which is an i64
+abbrev pub IsInteger : Data → ℤ → Type 0
+IsInteger d z = option_and_then as_i64 (as_number d) ≡ Some z
+
+-- a cell holds what the JSON value says
+abbrev pub Holds : Data → Value → Type 0
+Holds d (Int z) = IsInteger d z
+Holds d (Text t) = ⊥
+
+-- the object's member `time` is this integer, from 0 on
+pub record IsTimeOf (all : Members) (time : ℤ) : Type 0 where
+  pub value : Data
+  pub has : Has all time_name value
+  pub integer : IsInteger value time
+  pub not_negative : pos 0 ≤ℤ time
+
+abbrev pub HasTime : Members → Type 0
+HasTime all = (time : ℤ) × IsTimeOf all time
+
+-- the object has this member, and it is neither `time` nor null
+pub record IsOther (all : Members) (name : List ℕ) (d : Data) : Type 0 where
+  pub has : Has all name d
+  pub other : name ≢ time_name
+  pub there : d ≢ null
+
+-- the row of an object: its time, and each member that is neither `time` nor null is a cell, and each cell is such a member
+pub record IsRowOf (all : Members) (row : Row) : Type 0 where
+  pub time : IsTimeOf all row.time
+  pub whole : (name : List ℕ) (d : Data) → IsOther all name d → (v : Value) × Contains row.cells (named_cell name v) × Holds d v
+  pub only : AllByRecursion (λ cell. (d : Data) × IsOther all cell.name d × Holds d cell.value) row.cells
+
+-- a row may have this member: its name is that of a cell, and it is null or a value
+abbrev pub IsFine : List ℕ → Data → Type 0
+IsFine name d = (is_bad_name name ≡ false) × ((d ≡ null) ⊎ ((v : Value) × Holds d v))
+
+-- the fault of a member: its name, or else its value
+abbrev pub IsFaultOf : List ℕ → Data → RowFault → Type 0
+IsFaultOf name d (Name n) = (n ≡ name) × (is_bad_name name ≡ true)
+IsFaultOf name d (fault.Value n) = (n ≡ name) × (is_bad_name name ≡ false) × (d ≢ null) × ((v : Value) → ¬ Holds d v)
+IsFaultOf name d Json = ⊥
+IsFaultOf name d NotObject = ⊥
+IsFaultOf name d NoTime = ⊥
+IsFaultOf name d TooMany = ⊥
+IsFaultOf name d NoMemory = ⊥
+
+-- the fault of the member that is the first to have one, in the order of the names
+pub record IsFirstFault (all : Members) (found : RowFault) : Type 0 where
+  pub name : List ℕ
+  pub value : Data
+  pub has : Has all name value
+  pub other : name ≢ time_name
+  pub is : IsFaultOf name value found
+  pub first : (k : List ℕ) (d : Data) → Has all k d → k ≢ time_name → slice_cmp nat_cmp k name ≡ Less → IsFine k d
+
+-- the object has a time and few enough members, of which the first fault is this
+pub record HasFault (all : Members) (found : RowFault) : Type 0 where
+  pub time : HasTime all
+  pub few : cell_count all ≤ 1024
+  pub fault : IsFirstFault all found
+
+-- the text is this row
+pub record Gives (text : List ℕ) (row : Row) : Type 0 where
+  pub all : Members
+  pub object : IsObject text all
+  pub few : cell_count all ≤ 1024
+  pub is : IsRowOf all row
+
+-- the text is no row, for this cause
+abbrev pub Refuses : List ℕ → RowFault → Type 0
+Refuses text Json = IsUtf8 text → read text ≡ None
+Refuses text NotObject = IsUtf8 text × ((d : Data) × (read text ≡ Some d) × (as_object d ≡ None))
+Refuses text NoTime = (all : Members) × IsObject text all × (HasTime all → ⊥)
+Refuses text TooMany = (all : Members) × IsObject text all × HasTime all × (1024 < cell_count all)
+Refuses text (Name name) = (all : Members) × IsObject text all × HasFault all (Name name)
+Refuses text (fault.Value name) = (all : Members) × IsObject text all × HasFault all (fault.Value name)
+Refuses text NoMemory = ⊥
