@@ -1,6 +1,7 @@
 // Which calls of a memory form fail.
 ghost use Rattle.std.specs.Prelude.{◌≡◌, ◌≤◌, ◌<◌, not};
 ghost use Rattle.berth_face.specs.Causes.{Rose};
+ghost use Rattle.berth_mem.specs.Counts.{one_more};
 ghost use Rattle.berth_mem.specs.Plans.{place, fails_at, listed, fails_next, after_call};
 ghost use Rattle.berth_mem.specs.declared.faults.Plan.TheVariants.{Failing};
 
@@ -146,6 +147,7 @@ impl Counted {
 
 /// Counts one more, as far as it goes.
 pub fn count(n: &mut u64)
+    ensures exact { n.new ≡ one_more n.old }
     ensures rose { Rose n.old n.new }
     ensures later { n.old ≤ n.new }
 {

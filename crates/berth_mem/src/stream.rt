@@ -1,8 +1,9 @@
 // A source and a sink in memory.
-ghost use Rattle.std.specs.Prelude.{◌≡◌, ◌<◌, length, drop, Some, [], is_err, IfOk, OnOk, IsTrue, IsErr};
+ghost use Rattle.std.specs.Prelude.{◌≡◌, ◌<◌, length, drop, Some, [], is_err, IfOk, IsTrue, IsErr};
 ghost use Rattle.std.specs.Io.{ReadsAtMost, WritesAtMost};
 ghost use Rattle.std.specs.Io.KnownBytes.{ReadConsumes, WriteAppends};
 ghost use Rattle.berth_face.specs.Causes.{HasCause};
+ghost use Rattle.berth_mem.specs.Counts.{counted};
 ghost use Rattle.berth_mem.specs.Plans.{fails_next, after_call, listed};
 ghost use Rattle.berth_mem.specs.Forms.{source_plan, sink_plan};
 ghost use Rattle.berth_mem.specs.declared.faults.Method.TheVariants.{Take, Put};
@@ -63,7 +64,7 @@ impl Source for MemSource {
         ensures cause { HasCause (⟦<MemSource as Source>⟧.faults self.old) (⟦<MemSource as Source>⟧.faults self.new) result }
         ensures fails { is_err result ≡ fails_next (source_plan self.old) Take }
         ensures plan { source_plan self.new ≡ after_call (source_plan self.old) Take }
-        ensures faults { OnOk result (⟦<MemSource as Source>⟧.faults self.new ≡ ⟦<MemSource as Source>⟧.faults self.old) }
+        ensures faults { ⟦<MemSource as Source>⟧.faults self.new ≡ counted result (⟦<MemSource as Source>⟧.faults self.old) }
     {
         if !self.plan.passes(Method::Take) {
             count(&mut self.faults);
@@ -132,7 +133,7 @@ impl Sink for MemSink {
         ensures cause { HasCause (⟦<MemSink as Sink>⟧.faults self.old) (⟦<MemSink as Sink>⟧.faults self.new) result }
         ensures fails { IsTrue (fails_next (sink_plan self.old) Put) → IsErr result }
         ensures plan { sink_plan self.new ≡ after_call (sink_plan self.old) Put }
-        ensures faults { OnOk result (⟦<MemSink as Sink>⟧.faults self.new ≡ ⟦<MemSink as Sink>⟧.faults self.old) }
+        ensures faults { ⟦<MemSink as Sink>⟧.faults self.new ≡ counted result (⟦<MemSink as Sink>⟧.faults self.old) }
         ensures whole { IfOk result (λ n. n ≡ length bytes.now) }
     {
         if !self.plan.passes(Method::Put) {

@@ -1,0 +1,38 @@
+-- What stands may be left, and the region stays or is lost: the laws of a berth in memory.
+use Rattle.std.specs.Prelude.{◌≡◌, ◌⊎◌, ℕ, ◌^◌, ◌<◌, List, [], ◌∷◌, length, Vec, refl}
+use mathlib.Core.Logic.{inl, inr}
+use Rattle.std.proofs.Common.{sym, subst, arith}
+use Rattle.std.specs.declared.alloc.Global.{Global}
+use Rattle.berth_face.specs.Berth.{Pair}
+use Rattle.berth_mem.specs.declared.record.Call.{Call}
+use Rattle.berth_mem.specs.declared.record.Call.TheVariants.{WroteRegion, CutRegion, WroteDisk, SyncedDisk}
+use Rattle.berth_mem.specs.Record.{disk_undone, disk_before, disks_after, resting, moments, leaves_at, meaning_of}
+
+-- the disks that a crash may leave after all these calls
+abbrev pub disks_at : List Call → List ℕ → (List ℕ → Type 0) → List ℕ → Type 0
+disks_at [] disk disks = disks
+disks_at (c ∷ calls) disk disks = disks_at calls disk (disks_after c (disk_before calls disk) disks)
+
+pub at_end : (calls : List Call) (region disk : List ℕ) (disks : List ℕ → Type 0) (p : Pair) → leaves_at calls region disk disks (moments calls) p ≡ resting region (disks_at calls disk disks) p
+at_end [] region disk disks p = refl
+at_end (c ∷ calls) region disk disks p = at_end calls region disk (disks_after c (disk_before calls disk) disks) p
+
+pub disk_stands : (calls : List Call) (disk : List ℕ) (disks : List ℕ → Type 0) → disks (disk_before calls disk) → disks_at calls disk disks disk
+disk_stands [] disk disks here = here
+disk_stands (c ∷ calls) disk disks here = disk_stands calls disk (disks_after c (disk_before calls disk) disks) (next c here)
+  where
+    next : (x : Call) → disks (disk_undone x (disk_before calls disk)) → disks_after x (disk_before calls disk) disks (disk_before calls disk)
+    next (WroteRegion w) h = h
+    next (CutRegion w) h = h
+    next (WroteDisk w) h = inr refl
+    next SyncedDisk h = refl
+
+pub stands : (region disk : List ℕ) (calls : List Call) (rf df dr : ℕ) → (meaning_of region disk calls rf df dr).leaves (moments calls) (record { region = region; disk = disk })
+stands region disk calls rf df dr =
+    subst (λ (X : Type 0). X) (sym (at_end calls region disk (λ d. d ≡ disk_before calls disk) (record { region = region; disk = disk }))) (inl refl, disk_stands calls disk (λ d. d ≡ disk_before calls disk) refl)
+
+pub keeps_region : (region disk : List ℕ) (calls : List Call) (rf df dr : ℕ) (p : Pair) → (meaning_of region disk calls rf df dr).leaves (moments calls) p → (p.region ≡ region) ⊎ (p.region ≡ [])
+keeps_region region disk calls rf df dr p left = (subst (λ (X : Type 0). X) (at_end calls region disk (λ d. d ≡ disk_before calls disk) p) left).0
+
+pub vec_short : (v : Vec ℕ Global) → length v.items < 2 ^ 63
+vec_short v = omega (arith, v.ok, v.small)

@@ -1,0 +1,93 @@
+// Calls on contents, each with its place on the record. Each changes nothing where there is no memory.
+ghost use Rattle.std.specs.Prelude.{◌≡◌, ◌+◌, ◌^◌, ◌<◌, ◌++◌, ◌∷◌, [], length, take, drop, OnOk, OnErr, IfOk};
+ghost use Rattle.berth_face.specs.Berth.{written};
+ghost use Rattle.berth_mem.specs.Record.{Describes};
+ghost use Rattle.berth_mem.specs.declared.record.Wrote.{Wrote};
+ghost use Rattle.berth_mem.specs.declared.record.CutOff.{CutOff};
+ghost use Rattle.berth_mem.specs.declared.record.Call.TheVariants.{WroteRegion, CutRegion, WroteDisk, SyncedDisk};
+
+use crate::bytes::{lost, overwritten, tail};
+use crate::record::{Call, CutOff, Wrote};
+use std::alloc::AllocError;
+
+// What a write makes, and what it overwrites.
+fn prepared(content: &Vec<u8>, at: u64, bytes: &[u8]) -> Result<(Vec<u8>, Wrote), AllocError>
+    requires { at + length bytes.now < 2 ^ 63 }
+    ensures next { IfOk result (λ made. made.0.items ≡ written at bytes.now content.now.items) }
+    ensures wrote { IfOk result (λ made. Describes made.1 at bytes.now content.now.items) }
+{
+    let alloc = *content.allocator();
+    let lost = lost(alloc, content, at, bytes.len())?;
+    let next = overwritten(alloc, content, at, bytes)?;
+    Ok((
+        next,
+        Wrote {
+            at,
+            len: bytes.len() as u64,
+            lost,
+            was: content.len() as u64,
+        },
+    ))
+}
+
+/// Writes to the region.
+pub fn region_put(
+    region: &mut Vec<u8>,
+    calls: &mut Vec<Call>,
+    at: u64,
+    bytes: &[u8],
+) -> Result<(), AllocError>
+    requires { at + length bytes.now < 2 ^ 63 }
+    ensures region { OnOk result (region.new.items ≡ written at bytes.now region.old.items) }
+    ensures call { OnOk result ((w : Wrote) × Describes w at bytes.now region.old.items × (calls.new.items ≡ calls.old.items ++ WroteRegion w ∷ [])) }
+    ensures err { OnErr result ((region.new.items ≡ region.old.items) × (calls.new.items ≡ calls.old.items)) }
+{
+    let (next, wrote) = prepared(region, at, bytes)?;
+    calls.push(Call::WroteRegion(wrote))?;
+    *region = next;
+    Ok(())
+}
+
+/// Writes to the disk.
+pub fn disk_put(
+    disk: &mut Vec<u8>,
+    calls: &mut Vec<Call>,
+    at: u64,
+    bytes: &[u8],
+) -> Result<(), AllocError>
+    requires { at + length bytes.now < 2 ^ 63 }
+    ensures disk { OnOk result (disk.new.items ≡ written at bytes.now disk.old.items) }
+    ensures call { OnOk result ((w : Wrote) × Describes w at bytes.now disk.old.items × (calls.new.items ≡ calls.old.items ++ WroteDisk w ∷ [])) }
+    ensures err { OnErr result ((disk.new.items ≡ disk.old.items) × (calls.new.items ≡ calls.old.items)) }
+{
+    let (next, wrote) = prepared(disk, at, bytes)?;
+    calls.push(Call::WroteDisk(wrote))?;
+    *disk = next;
+    Ok(())
+}
+
+/// Cuts the region.
+pub fn region_shorten(
+    region: &mut Vec<u8>,
+    calls: &mut Vec<Call>,
+    len: u64,
+) -> Result<(), AllocError>
+    ensures region { OnOk result (region.new.items ≡ take len region.old.items) }
+    ensures call { OnOk result ((w : CutOff) × (w.len ≡ len) × (w.lost.items ≡ drop len region.old.items) × (calls.new.items ≡ calls.old.items ++ CutRegion w ∷ [])) }
+    ensures err { OnErr result ((region.new.items ≡ region.old.items) × (calls.new.items ≡ calls.old.items)) }
+{
+    let alloc = *region.allocator();
+    let lost = tail(alloc, region, len)?;
+    calls.push(Call::CutRegion(CutOff { len, lost }))?;
+    region.truncate(len as usize);
+    Ok(())
+}
+
+/// Syncs the disk.
+pub fn settled(calls: &mut Vec<Call>) -> Result<(), AllocError>
+    ensures call { OnOk result (calls.new.items ≡ calls.old.items ++ SyncedDisk ∷ []) }
+    ensures err { OnErr result (calls.new.items ≡ calls.old.items) }
+{
+    calls.push(Call::SyncedDisk)?;
+    Ok(())
+}

@@ -1,0 +1,23 @@
+/// A write as it was made: what it overwrote, and how long the content was.
+#[derive(Drop)]
+pub struct Wrote {
+    pub at: u64,
+    pub len: u64,
+    pub lost: Vec<u8>,
+    pub was: u64,
+}
+
+#[derive(Drop)]
+pub struct CutOff {
+    pub len: u64,
+    pub lost: Vec<u8>,
+}
+
+/// A call that changed something, or a sync.
+#[derive(Drop)]
+pub enum Call {
+    WroteRegion(Wrote),
+    CutRegion(CutOff),
+    WroteDisk(Wrote),
+    SyncedDisk,
+}
