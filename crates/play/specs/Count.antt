@@ -1,0 +1,43 @@
+-- The rows of a text, and how many have a time in a range.
+use Rattle.std.specs.Prelude.{ℕ, ◌+◌, ◌&&◌, List, [], ◌∷◌, map, count_by, Bool, if◌then◌else◌, Result, Ok, Err}
+use Rattle.std.specs.Int.RustNames.{int_le}
+use Rattle.leaf_model.specs.declared.rows.Row.{Row}
+use Rattle.row_json.specs.declared.object.RowFault.{RowFault}
+use Rattle.row_json.specs.Row.{row_of}
+use Rattle.play.specs.Lines.{lines, without_return, is_blank}
+use Rattle.play.specs.declared.count.CountError.{CountError}
+use Rattle.play.specs.declared.count.CountError.TheVariants.{Fault, NoMemory}
+use Rattle.play.specs.declared.count.LineFault.{LineFault}
+use Rattle.play.specs.declared.words.Range.{Range}
+
+-- the row of line n before those of the lines after it, or the first fault
+abbrev pub with_row : ℕ → Result Row RowFault → Result (List Row) LineFault → Result (List Row) LineFault
+with_row n (Ok row) (Ok rows) = Ok (row ∷ rows)
+with_row n (Ok row) (Err found) = Err found
+with_row n (Err fault) more = Err (record { line = n; fault = fault })
+
+-- The rows of lines that are numbered from n on, or the first line that is none. Blank lines are no rows, and are numbered too.
+abbrev pub rows_from : ℕ → List (List ℕ) → Result (List Row) LineFault
+rows_from n [] = Ok []
+rows_from n (line ∷ more) = if is_blank line then rows_from (n + 1) more else with_row n (row_of line) (rows_from (n + 1) more)
+
+-- the rows of a text, or the first line that is none
+unfoldable pub rows_of : List ℕ → Result (List Row) LineFault
+rows_of text = rows_from 1 (map without_return (lines text))
+
+abbrev pub is_in : Range → Row → Bool
+is_in range row = int_le range.from row.time && int_le row.time range.to
+
+-- how many of the rows are in the range
+abbrev pub count_in : Range → Result (List Row) LineFault → Result ℕ LineFault
+count_in range (Ok rows) = Ok (count_by (is_in range) rows)
+count_in range (Err found) = Err found
+
+-- how many rows of a text are in the range, or the first line that is none
+abbrev pub count_of : Range → List ℕ → Result ℕ LineFault
+count_of range text = count_in range (rows_of text)
+
+-- the fault of a line is such a one
+abbrev pub IfFault : CountError → (LineFault → Type 0) → Type 0
+IfFault (Fault found) P = P found
+IfFault NoMemory P = Unit {0}

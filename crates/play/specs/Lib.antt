@@ -1,0 +1,5 @@
+pub mod Words
+pub mod Lines
+pub mod Count
+pub mod Source
+pub mod Outcome

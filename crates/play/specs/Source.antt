@@ -1,0 +1,19 @@
+-- What is taken from a source.
+use Rattle.std.specs.Prelude.{◌≡◌, ◌≤◌, ℕ, List, ◌++◌, length, Option}
+use Rattle.std.specs.Io.KnownBytes.{Consumes}
+
+-- the most bytes that a text may have
+abbrev pub longest_text : ℕ
+longest_text = 16777216
+
+-- the most bytes that are ever taken from a source
+abbrev pub most_taken : ℕ
+most_taken = 16777217
+
+-- n bytes were taken, and added to a text
+pub record TookMore (before after : Option (List ℕ)) (old new : List ℕ) (n room : ℕ) : Type 0 where
+  pub bytes : List ℕ
+  pub taken : Consumes before after bytes
+  pub added : new ≡ old ++ bytes
+  pub count : length bytes ≡ n
+  pub within : n ≤ room

@@ -1,0 +1,91 @@
+// The whole of a source, and a whole piece into a sink.
+ghost use Rattle.std.specs.Prelude.{◌≡◌, ◌≤◌, ◌<◌, ◌+◌, length, vec_len, IfOk, OnOk, OnErr, IsErrOf};
+ghost use Rattle.std.specs.Io.KnownBytes.{Appends, IsAtEnd, Keeps};
+ghost use Rattle.berth_face.specs.Causes.{Rose, HasCause};
+ghost use Rattle.berth_face.specs.Streams.{ReadsAll, TakesAtMost, TakesCount, WritesFront};
+ghost use Rattle.play.specs.Source.{TookMore};
+
+use berth_face::{Failed, Sink, Source};
+use std::alloc::{AllocError, Global};
+
+/// The most bytes that a source may have.
+pub const LONGEST_TEXT: usize = 16_777_216;
+
+const CHUNK: usize = 65_536;
+
+#[derive(Clone, Copy, Debug, PartialEq, Eq)]
+pub enum ReadError {
+    Failed,
+    TooLong,
+    NoMemory,
+}
+
+fn make_chunk(alloc: Global) -> Result<Vec<u8>, AllocError>
+    ensures { IfOk result (λ chunk. vec_len chunk ≡ CHUNK) }
+{
+    vec![in alloc; 0u8; CHUNK]
+}
+
+/// All bytes of a source, unless they are too many. It stops at the first byte that is too much.
+pub fn read_all<S: Source>(alloc: Global, source: &mut S) -> Result<Vec<u8>, ReadError>
+    ensures read { IfOk result (λ text. ReadsAll (S.left source.old) (S.left source.new) text.items) }
+    ensures small { IfOk result (λ text. vec_len text ≤ LONGEST_TEXT) }
+    ensures too_long { IsErrOf result ReadError.TooLong → TakesCount (S.left source.old) (S.left source.new) (LONGEST_TEXT + 1) }
+    ensures takes { ¬ IsErrOf result ReadError.TooLong → TakesAtMost (S.left source.old) (S.left source.new) LONGEST_TEXT }
+    ensures failed { IsErrOf result ReadError.Failed → Rose (S.faults source.old) (S.faults source.new) }
+    ensures later { S.faults source.old ≤ S.faults source.new }
+{
+    let Ok(mut chunk) = make_chunk(alloc) else {
+        return Err(ReadError::NoMemory);
+    };
+    let mut text = Vec::new(alloc);
+    while text.len() <= LONGEST_TEXT {
+        let room = CHUNK.min(LONGEST_TEXT + 1 - text.len());
+        let count = match take_more(source, &mut chunk[..room], &mut text) {
+            Ok(count) => count,
+            Err(error) => return Err(error),
+        };
+        if count == 0 {
+            return Ok(text);
+        }
+    }
+    Err(ReadError::TooLong)
+}
+
+/// Takes the next bytes of a source, and adds them to a text. Memory comes first, so that no byte is lost.
+fn take_more<S: Source>(
+    source: &mut S,
+    room: &mut [u8],
+    text: &mut Vec<u8>,
+) -> Result<usize, ReadError>
+    requires { 0 < length room.old }
+    ensures took { IfOk result (λ n. TookMore (S.left source.old) (S.left source.new) text.old.items text.new.items n (length room.old)) }
+    ensures end { IfOk result (λ n. n ≡ 0 → IsAtEnd (S.left source.new)) }
+    ensures err { OnErr result (Keeps (S.left source.old) (S.left source.new)) }
+    ensures not_long { ¬ IsErrOf result ReadError.TooLong }
+    ensures failed { IsErrOf result ReadError.Failed → Rose (S.faults source.old) (S.faults source.new) }
+    ensures later { S.faults source.old ≤ S.faults source.new }
+{
+    if text.reserve(room.len()).is_err() {
+        return Err(ReadError::NoMemory);
+    }
+    let Ok(count) = source.take(room) else {
+        return Err(ReadError::Failed);
+    };
+    text.extend_from_slice(&room[..count]).unwrap();
+    Ok(count)
+}
+
+/// Writes a whole piece.
+pub fn write_all<K: Sink>(piece: &[u8], sink: &mut K) -> Result<(), Failed>
+    ensures written { OnOk result (Appends (K.written sink.old) (K.written sink.new) piece.now) }
+    ensures front { WritesFront (K.written sink.old) (K.written sink.new) piece.now }
+    ensures cause { HasCause (K.faults sink.old) (K.faults sink.new) result }
+{
+    let mut rest = piece;
+    while !rest.is_empty() {
+        let count = sink.put(rest)?;
+        rest = &rest[count..];
+    }
+    Ok(())
+}

@@ -1,0 +1,68 @@
+//! The program: `scuba DIR WORD..`.
+#![tactic(auto)]
+
+ghost use Rattle.std.specs.Prelude.{◌≡◌};
+ghost use Rattle.scuba_cli.specs.Exit.{exit_number};
+
+mod standard;
+
+use play::{Status, run};
+use standard::{StdSink, StdSource};
+use std::alloc::Global;
+use std::process::ExitCode;
+use std::{env, io};
+
+/// The words of the command line are no command.
+const WORDS: u8 = 2;
+
+/// Memory ran out.
+const NO_MEMORY: u8 = 6;
+
+fn main(rt: HostRuntime) -> ExitCode {
+    let words = match words_of(&rt) {
+        Ok(words) => words,
+        Err(error) => return ExitCode::from(refusal_number(&error)),
+    };
+    let Some((folder, words)) = words.split_first() else {
+        return ExitCode::from(WORDS);
+    };
+    if folder.as_str() != "mem" {
+        return ExitCode::from(WORDS);
+    }
+    let mut source = StdSource::new(rt.reader());
+    let mut sink = StdSink::new(io::writer(&rt));
+    let status = run(rt.alloc(), words, &mut source, &mut sink);
+    ExitCode::from(status_number(&status))
+}
+
+/// The words of the command line after the program's name.
+fn words_of(rt: &HostRuntime) -> io::Result<Vec<String>> {
+    let mut words = Vec::new(rt.alloc());
+    for word in env::args(rt)?.skip(1) {
+        words.push(word)?;
+    }
+    Ok(words)
+}
+
+/// The number of a status as the program ends with it.
+fn status_number(status: &Status) -> u8
+    ensures { result ≡ exit_number status.now }
+{
+    match status {
+        Status::Done => 0,
+        Status::Words => WORDS,
+        Status::Script { .. } => 3,
+        Status::ReadFault => 4,
+        Status::WriteFault => 5,
+        Status::NoMemory => NO_MEMORY,
+    }
+}
+
+/// The number of the status where the words could not be had: want of memory, or a word that is no text.
+fn refusal_number(error: &io::Error) -> u8 {
+    if error.kind() == io::ErrorKind::OutOfMemory {
+        NO_MEMORY
+    } else {
+        WORDS
+    }
+}
