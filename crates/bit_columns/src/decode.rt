@@ -1,4 +1,4 @@
-// Decoding in order: a load for each code, and near the end of the bytes bit by bit.
+// Decoding in order: one load for each code, but for the last few, near the end of the bytes.
 ghost use Rattle.std.specs.Prelude.{◌≡◌, ℕ, ◌+◌, ◌*◌, ◌%◌, ◌≤◌, ◌<◌, length, slice_index};
 ghost use Rattle.bit_columns.specs.Bits.{code};
 

@@ -43,11 +43,18 @@ fn codes_are_written_and_read(rt: HostRuntime) -> Result<(), AllocError> {
     Ok(())
 }
 
+// Whether so many ones of one bit are so many bytes of ones, and are read back.
+fn are_ones_read_back(alloc: Global, count: usize) -> Result<bool, AllocError>
+    requires { count < 2 ^ 32 }
+{
+    let values = vec![in alloc; 1u64; count]?;
+    let bytes = vec![in alloc; 0xffu8; count / 8]?;
+    is_read_back(alloc, &values, 1, &bytes)
+}
+
 #[test]
 fn a_whole_block_is_written_and_read(rt: HostRuntime) -> Result<(), AllocError> {
-    let alloc = rt.alloc();
-    let values = vec![in alloc; 1u64; 65536]?;
-    assert!(rt; is_read_back(alloc, &values, 1, vec![in alloc; 0xffu8; 8192]?.as_slice())?);
+    assert!(rt; are_ones_read_back(rt.alloc(), 65536)?);
     Ok(())
 }
 
