@@ -11,3 +11,6 @@ mod table;
 
 pub use fold::fold_rows;
 pub use join::merge;
+
+#[cfg(test)]
+mod tests;
