@@ -2,5 +2,7 @@
 #![tactic(auto)]
 
 mod object;
+#[cfg(test)]
+mod tests;
 
 pub use object::{RowFault, row, row_meaning};
