@@ -1,24 +1,23 @@
 -- The cells of an object's members, and the first fault, against what the members say.
-use Rattle.std.proofs.Common.{◌≡◌, ◌≢◌, ◌⊎◌, inl, inr, ℕ, ℤ, List, arith, [], ◌∷◌, Option, Some, None, option_map, option_and_then, unwrap_or, Result, Ok, Err, Bool, true, false, cond, true≢false, Contains, refl, ap, sym, subst, ◌∙◌}
+use Rattle.std.proofs.Common.{◌≡◌, ◌≢◌, inl, inr, ℕ, ℤ, List, arith, [], ◌∷◌, Option, Some, None, option_map, unwrap_or, Result, Ok, Err, Bool, true, false, cond, true≢false, Contains, refl, ap, sym, subst, ◌∙◌}
 use Rattle.std.proofs.lemmas.List.Elements.{Contains-append_right}
 use Rattle.std.proofs.lemmas.Slice.Eq.{bytes_eq-Decides}
 use Rattle.std.specs.List.{AllByRecursion}
 use Rattle.std.specs.List.Sorted.{IsStrictlySortedBy}
 use Rattle.std.specs.Result.{is_ok}
-use Rattle.std.specs.Str.{bytes_eq}
 use Rattle.serde_json.specs.Data.{Data, null, boolean, number, string, array, object, Num, Members, no_members, member}
-use Rattle.serde_json.specs.Find.{get_member, as_number, as_i64}
+use Rattle.serde_json.specs.Find.{as_i64}
 use Rattle.leaf_model.specs.Values.{time_name}
 use Rattle.leaf_model.specs.declared.rows.Value.{Value}
 use Rattle.leaf_model.specs.declared.rows.Value.TheVariants.{Int, Text}
 use Rattle.leaf_model.specs.declared.rows.Cell.{Cell}
 use Rattle.row_json.specs.Row.{is_time, is_bad_name, is_missing, value_of, named_cell, cell_with, cell_of, with_cell, before, cells_of}
-use Rattle.row_json.specs.Meaning.{Has, Holds, IsOther, IsFine, IsFaultOf, IsFirstFault}
+use Rattle.row_json.specs.Meaning.{Holds, IsOther}
 use Rattle.row_json.specs.declared.object.RowFault.{RowFault}
 use Rattle.row_json.specs.declared.object.RowFault.TheVariants.{Json, NotObject, NoTime, TooMany, Name, NoMemory}
 use Rattle.row_json.specs.declared.object.RowFault.TheVariants as fault
-use Rattle.row_json.proofs.Order.{Below, names_of}
-use Rattle.row_json.proofs.Found.{Ascending, not_below_itself, not_both_below, found_here, found_later, found_cases, found_none, found_all}
+use Rattle.row_json.proofs.Order.{Below}
+use Rattle.row_json.proofs.Found.{Ascending, found_here, found_later, found_cases, found_none, found_all}
 
 -- ---- one member
 

@@ -1,13 +1,12 @@
 -- The first fault of an object's members, against what the members say.
-use Rattle.std.proofs.Common.{◌≡◌, ◌≢◌, ◌⊎◌, inl, inr, ℕ, List, [], ◌∷◌, Option, Some, None, Result, Ok, Err, true, false, true≢false, refl, ap, sym, subst, ◌∙◌}
+use Rattle.std.proofs.Common.{◌≡◌, ◌≢◌, inl, inr, ℕ, List, [], Option, Some, None, Ok, Err, true, false, true≢false, refl, ap, sym, subst, ◌∙◌}
 use Rattle.std.specs.List.Sorted.{IsStrictlySortedBy}
 use Rattle.serde_json.specs.Data.{Data, null, Members, no_members, member}
-use Rattle.serde_json.specs.Find.{get_member}
 use Rattle.leaf_model.specs.Values.{time_name}
 use Rattle.leaf_model.specs.declared.rows.Value.{Value}
 use Rattle.leaf_model.specs.declared.rows.Cell.{Cell}
 use Rattle.row_json.specs.Row.{is_bad_name, named_cell, cell_of, with_cell, cells_of}
-use Rattle.row_json.specs.Meaning.{Has, Holds, IsFine, IsFaultOf, IsFirstFault}
+use Rattle.row_json.specs.Meaning.{Holds, IsFine, IsFaultOf, IsFirstFault}
 use Rattle.row_json.specs.declared.object.RowFault.{RowFault}
 use Rattle.row_json.specs.declared.object.RowFault.TheVariants.{Json, NotObject, NoTime, TooMany, Name, NoMemory}
 use Rattle.row_json.specs.declared.object.RowFault.TheVariants as fault
@@ -21,33 +20,33 @@ use Rattle.row_json.proofs.Cells.{Case, the_time, bad_name, missing, held, bad_v
 fault_here : (k : List ℕ) (e : Data) (ms : Members) (f : RowFault) → Ascending (member k e ms) → k ≢ time_name → IsFaultOf k e f → IsFirstFault (member k e ms) f
 unfolding IsStrictlySortedBy
 fault_here k e ms f all other is = record {
-    name = k;
-    value = e;
-    has = found_here k e ms;
-    other = other;
-    is = is;
-    first = λ j d has no_time below. elim (found_cases j k e d ms has) [
-      | inl here ↦ absurd (not_below_itself k (subst (λ n. Below n k) here.0 below))
-      | inr there ↦ absurd (not_both_below j k below (found_all (Below k) j d ms all.0 there))
-    ];
-  }
+  name = k;
+  value = e;
+  has = found_here k e ms;
+  other = other;
+  is = is;
+  first = λ j d has no_time below. elim (found_cases j k e d ms has) [
+    | inl here ↦ absurd (not_below_itself k (subst (λ n. Below n k) here.0 below))
+    | inr there ↦ absurd (not_both_below j k below (found_all (Below k) j d ms all.0 there))
+  ];
+}
 
 -- the first member is fine, or is the time
 fault_later : (k : List ℕ) (e : Data) (ms : Members) (f : RowFault) → Ascending (member k e ms) → (k ≢ time_name → IsFine k e) → IsFirstFault ms f → IsFirstFault (member k e ms) f
 unfolding IsStrictlySortedBy
 fault_later k e ms f all fine x = record {
-    name = x.name;
-    value = x.value;
-    has = found_later x.name k e ms (found_all (Below k) x.name x.value ms all.0 x.has) ∙ x.has;
-    other = x.other;
-    is = x.is;
-    first = λ j d has no_time below. elim (found_cases j k e d ms has) [
-      | inl here ↦
+  name = x.name;
+  value = x.value;
+  has = found_later x.name k e ms (found_all (Below k) x.name x.value ms all.0 x.has) ∙ x.has;
+  other = x.other;
+  is = x.is;
+  first = λ j d has no_time below. elim (found_cases j k e d ms has) [
+    | inl here ↦
         let is_fine : IsFine k d = subst (IsFine k) here.1 (fine (λ is. no_time (here.0 ∙ is))) in
         subst (λ n. IsFine n d) (sym here.0) is_fine
-      | inr there ↦ x.first j d there no_time below
-    ];
-  }
+    | inr there ↦ x.first j d there no_time below
+  ];
+}
 
 first_at : (k : List ℕ) (e : Data) (ms : Members) (f : RowFault) → Ascending (member k e ms) → Case k e → with_cell (cell_of k e) (cells_of ms) ≡ Err f → (cells_of ms ≡ Err f → IsFirstFault ms f) → IsFirstFault (member k e ms) f
 first_at k e ms f all (the_time t is) h rest =
@@ -110,13 +109,13 @@ unfolding IsStrictlySortedBy
 fault_first no_members f all x = absurd (found_none x.value x.has)
 fault_first (member k e ms) f all x = elim (found_cases x.name k e x.value ms x.has) [
   | inl here ↦
-    let is : IsFaultOf k x.value f = subst (λ n. IsFaultOf n x.value f) here.0 x.is in
-    let at_k : IsFaultOf k e f = subst (λ d. IsFaultOf k d f) (sym here.1) is in
-    refused (cell_of k e) (cells_of ms) f (faulty k e f (case_of k e) (λ t. x.other (here.0 ∙ t)) at_k)
+      let is : IsFaultOf k x.value f = subst (λ n. IsFaultOf n x.value f) here.0 x.is in
+      let at_k : IsFaultOf k e f = subst (λ d. IsFaultOf k d f) (sym here.1) is in
+      refused (cell_of k e) (cells_of ms) f (faulty k e f (case_of k e) (λ t. x.other (here.0 ∙ t)) at_k)
   | inr there ↦
-    let below : Below k x.name = found_all (Below k) x.name x.value ms all.0 there in
-    let one = passed k e (case_of k e) (λ t. x.first k e (found_here k e ms) t below) in
-    let more : IsFirstFault ms f = record {
+      let below : Below k x.name = found_all (Below k) x.name x.value ms all.0 there in
+      let one = passed k e (case_of k e) (λ t. x.first k e (found_here k e ms) t below) in
+      let more : IsFirstFault ms f = record {
         name = x.name;
         value = x.value;
         has = there;
@@ -124,6 +123,6 @@ fault_first (member k e ms) f all x = elim (found_cases x.name k e x.value ms x.
         is = x.is;
         first = λ j d has no_time h. x.first j d (found_later j k e ms (found_all (Below k) j d ms all.0 has) ∙ has) no_time h;
       } in
-    let rest : cells_of ms ≡ Err f = fault_first ms f all.1 more in
-    ap (λ r. with_cell r (cells_of ms)) one.1 ∙ ap (with_cell (Ok one.0)) rest ∙ passed_on one.0 f
+      let rest : cells_of ms ≡ Err f = fault_first ms f all.1 more in
+      ap (λ r. with_cell r (cells_of ms)) one.1 ∙ ap (with_cell (Ok one.0)) rest ∙ passed_on one.0 f
 ]

@@ -10,7 +10,7 @@ use Rattle.std.specs.Option.{IfSome}
 use Rattle.std.specs.Ordering.{match_ordering, ordering_reverse}
 use Rattle.json.specs.Json as json
 use Rattle.json.specs.Lex.{tokens}
-use Rattle.serde_json.specs.Data.{Data, null, boolean, number, string, array, object, Items, Members, no_members, member, put}
+use Rattle.serde_json.specs.Data.{Data, null, boolean, number, string, array, object, Members, no_members, member, put}
 use Rattle.serde_json.specs.Find.{get_member}
 use Rattle.serde_json.specs.Read.{read, of_json, of_items, of_members, number_of, max_depth}
 use Rattle.row_json.proofs.Order.{Below, names_of}

@@ -1,5 +1,5 @@
 -- A text's row, or its fault, is what the members of its object say.
-use Rattle.std.proofs.Common.{◌≡◌, ◌↔◌, ℕ, ◌<◌, ◌≤◌, ◌≤ℤ◌, ℤ, pos, negsuc, List, Option, Some, None, option_and_then, unwrap_or, Result, Ok, Err, Bool, true, false, cond, true≢false, nat_lt, arith, rules, refl, ap, sym, subst, ◌∙◌}
+use Rattle.std.proofs.Common.{◌≡◌, ◌↔◌, ℕ, ◌≤ℤ◌, ℤ, pos, negsuc, List, Option, Some, None, option_and_then, unwrap_or, Result, Ok, Err, Bool, true, false, cond, true≢false, nat_lt, arith, rules, refl, ap, sym, subst, ◌∙◌}
 use Rattle.std.proofs.lemmas.Bool.{ltb-true, ltb-false, lt-ltb, le-ltb}
 use Rattle.std.proofs.lemmas.Str.{is_utf8-from_IsUtf8, IsUtf8-from_is_utf8}
 use Rattle.std.specs.Str.{is_utf8, IsUtf8}
@@ -10,7 +10,7 @@ use Rattle.leaf_model.specs.Values.{time_name}
 use Rattle.leaf_model.specs.declared.rows.Cell.{Cell}
 use Rattle.leaf_model.specs.declared.rows.Row.{Row}
 use Rattle.row_json.specs.Row.{not_negative, time_of, cell_count, cells_of, row_with, row_of_members, row_of_data, row_of}
-use Rattle.row_json.specs.Meaning.{IsObject, IsTimeOf, HasTime, IsRowOf, IsFirstFault, HasFault, Gives, Refuses}
+use Rattle.row_json.specs.Meaning.{IsObject, IsTimeOf, HasTime, IsRowOf, HasFault, Gives, Refuses}
 use Rattle.row_json.specs.declared.object.RowFault.{RowFault}
 use Rattle.row_json.specs.declared.object.RowFault.TheVariants.{Json, NotObject, NoTime, TooMany, Name, NoMemory}
 use Rattle.row_json.specs.declared.object.RowFault.TheVariants as fault
@@ -101,10 +101,10 @@ few_given text all t row true obj time eb h = absurd (err≢ok TooMany row h)
 few_given text all t row false obj time eb h =
     let made = cells_of_row t (cells_of all) row h in
     let given : IsRowOf all (record { time = t; cells = made.0 }) = record {
-        time = time;
-        whole = cells_whole all made.0 made.1;
-        only = cells_only all made.0 (read_ascends text all obj.reads) made.1;
-      } in
+      time = time;
+      whole = cells_whole all made.0 made.1;
+      only = cells_only all made.0 (read_ascends text all obj.reads) made.1;
+    } in
     record {
       all = all;
       object = obj;

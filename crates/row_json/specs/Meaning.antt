@@ -1,5 +1,5 @@
 -- What a row and each fault say of a text, in terms of the members of its object.
-use Rattle.std.specs.Prelude.{◌≡◌, ◌≢◌, ◌⊎◌, ℕ, ◌<◌, ◌≤◌, ◌≤ℤ◌, ℤ, pos, List, true, false, Option, Some, None, option_and_then, Contains, IsUtf8}
+use Rattle.std.specs.Prelude.{◌≡◌, ◌≢◌, ◌⊎◌, ℕ, ◌<◌, ◌≤◌, ◌≤ℤ◌, ℤ, pos, List, true, false, Some, None, option_and_then, Contains, IsUtf8}
 use Rattle.std.specs.Cmp.Lexicographic.{slice_cmp}
 use Rattle.std.specs.List.{AllByRecursion}
 use Rattle.std.specs.Ordering.{nat_cmp}
@@ -29,7 +29,7 @@ Has all name d = get_member name all ≡ Some d
 abbrev pub IsInteger : Data → ℤ → Type 0
 IsInteger d z = option_and_then as_i64 (as_number d) ≡ Some z
 
--- a cell holds what the JSON value says
+-- a cell holds what the JSON value says: an integer, and no text yet
 abbrev pub Holds : Data → Value → Type 0
 Holds d (Int z) = IsInteger d z
 Holds d (Text t) = ⊥
@@ -41,6 +41,7 @@ pub record IsTimeOf (all : Members) (time : ℤ) : Type 0 where
   pub integer : IsInteger value time
   pub not_negative : pos 0 ≤ℤ time
 
+-- the object has a time
 abbrev pub HasTime : Members → Type 0
 HasTime all = (time : ℤ) × IsTimeOf all time
 

@@ -50,6 +50,7 @@ value_of (string s) = None
 value_of (array items) = None
 value_of (object all) = None
 
+-- the cell of this name and value
 abbrev pub named_cell : List ℕ → Value → Cell
 named_cell name value = record { name = name; value = value }
 
@@ -84,6 +85,7 @@ abbrev pub items_of : Result (Vec Cell Global) RowFault → Result (List Cell) R
 items_of (Ok v) = Ok v.items
 items_of (Err e) = Err e
 
+-- the row of this time and these cells, where those have no fault
 abbrev pub row_with : ℤ → Result (List Cell) RowFault → Result Row RowFault
 row_with time (Ok cells) = Ok (record { time = time; cells = cells })
 row_with time (Err e) = Err e
@@ -102,6 +104,7 @@ row_of_data (string s) = Err NotObject
 row_of_data (array items) = Err NotObject
 row_of_data (object all) = row_of_members (time_of (object all)) all
 
+-- the row that was read, where the text is JSON
 abbrev pub row_of_value : Option Data → Result Row RowFault
 row_of_value None = Err Json
 row_of_value (Some d) = row_of_data d

@@ -55,8 +55,7 @@ pub fn row(alloc: Global, text: &[u8]) -> Result<Row, RowFault>
 pub fn row_meaning()
     ensures rows { (text : List ℕ) → (row : Row) → row_of text ≡ Ok row → Gives text row }
     ensures faults { (text : List ℕ) → (fault : RowFault) → (row_of text ≡ Err fault) ↔ Refuses text fault }
-{
-}
+{}
 
 fn row_of_value(alloc: Global, value: serde_json::Value) -> Result<Row, RowFault>
     ensures exact { result ≢ Err RowFault.NoMemory → result ≡ row_of_data (view value) }

@@ -42,51 +42,51 @@ fn with_cells(alloc: Global, count: usize, more: &str) -> Result<String, AllocEr
     Ok(text)
 }
 
+// Texts, each with its row or its fault.
+fn table() -> &'static str {
+    r#"{"time":10} -> 10
+ {"time":0,"code":-1,"a":5}  -> 0 a=5 code=-1
+{"t\u0069me":5,"Z":1,"a":2,"é":3} -> 5 Z=1 a=2 é=3
+{"time":1,"time":2} -> 2
+{"time":1,"a":"x","a":7} -> 1 a=7
+{"time":1,"a":7,"a":null} -> 1
+{"time":1,"a":null} -> 1
+{"time":9223372036854775807,"a":-9223372036854775808,"b":9223372036854775807} -> 9223372036854775807 a=-9223372036854775808 b=9223372036854775807
+ -> Json
+{"time":1 -> Json
+{"time":1}x -> Json
+{"time":1,} -> Json
+{"time":1,"a":"\ud800"} -> Json
+{"time":1,"a":1e999} -> Json
+[] -> NotObject
+null -> NotObject
+1 -> NotObject
+{} -> NoTime
+{"time":null} -> NoTime
+{"time":"5"} -> NoTime
+{"time":1.5} -> NoTime
+{"time":1e3} -> NoTime
+{"time":-0} -> NoTime
+{"time":1.0} -> NoTime
+{"time":9223372036854775808} -> NoTime
+{"time":-1,"":1} -> NoTime
+{"time":1,"":1,"a":true} -> Name(Text { inner: "" })
+{"time":1,"":null} -> Name(Text { inner: "" })
+{"time":1,"":true} -> Name(Text { inner: "" })
+{"time":1,"host":"a"} -> Value(Text { inner: "host" })
+{"time":1,"b":1.5,"a":true} -> Value(Text { inner: "a" })
+{"time":1,"a":1e3} -> Value(Text { inner: "a" })
+{"time":1,"a":9223372036854775808} -> Value(Text { inner: "a" })
+{"time":1,"a":-9223372036854775809} -> Value(Text { inner: "a" })
+{"time":1,"a":[],"b":{}} -> Value(Text { inner: "a" })"#
+}
+
 #[test]
 fn reads_rows(rt: HostRuntime) -> Result<(), test::Fail> {
     let alloc = rt.alloc();
     row_meaning();
-    for (text, want) in [
-        ("{\"time\":10}", "10"),
-        (" {\"time\":0,\"code\":-1,\"a\":5}\t", "0 a=5 code=-1"),
-        ("{\"t\\u0069me\":5,\"Z\":1,\"a\":2,\"é\":3}", "5 Z=1 a=2 é=3"),
-        ("{\"time\":1,\"time\":2}", "2"),
-        ("{\"time\":1,\"a\":\"x\",\"a\":7}", "1 a=7"),
-        ("{\"time\":1,\"a\":7,\"a\":null}", "1"),
-        ("{\"time\":1,\"a\":null}", "1"),
-        (
-            "{\"time\":9223372036854775807,\"a\":-9223372036854775808,\"b\":9223372036854775807}",
-            "9223372036854775807 a=-9223372036854775808 b=9223372036854775807",
-        ),
-        ("", "Json"),
-        ("{\"time\":1", "Json"),
-        ("{\"time\":1}x", "Json"),
-        ("{\"time\":1,}", "Json"),
-        ("\u{feff}{\"time\":1}", "Json"),
-        ("{\"time\":1,\"a\":\"\\ud800\"}", "Json"),
-        ("{\"time\":1,\"a\":1e999}", "Json"),
-        ("[]", "NotObject"),
-        ("null", "NotObject"),
-        ("1", "NotObject"),
-        ("{}", "NoTime"),
-        ("{\"time\":null}", "NoTime"),
-        ("{\"time\":\"5\"}", "NoTime"),
-        ("{\"time\":1.5}", "NoTime"),
-        ("{\"time\":1e3}", "NoTime"),
-        ("{\"time\":-0}", "NoTime"),
-        ("{\"time\":1.0}", "NoTime"),
-        ("{\"time\":9223372036854775808}", "NoTime"),
-        ("{\"time\":-1,\"\":1}", "NoTime"),
-        ("{\"time\":1,\"\":1,\"a\":true}", "Name(Text { inner: \"\" })"),
-        ("{\"time\":1,\"\":null}", "Name(Text { inner: \"\" })"),
-        ("{\"time\":1,\"\":true}", "Name(Text { inner: \"\" })"),
-        ("{\"time\":1,\"host\":\"a\"}", "Value(Text { inner: \"host\" })"),
-        ("{\"time\":1,\"b\":1.5,\"a\":true}", "Value(Text { inner: \"a\" })"),
-        ("{\"time\":1,\"a\":1e3}", "Value(Text { inner: \"a\" })"),
-        ("{\"time\":1,\"a\":9223372036854775808}", "Value(Text { inner: \"a\" })"),
-        ("{\"time\":1,\"a\":-9223372036854775809}", "Value(Text { inner: \"a\" })"),
-        ("{\"time\":1,\"a\":[],\"b\":{}}", "Value(Text { inner: \"a\" })"),
-    ] {
+    for line in table().split('\n') {
+        let (text, want) = line.split_once(" -> ").ok_or("no arrow")?;
         let got = shown(alloc, &row(alloc, text.as_bytes()))?;
         assert_eq!(rt; got.as_str(), want, "at {text}");
     }
@@ -98,7 +98,11 @@ fn reads_rows(rt: HostRuntime) -> Result<(), test::Fail> {
 #[test]
 fn keeps_the_limits(rt: HostRuntime) -> Result<(), test::Fail> {
     let alloc = rt.alloc();
-    let deep = format!(in alloc; "{{\"time\":1,\"a\":{}{}}}", repeated(alloc, "[", 200)?, repeated(alloc, "]", 200)?)?;
+    let deep = format!(in alloc;
+        "{{\"time\":1,\"a\":{}{}}}",
+        repeated(alloc, "[", 200)?,
+        repeated(alloc, "]", 200)?
+    )?;
     let short_name = format!(in alloc; "{{\"time\":1,\"{}\":1}}", repeated(alloc, "n", 255)?)?;
     let long_name = format!(in alloc; "{{\"time\":1,\"{}\":1}}", repeated(alloc, "n", 256)?)?;
     let long_null = format!(in alloc; "{{\"time\":1,\"{}\":null}}", repeated(alloc, "é", 128)?)?;
@@ -106,10 +110,14 @@ fn keeps_the_limits(rt: HostRuntime) -> Result<(), test::Fail> {
     let over = with_cells(alloc, 1025, ",\"\":1")?;
     for (text, want) in [
         (deep.as_str(), "Json"),
+        ("\u{feff}{\"time\":1}", "Json"),
         (short_name.as_str(), "1 n"),
         (long_name.as_str(), "Name(Text { inner: \"nnn"),
         (long_null.as_str(), "Name(Text { inner: \"ééé"),
-        (full.as_str(), "1 c0=7 c1=1 c10=10 c100=100 c1000=1000 c1001=1001"),
+        (
+            full.as_str(),
+            "1 c0=7 c1=1 c10=10 c100=100 c1000=1000 c1001=1001",
+        ),
         (over.as_str(), "TooMany"),
     ] {
         let got = shown(alloc, &row(alloc, text.as_bytes()))?;
