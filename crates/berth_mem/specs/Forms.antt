@@ -43,7 +43,7 @@ pub record DiskCalled {T E : Type 0} (method : Method) (result : Result T E) (ol
   pub refused : OnErr result (Stays (meaning old) (meaning new))
 
 -- a berth that was just made on these contents: at moment 0, and all counts at 0
-pub record Made (region disk : List ℕ) (berth : MemBerth) : Type 0 where
+pub record FreshOn (region disk : List ℕ) (berth : MemBerth) : Type 0 where
   pub opened : OpenedOn region disk (meaning berth)
   pub clock : (meaning berth).clock ≡ 0
   pub region_faults : (meaning berth).region_faults ≡ 0

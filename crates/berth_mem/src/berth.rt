@@ -5,7 +5,7 @@ ghost use Rattle.berth_face.specs.Causes.{Rose, HasCause};
 ghost use Rattle.berth_face.specs.Berth.{Pair, Passes, Stays, Gives, RegionWritten, RegionCut, DiskWritten, DiskSynced};
 ghost use Rattle.berth_mem.specs.Counts.{one_more};
 ghost use Rattle.berth_mem.specs.Plans.{listed, fails_next};
-ghost use Rattle.berth_mem.specs.Forms.{meaning, berth_plan, RegionCalled, DiskCalled, Made};
+ghost use Rattle.berth_mem.specs.Forms.{meaning, berth_plan, RegionCalled, DiskCalled, FreshOn};
 ghost use Rattle.berth_mem.specs.Picked.{images_at};
 ghost use Rattle.berth_mem.specs.Laws.{stands, keeps_region, vec_short};
 ghost use Rattle.berth_mem.specs.declared.faults.Method.TheVariants as method;
@@ -34,7 +34,7 @@ pub struct MemBerth {
 impl MemBerth {
     /// A berth that fails only where it finds no memory to grow, or a write passes 2^63.
     pub fn new(region: Vec<u8>, disk: Vec<u8>) -> MemBerth
-        ensures made { Made region.items disk.items result }
+        ensures fresh { FreshOn region.items disk.items result }
         ensures plan { berth_plan result ≡ Plain }
     {
         MemBerth::planned(region, disk, Plan::Plain)
@@ -42,7 +42,7 @@ impl MemBerth {
 
     /// A berth whose listed calls fail.
     pub fn failing(region: Vec<u8>, disk: Vec<u8>, fails: Fails) -> MemBerth
-        ensures made { Made region.items disk.items result }
+        ensures fresh { FreshOn region.items disk.items result }
         ensures plan { berth_plan result ≡ listed fails }
     {
         MemBerth::planned(region, disk, Plan::failing(fails))
@@ -50,7 +50,7 @@ impl MemBerth {
 
     /// A berth that lets so many calls pass, and fails every later one.
     pub fn fused(region: Vec<u8>, disk: Vec<u8>, calls: u64) -> MemBerth
-        ensures made { Made region.items disk.items result }
+        ensures fresh { FreshOn region.items disk.items result }
         ensures plan { berth_plan result ≡ Fused calls }
     {
         MemBerth::planned(region, disk, Plan::Fused(calls))
@@ -87,7 +87,7 @@ impl MemBerth {
     pub fn pick(&self, moment: u64, image: u64) -> Result<MemBerth, AllocError>
         requires moment { moment ≤ (meaning self.now).clock }
         requires image { image < images_at moment }
-        ensures left { IfOk result (λ b. (p : Pair) × (meaning self.now).leaves moment p × Made p.region p.disk b) }
+        ensures left { IfOk result (λ b. (p : Pair) × (meaning self.now).leaves moment p × FreshOn p.region p.disk b) }
         ensures plan { IfOk result (λ b. berth_plan b ≡ Plain) }
     {
         let unsynced_lost = image / 2 % 2 == 1;
@@ -108,7 +108,7 @@ impl MemBerth {
     }
 
     fn planned(region: Vec<u8>, disk: Vec<u8>, plan: Plan) -> MemBerth
-        ensures made { Made region.items disk.items result }
+        ensures fresh { FreshOn region.items disk.items result }
         ensures plan { berth_plan result ≡ plan }
     {
         let alloc = *region.allocator();
