@@ -1,4 +1,4 @@
-use Rattle.std.proofs.Common.{rules, ◌≡◌, ◌+◌, ◌^◌, get_or, sym, ap, ◌∙◌, [], ◌∷◌, arith}
+use Rattle.std.proofs.Common.{rules, ◌≡◌, ◌^◌, get_or, sym, ap, ◌∙◌, [], ◌∷◌, arith}
 use Rattle.leaf_model.specs.Groups.{groups}
 use Rattle.group_table.specs.Joined.{joined}
 use Rattle.group_table.proofs.Laws.{groups_table, next_row}
