@@ -8,7 +8,8 @@ use Rattle.std.specs.declared.cmp.Ordering.TheVariants.{Less, Equal, Greater}
 use Rattle.leaf_model.specs.declared.groups.Key.{Key}
 use Rattle.leaf_model.specs.declared.groups.Group.{Group}
 use Rattle.leaf_model.specs.Groups.{keys_cmp}
-use Rattle.group_table.specs.Joined.{joined_group, joined, keys_in, Above, Ascends, is_first, put_first}
+use Rattle.group_table.specs.Joined.{joined_group, joined}
+use Rattle.group_table.specs.Table.{keys_in, Above, Ascends, is_first, put_first}
 use Rattle.group_table.proofs.Laws.{joined-nil, chain, tie_right}
 
 is_less : (o : Ordering) → is_lt o ≡ true → o ≡ Less
