@@ -1,8 +1,9 @@
--- Where one of two lists of keys ends, and folds cut to the others' number.
-use Rattle.std.proofs.Common.{◌≡◌, ℕ, suc, ◌≤◌, List, [], ◌∷◌, length, drop, take, map, refl, ap, ◌∙◌, arith}
+-- Where lists end: one of two lists of keys, folds cut to the others' number, and a list in three parts.
+use Rattle.std.proofs.Common.{◌≡◌, ℕ, suc, ◌≤◌, List, [], ◌∷◌, ◌++◌, length, drop, take, map, refl, ap, ◌∙◌, arith}
 use Rattle.std.specs.Ordering.{nat_cmp}
 use Rattle.std.specs.declared.cmp.Ordering.TheVariants.{Less, Greater}
 use Rattle.std.proofs.lemmas.Bool.Decides.{nat_tests}
+use Rattle.std.proofs.lemmas.List.{append_assoc, take-append-drop}
 use Rattle.leaf_model.specs.declared.groups.Key.{Key}
 use Rattle.leaf_model.specs.declared.groups.Fold.{Fold}
 use Rattle.leaf_model.specs.Groups.{keys_cmp}
@@ -49,3 +50,7 @@ right_ends_with [] [] h = refl
 right_ends_with (x ∷ a) [] h = zero_last (length a)
 right_ends_with [] (y ∷ b) h = absurd (omega arith)
 right_ends_with (x ∷ a) (y ∷ b) h = right_ends_with a b (omega arith) ∙ one_less (length a) (length b)
+
+-- a list is its first part, and the two parts of what is left
+pub three_parts : {X : Type 0} (r k : ℕ) (xs : List X) → (take r xs ++ take k (drop r xs)) ++ drop k (drop r xs) ≡ xs
+three_parts r k xs = append_assoc (take r xs) (take k (drop r xs)) (drop k (drop r xs)) ∙ ap (λ ys. take r xs ++ ys) (take-append-drop k (drop r xs)) ∙ take-append-drop r xs

@@ -1,6 +1,6 @@
 -- A group goes into an ascending table at the place that a search finds.
-use Rattle.std.proofs.Common.{◌≡◌, ℕ, suc, zero, ◌≤◌, ◌<◌, true, false, List, [], ◌∷◌, ◌++◌, length, drop, take, refl, sym, ap, ◌∙◌, arith}
-use Rattle.std.specs.List.{AllByRecursion, slice_index_or, slice_set, insert}
+use Rattle.std.proofs.Common.{◌≡◌, ℕ, suc, zero, ◌≤◌, ◌<◌, true, false, List, [], ◌∷◌, ◌++◌, length, drop, take, refl, ap, arith}
+use Rattle.std.specs.List.{slice_index_or, slice_set, insert}
 use Rattle.std.specs.List.Sorted.{IsPartitionPoint, IsPartitionedBy}
 use Rattle.std.specs.Ordering.{is_lt, is_eq}
 use Rattle.std.specs.declared.cmp.Ordering.{Ordering}
@@ -8,7 +8,8 @@ use Rattle.std.specs.declared.cmp.Ordering.TheVariants.{Less, Equal, Greater}
 use Rattle.leaf_model.specs.declared.groups.Key.{Key}
 use Rattle.leaf_model.specs.declared.groups.Group.{Group}
 use Rattle.leaf_model.specs.Groups.{keys_cmp}
-use Rattle.group_table.specs.Joined.{joined_group, joined, next_of, keys_in, Above, Ascends, is_first, put_first}
+use Rattle.group_table.specs.Joined.{joined_group, joined}
+use Rattle.group_table.specs.Table.{keys_in, Above, Ascends, is_first, put_first}
 use Rattle.group_table.proofs.Laws.{joined-nil, chain, tie_right}
 
 is_less : (o : Ordering) → is_lt o ≡ true → o ≡ Less

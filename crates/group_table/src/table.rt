@@ -6,7 +6,8 @@ ghost use Rattle.leaf_model.specs.declared.groups.Key.{Key};
 ghost use Rattle.leaf_model.specs.declared.groups.Group.{Group};
 ghost use Rattle.leaf_model.specs.Groups.{groups, group_of, fold_of, agg_ints};
 ghost use Rattle.group_table.specs.Reads.{seen_key};
-ghost use Rattle.group_table.specs.Joined.{joined_fold, joined_folds, joined_group, joined, Ascends, keys_in, is_first, put_first, IsTable, IsWithin, IsFoldWithin};
+ghost use Rattle.group_table.specs.Joined.{joined_fold, joined_folds, joined_group, joined, IsWithin, IsFoldWithin};
+ghost use Rattle.group_table.specs.Table.{Ascends, keys_in, is_first, put_first, IsTable};
 
 use crate::guess::guess_of;
 use crate::join::join_fold;

@@ -1,5 +1,5 @@
 use Rattle.std.proofs.Common.{rules, ◌≡◌, true, false, [], ◌∷◌, map, sym, ap, ◌∙◌}
-use Rattle.leaf_model.specs.Groups.{groups, group_of, keys_of, key_of, value_of, passes}
+use Rattle.leaf_model.specs.Groups.{group_of, keys_of, key_of, value_of, passes}
 use Rattle.group_table.specs.Reads.{seen_key}
 use Rattle.group_table.specs.Joined.{joined}
 use Rattle.group_table.proofs.Laws.{no_row, one_row, joined-nil}

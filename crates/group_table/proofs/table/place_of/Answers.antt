@@ -1,6 +1,6 @@
 use Rattle.std.proofs.Common.{rules, ◌≡◌, true, drop, map}
 use Rattle.group_table.specs.Reads.{seen_key}
-use Rattle.group_table.specs.Joined.{is_first}
+use Rattle.group_table.specs.Table.{is_first}
 use Rattle.group_table.proofs.Placed.{found}
 use Rattle.group_table.proofs.table.place_of.Goals as goal
 

@@ -1,7 +1,8 @@
 use Rattle.std.proofs.Common.{rules, ◌≡◌, true, [], ◌∷◌, drop, map, slice_index_or, slice_set, sym, ap, ◌∙◌}
 use Rattle.leaf_model.specs.Groups.{group_of}
 use Rattle.group_table.specs.Reads.{seen_key}
-use Rattle.group_table.specs.Joined.{joined_group, is_first}
+use Rattle.group_table.specs.Joined.{joined_group}
+use Rattle.group_table.specs.Table.{is_first}
 use Rattle.group_table.proofs.Placed.{put_into}
 use Rattle.group_table.proofs.table.put_row.Goals as goal
 
