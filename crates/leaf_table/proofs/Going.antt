@@ -1,6 +1,5 @@
 -- A legal list of turns goes on by one turn.
 use Rattle.std.proofs.Common.{ℤ, ◌≡◌, ◌⊎◌, ℕ, zero, suc, ◌+◌, ◌-◌, ◌<◌, ◌≤◌, ◌^◌, Bool, true, false, List, [], ◌∷◌, ◌++◌, length, take, drop, map, refl, sym, ap, ◌∙◌, subst, inl, inr, Option, Some, None, rules, arith}
-use Rattle.std.specs.Prelude.{IfSome}
 use Rattle.std.specs.List.{AllByRecursion}
 use Rattle.turnstile.specs.declared.object.Entry as turnstile
 use Rattle.turnstile.specs.Objects.{entry_of}
@@ -18,7 +17,7 @@ use Rattle.leaf_history.specs.Laws.{IsCounted}
 use Rattle.leaf_history.proofs.Histories.{counts_stay, length_take}
 use Rattle.row_records.specs.Records.{LogRecord}
 use Rattle.row_records.specs.Pending.{with_push}
-use Rattle.table_state.specs.Tables.{Table, MayWrite, with_write, empty_table}
+use Rattle.table_state.specs.Tables.{Table, with_write, empty_table}
 use Rattle.leaf_table.specs.declared.base.TableBase.{TableBase}
 use Rattle.leaf_table.specs.declared.turns.Turn.{Turn}
 use Rattle.leaf_table.specs.declared.turns.Turn.TheVariants as turn
@@ -95,20 +94,6 @@ record_push name (x ∷ ws) w = refl
 
 record_end : (name : List ℕ) (ws : List Write) → [] ≡ ws → None ≡ record_for name ws
 record_end name ws is = ap (record_for name) is
-
-record_named : (name : List ℕ) (ws : List Write) → IfSome (record_for name ws) (λ r. r.name ≡ name)
-record_named name [] = search rules
-record_named name (w ∷ ws) = search rules
-
--- an open table may be written to
-pub may_write : (name : List ℕ) (s : TableState) (n : ℕ) (v : LeafTable) → IsTableOf name s n v → n + 1 ≤ 2 ^ 63 → v.live ≡ true → MayWrite v.name v.table
-may_write name s n v i small opened_is =
-    let live : s.live ≡ true = sym i.live ∙ opened_is in
-    let few = i.few live in record {
-      short = subst (λ (x : List ℕ). length x ≤ 255) (sym i.named) i.short;
-      same = subst (λ (x : List ℕ). IfSome v.table.pending (λ r. r.name ≡ x)) (sym i.named) (subst (λ (p : Option LogRecord). IfSome p (λ r. r.name ≡ name)) (sym (i.pending live)) (record_named name (untaken s)));
-      room = omega (arith, few, small);
-    }
 
 -- an open table after one more write
 writes_on : (name : List ℕ) (s : TableState) (n : ℕ) (v : LeafTable) (w : Write) → IsCounted s → IsTableOf name s n v → s.live ≡ true → IsTableOf name (written s w) (n + 1) (record v { table = with_write v.name v.table w })

@@ -1,4 +1,5 @@
 -- What a seat knows of the table while others take their turns, and what its own turn tells it.
+use Rattle.std.specs.Prelude.{if◌then◌else◌}
 use Rattle.std.proofs.Common.{◌≡◌, ◌≢◌, ◌⊎◌, inl, inr, ℕ, zero, suc, ◌+◌, ◌<◌, ◌≤◌, ◌^◌, Bool, true, false, List, [], ◌∷◌, ◌++◌, length, refl, sym, ap, ◌∙◌, subst, Option, Some, None, arith}
 use Rattle.turnstile.specs.declared.object.Entry as turnstile
 use Rattle.turnstile.specs.Seats.{Others, Owns, Called}
@@ -7,7 +8,8 @@ use Rattle.leaf_history.specs.Calls.{Call}
 use Rattle.leaf_history.specs.Calls as call
 use Rattle.leaf_history.specs.Replies.{Reply}
 use Rattle.leaf_history.specs.Replies as reply
-use Rattle.leaf_history.specs.History.{Entry, TableState, LegalFrom, Allowed, after, after_entry}
+use Rattle.leaf_model.specs.Content.{Contents}
+use Rattle.leaf_history.specs.History.{opened, changed, is_refusal, Entry, TableState, LegalFrom, Allowed, after, after_entry}
 use Rattle.leaf_history.specs.Laws.{AreCallers, Keeps}
 use Rattle.leaf_history.proofs.Histories.{others_keep, LegalFrom-front, LegalFrom-back, after-append}
 use Rattle.leaf_table.specs.declared.base.TableBase.{TableBase}
@@ -18,7 +20,7 @@ use Rattle.leaf_table.specs.declared.turns.Answer.{Answer}
 use Rattle.leaf_table.specs.declared.turns.Answer.TheVariants as answer
 use Rattle.leaf_table.specs.declared.replies.ClosedTable.{ClosedTable}
 use Rattle.leaf_table.specs.Turns.{Turns, is_founded, start_of, call_of, reply_of, told, history, HandsOut, Hands, HandsFrom, OverFew, LegalTurns, state_after, MayHandIn, MayNow}
-use Rattle.leaf_table.specs.Calls.{SeatView, entry_of, AreOthers, Made, MadeTurn, seen_of, state_seen, state_of, state_before, IsSteward, ClosedBy}
+use Rattle.leaf_table.specs.Calls.{SameSeat, SeatView, entry_of, AreOthers, Made, MadeTurn, seen_of, state_seen, state_of, state_before, IsSteward, ClosedBy}
 use Rattle.leaf_table.specs.Laws.{StewardKnows}
 
 history_append : (xs ys : Turns) → history (xs ++ ys) ≡ history xs ++ history ys
@@ -133,3 +135,39 @@ known_after base clock v w c r m = ap (after (is_founded base) (start_of base)) 
 
 pub steward_knows : StewardKnows
 steward_knows = λ base clock v w c r m. record { others = others_kept base clock v w c r m; now = known_after base clock v w c r m }
+
+pub same_seat : (base : Option TableBase) (clock : ℕ) (v w : SeatView) (c : Call) (r : Reply) → Made base clock v c r w → SameSeat v w
+same_seat base clock v w c r m = let room = m.room.1 in record { id = ap (λ (u : SeatView). u.id) m.place; share = ap (λ (u : SeatView). u.share) m.place; room = omega (arith, room) }
+
+pub unused_shut : (base : Option TableBase) → (start_of base).live ≡ false
+unused_shut (Some b) = refl
+unused_shut None = refl
+
+opened_live : (founded : Bool) (s : TableState) (n : ℕ) (contents : Contents) → (opened founded s n contents).live ≡ true
+opened_live true s n contents = refl
+opened_live false s n contents = refl
+
+either_live : (refused : Bool) (s t : TableState) → t.live ≡ s.live → (if refused then s else t).live ≡ s.live
+either_live true s t is = refl
+either_live false s t is = is
+
+pub open_after_take : (base : Option TableBase) (clock n : ℕ) (v w : SeatView) → Made base clock v call.Take (reply.Counted n) w → IsSteward v → 0 < v.share → (state_seen base v).live ≡ true → (state_seen base w).live ≡ true
+open_after_take base clock n v w m steward share is = ap (λ (s : TableState). s.live) (known_after base clock v w call.Take (reply.Counted n) m) ∙ ((others_kept base clock v w call.Take (reply.Counted n) m steward share).live ∙ is)
+
+pub taken_after_take : (base : Option TableBase) (clock n : ℕ) (v w : SeatView) → Made base clock v call.Take (reply.Counted n) w → (state_seen base w).taken ≡ n
+taken_after_take base clock n v w m = ap (λ (s : TableState). s.taken) (known_after base clock v w call.Take (reply.Counted n) m) ∙ sym m.allowed.2
+
+pub live_after_flushed : (base : Option TableBase) (clock n : ℕ) (v w : SeatView) (r : Reply) → Made base clock v (call.Flushed n) r w → IsSteward v → 0 < v.share → (state_seen base w).live ≡ (state_seen base v).live
+live_after_flushed base clock n v w r m steward share = let s = state_before base v m.between in
+    ap (λ (x : TableState). x.live) (known_after base clock v w (call.Flushed n) r m) ∙ (either_live (is_refusal r) s (changed (is_founded base) s (call.Flushed n)) refl ∙ (others_kept base clock v w (call.Flushed n) r m steward share).live)
+
+pub shut_after_shut : (base : Option TableBase) (clock n : ℕ) (v w : SeatView) → Made base clock v call.Shut (reply.Counted n) w → (state_seen base w).live ≡ false
+shut_after_shut base clock n v w m = ap (λ (s : TableState). s.live) (known_after base clock v w call.Shut (reply.Counted n) m)
+
+pub shut_after_done : (base : Option TableBase) (clock : ℕ) (v w : SeatView) (r : Reply) → Made base clock v call.Done r w → (state_seen base w).live ≡ false
+shut_after_done base clock v w r m = let s = state_before base v m.between in
+    ap (λ (x : TableState). x.live) (known_after base clock v w call.Done r m) ∙ (either_live (is_refusal r) s (changed (is_founded base) s call.Done) refl ∙ m.allowed.1)
+
+pub open_after_open : (base : Option TableBase) (clock n : ℕ) (contents : Contents) (v w : SeatView) (r : Reply) → Made base clock v (call.Open n contents) r w → (state_seen base w).live ≡ true
+open_after_open base clock n contents v w r m = let f = is_founded base in let s = state_before base v m.between in
+    ap (λ (x : TableState). x.live) (known_after base clock v w (call.Open n contents) r m) ∙ (ap (λ (x : Reply). (if is_refusal x then s else opened f s n contents).live) m.allowed.3 ∙ opened_live f s n contents)

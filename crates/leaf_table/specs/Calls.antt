@@ -88,6 +88,19 @@ IsCaller v = 0 < v.id
 abbrev pub IsSteward : SeatView → Type 0
 IsSteward v = (v.id ≡ 0) × (v.share ≤ v.room)
 
+-- the seat has its ids still, and room for at most one entry less
+pub record SameSeat (v w : SeatView) : Type 0 where
+  pub id : w.id ≡ v.id
+  pub share : w.share ≡ v.share
+  pub room : v.room ≤ w.room + 1
+
+-- the seat has seen the table open, or shut
+abbrev pub SeesOpen : Shared → SeatView → Type 0
+SeesOpen t v = (state_seen (base_of t) v).live ≡ true
+
+abbrev pub SeesShut : Shared → SeatView → Type 0
+SeesShut t v = (state_seen (base_of t) v).live ≡ false
+
 -- the reply of an entry, with its number
 abbrev pub Tells : ℕ → Reply → shared.Reply → Type 0
 Tells n (reply.Added kept late) x = x ≡ told.Added n kept late
@@ -136,3 +149,8 @@ pub record ClosedBy (name : List ℕ) (base : Option TableBase) (clock : ℕ) (v
 abbrev pub ReopenedBy : Option TableBase → ℕ → SeatView → ℕ → Table → Result ℕ Table → SeatView → Type 0
 ReopenedBy base clock v writes table (Ok n) w = IsFresh v × (n ≡ length w.seen) × Made base clock v (call.Open writes table.contents) reply.Noted w
 ReopenedBy base clock v writes table (Err t) w = IsWorn v × (t ≡ table) × (w ≡ v)
+
+-- the steward has taken as many writes as it was told
+abbrev pub HasTaken : Shared → Taken → SeatView → Type 0
+HasTaken t (taken.Took number writes pending) w = (state_seen (base_of t) w).taken ≡ writes
+HasTaken t taken.Worn w = ⊤

@@ -5,7 +5,7 @@ ghost use Rattle.turnstile.specs.Seats.{IsSeatOf};
 ghost use Rattle.leaf_model.specs.Values.{IsRow, IsTime};
 ghost use Rattle.leaf_history.specs.Calls as call;
 ghost use Rattle.leaf_table.specs.Turns.{IsAsk};
-ghost use Rattle.leaf_table.specs.Calls.{base_of, IsCaller, Answered};
+ghost use Rattle.leaf_table.specs.Calls.{base_of, IsCaller, SameSeat, Answered};
 
 use crate::replies::{Reply, numbered};
 use crate::shared::{Seat, SharedTable};
@@ -26,6 +26,7 @@ impl SharedTable {
         requires caller { IsCaller seat.old }
         requires rows { AllByRecursion IsRow rows }
         ensures seat { IsSeatOf seat.new self.now.site }
+        ensures same { SameSeat seat.old seat.new }
         ensures made { Answered (base_of self.now) seat.old (call.Add rows) result seat.new }
     {
         if seat.seen() >= WORN {
@@ -47,6 +48,7 @@ impl SharedTable {
         requires caller { IsCaller seat.old }
         requires horizon { IsTime horizon }
         ensures seat { IsSeatOf seat.new self.now.site }
+        ensures same { SameSeat seat.old seat.new }
         ensures made { Answered (base_of self.now) seat.old (call.Expire horizon) result seat.new }
     {
         if seat.seen() >= WORN {
@@ -61,6 +63,7 @@ impl SharedTable {
         requires seat { IsSeatOf seat.old self.now.site }
         requires caller { IsCaller seat.old }
         ensures seat { IsSeatOf seat.new self.now.site }
+        ensures same { SameSeat seat.old seat.new }
         ensures made { Answered (base_of self.now) seat.old (call.Keep n) result seat.new }
     {
         if seat.seen() >= WORN {
@@ -75,13 +78,14 @@ impl SharedTable {
         requires seat { IsSeatOf seat.old self.now.site }
         requires caller { IsCaller seat.old }
         ensures seat { IsSeatOf seat.new self.now.site }
+        ensures same { SameSeat seat.old seat.new }
         ensures made { Answered (base_of self.now) seat.old (call.Ask query.now) result seat.new }
     {
         if seat.seen() >= WORN {
             return Reply::Worn;
         }
-        let turn = ask_turn(query);
-        let answer = self.turn::<Brand, R, G>(rt, seat, turn, gate);
+        let asking = ask_turn(query);
+        let answer = self.turn::<Brand, R, G>(rt, seat, asking, gate);
         numbered(seat.seen(), answer)
     }
 }

@@ -2,7 +2,7 @@
 ghost use Rattle.std.specs.Prelude.{◌≡◌, ◌<◌, ◌≤◌, length, IfOk, IsOk};
 ghost use Rattle.turnstile.specs.Seats.{IsSeatOf, HasRoom, Joined, Told, keeps_all_but, given, unused_seat};
 ghost use Rattle.leaf_table.specs.Turns.{is_founded, MayNow};
-ghost use Rattle.leaf_table.specs.Calls.{base_of, name_of, state_seen, IsSteward, MadeTurn};
+ghost use Rattle.leaf_table.specs.Calls.{base_of, name_of, state_seen, IsSteward, SeesShut, MadeTurn};
 
 use crate::base::{Founds, origin_of};
 use crate::turns::{Answer, Turn};
@@ -54,6 +54,7 @@ impl SharedTable {
         ensures base { IfOk result (λ t. base_of t.0 ≡ N.base leaf table) }
         ensures steward { IfOk result (λ t. t.1 ≡ unused_seat t.0.site 0 1 1024) }
         ensures caller { IfOk result (λ t. t.2 ≡ unused_seat t.0.site 1 share share) }
+        ensures shut { IfOk result (λ t. SeesShut t.0 t.1) }
         ensures seats { IfOk result (λ t. IsSeatOf t.1 t.0.site × IsSeatOf t.2 t.0.site) }
     {
         let origin = origin_of::<N>(alloc, leaf, table, name)?;

@@ -1,10 +1,10 @@
 // The calls of the leaf's steward. None of them takes memory. Each entry carries the berth's clock as it is at the call.
-ghost use Rattle.std.specs.Prelude.{◌≡◌, ◌≤◌, true, false, length};
+ghost use Rattle.std.specs.Prelude.{◌≡◌, ◌≤◌, length, OnOk};
 ghost use Rattle.turnstile.specs.Seats.{IsSeatOf};
 ghost use Rattle.leaf_history.specs.Calls as call;
 ghost use Rattle.leaf_history.specs.Replies as reply;
 ghost use Rattle.leaf_table.specs.Turns.{is_founded, MayHandIn};
-ghost use Rattle.leaf_table.specs.Calls.{base_of, name_of, state_seen, IsSteward, Made, TookBy, ClosedBy, ReopenedBy};
+ghost use Rattle.leaf_table.specs.Calls.{base_of, name_of, state_seen, IsSteward, SameSeat, SeesOpen, SeesShut, HasTaken, Made, TookBy, ClosedBy, ReopenedBy};
 
 use crate::callers::WORN;
 use crate::replies::{ClosedTable, Taken};
@@ -25,8 +25,11 @@ impl SharedTable {
     ) -> Taken
         requires seat { IsSeatOf steward.old self.now.site }
         requires steward { IsSteward steward.old }
-        requires open { (state_seen (base_of self.now) steward.old).live ≡ true }
+        requires open { SeesOpen self.now steward.old }
         ensures seat { IsSeatOf steward.new self.now.site }
+        ensures same { SameSeat steward.old steward.new }
+        ensures open { SeesOpen self.now steward.new }
+        ensures taken { HasTaken self.now result steward.new }
         ensures made { TookBy (name_of self.now) (base_of self.now) (B.meaning berth.now).clock steward.old result steward.new }
     {
         if steward.seen() >= WORN {
@@ -62,7 +65,9 @@ impl SharedTable {
         requires steward { IsSteward steward.old }
         requires taken { writes ≤ (state_seen (base_of self.now) steward.old).taken }
         ensures seat { IsSeatOf steward.new self.now.site }
+        ensures same { SameSeat steward.old steward.new }
         ensures number { result ≡ length steward.new.seen }
+        ensures live { (state_seen (base_of self.now) steward.new).live ≡ (state_seen (base_of self.now) steward.old).live }
         ensures made { Made (base_of self.now) (B.meaning berth.now).clock steward.old (call.Flushed writes) reply.Noted steward.new }
     {
         self.steward_turn(rt, steward, Turn::Flushed(writes), berth, gate);
@@ -79,8 +84,10 @@ impl SharedTable {
     ) -> ClosedTable
         requires seat { IsSeatOf steward.old self.now.site }
         requires steward { IsSteward steward.old }
-        requires open { (state_seen (base_of self.now) steward.old).live ≡ true }
+        requires open { SeesOpen self.now steward.old }
         ensures seat { IsSeatOf steward.new self.now.site }
+        ensures same { SameSeat steward.old steward.new }
+        ensures shut { SeesShut self.now steward.new }
         ensures closed { ClosedBy (name_of self.now) (base_of self.now) (B.meaning berth.now).clock steward.old result steward.new }
     {
         match self.steward_turn(rt, steward, Turn::Shut, berth, gate) {
@@ -110,9 +117,11 @@ impl SharedTable {
     ) -> u64
         requires seat { IsSeatOf steward.old self.now.site }
         requires steward { IsSteward steward.old }
-        requires shut { (state_seen (base_of self.now) steward.old).live ≡ false }
+        requires shut { SeesShut self.now steward.old }
         ensures seat { IsSeatOf steward.new self.now.site }
+        ensures same { SameSeat steward.old steward.new }
         ensures number { result ≡ length steward.new.seen }
+        ensures shut { SeesShut self.now steward.new }
         ensures made { Made (base_of self.now) (B.meaning berth.now).clock steward.old call.Done reply.Noted steward.new }
     {
         self.steward_turn(rt, steward, Turn::Done, berth, gate);
@@ -132,9 +141,11 @@ impl SharedTable {
     ) -> Result<u64, TableState>
         requires seat { IsSeatOf steward.old self.now.site }
         requires steward { IsSteward steward.old }
-        requires shut { (state_seen (base_of self.now) steward.old).live ≡ false }
+        requires shut { SeesShut self.now steward.old }
         requires content { MayHandIn (is_founded (base_of self.now)) (state_seen (base_of self.now) steward.old) writes table }
         ensures seat { IsSeatOf steward.new self.now.site }
+        ensures same { SameSeat steward.old steward.new }
+        ensures open { OnOk result (SeesOpen self.now steward.new) }
         ensures made { ReopenedBy (base_of self.now) (B.meaning berth.now).clock steward.old writes table result steward.new }
     {
         if steward.seen() >= WORN {
