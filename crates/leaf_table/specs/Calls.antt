@@ -1,0 +1,156 @@
+-- What a call on a shared table asks of its seat and tells it.
+use Rattle.std.specs.Prelude.{◌≡◌, ◌⊎◌, ◌≢◌, ℕ, ◌+◌, ◌<◌, ◌≤◌, ◌^◌, true, false, List, [], ◌∷◌, ◌++◌, length, Option, Some, Result, Ok, Err, ⊤}
+use Rattle.std.specs.List.{AllByRecursion}
+use Rattle.turnstile.specs.Seats.{Standing, Owns}
+use Rattle.leaf_history.specs.Calls.{Call}
+use Rattle.leaf_history.specs.Calls as call
+use Rattle.leaf_history.specs.Replies.{Reply}
+use Rattle.leaf_history.specs.Replies as reply
+use Rattle.leaf_history.specs.History.{Entry, TableState, LegalFrom, Allowed, after, held}
+use Rattle.table_state.specs.Tables.{Table}
+use Rattle.leaf_table.specs.declared.base.TableBase.{TableBase}
+use Rattle.leaf_table.specs.declared.base.Origin.{Origin}
+use Rattle.leaf_table.specs.declared.turns.Turn.{Turn}
+use Rattle.leaf_table.specs.declared.turns.Answer.{Answer}
+use Rattle.leaf_table.specs.declared.replies.Reply as shared
+use Rattle.leaf_table.specs.declared.replies.Reply.TheVariants as told
+use Rattle.leaf_table.specs.declared.replies.Taken.{Taken}
+use Rattle.leaf_table.specs.declared.replies.Taken.TheVariants as taken
+use Rattle.leaf_table.specs.declared.replies.ClosedTable.{ClosedTable}
+use Rattle.leaf_table.specs.Turns.{Shared, is_founded, start_of, call_of, reply_of, history, HandsOut, OverFew, untaken_record}
+
+-- what the table was founded with, if it was
+abbrev pub base_of : Shared → Option TableBase
+base_of t = t.site.base.base
+
+-- its name
+abbrev pub name_of : Shared → List ℕ
+name_of t = t.site.base.name.value
+
+-- a seat at a table
+abbrev pub SeatView : Type 0
+SeatView = Standing Origin Turn Answer
+
+-- one entry
+abbrev pub entry_of : ℕ → ℕ → Call → Reply → Entry
+entry_of caller clock c r = record { caller = caller; call = c; reply = r; clock = clock }
+
+-- the table's state after a history
+abbrev pub state_of : Option TableBase → List Entry → TableState
+state_of base h = after (is_founded base) (start_of base) h
+
+-- the seat has seen 2^62 entries
+abbrev pub IsWorn : SeatView → Type 0
+IsWorn v = 2 ^ 62 ≤ length v.seen
+
+-- it has seen fewer
+abbrev pub IsFresh : SeatView → Type 0
+IsFresh v = length v.seen < 2 ^ 62
+
+-- what the seat has seen
+abbrev pub seen_of : SeatView → List Entry
+seen_of v = history v.seen
+
+-- the table as the seat has seen it last
+abbrev pub state_seen : Option TableBase → SeatView → TableState
+state_seen base v = state_of base (seen_of v)
+
+-- entries of other seats
+abbrev pub AreOthers : SeatView → List Entry → Type 0
+AreOthers v es = AllByRecursion (λ (e : Entry). ¬ Owns v e.caller) es
+
+-- the table just before the call's own entry
+abbrev pub state_before : Option TableBase → SeatView → List Entry → TableState
+state_before base v between = state_of base (seen_of v ++ between)
+
+-- One entry was made: this call with this reply. Before it others may have made theirs.
+pub record Made (base : Option TableBase) (clock : ℕ) (v : SeatView) (c : Call) (r : Reply) (w : SeatView) : Type 0 where
+  pub between : List Entry
+  pub seen : seen_of w ≡ (seen_of v ++ between) ++ entry_of v.id clock c r ∷ []
+  pub others : AreOthers v between
+  pub legal : LegalFrom (is_founded base) (start_of base) (seen_of w)
+  pub allowed : Allowed (is_founded base) (state_before base v between) v.id c r
+  pub few : OverFew (state_before base v between) r
+  -- the seat's ids stay
+  pub place : w ≡ record v { seen = w.seen; room = w.room }
+  -- only an entry after the 2^62nd takes room
+  pub room : (w.room ≤ v.room) × (v.room ≤ w.room + 1) × (length w.seen ≤ 2 ^ 62 → w.room ≡ v.room)
+
+-- the same of a turn, with what it hands out
+abbrev pub MadeTurn : List ℕ → Option TableBase → ℕ → SeatView → Turn → Answer → SeatView → Type 0
+MadeTurn name base clock v t a w = (m : Made base clock v (call_of t) (reply_of a) w) × HandsOut name (state_before base v m.between) t a
+
+-- a caller's seat
+abbrev pub IsCaller : SeatView → Type 0
+IsCaller v = 0 < v.id
+
+-- the steward's seat, which has made fewer than 1,024 entries after the 2^62nd
+abbrev pub IsSteward : SeatView → Type 0
+IsSteward v = (v.id ≡ 0) × (v.share ≤ v.room)
+
+-- the seat has its ids still, and room for at most one entry less
+pub record SameSeat (v w : SeatView) : Type 0 where
+  pub id : w.id ≡ v.id
+  pub share : w.share ≡ v.share
+  pub room : v.room ≤ w.room + 1
+
+-- the seat has seen the table open, or shut
+abbrev pub SeesOpen : Shared → SeatView → Type 0
+SeesOpen t v = (state_seen (base_of t) v).live ≡ true
+
+abbrev pub SeesShut : Shared → SeatView → Type 0
+SeesShut t v = (state_seen (base_of t) v).live ≡ false
+
+-- the reply of an entry, with its number
+abbrev pub Tells : ℕ → Reply → shared.Reply → Type 0
+Tells n (reply.Added kept late) x = x ≡ told.Added n kept late
+Tells n (reply.Groups gs) x = x ≡ told.Groups n gs
+Tells n reply.Shut x = x ≡ told.Shut n
+Tells n reply.Full x = x ≡ told.Full n
+Tells n reply.NoMemory x = x ≡ told.NoMemory n
+Tells n (reply.Removed k) x = x ≡ told.Removed n k
+Tells n (reply.Counted k) x = ⊥
+Tells n reply.Noted x = ⊥
+
+-- a reply to a caller
+abbrev pub IsCallers : Reply → Type 0
+IsCallers (reply.Counted k) = ⊥
+IsCallers reply.Noted = ⊥
+IsCallers _ = ⊤
+
+-- an entry was made, whose reply is told with its number
+abbrev pub Replied : Option TableBase → SeatView → Call → shared.Reply → SeatView → Type 0
+Replied base v c x w = IsFresh v × (r : Reply) × Made base 0 v c r w × Tells (length w.seen) r x
+
+-- a caller's call: its entry has the reply that is told; a worn seat makes none
+abbrev pub Answered : Option TableBase → SeatView → Call → shared.Reply → SeatView → Type 0
+Answered base v c told.Worn w = IsWorn v × (w ≡ v)
+Answered base v c (told.Added number kept late) w = Replied base v c (told.Added number kept late) w
+Answered base v c (told.Removed number rows) w = Replied base v c (told.Removed number rows) w
+Answered base v c (told.Groups number gs) w = Replied base v c (told.Groups number gs) w
+Answered base v c (told.Shut number) w = Replied base v c (told.Shut number) w
+Answered base v c (told.Full number) w = Replied base v c (told.Full number) w
+Answered base v c (told.NoMemory number) w = Replied base v c (told.NoMemory number) w
+
+-- the steward took the record of the writes that were not taken
+abbrev pub TookBy : List ℕ → Option TableBase → ℕ → SeatView → Taken → SeatView → Type 0
+TookBy name base clock v (taken.Took number writes pending) w = IsFresh v × (number ≡ length w.seen) × (m : Made base clock v call.Take (reply.Counted writes) w) × (pending ≡ untaken_record name (state_before base v m.between))
+TookBy name base clock v taken.Worn w = IsWorn v × (w ≡ v)
+
+-- the steward shut the table and has its content
+pub record ClosedBy (name : List ℕ) (base : Option TableBase) (clock : ℕ) (v : SeatView) (x : ClosedTable) (w : SeatView) : Type 0 where
+  pub number : x.number ≡ length w.seen
+  pub made : Made base clock v call.Shut (reply.Counted x.writes) w
+  pub writes : x.table.writes ≡ x.writes
+  pub contents : x.table.contents ≡ held (state_before base v made.between)
+  pub pending : x.table.pending ≡ untaken_record name (state_before base v made.between)
+
+-- the table was opened again with what was handed in; a worn seat has it back
+abbrev pub ReopenedBy : Option TableBase → ℕ → SeatView → ℕ → Table → Result ℕ Table → SeatView → Type 0
+ReopenedBy base clock v writes table (Ok n) w = IsFresh v × (n ≡ length w.seen) × Made base clock v (call.Open writes table.contents) reply.Noted w
+ReopenedBy base clock v writes table (Err t) w = IsWorn v × (t ≡ table) × (w ≡ v)
+
+-- the steward has taken as many writes as it was told
+abbrev pub HasTaken : Shared → Taken → SeatView → Type 0
+HasTaken t (taken.Took number writes pending) w = (state_seen (base_of t) w).taken ≡ writes
+HasTaken t taken.Worn w = ⊤

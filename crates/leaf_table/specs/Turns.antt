@@ -1,0 +1,159 @@
+-- What a list of turns means: a history, and what each turn hands in and out.
+use Rattle.std.specs.Prelude.{◌≡◌, ◌⊎◌, ℕ, ◌+◌, ◌<◌, ◌≤◌, ◌^◌, Bool, true, false, List, [], ◌∷◌, length, map, Option, Some, None, ⊤}
+use Rattle.std.specs.List.{AllByRecursion}
+use Rattle.turnstile.specs.declared.object.Entry as turnstile
+use Rattle.turnstile.specs.Seats.{Site}
+use Rattle.leaf_model.specs.declared.queries.Query.{Query}
+use Rattle.leaf_model.specs.declared.writes.Write.{Write}
+use Rattle.leaf_model.specs.Values.{IsRow, IsTime}
+use Rattle.leaf_history.specs.Calls.{Call}
+use Rattle.leaf_history.specs.Calls as call
+use Rattle.leaf_history.specs.Replies.{Reply}
+use Rattle.leaf_history.specs.Replies as reply
+use Rattle.leaf_history.specs.History.{Entry, TableState, base_of, no_base, LegalFrom, OpenAllowed, after, after_entry, held, untaken, write_count}
+use Rattle.row_records.specs.Records.{LogRecord}
+use Rattle.table_state.specs.Tables.{Table}
+use Rattle.leaf_table.specs.declared.base.TableBase.{TableBase}
+use Rattle.leaf_table.specs.declared.base.Origin.{Origin}
+use Rattle.leaf_table.specs.declared.turns.Turn.{Turn}
+use Rattle.leaf_table.specs.declared.turns.Turn.TheVariants as turn
+use Rattle.leaf_table.specs.declared.turns.Answer.{Answer}
+use Rattle.leaf_table.specs.declared.turns.Answer.TheVariants as answer
+use Rattle.leaf_table.specs.declared.value.LeafTable.{LeafTable}
+
+-- a shared table: the numbers of its leaf and of itself, its turnstile, and what it was made with
+pub record Shared : Type 0 where
+  pub leaf : ℕ
+  pub table : ℕ
+  pub site : Site Origin
+
+-- a list of turns, with what each of them answered
+abbrev pub Turns : Type 0
+Turns = List (turnstile.Entry Turn Answer)
+
+-- a table is founded where it has a base
+abbrev pub is_founded : Option TableBase → Bool
+is_founded (Some b) = true
+is_founded None = false
+
+-- where it begins
+abbrev pub start_of : Option TableBase → TableState
+start_of (Some b) = base_of b.writes b.flushed
+start_of None = no_base
+
+-- the call that a turn makes
+abbrev pub call_of : Turn → Call
+call_of (turn.Add rows) = call.Add rows
+call_of (turn.Expire horizon) = call.Expire horizon
+call_of (turn.Keep n) = call.Keep n
+call_of (turn.Ask query copy) = call.Ask query.value
+call_of turn.Take = call.Take
+call_of (turn.Flushed n) = call.Flushed n
+call_of turn.Shut = call.Shut
+call_of turn.Done = call.Done
+call_of (turn.Open n table) = call.Open n table.contents
+
+-- the turn asks this query, with a copy of it or none
+abbrev pub IsAsk : Query → Turn → Type 0
+IsAsk q (turn.Ask query copy) = (query.value ≡ q) × ((copy ≡ None) ⊎ (copy ≡ Some q))
+IsAsk q (turn.Add rows) = ⊥
+IsAsk q (turn.Expire horizon) = ⊥
+IsAsk q (turn.Keep n) = ⊥
+IsAsk q turn.Take = ⊥
+IsAsk q (turn.Flushed n) = ⊥
+IsAsk q turn.Shut = ⊥
+IsAsk q turn.Done = ⊥
+IsAsk q (turn.Open n table) = ⊥
+
+-- the reply that an answer tells
+abbrev pub reply_of : Answer → Reply
+reply_of (answer.Added kept late) = reply.Added kept late
+reply_of (answer.Removed rows) = reply.Removed rows
+reply_of (answer.Groups gs) = reply.Groups gs
+reply_of answer.Shut = reply.Shut
+reply_of answer.Full = reply.Full
+reply_of answer.NoMemory = reply.NoMemory
+reply_of (answer.Took writes pending) = reply.Counted writes
+reply_of (answer.Closed table) = reply.Counted table.writes
+reply_of answer.Noted = reply.Noted
+
+-- the entry that a turn is
+abbrev pub told : turnstile.Entry Turn Answer → Entry
+told e = record { caller = e.by; call = call_of e.call; reply = reply_of e.reply; clock = e.clock }
+
+-- the history that these turns are
+abbrev pub history : Turns → List Entry
+history h = map told h
+
+-- the record of a table's writes: none where there are no writes
+abbrev pub record_for : List ℕ → List Write → Option LogRecord
+record_for name [] = None
+record_for name (w ∷ ws) = Some (record { name = name; writes = w ∷ ws })
+
+-- the record of the writes of a table that were not taken
+abbrev pub untaken_record : List ℕ → TableState → Option LogRecord
+untaken_record name s = record_for name (untaken s)
+
+-- a take hands out the record of the writes that were not taken, and a shut the table with them
+abbrev pub HandsOut : List ℕ → TableState → Turn → Answer → Type 0
+HandsOut name s turn.Take (answer.Took writes pending) = pending ≡ untaken_record name s
+HandsOut name s turn.Take _ = ⊥
+HandsOut name s turn.Shut (answer.Closed table) = (table.contents ≡ held s) × (table.pending ≡ untaken_record name s)
+HandsOut name s turn.Shut _ = ⊥
+HandsOut name s _ _ = ⊤
+
+-- groups are told over at most 2^40 rows
+abbrev pub OverFew : TableState → Reply → Type 0
+OverFew s (reply.Groups gs) = length (held s).rows ≤ 2 ^ 40
+OverFew s _ = ⊤
+
+abbrev pub Hands : List ℕ → TableState → Turn → Answer → Type 0
+Hands name s t a = HandsOut name s t a × OverFew s (reply_of a)
+
+abbrev pub HandsFrom : List ℕ → Bool → TableState → Turns → Type 0
+HandsFrom name founded s [] = ⊤
+HandsFrom name founded s (e ∷ es) = Hands name s e.call e.reply × HandsFrom name founded (after_entry founded s (told e)) es
+
+-- the turns are a legal history, and each hands out what it owes
+pub record LegalTurns (name : List ℕ) (base : Option TableBase) (h : Turns) : Type 0 where
+  pub legal : LegalFrom (is_founded base) (start_of base) (history h)
+  pub hands : HandsFrom name (is_founded base) (start_of base) h
+
+-- the table's state after these turns
+abbrev pub state_after : Option TableBase → Turns → TableState
+state_after base h = after (is_founded base) (start_of base) (history h)
+
+-- an open table holds what its history says, and the record of the writes that were not taken
+pub record IsTableOf (name : List ℕ) (s : TableState) (n : ℕ) (v : LeafTable) : Type 0 where
+  pub named : v.name ≡ name
+  pub short : length name ≤ 255
+  pub live : v.live ≡ s.live
+  pub contents : s.live ≡ true → v.table.contents ≡ held s
+  pub writes : s.live ≡ true → v.table.writes ≡ write_count s
+  pub pending : s.live ≡ true → v.table.pending ≡ untaken_record name s
+  pub few : s.live ≡ true → v.table.writes < 2 ^ 63 + n
+
+abbrev pub StandsFor : List ℕ → Option TableBase → Turns → LeafTable → Type 0
+StandsFor name base h v = IsTableOf name (state_after base h) (length h) v
+
+-- a table that is handed in: nothing is pending, and it had n writes
+pub record MayHandIn (founded : Bool) (s : TableState) (n : ℕ) (table : Table) : Type 0 where
+  pub pending : table.pending ≡ None
+  pub writes : table.writes ≡ n
+  pub small : n < 2 ^ 63
+  pub allowed : OpenAllowed founded s n table.contents
+
+-- who may take which turn in this state: the steward shuts what is open and opens what is shut
+abbrev pub MayNow : Bool → TableState → ℕ → Turn → Type 0
+MayNow founded s by (turn.Add rows) = (0 < by) × AllByRecursion IsRow rows
+MayNow founded s by (turn.Expire horizon) = (0 < by) × IsTime horizon
+MayNow founded s by (turn.Keep n) = 0 < by
+MayNow founded s by (turn.Ask query copy) = (0 < by) × ((copy ≡ None) ⊎ (copy ≡ Some query.value))
+MayNow founded s by turn.Take = (by ≡ 0) × (s.live ≡ true)
+MayNow founded s by (turn.Flushed n) = (by ≡ 0) × (n ≤ s.taken)
+MayNow founded s by turn.Shut = (by ≡ 0) × (s.live ≡ true)
+MayNow founded s by turn.Done = (by ≡ 0) × (s.live ≡ false)
+MayNow founded s by (turn.Open n table) = (by ≡ 0) × (s.live ≡ false) × MayHandIn founded s n table
+
+abbrev pub MayTurn : Option TableBase → Turns → ℕ → Turn → Type 0
+MayTurn base h by t = MayNow (is_founded base) (state_after base h) by t

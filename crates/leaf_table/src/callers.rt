@@ -1,0 +1,105 @@
+// The calls of a caller.
+ghost use Rattle.std.specs.Prelude.{◌≡◌};
+ghost use Rattle.std.specs.List.{AllByRecursion};
+ghost use Rattle.turnstile.specs.Seats.{IsSeatOf};
+ghost use Rattle.leaf_model.specs.Values.{IsRow, IsTime};
+ghost use Rattle.leaf_history.specs.Calls as call;
+ghost use Rattle.leaf_table.specs.Turns.{IsAsk};
+ghost use Rattle.leaf_table.specs.Calls.{base_of, IsCaller, SameSeat, Answered};
+
+use crate::replies::{Reply, numbered};
+use crate::shared::{Seat, SharedTable};
+use crate::turns::Turn;
+use berth_face::Gate;
+use leaf_model::{Query, Rows};
+use std::marker::Brand;
+use std::snapshot::Snapshot;
+use std::sync::Wait;
+
+/// From here on a seat makes no more entries.
+pub(crate) const WORN: u64 = 1 << 62;
+
+impl SharedTable {
+    /// Adds rows to the table, where it is open.
+    pub fn add<R: Wait, G: Gate>(&self, rt: &R, seat: &mut Seat, rows: Rows, gate: &G) -> Reply
+        requires seat { IsSeatOf seat.old self.now.site }
+        requires caller { IsCaller seat.old }
+        requires rows { AllByRecursion IsRow rows }
+        ensures seat { IsSeatOf seat.new self.now.site }
+        ensures same { SameSeat seat.old seat.new }
+        ensures made { Answered (base_of self.now) seat.old (call.Add rows) result seat.new }
+    {
+        if seat.seen() >= WORN {
+            return Reply::Worn;
+        }
+        let answer = self.turn::<Brand, R, G>(rt, seat, Turn::Add(rows), gate);
+        numbered(seat.seen(), answer)
+    }
+
+    /// Raises the horizon of the table, where it is open.
+    pub fn expire<R: Wait, G: Gate>(
+        &self,
+        rt: &R,
+        seat: &mut Seat,
+        horizon: i64,
+        gate: &G,
+    ) -> Reply
+        requires seat { IsSeatOf seat.old self.now.site }
+        requires caller { IsCaller seat.old }
+        requires horizon { IsTime horizon }
+        ensures seat { IsSeatOf seat.new self.now.site }
+        ensures same { SameSeat seat.old seat.new }
+        ensures made { Answered (base_of self.now) seat.old (call.Expire horizon) result seat.new }
+    {
+        if seat.seen() >= WORN {
+            return Reply::Worn;
+        }
+        let answer = self.turn::<Brand, R, G>(rt, seat, Turn::Expire(horizon), gate);
+        numbered(seat.seen(), answer)
+    }
+
+    /// Leaves the last n rows of the table, where it is open.
+    pub fn keep<R: Wait, G: Gate>(&self, rt: &R, seat: &mut Seat, n: u64, gate: &G) -> Reply
+        requires seat { IsSeatOf seat.old self.now.site }
+        requires caller { IsCaller seat.old }
+        ensures seat { IsSeatOf seat.new self.now.site }
+        ensures same { SameSeat seat.old seat.new }
+        ensures made { Answered (base_of self.now) seat.old (call.Keep n) result seat.new }
+    {
+        if seat.seen() >= WORN {
+            return Reply::Worn;
+        }
+        let answer = self.turn::<Brand, R, G>(rt, seat, Turn::Keep(n), gate);
+        numbered(seat.seen(), answer)
+    }
+
+    /// Asks the table, where it is open. A query that cannot be copied takes its turn all the same.
+    pub fn ask<R: Wait, G: Gate>(&self, rt: &R, seat: &mut Seat, query: &Query, gate: &G) -> Reply
+        requires seat { IsSeatOf seat.old self.now.site }
+        requires caller { IsCaller seat.old }
+        ensures seat { IsSeatOf seat.new self.now.site }
+        ensures same { SameSeat seat.old seat.new }
+        ensures made { Answered (base_of self.now) seat.old (call.Ask query.now) result seat.new }
+    {
+        if seat.seen() >= WORN {
+            return Reply::Worn;
+        }
+        let asking = ask_turn(query);
+        let answer = self.turn::<Brand, R, G>(rt, seat, asking, gate);
+        numbered(seat.seen(), answer)
+    }
+}
+
+// The turn that asks.
+fn ask_turn(query: &Query) -> Turn
+    ensures { IsAsk query.now result }
+{
+    let copy = match query.copy() {
+        Ok(copy) => Some(copy),
+        Err(_) => None,
+    };
+    Turn::Ask {
+        query: Snapshot::of(query),
+        copy,
+    }
+}

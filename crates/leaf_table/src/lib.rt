@@ -1,0 +1,23 @@
+//! A table of a leaf that callers and the leaf's steward share by turns.
+#![tactic(auto)]
+
+mod base;
+mod callers;
+mod replies;
+mod shared;
+mod steward;
+mod turns;
+mod value;
+
+ghost use Rattle.leaf_table.specs.Laws.{StewardKnows};
+
+pub use base::{Founds, Origin, TableBase};
+pub use replies::{ClosedTable, Reply, Taken};
+pub use shared::{Seat, SharedTable};
+pub use turns::{Answer, Turn};
+pub use value::LeafTable;
+
+/// What the steward knows of its table after a call of its own.
+pub fn steward_knows()
+    ensures { StewardKnows }
+{}

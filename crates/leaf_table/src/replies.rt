@@ -1,0 +1,55 @@
+// What the calls answer.
+ghost use Rattle.leaf_table.specs.Turns.{reply_of};
+ghost use Rattle.leaf_table.specs.Calls.{IsCallers, Tells};
+
+use crate::turns::Answer;
+use leaf_model::Groups;
+use row_records::Pending;
+use table_state::TableState;
+
+/// What a caller is answered, with the number of its entry. A worn seat makes no entry: it has seen 2^62.
+#[derive(Drop)]
+pub enum Reply {
+    Added { number: u64, kept: u64, late: u64 },
+    Removed { number: u64, rows: u64 },
+    Groups { number: u64, groups: Groups },
+    Shut { number: u64 },
+    Full { number: u64 },
+    NoMemory { number: u64 },
+    Worn,
+}
+
+/// What the steward took: how many writes the table accepted, and the record of those that were not taken before.
+#[derive(Drop)]
+pub enum Taken {
+    Took {
+        number: u64,
+        writes: u64,
+        pending: Pending,
+    },
+    Worn,
+}
+
+/// A table that was shut, with its writes that were not taken pending.
+#[derive(Drop)]
+pub struct ClosedTable {
+    pub number: u64,
+    pub writes: u64,
+    pub table: TableState,
+}
+
+// The reply of an entry, with its number.
+pub(crate) fn numbered(number: u64, answer: Answer) -> Reply
+    requires { IsCallers (reply_of answer) }
+    ensures { Tells number (reply_of answer) result }
+{
+    match answer {
+        Answer::Added { kept, late } => Reply::Added { number, kept, late },
+        Answer::Removed(rows) => Reply::Removed { number, rows },
+        Answer::Groups(groups) => Reply::Groups { number, groups },
+        Answer::Shut => Reply::Shut { number },
+        Answer::Full => Reply::Full { number },
+        Answer::NoMemory => Reply::NoMemory { number },
+        Answer::Took { .. } | Answer::Closed(_) | Answer::Noted => unreachable!(),
+    }
+}

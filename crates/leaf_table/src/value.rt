@@ -1,0 +1,146 @@
+// The value behind the turnstile.
+ghost use Rattle.std.specs.Prelude.{◌≡◌, true, false};
+ghost use Rattle.std.specs.List.{AllByRecursion};
+ghost use Rattle.leaf_model.specs.Values.{IsRow, IsTime};
+ghost use Rattle.leaf_model.specs.declared.writes.Write.TheVariants as write;
+ghost use Rattle.table_state.specs.Tables.{MayWrite};
+ghost use Rattle.leaf_table.specs.declared.turns.Answer.TheVariants.{Noted};
+ghost use Rattle.leaf_table.specs.Steps.{AddsTo, RemovesFrom, AsksOf, TakesFrom, Shuts};
+
+use crate::base::Origin;
+use crate::turns::{Answer, Turn};
+use group_table::fold_rows;
+use leaf_model::{Query, Rows, Text};
+use std::alloc::Global;
+use std::mem::replace;
+use table_state::{AddFault, TableState};
+use turnstile::Object;
+
+/// What stands behind a turnstile. A shut table is empty here: its content is in the steward's hands.
+#[derive(Drop)]
+pub struct LeafTable {
+    pub(crate) alloc: Global,
+    pub(crate) name: Text,
+    pub(crate) live: bool,
+    pub(crate) table: TableState,
+}
+
+impl LeafTable {
+    fn add(&mut self, rows: Rows) -> Answer
+        requires may { self.old.live ≡ true → MayWrite self.old.name self.old.table }
+        requires rows { AllByRecursion IsRow rows }
+        ensures { AddsTo self.old rows result self.new }
+    {
+        if !self.live {
+            return Answer::Shut;
+        }
+        match self.table.add(&self.name, rows) {
+            Ok(added) => Answer::Added {
+                kept: added.kept,
+                late: added.late,
+            },
+            Err(AddFault::Full) => Answer::Full,
+            Err(AddFault::NoMemory) => Answer::NoMemory,
+        }
+    }
+
+    fn expire(&mut self, horizon: i64) -> Answer
+        requires may { self.old.live ≡ true → MayWrite self.old.name self.old.table }
+        requires horizon { IsTime horizon }
+        ensures { RemovesFrom self.old (write.Expire horizon) result self.new }
+    {
+        if !self.live {
+            return Answer::Shut;
+        }
+        match self.table.expire(&self.name, horizon) {
+            Ok(rows) => Answer::Removed(rows),
+            Err(_) => Answer::NoMemory,
+        }
+    }
+
+    fn keep(&mut self, n: u64) -> Answer
+        requires may { self.old.live ≡ true → MayWrite self.old.name self.old.table }
+        ensures { RemovesFrom self.old (write.Keep n) result self.new }
+    {
+        if !self.live {
+            return Answer::Shut;
+        }
+        match self.table.keep(&self.name, n) {
+            Ok(rows) => Answer::Removed(rows),
+            Err(_) => Answer::NoMemory,
+        }
+    }
+
+    fn ask(&self, copy: Option<Query>) -> Answer
+        ensures { AsksOf self.now copy result }
+    {
+        if !self.live {
+            return Answer::Shut;
+        }
+        let query = match copy {
+            Some(query) => query,
+            None => return Answer::NoMemory,
+        };
+        match fold_rows(self.alloc, &query, self.table.tail_rows()) {
+            Ok(groups) => Answer::Groups(groups),
+            Err(_) => Answer::NoMemory,
+        }
+    }
+
+    fn take(&mut self) -> Answer
+        ensures { TakesFrom self.old result self.new }
+    {
+        let writes = self.table.writes();
+        Answer::Took {
+            writes,
+            pending: self.table.take_pending(),
+        }
+    }
+
+    fn shut(&mut self) -> Answer
+        ensures { Shuts self.old result self.new }
+    {
+        self.live = false;
+        let none = TableState::new(self.alloc);
+        Answer::Closed(replace(&mut self.table, none))
+    }
+
+    fn open(&mut self, table: TableState) -> Answer
+        ensures answer { result ≡ Noted }
+        ensures value { self.new ≡ record self.old { live = true; table = table } }
+    {
+        self.live = true;
+        self.table = table;
+        Answer::Noted
+    }
+}
+
+impl Object for LeafTable {
+    type Call = Turn;
+
+    type Reply = Answer;
+
+    type Base = Origin;
+
+    ghost use Rattle.leaf_table.specs.Turns.{LegalTurns, StandsFor, MayTurn};
+
+    ghost legal = { λ b h. LegalTurns b.name.value b.base h };
+
+    ghost stands = { λ b h v. StandsFor b.name.value b.base h v };
+
+    ghost may = { λ b h by turn. MayTurn b.base h by turn };
+
+    fn step(&mut self, call: Turn, _number: u64) -> Answer {
+        match call {
+            Turn::Add(rows) => self.add(rows),
+            Turn::Expire(horizon) => self.expire(horizon),
+            Turn::Keep(n) => self.keep(n),
+            Turn::Ask { query: _, copy } => self.ask(copy),
+            Turn::Take => self.take(),
+            Turn::Flushed(_) => Answer::Noted,
+            Turn::Shut => self.shut(),
+            Turn::Done => Answer::Noted,
+            Turn::Open { writes: _, table } => self.open(table),
+        }
+    }
+}
