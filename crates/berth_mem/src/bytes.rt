@@ -58,6 +58,7 @@ pub fn tail(alloc: Global, old: &[u8], from: u64) -> Result<Vec<u8>, AllocError>
 /// Whether a write would pass 2^63.
 pub fn is_far(at: u64, len: usize) -> bool
     ensures far { 2 ^ 63 ≤ at + len → result ≡ true }
+    ensures room { at + len < 2 ^ 63 → result ≡ false }
     ensures near { result ≡ false → at + len < 2 ^ 63 }
 {
     at >= 1 << 63 || len as u64 >= (1 << 63) - at
