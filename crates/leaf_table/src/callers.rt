@@ -37,13 +37,7 @@ impl SharedTable {
     }
 
     /// Raises the horizon of the table, where it is open.
-    pub fn expire<R: Wait, G: Gate>(
-        &self,
-        rt: &R,
-        seat: &mut Seat,
-        horizon: i64,
-        gate: &G,
-    ) -> Reply
+    pub fn expire<R: Wait, G: Gate>(&self, rt: &R, seat: &mut Seat, horizon: i64, gate: &G) -> Reply
         requires seat { IsSeatOf seat.old self.now.site }
         requires caller { IsCaller seat.old }
         requires horizon { IsTime horizon }

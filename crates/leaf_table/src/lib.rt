@@ -6,6 +6,8 @@ mod callers;
 mod replies;
 mod shared;
 mod steward;
+#[cfg(test)]
+mod tests;
 mod turns;
 mod value;
 
