@@ -31,6 +31,10 @@ fn draw<O: Object>(turns: &Turns<O>, place: &mut Place<O>) -> u64
     turns.fetch_add::<Draw>(place, 1, 1)
 }
 
+// How often a thread spins between two looks before it sleeps. It does not yield: where others want the processor too, each
+// yield costs it as long as they take, and every turn behind it waits for that.
+const SPINS: u32 = 7;
+
 // Looks until the turn has come, and takes the value. After some looks it sleeps until a turn is passed on.
 fn wait<O: Object, R: Wait>(rt: &R, turns: &Turns<O>, place: &mut Place<O>, ticket: u64)
     requires table { Fits place.old.table_id turns.now.table_id }
@@ -39,15 +43,17 @@ fn wait<O: Object, R: Wait>(rt: &R, turns: &Turns<O>, place: &mut Place<O>, tick
     ensures turn { (b : O.Base) → place.old.me.0.base ≡ Some b → Comes O.legal O.stands b place.old.me ticket place.new.me }
 {
     let backoff = Backoff::new();
+    let mut spins = 0;
     for _ in rt.forever() {
         let serving = turns.load::<Look<O>>(place, 2);
         if serving == ticket {
             return;
         }
-        if backoff.is_completed() {
-            turns.park(rt, 2, (serving % (1 << 32)) as u32);
+        if spins < SPINS {
+            backoff.spin();
+            spins += 1;
         } else {
-            backoff.snooze();
+            turns.park(rt, 2, (serving % (1 << 32)) as u32);
         }
     }
     unreachable!()

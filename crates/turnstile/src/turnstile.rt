@@ -14,8 +14,8 @@ use std::sync::Wait;
 /// An object shared by turns. Each call draws a ticket, waits until it is served, makes one step of the object, and posts
 /// one entry of its history. The history is not kept in memory; its length is.
 ///
-/// A thread that waits spins and yields for a few looks, and then sleeps until a turn is passed on. Nothing is promised
-/// of progress, of fairness, or of how long a turn takes.
+/// A thread that waits spins for a few looks, and then sleeps until a turn is passed on. Nothing is promised of progress, of
+/// fairness, or of how long a turn takes.
 #[derive(Drop)]
 pub struct Turnstile<O: Object> {
     table: TurnTable<O>,
