@@ -1,0 +1,13 @@
+//! The region of a leaf: its head, and the image of its tables.
+#![tactic(auto)]
+
+mod fault;
+mod head;
+mod image;
+mod image_reader;
+mod image_writer;
+
+pub use head::{head_rest, read_head, Head, LAYOUT};
+pub use image::{Image, TableImage, TableImages};
+pub use image_reader::read_image;
+pub use image_writer::write_image;
