@@ -1,5 +1,5 @@
 // Reading an image, field by field from the left: each field is a value and the bytes after it.
-ghost use Rattle.std.specs.Prelude.{◌≡◌, ℕ, List, IfOk, IfSome, Some};
+ghost use Rattle.std.specs.Prelude.{◌≡◌, IfOk, IfSome, Some};
 ghost use Rattle.std.specs.Int.{w64};
 ghost use Rattle.std.specs.List.{list_all};
 ghost use Rattle.row_records.specs.Reading.{number_at, byte_at, text_at, name_at, time_at, rows_at};
@@ -32,12 +32,6 @@ pub fn read_image(alloc: Global, region: &[u8]) -> Result<Option<Image>, AllocEr
         Err(ReadError::Broken) => Ok(None),
         Err(ReadError::Memory) => Err(AllocError),
     }
-}
-
-/// Two images of the same bytes are one.
-pub fn one_reading()
-    ensures { (region : List ℕ) (a b : Image) → IsImage 1 region a.tables a.log_end → IsImage 1 region b.tables b.log_end → a ≡ b }
-{
 }
 
 fn u8_at(bytes: &[u8]) -> Result<(u8, &[u8]), ReadError>

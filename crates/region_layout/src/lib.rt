@@ -6,8 +6,10 @@ mod head;
 mod image;
 mod image_reader;
 mod image_writer;
+mod laws;
 
 pub use head::{head_rest, read_head, Head, LAYOUT};
 pub use image::{Image, TableImage, TableImages};
 pub use image_reader::read_image;
 pub use image_writer::write_image;
+pub use laws::one_reading;
