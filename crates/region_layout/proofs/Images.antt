@@ -66,7 +66,7 @@ image_found bytes image fits e =
     let second = low_takes a.0 b.0 first.rest_fits b.1 in
     let third = directory_takes b.0.1 c.0 second.0.rest_fits c.1 in
     let parts : bytes ≡ layout_1_bytes c.0 b.0.0 =
-        first.parts ∙ ap (λ (w : List ℕ). head_bytes 1 16 ++ w) (second.0.parts ∙ ap (λ (w : List ℕ). u64_bytes b.0.0 ++ w) third.0) in
+    first.parts ∙ ap (λ (w : List ℕ). head_bytes 1 16 ++ w) (second.0.parts ∙ ap (λ (w : List ℕ). u64_bytes b.0.0 ++ w) third.0) in
     let made : Image = record { log_end = b.0.0; tables = c.0 } in
     subst (λ (i : Image). IsImage 1 bytes i.tables i.log_end) (some_is made image c.2)
     (refl, record { bytes = parts; fits = record { few = third.1; each = third.2; distinct = third.3; log_end_fits = second.1 } })

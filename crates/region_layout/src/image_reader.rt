@@ -16,7 +16,22 @@ use std::alloc::{AllocError, Global};
 
 /// An open flag, the three letters, the version, and the place 16.
 pub(crate) const HEAD: [u8; 16] = [
-    1, b'S', b'C', b'B', LAYOUT as u8, 0, 0, 0, 16, 0, 0, 0, 0, 0, 0, 0,
+    1,
+    b'S',
+    b'C',
+    b'B',
+    LAYOUT as u8,
+    0,
+    0,
+    0,
+    16,
+    0,
+    0,
+    0,
+    0,
+    0,
+    0,
+    0,
 ];
 
 /// The image that the bytes of a region are, or nothing where they are none.
@@ -119,11 +134,7 @@ fn are_kept(horizon: i64, rows: &[Row]) -> bool
 
 /// At most 2^40 rows behind their number, none of them below the horizon.
 #[tactic(auto, unfolding(crate::specs::Reading::held_rows_at))]
-fn held_rows_of(
-    alloc: Global,
-    horizon: i64,
-    bytes: &[u8],
-) -> Result<(Vec<Row>, &[u8]), ReadError>
+fn held_rows_of(alloc: Global, horizon: i64, bytes: &[u8]) -> Result<(Vec<Row>, &[u8]), ReadError>
     ensures { Gives (λ x. (x.0.items, x.1.now)) result (held_rows_at horizon bytes.now) }
 {
     let (count, rest) = u64_at(bytes)?;
@@ -157,11 +168,7 @@ fn table_of(alloc: Global, bytes: &[u8]) -> Result<(TableImage, &[u8]), ReadErro
     ))
 }
 
-fn tables_of(
-    alloc: Global,
-    count: u8,
-    bytes: &[u8],
-) -> Result<(Vec<TableImage>, &[u8]), ReadError>
+fn tables_of(alloc: Global, count: u8, bytes: &[u8]) -> Result<(Vec<TableImage>, &[u8]), ReadError>
     ensures { Gives (λ x. (x.0.items, x.1.now)) result (tables_at count bytes.now) }
 {
     let mut tables = Vec::new(alloc);
@@ -188,9 +195,7 @@ fn are_distinct(tables: &[TableImage]) -> bool
 {
     match tables {
         [] => true,
-        [first, rest @ ..] => {
-            have_other_names(first.name.as_str(), rest) && are_distinct(rest)
-        }
+        [first, rest @ ..] => { have_other_names(first.name.as_str(), rest) && are_distinct(rest) }
     }
 }
 

@@ -12,7 +12,11 @@ use row_records::put_rows;
 use std::alloc::{AllocError, Global};
 
 /// The bytes of an image, with the flag open.
-pub fn write_image(alloc: Global, tables: &[TableImage], log_end: u64) -> Result<Vec<u8>, AllocError>
+pub fn write_image(
+    alloc: Global,
+    tables: &[TableImage],
+    log_end: u64,
+) -> Result<Vec<u8>, AllocError>
     requires { MayBeImage tables.now log_end }
     ensures { IfOk result (λ bytes. IsImage 1 bytes.items tables.now log_end) }
 {

@@ -11,5 +11,4 @@ pub fn one_reading()
     ensures head { (region : List ℕ) (tables : List TableImage) (version log_end : ℕ) → IsImage version region tables log_end → head_of region ≡ Version version }
     ensures closed { (region : List ℕ) → IsClosed region → (version : ℕ) → head_of region ≢ Version version }
     ensures version { (region : List ℕ) → (IsClosed region → ⊥) → head_of region ≡ Version (version_of region) }
-{
-}
+{}

@@ -7,8 +7,10 @@ mod image;
 mod image_reader;
 mod image_writer;
 mod laws;
+#[cfg(test)]
+mod tests;
 
-pub use head::{head_rest, read_head, Head, LAYOUT};
+pub use head::{Head, LAYOUT, head_rest, read_head};
 pub use image::{Image, TableImage, TableImages};
 pub use image_reader::read_image;
 pub use image_writer::write_image;
