@@ -1,16 +1,16 @@
 -- An image that is read is the image that was written, and what was written is read again.
-use Rattle.std.proofs.Common.{◌≡◌, ℕ, ◌+◌, ◌^◌, ◌<◌, ◌≤◌, ◌&&◌, Bool, true, false, cond, ltb, eqb, List, [], ◌∷◌, ◌++◌, length, take, drop, Option, Some, None, refl, sym, ap, subst, ◌∙◌, append-nil, append_assoc, arith}
+use Rattle.std.proofs.Common.{◌≡◌, ℕ, ◌≤◌, ◌&&◌, false, cond, ltb, eqb, List, [], ◌∷◌, ◌++◌, length, take, drop, Some, None, refl, sym, ap, subst, ◌∙◌, append-nil, arith}
 use Rattle.std.specs.List.{flat_map, AllByRecursion}
 use Rattle.std.specs.Str.{bytes_eq}
 use Rattle.std.proofs.lemmas.Bool.{ltb-false, le-ltb, eqb-true}
-use Rattle.std.proofs.lemmas.List.{nil_from_length, take-append-drop, take_at, drop_at}
+use Rattle.std.proofs.lemmas.List.{nil_from_length, take-append-drop}
 use Rattle.std.proofs.lemmas.Slice.Eq.{bytes_eq-Decides}
 use Rattle.row_records.specs.Bytes.{u64_bytes, IsBytes}
 use Rattle.row_records.specs.Reading.{◌>>=◌, byte_at}
-use Rattle.row_records.proofs.Fields.{IsBytes-drop, bind_some, passed, held, some_is, Takes, Takes-then, byte_takes}
+use Rattle.row_records.proofs.Fields.{IsBytes-drop, bind_some, passed, held, some_is, Takes, byte_takes}
 use Rattle.region_layout.specs.declared.image.TableImage.{TableImage}
 use Rattle.region_layout.specs.declared.image.Image.{Image}
-use Rattle.region_layout.specs.Region.{head_bytes, table_bytes, layout_1_bytes, IsTableImage, AreDistinct, MayBeImage, IsLayout1, IsImage}
+use Rattle.region_layout.specs.Region.{head_bytes, table_bytes, layout_1_bytes, IsTableImage, AreDistinct, IsImage}
 use Rattle.region_layout.specs.Reading.{below_2_63_at, tables_at, are_distinct, directory_at, head_at, image_at}
 use Rattle.region_layout.proofs.Tables.{both_true, low_takes, low_again, tables_take, tables_again, names_of, distinct_are, are_distinct_again}
 

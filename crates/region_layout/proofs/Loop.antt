@@ -1,5 +1,5 @@
 -- Reading tables one after the other, as a loop does.
-use Rattle.std.proofs.Common.{◌≡◌, ℕ, suc, ◌-◌, ◌+◌, ◌≤◌, ◌<◌, List, [], Option, Some, None, refl, sym, ap, ◌∙◌, arith}
+use Rattle.std.proofs.Common.{◌≡◌, ℕ, suc, ◌-◌, ◌+◌, ◌≤◌, ◌<◌, List, [], Option, Some, refl, sym, ap, ◌∙◌, arith}
 use Rattle.row_records.proofs.Loop.{with_front, with_first}
 use Rattle.region_layout.specs.declared.image.TableImage.{TableImage}
 use Rattle.region_layout.specs.declared.fault.ReadError.{ReadError}
