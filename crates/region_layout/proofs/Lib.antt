@@ -1,0 +1,6 @@
+pub mod Heads
+pub mod Loop
+pub mod Front
+pub mod Tables
+pub mod Images
+pub mod Writing
