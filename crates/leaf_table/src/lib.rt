@@ -3,6 +3,7 @@
 
 mod base;
 mod callers;
+mod fleet;
 mod replies;
 mod shared;
 mod steward;
@@ -14,6 +15,7 @@ mod value;
 ghost use Rattle.leaf_table.specs.Laws.{StewardKnows};
 
 pub use base::{Founds, Origin, TableBase};
+pub use fleet::{CallerSeats, FleetTables, StewardSeats};
 pub use replies::{ClosedTable, Reply, Taken};
 pub use shared::{Seat, SharedTable};
 pub use turns::{Answer, Turn};
