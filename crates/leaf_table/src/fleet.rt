@@ -171,8 +171,13 @@ fn leaf_tables<N: Founds>(
     let mut stewards = Vec::new(alloc);
     for name in names.as_slice() {
         let table = tables.len();
-        let (shared, steward, caller) =
-            SharedTable::new::<N>(alloc, leaf, table as u32, name, share)?;
+        let (shared, steward, caller) = SharedTable::new::<N>(
+            alloc,
+            leaf,
+            table as u32,
+            name,
+            share,
+        )?;
         tables.push(shared)?;
         stewards.push(steward)?;
         put(callers, table, caller)?;
