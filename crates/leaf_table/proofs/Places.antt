@@ -1,6 +1,6 @@
 -- A new leaf's tables among those of the leaves before it.
-use Rattle.std.proofs.Common.{◌≡◌, ◌≢◌, ℕ, zero, suc, ◌+◌, ◌<◌, ◌≤◌, List, [], ◌∷◌, ◌++◌, length, get_or, set, slice_get, map, Option, Some, None, refl, ap, sym, ◌∙◌, subst, arith, length-append, get_or-set_same, get_or-set_other, Vec, Global}
-use Rattle.std.proofs.lemmas.List.{map-set, length-map, get_or-map, length-set, map-append, get_or_append_left}
+use Rattle.std.proofs.Common.{◌≡◌, ◌≢◌, ℕ, zero, suc, ◌+◌, ◌<◌, List, [], ◌∷◌, ◌++◌, length, get_or, set, slice_get, Option, Some, refl, ap, sym, ◌∙◌, subst, arith, length-append, get_or-set_same, get_or-set_other, Vec, Global}
+use Rattle.std.proofs.lemmas.List.{map-set, get_or-map, length-set, map-append, get_or_append_left}
 use Rattle.std.proofs.lemmas.Option.{none-some, slice_get_read}
 use Rattle.std.proofs.Math.Seq.{get_or-append_seam}
 use borrow.Author.Count.{below_more}
@@ -75,23 +75,23 @@ module _ (base : ℕ → ℕ → Option TableBase) (names : List (List ℕ)) (sh
           ap length puts.is ∙ (length-set rows k grown ∙ p.sizes.2),
         );
         longer = below_more (λ (t : ℕ). length (row more t) ≡ length (row before t) + 1) k
-          (λ t less. ap length (others t (omega (arith, less))) ∙ p.longer t less)
-          (ap length here ∙ (length-append (row rows k) (caller ∷ []) ∙ ap (λ (r : List SeatView). length r + 1) stood));
+            (λ t less. ap length (others t (omega (arith, less))) ∙ p.longer t less)
+            (ap length here ∙ (length-append (row rows k) (caller ∷ []) ∙ ap (λ (r : List SeatView). length r + 1) stood));
         same = λ t over. others t (omega (arith, over)) ∙ p.same t (omega (arith, over));
         kept = λ i j seat is. keeps i j seat (p.kept i j seat is);
         places = below_more (λ (t : ℕ). IsAt base names share (tables ++ table ∷ []) (stewards ++ steward ∷ []) more leaf t) k
-          (λ t less. at_kept tables (tables ++ table ∷ []) stewards (stewards ++ steward ∷ []) rows more leaf t (front_at tables table t) (front_at stewards steward t) (λ x. keeps t leaf x) (p.places t less))
-          (record {
-            name = name;
-            table = table;
-            steward = steward;
-            caller = caller;
-            named = named;
-            stands = behind tables table k p.sizes.0;
-            stewards_seat = behind stewards steward k p.sizes.1;
-            callers_seat = ap (λ (r : List SeatView). slice_get r leaf) here ∙ behind (row rows k) caller leaf size;
-            new = new;
-          });
+            (λ t less. at_kept tables (tables ++ table ∷ []) stewards (stewards ++ steward ∷ []) rows more leaf t (front_at tables table t) (front_at stewards steward t) (λ x. keeps t leaf x) (p.places t less))
+            (record {
+              name = name;
+              table = table;
+              steward = steward;
+              caller = caller;
+              named = named;
+              stands = behind tables table k p.sizes.0;
+              stewards_seat = behind stewards steward k p.sizes.1;
+              callers_seat = ap (λ (r : List SeatView). slice_get r leaf) here ∙ behind (row rows k) caller leaf size;
+              new = new;
+            });
       }
 
   row_front : {A : Type 0} (rows : List (List A)) (r : List A) (i n : ℕ) → length rows ≡ n → i < n → row (rows ++ r ∷ []) i ≡ row rows i
@@ -116,21 +116,21 @@ module _ (base : ℕ → ℕ → Option TableBase) (names : List (List ℕ)) (sh
           p.sizes.2 ∙ f.counts.2,
         );
         in_leaf = below_more (λ (i : ℕ). (length (row (tables ++ ts ∷ []) i) ≡ length names) × (length (row (stewards ++ ss ∷ []) i) ≡ length names)) k
-          (λ i low. (ap length (t_front i low) ∙ (f.in_leaf i low).0, ap length (s_front i low) ∙ (f.in_leaf i low).1))
-          (ap length t_last ∙ p.sizes.0, ap length s_last ∙ p.sizes.1);
+            (λ i low. (ap length (t_front i low) ∙ (f.in_leaf i low).0, ap length (s_front i low) ∙ (f.in_leaf i low).1))
+            (ap length t_last ∙ p.sizes.0, ap length s_last ∙ p.sizes.1);
         in_table = λ t low. p.longer t low ∙ ap (λ (n : ℕ). n + 1) (f.in_table t low);
         places = λ leaf t below low. below_more (λ (i : ℕ). IsAt base names share (row (tables ++ ts ∷ []) i) (row (stewards ++ ss ∷ []) i) more i t) k
-          (λ i under. at_kept (row tables i) (row (tables ++ ts ∷ []) i) (row stewards i) (row (stewards ++ ss ∷ []) i) callers more i t
+            (λ i under. at_kept (row tables i) (row (tables ++ ts ∷ []) i) (row stewards i) (row (stewards ++ ss ∷ []) i) callers more i t
             (λ x is. ap (λ (r : List Shared). slice_get r t) (t_front i under) ∙ is)
             (λ x is. ap (λ (r : List SeatView). slice_get r t) (s_front i under) ∙ is)
             (λ x is. p.kept t i x is)
             (f.places i t under low))
-          (at_kept ts (row (tables ++ ts ∷ []) k) ss (row (stewards ++ ss ∷ []) k) more more k t
+            (at_kept ts (row (tables ++ ts ∷ []) k) ss (row (stewards ++ ss ∷ []) k) more more k t
             (λ x is. ap (λ (r : List Shared). slice_get r t) t_last ∙ is)
             (λ x is. ap (λ (r : List SeatView). slice_get r t) s_last ∙ is)
             (λ x is. is)
             (p.places t low))
-          leaf below;
+            leaf below;
       }
 
 -- the lists of one more vector

@@ -1,5 +1,5 @@
 // The tables of a fleet, leaf by leaf, and the seats at them.
-ghost use Rattle.std.specs.Prelude.{◌≡◌, ◌+◌, ◌<◌, ◌≤◌, ◌++◌, ◌∷◌, [], length, IfOk};
+ghost use Rattle.std.specs.Prelude.{◌≡◌, ◌<◌, ◌≤◌, length, IfOk};
 ghost use Rattle.std.specs.List.{AllByRecursion};
 ghost use Rattle.leaf_table.specs.Lists.{lists_in, row, HasRows, Puts};
 ghost use Rattle.leaf_table.specs.Fleet.{IsShort, IsPart, IsNewFleet};
@@ -171,8 +171,13 @@ fn leaf_tables<N: Founds>(
     let mut stewards = Vec::new(alloc);
     for name in names.as_slice() {
         let table = tables.len();
-        let (shared, steward, caller) =
-            SharedTable::new::<N>(alloc, leaf, table as u32, name, share)?;
+        let (shared, steward, caller) = SharedTable::new::<N>(
+            alloc,
+            leaf,
+            table as u32,
+            name,
+            share,
+        )?;
         tables.push(shared)?;
         stewards.push(steward)?;
         put(callers, table, caller)?;
