@@ -1,10 +1,8 @@
 -- A legal list of turns goes on by one turn.
-use Rattle.std.proofs.Common.{ℤ, ◌≡◌, ◌⊎◌, ℕ, zero, suc, ◌+◌, ◌-◌, ◌<◌, ◌≤◌, ◌^◌, Bool, true, false, List, [], ◌∷◌, ◌++◌, length, take, drop, map, refl, sym, ap, ◌∙◌, subst, inl, inr, Option, Some, None, rules, arith}
+use Rattle.std.proofs.Common.{ℤ, ◌≡◌, ◌⊎◌, ℕ, zero, suc, ◌+◌, ◌-◌, ◌<◌, ◌≤◌, ◌^◌, Bool, true, false, List, [], ◌∷◌, ◌++◌, length, take, drop, refl, sym, ap, ◌∙◌, subst, inl, inr, Option, Some, None, arith}
 use Rattle.std.specs.List.{AllByRecursion}
 use Rattle.turnstile.specs.declared.object.Entry as turnstile
 use Rattle.turnstile.specs.Objects.{entry_of}
-use Rattle.leaf_history.specs.Calls as call
-use Rattle.leaf_history.specs.Replies as reply
 use Rattle.leaf_model.specs.declared.rows.Row.{Row}
 use Rattle.leaf_model.specs.declared.queries.Query.{Query}
 use Rattle.leaf_model.specs.declared.writes.Write.{Write}
@@ -12,10 +10,9 @@ use Rattle.leaf_model.specs.declared.writes.Write.TheVariants as write
 use Rattle.leaf_model.specs.Values.{IsRow, IsTime}
 use Rattle.leaf_model.specs.Content.{Contents, content_after, content_from, kept_count, late_count, removed_count}
 use Rattle.leaf_model.specs.Groups.{groups}
-use Rattle.leaf_history.specs.History.{TableState, LegalFrom, Allowed, AskReply, OpenAllowed, opened, after, after_entry, held, untaken, write_count, written}
+use Rattle.leaf_history.specs.History.{TableState, LegalFrom, Allowed, opened, after, after_entry, held, untaken, write_count, written}
 use Rattle.leaf_history.specs.Laws.{IsCounted}
 use Rattle.leaf_history.proofs.Histories.{counts_stay, length_take}
-use Rattle.row_records.specs.Records.{LogRecord}
 use Rattle.row_records.specs.Pending.{with_push}
 use Rattle.table_state.specs.Tables.{Table, with_write, empty_table}
 use Rattle.leaf_table.specs.declared.base.TableBase.{TableBase}
@@ -24,7 +21,7 @@ use Rattle.leaf_table.specs.declared.turns.Turn.TheVariants as turn
 use Rattle.leaf_table.specs.declared.turns.Answer.{Answer}
 use Rattle.leaf_table.specs.declared.turns.Answer.TheVariants as answer
 use Rattle.leaf_table.specs.declared.value.LeafTable.{LeafTable}
-use Rattle.leaf_table.specs.Turns.{Turns, is_founded, start_of, call_of, reply_of, told, history, record_for, untaken_record, Hands, HandsFrom, LegalTurns, state_after, IsTableOf, StandsFor, MayHandIn, MayNow}
+use Rattle.leaf_table.specs.Turns.{Turns, is_founded, start_of, call_of, reply_of, told, history, record_for, Hands, HandsFrom, LegalTurns, state_after, IsTableOf, StandsFor, MayHandIn, MayNow}
 use Rattle.leaf_table.specs.Steps.{AddsTo, RemovesFrom, AsksOf}
 
 push_after : (founded : Bool) (s : TableState) (h : Turns) (e : turnstile.Entry Turn Answer) → after founded s (history (h ++ e ∷ [])) ≡ after_entry founded (after founded s (history h)) (told e)

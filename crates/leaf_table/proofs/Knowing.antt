@@ -1,8 +1,8 @@
 -- What a seat knows of the table while others take their turns, and what its own turn tells it.
 use Rattle.std.specs.Prelude.{if◌then◌else◌}
-use Rattle.std.proofs.Common.{◌≡◌, ◌≢◌, ◌⊎◌, inl, inr, ℕ, zero, suc, ◌+◌, ◌<◌, ◌≤◌, ◌^◌, Bool, true, false, List, [], ◌∷◌, ◌++◌, length, refl, sym, ap, ◌∙◌, subst, Option, Some, None, arith}
+use Rattle.std.proofs.Common.{◌≡◌, inl, ℕ, zero, suc, ◌+◌, ◌<◌, Bool, true, false, List, [], ◌∷◌, ◌++◌, length, refl, sym, ap, ◌∙◌, subst, Option, Some, None, arith}
 use Rattle.turnstile.specs.declared.object.Entry as turnstile
-use Rattle.turnstile.specs.Seats.{Others, Owns, Called}
+use Rattle.turnstile.specs.Seats.{Others, Called}
 use Rattle.turnstile.specs.Objects as turned
 use Rattle.leaf_history.specs.Calls.{Call}
 use Rattle.leaf_history.specs.Calls as call
@@ -19,8 +19,8 @@ use Rattle.leaf_table.specs.declared.turns.Turn.TheVariants as turn
 use Rattle.leaf_table.specs.declared.turns.Answer.{Answer}
 use Rattle.leaf_table.specs.declared.turns.Answer.TheVariants as answer
 use Rattle.leaf_table.specs.declared.replies.ClosedTable.{ClosedTable}
-use Rattle.leaf_table.specs.Turns.{Turns, is_founded, start_of, call_of, reply_of, told, history, HandsOut, Hands, HandsFrom, OverFew, LegalTurns, state_after, MayHandIn, MayNow}
-use Rattle.leaf_table.specs.Calls.{SameSeat, SeatView, entry_of, AreOthers, Made, MadeTurn, seen_of, state_seen, state_of, state_before, IsSteward, ClosedBy}
+use Rattle.leaf_table.specs.Turns.{Turns, is_founded, start_of, call_of, reply_of, told, history, HandsOut, Hands, HandsFrom, LegalTurns, state_after, MayHandIn, MayNow}
+use Rattle.leaf_table.specs.Calls.{SameSeat, SeatView, entry_of, AreOthers, Made, MadeTurn, seen_of, state_seen, state_before, IsSteward, ClosedBy}
 use Rattle.leaf_table.specs.Laws.{StewardKnows}
 
 history_append : (xs ys : Turns) → history (xs ++ ys) ≡ history xs ++ history ys

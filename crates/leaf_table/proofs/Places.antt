@@ -1,6 +1,6 @@
 -- A new leaf's tables among those of the leaves before it.
-use Rattle.std.proofs.Common.{◌≡◌, ◌≢◌, ℕ, zero, suc, ◌+◌, ◌<◌, ◌≤◌, List, [], ◌∷◌, ◌++◌, length, get_or, set, slice_get, map, Option, Some, None, refl, ap, sym, ◌∙◌, subst, arith, length-append, get_or-set_same, get_or-set_other, Vec, Global}
-use Rattle.std.proofs.lemmas.List.{map-set, length-map, get_or-map, length-set, map-append, get_or_append_left}
+use Rattle.std.proofs.Common.{◌≡◌, ◌≢◌, ℕ, zero, suc, ◌+◌, ◌<◌, List, [], ◌∷◌, ◌++◌, length, get_or, set, slice_get, Option, Some, refl, ap, sym, ◌∙◌, subst, arith, length-append, get_or-set_same, get_or-set_other, Vec, Global}
+use Rattle.std.proofs.lemmas.List.{map-set, get_or-map, length-set, map-append, get_or_append_left}
 use Rattle.std.proofs.lemmas.Option.{none-some, slice_get_read}
 use Rattle.std.proofs.Math.Seq.{get_or-append_seam}
 use borrow.Author.Count.{below_more}

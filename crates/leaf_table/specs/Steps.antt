@@ -1,12 +1,12 @@
 -- What each turn does to the value.
-use Rattle.std.specs.Prelude.{◌≡◌, ℕ, ◌+◌, ◌<◌, ◌≤◌, ◌^◌, true, false, List, [], length, Option, Some, None}
+use Rattle.std.specs.Prelude.{◌≡◌, ◌+◌, ◌<◌, ◌≤◌, ◌^◌, true, false, List, length, Option, Some, None}
 use Rattle.leaf_model.specs.declared.rows.Row.{Row}
 use Rattle.leaf_model.specs.declared.queries.Query.{Query}
 use Rattle.leaf_model.specs.declared.writes.Write.{Write}
 use Rattle.leaf_model.specs.declared.writes.Write.TheVariants.{Add}
 use Rattle.leaf_model.specs.Content.{kept_count, late_count, removed_count}
 use Rattle.leaf_model.specs.Groups.{groups}
-use Rattle.table_state.specs.Tables.{Table, with_write, empty_table}
+use Rattle.table_state.specs.Tables.{with_write, empty_table}
 use Rattle.leaf_table.specs.declared.turns.Answer.{Answer}
 use Rattle.leaf_table.specs.declared.turns.Answer.TheVariants.{Added, Removed, Groups, Shut, Full, NoMemory, Took, Closed, Noted}
 use Rattle.leaf_table.specs.declared.value.LeafTable.{LeafTable}

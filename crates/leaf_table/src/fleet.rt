@@ -1,5 +1,5 @@
 // The tables of a fleet, leaf by leaf, and the seats at them.
-ghost use Rattle.std.specs.Prelude.{◌≡◌, ◌+◌, ◌<◌, ◌≤◌, ◌++◌, ◌∷◌, [], length, IfOk};
+ghost use Rattle.std.specs.Prelude.{◌≡◌, ◌<◌, ◌≤◌, length, IfOk};
 ghost use Rattle.std.specs.List.{AllByRecursion};
 ghost use Rattle.leaf_table.specs.Lists.{lists_in, row, HasRows, Puts};
 ghost use Rattle.leaf_table.specs.Fleet.{IsShort, IsPart, IsNewFleet};

@@ -1,4 +1,4 @@
-use Rattle.std.proofs.Common.{◌≡◌, ◌<◌, length, Vec, Global, arith}
+use Rattle.std.proofs.Common.{◌<◌, length, Vec, Global, arith}
 use Rattle.std.proofs.lemmas.List.{length-map}
 use Rattle.leaf_table.specs.Calls.{SeatView}
 use Rattle.leaf_table.proofs.Places.{put_in}
