@@ -8,7 +8,8 @@ ghost use Rattle.leaf_table.specs.Calls.{base_of, IsCaller, SameSeat, SeesOpen, 
 use crate::{Reply, Seat, SharedTable, Taken};
 use berth_face::OpenGate;
 use berth_mem::MemBerth;
-use leaf_model::{Agg, Aggs, Cells, Conds, Names, Query, Row, Rows, Text};
+use leaf_model::{Agg, Aggs, Conds, Names, Query, Rows, Text};
+use row_records::read_rows;
 use std::alloc::{AllocError, Global};
 use std::marker::Brand;
 use std::sync::Wait;
@@ -17,15 +18,20 @@ use std::thread;
 use std::thread::Threads;
 use table_state::TableState;
 
-fn one_row(alloc: Global, time: u32) -> Result<Rows, AllocError>
+/// A row with the time 5 and no cells.
+const AT_FIVE: &[u8] = b"\x05\0\0\0\0\0\0\0\0\0";
+
+/// A row with the time 6 and no cells.
+const AT_SIX: &[u8] = b"\x06\0\0\0\0\0\0\0\0\0";
+
+/// One row, from its bytes.
+fn one_row(alloc: Global, bytes: &[u8]) -> Result<Rows, AllocError>
     ensures { IfOk result (λ rows. AllByRecursion IsRow rows) }
 {
-    let mut inner = Vec::new(alloc);
-    inner.push(Row {
-        time: i64::from(time),
-        cells: Cells::of(Vec::new(alloc)),
-    })?;
-    Ok(Rows::of(inner))
+    match read_rows(alloc, bytes, 1)? {
+        Some((rows, _taken)) => Ok(Rows::of(rows)),
+        None => Ok(Rows::of(Vec::new(alloc))),
+    }
 }
 
 fn count_all(alloc: Global) -> Result<Query, AllocError> {
@@ -101,7 +107,7 @@ fn one_life(rt: HostRuntime) -> Result<(), Fail> {
     let asked = shared.ask(&rt, &mut seat, &count_all(alloc)?, &OpenGate);
     assert!(rt; matches!(asked, Reply::Shut { number: 1 }));
     assert_eq!(rt; open_empty(&rt, alloc, &shared, &mut steward, &berth)?, 2);
-    let added = shared.add(&rt, &mut seat, one_row(alloc, 5)?, &OpenGate);
+    let added = shared.add(&rt, &mut seat, one_row(alloc, AT_FIVE)?, &OpenGate);
     assert!(rt;
         matches!(
             added,
@@ -118,7 +124,7 @@ fn one_life(rt: HostRuntime) -> Result<(), Fail> {
     );
     let closed = shared.shut(&rt, &mut steward, &berth, &OpenGate);
     assert_eq!(rt; (closed.number, closed.writes), (6, 1));
-    let late = shared.add(&rt, &mut seat, one_row(alloc, 6)?, &OpenGate);
+    let late = shared.add(&rt, &mut seat, one_row(alloc, AT_SIX)?, &OpenGate);
     assert!(rt; matches!(late, Reply::Shut { number: 7 }));
     assert_eq!(rt; shared.done(&rt, &mut steward, &berth, &OpenGate), 8);
     shared.meet(&mut seat, &mut steward)?;
@@ -175,8 +181,8 @@ fn two_threads_add_with_two_numbers(rt: HostRuntime) -> Result<(), Fail> {
     let berth = MemBerth::new(Vec::new(alloc), Vec::new(alloc));
     assert_eq!(rt; open_empty(&rt, alloc, &shared, &mut steward, &berth)?, 1);
     let other = shared.split(&mut seat, 1)?;
-    let rows = one_row(alloc, 5)?;
-    let more = one_row(alloc, 6)?;
+    let rows = one_row(alloc, AT_FIVE)?;
+    let more = one_row(alloc, AT_SIX)?;
     let (mut joined, a, b) = add_both(&rt, &shared, seat, other, rows, more);
     let first = matches!(a, Reply::Added { number: 2, .. })
         && matches!(b, Reply::Added { number: 3, .. });
