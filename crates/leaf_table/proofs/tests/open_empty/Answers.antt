@@ -11,4 +11,4 @@ empty_in None v table none is = record { pending = ap (λ (t : Table). t.pending
 empty_in (Some b) v table none is = absurd (cc none)
 
 pub reopen-requires-clause-content : goal.reopen-requires-clause-content
-reopen-requires-clause-content g c = empty_in c.args.shared.now.site.base.base c.args.steward.now c.new.result c.requires.founded c.new.ensures
+reopen-requires-clause-content g c = λ κs lives. empty_in c.args.shared.now.site.base.base c.args.steward.now c.new.result c.requires.founded c.new.ensures
