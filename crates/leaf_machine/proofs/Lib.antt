@@ -1,0 +1,5 @@
+pub mod Heads
+pub mod Noting
+pub mod Adopting
+pub mod Leaves
+pub mod Finding

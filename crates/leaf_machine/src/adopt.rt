@@ -1,5 +1,5 @@
 // The tables of a leaf out of those of an image.
-ghost use Rattle.std.specs.Prelude.{◌≡◌, ◌<◌, ◌≤◌, ◌+◌, ◌++◌, ◌∷◌, [], length, None, Some, IfOk, IfErr, OnOk, vec_len, vec_capacity};
+ghost use Rattle.std.specs.Prelude.{◌≡◌, ◌<◌, ◌≤◌, ◌+◌, ◌++◌, ◌∷◌, [], length, None, Some, IfOk, IfErr, IfNone, OnOk, vec_len, vec_capacity};
 ghost use Rattle.std.specs.List.{list_any, position};
 ghost use Rattle.std.specs.Option.{option_to_list};
 ghost use Rattle.std.specs.Str.{bytes_eq};
@@ -59,6 +59,7 @@ fn take_next(names: &mut VecDeque<Text>, images: &mut Vec<TableImage>) -> Option
     ensures taken { adopted names.old.items images.old.items ≡ option_to_list result ++ adopted names.new.items images.new.items }
     ensures distinct { AreDistinct names.new.items }
     ensures fewer { length names.old.items ≡ length (option_to_list result) + length names.new.items }
+    ensures all { IfNone result (names.old.items ≡ []) }
 {
     match names.pop_front() {
         None => None,

@@ -16,6 +16,7 @@ use berth_face::Berth;
 use leaf_model::{Names, Text};
 use region_layout::{TableImage, write_image};
 use std::alloc::{AllocError, Global};
+use std::collections::VecDeque;
 
 impl<B: Berth> Up<B> {
     /// Notes each table as closed, makes the region their image, and notes each as handed over.
@@ -40,14 +41,16 @@ impl<B: Berth> Up<B> {
         };
         let Up { tables, mut berth } = self;
         note_closed(notes, &tables);
-        let poured = pour(&mut berth, &image);
-        if poured.is_ok() {
-            note_handed(notes, &tables);
-        }
-        let names = names_in(room, tables);
-        match poured {
-            Ok(()) => Ok(Down { names, berth }),
-            Err(_) => Err(DrainFault::RegionFault(Down { names, berth })),
+        match pour(&mut berth, &image) {
+            Ok(()) => {
+                note_handed(notes, &tables);
+                let names = names_in(room, tables);
+                Ok(Down { names, berth })
+            }
+            Err(_) => {
+                let names = names_in(room, tables);
+                Err(DrainFault::RegionFault(Down { names, berth }))
+            }
         }
     }
 }
@@ -69,8 +72,9 @@ fn names_in(room: Vec<Text>, tables: Vec<TableImage>) -> Names
     requires room { vec_len room + vec_len tables ≤ vec_capacity room }
     ensures { result ≡ names_of tables.items }
 {
+    let mut tables = VecDeque::from_vec(tables);
     let mut names = room;
-    for table in tables {
+    while let Some(table) = tables.pop_front() {
         push_name(&mut names, table.name);
     }
     Names::of(names)

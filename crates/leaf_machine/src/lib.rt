@@ -13,6 +13,8 @@ mod pour;
 mod ready;
 mod start;
 mod table;
+#[cfg(test)]
+mod tests;
 mod up;
 mod ways;
 

@@ -29,14 +29,14 @@ pub struct Notes {
 }
 
 impl Model for Notes {
-    ghost use Rattle.std.specs.Prelude.{List, ◌≤◌, take};
+    ghost use Rattle.std.specs.Prelude.{List, ◌≡◌, ◌≤◌, length, take};
     ghost use Rattle.leaf_machine.specs.declared.notes.Note.{Note};
 
     ghost Value = { List Note };
 
     ghost view = { λ notes. take notes.len notes.inner };
 
-    ghost invariant = { λ notes. notes.len ≤ 32 };
+    ghost invariant = { λ notes. (notes.len ≤ 32) × (length notes.inner ≡ 32) };
 }
 
 impl Notes {

@@ -1,0 +1,18 @@
+use Rattle.std.proofs.Common.{◌≡◌, rules, IsTrue, sym, ap, subst, ◌∙◌}
+use Rattle.berth_face.specs.Berth.{Pair}
+use Rattle.region_layout.specs.declared.head.Head.TheVariants.{Version}
+use Rattle.leaf_machine.specs.Starts.{closed_flag}
+use Rattle.leaf_machine.proofs.Finding.{finds_on}
+use Rattle.leaf_machine.proofs.find.find_version.Goals as goal
+
+pub returns-clause-told : goal.returns-clause-told
+returns-clause-told g c = λ told opened front.
+    let a = g.B.Berth.meaning c.args.berth.now in
+    let b = g.B.Berth.meaning c.region_write.new.self in
+    let d = g.B.Berth.meaning c.find_image.new.berth in
+    let one : c.args.version ≡ 1 = search rules in
+    let told_b : IsTrue b.tells = subst IsTrue (sym c.region_write.ensures.time.tells) told in
+    let closed : b.held.region ≡ closed_flag a.held.region = (c.in_ok-region_write.ensures.told told).ok in
+    let found = c.find_image.ensures.told a.held.region told_b closed (opened ∙ ap Version one) front in
+    let now : d.held.region ≡ closed_flag a.held.region = ap (λ (p : Pair). p.region) (c.find_image.ensures.held told_b) ∙ closed in
+    finds_on a.held.region d.held.region c.args.version c.find_image.result opened now found
