@@ -3,3 +3,4 @@ pub mod Noting
 pub mod Adopting
 pub mod Leaves
 pub mod Finding
+pub mod BareRows

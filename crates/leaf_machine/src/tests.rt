@@ -31,16 +31,24 @@ fn berth(alloc: Global, region: &[u8]) -> Result<MemBerth, AllocError> {
     Ok(MemBerth::new(Vec::from_slice(alloc, region)?, Vec::new(alloc)))
 }
 
+/// A row without cells.
+fn bare_row(alloc: Global, time: i64) -> Row
+    requires { IsTime time }
+    ensures { IsRow result }
+{
+    Row {
+        time,
+        cells: Cells::of(Vec::new(alloc)),
+    }
+}
+
 /// One row without cells.
-fn row(alloc: Global, time: i64) -> Result<Rows, AllocError>
+fn one_row(alloc: Global, time: i64) -> Result<Rows, AllocError>
     requires { IsTime time }
     ensures { IfOk result (λ rows. AllByRecursion IsRow rows) }
 {
     let mut rows = Vec::new(alloc);
-    rows.push(Row {
-        time,
-        cells: Cells::of(Vec::new(alloc)),
-    })?;
+    rows.push(bare_row(alloc, time))?;
     Ok(Rows::of(rows))
 }
 
@@ -79,7 +87,7 @@ fn what_is_drained_is_adopted(rt: HostRuntime) -> Result<(), test::Fail> {
     let (mut up, way) = start(alloc, down, &mut notes)?;
     assert!(rt; way == Way::Disk(WhyDisk::NoHead));
     assert!(rt; notes.len() == 1 && told(&notes, 0) == Some(What::Opened(0)));
-    assert!(rt; up.add(0, row(alloc, 5)?) == Ok(Added { kept: 1, late: 0 }));
+    assert!(rt; up.add(0, one_row(alloc, 5)?) == Ok(Added { kept: 1, late: 0 }));
     let Ok(down) = up.drain(alloc, &mut notes) else {
         return Ok(assert!(rt; false, "the drain failed"));
     };
@@ -90,7 +98,7 @@ fn what_is_drained_is_adopted(rt: HostRuntime) -> Result<(), test::Fail> {
     let (up, way) = start(alloc, leaf(alloc, "t", berth)?, &mut notes)?;
     assert!(rt; way == Way::Memory && told(&notes, 0) == Some(What::Opened(1)));
     assert!(rt; (up.count(0, 5, 5), up.count(0, 0, 4), up.count(0, 6, 9)) == (1, 0, 0));
-    assert!(rt; up.abandon().region()[0] == 0);
+    assert!(rt; up.abandon().region().first() == Some(&0));
     Ok(())
 }
 
@@ -112,7 +120,7 @@ fn a_region_that_is_no_image_says_why(rt: HostRuntime) -> Result<(), test::Fail>
         assert!(rt; way == Way::Disk(why));
         assert!(rt; told(&notes, 0) == Some(What::Opened(0)));
         let berth = up.abandon();
-        assert!(rt; berth.region().len() == region.len() && berth.region()[0] == flag);
+        assert!(rt; berth.region().len() == region.len() && berth.region().first() == Some(&flag));
     }
     Ok(())
 }
@@ -128,24 +136,29 @@ fn a_start_that_is_refused_may_be_tried_again(rt: HostRuntime) -> Result<(), tes
         },
     ]?);
     let failing = MemBerth::failing(Vec::from_slice(alloc, ONE_ROW)?, Vec::new(alloc), fails);
-    match leaf(alloc, "t", failing)?.start(alloc, &mut notes) {
-        Ok(_) => assert!(rt; false, "a fault of the region went unseen"),
-        Err((down, fault)) => {
-            assert!(rt; matches!(fault, StartFault::RegionFault) && notes.len() == 0);
-            let (_, way) = start(alloc, leaf(alloc, "t", down.abandon())?, &mut notes)?;
-            assert!(rt; way == Way::Memory);
-        }
+    let Err((down, fault)) = leaf(alloc, "t", failing)?.start(alloc, &mut notes) else {
+        return Ok(assert!(rt; false, "a fault of the region went unseen"));
+    };
+    assert!(rt; matches!(fault, StartFault::RegionFault) && notes.len() == 0);
+    let (_up, way) = start(alloc, leaf(alloc, "t", down.abandon())?, &mut notes)?;
+    assert!(rt; way == Way::Memory);
+    Ok(())
+}
+
+#[test]
+fn a_stranger_is_named(rt: HostRuntime) -> Result<(), test::Fail> {
+    let alloc = rt.alloc();
+    let mut notes = Notes::new();
+    let other = leaf(alloc, "u", berth(alloc, ONE_ROW)?)?;
+    let Err((down, fault)) = other.start(alloc, &mut notes) else {
+        return Ok(assert!(rt; false, "a stranger went unseen"));
+    };
+    match fault {
+        StartFault::Stranger(name) => assert!(rt; name.as_str() == "t" && notes.len() == 0),
+        StartFault::RegionFault => assert!(rt; false, "a stranger was told as a fault"),
+        StartFault::NoMemory => assert!(rt; false, "a stranger was told as want of memory"),
     }
-    match leaf(alloc, "u", berth(alloc, ONE_ROW)?)?.start(alloc, &mut notes) {
-        Ok(_) => assert!(rt; false, "a stranger went unseen"),
-        Err((down, StartFault::Stranger(name))) => {
-            assert!(rt; name.as_str() == "t" && notes.len() == 0);
-            let (_, way) = start(alloc, leaf(alloc, "t", down.abandon())?, &mut notes)?;
-            assert!(rt; way == Way::Disk(WhyDisk::Closed(0)));
-        }
-        Err((_, StartFault::RegionFault)) | Err((_, StartFault::NoMemory)) => {
-            assert!(rt; false, "a stranger was taken for a fault");
-        }
-    }
+    let (_up, way) = start(alloc, leaf(alloc, "t", down.abandon())?, &mut notes)?;
+    assert!(rt; way == Way::Disk(WhyDisk::Closed(0)));
     Ok(())
 }
