@@ -83,7 +83,7 @@ set_size [] i t = refl
 set_size (x ∷ xs) zero t = refl
 set_size (x ∷ xs) (suc i) t = ap suc (set_size xs i t)
 
-set_names : (tables : List TableImage) (i : ℕ) (before after : TableImage) → slice_get tables i ≡ Some before → after.name ≡ before.name → names_of (slice_set tables i after) ≡ names_of tables
+pub set_names : (tables : List TableImage) (i : ℕ) (before after : TableImage) → slice_get tables i ≡ Some before → after.name ≡ before.name → names_of (slice_set tables i after) ≡ names_of tables
 set_names [] i before after at same = refl
 set_names (x ∷ xs) zero before after at same = ap (λ (n : List ℕ). n ∷ names_of xs) (same ∙ ap (λ (o : Option TableImage). (unwrap_or o x).name) (sym at))
 set_names (x ∷ xs) (suc i) before after at same = ap (λ (ns : List (List ℕ)). x.name ∷ ns) (set_names xs i before after at same)

@@ -4,7 +4,7 @@ ghost use Rattle.std.specs.List.{list_any, position};
 ghost use Rattle.std.specs.Option.{option_to_list};
 ghost use Rattle.std.specs.Str.{bytes_eq};
 ghost use Rattle.region_layout.specs.Region.{AreDistinct};
-ghost use Rattle.leaf_machine.specs.Tables.{adopted, empty_image, is_named, is_stranger, stranger_of, table_named};
+ghost use Rattle.leaf_machine.specs.Tables.{adopted, is_named, is_stranger, stranger_of, table_named};
 ghost use Rattle.leaf_machine.specs.Adopting.{given_up};
 
 use leaf_model::{Names, TableRows, Text};

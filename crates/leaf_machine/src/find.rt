@@ -1,5 +1,5 @@
 // A look at the region: its head, its flag, and its image.
-ghost use Rattle.std.specs.Prelude.{◌≡◌, ◌+◌, ◌-◌, ◌≤◌, ℕ, [], ◌∷◌, ◌++◌, List, length, min, take, drop, IfOk, IfErr, IsTrue, vec_len};
+ghost use Rattle.std.specs.Prelude.{◌≡◌, ◌+◌, ◌-◌, ◌≤◌, ℕ, [], ◌++◌, List, length, min, take, drop, IfOk, IfErr, IsTrue, vec_len};
 ghost use Rattle.std.specs.List.{AllByRecursion};
 ghost use Rattle.berth_face.specs.Causes.{Rose, HasCause};
 ghost use Rattle.berth_face.specs.Berth.{Passes};
@@ -13,7 +13,7 @@ ghost use Rattle.leaf_machine.specs.Finds.{Finds, IsFound};
 use crate::found::{FindFault, Found};
 use crate::ways::{Way, WhyDisk};
 use berth_face::{Berth, Failed};
-use region_layout::{Head, LAYOUT, TableImage, read_head, read_image};
+use region_layout::{Head, LAYOUT, read_head, read_image};
 use std::alloc::{AllocError, Global};
 
 /// The first bytes of a region, and what they say.

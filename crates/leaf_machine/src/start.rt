@@ -8,12 +8,11 @@ ghost use Rattle.leaf_machine.specs.declared.ways.StartFault.TheVariants.{Region
 ghost use Rattle.leaf_machine.specs.Notes.{opened_notes};
 ghost use Rattle.leaf_machine.specs.Tables.{names_of};
 ghost use Rattle.leaf_machine.specs.Starts.{Started, Refused, berth_after};
-ghost use Rattle.leaf_machine.specs.Finds.{IsReady, refusal_of};
+ghost use Rattle.leaf_machine.specs.Finds.{IsReady};
 
 use crate::adopt::{all_known, arranged};
 use crate::down::Down;
 use crate::find::find;
-use crate::found::FindFault;
 use crate::notes::{Notes, note_opened};
 use crate::ready::Ready;
 use crate::up::Up;

@@ -2,7 +2,7 @@
 ghost use Rattle.std.specs.Prelude.{◌≡◌, ◌<◌, length};
 ghost use Rattle.std.specs.List.{AllByRecursion};
 ghost use Rattle.leaf_model.specs.Values.{IsRow};
-ghost use Rattle.leaf_machine.specs.Tables.{Adds, CountsWithin};
+ghost use Rattle.leaf_machine.specs.Tables.{names_of, Adds, CountsWithin};
 
 use crate::adds::{AddFault, Added};
 use crate::table::{add_to, count_within};
@@ -37,6 +37,7 @@ impl<B: Berth> Up<B> {
         requires table { table < length self.old.0 }
         requires rows { AllByRecursion IsRow rows }
         ensures added { Adds self.old.0 table rows result self.new.0 }
+        ensures names { names_of self.new.0 ≡ names_of self.old.0 }
         ensures berth { self.new.1 ≡ self.old.1 }
     {
         add_to(&mut self.tables[table as usize], rows)
