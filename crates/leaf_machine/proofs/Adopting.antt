@@ -1,14 +1,13 @@
 -- Taking the tables of an image by their names.
-use Rattle.std.proofs.Common.{◌≡◌, ℕ, zero, suc, ◌+◌, ◌<◌, ◌≤◌, Bool, true, false, cond, not, ltb, List, [], ◌∷◌, ◌++◌, length, map, find, position, slice_get, slice_set, Option, Some, None, option_map, unwrap_or, pos, refl, sym, ap, ap₂, subst, ◌∙◌, arith, ltb-true, ltb-false}
+use Rattle.std.proofs.Common.{◌≡◌, ℕ, zero, suc, ◌+◌, ◌<◌, ◌≤◌, Bool, true, false, cond, not, ltb, List, [], ◌∷◌, length, find, position, slice_get, slice_set, Option, Some, None, unwrap_or, pos, refl, sym, ap, ap₂, ◌∙◌, arith, ltb-true, ltb-false}
 use Rattle.std.specs.Prelude.{◌≢◌}
 use Rattle.std.specs.List.{AllByRecursion, position_or_len}
-use Rattle.std.specs.Str.{bytes_eq, IsUtf8}
+use Rattle.std.specs.Str.{bytes_eq}
 use Rattle.std.proofs.lemmas.Slice.Eq.{bytes_eq-Decides}
 use Rattle.std.proofs.lemmas.List.Folds.{find_at}
 use Rattle.std.proofs.lemmas.Option.{slice_get_past}
 use Rattle.leaf_model.specs.declared.rows.Row.{Row}
 use Rattle.region_layout.specs.declared.image.TableImage.{TableImage}
-use Rattle.region_layout.specs.Region.{AreDistinct}
 use Rattle.leaf_machine.specs.Tables.{adopted, empty_image, is_named}
 use Rattle.leaf_machine.specs.Adopting.{given_up}
 

@@ -7,7 +7,7 @@ use Rattle.leaf_model.specs.declared.rows.Row.{Row}
 use Rattle.leaf_model.specs.Values.{IsTime, IsRow}
 use Rattle.leaf_model.specs.Content.{rows_from}
 use Rattle.region_layout.specs.declared.image.TableImage.{TableImage}
-use Rattle.region_layout.specs.Region.{IsTableImage, IsHeldRow, AreDistinct, MayBeImage}
+use Rattle.region_layout.specs.Region.{IsTableImage, IsHeldRow, AreDistinct}
 use Rattle.leaf_machine.specs.declared.adds.Added.{Added}
 use Rattle.leaf_machine.specs.declared.adds.AddFault.{AddFault}
 use Rattle.leaf_machine.specs.declared.adds.AddFault.TheVariants.{Full, NoMemory}

@@ -1,5 +1,5 @@
 -- What a look at the region finds, before the leaf's names are known.
-use Rattle.std.specs.Prelude.{◌≡◌, ℕ, List, [], length, None, Result, Ok, Err}
+use Rattle.std.specs.Prelude.{◌≡◌, ℕ, List, [], None, Result, Ok, Err}
 use Rattle.region_layout.specs.declared.image.TableImage.{TableImage}
 use Rattle.region_layout.specs.Region.{IsImage}
 use Rattle.leaf_machine.specs.declared.found.Found.{Found}

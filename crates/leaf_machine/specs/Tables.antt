@@ -1,5 +1,5 @@
 -- The tables of a leaf: by name, out of an image, and after an add.
-use Rattle.std.specs.Prelude.{◌≡◌, ℕ, ◌+◌, ◌-◌, ◌<◌, ◌≤◌, ◌^◌, ◌&&◌, Bool, not, List, [], ◌∷◌, ◌++◌, length, map, slice_set, slice_get, Option, Some, None, option_map, unwrap_or, Result, Ok, Err, ℤ, pos, int_le, IsUtf8}
+use Rattle.std.specs.Prelude.{◌≡◌, ℕ, ◌+◌, ◌<◌, ◌≤◌, ◌^◌, ◌&&◌, Bool, not, List, [], ◌++◌, length, map, slice_set, slice_get, Option, Some, option_map, unwrap_or, Result, Ok, Err, ℤ, pos, int_le, IsUtf8}
 use Rattle.std.specs.Str.{bytes_eq}
 use Rattle.std.specs.List.{find, list_any, count_by, AllByRecursion}
 use Rattle.leaf_model.specs.declared.rows.Row.{Row}

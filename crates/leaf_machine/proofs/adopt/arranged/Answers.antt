@@ -1,5 +1,4 @@
 use Rattle.std.proofs.Common.{◌≡◌, rules, List, ℕ, [], ◌++◌, sym, ap, ◌∙◌, append-nil}
-use Rattle.region_layout.specs.declared.image.TableImage.{TableImage}
 use Rattle.leaf_machine.specs.Tables.{adopted}
 use Rattle.leaf_machine.proofs.adopt.arranged.Goals as goal
 

@@ -1,4 +1,4 @@
-use Rattle.std.proofs.Common.{◌≡◌, ◌++◌, ◌+◌, ◌≤◌, vec_len, vec_capacity, length}
+use Rattle.std.proofs.Common.{◌≡◌, ◌++◌, ◌+◌, ◌≤◌, vec_len, vec_capacity}
 use Rattle.std.specs.VecDeque.{deque_len}
 use Rattle.region_layout.specs.Region.{AreDistinct}
 use Rattle.leaf_machine.specs.Tables.{adopted}

@@ -1,6 +1,5 @@
-use Rattle.std.proofs.Common.{◌≡◌, rules, length, position, slice_get, slice_set, get_or, Option, Some, None, unwrap_or, refl, sym, ap, subst, ◌∙◌, List}
+use Rattle.std.proofs.Common.{◌≡◌, rules, length, position, slice_set, get_or, Option, Some, None, unwrap_or, refl, sym, ap, subst, ◌∙◌}
 use Rattle.std.proofs.lemmas.Option.{slice_get_read}
-use Rattle.leaf_model.specs.declared.rows.Row.{Row}
 use Rattle.region_layout.specs.declared.image.TableImage.{TableImage}
 use Rattle.leaf_machine.specs.Tables.{empty_image, is_named}
 use Rattle.leaf_machine.proofs.Adopting.{emptied, named_at, given_at, named_nowhere, given_nowhere}

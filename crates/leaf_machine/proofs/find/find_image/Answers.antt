@@ -1,5 +1,4 @@
-use Rattle.std.proofs.Common.{◌≡◌, ◌≤◌, List, ℕ, ◌++◌, length, drop, sym, ap, ap₂, subst, ◌∙◌, arith}
-use Rattle.leaf_machine.specs.Starts.{closed_flag}
+use Rattle.std.proofs.Common.{◌≡◌, ◌≤◌, List, ℕ, ◌++◌, length, drop, ap, ap₂, ◌∙◌, arith}
 use Rattle.leaf_machine.proofs.Heads.{head_long, closed_size, whole_again}
 use Rattle.leaf_machine.proofs.Finding.{no_image, never_read}
 use Rattle.leaf_machine.proofs.find.find_image.Goals as goal

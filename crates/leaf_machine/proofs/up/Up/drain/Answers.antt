@@ -1,4 +1,4 @@
-use Rattle.std.proofs.Common.{◌≡◌, length, sym, ap, subst, ◌∙◌, arith, length-append}
+use Rattle.std.proofs.Common.{length, sym, ap, subst, arith, length-append}
 use Rattle.leaf_machine.specs.Notes.{closed_notes}
 use Rattle.leaf_machine.specs.Tables.{AreNames}
 use Rattle.leaf_machine.proofs.Noting.{closed_count}
