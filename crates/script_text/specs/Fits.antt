@@ -1,0 +1,62 @@
+-- What a caller knows of a script that was read.
+use Rattle.std.specs.Prelude.{◌≡◌, ◌<◌, ◌≤◌, ◌≢◌, ℕ, List, [], ◌∷◌, length, true, None, IsUtf8}
+use Rattle.std.specs.List.{AllByRecursion, Contains}
+use Rattle.leaf_model.specs.declared.queries.Query.{Query}
+use Rattle.leaf_model.specs.declared.queries.Agg.TheVariants.{Count}
+use Rattle.leaf_model.specs.Values.{IsTime, IsRow}
+use Rattle.script_text.specs.declared.command.Command.{Command}
+use Rattle.script_text.specs.declared.command.Command.TheVariants.{Fleet, Add, Drain, Start}
+use Rattle.script_text.specs.declared.command.Command.TheVariants as command
+use Rattle.script_text.specs.declared.script.Script.{Script}
+use Rattle.script_text.specs.Words.{is_table_name}
+
+-- a table's name, which is UTF-8 of 1 to 64 bytes
+pub record IsTableName (name : List ℕ) : Type 0 where
+  pub spelling : is_table_name name ≡ true
+  pub utf8 : IsUtf8 name
+  pub some : 0 < length name
+  pub short : length name ≤ 64
+
+-- no name stands twice
+abbrev pub AreDistinct : List (List ℕ) → Type 0
+AreDistinct [] = Unit {0}
+AreDistinct (name ∷ names) = AllByRecursion (λ other. other ≢ name) names × AreDistinct names
+
+-- 1 to 16 distinct names
+pub record AreTables (tables : List (List ℕ)) : Type 0 where
+  pub some : 0 < length tables
+  pub few : length tables ≤ 16
+  pub names : AllByRecursion IsTableName tables
+  pub distinct : AreDistinct tables
+
+-- a query of the number of a table's rows from one time to another
+pub record IsCountQuery (tables : List (List ℕ)) (query : Query) : Type 0 where
+  pub table : Contains tables query.table
+  pub from : IsTime query.from
+  pub to : IsTime query.to
+  pub conds : query.conds ≡ []
+  pub keys : query.keys ≡ []
+  pub aggs : query.aggs ≡ Count ∷ []
+  pub order : query.order ≡ None
+  pub limit : query.limit ≡ 100000
+
+-- a command behind a fleet of one leaf with these tables
+abbrev pub IsCommand : List (List ℕ) → Command → Type 0
+IsCommand tables (Fleet machines per_machine names) = ⊥
+IsCommand tables (Add leaf table rows) = (leaf ≡ 0) × (table < length tables) × (length rows ≤ 100000) × AllByRecursion IsRow rows
+IsCommand tables (command.Query query) = IsCountQuery tables query
+IsCommand tables (Drain leaf) = leaf ≡ 0
+IsCommand tables (Start leaf) = leaf ≡ 0
+
+-- commands, of which the first is a fleet of one leaf, and no other is a fleet
+abbrev pub AreCommands : List Command → Type 0
+AreCommands [] = Unit {0}
+AreCommands (Fleet machines per_machine tables ∷ commands) = (machines ≡ 1) × (per_machine ≡ 1) × AreTables tables × AllByRecursion (IsCommand tables) commands
+AreCommands (Add leaf table rows ∷ commands) = ⊥
+AreCommands (command.Query query ∷ commands) = ⊥
+AreCommands (Drain leaf ∷ commands) = ⊥
+AreCommands (Start leaf ∷ commands) = ⊥
+
+-- a script that was read
+abbrev pub IsScript : Script → Type 0
+IsScript script = AreCommands script.commands

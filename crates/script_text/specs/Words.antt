@@ -1,0 +1,71 @@
+-- The words of a line, and what they may be.
+use Rattle.std.specs.Prelude.{ℕ, ◌-◌, ◌^◌, min, ◌==◌, ◌&&◌, ◌||◌, List, [], ◌∷◌, length, nat_lt, nat_le, Bool, true, false, not, if◌then◌else◌, Option, Some, None}
+use Rattle.std.specs.Char.{is_ascii_digit}
+use Rattle.std.specs.List.{filter, list_all, list_any, position_from}
+use Rattle.std.specs.Str.{bytes_eq}
+use Rattle.std.specs.Str.Parse.{digits_value}
+use Rattle.script_text.specs.Lines.{pieces, before, behind, is_blank}
+
+-- the words of a line: its pieces between spaces, but for the empty ones
+abbrev pub words_of : List ℕ → List (List ℕ)
+words_of line = filter (λ piece. nat_lt 0 (length piece)) (pieces 32 line)
+
+-- the line without the spaces before its first word
+abbrev pub unindented : List ℕ → List ℕ
+unindented [] = []
+unindented (b ∷ bs) = if b == 32 then unindented bs else b ∷ bs
+
+-- the first word of a line
+abbrev pub first_word : List ℕ → List ℕ
+first_word line = before 32 (unindented line)
+
+-- all that follows the first word and one space
+abbrev pub behind_word : List ℕ → List ℕ
+behind_word line = behind 32 (unindented line)
+
+-- the text without the spaces at its end
+abbrev pub trimmed : List ℕ → List ℕ
+trimmed [] = []
+trimmed (b ∷ bs) = if is_blank (b ∷ bs) then [] else b ∷ trimmed bs
+
+-- 1 to 20 digits
+abbrev pub is_number : List ℕ → Bool
+is_number word = nat_lt 0 (length word) && nat_le (length word) 20 && list_all is_ascii_digit word
+
+-- the number that a word of 1 to 20 digits is
+abbrev pub number_of : List ℕ → Option ℕ
+number_of word = if is_number word then Some (digits_value 10 word) else None
+
+-- a number that a 64-bit word holds, or the greatest such
+abbrev pub capped : ℕ → ℕ
+capped n = min n (2 ^ 64 - 1)
+
+-- a letter from a to z
+abbrev pub is_letter : ℕ → Bool
+is_letter b = nat_le 97 b && nat_le b 122
+
+-- a to z, 0 to 9 and `_`
+abbrev pub is_name_byte : ℕ → Bool
+is_name_byte b = is_letter b || is_ascii_digit b || (b == 95)
+
+-- what may be a table's name: a letter, and up to 63 of a to z, 0 to 9 and `_`
+abbrev pub is_table_name : List ℕ → Bool
+is_table_name [] = false
+is_table_name (b ∷ bs) = is_letter b && list_all is_name_byte bs && nat_le (length bs) 63
+
+-- a name is one of the names
+abbrev pub is_among : List (List ℕ) → List ℕ → Bool
+is_among names name = list_any (λ other. bytes_eq other name) names
+
+-- the place of a name among the names, from 0
+abbrev pub place_of : List (List ℕ) → List ℕ → Option ℕ
+place_of names name = position_from (λ other. bytes_eq other name) 0 names
+
+-- no name stands twice
+abbrev pub are_distinct : List (List ℕ) → Bool
+are_distinct [] = true
+are_distinct (name ∷ names) = not (is_among names name) && are_distinct names
+
+-- 1 to 16 distinct names of tables
+abbrev pub are_tables : List (List ℕ) → Bool
+are_tables names = nat_lt 0 (length names) && nat_le (length names) 16 && list_all is_table_name names && are_distinct names

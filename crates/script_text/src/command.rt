@@ -1,0 +1,61 @@
+// The commands of a script.
+ghost use Rattle.std.specs.Prelude.{◌≡◌};
+
+use leaf_model::{Names, Query, Rows};
+use std::marker::Model;
+
+/// A command. A leaf is its number from 0, and a table its place among those of the fleet, from 0.
+#[derive(Debug, Drop)]
+pub enum Command {
+    /// So many machines, with so many leaves each, which all have these tables.
+    Fleet {
+        machines: u32,
+        per_machine: u32,
+        tables: Names,
+    },
+    Add {
+        leaf: u32,
+        table: u32,
+        rows: Rows,
+    },
+    Query(Query),
+    Drain {
+        leaf: u32,
+    },
+    Start(u32),
+}
+
+/// The commands of a script, in their order. Contracts see them as the list.
+#[derive(Debug, Drop)]
+pub struct Commands {
+    inner: Vec<Command>,
+}
+
+impl Model for Commands {
+    ghost use Rattle.std.specs.Prelude.{List};
+    ghost use Rattle.script_text.specs.declared.command.Command.{Command};
+
+    ghost Value = { List Command };
+
+    ghost view = { λ list. list.inner.items };
+}
+
+impl Commands {
+    pub fn of(inner: Vec<Command>) -> Commands
+        ensures { result ≡ inner.items }
+    {
+        Commands { inner }
+    }
+
+    pub fn as_slice(&self) -> &[Command]
+        ensures { result.now ≡ self.now }
+    {
+        self.inner.as_slice()
+    }
+
+    pub fn into_inner(self) -> Vec<Command>
+        ensures { result.items ≡ self }
+    {
+        self.inner
+    }
+}

@@ -1,0 +1,119 @@
+// The words of a line, and what they may be.
+ghost use Rattle.std.specs.Prelude.{◌≡◌, ◌<◌, ◌^◌, ◌-◌, ◌∷◌, [], ℕ, None, IfSome, IfOk, option_map, length, min};
+ghost use Rattle.std.specs.Char.{is_ascii_digit};
+ghost use Rattle.std.specs.List.{list_all};
+ghost use Rattle.script_text.specs.Lines.{before, behind};
+ghost use Rattle.script_text.specs.Words.{words_of, unindented, first_word, behind_word, trimmed, is_number, number_of, capped, is_letter, is_name_byte, is_table_name, place_of, is_among};
+
+use crate::lines::cut_at;
+use leaf_model::Text;
+
+/// The first word of a line, and all that follows it and one space. Both are empty where the line has no word.
+pub fn cut_word(line: &[u8]) -> (&[u8], &[u8])
+    ensures word { result.0.now ≡ first_word line.now }
+    ensures behind { result.1.now ≡ behind_word line.now }
+{
+    cut_at(b' ', unindented(line))
+}
+
+/// The first word of a line and the rest of it, where it has one.
+pub fn next_word(line: &[u8]) -> Option<(&[u8], &[u8])>
+    ensures some { IfSome result (λ cut. words_of line.now ≡ cut.0.now ∷ words_of cut.1.now) }
+    ensures shorter { IfSome result (λ cut. length cut.1.now < length line.now) }
+    ensures none { result ≡ None → words_of line.now ≡ [] }
+{
+    let (word, rest) = cut_word(line);
+    if word.is_empty() {
+        None
+    } else {
+        Some((word, rest))
+    }
+}
+
+fn unindented(line: &[u8]) -> &[u8]
+    ensures { result.now ≡ unindented line.now }
+{
+    let mut rest = line;
+    while let [b' ', more @ ..] = rest {
+        rest = more;
+    }
+    rest
+}
+
+/// The text without the spaces at its end.
+pub fn trimmed(text: &[u8]) -> &[u8]
+    ensures { result.now ≡ trimmed text.now }
+{
+    let mut front = text;
+    while let [shorter @ .., b' '] = front {
+        front = shorter;
+    }
+    front
+}
+
+/// The number that a word of 1 to 20 digits is; one that is greater than a `u64` can hold is the greatest `u64`.
+pub fn number_of(word: &[u8]) -> Option<u64>
+    ensures { result ≡ option_map capped (number_of word.now) }
+{
+    if !is_number(word) {
+        return None;
+    }
+    match std::str::from_utf8(word) {
+        Ok(digits) => Some(digits.parse::<u64>().unwrap_or(u64::MAX)),
+        Err(_) => unreachable!(),
+    }
+}
+
+fn is_number(word: &[u8]) -> bool
+    ensures { result ≡ is_number word.now }
+{
+    !word.is_empty() && word.len() <= 20 && has_digits_alone(word)
+}
+
+fn has_digits_alone(word: &[u8]) -> bool
+    ensures { result ≡ list_all is_ascii_digit word.now }
+{
+    word.iter().all(|byte| byte.is_ascii_digit())
+}
+
+/// Whether a word may be a table's name: a letter from a to z, and then up to 63 of a to z, 0 to 9 and `_`.
+pub fn is_table_name(word: &[u8]) -> bool
+    ensures { result ≡ is_table_name word.now }
+{
+    match word {
+        [first, rest @ ..] => is_letter(*first) && has_name_bytes_alone(rest) && rest.len() <= 63,
+        [] => false,
+    }
+}
+
+fn has_name_bytes_alone(word: &[u8]) -> bool
+    ensures { result ≡ list_all is_name_byte word.now }
+{
+    word.iter().all(|byte| is_name_byte(*byte))
+}
+
+fn is_letter(byte: u8) -> bool
+    ensures { result ≡ is_letter byte }
+{
+    b'a' <= byte && byte <= b'z'
+}
+
+fn is_name_byte(byte: u8) -> bool
+    ensures { result ≡ is_name_byte byte }
+{
+    is_letter(byte) || byte.is_ascii_digit() || byte == b'_'
+}
+
+/// The place of a name among the names.
+pub fn place_of(names: &[Text], name: &[u8]) -> Option<u32>
+    ensures { result ≡ place_of names.now name.now }
+{
+    let mut place = 0;
+    for other in names {
+        if other.as_str().as_bytes() == name {
+            return Some(place);
+        }
+        place += 1;
+    }
+    None
+}
