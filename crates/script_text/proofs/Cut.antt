@@ -1,40 +1,98 @@
--- The first line of a text.
-use Rattle.std.proofs.Common.{◌≡◌, ◌<◌, ◌≤◌, ◌+◌, ◌-◌, ℕ, zero, suc, List, [], ◌∷◌, length, take, drop, get_or, refl, arith, Bool, true, false, eqb, add-one}
+-- A text cut at a byte.
+use Rattle.std.proofs.Common.{◌≡◌, ◌<◌, ◌≤◌, ◌+◌, ◌-◌, ℕ, zero, suc, List, [], ◌∷◌, length, take, drop, get_or, refl, ap, sym, arith, Bool, true, false, eqb, add-one, map}
 use Rattle.std.proofs.Math.Seq.{take-length, drop-length}
-use Rattle.std.proofs.lemmas.List.{length-drop}
-use Rattle.script_text.specs.Lines.{lines}
+use Rattle.std.proofs.lemmas.List.{length-drop, drop-drop}
+use Rattle.script_text.specs.Lines.{pieces, before, behind, lines, lines_of, without_return}
 
-is_false : (b : Bool) → (b ≡ true → ⊥) → b ≡ false
+pub is_false : (b : Bool) → (b ≡ true → ⊥) → b ≡ false
 is_false true h = absurd (h refl)
 is_false false h = refl
 
--- a text is cut at the first byte 10
-lines_first : (text : List ℕ) (end : ℕ) → end < length text → eqb (get_or text end 0) 10 ≡ true → ((j : ℕ) → j < end → eqb (get_or text j 0) 10 ≡ true → ⊥) → lines text ≡ take end text ∷ lines (drop (suc end) text)
-lines_first [] end within is none = absurd (omega arith)
-lines_first (b ∷ bs) zero within is none = rw is
-lines_first (b ∷ bs) (suc e) within is none =
-    let here : eqb b 10 ≡ false = is_false _ (none 0 (omega arith)) in
-    let later = lines_first bs e (omega arith) is (λ j below. none (suc j) (omega arith)) in
+-- what stands before the first such byte
+before_first : (at : ℕ) (text : List ℕ) (end : ℕ) → end < length text → eqb (get_or text end 0) at ≡ true → ((j : ℕ) → j < end → eqb (get_or text j 0) at ≡ true → ⊥) → before at text ≡ take end text
+before_first at [] end within is none = absurd (omega arith)
+before_first at (b ∷ bs) zero within is none = rw is
+before_first at (b ∷ bs) (suc e) within is none =
+    let here : eqb b at ≡ false = is_false _ (none 0 (omega arith)) in
+    let later = before_first at bs e (omega arith) is (λ j below. none (suc j) (omega arith)) in
+    rw (here, later)
+
+behind_first : (at : ℕ) (text : List ℕ) (end : ℕ) → end < length text → eqb (get_or text end 0) at ≡ true → ((j : ℕ) → j < end → eqb (get_or text j 0) at ≡ true → ⊥) → behind at text ≡ drop (suc end) text
+behind_first at [] end within is none = absurd (omega arith)
+behind_first at (b ∷ bs) zero within is none = rw is
+behind_first at (b ∷ bs) (suc e) within is none =
+    let here : eqb b at ≡ false = is_false _ (none 0 (omega arith)) in
+    let later = behind_first at bs e (omega arith) is (λ j below. none (suc j) (omega arith)) in
     rw (here, later)
 
 take_rest : (text : List ℕ) (at : ℕ) → take (length text - at) (drop at text) ≡ drop at text
 take_rest text at = rw (← length-drop at text) (take-length (drop at text))
 
-pub lines_cut : (text : List ℕ) (end : ℕ) → end < length text → eqb (get_or text end 0) 10 ≡ true → ((j : ℕ) → 0 ≤ j → j < end → eqb (get_or text j 0) 10 ≡ true → ⊥) → lines text ≡ take end text ∷ lines (take (length text - (end + 1)) (drop (end + 1) text))
-lines_cut text end within is none =
-    rw (take_rest text (end + 1), add-one) (lines_first text end within is (λ j below. none j (omega arith) below))
+pub before_found : (at : ℕ) (text : List ℕ) (end : ℕ) → end < length text → eqb (get_or text end 0) at ≡ true → ((j : ℕ) → 0 ≤ j → j < end → eqb (get_or text j 0) at ≡ true → ⊥) → take end text ≡ before at text
+before_found at text end within is none = sym (before_first at text end within is (λ j below. none j (omega arith) below))
 
--- a text that has no byte 10 is one line
-one_line : (text : List ℕ) → 0 < length text → ((j : ℕ) → j < length text → eqb (get_or text j 0) 10 ≡ true → ⊥) → lines text ≡ text ∷ []
-one_line [] some none = absurd (omega arith)
-one_line (b ∷ []) some none =
-    let here : eqb b 10 ≡ false = is_false _ (none 0 (omega arith)) in
-    rw here
-one_line (b ∷ x ∷ xs) some none =
-    let here : eqb b 10 ≡ false = is_false _ (none 0 (omega arith)) in
-    let later = one_line (x ∷ xs) (omega arith) (λ j below. none (suc j) (omega arith)) in
+pub behind_found : (at : ℕ) (text : List ℕ) (end : ℕ) → end < length text → eqb (get_or text end 0) at ≡ true → ((j : ℕ) → 0 ≤ j → j < end → eqb (get_or text j 0) at ≡ true → ⊥) → take (length text - (end + 1)) (drop (end + 1) text) ≡ behind at text
+behind_found at text end within is none =
+    rw (take_rest text (end + 1), add-one) (sym (behind_first at text end within is (λ j below. none j (omega arith) below)))
+
+-- a text that has no such byte
+before_all : (at : ℕ) (text : List ℕ) → ((j : ℕ) → j < length text → eqb (get_or text j 0) at ≡ true → ⊥) → before at text ≡ text
+before_all at [] none = refl
+before_all at (b ∷ bs) none =
+    let here : eqb b at ≡ false = is_false _ (none 0 (omega arith)) in
+    let later = before_all at bs (λ j below. none (suc j) (omega arith)) in
     rw (here, later)
 
-pub lines_one : (text : List ℕ) → 0 < length text → ((j : ℕ) → 0 ≤ j → j < length text → eqb (get_or text j 0) 10 ≡ true → ⊥) → lines text ≡ text ∷ lines (take (length text - length text) (drop (length text) text))
-lines_one text some none =
-    rw (take_rest text (length text), drop-length text) (one_line text some (λ j below. none j (omega arith) below))
+behind_all : (at : ℕ) (text : List ℕ) → ((j : ℕ) → j < length text → eqb (get_or text j 0) at ≡ true → ⊥) → behind at text ≡ []
+behind_all at [] none = refl
+behind_all at (b ∷ bs) none =
+    let here : eqb b at ≡ false = is_false _ (none 0 (omega arith)) in
+    let later = behind_all at bs (λ j below. none (suc j) (omega arith)) in
+    rw (here, later)
+
+pub before_none : (at : ℕ) (text : List ℕ) → ((j : ℕ) → 0 ≤ j → j < length text → eqb (get_or text j 0) at ≡ true → ⊥) → text ≡ before at text
+before_none at text none = sym (before_all at text (λ j below. none j (omega arith) below))
+
+pub behind_none : (at : ℕ) (text : List ℕ) → ((j : ℕ) → 0 ≤ j → j < length text → eqb (get_or text j 0) at ≡ true → ⊥) → take (length text - length text) (drop (length text) text) ≡ behind at text
+behind_none at text none =
+    rw (take_rest text (length text), drop-length text) (sym (behind_all at text (λ j below. none j (omega arith) below)))
+
+-- a text is what stands before the first such byte, and what stands behind it
+pieces_by : (at b : ℕ) (bs : List ℕ) (is : Bool) → eqb b at ≡ is → (0 < length bs → pieces at bs ≡ before at bs ∷ pieces at (behind at bs)) → pieces at (b ∷ bs) ≡ before at (b ∷ bs) ∷ pieces at (behind at (b ∷ bs))
+pieces_by at b bs true is later = rw is
+pieces_by at b [] false is later = rw is
+pieces_by at b (x ∷ xs) false is later = rw (is, later (omega arith))
+
+pub pieces_cut : (at : ℕ) (text : List ℕ) → 0 < length text → pieces at text ≡ before at text ∷ pieces at (behind at text)
+pieces_cut at [] some = absurd (omega arith)
+pieces_cut at (b ∷ bs) some = pieces_by at b bs (eqb b at) refl (pieces_cut at bs)
+
+behind_by : (at b : ℕ) (bs : List ℕ) (is : Bool) → eqb b at ≡ is → length (behind at bs) ≤ length bs → length (behind at (b ∷ bs)) < length (b ∷ bs)
+behind_by at b bs true is later = rw is (omega arith)
+behind_by at b bs false is later = rw is (omega arith)
+
+behind_no_longer : (at : ℕ) (text : List ℕ) → length (behind at text) ≤ length text
+behind_no_longer at [] = omega arith
+behind_no_longer at (b ∷ bs) = omega (arith, behind_by at b bs (eqb b at) refl (behind_no_longer at bs))
+
+pub behind_shorter : (at : ℕ) (text : List ℕ) → 0 < length text → length (behind at text) < length text
+behind_shorter at [] some = absurd (omega arith)
+behind_shorter at (b ∷ bs) some = behind_by at b bs (eqb b at) refl (behind_no_longer at bs)
+
+pub lines_of-cut : (text line rest : List ℕ) → lines text ≡ line ∷ lines rest → lines_of text ≡ without_return line ∷ lines_of rest
+lines_of-cut text line rest cut = ap (map without_return) cut
+
+pub lines_of-none : (text : List ℕ) → length text ≡ 0 → lines_of text ≡ []
+lines_of-none [] none = refl
+lines_of-none (b ∷ bs) none = absurd (omega arith)
+
+-- places in a list
+pub drop_next : {X : Type 0} (xs : List X) (i : ℕ) (x : X) (rest : List X) → drop i xs ≡ x ∷ rest → (drop (i + 1) xs ≡ rest) × (i + 1 ≤ length xs)
+drop_next xs i x rest is =
+    let more : length (drop i xs) ≡ length (x ∷ rest) = ap length is in
+    (rw (← drop-drop 1 i xs) (ap (drop 1) is), omega (arith, more, length-drop i xs))
+
+pub drop_end : {X : Type 0} (xs : List X) (i : ℕ) → drop i xs ≡ [] → length xs ≤ i
+drop_end xs i is =
+    let none : length (drop i xs) ≡ 0 = ap length is in
+    omega (arith, none, length-drop i xs)

@@ -1,5 +1,5 @@
 -- The commands of a script, each from the line that it stands on, or the first fault of the line.
-use Rattle.std.specs.Prelude.{ℕ, ◌+◌, ◌==◌, ◌&&◌, List, [], ◌∷◌, length, take, nat_lt, nat_le, if◌then◌else◌, Option, Some, None, Result, Ok, Err, codes}
+use Rattle.std.specs.Prelude.{ℕ, ◌+◌, ◌==◌, ◌&&◌, List, [], ◌∷◌, ◌++◌, length, take, nat_lt, nat_le, if◌then◌else◌, Option, Some, None, Result, Ok, Err, codes}
 use Rattle.std.specs.Str.{bytes_eq}
 use Rattle.leaf_model.specs.declared.queries.Query.{Query}
 use Rattle.leaf_model.specs.declared.rows.Row.{Row}
@@ -80,6 +80,11 @@ abbrev pub with_first : {X : Type 0} → Result X Fault → Result (List X) Faul
 with_first (Ok first) (Ok others) = Ok (first ∷ others)
 with_first (Ok first) (Err found) = Err found
 with_first (Err found) others = Err found
+
+-- what was read before others, or the first fault
+abbrev pub joined : {X : Type 0} → List X → Result (List X) Fault → Result (List X) Fault
+joined first (Ok others) = Ok (first ++ others)
+joined first (Err found) = Err found
 
 -- the rows of lines that are numbered from n on, none of them skipped
 abbrev pub rows_from : ℕ → List (List ℕ) → Result (List Row) Fault

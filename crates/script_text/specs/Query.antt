@@ -1,5 +1,5 @@
 -- The one form of query that is read so far.
-use Rattle.std.specs.Prelude.{ℕ, ◌^◌, ◌&&◌, ◌++◌, List, [], ◌∷◌, length, take, drop, nat_lt, if◌then◌else◌, Option, Some, None, option_and_then, ℤ, pos, codes}
+use Rattle.std.specs.Prelude.{ℕ, ◌^◌, List, [], ◌∷◌, length, take, drop, nat_lt, if◌then◌else◌, Option, Some, None, option_and_then, ℤ, pos, codes}
 use Rattle.std.specs.Str.{bytes_eq}
 use Rattle.leaf_model.specs.declared.queries.Query.{Query}
 use Rattle.leaf_model.specs.declared.queries.Agg.TheVariants.{Count}

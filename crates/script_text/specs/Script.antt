@@ -1,5 +1,5 @@
 -- The script that a text is, or its first fault.
-use Rattle.std.specs.Prelude.{◌≡◌, ℕ, zero, suc, ◌+◌, List, [], ◌∷◌, ◌++◌, length, if◌then◌else◌, Option, Some, None, Result, Ok, Err}
+use Rattle.std.specs.Prelude.{◌≡◌, ℕ, zero, suc, ◌+◌, List, [], ◌∷◌, length, if◌then◌else◌, Option, Some, None, Result, Ok, Err}
 use Rattle.script_text.specs.declared.command.Command.{Command}
 use Rattle.script_text.specs.declared.command.Command.TheVariants.{Fleet, Add, Query, Drain, Start}
 use Rattle.script_text.specs.declared.script.Script.{Script}
@@ -65,11 +65,6 @@ script_with line (Err found) = Err found
 -- the script that a text is, or the first line that has a fault
 unfoldable pub script_of : List ℕ → Result Script Fault
 script_of text = script_with (number_in (next_line 1 (lines_of text))) (commands_from 0 1 None (lines_of text))
-
--- the commands that were read before others, or the first fault
-abbrev pub joined : List Command → Result (List Command) Fault → Result (List Command) Fault
-joined first (Ok others) = Ok (first ++ others)
-joined first (Err found) = Err found
 
 -- the fault of a line is such a one
 abbrev pub IfAt : ScriptFault → (ℕ → Why → Type 0) → Type 0

@@ -69,3 +69,7 @@ are_distinct (name ∷ names) = not (is_among names name) && are_distinct names
 -- 1 to 16 distinct names of tables
 abbrev pub are_tables : List (List ℕ) → Bool
 are_tables names = nat_lt 0 (length names) && nat_le (length names) 16 && list_all is_table_name names && are_distinct names
+
+-- what may be the name of one more table behind these
+abbrev pub may_follow : List (List ℕ) → List ℕ → Bool
+may_follow names name = nat_lt (length names) 16 && is_table_name name && not (is_among names name)

@@ -2,7 +2,7 @@
 ghost use Rattle.std.specs.Prelude.{◌≡◌, ◌&&◌, ◌<◌, ◌^◌, length, true, not, Some, None, IfOk, IfSome, option_and_then, if◌then◌else◌};
 ghost use Rattle.std.specs.Str.{IsUtf8};
 ghost use Rattle.script_text.specs.declared.command.Command.TheVariants.{Fleet};
-ghost use Rattle.script_text.specs.Words.{words_of, first_word, is_among, are_tables, is_table_name};
+ghost use Rattle.script_text.specs.Words.{words_of, first_word, is_among, may_follow, are_tables, is_table_name};
 ghost use Rattle.script_text.specs.Commands.{first_command, fleet_of, or_words, verb_of};
 ghost use Rattle.script_text.specs.Fits.{AreTables};
 ghost use Rattle.script_text.specs.Script.{Gives};
@@ -66,7 +66,7 @@ fn tables(alloc: Global, words: &[u8]) -> Result<Option<Names>, AllocError>
     let mut tables: Vec<Text> = Vec::new(alloc);
     let mut rest = words;
     while let Some((word, after)) = next_word(rest) {
-        if tables.len() == MAX_TABLES || !is_new_name(tables.as_slice(), word) {
+        if !may_follow(tables.as_slice(), word) {
             return Ok(None);
         }
         tables.push(text_of(alloc, word)?)?;
@@ -79,11 +79,17 @@ fn tables(alloc: Global, words: &[u8]) -> Result<Option<Names>, AllocError>
 }
 
 /// Whether a word may be the name of one more table.
-fn is_new_name(tables: &[Text], word: &[u8]) -> bool
-    requires { length tables.now < 2 ^ 32 }
-    ensures { result ≡ (is_table_name word.now && not (is_among tables.now word.now)) }
+fn may_follow(tables: &[Text], word: &[u8]) -> bool
+    ensures { result ≡ may_follow tables.now word.now }
 {
-    is_table_name(word) && place_of(tables, word).is_none()
+    tables.len() < MAX_TABLES && is_table_name(word) && is_new(tables, word)
+}
+
+fn is_new(tables: &[Text], word: &[u8]) -> bool
+    requires { length tables.now < 2 ^ 32 }
+    ensures { result ≡ not (is_among tables.now word.now) }
+{
+    place_of(tables, word).is_none()
 }
 
 /// A table's name as a text.

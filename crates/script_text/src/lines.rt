@@ -65,7 +65,7 @@ pub fn behind_lines(text: &[u8], count: u64) -> Option<&[u8]>
     ensures none { result ≡ None → length (lines_of text.now) < count }
 {
     let mut rest = text;
-    for _ in 0..count {
+    for _line in 0..count {
         if rest.is_empty() {
             return None;
         }

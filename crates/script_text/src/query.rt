@@ -5,7 +5,7 @@ ghost use Rattle.script_text.specs.Query.{query_of, count_query, time_of, stripp
 ghost use Rattle.script_text.specs.Words.{is_table_name};
 ghost use Rattle.script_text.specs.Commands.{query_command};
 ghost use Rattle.script_text.specs.Fits.{IsCommand};
-ghost use Rattle.script_text.specs.Script.{Gives};
+ghost use Rattle.script_text.specs.Script.{Gives, row_count};
 
 use crate::command::Command;
 use crate::fault::{ScriptFault, Why, fault_at};
@@ -36,6 +36,7 @@ pub fn query(
     requires few { length tables.now ≤ 16 }
     ensures exact { Gives (λ c. c) result (query_command number tables.now (query_of text.now)) }
     ensures is_command { IfOk result (IsCommand tables.now) }
+    ensures no_rows { IfOk result (λ c. row_count c ≡ 0) }
 {
     let Some(count) = count_of(text) else {
         return Err(fault_at(number, Why::Words));

@@ -2,8 +2,9 @@
 ghost use Rattle.std.specs.Prelude.{◌≡◌, ◌+◌, ◌<◌, ◌≤◌, ◌^◌, [], ◌∷◌, Ok, Err, Some, IfOk, IfErr, IfSome, option_map, length, drop};
 ghost use Rattle.script_text.specs.declared.command.Command.TheVariants.{Fleet};
 ghost use Rattle.script_text.specs.Lines.{lines_of};
+ghost use Rattle.script_text.specs.Commands.{joined};
 ghost use Rattle.script_text.specs.Fits.{AreTables, AreCommands, IsScript};
-ghost use Rattle.script_text.specs.Script.{NumberedLine, script_of, commands_from, joined, IfAt, Gives, row_count, next_line};
+ghost use Rattle.script_text.specs.Script.{NumberedLine, script_of, commands_from, IfAt, Gives, row_count, next_line};
 
 use crate::command::{Command, Commands};
 use crate::fault::ScriptFault;
@@ -42,24 +43,24 @@ pub fn parse(alloc: Global, text: &[u8]) -> Result<Script, ScriptFault>
         });
     };
     let tables = first_command(alloc, first.bytes, first.number)?;
-    let commands = commands_behind(alloc, tables, first.after, first.number)?;
+    let commands = commands_behind(alloc, &tables, first.number, first.after)?;
     Ok(Script {
         fleet_line: first.number,
         commands: Commands::of(commands),
     })
 }
 
-/// A fleet of these tables, and the commands of the text behind it, before which so many lines stand.
+/// A fleet of these tables, which stands on the line of this number, and the commands of the text behind it.
 fn commands_behind(
     alloc: Global,
-    tables: Names,
+    tables: &Names,
+    fleet_line: u64,
     text: &[u8],
-    lines_before: u64,
 ) -> Result<Vec<Command>, ScriptFault>
-    requires tables { AreTables tables }
-    requires place { lines_before + length text.now < 2 ^ 64 }
+    requires tables { AreTables tables.now }
+    requires place { fleet_line + length text.now < 2 ^ 64 }
     ensures exact { Gives (λ commands. commands.items) result
-        (joined (Fleet 1 1 tables ∷ []) (commands_from 0 (lines_before + 1) (Some tables) (lines_of text.now))) }
+        (joined (Fleet 1 1 tables.now ∷ []) (commands_from 0 (fleet_line + 1) (Some tables.now) (lines_of text.now))) }
     ensures are_commands { IfOk result (λ commands. AreCommands commands.items) }
 {
     let mut commands = Vec::new(alloc);
@@ -69,12 +70,12 @@ fn commands_behind(
         tables: tables.copy()?,
     })?;
     let mut rest = text;
-    let mut lines_before = lines_before;
-    while let Some(line) = next_line(rest, lines_before) {
-        let command = later_command(alloc, &tables, line.bytes, line.number, line.after)?;
+    let mut last_line = fleet_line;
+    while let Some(line) = next_line(rest, last_line) {
+        let command = later_command(alloc, tables, line.bytes, line.number, line.after)?;
         let count = row_count(&command);
         rest = behind_rows(line.after, count);
-        lines_before = line.number + count;
+        last_line = line.number + count;
         commands.push(command)?;
     }
     Ok(commands)

@@ -1,5 +1,5 @@
 // The words of a line, and what they may be.
-ghost use Rattle.std.specs.Prelude.{◌≡◌, ◌<◌, ◌^◌, ◌-◌, ◌∷◌, [], ℕ, None, IfSome, IfOk, option_map, length, min};
+ghost use Rattle.std.specs.Prelude.{◌≡◌, ◌==◌, slice_index, ◌<◌, ◌^◌, ◌-◌, ◌∷◌, [], ℕ, None, IfSome, IfOk, option_map, length, min};
 ghost use Rattle.std.specs.Char.{is_ascii_digit};
 ghost use Rattle.std.specs.List.{list_all};
 ghost use Rattle.script_text.specs.Lines.{before, behind};
@@ -45,10 +45,19 @@ pub fn trimmed(text: &[u8]) -> &[u8]
     ensures { result.now ≡ trimmed text.now }
 {
     let mut front = text;
-    while let [shorter @ .., b' '] = front {
-        front = shorter;
+    while ends_in_space(front) {
+        front = &front[..front.len() - 1];
     }
     front
+}
+
+fn ends_in_space(text: &[u8]) -> bool
+    ensures { result ≡ (slice_index text.now (length text.now - 1) == 32) }
+{
+    match text {
+        [.., last] => *last == b' ',
+        [] => false,
+    }
 }
 
 /// The number that a word of 1 to 20 digits is; one that is greater than a `u64` can hold is the greatest `u64`.
@@ -106,6 +115,7 @@ fn is_name_byte(byte: u8) -> bool
 
 /// The place of a name among the names.
 pub fn place_of(names: &[Text], name: &[u8]) -> Option<u32>
+    requires { length names.now < 2 ^ 32 }
     ensures { result ≡ place_of names.now name.now }
 {
     let mut place = 0;

@@ -1,0 +1,8 @@
+use Rattle.script_text.proofs.Cut.{pieces_cut, behind_shorter}
+use Rattle.script_text.proofs.lines.cut_line.Goals as goal
+
+pub returns-clause-lines : goal.returns-clause-lines
+returns-clause-lines c = rw (c.cut_at.ensures.before, c.cut_at.ensures.behind) (pieces_cut 10 c.args.text.now c.requires)
+
+pub returns-clause-shorter : goal.returns-clause-shorter
+returns-clause-shorter c = rw c.cut_at.ensures.behind (behind_shorter 10 c.args.text.now c.requires)
