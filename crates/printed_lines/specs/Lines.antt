@@ -1,0 +1,88 @@
+-- The text of each printed line.
+use Rattle.std.specs.Prelude.{ℕ, zero, suc, ◌<◌, List, [], ◌∷◌, ◌++◌, length, ⊤, decimal, codes}
+use Rattle.std.specs.List.{flat_map}
+use Rattle.leaf_machine.specs.declared.ways.Way.{Way}
+use Rattle.leaf_machine.specs.declared.ways.Way.TheVariants.{Memory, Disk}
+use Rattle.leaf_machine.specs.declared.ways.WhyDisk.TheVariants as why
+use Rattle.printed_lines.specs.declared.line.Said.{Said}
+use Rattle.printed_lines.specs.declared.line.Said.TheVariants.{Added, Asked, RefusedShut, RefusedFull, RefusedMemory, Opened, Closed, Handed}
+use Rattle.printed_lines.specs.declared.line.Verb.{Verb}
+use Rattle.printed_lines.specs.declared.line.Verb.TheVariants.{Drain, Start}
+use Rattle.printed_lines.specs.declared.line.Ending.{Ending}
+use Rattle.printed_lines.specs.declared.line.Ending.TheVariants.{Done, NotUp, NotDown, Started, FaultRegion, FaultMemory, FaultStranger}
+use Rattle.printed_lines.specs.declared.line.Line.{Line}
+use Rattle.printed_lines.specs.declared.line.Line.TheVariants.{Entry, Answer, Ended}
+
+-- what an entry's line says
+abbrev pub said_text : Said → List ℕ
+said_text (Added kept late) = codes "added " ++ (decimal kept ++ (codes " late " ++ decimal late))
+said_text Asked = codes "asked"
+said_text RefusedShut = codes "refused shut"
+said_text RefusedFull = codes "refused full"
+said_text RefusedMemory = codes "refused memory"
+said_text (Opened writes) = codes "opened " ++ decimal writes
+said_text (Closed writes) = codes "closed " ++ decimal writes
+said_text Handed = codes "handed"
+
+-- where a start found its tables
+abbrev pub way_text : Way → List ℕ
+way_text Memory = codes "memory"
+way_text (Disk why.NoHead) = codes "disk nohead"
+way_text (Disk (why.Closed byte)) = codes "disk closed " ++ decimal byte
+way_text (Disk (why.OtherVersion version)) = codes "disk version " ++ decimal version
+way_text (Disk why.NoImage) = codes "disk noimage"
+
+abbrev pub ending_text : Ending → List ℕ
+ending_text Done = codes "done"
+ending_text NotUp = codes "not up"
+ending_text NotDown = codes "not down"
+ending_text (Started way) = way_text way
+ending_text FaultRegion = codes "fault region"
+ending_text FaultMemory = codes "fault memory"
+ending_text (FaultStranger name) = codes "fault stranger " ++ name
+
+abbrev pub verb_text : Verb → List ℕ
+verb_text Drain = codes "drain"
+verb_text Start = codes "start"
+
+-- the name of a table of the fleet, by its place
+abbrev pub name_at : List (List ℕ) → ℕ → List ℕ
+name_at [] place = []
+name_at (name ∷ names) zero = name
+name_at (name ∷ names) (suc place) = name_at names place
+
+-- the line of an entry, of the table of this name
+abbrev pub entry_text : ℕ → List ℕ → ℕ → Said → List ℕ
+entry_text leaf name number said = decimal leaf ++ (32 ∷ (name ++ (codes " #" ++ (decimal number ++ (32 ∷ (said_text said ++ 10 ∷ []))))))
+
+-- a line of an answer
+abbrev pub row_line : List ℕ → List ℕ
+row_line row = row ++ 10 ∷ []
+
+-- the first line of an answer
+abbrev pub answer_head : ℕ → ℕ → ℕ → List ℕ
+answer_head named leaves count =
+    codes "answer named " ++ (decimal named ++ (codes " of " ++ (decimal leaves ++ (codes " lines " ++ (decimal count ++ 10 ∷ [])))))
+
+-- an answer, with its own lines behind the first
+abbrev pub answer_text : ℕ → ℕ → List (List ℕ) → List ℕ
+answer_text named leaves rows = answer_head named leaves (length rows) ++ flat_map row_line rows
+
+-- the line of a command of a leaf's steward
+abbrev pub ended_text : Verb → ℕ → Ending → List ℕ
+ended_text verb leaf ending = verb_text verb ++ (32 ∷ (decimal leaf ++ (32 ∷ (ending_text ending ++ 10 ∷ []))))
+
+-- the text of a line, of a fleet whose tables have these names
+abbrev pub line_text : List (List ℕ) → Line → List ℕ
+line_text names (Entry leaf table number said) = entry_text leaf (name_at names table) number said
+line_text names (Answer named leaves rows) = answer_text named leaves rows
+line_text names (Ended verb leaf ending) = ended_text verb leaf ending
+
+abbrev pub lines_text : List (List ℕ) → List Line → List ℕ
+lines_text names lines = flat_map (line_text names) lines
+
+-- a line's table is one of the fleet's
+abbrev pub IsOf : List (List ℕ) → Line → Type 0
+IsOf names (Entry leaf table number said) = table < length names
+IsOf names (Answer named leaves rows) = ⊤
+IsOf names (Ended verb leaf ending) = ⊤

@@ -1,0 +1,9 @@
+//! The lines that a script's commands print.
+#![tactic(auto)]
+
+mod line;
+mod parts;
+mod put;
+
+pub use line::{Ending, Line, Said, Verb};
+pub use put::{put_line, put_lines};

@@ -1,0 +1,61 @@
+// The lines that a script's commands print.
+use leaf_machine::Way;
+use leaf_model::{Text, Texts};
+
+/// What an entry's line says after its number.
+#[derive(Debug, Clone, Copy, PartialEq, Eq)]
+pub enum Said {
+    /// An add kept so many rows, and so many came late.
+    Added { kept: u64, late: u64 },
+    Asked,
+    RefusedShut,
+    RefusedFull,
+    RefusedMemory,
+    /// The table was opened with so many writes.
+    Opened(u64),
+    /// The table was closed after so many writes.
+    Closed(u64),
+    /// The closed table was handed to the region.
+    Handed,
+}
+
+/// The commands of a leaf's steward.
+#[derive(Debug, Clone, Copy, PartialEq, Eq)]
+pub enum Verb {
+    Drain,
+    Start,
+}
+
+/// How a command of a leaf's steward ended.
+#[derive(Debug, Drop)]
+pub enum Ending {
+    Done,
+    NotUp,
+    NotDown,
+    Started(Way),
+    FaultRegion,
+    FaultMemory,
+    FaultStranger(Text),
+}
+
+/// A printed line, and behind an answer the answer's own lines.
+#[derive(Debug, Drop)]
+pub enum Line {
+    /// One entry of a table's history; the table is its place among the fleet's.
+    Entry {
+        leaf: u32,
+        table: u32,
+        number: u64,
+        said: Said,
+    },
+    Answer {
+        named: u64,
+        leaves: u32,
+        rows: Texts,
+    },
+    Ended {
+        verb: Verb,
+        leaf: u32,
+        ending: Ending,
+    },
+}

@@ -1,0 +1,71 @@
+// The texts that lines are made of.
+ghost use Rattle.std.specs.Prelude.{◌≡◌, ◌<◌, length, IfOk, string_bytes};
+ghost use Rattle.printed_lines.specs.Lines.{said_text, way_text, ending_text, verb_text, name_at};
+
+use crate::line::{Ending, Said, Verb};
+use leaf_machine::{Way, WhyDisk};
+use leaf_model::Names;
+use std::alloc::{AllocError, Global};
+
+pub fn said_string(alloc: Global, said: Said) -> Result<String, AllocError>
+    ensures { IfOk result (λ text. string_bytes text ≡ said_text said) }
+{
+    match said {
+        Said::Added { kept, late } => format!(in alloc; "added {kept} late {late}"),
+        Said::Asked => String::from_str(alloc, "asked"),
+        Said::RefusedShut => String::from_str(alloc, "refused shut"),
+        Said::RefusedFull => String::from_str(alloc, "refused full"),
+        Said::RefusedMemory => String::from_str(alloc, "refused memory"),
+        Said::Opened(writes) => format!(in alloc; "opened {writes}"),
+        Said::Closed(writes) => format!(in alloc; "closed {writes}"),
+        Said::Handed => String::from_str(alloc, "handed"),
+    }
+}
+
+pub fn ending_string(alloc: Global, ending: &Ending) -> Result<String, AllocError>
+    ensures { IfOk result (λ text. string_bytes text ≡ ending_text ending.now) }
+{
+    match ending {
+        Ending::Done => String::from_str(alloc, "done"),
+        Ending::NotUp => String::from_str(alloc, "not up"),
+        Ending::NotDown => String::from_str(alloc, "not down"),
+        Ending::Started(way) => way_string(alloc, *way),
+        Ending::FaultRegion => String::from_str(alloc, "fault region"),
+        Ending::FaultMemory => String::from_str(alloc, "fault memory"),
+        Ending::FaultStranger(table) => {
+            let name = table.as_str();
+            format!(in alloc; "fault stranger {name}")
+        }
+    }
+}
+
+fn way_string(alloc: Global, way: Way) -> Result<String, AllocError>
+    ensures { IfOk result (λ text. string_bytes text ≡ way_text way) }
+{
+    match way {
+        Way::Memory => String::from_str(alloc, "memory"),
+        Way::Disk(why) => match why {
+            WhyDisk::NoHead => String::from_str(alloc, "disk nohead"),
+            WhyDisk::Closed(flag) => format!(in alloc; "disk closed {flag}"),
+            WhyDisk::OtherVersion(version) => format!(in alloc; "disk version {version}"),
+            WhyDisk::NoImage => String::from_str(alloc, "disk noimage"),
+        },
+    }
+}
+
+pub fn verb_str(verb: Verb) -> &'static str
+    ensures { result.now ≡ verb_text verb }
+{
+    match verb {
+        Verb::Drain => "drain",
+        Verb::Start => "start",
+    }
+}
+
+/// The name of the table at this place.
+pub fn name_of(names: &Names, table: u32) -> &str
+    requires { table < length names.now }
+    ensures { result.now ≡ name_at names.now table }
+{
+    names.as_slice()[table as usize].as_str()
+}
