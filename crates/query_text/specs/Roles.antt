@@ -1,0 +1,136 @@
+-- What a token may stand for: a keyword, a name, an aggregate's kind, a table, a comparison, a constant.
+use Rattle.std.specs.Prelude.{ℕ, ◌+◌, Bool, true, false, ◌&&◌, ◌||◌, List, [], ◌∷◌, length, ℤ, pos, Option, Some, None, if◌then◌else◌, nat_lt, nat_le, codes, bytes_eq}
+use Rattle.std.specs.List.{list_all}
+use Rattle.std.specs.Bool.{◌==◌}
+use Rattle.std.specs.Char.{is_ascii_digit, is_ascii_lowercase}
+use Rattle.leaf_model.specs.declared.rows.Value.{Value}
+use Rattle.leaf_model.specs.declared.rows.Value.TheVariants as value
+use Rattle.leaf_model.specs.declared.queries.Op.{Op}
+use Rattle.leaf_model.specs.declared.queries.Agg.{Agg}
+use Rattle.leaf_model.specs.declared.queries.Agg.TheVariants as agg
+use Rattle.query_text.specs.declared.tokens.Token.{Token}
+use Rattle.query_text.specs.declared.tokens.Token.TheVariants as token
+use Rattle.query_text.specs.declared.places.Kind.{Kind}
+use Rattle.query_text.specs.declared.places.Kind.TheVariants.{Count, Sum, Min, Max, Avg}
+
+abbrev pub is_keyword : List ℕ → Bool
+is_keyword w =
+    bytes_eq w (codes "SELECT") || (bytes_eq w (codes "FROM") || (bytes_eq w (codes "WHERE") || (bytes_eq w (codes "AND")
+    || (bytes_eq w (codes "GROUP") || (bytes_eq w (codes "BY") || (bytes_eq w (codes "ORDER") || (bytes_eq w (codes "LIMIT")
+    || (bytes_eq w (codes "COUNT") || (bytes_eq w (codes "SUM") || (bytes_eq w (codes "MIN") || (bytes_eq w (codes "MAX") || bytes_eq w (codes "AVG"))))))))))))
+
+-- that very word, which is not quoted
+abbrev pub is_word : List ℕ → Token → Bool
+is_word w (token.Word v) = bytes_eq v w
+is_word w other = false
+
+-- a word of at most 255 bytes that is no keyword, or a quoted name
+abbrev pub name_of : Token → Option (List ℕ)
+name_of (token.Word w) = if is_keyword w || nat_lt 255 (length w) then None else Some w
+name_of (token.Name n) = Some n
+name_of other = None
+
+abbrev pub kind_of : Token → Option Kind
+kind_of (token.Word w) =
+    if bytes_eq w (codes "COUNT") then Some Count
+    else (if bytes_eq w (codes "SUM") then Some Sum
+    else (if bytes_eq w (codes "MIN") then Some Min
+    else (if bytes_eq w (codes "MAX") then Some Max
+    else (if bytes_eq w (codes "AVG") then Some Avg else None))))
+kind_of other = None
+
+-- a letter a to z, and then up to 63 of a to z, 0 to 9 and `_`
+abbrev pub is_table_name : List ℕ → Bool
+is_table_name [] = false
+is_table_name (b ∷ bs) = is_ascii_lowercase b && (nat_le (length bs) 63 && list_all (λ c. is_ascii_lowercase c || (is_ascii_digit c || c == 95)) bs)
+
+abbrev pub table_of : Token → Option (List ℕ)
+table_of (token.Word w) = if is_table_name w then Some w else None
+table_of other = None
+
+abbrev pub is_open : Token → Bool
+is_open token.Open = true
+is_open other = false
+
+abbrev pub is_close : Token → Bool
+is_close token.Close = true
+is_close other = false
+
+abbrev pub is_star : Token → Bool
+is_star token.Star = true
+is_star other = false
+
+abbrev pub is_comma : Token → Bool
+is_comma token.Comma = true
+is_comma other = false
+
+abbrev pub is_int : Token → Bool
+is_int (token.Int n) = true
+is_int other = false
+
+abbrev pub op_of : Token → Option Op
+op_of (token.Compare op) = Some op
+op_of other = None
+
+abbrev pub int_of : Token → Option ℤ
+int_of (token.Int n) = n
+int_of other = None
+
+-- an integer or a text
+abbrev pub const_of : Token → Option value.the_data
+const_of (token.Int (Some n)) = Some (value.Int n)
+const_of (token.Text t) = Some (value.Text t)
+const_of other = None
+
+-- 0 to 100,000
+abbrev pub limit_from : Option ℤ → Option ℕ
+limit_from (Some (pos n)) = if nat_le n 100000 then Some n else None
+limit_from other = None
+
+-- ---- aggregates
+
+-- an aggregate of a name: COUNT has none
+abbrev pub agg_with : Kind → List ℕ → Option Agg
+agg_with Count name = None
+agg_with Sum name = Some (agg.Sum name)
+agg_with Min name = Some (agg.Min name)
+agg_with Max name = Some (agg.Max name)
+agg_with Avg name = Some (agg.Avg name)
+
+-- an aggregate by what stands between its parentheses
+abbrev pub agg_named : Kind → Option (List ℕ) → Option Agg
+agg_named kind None = None
+agg_named kind (Some name) = agg_with kind name
+
+abbrev pub agg_inside : Kind → Token → Option Agg
+agg_inside Count t = if is_star t then Some agg.Count else None
+agg_inside kind t = agg_named kind (name_of t)
+
+abbrev pub same_agg : Agg → Agg → Bool
+same_agg agg.Count agg.Count = true
+same_agg (agg.Sum a) (agg.Sum b) = bytes_eq a b
+same_agg (agg.Min a) (agg.Min b) = bytes_eq a b
+same_agg (agg.Max a) (agg.Max b) = bytes_eq a b
+same_agg (agg.Avg a) (agg.Avg b) = bytes_eq a b
+same_agg a b = false
+
+-- the place of the first equal one, counted from an offset
+abbrev pub place_from : ℕ → Agg → List Agg → Option ℕ
+place_from i a [] = None
+place_from i a (b ∷ bs) = if same_agg a b then Some i else place_from (i + 1) a bs
+
+abbrev pub place_in : List Agg → Option Agg → Option ℕ
+place_in aggs None = None
+place_in aggs (Some a) = place_from 0 a aggs
+
+-- what ORDER BY takes: every kind but AVG
+abbrev pub has_kind : Kind → Agg → Bool
+has_kind Count agg.Count = true
+has_kind Sum (agg.Sum name) = true
+has_kind Min (agg.Min name) = true
+has_kind Max (agg.Max name) = true
+has_kind kind a = false
+
+abbrev pub is_orderable : Agg → Bool
+is_orderable (agg.Avg name) = false
+is_orderable a = true

@@ -1,0 +1,140 @@
+-- The tokens of a text, each with the offset of its first byte.
+use Rattle.std.specs.Prelude.{ℕ, ◌^◌, suc, zero, ◌+◌, ◌*◌, ◌-◌, Bool, true, false, ◌&&◌, ◌||◌, List, [], ◌∷◌, ◌++◌, length, ℤ, pos, neg_ℤ, Option, Some, None, if◌then◌else◌, nat_lt, nat_le, take_while}
+use Rattle.std.specs.Bool.{◌==◌}
+use Rattle.std.specs.Str.{is_utf8}
+use Rattle.std.specs.Char.{is_ascii_digit, is_ascii_alphabetic}
+use Rattle.leaf_model.specs.declared.queries.Op.TheVariants as op
+use Rattle.query_text.specs.declared.tokens.Token.{Token}
+use Rattle.query_text.specs.declared.tokens.Token.TheVariants.{Word, Name, Text, Int, Comma, Open, Close, Star, Compare, Stray}
+use Rattle.query_text.specs.declared.tokens.Found.{Found}
+use Rattle.query_text.specs.declared.quotes.Quoted.{Quoted}
+
+-- a space or a tab
+abbrev pub is_blank : ℕ → Bool
+is_blank b = b == 32 || b == 9
+
+-- a letter or `_`
+abbrev pub begins_word : ℕ → Bool
+begins_word b = is_ascii_alphabetic b || b == 95
+
+-- a letter, a digit or `_`
+abbrev pub goes_on_word : ℕ → Bool
+goes_on_word b = begins_word b || is_ascii_digit b
+
+-- ---- quotes
+
+-- what stands inside a quote, without the doubling, and how many bytes it takes with its end
+pub record Quote : Type 0 where
+  pub inside : List ℕ
+  pub long : ℕ
+
+-- a quote that was read, without where it lies in memory
+abbrev pub quote_view : Option Quoted → Option Quote
+quote_view None = None
+quote_view (Some q) = Some (record { inside = q.inside.items; long = q.long })
+
+-- a quote behind bytes of its inside that were read
+abbrev pub behind : List ℕ → ℕ → Option Quote → Option Quote
+behind bs n None = None
+behind bs n (Some q) = Some (record { inside = bs ++ q.inside; long = n + q.long })
+
+abbrev pub with_byte : ℕ → Option Quote → Option Quote
+with_byte b None = None
+with_byte b (Some q) = Some (record { inside = b ∷ q.inside; long = q.long + 1 })
+
+abbrev pub with_end : Option Quote → Option Quote
+with_end None = None
+with_end (Some q) = Some (record { inside = q.inside; long = q.long + 1 })
+
+-- behind an opening mark, where `marked` says that a mark was just read: another doubles it, and anything else ends the quote
+abbrev pub quote_from : ℕ → Bool → List ℕ → Option Quote
+quote_from mark false [] = None
+quote_from mark true [] = Some (record { inside = []; long = 0 })
+quote_from mark false (b ∷ rest) = if b == mark then with_end (quote_from mark true rest) else with_byte b (quote_from mark false rest)
+quote_from mark true (b ∷ rest) = if b == mark then with_byte mark (quote_from mark false rest) else Some (record { inside = []; long = 0 })
+
+-- ---- one token: what it is, and how many bytes it takes behind its first
+
+-- a byte that begins no token
+abbrev pub stray : Found
+stray = record { token = Stray; more = 0 }
+
+-- a name has 1 to 255 bytes of UTF-8
+abbrev pub name_token : Option Quote → Found
+name_token None = stray
+name_token (Some q) =
+    if nat_lt 0 (length q.inside) && (nat_le (length q.inside) 255 && is_utf8 q.inside)
+    then record { token = Name q.inside; more = q.long }
+    else stray
+
+-- a text has at most 65,535 bytes of UTF-8
+abbrev pub text_token : Option Quote → Found
+text_token None = stray
+text_token (Some q) =
+    if nat_le (length q.inside) 65535 && is_utf8 q.inside
+    then record { token = Text q.inside; more = q.long }
+    else stray
+
+-- the value of digits behind others of that value
+abbrev pub value_from : ℕ → List ℕ → ℕ
+value_from n [] = n
+value_from n (d ∷ ds) = value_from (n * 10 + (d - 48)) ds
+
+-- digits, and whether a `-` stands before them: nothing where the number is no i64
+abbrev pub signed_value : Bool → ℕ → Option ℤ
+signed_value false n = if nat_lt n (2 ^ 63) then Some (pos n) else None
+signed_value true n = if nat_le n (2 ^ 63) then Some (neg_ℤ (pos n)) else None
+
+abbrev pub number_token : List ℕ → List ℕ → Found
+number_token digits more = record { token = Int (signed_value false (value_from 0 digits)); more = length more }
+
+-- a `-` alone begins no token
+abbrev pub minus_token : List ℕ → Found
+minus_token [] = stray
+minus_token (d ∷ digits) = record { token = Int (signed_value true (value_from 0 (d ∷ digits))); more = length (d ∷ digits) }
+
+-- one mark, or two where the second is `=`
+abbrev pub pair_token : Token → Token → List ℕ → Found
+pair_token alone both [] = record { token = alone; more = 0 }
+pair_token alone both (b ∷ rest) = if b == 61 then record { token = both; more = 1 } else record { token = alone; more = 0 }
+
+-- `,` `(` `)` `*` `=` `!=` `<` `<=` `>` `>=`
+abbrev pub mark_token : ℕ → List ℕ → Found
+mark_token b rest =
+    if b == 44 then record { token = Comma; more = 0 }
+    else (if b == 40 then record { token = Open; more = 0 }
+    else (if b == 41 then record { token = Close; more = 0 }
+    else (if b == 42 then record { token = Star; more = 0 }
+    else (if b == 61 then record { token = Compare op.Eq; more = 0 }
+    else (if b == 33 then pair_token Stray (Compare op.Ne) rest
+    else (if b == 60 then pair_token (Compare op.Lt) (Compare op.Le) rest
+    else (if b == 62 then pair_token (Compare op.Gt) (Compare op.Ge) rest
+    else stray)))))))
+
+-- the longest token that begins with b
+abbrev pub token_with : ℕ → List ℕ → Found
+token_with b rest =
+    if begins_word b then record { token = Word (b ∷ take_while goes_on_word rest); more = length (take_while goes_on_word rest) }
+    else (if is_ascii_digit b then number_token (b ∷ take_while is_ascii_digit rest) (take_while is_ascii_digit rest)
+    else (if b == 45 then minus_token (take_while is_ascii_digit rest)
+    else (if b == 34 then name_token (quote_from 34 false rest)
+    else (if b == 39 then text_token (quote_from 39 false rest)
+    else mark_token b rest))))
+
+-- ---- the tokens of a text
+
+-- a token, and the offset of its first byte
+pub record Placed : Type 0 where
+  pub at : ℕ
+  pub token : Token
+
+-- the tokens of what is left from an offset on, once so many bytes of the last token are passed
+abbrev pub tokens_from : ℕ → ℕ → List ℕ → List Placed
+tokens_from passed at [] = []
+tokens_from (suc passed) at (b ∷ rest) = tokens_from passed (at + 1) rest
+tokens_from zero at (b ∷ rest) =
+    if is_blank b then tokens_from 0 (at + 1) rest
+    else (let found = token_with b rest in record { at = at; token = found.token } ∷ tokens_from found.more (at + 1) rest)
+
+abbrev pub tokens_of : List ℕ → List Placed
+tokens_of text = tokens_from 0 0 text

@@ -1,0 +1,138 @@
+// Aggregates: what may stand between their parentheses, and their places among the selected ones.
+ghost use Rattle.std.specs.Prelude.{◌≡◌, bytes_eq};
+ghost use Rattle.std.specs.List.{list_any};
+ghost use Rattle.query_text.specs.Roles.{name_of, agg_named, agg_with, agg_inside, same_agg, place_from, has_kind, is_orderable};
+
+use crate::places::Kind;
+use crate::roles::{stars, take_name};
+use crate::tokens::Token;
+use leaf_model::{Agg, Text};
+
+/// What ORDER BY takes: every aggregate but AVG.
+fn takes_order(agg: &Agg) -> bool
+    ensures { result ≡ is_orderable agg.now }
+{
+    match agg {
+        Agg::Count | Agg::Sum(_) | Agg::Min(_) | Agg::Max(_) => true,
+        Agg::Avg(_) => false,
+    }
+}
+
+pub fn any_takes_order(aggs: &[Agg]) -> bool
+    ensures { result ≡ list_any is_orderable aggs.now }
+{
+    for agg in aggs {
+        if takes_order(agg) {
+            return true;
+        }
+    }
+    false
+}
+
+/// An aggregate of that kind, which ORDER BY takes.
+fn is_kind(kind: Kind, agg: &Agg) -> bool
+    ensures { result ≡ has_kind kind agg.now }
+{
+    match agg {
+        Agg::Count => kind == Kind::Count,
+        Agg::Sum(_) => kind == Kind::Sum,
+        Agg::Min(_) => kind == Kind::Min,
+        Agg::Max(_) => kind == Kind::Max,
+        Agg::Avg(_) => false,
+    }
+}
+
+pub fn any_is_kind(kind: Kind, aggs: &[Agg]) -> bool
+    ensures { result ≡ list_any (has_kind kind) aggs.now }
+{
+    for agg in aggs {
+        if is_kind(kind, agg) {
+            return true;
+        }
+    }
+    false
+}
+
+fn agg_of_name(kind: Kind, name: Text) -> Option<Agg>
+    ensures { result ≡ agg_with kind name }
+{
+    match kind {
+        Kind::Count => None,
+        Kind::Sum => Some(Agg::Sum(name)),
+        Kind::Min => Some(Agg::Min(name)),
+        Kind::Max => Some(Agg::Max(name)),
+        Kind::Avg => Some(Agg::Avg(name)),
+    }
+}
+
+fn take_named(kind: Kind, token: Token) -> Option<Agg>
+    ensures { result ≡ agg_named kind (name_of token) }
+{
+    match take_name(token) {
+        None => None,
+        Some(name) => agg_of_name(kind, name),
+    }
+}
+
+/// The aggregate of that kind with that token between its parentheses.
+pub fn take_inside(kind: Kind, token: Token) -> Option<Agg>
+    ensures { result ≡ agg_inside kind token }
+{
+    match kind {
+        Kind::Count => {
+            if stars(&token) {
+                Some(Agg::Count)
+            } else {
+                None
+            }
+        }
+        Kind::Sum | Kind::Min | Kind::Max | Kind::Avg => take_named(kind, token),
+    }
+}
+
+pub fn is_same_text(a: &Text, b: &Text) -> bool
+    ensures { result ≡ bytes_eq a.now b.now }
+{
+    a.as_str() == b.as_str()
+}
+
+fn is_same_agg(a: &Agg, b: &Agg) -> bool
+    ensures { result ≡ same_agg a.now b.now }
+{
+    match a {
+        Agg::Count => match b {
+            Agg::Count => true,
+            Agg::Sum(_) | Agg::Min(_) | Agg::Max(_) | Agg::Avg(_) => false,
+        },
+        Agg::Sum(name) => match b {
+            Agg::Sum(other) => is_same_text(name, other),
+            Agg::Count | Agg::Min(_) | Agg::Max(_) | Agg::Avg(_) => false,
+        },
+        Agg::Min(name) => match b {
+            Agg::Min(other) => is_same_text(name, other),
+            Agg::Count | Agg::Sum(_) | Agg::Max(_) | Agg::Avg(_) => false,
+        },
+        Agg::Max(name) => match b {
+            Agg::Max(other) => is_same_text(name, other),
+            Agg::Count | Agg::Sum(_) | Agg::Min(_) | Agg::Avg(_) => false,
+        },
+        Agg::Avg(name) => match b {
+            Agg::Avg(other) => is_same_text(name, other),
+            Agg::Count | Agg::Sum(_) | Agg::Min(_) | Agg::Max(_) => false,
+        },
+    }
+}
+
+/// The place of the first equal one.
+pub fn find_agg(agg: &Agg, aggs: &[Agg]) -> Option<u64>
+    ensures { result ≡ place_from 0 agg.now aggs.now }
+{
+    let mut i: usize = 0;
+    while i < aggs.len() {
+        if is_same_agg(agg, &aggs[i]) {
+            return Some(i as u64);
+        }
+        i += 1;
+    }
+    None
+}

@@ -1,0 +1,91 @@
+// What was read, with one part more.
+ghost use Rattle.std.specs.Prelude.{◌≡◌, IfOk};
+ghost use Rattle.query_text.specs.Reading.{nothing_read, with_key, with_agg, with_cond, with_table, with_low, with_high, with_order, with_limit};
+
+use leaf_model::{Agg, Aggs, Cond, Conds, Names, Query, Text};
+use std::alloc::{AllocError, Global};
+
+/// The limit of a query that names none.
+const NO_LIMIT: u32 = 100_000;
+
+/// Nothing was read.
+pub fn start(alloc: Global) -> Query
+    ensures { result ≡ nothing_read }
+{
+    Query {
+        table: Text::of(String::new(alloc)),
+        from: 0,
+        to: 0,
+        conds: Conds::of(Vec::new(alloc)),
+        keys: Names::of(Vec::new(alloc)),
+        aggs: Aggs::of(Vec::new(alloc)),
+        order: None,
+        limit: NO_LIMIT,
+    }
+}
+
+pub fn push_key(query: Query, name: Text) -> Result<Query, AllocError>
+    ensures { IfOk result (λ q. q ≡ with_key query name) }
+{
+    let mut keys = query.keys.into_inner();
+    keys.push(name)?;
+    Ok(Query {
+        keys: Names::of(keys),
+        ..query
+    })
+}
+
+pub fn push_agg(query: Query, agg: Agg) -> Result<Query, AllocError>
+    ensures { IfOk result (λ q. q ≡ with_agg query agg) }
+{
+    let mut aggs = query.aggs.into_inner();
+    aggs.push(agg)?;
+    Ok(Query {
+        aggs: Aggs::of(aggs),
+        ..query
+    })
+}
+
+pub fn push_cond(query: Query, cond: Cond) -> Result<Query, AllocError>
+    ensures { IfOk result (λ q. q ≡ with_cond query cond.name cond.op cond.value) }
+{
+    let mut conds = query.conds.into_inner();
+    conds.push(cond)?;
+    Ok(Query {
+        conds: Conds::of(conds),
+        ..query
+    })
+}
+
+pub fn set_table(query: Query, table: Text) -> Query
+    ensures { result ≡ with_table query table }
+{
+    Query { table, ..query }
+}
+
+pub fn set_low(query: Query, from: i64) -> Query
+    ensures { result ≡ with_low query from }
+{
+    Query { from, ..query }
+}
+
+pub fn set_high(query: Query, to: i64) -> Query
+    ensures { result ≡ with_high query to }
+{
+    Query { to, ..query }
+}
+
+pub fn set_order(query: Query, place: u64) -> Query
+    ensures { result ≡ with_order query place }
+{
+    Query {
+        order: Some(place),
+        ..query
+    }
+}
+
+pub fn set_limit(query: Query, limit: u32) -> Query
+    ensures { result ≡ with_limit query limit }
+{
+    Query { limit, ..query }
+}

@@ -1,0 +1,57 @@
+// The places of the grammar.
+
+use leaf_model::{Agg, Op, Query, Text};
+
+/// The words of aggregates.
+#[derive(Clone, Copy, Debug, PartialEq, Eq)]
+pub enum Kind {
+    Count,
+    Sum,
+    Min,
+    Max,
+    Avg,
+}
+
+/// What stands next. A number is a place among the selected names, or among the aggregates.
+#[derive(Debug, Drop)]
+pub enum Place {
+    Select,
+    Item,
+    NameEnd,
+    Opening(Kind),
+    Inside(Kind),
+    Closing(Agg),
+    AggEnd,
+    NextAgg,
+    Table,
+    Where,
+    LowTime,
+    LowSign,
+    LowBound,
+    And,
+    HighTime,
+    HighSign,
+    HighBound,
+    CondEnd,
+    CondName,
+    CondOp(Text),
+    CondValue(Text, Op),
+    By,
+    GroupName(u64),
+    GroupEnd(u64),
+    OrderBy,
+    OrderAgg,
+    OrderOpening(Kind),
+    OrderInside(Kind),
+    OrderClosing(u64),
+    Ordered,
+    LimitNumber,
+    Last,
+}
+
+/// What a token does to what was read: it goes on, or no query goes on with it.
+#[derive(Debug, Drop)]
+pub enum Move {
+    On(Query, Place),
+    Stuck,
+}

@@ -1,0 +1,134 @@
+// Names and texts in quotes.
+ghost use Rattle.std.specs.Prelude.{◌≡◌, ◌≤◌, ◌+◌, ◌∷◌, ℕ, List, IfOk, IfSome, Some, None, if◌then◌else◌, length, true, false};
+ghost use Rattle.std.specs.Str.{is_utf8};
+ghost use Rattle.query_text.specs.Tokens.{behind, quote_view, quote_from, name_token, text_token, stray};
+
+use crate::tokens::{Found, Token};
+use leaf_model::Text;
+use std::alloc::{AllocError, Global};
+
+/// The most bytes of a name.
+const MAX_NAME: usize = 255;
+
+/// The most bytes of a text.
+const MAX_TEXT: usize = 65_535;
+
+/// The inside of a quote without the doubling, and how many bytes it takes with its end.
+#[derive(Debug, Drop)]
+pub struct Quoted {
+    pub inside: Vec<u8>,
+    pub long: usize,
+}
+
+/// One byte more, which does not end the quote: whether a mark was just read.
+fn quote_byte(inside: &mut Vec<u8>, mark: u8, is_marked: bool, b: u8) -> Result<bool, AllocError>
+    requires { is_marked ≡ true → b ≡ mark }
+    ensures { IfOk result (λ is_marked_now. (n : ℕ) → (rest : List ℕ) → behind inside.old.items n (quote_from mark is_marked (b ∷ rest)) ≡ behind inside.new.items (n + 1) (quote_from mark is_marked_now rest)) }
+{
+    if is_marked {
+        inside.push(b)?;
+        Ok(false)
+    } else if b == mark {
+        Ok(true)
+    } else {
+        inside.push(b)?;
+        Ok(false)
+    }
+}
+
+/// What stands in quotes behind an opening mark, where they are closed.
+fn quote(alloc: Global, mark: u8, rest: &[u8]) -> Result<Option<Quoted>, AllocError>
+    ensures value { IfOk result (λ q. quote_view q ≡ quote_from mark false rest.now) }
+    ensures long { IfOk result (λ q. IfSome q (λ r. r.long ≤ length rest.now)) }
+{
+    let mut inside: Vec<u8> = Vec::new(alloc);
+    let mut is_marked = false;
+    let mut i: usize = 0;
+    while i < rest.len() {
+        if is_marked && rest[i] != mark {
+            return Ok(Some(Quoted { inside, long: i }));
+        }
+        is_marked = quote_byte(&mut inside, mark, is_marked, rest[i])?;
+        i += 1;
+    }
+    if is_marked {
+        Ok(Some(Quoted { inside, long: i }))
+    } else {
+        Ok(None)
+    }
+}
+
+/// A byte that begins no token.
+pub fn stray_found() -> Found
+    ensures { result ≡ stray }
+{
+    Found {
+        token: Token::Stray,
+        more: 0,
+    }
+}
+
+fn text_from(bytes: Vec<u8>) -> Option<Text>
+    ensures { result ≡ if is_utf8 bytes.items then Some bytes.items else None }
+{
+    match String::from_utf8(bytes) {
+        Ok(string) => {
+            // its bytes are UTF-8, as the clauses of this call say
+            let _text = string.as_str();
+            Some(Text::of(string))
+        }
+        Err(_error) => None,
+    }
+}
+
+fn name_found(quoted: Option<Quoted>) -> Found
+    ensures { result ≡ name_token (quote_view quoted) }
+{
+    let Some(quoted) = quoted else {
+        return stray_found();
+    };
+    if quoted.inside.is_empty() || quoted.inside.len() > MAX_NAME {
+        return stray_found();
+    }
+    match text_from(quoted.inside) {
+        None => stray_found(),
+        Some(name) => Found {
+            token: Token::Name(name),
+            more: quoted.long,
+        },
+    }
+}
+
+fn text_found(quoted: Option<Quoted>) -> Found
+    ensures { result ≡ text_token (quote_view quoted) }
+{
+    let Some(quoted) = quoted else {
+        return stray_found();
+    };
+    if quoted.inside.len() > MAX_TEXT {
+        return stray_found();
+    }
+    match text_from(quoted.inside) {
+        None => stray_found(),
+        Some(text) => Found {
+            token: Token::Text(text),
+            more: quoted.long,
+        },
+    }
+}
+
+/// The name in double quotes, of which the first was read.
+pub fn quoted_name(alloc: Global, rest: &[u8]) -> Result<Found, AllocError>
+    ensures value { IfOk result (λ found. found ≡ name_token (quote_from 34 false rest.now)) }
+    ensures long { IfOk result (λ found. found.more ≤ length rest.now) }
+{
+    Ok(name_found(quote(alloc, b'"', rest)?))
+}
+
+/// The text in single quotes, of which the first was read.
+pub fn quoted_text(alloc: Global, rest: &[u8]) -> Result<Found, AllocError>
+    ensures value { IfOk result (λ found. found ≡ text_token (quote_from 39 false rest.now)) }
+    ensures long { IfOk result (λ found. found.more ≤ length rest.now) }
+{
+    Ok(text_found(quote(alloc, b'\'', rest)?))
+}

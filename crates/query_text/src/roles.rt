@@ -1,0 +1,264 @@
+// What a token may stand for.
+ghost use Rattle.std.specs.Prelude.{◌≡◌, ◌||◌};
+ghost use Rattle.std.specs.List.{list_all};
+ghost use Rattle.std.specs.Bool.{◌==◌};
+ghost use Rattle.std.specs.Char.{is_ascii_digit, is_ascii_lowercase};
+ghost use Rattle.query_text.specs.declared.tokens.Token.TheVariants as token;
+ghost use Rattle.query_text.specs.Roles.{is_keyword, is_word, name_of, kind_of, is_table_name, table_of, is_open, is_close, is_star, is_comma, is_int, op_of, int_of, const_of, limit_from};
+
+use crate::places::Kind;
+use crate::tokens::Token;
+use leaf_model::{Op, Text, Value};
+
+/// The most bytes of a name.
+const MAX_NAME: usize = 255;
+
+/// The most bytes of a table's name behind its first.
+const MAX_TABLE_REST: usize = 63;
+
+/// The greatest limit.
+const MAX_LIMIT: i64 = 100_000;
+
+/// A word that no plain name may be.
+pub fn is_reserved(word: &str) -> bool
+    ensures { result ≡ is_keyword word.now }
+{
+    word == "SELECT"
+        || word == "FROM"
+        || word == "WHERE"
+        || word == "AND"
+        || word == "GROUP"
+        || word == "BY"
+        || word == "ORDER"
+        || word == "LIMIT"
+        || word == "COUNT"
+        || word == "SUM"
+        || word == "MIN"
+        || word == "MAX"
+        || word == "AVG"
+}
+
+/// That very word, which is not quoted.
+pub fn is_the_word(token: &Token, word: &str) -> bool
+    ensures { result ≡ is_word word.now token.now }
+{
+    match token {
+        Token::Word(w) => w.as_str() == word,
+        Token::Name(_)
+        | Token::Text(_)
+        | Token::Int(_)
+        | Token::Comma
+        | Token::Open
+        | Token::Close
+        | Token::Star
+        | Token::Compare(_)
+        | Token::Stray => false,
+    }
+}
+
+/// A word of at most 255 bytes that is no keyword, or a quoted name.
+pub fn take_name(token: Token) -> Option<Text>
+    ensures { result ≡ name_of token }
+{
+    match token {
+        Token::Word(word) => {
+            if is_reserved(word.as_str()) || word.as_str().len() > MAX_NAME {
+                None
+            } else {
+                Some(word)
+            }
+        }
+        Token::Name(name) => Some(name),
+        Token::Text(_)
+        | Token::Int(_)
+        | Token::Comma
+        | Token::Open
+        | Token::Close
+        | Token::Star
+        | Token::Compare(_)
+        | Token::Stray => None,
+    }
+}
+
+fn kind_named(word: &str) -> Option<Kind>
+    ensures { result ≡ kind_of (token.Word word.now) }
+{
+    if word == "COUNT" {
+        Some(Kind::Count)
+    } else if word == "SUM" {
+        Some(Kind::Sum)
+    } else if word == "MIN" {
+        Some(Kind::Min)
+    } else if word == "MAX" {
+        Some(Kind::Max)
+    } else if word == "AVG" {
+        Some(Kind::Avg)
+    } else {
+        None
+    }
+}
+
+/// The kind of aggregate that a word begins.
+pub fn kind_in(token: &Token) -> Option<Kind>
+    ensures { result ≡ kind_of token.now }
+{
+    match token {
+        Token::Word(word) => kind_named(word.as_str()),
+        Token::Name(_)
+        | Token::Text(_)
+        | Token::Int(_)
+        | Token::Comma
+        | Token::Open
+        | Token::Close
+        | Token::Star
+        | Token::Compare(_)
+        | Token::Stray => None,
+    }
+}
+
+fn all_fit(rest: &[u8]) -> bool
+    ensures { result ≡ list_all (λ c. is_ascii_lowercase c || (is_ascii_digit c || c == 95)) rest.now }
+{
+    for b in rest {
+        if !(b.is_ascii_lowercase() || b.is_ascii_digit() || *b == b'_') {
+            return false;
+        }
+    }
+    true
+}
+
+/// A letter a to z, and then up to 63 of a to z, 0 to 9 and `_`.
+fn fits_table(name: &[u8]) -> bool
+    ensures { result ≡ is_table_name name.now }
+{
+    match name {
+        [] => false,
+        [first, rest @ ..] => {
+            first.is_ascii_lowercase() && rest.len() <= MAX_TABLE_REST && all_fit(rest)
+        }
+    }
+}
+
+/// A word that fits a table's name.
+pub fn take_table(token: Token) -> Option<Text>
+    ensures { result ≡ table_of token }
+{
+    match token {
+        Token::Word(word) => {
+            if fits_table(word.as_str().as_bytes()) {
+                Some(word)
+            } else {
+                None
+            }
+        }
+        Token::Name(_)
+        | Token::Text(_)
+        | Token::Int(_)
+        | Token::Comma
+        | Token::Open
+        | Token::Close
+        | Token::Star
+        | Token::Compare(_)
+        | Token::Stray => None,
+    }
+}
+
+pub fn opens(token: &Token) -> bool
+    ensures { result ≡ is_open token.now }
+{
+    matches!(token, Token::Open)
+}
+
+pub fn closes(token: &Token) -> bool
+    ensures { result ≡ is_close token.now }
+{
+    matches!(token, Token::Close)
+}
+
+pub fn stars(token: &Token) -> bool
+    ensures { result ≡ is_star token.now }
+{
+    matches!(token, Token::Star)
+}
+
+pub fn is_the_comma(token: &Token) -> bool
+    ensures { result ≡ is_comma token.now }
+{
+    matches!(token, Token::Comma)
+}
+
+pub fn is_number(token: &Token) -> bool
+    ensures { result ≡ is_int token.now }
+{
+    matches!(token, Token::Int(_))
+}
+
+pub fn op_in(token: &Token) -> Option<Op>
+    ensures { result ≡ op_of token.now }
+{
+    match token {
+        Token::Compare(op) => Some(*op),
+        Token::Word(_)
+        | Token::Name(_)
+        | Token::Text(_)
+        | Token::Int(_)
+        | Token::Comma
+        | Token::Open
+        | Token::Close
+        | Token::Star
+        | Token::Stray => None,
+    }
+}
+
+/// An integer that is an i64.
+pub fn number_in(token: &Token) -> Option<i64>
+    ensures { result ≡ int_of token.now }
+{
+    match token {
+        Token::Int(number) => *number,
+        Token::Word(_)
+        | Token::Name(_)
+        | Token::Text(_)
+        | Token::Comma
+        | Token::Open
+        | Token::Close
+        | Token::Star
+        | Token::Compare(_)
+        | Token::Stray => None,
+    }
+}
+
+/// An integer or a text.
+pub fn take_const(token: Token) -> Option<Value>
+    ensures { result ≡ const_of token }
+{
+    match token {
+        Token::Text(text) => Some(Value::Text(text)),
+        Token::Int(Some(number)) => Some(Value::Int(number)),
+        Token::Int(None)
+        | Token::Word(_)
+        | Token::Name(_)
+        | Token::Comma
+        | Token::Open
+        | Token::Close
+        | Token::Star
+        | Token::Compare(_)
+        | Token::Stray => None,
+    }
+}
+
+/// 0 to 100,000.
+pub fn limit_in(token: &Token) -> Option<u32>
+    ensures { result ≡ limit_from (int_of token.now) }
+{
+    match number_in(token) {
+        None => None,
+        Some(n) => {
+            if 0 <= n && n <= MAX_LIMIT {
+                Some(n as u32)
+            } else {
+                None
+            }
+        }
+    }
+}

@@ -1,0 +1,29 @@
+// What a text is cut into.
+
+use leaf_model::{Op, Text};
+
+/// What a text is cut into. An integer that is no i64 has no value.
+#[derive(Debug, Drop)]
+pub enum Token {
+    /// A letter or `_`, and then letters, digits and `_`.
+    Word(Text),
+    /// What stands in double quotes.
+    Name(Text),
+    /// What stands in single quotes.
+    Text(Text),
+    Int(Option<i64>),
+    Comma,
+    Open,
+    Close,
+    Star,
+    Compare(Op),
+    /// A byte that begins no token.
+    Stray,
+}
+
+/// A token, and how many bytes it takes behind its first.
+#[derive(Debug, Drop)]
+pub struct Found {
+    pub token: Token,
+    pub more: usize,
+}
