@@ -113,3 +113,6 @@ word_ascii (b ∷ rest) = rw (take_while-cons goes_on_word b rest) (word_by b (t
 
 pub word_utf8 : (b : ℕ) (rest : List ℕ) → begins_word b ≡ true → IsUtf8 (b ∷ take_while goes_on_word rest)
 word_utf8 b rest h = IsUtf8-from_ascii (b ∷ take_while goes_on_word rest) (ascii_cons b (take_while goes_on_word rest) (first_ascii b h) (word_ascii rest))
+
+pub one_ascii : (b : ℕ) → b < 128 → IsAscii (b ∷ [])
+one_ascii b h = ascii_cons b [] h ascii_nil

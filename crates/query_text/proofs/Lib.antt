@@ -1,2 +1,4 @@
 pub mod Lexing
 pub mod OneStep
+pub mod Quoting
+pub mod Results

@@ -1,3 +1,4 @@
 pub mod Tokens
 pub mod Roles
 pub mod Reading
+pub mod Printing

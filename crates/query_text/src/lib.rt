@@ -6,12 +6,15 @@ mod builders;
 mod fault;
 mod numbers;
 mod places;
+mod printing;
 mod quotes;
 mod reading;
 mod roles;
 mod scanner;
+mod spellings;
 mod steps;
 mod tokens;
 
 pub use fault::QueryFault;
+pub use printing::print;
 pub use reading::parse;

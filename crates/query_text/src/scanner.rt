@@ -15,13 +15,13 @@ fn is_space(b: u8) -> bool
     b == b' ' || b == b'\t'
 }
 
-fn starts_word(b: u8) -> bool
+pub fn starts_word(b: u8) -> bool
     ensures { result ≡ begins_word b }
 {
     b.is_ascii_alphabetic() || b == b'_'
 }
 
-fn stays_word(b: u8) -> bool
+pub fn stays_word(b: u8) -> bool
     ensures { result ≡ goes_on_word b }
 {
     starts_word(b) || b.is_ascii_digit()
