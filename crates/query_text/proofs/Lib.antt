@@ -2,3 +2,5 @@ pub mod Lexing
 pub mod OneStep
 pub mod Quoting
 pub mod Results
+pub mod Plain
+pub mod Found

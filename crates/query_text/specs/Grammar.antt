@@ -1,0 +1,128 @@
+-- The grammar: by what tokens a query is spelled, part by part. Each part is given with what follows it.
+use Rattle.std.specs.Prelude.{◌≡◌, ◌≤◌, ◌<◌, ◌⊎◌, ℕ, Bool, true, false, List, [], ◌∷◌, length, map, ℤ, pos, Option, Some, None, codes, slice_get}
+use Rattle.leaf_model.specs.declared.rows.Value.{Value}
+use Rattle.leaf_model.specs.declared.rows.Value.TheVariants as value
+use Rattle.leaf_model.specs.declared.queries.Op.TheVariants.{Le, Ge}
+use Rattle.leaf_model.specs.declared.queries.Cond.{Cond}
+use Rattle.leaf_model.specs.declared.queries.Agg.{Agg}
+use Rattle.leaf_model.specs.declared.queries.Agg.TheVariants.{Count, Sum, Min, Max, Avg}
+use Rattle.leaf_model.specs.declared.queries.Query.{Query}
+use Rattle.query_text.specs.declared.tokens.Token.{Token}
+use Rattle.query_text.specs.declared.tokens.Token.TheVariants as token
+use Rattle.query_text.specs.Tokens.{Placed, tokens_of}
+use Rattle.query_text.specs.Roles.{name_of, is_table_name, is_orderable, place_from}
+use Rattle.query_text.specs.Printing.{ordering_agg}
+
+-- ---- what is written at one place
+
+-- one token, or any token that gives that name, plain or quoted
+pub data Sign : Type 0 where
+  Exactly : (token : Token) → Sign
+  TheName : (name : List ℕ) → Sign
+
+abbrev pub Says : Sign → Token → Type 0
+Says (Exactly u) t = t ≡ u
+Says (TheName name) t = name_of t ≡ Some name
+
+-- tokens, one for each place
+abbrev pub Spells : List Sign → List Token → Type 0
+Spells [] [] = Unit {0}
+Spells [] (t ∷ ts) = ⊥
+Spells (s ∷ signs) [] = ⊥
+Spells (s ∷ signs) (t ∷ ts) = Says s t × Spells signs ts
+
+abbrev pub keyword : List ℕ → Sign
+keyword word = Exactly (token.Word word)
+
+abbrev pub int : ℤ → Sign
+int n = Exactly (token.Int (Some n))
+
+-- ---- the parts
+
+abbrev pub call : List ℕ → List ℕ → List Sign → List Sign
+call word name further = keyword word ∷ Exactly token.Open ∷ TheName name ∷ Exactly token.Close ∷ further
+
+-- COUNT ( * ), or the word of the others with a name
+abbrev pub agg_signs : Agg → List Sign → List Sign
+agg_signs Count further = keyword (codes "COUNT") ∷ Exactly token.Open ∷ Exactly token.Star ∷ Exactly token.Close ∷ further
+agg_signs (Sum name) further = call (codes "SUM") name further
+agg_signs (Min name) further = call (codes "MIN") name further
+agg_signs (Max name) further = call (codes "MAX") name further
+agg_signs (Avg name) further = call (codes "AVG") name further
+
+-- the selected names, each with a comma
+abbrev pub names_signs : List (List ℕ) → List Sign → List Sign
+names_signs [] further = further
+names_signs (name ∷ names) further = TheName name ∷ Exactly token.Comma ∷ names_signs names further
+
+abbrev pub more_aggs_signs : List Agg → List Sign → List Sign
+more_aggs_signs [] further = further
+more_aggs_signs (a ∷ aggs) further = Exactly token.Comma ∷ agg_signs a (more_aggs_signs aggs further)
+
+-- the aggregates, with a comma between each two
+abbrev pub aggs_signs : List Agg → List Sign → List Sign
+aggs_signs [] further = further
+aggs_signs (a ∷ aggs) further = agg_signs a (more_aggs_signs aggs further)
+
+-- the table and the range of times
+abbrev pub range_signs : List ℕ → ℤ → ℤ → List Sign → List Sign
+range_signs table from to further =
+    keyword (codes "FROM") ∷ keyword table
+    ∷ keyword (codes "WHERE") ∷ keyword (codes "time") ∷ Exactly (token.Compare Ge) ∷ int from
+    ∷ keyword (codes "AND") ∷ keyword (codes "time") ∷ Exactly (token.Compare Le) ∷ int to ∷ further
+
+abbrev pub const_sign : Value → Sign
+const_sign (value.Int n) = int n
+const_sign (value.Text t) = Exactly (token.Text t)
+
+abbrev pub conds_signs : List Cond → List Sign → List Sign
+conds_signs [] further = further
+conds_signs (c ∷ conds) further = keyword (codes "AND") ∷ TheName c.name ∷ Exactly (token.Compare c.op) ∷ const_sign c.value ∷ conds_signs conds further
+
+abbrev pub more_names_signs : List (List ℕ) → List Sign → List Sign
+more_names_signs [] further = further
+more_names_signs (name ∷ names) further = Exactly token.Comma ∷ TheName name ∷ more_names_signs names further
+
+-- GROUP BY and the selected names in the same order, where there are any
+abbrev pub group_signs : List (List ℕ) → List Sign → List Sign
+group_signs [] further = further
+group_signs (name ∷ names) further = keyword (codes "GROUP") ∷ keyword (codes "BY") ∷ TheName name ∷ more_names_signs names further
+
+abbrev pub order_signs : Option Agg → List Sign → List Sign
+order_signs None further = further
+order_signs (Some a) further = keyword (codes "ORDER") ∷ keyword (codes "BY") ∷ agg_signs a further
+
+abbrev pub limit_signs : Bool → ℕ → List Sign
+limit_signs false n = []
+limit_signs true n = keyword (codes "LIMIT") ∷ int (pos n) ∷ []
+
+-- a query, with LIMIT or without
+abbrev pub query_signs : Bool → Query → List Sign
+query_signs is_limited q =
+    keyword (codes "SELECT") ∷ names_signs q.keys (aggs_signs q.aggs (range_signs q.table q.from q.to
+    (conds_signs q.conds (group_signs q.keys (order_signs (ordering_agg q.order q.aggs) (limit_signs is_limited q.limit))))))
+
+-- ---- queries
+
+-- the place of the first aggregate that is equal to one, which is no AVG
+abbrev pub IsOrder : Option ℕ → List Agg → Type 0
+IsOrder None aggs = Unit {0}
+IsOrder (Some i) aggs = (a : Agg) × ((slice_get aggs i ≡ Some a) × ((is_orderable a ≡ true) × (place_from 0 a aggs ≡ Some i)))
+
+-- a table's name, at least one aggregate, an order by one of them, and a limit
+pub record IsQuery (q : Query) : Type 0 where
+  pub table : is_table_name q.table ≡ true
+  pub aggs : 0 < length q.aggs
+  pub order : IsOrder q.order q.aggs
+  pub limit : q.limit ≤ 100000
+
+-- the tokens spell the query; LIMIT may be left out where it is 100,000
+pub record IsSpelled (q : Query) (ts : List Token) : Type 0 where
+  pub query : IsQuery q
+  pub is_limited : Bool
+  pub default : is_limited ≡ false → q.limit ≡ 100000
+  pub spelled : Spells (query_signs is_limited q) ts
+
+-- the tokens of a text, without their places
+abbrev pub plain_tokens : List Placed → List Token
+plain_tokens ps = map (λ (p : Placed). p.token) ps
