@@ -234,14 +234,14 @@ found_conds r table from to (c ∷ conds) before keys aggs further ts h next =
 
 -- ---- GROUP BY
 
-seam : (before : List (List ℕ)) (name : List ℕ) (names : List (List ℕ)) → slice_get (before ++ (name ∷ names)) (length before) ≡ Some name
+pub seam : (before : List (List ℕ)) (name : List ℕ) (names : List (List ℕ)) → slice_get (before ++ (name ∷ names)) (length before) ≡ Some name
 seam [] name names = refl
 seam (n ∷ before) name names = seam before name names
 
-longer : (before : List (List ℕ)) (name : List ℕ) (names : List (List ℕ)) → length before < length (before ++ (name ∷ names))
+pub longer : (before : List (List ℕ)) (name : List ℕ) (names : List (List ℕ)) → length before < length (before ++ (name ∷ names))
 longer before name names = let sum = length-append before (name ∷ names) in omega (arith, sum)
 
-next_length : (before : List (List ℕ)) (name : List ℕ) → length before + 1 ≡ length (before ++ (name ∷ []))
+pub next_length : (before : List (List ℕ)) (name : List ℕ) → length before + 1 ≡ length (before ++ (name ∷ []))
 next_length before name = sym (length-append before (name ∷ []))
 
 found_more_names : (s r : Query) (names before : List (List ℕ)) (further : List Sign) (ts : List Token) → s.keys ≡ before ++ names

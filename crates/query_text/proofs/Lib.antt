@@ -4,3 +4,5 @@ pub mod Quoting
 pub mod Results
 pub mod Plain
 pub mod Found
+pub mod Inverse
+pub mod Only
