@@ -6,3 +6,7 @@ pub mod Plain
 pub mod Found
 pub mod Inverse
 pub mod Only
+pub mod Meaning
+pub mod Lexed
+pub mod Written
+pub mod Valid

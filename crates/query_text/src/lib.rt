@@ -4,6 +4,7 @@
 mod aggregates;
 mod builders;
 mod fault;
+mod laws;
 mod numbers;
 mod places;
 mod printing;
@@ -16,5 +17,6 @@ mod steps;
 mod tokens;
 
 pub use fault::QueryFault;
+pub use laws::grammar_meaning;
 pub use printing::print;
 pub use reading::parse;

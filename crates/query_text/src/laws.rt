@@ -1,0 +1,11 @@
+// What holds of every text and of every query.
+ghost use Rattle.std.specs.Prelude.{◌≡◌, ◌↔◌, ℕ, List, Ok};
+ghost use Rattle.leaf_model.specs.declared.queries.Query.{Query};
+ghost use Rattle.query_text.specs.Tokens.{tokens_of};
+ghost use Rattle.query_text.specs.Reading.{query_of};
+ghost use Rattle.query_text.specs.Grammar.{IsSpelled, plain_tokens};
+
+/// Law: a text is read as a query exactly where its tokens spell that query, part by part.
+pub fn grammar_meaning()
+    ensures spelled { (text : List ℕ) → (query : Query) → (query_of text ≡ Ok query) ↔ IsSpelled query (plain_tokens (tokens_of text)) }
+{}
