@@ -274,7 +274,7 @@ found_group s r (name ∷ names) further ts keys h next =
     let some : nat_lt 0 (length s.keys) ≡ true = rw keys (lt-ltb 0 (length (name ∷ names)) (omega arith)) in
     let there : slice_get s.keys 0 ≡ Some name = rw keys refl in
     let further_on = found_more_names s r names (name ∷ []) further i.us keys i.rest
-        (λ us k. next (GroupEnd (length s.keys)) (λ e. absurd (no_cons name names (sym keys ∙ e))) (λ e. refl) us k) in
+    (λ us k. next (GroupEnd (length s.keys)) (λ e. absurd (no_cons name names (sym keys ∙ e))) (λ e. refl) us k) in
     rw (f.is, f.says, some, g.is, g.says, i.is, there, i.says, same_bytes name) further_on
   where
     no_cons : (name : List ℕ) (names : List (List ℕ)) → name ∷ names ≡ [] → ⊥
@@ -283,12 +283,12 @@ found_group s r (name ∷ names) further ts keys h next =
 -- ---- ORDER BY, and the whole
 
 tail_cond : (s : Query) → s.keys ≡ [] → IsTail s CondEnd
-tail_cond s none = record { ends = rw none refl; limit = rw none refl; order = rw none refl; }
+tail_cond s none = record { ends = rw none refl; limit = rw none refl; order = rw none refl }
 
 tail_group : (s : Query) → IsTail s (GroupEnd (length s.keys))
 tail_group s =
     let full : nat_lt (length s.keys) (length s.keys) ≡ false = le-ltb (length s.keys) (length s.keys) (omega arith) in
-    record { ends = rw full refl; limit = rw full refl; order = rw full refl; }
+    record { ends = rw full refl; limit = rw full refl; order = rw full refl }
 
 tail_by : (s : Query) (place : Place) (keys : List (List ℕ)) → s.keys ≡ keys → (s.keys ≡ [] → place ≡ CondEnd) → (0 < length s.keys → place ≡ GroupEnd (length s.keys)) → IsTail s place
 tail_by s place [] e c g = rw (c e) (tail_cond s e)

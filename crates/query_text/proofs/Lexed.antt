@@ -98,13 +98,13 @@ range_digit c h = grind (arith, nat_tests)
 
 digits_test : IsDigitsTest AllDigits
 digits_test = record {
-    empty = refl;
-    parts = λ c cs h. (let both = and_parts (is_ascii_digit c) (list_all is_ascii_digit cs) h in (digit_range c both.0, both.1));
-    more = λ c cs r h. rw (range_digit c r, h) refl;
-  }
+  empty = refl;
+  parts = λ c cs h. (let both = and_parts (is_ascii_digit c) (list_all is_ascii_digit cs) h in (digit_range c both.0, both.1));
+  more = λ c cs r h. rw (range_digit c r, h) refl;
+}
 
 folds : FoldsDigits value_from
-folds = record { empty = λ n. refl; more = λ n c cs r. refl; }
+folds = record { empty = λ n. refl; more = λ n c cs r. refl }
 
 numerals : IsNumeralModel AllDigits (value_from 0)
 numerals = numerals_by_fold AllDigits digits_test value_from folds
@@ -152,10 +152,10 @@ quote_by : (t : Bool) (m b : ℕ) (bs further : List ℕ) (long : ℕ) → (b ==
 quote_by true m b bs further long e h =
     let same : m ≡ b = sym (eqb-true b m e) in
     let longer : (long + 1) + 1 ≡ 2 + long = omega arith in
-    rw (e, h) (λ i. Some (record { inside = same i ∷ bs; long = longer i; }))
+    rw (e, h) (λ i. Some (record { inside = same i ∷ bs; long = longer i }))
 quote_by false m b bs further long e h =
     let longer : long + 1 ≡ 1 + long = omega arith in
-    rw (e, h) (λ i. Some (record { inside = b ∷ bs; long = longer i; }))
+    rw (e, h) (λ i. Some (record { inside = b ∷ bs; long = longer i }))
 
 -- what is behind the opening mark
 quote_back : (m : ℕ) (bs next : List ℕ) → 34 ≤ m → m ≤ 39 → stops next ≡ true
@@ -170,7 +170,7 @@ quote_back m (b ∷ bs) next low high h =
     let long : length ((doubled m b ++ inner) ++ (m ∷ [])) ≡ length (doubled m b) + length (inner ++ (m ∷ [])) =
     ap length (append_assoc (doubled m b) inner (m ∷ [])) ∙ length-append (doubled m b) (inner ++ (m ∷ [])) in
     ap (quote_from m false) cut ∙ quote_by (b == m) m b bs ((inner ++ (m ∷ [])) ++ next) (length (inner ++ (m ∷ []))) refl (quote_back m bs next low high h)
-    ∙ (λ i. Some (record { inside = b ∷ bs; long = sym long i; }))
+    ∙ (λ i. Some (record { inside = b ∷ bs; long = sym long i }))
 
 -- a text that a query's text may hold
 pub record IsText (t : List ℕ) : Type 0 where
@@ -216,7 +216,7 @@ name_by true n next e good end = let both = lexed_plain n next e good.short end 
 name_by false n next e good end = (token.Name n, (refl, lexed_quoted n next good end))
 
 pub lexed_name : (n next : List ℕ) → IsName n → stops next ≡ true → LexedName n next
-lexed_name n next good end = let l = name_by (is_plain n) n next refl good end in record { t = l.0; names = l.1.0; is = l.1.1; }
+lexed_name n next good end = let l = name_by (is_plain n) n next refl good end in record { t = l.0; names = l.1.0; is = l.1.1 }
 
 pub lexed_op : (o : Op) (next : List ℕ) → lexed 0 (op_text o ++ (codes " " ++ next)) ≡ token.Compare o ∷ lexed 0 next
 lexed_op Eq next = refl

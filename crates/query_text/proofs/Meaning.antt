@@ -1,11 +1,12 @@
 -- A text is read as a query exactly where its tokens spell the query.
-use Rattle.std.proofs.Common.{◌≡◌, ℕ, List, length, Ok, sym, ap, ◌∙◌}
-use Rattle.std.specs.Prelude.{◌↔◌}
+use Rattle.std.proofs.Common.{◌≡◌, ℕ, List, length, Result, Ok, Err, sym, ap, ◌∙◌}
+use Rattle.std.specs.Prelude.{◌↔◌, IfOk}
 use Rattle.leaf_model.specs.declared.queries.Query.{Query}
+use Rattle.query_text.specs.declared.fault.QueryFault.{QueryFault}
 use Rattle.query_text.specs.declared.places.Place.TheVariants.{Select}
 use Rattle.query_text.specs.Tokens.{tokens_of}
 use Rattle.query_text.specs.Reading.{query_of, nothing_read}
-use Rattle.query_text.specs.Grammar.{IsSpelled, plain_tokens}
+use Rattle.query_text.specs.Grammar.{IsQuery, IsSpelled, plain_tokens}
 use Rattle.query_text.proofs.Plain.{read_ok, same_reading, read_since}
 use Rattle.query_text.proofs.Found.{found}
 use Rattle.query_text.proofs.Only.{only}
@@ -18,3 +19,8 @@ spelled_read text q h = read_since (query_of text) q (same_reading (length text)
 
 pub texts_spell : (text : List ℕ) (q : Query) → (query_of text ≡ Ok q) ↔ IsSpelled q (plain_tokens (tokens_of text))
 texts_spell text q = (read_spelled text q, spelled_read text q)
+
+-- what is read is a query
+pub read_query : (text : List ℕ) (r : Result Query QueryFault) → r ≡ query_of text → IfOk r IsQuery
+read_query text (Ok q) h = (read_spelled text q (sym h)).query
+read_query text (Err fault) h = tt

@@ -47,7 +47,7 @@ nothing_after s r (t ∷ ts) h = absurd (None≢Some h)
 
 not_limited : (table : List ℕ) (from to : ℤ) (conds : List Cond) (keys : List (List ℕ)) (aggs : List Agg) (o : Option ℕ) (r : Query)
     → Some (made table from to conds keys aggs o 100000) ≡ Some r → Limited table from to conds keys aggs o r []
-not_limited table from to conds keys aggs o r h = record { is_limited = false; n = 100000; small = omega arith; default = λ e. refl; is = sym (some_same h); spelled = tt; }
+not_limited table from to conds keys aggs o r h = record { is_limited = false; n = 100000; small = omega arith; default = λ e. refl; is = sym (some_same h); spelled = tt }
 
 limited : (table : List ℕ) (from to : ℤ) (conds : List Cond) (keys : List (List ℕ)) (aggs : List Agg) (o : Option ℕ) (r : Query) (t : Token) (ts : List Token)
     → is_word (codes "LIMIT") t ≡ true → reads (made table from to conds keys aggs o 100000) LimitNumber ts ≡ Some r → Limited table from to conds keys aggs o r (t ∷ ts)
@@ -57,7 +57,11 @@ limited table from to conds keys aggs o r t ts w h =
     let number = the_limit g.t g.x g.gives in
     let last = nothing_after (with_limit s g.x) r g.us g.read in
     record {
-      is_limited = true; n = g.x; small = number.1; default = λ e. absurd (true≢false e); is = last.1;
+      is_limited = true;
+      n = g.x;
+      small = number.1;
+      default = λ e. absurd (true≢false e);
+      is = last.1;
       spelled = rw (g.is, last.0) (the_word (codes "LIMIT") t w, (number.0, tt));
     }
 
@@ -83,7 +87,7 @@ pub record Tailed (part : List Sign → List Sign) (table : List ℕ) (from to :
 
 unordered : (table : List ℕ) (from to : ℤ) (conds : List Cond) (keys : List (List ℕ)) (aggs : List Agg) (r : Query) (ts : List Token)
     → Limited table from to conds keys aggs None r ts → Tailed (λ S. S) table from to conds keys aggs r ts
-unordered table from to conds keys aggs r ts l = record { o = None; order = tt; is_limited = l.is_limited; n = l.n; small = l.small; default = l.default; is = l.is; spelled = l.spelled; }
+unordered table from to conds keys aggs r ts l = record { o = None; order = tt; is_limited = l.is_limited; n = l.n; small = l.small; default = l.default; is = l.is; spelled = l.spelled }
 
 first_by : (t : Bool) (i k : ℕ) (a b : Agg) (aggs : List Agg) → same_agg a b ≡ t
     → (place_from (i + 1) a aggs ≡ Some k → (j : ℕ) × ((k ≡ (i + 1) + j) × (slice_get aggs j ≡ Some a)))
@@ -149,7 +153,13 @@ only_order table from to conds keys aggs r k t ts is any h =
     let there : slice_get aggs g.x ≡ Some inside.0 = (let place = first.1.0 in ap (λ i. slice_get aggs i) (omega (arith, place))) ∙ first.1.1 in
     let spelled = inside_spells k g.t inside.0 (limit_signs l.is_limited l.n) c.us inside.1.0 l.spelled in
     record {
-      o = Some g.x; order = (inside.0, (there, (orderable k g.t aggs inside.0 any inside.1.0, inside.1.1))); is_limited = l.is_limited; n = l.n; small = l.small; default = l.default; is = l.is;
+      o = Some g.x;
+      order = (inside.0, (there, (orderable k g.t aggs inside.0 any inside.1.0, inside.1.1)));
+      is_limited = l.is_limited;
+      n = l.n;
+      small = l.small;
+      default = l.default;
+      is = l.is;
       spelled = ordered_spells (slice_get aggs g.x) inside.0 (limit_signs l.is_limited l.n) (t ∷ ts) there (called_spells k inside.0 (limit_signs l.is_limited l.n) t g.t ts f.us g.us c.us (the_kind t k is) f.is g.is c.is spelled);
     }
 
@@ -183,7 +193,7 @@ order_by false table from to conds keys aggs r t ts e h =
 extend : (part other : List Sign → List Sign) (table : List ℕ) (from to : ℤ) (conds : List Cond) (keys : List (List ℕ)) (aggs : List Agg) (r : Query) (us ts : List Token)
     → ((S : List Sign) → Spells (part S) us → Spells (other S) ts) → Tailed part table from to conds keys aggs r us → Tailed other table from to conds keys aggs r ts
 extend part other table from to conds keys aggs r us ts f l =
-    record { o = l.o; order = l.order; is_limited = l.is_limited; n = l.n; small = l.small; default = l.default; is = l.is; spelled = f _ l.spelled; }
+    record { o = l.o; order = l.order; is_limited = l.is_limited; n = l.n; small = l.small; default = l.default; is = l.is; spelled = f _ l.spelled }
 
 -- ---- GROUP BY
 
@@ -203,7 +213,7 @@ group_name_in : (s r : Query) (i : ℕ) (name : List ℕ) (ts : List Token) → 
 group_name_in s r i name [] there h = absurd (None≢Some h)
 group_name_in s r i name (t ∷ ts) there h =
     let both = on_if_in (is_key (slice_get s.keys i) (name_of t)) s (GroupEnd (i + 1)) (λ q n. reads q n ts) r h in
-    record { t = t; us = ts; is = refl; names = key_in name (name_of t) (rw there at both.0); read = both.1; }
+    record { t = t; us = ts; is = refl; names = key_in name (name_of t) (rw there at both.0); read = both.1 }
 
 by_spells : (S : List Sign) (ts us : List Token) → ts ≡ token.Word (codes "BY") ∷ us → Spells S us → Spells (keyword (codes "BY") ∷ S) ts
 by_spells S ts us is h = rw is (refl, h)
@@ -265,7 +275,7 @@ pub record Conditioned (table : List ℕ) (from to : ℤ) (before : List Cond) (
 
 unconditioned : (table : List ℕ) (from to : ℤ) (before : List Cond) (keys : List (List ℕ)) (aggs : List Agg) (r : Query) (ts : List Token)
     → Tailed (group_signs keys) table from to before keys aggs r ts → Conditioned table from to before keys aggs r ts
-unconditioned table from to before keys aggs r ts l = record { conds = []; tail = rw (append-nil before) l; }
+unconditioned table from to before keys aggs r ts l = record { conds = []; tail = rw (append-nil before) l }
 
 cond_spells : (c : Cond) (S : List Sign) (t n o v : Token) (ts ns os vs : List Token) → t ≡ token.Word (codes "AND") → ts ≡ n ∷ ns → name_of n ≡ Some c.name
     → ns ≡ o ∷ os → o ≡ token.Compare c.op → os ≡ v ∷ vs → Says (const_sign c.value) v → Spells S vs
@@ -276,10 +286,10 @@ cond_more : (table : List ℕ) (from to : ℤ) (before : List Cond) (c : Cond) (
     → ((S : List Sign) → Spells S us → Spells (keyword (codes "AND") ∷ TheName c.name ∷ Exactly (token.Compare c.op) ∷ const_sign c.value ∷ S) ts)
     → Conditioned table from to (before ++ (c ∷ [])) keys aggs r us → Conditioned table from to before keys aggs r ts
 cond_more table from to before c keys aggs r ts us f l = record {
-    conds = c ∷ l.conds;
-    tail = extend (λ S. conds_signs l.conds (group_signs keys S)) (λ S. conds_signs (c ∷ l.conds) (group_signs keys S)) table from to (before ++ (c ∷ l.conds)) keys aggs r us ts
-        (λ S k. f (conds_signs l.conds (group_signs keys S)) k) (rw (append_assoc before (c ∷ []) l.conds) at l.tail);
-  }
+  conds = c ∷ l.conds;
+  tail = extend (λ S. conds_signs l.conds (group_signs keys S)) (λ S. conds_signs (c ∷ l.conds) (group_signs keys S)) table from to (before ++ (c ∷ l.conds)) keys aggs r us ts
+      (λ S k. f (conds_signs l.conds (group_signs keys S)) k) (rw (append_assoc before (c ∷ []) l.conds) at l.tail);
+}
 
 cond_by : (b : Bool) (table : List ℕ) (from to : ℤ) (before : List Cond) (keys : List (List ℕ)) (aggs : List Agg) (r : Query) (t : Token) (ts : List Token) → is_word (codes "AND") t ≡ b
     → ((more : List Cond) (us : List Token) → length us < length ts → reads (made table from to more keys aggs None 100000) CondEnd us ≡ Some r → Conditioned table from to more keys aggs r us)
@@ -295,8 +305,8 @@ cond_by true table from to before keys aggs r t ts e rec h =
     let lv = one_less v.is in
     let c : Cond = record { name = n.x; op = o.x; value = v.x } in
     cond_more table from to before c keys aggs r (t ∷ ts) v.us
-        (λ S k. cond_spells c S t n.t o.t v.t ts n.us o.us v.us (the_word (codes "AND") t e) n.is n.gives o.is (the_op o.t o.x o.gives) v.is (the_const v.t v.x v.gives) k)
-        (rec (before ++ (c ∷ [])) v.us (omega (arith, ln, lo, lv)) v.read)
+    (λ S k. cond_spells c S t n.t o.t v.t ts n.us o.us v.us (the_word (codes "AND") t e) n.is n.gives o.is (the_op o.t o.x o.gives) v.is (the_const v.t v.x v.gives) k)
+    (rec (before ++ (c ∷ [])) v.us (omega (arith, ln, lo, lv)) v.read)
 
 only_conds : (fuel : ℕ) (table : List ℕ) (from to : ℤ) (before : List Cond) (keys : List (List ℕ)) (aggs : List Agg) (r : Query) (ts : List Token) → length ts ≤ fuel
     → reads (made table from to before keys aggs None 100000) CondEnd ts ≡ Some r → Conditioned table from to before keys aggs r ts
@@ -340,10 +350,14 @@ only_range keys aggs r ts h =
     let the = the_table a.t a.x a.gives in
     let l = only_conds (length j.us) a.x e.x j.x [] keys aggs r j.us (omega arith) j.read in
     record {
-      table = a.x; from = e.x; to = j.x; conds = l.conds; fits = the.1;
+      table = a.x;
+      from = e.x;
+      to = j.x;
+      conds = l.conds;
+      fits = the.1;
       tail = extend (λ S. conds_signs l.conds (group_signs keys S)) (λ S. range_signs a.x e.x j.x (conds_signs l.conds (group_signs keys S))) a.x e.x j.x l.conds keys aggs r j.us (token.Word (codes "FROM") ∷ ts)
           (λ S k. range_spells a.x e.x j.x (conds_signs l.conds (group_signs keys S)) ts a.us b.us c.us d.us e.us f.us g.us i.us a.t e.t j.t
-              a.is the.0 b.is c.is d.is e.is (the_int e.t e.x e.gives) f.is g.is i.is j.us j.is (the_int j.t j.x j.gives) k) l.tail;
+          a.is the.0 b.is c.is d.is e.is (the_int e.t e.x e.gives) f.is g.is i.is j.us j.is (the_int j.t j.x j.gives) k) l.tail;
     }
 
 -- ---- aggregates and names
@@ -365,7 +379,10 @@ only_call s r k t ts is h =
     let lg = one_less g.is in
     let lc = one_less c.is in
     record {
-      a = g.x; us = c.us; shorter = omega (arith, lf, lg, lc); read = c.read;
+      a = g.x;
+      us = c.us;
+      shorter = omega (arith, lf, lg, lc);
+      read = c.read;
       spells = λ S k'. called_spells k g.x S t g.t ts f.us g.us c.us (the_kind t k is) f.is g.is c.is (inside_spells k g.t g.x S c.us g.gives k');
     }
 
@@ -389,9 +406,11 @@ next_agg_in s r (t ∷ ts) h =
 listed_more : (keys : List (List ℕ)) (before : List Agg) (a : Agg) (r : Query) (us ts : List Token) → ((S : List Sign) → Spells S us → Spells (Exactly token.Comma ∷ agg_signs a S) ts)
     → Listed keys (before ++ (a ∷ [])) r us → Listed keys before r ts
 listed_more keys before a r us ts f l = record {
-    aggs = a ∷ l.aggs; us = l.us; read = rw (append_assoc before (a ∷ []) l.aggs) at l.read;
-    spells = λ S k. f (more_aggs_signs l.aggs S) (l.spells S k);
-  }
+  aggs = a ∷ l.aggs;
+  us = l.us;
+  read = rw (append_assoc before (a ∷ []) l.aggs) at l.read;
+  spells = λ S k. f (more_aggs_signs l.aggs S) (l.spells S k);
+}
 
 comma_spells : (a : Agg) (S : List Sign) (t u : Token) (ts us vs : List Token) → t ≡ token.Comma → ts ≡ u ∷ us → Spells (agg_signs a S) (u ∷ us) → Spells (Exactly token.Comma ∷ agg_signs a S) (t ∷ ts)
 comma_spells a S t u ts us vs et es h = rw es (et, h)
@@ -405,10 +424,10 @@ agg_end_by true keys before r t ts e rec h =
     let less = c.shorter in
     let cut = one_less n.1.1.0 in
     listed_more keys before c.a r c.us (t ∷ ts) (λ S k. comma_spells c.a S t n.0 ts n.1.0 c.us (the_comma t e) n.1.1.0 (c.spells S k))
-        (rec (before ++ (c.a ∷ [])) c.us (omega (arith, less, cut)) c.read)
+    (rec (before ++ (c.a ∷ [])) c.us (omega (arith, less, cut)) c.read)
 agg_end_by false keys before r t ts e rec h =
     let both = on_if_in (is_word (codes "FROM") t) (selected keys before) Table (λ q n. reads q n ts) r h in
-    record { aggs = []; us = ts; read = rw (append-nil before) both.1; spells = λ S k. rw (the_word (codes "FROM") t both.0) k; }
+    record { aggs = []; us = ts; read = rw (append-nil before) both.1; spells = λ S k. rw (the_word (codes "FROM") t both.0) k }
 
 only_aggs : (fuel : ℕ) (keys : List (List ℕ)) (before : List Agg) (r : Query) (ts : List Token) → length ts ≤ fuel → reads (selected keys before) AggEnd ts ≡ Some r → Listed keys before r ts
 only_aggs fuel keys before r [] short h = absurd (None≢Some h)
@@ -430,16 +449,24 @@ item_of_kind before r k t ts e h =
     let c = only_call (selected before []) r k t ts e h in
     let l = only_aggs (length c.us) before (c.a ∷ []) r c.us (omega arith) c.read in
     record {
-      names = []; aggs = c.a ∷ l.aggs; some = omega arith; us = l.us; read = rw (append-nil before) l.read;
+      names = [];
+      aggs = c.a ∷ l.aggs;
+      some = omega arith;
+      us = l.us;
+      read = rw (append-nil before) l.read;
       spells = λ S k. c.spells (more_aggs_signs l.aggs S) (l.spells S k);
     }
 
 select_more : (before : List (List ℕ)) (name : List ℕ) (r : Query) (ts us : List Token) → ((S : List Sign) → Spells S us → Spells (TheName name ∷ Exactly token.Comma ∷ S) ts)
     → Selection (before ++ (name ∷ [])) r us → Selection before r ts
 select_more before name r ts us f l = record {
-    names = name ∷ l.names; aggs = l.aggs; some = l.some; us = l.us; read = rw (append_assoc before (name ∷ []) l.names) at l.read;
-    spells = λ S k. f (names_signs l.names (aggs_signs l.aggs S)) (l.spells S k);
-  }
+  names = name ∷ l.names;
+  aggs = l.aggs;
+  some = l.some;
+  us = l.us;
+  read = rw (append_assoc before (name ∷ []) l.names) at l.read;
+  spells = λ S k. f (names_signs l.names (aggs_signs l.aggs S)) (l.spells S k);
+}
 
 item_spells : (name : List ℕ) (S : List Sign) (t : Token) (ts us : List Token) → name_of t ≡ Some name → ts ≡ token.Comma ∷ us → Spells S us → Spells (TheName name ∷ Exactly token.Comma ∷ S) (t ∷ ts)
 item_spells name S t ts us e is h = rw is (e, (refl, h))
@@ -468,7 +495,7 @@ only_items (suc fuel) before r (t ∷ ts) short h =
 
 spelled_query : (r q : Query) (is_limited : Bool) (ts us : List Token) → r ≡ q → ts ≡ token.Word (codes "SELECT") ∷ us → IsQuery q → (is_limited ≡ false → q.limit ≡ 100000)
     → Spells (query_signs is_limited q) (token.Word (codes "SELECT") ∷ us) → IsSpelled r ts
-spelled_query r q is_limited ts us same is good default h = rw (same, is) (record { query = good; is_limited = is_limited; default = default; spelled = h; })
+spelled_query r q is_limited ts us same is good default h = rw (same, is) (record { query = good; is_limited = is_limited; default = default; spelled = h })
 
 pub only : (r : Query) (ts : List Token) → reads nothing_read Select ts ≡ Some r → IsSpelled r ts
 only r ts h =
@@ -477,5 +504,5 @@ only r ts h =
     let g = only_range l.names l.aggs r l.us l.read in
     let t = g.tail in
     spelled_query r (made g.table g.from g.to g.conds l.names l.aggs t.o t.n) t.is_limited ts f.us t.is f.is
-        (record { table = g.fits; aggs = l.some; order = t.order; limit = t.small; }) t.default
-        (refl, l.spells _ t.spelled)
+    (record { table = g.fits; aggs = l.some; order = t.order; limit = t.small }) t.default
+    (refl, l.spells _ t.spelled)

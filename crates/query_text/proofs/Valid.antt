@@ -68,14 +68,14 @@ name_valid (Some q) =
     if_holds (λ (f : Found). IsToken f.token) (nat_lt 0 (length q.inside) && (nat_le (length q.inside) 255 && is_utf8 q.inside)) (record { token = token.Name q.inside; more = q.long }) stray
     (λ e. (let first = and_parts (nat_lt 0 (length q.inside)) (nat_le (length q.inside) 255 && is_utf8 q.inside) e in
     let rest = and_parts (nat_le (length q.inside) 255) (is_utf8 q.inside) first.1 in
-    record { some = ltb-true 0 (length q.inside) first.0; short = leb-true (length q.inside) 255 rest.0; utf8 = rest.1; }))
+    record { some = ltb-true 0 (length q.inside) first.0; short = leb-true (length q.inside) 255 rest.0; utf8 = rest.1 }))
     (λ e. tt)
 
 text_valid : (q : Option Quote) → IsToken (text_token q).token
 text_valid None = tt
 text_valid (Some q) =
     if_holds (λ (f : Found). IsToken f.token) (nat_le (length q.inside) 65535 && is_utf8 q.inside) (record { token = token.Text q.inside; more = q.long }) stray
-    (λ e. (let both = and_parts (nat_le (length q.inside) 65535) (is_utf8 q.inside) e in record { short = leb-true (length q.inside) 65535 both.0; utf8 = both.1; }))
+    (λ e. (let both = and_parts (nat_le (length q.inside) 65535) (is_utf8 q.inside) e in record { short = leb-true (length q.inside) 65535 both.0; utf8 = both.1 }))
     (λ e. tt)
 
 pair_valid : (alone both : Token) (rest : List ℕ) → IsToken alone → IsToken both → IsToken (pair_token alone both rest).token
@@ -119,7 +119,7 @@ all_valid zero (b ∷ rest) =
 name_said : (t : Token) (n : List ℕ) → name_of t ≡ Some n → IsToken t → IsName n
 name_said (token.Word w) n h good =
     let said = name_word w n h in
-    subst IsName said.1 (record { some = good.0; short = ltb-false 255 (length w) said.0.1; utf8 = good.1; })
+    subst IsName said.1 (record { some = good.0; short = ltb-false 255 (length w) said.0.1; utf8 = good.1 })
 name_said (token.Name m) n h good = subst IsName (some_same h) good
 name_said (token.Text m) n h good = absurd (None≢Some h)
 name_said (token.Int m) n h good = absurd (None≢Some h)
@@ -145,45 +145,45 @@ pub record Behind (P : Type 0) (S : List Sign) : Type 0 where
   pub holds : P
 
 names_said : (names : List (List ℕ)) (S : List Sign) (ts : List Token) → Spells (names_signs names S) ts → AllByRecursion IsToken ts → Behind (AllByRecursion IsName names) S
-names_said [] S ts h good = record { us = ts; spelled = h; good = good; holds = tt; }
+names_said [] S ts h good = record { us = ts; spelled = h; good = good; holds = tt }
 names_said (n ∷ names) S [] h good = absurd h
 names_said (n ∷ names) S (t ∷ []) h good = absurd h.1
 names_said (n ∷ names) S (t ∷ u ∷ ts) h good =
     let r = names_said names S ts h.1.1 good.1.1 in
-    record { us = r.us; spelled = r.spelled; good = r.good; holds = (name_said t n h.0 good.0, r.holds); }
+    record { us = r.us; spelled = r.spelled; good = r.good; holds = (name_said t n h.0 good.0, r.holds) }
 
 call_said : (w n : List ℕ) (S : List Sign) (ts : List Token) → Spells (keyword w ∷ Exactly token.Open ∷ TheName n ∷ Exactly token.Close ∷ S) ts → AllByRecursion IsToken ts → Behind (IsName n) S
 call_said w n S [] h good = absurd h
 call_said w n S (t ∷ []) h good = absurd h.1
 call_said w n S (t ∷ u ∷ []) h good = absurd h.1.1
 call_said w n S (t ∷ u ∷ v ∷ []) h good = absurd h.1.1.1
-call_said w n S (t ∷ u ∷ v ∷ x ∷ ts) h good = record { us = ts; spelled = h.1.1.1.1; good = good.1.1.1.1; holds = name_said v n h.1.1.0 good.1.1.0; }
+call_said w n S (t ∷ u ∷ v ∷ x ∷ ts) h good = record { us = ts; spelled = h.1.1.1.1; good = good.1.1.1.1; holds = name_said v n h.1.1.0 good.1.1.0 }
 
 agg_said : (a : Agg) (S : List Sign) (ts : List Token) → Spells (agg_signs a S) ts → AllByRecursion IsToken ts → Behind (HasName a) S
 agg_said agg.Count S [] h good = absurd h
 agg_said agg.Count S (t ∷ []) h good = absurd h.1
 agg_said agg.Count S (t ∷ u ∷ []) h good = absurd h.1.1
 agg_said agg.Count S (t ∷ u ∷ v ∷ []) h good = absurd h.1.1.1
-agg_said agg.Count S (t ∷ u ∷ v ∷ x ∷ ts) h good = record { us = ts; spelled = h.1.1.1.1; good = good.1.1.1.1; holds = tt; }
+agg_said agg.Count S (t ∷ u ∷ v ∷ x ∷ ts) h good = record { us = ts; spelled = h.1.1.1.1; good = good.1.1.1.1; holds = tt }
 agg_said (agg.Sum n) S ts h good = call_said (codes "SUM") n S ts h good
 agg_said (agg.Min n) S ts h good = call_said (codes "MIN") n S ts h good
 agg_said (agg.Max n) S ts h good = call_said (codes "MAX") n S ts h good
 agg_said (agg.Avg n) S ts h good = call_said (codes "AVG") n S ts h good
 
 more_aggs_said : (aggs : List Agg) (S : List Sign) (ts : List Token) → Spells (more_aggs_signs aggs S) ts → AllByRecursion IsToken ts → Behind (AllByRecursion HasName aggs) S
-more_aggs_said [] S ts h good = record { us = ts; spelled = h; good = good; holds = tt; }
+more_aggs_said [] S ts h good = record { us = ts; spelled = h; good = good; holds = tt }
 more_aggs_said (a ∷ aggs) S [] h good = absurd h
 more_aggs_said (a ∷ aggs) S (t ∷ ts) h good =
     let f = agg_said a (more_aggs_signs aggs S) ts h.1 good.1 in
     let r = more_aggs_said aggs S f.us f.spelled f.good in
-    record { us = r.us; spelled = r.spelled; good = r.good; holds = (f.holds, r.holds); }
+    record { us = r.us; spelled = r.spelled; good = r.good; holds = (f.holds, r.holds) }
 
 aggs_said : (aggs : List Agg) (S : List Sign) (ts : List Token) → Spells (aggs_signs aggs S) ts → AllByRecursion IsToken ts → Behind (AllByRecursion HasName aggs) S
-aggs_said [] S ts h good = record { us = ts; spelled = h; good = good; holds = tt; }
+aggs_said [] S ts h good = record { us = ts; spelled = h; good = good; holds = tt }
 aggs_said (a ∷ aggs) S ts h good =
     let f = agg_said a (more_aggs_signs aggs S) ts h good in
     let r = more_aggs_said aggs S f.us f.spelled f.good in
-    record { us = r.us; spelled = r.spelled; good = r.good; holds = (f.holds, r.holds); }
+    record { us = r.us; spelled = r.spelled; good = r.good; holds = (f.holds, r.holds) }
 
 conds_said : (conds : List Cond) (S : List Sign) (ts : List Token) → Spells (conds_signs conds S) ts → AllByRecursion IsToken ts → AllByRecursion IsCond conds
 conds_said [] S ts h good = tt
@@ -208,7 +208,7 @@ range_said table from to S ts h good =
     let gi = subst (λ xs. AllByRecursion IsToken xs) i.is gg.1.1.1.1 in
     let j = one (int to) S i.us i.rest in
     let gj = subst (λ xs. AllByRecursion IsToken xs) j.is gi.1 in
-    record { us = j.us; spelled = j.rest; good = gj.1; holds = (int_said g.u from g.says_b gg.1.0, int_said j.t to j.says gj.0); }
+    record { us = j.us; spelled = j.rest; good = gj.1; holds = (int_said g.u from g.says_b gg.1.0, int_said j.t to j.says gj.0) }
 
 spelled_writable : (q : Query) (ts : List Token) → IsSpelled q ts → AllByRecursion IsToken ts → IsWritable q
 spelled_writable q ts sp good =
@@ -219,7 +219,7 @@ spelled_writable q ts sp good =
     let n = names_said q.keys (aggs_signs q.aggs range) f.us f.rest gf.1 in
     let a = aggs_said q.aggs range n.us n.spelled n.good in
     let r = range_said q.table q.from q.to (conds_signs q.conds group) a.us a.spelled a.good in
-    record { keys = n.holds; aggs = a.holds; from = r.holds.0; to = r.holds.1; conds = conds_said q.conds group r.us r.spelled r.good; }
+    record { keys = n.holds; aggs = a.holds; from = r.holds.0; to = r.holds.1; conds = conds_said q.conds group r.us r.spelled r.good }
 
 pub read_back : (text : List ℕ) (q : Query) → query_of text ≡ Ok q → query_of (printed q) ≡ Ok q
 read_back text q h =

@@ -172,14 +172,16 @@ written q good w =
     let conds = conds_then q.conds group in
     let conds_signs_of = conds_signs q.conds group_signs_of in
     let order_ends = order_stop (ordering_agg q.order q.aggs) limit refl in
-    let group_ends = group_stop q.keys order order_ends in
-    (refl, names_written q.keys (aggs_then q.aggs (range_then q conds)) (aggs_signs q.aggs (range_signs q.table q.from q.to conds_signs_of)) w.keys
-    (aggs_written q.aggs (range_then q conds) (range_signs q.table q.from q.to conds_signs_of) w.aggs
-    (range_written q conds conds_signs_of good.table w.from w.to (conds_stop q.conds group group_ends)
-    (conds_written q.conds group group_signs_of w.conds group_ends
-    (group_written q.keys order order_signs_of w.keys order_ends
-    (order_written q.order q.aggs limit (limit_signs true q.limit) good.order w.aggs (limit_written q.limit good.limit)))))))
+    let group_ends = group_stop q.keys order order_ends in (
+      refl,
+      names_written q.keys (aggs_then q.aggs (range_then q conds)) (aggs_signs q.aggs (range_signs q.table q.from q.to conds_signs_of)) w.keys
+          (aggs_written q.aggs (range_then q conds) (range_signs q.table q.from q.to conds_signs_of) w.aggs
+          (range_written q conds conds_signs_of good.table w.from w.to (conds_stop q.conds group group_ends)
+          (conds_written q.conds group group_signs_of w.conds group_ends
+          (group_written q.keys order order_signs_of w.keys order_ends
+          (order_written q.order q.aggs limit (limit_signs true q.limit) good.order w.aggs (limit_written q.limit good.limit)))))),
+    )
 
 pub written_back : (q : Query) → IsQuery q → IsWritable q → query_of (printed q) ≡ Ok q
 written_back q good w =
-    spelled_read (printed q) q (rw (same_tokens 0 0 (printed q)) (record { query = good; is_limited = true; default = λ e. absurd (true≢false e); spelled = written q good w; }))
+    spelled_read (printed q) q (rw (same_tokens 0 0 (printed q)) (record { query = good; is_limited = true; default = λ e. absurd (true≢false e); spelled = written q good w }))

@@ -12,10 +12,7 @@ use leaf_model::{Agg, Text};
 fn takes_order(agg: &Agg) -> bool
     ensures { result ≡ is_orderable agg.now }
 {
-    match agg {
-        Agg::Count | Agg::Sum(_) | Agg::Min(_) | Agg::Max(_) => true,
-        Agg::Avg(_) => false,
-    }
+    !matches!(agg, Agg::Avg(_))
 }
 
 pub fn any_takes_order(aggs: &[Agg]) -> bool

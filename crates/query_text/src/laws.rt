@@ -3,9 +3,16 @@ ghost use Rattle.std.specs.Prelude.{◌≡◌, ◌↔◌, ℕ, List, Ok};
 ghost use Rattle.leaf_model.specs.declared.queries.Query.{Query};
 ghost use Rattle.query_text.specs.Tokens.{tokens_of};
 ghost use Rattle.query_text.specs.Reading.{query_of};
+ghost use Rattle.query_text.specs.Printing.{printed};
 ghost use Rattle.query_text.specs.Grammar.{IsSpelled, plain_tokens};
 
 /// Law: a text is read as a query exactly where its tokens spell that query, part by part.
 pub fn grammar_meaning()
     ensures spelled { (text : List ℕ) → (query : Query) → (query_of text ≡ Ok query) ↔ IsSpelled query (plain_tokens (tokens_of text)) }
+{}
+
+/// Law: the one text of a query that some text is read as is read as that query.
+#[tactic(auto, using(crate::proofs::Valid::read_back))]
+pub fn print_reads_back()
+    ensures back { (text : List ℕ) → (query : Query) → query_of text ≡ Ok query → query_of (printed query) ≡ Ok query }
 {}

@@ -14,9 +14,11 @@ mod roles;
 mod scanner;
 mod spellings;
 mod steps;
+#[cfg(test)]
+mod tests;
 mod tokens;
 
 pub use fault::QueryFault;
-pub use laws::grammar_meaning;
+pub use laws::{grammar_meaning, print_reads_back};
 pub use printing::print;
 pub use reading::parse;

@@ -1,6 +1,7 @@
 // The query that a text is, or its first fault.
 ghost use Rattle.std.specs.Prelude.{◌≡◌, ◌≢◌, Err, IfOk};
 ghost use Rattle.query_text.specs.declared.fault.QueryFault.TheVariants as fault;
+ghost use Rattle.query_text.specs.Grammar.{IsQuery};
 ghost use Rattle.query_text.specs.Reading.{takes_int, is_in_range, plain_fault, fault_of, may_end, query_of};
 
 use crate::builders::start;
@@ -125,8 +126,10 @@ fn read(alloc: Global, text: &[u8]) -> Result<Result<Query, QueryFault>, AllocEr
 /// The query that a text is, or its first fault: `TooLarge` where an integer may stand and this one's size is wrong; `NoTime` behind
 /// the table and before the end of the range; `Syntax` elsewhere. `NoMemory` may come at any place. The memory that is taken beside
 /// the query grows with the longest token alone.
+#[tactic(auto, using(crate::proofs::Meaning::read_query))]
 pub fn parse(alloc: Global, text: &[u8]) -> Result<Query, QueryFault>
     ensures exact { result ≢ Err fault.NoMemory → result ≡ query_of text.now }
+    ensures is_query { IfOk result IsQuery }
 {
     match read(alloc, text) {
         Err(_error) => Err(QueryFault::NoMemory),
