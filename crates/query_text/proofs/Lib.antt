@@ -10,3 +10,5 @@ pub mod Meaning
 pub mod Lexed
 pub mod Written
 pub mod Valid
+pub mod Finish
+pub mod Refused

@@ -1,5 +1,5 @@
 -- The grammar: by what tokens a query is spelled, part by part. Each part is given with what follows it.
-use Rattle.std.specs.Prelude.{◌≡◌, ◌≤◌, ◌<◌, ◌⊎◌, ℕ, Bool, true, false, List, [], ◌∷◌, length, map, ℤ, pos, Option, Some, None, codes, slice_get}
+use Rattle.std.specs.Prelude.{◌≡◌, ◌≤◌, ◌<◌, ◌⊎◌, ℕ, Bool, true, false, List, [], ◌∷◌, ◌++◌, length, map, ℤ, pos, Option, Some, None, codes, slice_get}
 use Rattle.leaf_model.specs.declared.rows.Value.{Value}
 use Rattle.leaf_model.specs.declared.rows.Value.TheVariants as value
 use Rattle.leaf_model.specs.declared.queries.Op.TheVariants.{Le, Ge}
@@ -9,6 +9,8 @@ use Rattle.leaf_model.specs.declared.queries.Agg.TheVariants.{Count, Sum, Min, M
 use Rattle.leaf_model.specs.declared.queries.Query.{Query}
 use Rattle.query_text.specs.declared.tokens.Token.{Token}
 use Rattle.query_text.specs.declared.tokens.Token.TheVariants as token
+use Rattle.query_text.specs.declared.fault.QueryFault.{QueryFault}
+use Rattle.query_text.specs.declared.fault.QueryFault.TheVariants.{Syntax, NoTime, TooLarge}
 use Rattle.query_text.specs.Tokens.{Placed, tokens_of}
 use Rattle.query_text.specs.Roles.{name_of, is_table_name, is_orderable, place_from}
 use Rattle.query_text.specs.Printing.{ordering_agg}
@@ -126,3 +128,28 @@ pub record IsSpelled (q : Query) (ts : List Token) : Type 0 where
 -- the tokens of a text, without their places
 abbrev pub plain_tokens : List Placed → List Token
 plain_tokens ps = map (λ (p : Placed). p.token) ps
+
+-- ---- refusal
+
+-- some query begins with these tokens
+abbrev pub IsBegun : List Token → Type 0
+IsBegun ts = (more : List Token) × ((q : Query) × IsSpelled q (ts ++ more))
+
+-- no query goes on: none ends here where no token is left, and else none begins with the next token as well
+abbrev pub IsStuck : List Token → List Placed → Type 0
+IsStuck before [] = (q : Query) → IsSpelled q before → ⊥
+IsStuck before (p ∷ ps) = IsBegun (before ++ (p.token ∷ [])) → ⊥
+
+-- the offset of the next token, or the text's end
+abbrev pub place_of : ℕ → List Placed → ℕ
+place_of end [] = end
+place_of end (p ∷ ps) = p.at
+
+-- the tokens before the fault begin some query, with what stands there none goes on, and the fault has that place
+pub record IsRefused (text : List ℕ) (fault : QueryFault) : Type 0 where
+  pub before : List Placed
+  pub rest : List Placed
+  pub tokens : tokens_of text ≡ before ++ rest
+  pub begun : IsBegun (plain_tokens before)
+  pub stuck : IsStuck (plain_tokens before) rest
+  pub place : (fault ≡ NoTime) ⊎ ((fault ≡ Syntax (place_of (length text) rest)) ⊎ (fault ≡ TooLarge (place_of (length text) rest)))
