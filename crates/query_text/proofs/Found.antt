@@ -74,7 +74,7 @@ None≢Some h = absurd (false≢true (ap is_some h))
 pub same_bytes : (bs : List ℕ) → bytes_eq bs bs ≡ true
 same_bytes bs = (bytes_eq-Decides bs bs).1 refl
 
-or_false : (x y : Bool) → (x || y) ≡ false → (x ≡ false) × (y ≡ false)
+pub or_false : (x y : Bool) → (x || y) ≡ false → (x ≡ false) × (y ≡ false)
 or_false true y h = absurd (true≢false h)
 or_false false y h = (refl, h)
 

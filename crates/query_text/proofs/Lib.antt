@@ -11,4 +11,5 @@ pub mod Lexed
 pub mod Written
 pub mod Valid
 pub mod Finish
+pub mod Ranging
 pub mod Refused

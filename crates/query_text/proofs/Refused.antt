@@ -1,10 +1,11 @@
 -- Where a text is refused: what stands before begins some query, and with what stands there no query goes on.
-use Rattle.std.proofs.Common.{◌≡◌, ℕ, suc, zero, ◌+◌, Bool, true, false, ◌&&◌, List, [], ◌∷◌, ◌++◌, length, Option, Some, None, Result, Ok, Err, if◌then◌else◌, refl, sym, ap, ◌∙◌, nat_lt, inl, inr}
-use Rattle.std.specs.Prelude.{codes, slice_get, ℤ, ◌⊎◌}
+use Rattle.std.proofs.Common.{◌≡◌, ℕ, suc, zero, ◌+◌, Bool, true, false, ◌&&◌, List, [], ◌∷◌, ◌++◌, length, Option, Some, None, Result, Ok, Err, if◌then◌else◌, refl, sym, ap, ◌∙◌, nat_lt, pos}
+use Rattle.std.specs.Prelude.{codes, slice_get, ℤ}
 use Rattle.std.specs.List.{list_any}
 use Rattle.std.proofs.lemmas.Bool.{true≢false, false≢true}
 use Rattle.std.proofs.lemmas.List.{append_assoc, append-nil}
 use Rattle.leaf_model.specs.declared.rows.Value.{Value}
+use Rattle.leaf_model.specs.declared.rows.Value.TheVariants as value
 use Rattle.leaf_model.specs.declared.queries.Op.{Op}
 use Rattle.leaf_model.specs.declared.queries.Agg.{Agg}
 use Rattle.leaf_model.specs.declared.queries.Query.{Query}
@@ -13,18 +14,20 @@ use Rattle.query_text.specs.declared.fault.QueryFault.TheVariants.{Syntax, NoTim
 use Rattle.query_text.specs.declared.tokens.Token.{Token}
 use Rattle.query_text.specs.declared.tokens.Token.TheVariants as token
 use Rattle.query_text.specs.declared.places.Kind.{Kind}
+use Rattle.query_text.specs.declared.places.Kind.TheVariants as kind
 use Rattle.query_text.specs.declared.places.Place.{Place}
 use Rattle.query_text.specs.declared.places.Place.TheVariants.{Select, Item, NameEnd, Opening, Inside, Closing, AggEnd, NextAgg, Table, Where, LowTime, LowSign, LowBound, And, HighTime, HighSign, HighBound, CondEnd, CondName, CondOp, CondValue, By, GroupName, GroupEnd, OrderBy, OrderAgg, OrderOpening, OrderInside, OrderClosing, Ordered, LimitNumber, Last}
 use Rattle.query_text.specs.declared.places.Move.{Move}
 use Rattle.query_text.specs.declared.places.Move.TheVariants.{On, Stuck}
 use Rattle.query_text.specs.Tokens.{Placed, tokens_of}
 use Rattle.query_text.specs.Roles.{name_of, const_of, kind_of, op_of, int_of, limit_from, table_of, is_word, is_open, is_close, is_comma, is_int, has_kind, is_orderable, place_in, agg_inside}
-use Rattle.query_text.specs.Reading.{read_from, query_of, nothing_read, led, fault_of, plain_fault, takes_int, is_in_range, goes_on, may_end, on_if, order_or_limit, has_keys, kind_goes_on, key_goes_on, agg_goes_on, table_goes_on, low_goes_on, high_goes_on, cond_goes_on, op_goes_on, const_goes_on, kind_goes_on_if, order_goes_on, limit_goes_on, sign_fits, is_key, with_agg, with_order}
-use Rattle.query_text.specs.Grammar.{IsSpelled, IsBegun, IsStuck, IsRefused, place_of, plain_tokens}
+use Rattle.query_text.specs.Reading.{read_from, query_of, nothing_read, led, fault_of, plain_fault, takes_int, is_in_range, goes_on, may_end, on_if, order_or_limit, has_keys, kind_goes_on, key_goes_on, agg_goes_on, table_goes_on, low_goes_on, high_goes_on, cond_goes_on, op_goes_on, const_goes_on, kind_goes_on_if, order_goes_on, limit_goes_on, sign_fits, is_key, with_agg, with_order, with_low, with_high, with_cond, with_limit}
+use Rattle.query_text.specs.Grammar.{IsSpelled, IsBegun, IsStuck, IsRefused, IsSize, IsFault, place_of, behind_from, is_ranging, plain_tokens}
 use Rattle.query_text.proofs.Plain.{reads, moved}
 use Rattle.query_text.proofs.Found.{found, None≢Some}
 use Rattle.query_text.proofs.Only.{only}
 use Rattle.query_text.proofs.Finish.{IsSound, finish}
+use Rattle.query_text.proofs.Ranging.{next_behind, behind_after, counted, IsAt, in_range, IsAtMove, at_next}
 
 -- ---- what holds at a place holds at the next
 
@@ -144,7 +147,7 @@ abbrev fault_by : Place → ℕ → List Placed → QueryFault
 fault_by place end [] = plain_fault place end
 fault_by place end (p ∷ ps) = fault_of place p.at p.token
 
-record Stopped (end : ℕ) (q : Query) (place : Place) (ps : List Placed) (fault : QueryFault) : Type 0 where
+record Stopped (d : Option ℕ) (end : ℕ) (q : Query) (place : Place) (ps : List Placed) (fault : QueryFault) : Type 0 where
   before : List Placed
   rest : List Placed
   r : Query
@@ -154,6 +157,7 @@ record Stopped (end : ℕ) (q : Query) (place : Place) (ps : List Placed) (fault
   same : (ts : List Token) → reads q place (plain_tokens before ++ ts) ≡ reads r there ts
   stuck : NoMore r there rest
   is : fault ≡ fault_by there end rest
+  at : IsAt there (behind_after d (plain_tokens before))
 
 Ok≢Err : {q : Query} {fault : QueryFault} → Ok q ≡ Err fault → ⊥
 Ok≢Err h = absurd (true≢false (ap is_good h))
@@ -169,15 +173,15 @@ same_fault {a} {b} h = sym (ap (fault_in a) h)
     fault_in a (Ok q) = a
     fault_in a (Err fault) = fault
 
-end_by : (b : Bool) (end : ℕ) (q : Query) (place : Place) (fault : QueryFault) → may_end q place ≡ b → IsSound q place → (if b then Ok q else Err (plain_fault place end)) ≡ Err fault → Stopped end q place [] fault
-end_by true end q place fault e s h = absurd (Ok≢Err h)
-end_by false end q place fault e s h = record { before = []; rest = []; r = q; there = place; cut = refl; holds = s; same = λ ts. refl; stuck = e; is = same_fault h }
+end_by : (b : Bool) (d : Option ℕ) (end : ℕ) (q : Query) (place : Place) (fault : QueryFault) → may_end q place ≡ b → IsSound q place → IsAt place d → (if b then Ok q else Err (plain_fault place end)) ≡ Err fault → Stopped d end q place [] fault
+end_by true d end q place fault e s a h = absurd (Ok≢Err h)
+end_by false d end q place fault e s a h = record { before = []; rest = []; r = q; there = place; cut = refl; holds = s; same = λ ts. refl; stuck = e; is = same_fault h; at = a }
 
-move_by : (m : Move) (end : ℕ) (q : Query) (place : Place) (p : Placed) (ps : List Placed) (fault : QueryFault) → goes_on q place p.token ≡ m → IsSound q place → IsSoundMove m
-    → ((r : Query) (next : Place) → IsSound r next → read_from end r next ps ≡ Err fault → Stopped end r next ps fault)
-    → led m (λ r next. read_from end r next ps) (fault_of place p.at p.token) ≡ Err fault → Stopped end q place (p ∷ ps) fault
-move_by (On r next) end q place p ps fault e s sm rec h =
-    let l = rec r next sm h in
+move_by : (m : Move) (d : Option ℕ) (end : ℕ) (q : Query) (place : Place) (p : Placed) (ps : List Placed) (fault : QueryFault) → goes_on q place p.token ≡ m → IsSound q place → IsAt place d → IsSoundMove m → IsAtMove m (next_behind d p.token)
+    → ((r : Query) (next : Place) → IsSound r next → IsAt next (next_behind d p.token) → read_from end r next ps ≡ Err fault → Stopped (next_behind d p.token) end r next ps fault)
+    → led m (λ r next. read_from end r next ps) (fault_of place p.at p.token) ≡ Err fault → Stopped d end q place (p ∷ ps) fault
+move_by (On r next) d end q place p ps fault e s a sm am rec h =
+    let l = rec r next sm am h in
     record {
       before = p ∷ l.before;
       rest = l.rest;
@@ -188,13 +192,14 @@ move_by (On r next) end q place p ps fault e s sm rec h =
       same = λ ts. ap (λ m. moved m (λ r n. reads r n (plain_tokens l.before ++ ts))) e ∙ l.same ts;
       stuck = l.stuck;
       is = l.is;
+      at = l.at;
     }
-move_by Stuck end q place p ps fault e s sm rec h = record { before = []; rest = p ∷ ps; r = q; there = place; cut = refl; holds = s; same = λ ts. refl; stuck = e; is = same_fault h }
+move_by Stuck d end q place p ps fault e s a sm am rec h = record { before = []; rest = p ∷ ps; r = q; there = place; cut = refl; holds = s; same = λ ts. refl; stuck = e; is = same_fault h; at = a }
 
-walk : (end : ℕ) (ps : List Placed) (q : Query) (place : Place) (fault : QueryFault) → IsSound q place → read_from end q place ps ≡ Err fault → Stopped end q place ps fault
-walk end [] q place fault s h = end_by (may_end q place) end q place fault refl s h
-walk end (p ∷ ps) q place fault s h =
-    move_by (goes_on q place p.token) end q place p ps fault refl s (sound q place p.token s) (λ r next sn k. walk end ps r next fault sn k) h
+walk : (d : Option ℕ) (end : ℕ) (ps : List Placed) (q : Query) (place : Place) (fault : QueryFault) → IsSound q place → IsAt place d → read_from end q place ps ≡ Err fault → Stopped d end q place ps fault
+walk d end [] q place fault s a h = end_by (may_end q place) d end q place fault refl s a h
+walk d end (p ∷ ps) q place fault s a h =
+    move_by (goes_on q place p.token) d end q place p ps fault refl s a (sound q place p.token s) (at_next q place p.token d a) (λ r next sn an k. walk (next_behind d p.token) end ps r next fault sn an k) h
 
 -- ---- the theorem
 
@@ -213,26 +218,85 @@ stuck_by before (p ∷ ps) r there ends same = λ begun. (
     let ended : reads r there (p.token ∷ begun.0) ≡ None = rw ends refl in
     None≢Some (sym ended ∙ sym (same (p.token ∷ begun.0)) ∙ read))
 
-plain_kind : (b : Bool) (at : ℕ) (fault : QueryFault) → fault ≡ (if b then NoTime else Syntax at) → (fault ≡ NoTime) ⊎ ((fault ≡ Syntax at) ⊎ (fault ≡ TooLarge at))
-plain_kind true at fault h = inl h
-plain_kind false at fault h = inr (inl h)
+-- an integer is taken where one may stand
+record IntTaken (q : Query) (place : Place) : Type 0 where
+  s : Query
+  next : Place
+  goes : (ts : List Token) → reads q place (token.Int (Some (pos 0)) ∷ ts) ≡ reads s next ts
+  holds : IsSound s next
 
-large_kind : (b : Bool) (place : Place) (at : ℕ) (fault : QueryFault) → fault ≡ (if b then TooLarge at else plain_fault place at) → (fault ≡ NoTime) ⊎ ((fault ≡ Syntax at) ⊎ (fault ≡ TooLarge at))
-large_kind true place at fault h = inr (inr h)
-large_kind false place at fault h = plain_kind (is_in_range place) at fault h
+int_taken : (q : Query) (place : Place) → takes_int place ≡ true → IntTaken q place
+int_taken q LowBound h = record { s = with_low q (pos 0); next = And; goes = λ ts. refl; holds = tt; }
+int_taken q HighBound h = record { s = with_high q (pos 0); next = CondEnd; goes = λ ts. refl; holds = tt; }
+int_taken q (CondValue name op) h = record { s = with_cond q name op (value.Int (pos 0)); next = CondEnd; goes = λ ts. refl; holds = tt; }
+int_taken q LimitNumber h = record { s = with_limit q 0; next = Last; goes = λ ts. refl; holds = tt; }
+int_taken q place h = absurd (false≢true h)
 
-kind_by : (end : ℕ) (rest : List Placed) (there : Place) (fault : QueryFault) → fault ≡ fault_by there end rest → (fault ≡ NoTime) ⊎ ((fault ≡ Syntax (place_of end rest)) ⊎ (fault ≡ TooLarge (place_of end rest)))
-kind_by end [] there fault h = plain_kind (is_in_range there) end fault h
-kind_by end (p ∷ ps) there fault h = large_kind (takes_int there && is_int p.token) there p.at fault h
+if_same : {A : Type 0} (b : Bool) (x : A) → (if b then x else x) ≡ x
+if_same true x = refl
+if_same false x = refl
+
+no_key : (o : Option (List ℕ)) → is_key o None ≡ false
+no_key None = refl
+no_key (Some n) = refl
+
+int_inside : (k : Kind) (n : ℤ) → agg_inside k (token.Int (Some n)) ≡ None
+int_inside kind.Count n = refl
+int_inside kind.Sum n = refl
+int_inside kind.Min n = refl
+int_inside kind.Max n = refl
+int_inside kind.Avg n = refl
+
+-- and nowhere else
+int_stuck : (q : Query) (place : Place) (n : ℤ) → takes_int place ≡ false → goes_on q place (token.Int (Some n)) ≡ Stuck
+int_stuck q LowBound n h = absurd (true≢false h)
+int_stuck q HighBound n h = absurd (true≢false h)
+int_stuck q (CondValue name op) n h = absurd (true≢false h)
+int_stuck q LimitNumber n h = absurd (true≢false h)
+int_stuck q (Inside k) n h = rw (int_inside k n) refl
+int_stuck q (OrderInside k) n h = rw (int_inside k n) refl
+int_stuck q CondEnd n h = if_same (has_keys q) Stuck
+int_stuck q (GroupName i) n h = rw (no_key (slice_get q.keys i)) refl
+int_stuck q (GroupEnd i) n h = if_same (nat_lt i (length q.keys)) Stuck
+int_stuck q place n h = refl
+
+wanted : (before : List Token) (r : Query) (there : Place) → takes_int there ≡ true → ((ts : List Token) → reads nothing_read Select (before ++ ts) ≡ reads r there ts)
+    → (n : ℤ) × IsBegun (before ++ (token.Int (Some n) ∷ []))
+wanted before r there takes same =
+    let i = int_taken r there takes in
+    (pos 0, begun_by (before ++ (token.Int (Some (pos 0)) ∷ [])) i.s i.next i.holds
+        (λ ts. ap (reads nothing_read Select) (append_assoc before (token.Int (Some (pos 0)) ∷ []) ts) ∙ same (token.Int (Some (pos 0)) ∷ ts) ∙ i.goes ts))
+
+unwanted : (before : List Token) (r : Query) (there : Place) → takes_int there ≡ false → ((ts : List Token) → reads nothing_read Select (before ++ ts) ≡ reads r there ts)
+    → (n : ℤ) → IsBegun (before ++ (token.Int (Some n) ∷ [])) → ⊥
+unwanted before r there takes same n = stuck_by before (record { at = 0; token = token.Int (Some n) } ∷ []) r there (int_stuck r there n takes) same
+
+plain_kind : (b : Bool) (before : List Token) (rest : List Placed) (end at : ℕ) (fault : QueryFault) → at ≡ place_of end rest → (IsSize before rest → ⊥) → is_ranging (behind_from before) ≡ b
+    → fault ≡ (if b then NoTime else Syntax at) → IsFault fault before rest end
+plain_kind true before rest end at fault is none range h = rw h (none, range)
+plain_kind false before rest end at fault is none range h = rw h (is, (none, range))
+
+large_kind : (takes is_number : Bool) (before : List Token) (p : Placed) (ps : List Placed) (end : ℕ) (r : Query) (there : Place) (fault : QueryFault) → takes_int there ≡ takes → is_int p.token ≡ is_number
+    → is_ranging (behind_from before) ≡ is_in_range there → ((ts : List Token) → reads nothing_read Select (before ++ ts) ≡ reads r there ts)
+    → fault ≡ (if takes && is_number then TooLarge p.at else plain_fault there p.at) → IsFault fault before (p ∷ ps) end
+large_kind true true before p ps end r there fault et en range same h = rw h (refl, (en, wanted before r there et same))
+large_kind true false before p ps end r there fault et en range same h =
+    plain_kind (is_in_range there) before (p ∷ ps) end p.at fault refl (λ size. true≢false (sym size.0 ∙ en)) range h
+large_kind false is_number before p ps end r there fault et en range same h =
+    plain_kind (is_in_range there) before (p ∷ ps) end p.at fault refl (λ size. unwanted before r there et same size.1.0 size.1.1) range h
+
+kind_by : (before : List Token) (rest : List Placed) (end : ℕ) (r : Query) (there : Place) (fault : QueryFault)
+    → is_ranging (behind_from before) ≡ is_in_range there → ((ts : List Token) → reads nothing_read Select (before ++ ts) ≡ reads r there ts)
+    → fault ≡ fault_by there end rest → IsFault fault before rest end
+kind_by before [] end r there fault range same h = plain_kind (is_in_range there) before [] end end fault refl (λ size. size) range h
+kind_by before (p ∷ ps) end r there fault range same h = large_kind (takes_int there) (is_int p.token) before p ps end r there fault refl refl range same h
 
 pub refused : (text : List ℕ) (fault : QueryFault) → query_of text ≡ Err fault → IsRefused text fault
 refused text fault h =
-    let l = walk (length text) (tokens_of text) nothing_read Select fault tt h in
+    let l = walk None (length text) (tokens_of text) nothing_read Select fault tt refl h in
     record {
-      before = l.before;
-      rest = l.rest;
-      tokens = l.cut;
+      before = l.before; rest = l.rest; tokens = l.cut;
       begun = begun_by (plain_tokens l.before) l.r l.there l.holds l.same;
       stuck = stuck_by (plain_tokens l.before) l.rest l.r l.there l.stuck l.same;
-      place = kind_by (length text) l.rest l.there fault l.is;
+      told = kind_by (plain_tokens l.before) l.rest (length text) l.r l.there fault (ap is_ranging (sym (counted (plain_tokens l.before))) ∙ in_range l.there (behind_after None (plain_tokens l.before)) l.at) l.same l.is;
     }

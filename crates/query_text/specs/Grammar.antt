@@ -1,5 +1,5 @@
 -- The grammar: by what tokens a query is spelled, part by part. Each part is given with what follows it.
-use Rattle.std.specs.Prelude.{◌≡◌, ◌≤◌, ◌<◌, ◌⊎◌, ℕ, Bool, true, false, List, [], ◌∷◌, ◌++◌, length, map, ℤ, pos, Option, Some, None, codes, slice_get}
+use Rattle.std.specs.Prelude.{if◌then◌else◌, nat_lt, ◌&&◌, ◌≡◌, ◌≤◌, ◌<◌, ◌⊎◌, ℕ, Bool, true, false, List, [], ◌∷◌, ◌++◌, length, map, ℤ, pos, Option, Some, None, codes, slice_get}
 use Rattle.leaf_model.specs.declared.rows.Value.{Value}
 use Rattle.leaf_model.specs.declared.rows.Value.TheVariants as value
 use Rattle.leaf_model.specs.declared.queries.Op.TheVariants.{Le, Ge}
@@ -10,9 +10,9 @@ use Rattle.leaf_model.specs.declared.queries.Query.{Query}
 use Rattle.query_text.specs.declared.tokens.Token.{Token}
 use Rattle.query_text.specs.declared.tokens.Token.TheVariants as token
 use Rattle.query_text.specs.declared.fault.QueryFault.{QueryFault}
-use Rattle.query_text.specs.declared.fault.QueryFault.TheVariants.{Syntax, NoTime, TooLarge}
+use Rattle.query_text.specs.declared.fault.QueryFault.TheVariants.{Syntax, NoTime, TooLarge, NoMemory}
 use Rattle.query_text.specs.Tokens.{Placed, tokens_of}
-use Rattle.query_text.specs.Roles.{name_of, is_table_name, is_orderable, place_from}
+use Rattle.query_text.specs.Roles.{name_of, is_word, is_int, is_table_name, is_orderable, place_from}
 use Rattle.query_text.specs.Printing.{ordering_agg}
 
 -- ---- what is written at one place
@@ -145,11 +145,33 @@ abbrev pub place_of : ℕ → List Placed → ℕ
 place_of end [] = end
 place_of end (p ∷ ps) = p.at
 
--- the tokens before the fault begin some query, with what stands there none goes on, and the fault has that place
+-- an integer stands where some integer may stand
+abbrev pub IsSize : List Token → List Placed → Type 0
+IsSize before [] = ⊥
+IsSize before (p ∷ ps) = (is_int p.token ≡ true) × ((n : ℤ) × IsBegun (before ++ (token.Int (Some n) ∷ [])))
+
+-- how many tokens stand behind the first FROM that is not quoted
+abbrev pub behind_from : List Token → Option ℕ
+behind_from [] = None
+behind_from (t ∷ ts) = if is_word (codes "FROM") t then Some (length ts) else behind_from ts
+
+-- the table stands there, and the eight tokens of the range behind it do not yet
+abbrev pub is_ranging : Option ℕ → Bool
+is_ranging None = false
+is_ranging (Some n) = nat_lt 0 n && nat_lt n 9
+
+-- the fault by what stands before and what is left
+abbrev pub IsFault : QueryFault → List Token → List Placed → ℕ → Type 0
+IsFault (TooLarge at) before rest end = (at ≡ place_of end rest) × IsSize before rest
+IsFault NoTime before rest end = (IsSize before rest → ⊥) × (is_ranging (behind_from before) ≡ true)
+IsFault (Syntax at) before rest end = (at ≡ place_of end rest) × ((IsSize before rest → ⊥) × (is_ranging (behind_from before) ≡ false))
+IsFault NoMemory before rest end = ⊥
+
+-- the tokens before the fault begin some query, with what stands there none goes on, and the fault is told by these
 pub record IsRefused (text : List ℕ) (fault : QueryFault) : Type 0 where
   pub before : List Placed
   pub rest : List Placed
   pub tokens : tokens_of text ≡ before ++ rest
   pub begun : IsBegun (plain_tokens before)
   pub stuck : IsStuck (plain_tokens before) rest
-  pub place : (fault ≡ NoTime) ⊎ ((fault ≡ Syntax (place_of (length text) rest)) ⊎ (fault ≡ TooLarge (place_of (length text) rest)))
+  pub told : IsFault fault (plain_tokens before) rest (length text)
