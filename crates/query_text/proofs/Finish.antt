@@ -1,8 +1,8 @@
 -- What was read can be finished.
-use Rattle.std.proofs.Common.{◌≡◌, ℕ, suc, zero, ◌+◌, ◌-◌, ◌<◌, ◌≤◌, Bool, true, false, ◌&&◌, ◌||◌, List, [], ◌∷◌, ◌++◌, length, Option, Some, None, if◌then◌else◌, refl, sym, ap, ◌∙◌, pos, ℤ, arith, nat_lt, nat_le, subst}
-use Rattle.std.specs.Prelude.{codes, bytes_eq, slice_get}
+use Rattle.std.proofs.Common.{◌≡◌, ℕ, suc, zero, ◌+◌, ◌<◌, ◌≤◌, Bool, true, false, ◌||◌, List, [], ◌∷◌, length, Some, refl, ◌∙◌, pos, arith, nat_lt}
+use Rattle.std.specs.Prelude.{codes, slice_get}
 use Rattle.std.specs.List.{list_any}
-use Rattle.std.proofs.lemmas.Bool.{lt-ltb, le-ltb, ltb-true, ltb-false, true≢false, false≢true, and_parts, or_cases}
+use Rattle.std.proofs.lemmas.Bool.{le-ltb, ltb-true, false≢true}
 use Rattle.leaf_model.specs.declared.rows.Value.TheVariants as value
 use Rattle.leaf_model.specs.declared.queries.Op.{Op}
 use Rattle.leaf_model.specs.declared.queries.Op.TheVariants.{Eq, Le, Ge}
@@ -16,9 +16,9 @@ use Rattle.query_text.specs.declared.places.Kind.TheVariants as kind
 use Rattle.query_text.specs.declared.places.Place.{Place}
 use Rattle.query_text.specs.declared.places.Place.TheVariants.{Select, Item, NameEnd, Opening, Inside, Closing, AggEnd, NextAgg, Table, Where, LowTime, LowSign, LowBound, And, HighTime, HighSign, HighBound, CondEnd, CondName, CondOp, CondValue, By, GroupName, GroupEnd, OrderBy, OrderAgg, OrderOpening, OrderInside, OrderClosing, Ordered, LimitNumber, Last}
 use Rattle.query_text.specs.Roles.{kind_of, has_kind, is_orderable, same_agg, place_from, agg_inside}
-use Rattle.query_text.specs.Reading.{goes_on, may_end, has_keys, with_agg, with_order, with_table, with_low, with_high, with_limit, with_cond}
-use Rattle.query_text.proofs.Plain.{reads, moved}
-use Rattle.query_text.proofs.Found.{same_bytes, some_same, None≢Some}
+use Rattle.query_text.specs.Reading.{may_end, has_keys, with_agg, with_order, with_table, with_low, with_high, with_limit, with_cond}
+use Rattle.query_text.proofs.Plain.{reads}
+use Rattle.query_text.proofs.Found.{same_bytes}
 use Rattle.query_text.proofs.Inverse.{kind_word}
 
 -- tokens with which a query is read to its end

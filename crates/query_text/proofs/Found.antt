@@ -1,9 +1,8 @@
 -- The tokens that spell a query are read as that query.
-use Rattle.std.proofs.Common.{◌≡◌, ℕ, suc, zero, ◌+◌, ◌<◌, ◌≤◌, Bool, true, false, ◌&&◌, ◌||◌, List, [], ◌∷◌, ◌++◌, length, map, Option, Some, None, if◌then◌else◌, refl, sym, ap, ◌∙◌, pos, ℤ, arith, nat_lt, nat_le}
+use Rattle.std.proofs.Common.{◌≡◌, ℕ, suc, zero, ◌+◌, ◌<◌, ◌≤◌, Bool, true, false, ◌||◌, List, [], ◌∷◌, ◌++◌, length, Option, Some, None, if◌then◌else◌, refl, sym, ap, ◌∙◌, ℤ, arith, nat_lt}
 use Rattle.std.specs.Prelude.{codes, bytes_eq, slice_get, is_some}
 use Rattle.std.specs.List.{list_any}
 use Rattle.std.proofs.lemmas.Bool.{le-leb, lt-ltb, le-ltb, true≢false, false≢true}
-use Rattle.std.proofs.lemmas.Bool.Decides.{nat_tests}
 use Rattle.std.proofs.lemmas.Slice.Eq.{bytes_eq-Decides}
 use Rattle.std.proofs.lemmas.List.{append_assoc, append-nil, length-append}
 use Rattle.leaf_model.specs.declared.rows.Value.{Value}
@@ -19,12 +18,12 @@ use Rattle.query_text.specs.declared.places.Kind.{Kind}
 use Rattle.query_text.specs.declared.places.Kind.TheVariants as kind
 use Rattle.query_text.specs.declared.places.Place.{Place}
 use Rattle.query_text.specs.declared.places.Place.TheVariants.{Select, Item, Opening, AggEnd, NextAgg, CondEnd, GroupEnd, OrderAgg, Ordered}
-use Rattle.query_text.specs.declared.places.Move.TheVariants.{On, Stuck}
-use Rattle.query_text.specs.Roles.{name_of, const_of, kind_of, is_table_name, is_keyword, has_kind, is_orderable, same_agg, place_from, place_in, agg_inside}
+use Rattle.query_text.specs.declared.places.Move.TheVariants.{On}
+use Rattle.query_text.specs.Roles.{name_of, const_of, kind_of, is_table_name, is_keyword, has_kind, is_orderable, place_from, agg_inside}
 use Rattle.query_text.specs.Reading.{goes_on, may_end, order_or_limit, nothing_read, with_agg, with_order, with_table, with_low, with_high}
 use Rattle.query_text.specs.Printing.{ordering_agg}
-use Rattle.query_text.specs.Grammar.{Sign, Says, Spells, TheName, Exactly, keyword, int, IsQuery, IsOrder, IsSpelled, agg_signs, names_signs, more_aggs_signs, aggs_signs, range_signs, conds_signs, more_names_signs, group_signs, order_signs, limit_signs, query_signs, const_sign}
-use Rattle.query_text.proofs.Plain.{reads, moved, made, selected}
+use Rattle.query_text.specs.Grammar.{Sign, Says, Spells, TheName, Exactly, keyword, int, IsOrder, IsSpelled, agg_signs, names_signs, more_aggs_signs, aggs_signs, range_signs, conds_signs, more_names_signs, group_signs, order_signs, limit_signs, const_sign}
+use Rattle.query_text.proofs.Plain.{reads, made, selected}
 
 -- ---- the first tokens of a spelling
 

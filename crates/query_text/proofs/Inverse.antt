@@ -1,13 +1,12 @@
 -- What a token is that the reading went on with.
-use Rattle.std.proofs.Common.{◌≡◌, ℕ, suc, zero, ◌+◌, ◌<◌, ◌≤◌, Bool, true, false, ◌&&◌, ◌||◌, List, [], ◌∷◌, ◌++◌, length, Option, Some, None, if◌then◌else◌, refl, sym, ap, ◌∙◌, pos, negsuc, ℤ, arith, nat_lt, nat_le, subst}
-use Rattle.std.specs.Prelude.{codes, bytes_eq, slice_get}
-use Rattle.std.specs.List.{list_any}
-use Rattle.std.proofs.lemmas.Bool.{leb-true, true≢false, false≢true, and_parts}
+use Rattle.std.proofs.Common.{◌≡◌, ℕ, ◌≤◌, Bool, true, false, List, [], ◌∷◌, Option, Some, None, if◌then◌else◌, refl, sym, ap, ◌∙◌, pos, negsuc, ℤ, nat_le, subst}
+use Rattle.std.specs.Prelude.{codes, bytes_eq}
+use Rattle.std.proofs.lemmas.Bool.{leb-true, true≢false, false≢true}
 use Rattle.std.proofs.lemmas.Slice.Eq.{bytes_eq-Decides}
 use Rattle.leaf_model.specs.declared.rows.Value.{Value}
 use Rattle.leaf_model.specs.declared.rows.Value.TheVariants as value
 use Rattle.leaf_model.specs.declared.queries.Op.{Op}
-use Rattle.leaf_model.specs.declared.queries.Op.TheVariants.{Eq, Ne, Lt, Le, Gt, Ge}
+use Rattle.leaf_model.specs.declared.queries.Op.TheVariants.{Le, Ge}
 use Rattle.leaf_model.specs.declared.queries.Agg.{Agg}
 use Rattle.leaf_model.specs.declared.queries.Agg.TheVariants as agg
 use Rattle.leaf_model.specs.declared.queries.Query.{Query}
@@ -18,7 +17,7 @@ use Rattle.query_text.specs.declared.places.Kind.TheVariants as kind
 use Rattle.query_text.specs.declared.places.Place.{Place}
 use Rattle.query_text.specs.declared.places.Move.{Move}
 use Rattle.query_text.specs.declared.places.Move.TheVariants.{On, Stuck}
-use Rattle.query_text.specs.Roles.{name_of, const_of, kind_of, op_of, int_of, limit_from, table_of, is_word, is_open, is_close, is_star, is_comma, is_table_name, is_keyword, has_kind, is_orderable, same_agg, place_from, place_in, agg_inside, agg_named, agg_with}
+use Rattle.query_text.specs.Roles.{name_of, const_of, kind_of, op_of, int_of, limit_from, table_of, is_word, is_open, is_close, is_star, is_comma, is_table_name, same_agg, agg_inside, agg_named, agg_with}
 use Rattle.query_text.specs.Reading.{goes_on, may_end, on_if, sign_fits}
 use Rattle.query_text.specs.Grammar.{Sign, Says, Spells, agg_signs, const_sign}
 use Rattle.query_text.proofs.Plain.{reads, moved}

@@ -1,23 +1,23 @@
 -- The tokens of written parts.
-use Rattle.std.proofs.Common.{◌≡◌, ℕ, suc, zero, ◌+◌, ◌*◌, ◌-◌, ◌<◌, ◌≤◌, ◌^◌, Bool, true, false, ◌&&◌, ◌||◌, not, List, [], ◌∷◌, ◌++◌, length, map, take_while, cond, Option, Some, None, if◌then◌else◌, refl, sym, ap, ◌∙◌, pos, negsuc, ℤ, arith, nat_lt, nat_le, rules}
-use Rattle.std.specs.Prelude.{codes, bytes_eq, decimal, IsUtf8, FitsSigned}
-use Rattle.std.specs.Int.{w64, IsInRange}
+use Rattle.std.proofs.Common.{◌≡◌, ℕ, suc, zero, ◌+◌, ◌<◌, ◌≤◌, ◌^◌, Bool, true, false, ◌&&◌, ◌||◌, not, List, [], ◌∷◌, ◌++◌, length, take_while, cond, Some, if◌then◌else◌, refl, sym, ap, ◌∙◌, pos, negsuc, ℤ, arith}
+use Rattle.std.specs.Prelude.{codes, decimal}
+use Rattle.std.specs.Int.{IsInRange}
 use Rattle.std.specs.Fmt.{signed_decimal}
 use Rattle.std.specs.Bool.{◌==◌}
 use Rattle.std.specs.Str.{is_utf8}
 use Rattle.std.specs.Char.{is_ascii_digit}
 use Rattle.std.specs.List.{list_all, flat_map}
-use Rattle.std.proofs.lemmas.Bool.{lt-ltb, le-ltb, le-leb, eqb-true, eq-eqb, true≢false, false≢true, and_parts}
+use Rattle.std.proofs.lemmas.Bool.{lt-ltb, le-ltb, le-leb, eqb-true, eq-eqb, false≢true, and_parts}
 use Rattle.std.proofs.lemmas.List.Sums.{take_while-cons}
 use Rattle.std.proofs.lemmas.Bool.Decides.{nat_tests}
 use Rattle.std.proofs.lemmas.Fmt.{digits_decimal, digits_value-decimal, decimal_nonempty}
 use Rattle.std.proofs.lemmas.Str.Parse.{IsNumeralModel, IsDigitsTest, FoldsDigits, numerals_by_fold}
-use Rattle.std.proofs.lemmas.List.{append_assoc, append-nil, length-append}
+use Rattle.std.proofs.lemmas.List.{append_assoc, length-append}
 use Rattle.leaf_model.specs.declared.queries.Op.{Op}
 use Rattle.leaf_model.specs.declared.queries.Op.TheVariants.{Eq, Ne, Lt, Le, Gt, Ge}
 use Rattle.query_text.specs.declared.tokens.Token.{Token}
 use Rattle.query_text.specs.declared.tokens.Token.TheVariants as token
-use Rattle.query_text.specs.Tokens.{Placed, Quote, tokens_from, token_with, is_blank, begins_word, goes_on_word, value_from, signed_value, quote_from, with_byte, with_end}
+use Rattle.query_text.specs.Tokens.{Placed, tokens_from, token_with, is_blank, begins_word, goes_on_word, value_from, quote_from}
 use Rattle.query_text.specs.Roles.{is_keyword, name_of}
 use Rattle.query_text.specs.Printing.{doubled, in_quotes, is_plain, name_text, op_text}
 use Rattle.query_text.specs.Grammar.{plain_tokens}

@@ -6,7 +6,7 @@ use Rattle.std.proofs.lemmas.Str.{IsUtf8-from_is_utf8, IsUtf8-from_ascii}
 use Rattle.std.proofs.lemmas.List.Sums.{take_while-cons}
 use Rattle.std.proofs.lemmas.Bool.Decides.{nat_tests}
 use Rattle.query_text.specs.declared.tokens.Found.{Found}
-use Rattle.query_text.specs.Tokens.{value_from, Quote, behind, with_byte, with_end, Placed, tokens_from, token_with, is_blank, begins_word, goes_on_word}
+use Rattle.query_text.specs.Tokens.{value_from, Quote, behind, with_byte, with_end, tokens_from, token_with, is_blank, begins_word, goes_on_word}
 
 -- more digits make no less
 pub value_grows : (n : ℕ) (ds : List ℕ) → n ≤ value_from n ds

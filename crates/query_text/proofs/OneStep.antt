@@ -1,5 +1,5 @@
 -- What one token does to the reading of what is left.
-use Rattle.std.proofs.Common.{◌≡◌, ℕ, List, ◌∷◌, Result, Err, refl, sym, ap}
+use Rattle.std.proofs.Common.{◌≡◌, ℕ, List, ◌∷◌, Err, sym, ap}
 use Rattle.leaf_model.specs.declared.queries.Query.{Query}
 use Rattle.query_text.specs.declared.tokens.Token.{Token}
 use Rattle.query_text.specs.declared.places.Place.{Place}

@@ -1,12 +1,10 @@
 -- What is read is spelled so.
-use Rattle.std.proofs.Common.{◌≡◌, ℕ, suc, zero, ◌+◌, ◌<◌, ◌≤◌, Bool, true, false, ◌&&◌, ◌||◌, List, [], ◌∷◌, ◌++◌, length, Option, Some, None, if◌then◌else◌, refl, sym, ap, ◌∙◌, pos, ℤ, arith, nat_lt, nat_le, subst}
-use Rattle.std.specs.Prelude.{codes, bytes_eq, slice_get}
+use Rattle.std.proofs.Common.{◌≡◌, ℕ, suc, zero, ◌+◌, ◌<◌, ◌≤◌, Bool, true, false, ◌&&◌, List, [], ◌∷◌, ◌++◌, length, Option, Some, None, if◌then◌else◌, refl, sym, ap, ◌∙◌, ℤ, arith, nat_lt}
+use Rattle.std.specs.Prelude.{codes, slice_get}
 use Rattle.std.specs.List.{list_any}
 use Rattle.std.proofs.lemmas.Bool.{lt-ltb, le-ltb, true≢false, false≢true, and_parts}
 use Rattle.std.proofs.lemmas.Slice.Eq.{bytes_eq-Decides}
-use Rattle.std.proofs.lemmas.List.{append_assoc, append-nil, length-append}
-use Rattle.leaf_model.specs.declared.rows.Value.{Value}
-use Rattle.leaf_model.specs.declared.queries.Op.{Op}
+use Rattle.std.proofs.lemmas.List.{append_assoc, append-nil}
 use Rattle.leaf_model.specs.declared.queries.Op.TheVariants.{Le, Ge}
 use Rattle.leaf_model.specs.declared.queries.Cond.{Cond}
 use Rattle.leaf_model.specs.declared.queries.Agg.{Agg}
@@ -18,15 +16,14 @@ use Rattle.query_text.specs.declared.places.Kind.{Kind}
 use Rattle.query_text.specs.declared.places.Kind.TheVariants as kind
 use Rattle.query_text.specs.declared.places.Place.{Place}
 use Rattle.query_text.specs.declared.places.Place.TheVariants.{Select, Item, NameEnd, Opening, Inside, Closing, AggEnd, NextAgg, Table, Where, LowTime, LowSign, LowBound, And, HighTime, HighSign, HighBound, CondEnd, CondName, CondOp, CondValue, By, GroupName, GroupEnd, OrderBy, OrderAgg, OrderOpening, OrderInside, OrderClosing, Ordered, LimitNumber, Last}
-use Rattle.query_text.specs.declared.places.Move.{Move}
 use Rattle.query_text.specs.declared.places.Move.TheVariants.{On, Stuck}
 use Rattle.query_text.specs.Roles.{name_of, const_of, kind_of, op_of, int_of, limit_from, table_of, is_word, is_open, is_close, is_comma, is_table_name, has_kind, is_orderable, place_from, place_in, agg_inside, agg_named, same_agg, is_star}
-use Rattle.query_text.specs.Reading.{goes_on, may_end, on_if, order_or_limit, kind_goes_on, key_goes_on, agg_goes_on, table_goes_on, low_goes_on, high_goes_on, cond_goes_on, op_goes_on, const_goes_on, kind_goes_on_if, order_goes_on, limit_goes_on, sign_fits, is_key, nothing_read, with_key, with_agg, with_order, with_table, with_low, with_high, with_limit, with_cond}
+use Rattle.query_text.specs.Reading.{on_if, kind_goes_on, key_goes_on, agg_goes_on, table_goes_on, low_goes_on, high_goes_on, cond_goes_on, op_goes_on, const_goes_on, kind_goes_on_if, order_goes_on, limit_goes_on, sign_fits, is_key, nothing_read, with_agg, with_order, with_table, with_low, with_high, with_limit, with_cond}
 use Rattle.query_text.specs.Printing.{ordering_agg}
-use Rattle.query_text.specs.Grammar.{Sign, Says, Spells, TheName, Exactly, keyword, int, IsQuery, IsOrder, IsSpelled, agg_signs, names_signs, more_aggs_signs, aggs_signs, range_signs, conds_signs, more_names_signs, group_signs, order_signs, limit_signs, query_signs, const_sign}
+use Rattle.query_text.specs.Grammar.{Sign, Says, Spells, TheName, Exactly, keyword, IsQuery, IsOrder, IsSpelled, agg_signs, names_signs, more_aggs_signs, aggs_signs, range_signs, conds_signs, more_names_signs, group_signs, order_signs, limit_signs, query_signs, const_sign}
 use Rattle.query_text.proofs.Plain.{reads, moved, made, selected}
 use Rattle.query_text.proofs.Found.{some_same, None≢Some, seam, longer, next_length}
-use Rattle.query_text.proofs.Inverse.{on_if_in, Next, step, Given, give, the_word, the_open, the_close, the_comma, the_int, the_op, the_low, the_high, the_table, the_limit, the_const, kind_word, the_kind, inside_spells, same_aggs}
+use Rattle.query_text.proofs.Inverse.{on_if_in, step, give, the_word, the_open, the_close, the_comma, the_int, the_op, the_low, the_high, the_table, the_limit, the_const, kind_word, the_kind, inside_spells, same_aggs}
 
 one_less : {x : Token} {ts us : List Token} → ts ≡ x ∷ us → length ts ≡ suc (length us)
 one_less is = ap length is

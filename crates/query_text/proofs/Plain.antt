@@ -1,16 +1,15 @@
 -- The reading of tokens without their places.
-use Rattle.std.proofs.Common.{◌≡◌, ℕ, Bool, true, false, List, [], ◌∷◌, ◌++◌, map, Result, Ok, Err, Option, Some, None, if◌then◌else◌, refl, sym, ap, ◌∙◌, pos, ℤ}
+use Rattle.std.proofs.Common.{◌≡◌, ℕ, Bool, true, false, List, [], ◌∷◌, Result, Ok, Err, Option, Some, None, if◌then◌else◌, refl, ap, pos, ℤ}
 use Rattle.leaf_model.specs.declared.queries.Cond.{Cond}
 use Rattle.leaf_model.specs.declared.queries.Agg.{Agg}
 use Rattle.leaf_model.specs.declared.queries.Query.{Query}
 use Rattle.query_text.specs.declared.fault.QueryFault.{QueryFault}
 use Rattle.query_text.specs.declared.tokens.Token.{Token}
 use Rattle.query_text.specs.declared.places.Place.{Place}
-use Rattle.query_text.specs.declared.places.Place.TheVariants.{Select}
 use Rattle.query_text.specs.declared.places.Move.{Move}
 use Rattle.query_text.specs.declared.places.Move.TheVariants.{On, Stuck}
 use Rattle.query_text.specs.Tokens.{Placed}
-use Rattle.query_text.specs.Reading.{read_from, goes_on, led, fault_of, plain_fault, may_end, nothing_read}
+use Rattle.query_text.specs.Reading.{read_from, goes_on, led, fault_of, plain_fault, may_end}
 use Rattle.query_text.specs.Grammar.{plain_tokens}
 
 abbrev pub moved : Move → (Query → Place → Option Query) → Option Query

@@ -1,5 +1,5 @@
 -- Where a text is refused: what stands before begins some query, and with what stands there no query goes on.
-use Rattle.std.proofs.Common.{◌≡◌, ℕ, suc, zero, ◌+◌, Bool, true, false, ◌&&◌, List, [], ◌∷◌, ◌++◌, length, Option, Some, None, Result, Ok, Err, if◌then◌else◌, refl, sym, ap, ◌∙◌, nat_lt, pos}
+use Rattle.std.proofs.Common.{◌≡◌, ℕ, ◌+◌, Bool, true, false, ◌&&◌, List, [], ◌∷◌, ◌++◌, length, Option, Some, None, Result, Ok, Err, if◌then◌else◌, refl, sym, ap, ◌∙◌, nat_lt, pos}
 use Rattle.std.specs.Prelude.{codes, slice_get, ℤ}
 use Rattle.std.specs.List.{list_any}
 use Rattle.std.proofs.lemmas.Bool.{true≢false, false≢true}
@@ -22,7 +22,7 @@ use Rattle.query_text.specs.declared.places.Move.TheVariants.{On, Stuck}
 use Rattle.query_text.specs.Tokens.{Placed, tokens_of}
 use Rattle.query_text.specs.Roles.{name_of, const_of, kind_of, op_of, int_of, limit_from, table_of, is_word, is_open, is_close, is_comma, is_int, has_kind, is_orderable, place_in, agg_inside}
 use Rattle.query_text.specs.Reading.{read_from, query_of, nothing_read, led, fault_of, plain_fault, takes_int, is_in_range, goes_on, may_end, on_if, order_or_limit, has_keys, kind_goes_on, key_goes_on, agg_goes_on, table_goes_on, low_goes_on, high_goes_on, cond_goes_on, op_goes_on, const_goes_on, kind_goes_on_if, order_goes_on, limit_goes_on, sign_fits, is_key, with_agg, with_order, with_low, with_high, with_cond, with_limit}
-use Rattle.query_text.specs.Grammar.{IsSpelled, IsBegun, IsStuck, IsRefused, IsSize, IsFault, place_of, behind_from, is_ranging, plain_tokens}
+use Rattle.query_text.specs.Grammar.{IsBegun, IsStuck, IsRefused, IsSize, IsFault, place_of, behind_from, is_ranging, plain_tokens}
 use Rattle.query_text.proofs.Plain.{reads, moved}
 use Rattle.query_text.proofs.Found.{found, None≢Some}
 use Rattle.query_text.proofs.Only.{only}
@@ -226,10 +226,10 @@ record IntTaken (q : Query) (place : Place) : Type 0 where
   holds : IsSound s next
 
 int_taken : (q : Query) (place : Place) → takes_int place ≡ true → IntTaken q place
-int_taken q LowBound h = record { s = with_low q (pos 0); next = And; goes = λ ts. refl; holds = tt; }
-int_taken q HighBound h = record { s = with_high q (pos 0); next = CondEnd; goes = λ ts. refl; holds = tt; }
-int_taken q (CondValue name op) h = record { s = with_cond q name op (value.Int (pos 0)); next = CondEnd; goes = λ ts. refl; holds = tt; }
-int_taken q LimitNumber h = record { s = with_limit q 0; next = Last; goes = λ ts. refl; holds = tt; }
+int_taken q LowBound h = record { s = with_low q (pos 0); next = And; goes = λ ts. refl; holds = tt }
+int_taken q HighBound h = record { s = with_high q (pos 0); next = CondEnd; goes = λ ts. refl; holds = tt }
+int_taken q (CondValue name op) h = record { s = with_cond q name op (value.Int (pos 0)); next = CondEnd; goes = λ ts. refl; holds = tt }
+int_taken q LimitNumber h = record { s = with_limit q 0; next = Last; goes = λ ts. refl; holds = tt }
 int_taken q place h = absurd (false≢true h)
 
 if_same : {A : Type 0} (b : Bool) (x : A) → (if b then x else x) ≡ x
@@ -263,9 +263,11 @@ int_stuck q place n h = refl
 wanted : (before : List Token) (r : Query) (there : Place) → takes_int there ≡ true → ((ts : List Token) → reads nothing_read Select (before ++ ts) ≡ reads r there ts)
     → (n : ℤ) × IsBegun (before ++ (token.Int (Some n) ∷ []))
 wanted before r there takes same =
-    let i = int_taken r there takes in
-    (pos 0, begun_by (before ++ (token.Int (Some (pos 0)) ∷ [])) i.s i.next i.holds
-        (λ ts. ap (reads nothing_read Select) (append_assoc before (token.Int (Some (pos 0)) ∷ []) ts) ∙ same (token.Int (Some (pos 0)) ∷ ts) ∙ i.goes ts))
+    let i = int_taken r there takes in (
+      pos 0,
+      begun_by (before ++ (token.Int (Some (pos 0)) ∷ [])) i.s i.next i.holds
+          (λ ts. ap (reads nothing_read Select) (append_assoc before (token.Int (Some (pos 0)) ∷ []) ts) ∙ same (token.Int (Some (pos 0)) ∷ ts) ∙ i.goes ts),
+    )
 
 unwanted : (before : List Token) (r : Query) (there : Place) → takes_int there ≡ false → ((ts : List Token) → reads nothing_read Select (before ++ ts) ≡ reads r there ts)
     → (n : ℤ) → IsBegun (before ++ (token.Int (Some n) ∷ [])) → ⊥
@@ -295,7 +297,9 @@ pub refused : (text : List ℕ) (fault : QueryFault) → query_of text ≡ Err f
 refused text fault h =
     let l = walk None (length text) (tokens_of text) nothing_read Select fault tt refl h in
     record {
-      before = l.before; rest = l.rest; tokens = l.cut;
+      before = l.before;
+      rest = l.rest;
+      tokens = l.cut;
       begun = begun_by (plain_tokens l.before) l.r l.there l.holds l.same;
       stuck = stuck_by (plain_tokens l.before) l.rest l.r l.there l.stuck l.same;
       told = kind_by (plain_tokens l.before) l.rest (length text) l.r l.there fault (ap is_ranging (sym (counted (plain_tokens l.before))) ∙ in_range l.there (behind_after None (plain_tokens l.before)) l.at) l.same l.is;

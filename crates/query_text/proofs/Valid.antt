@@ -1,5 +1,5 @@
 -- What a text's tokens hold can be written again.
-use Rattle.std.proofs.Common.{◌≡◌, ℕ, suc, zero, ◌+◌, ◌<◌, ◌≤◌, ◌^◌, Bool, true, false, ◌&&◌, ◌||◌, List, [], ◌∷◌, ◌++◌, length, take_while, Option, Some, None, Ok, if◌then◌else◌, refl, sym, ap, ◌∙◌, pos, negsuc, ℤ, arith, nat_lt, nat_le, subst}
+use Rattle.std.proofs.Common.{◌≡◌, ℕ, suc, zero, ◌<◌, ◌≤◌, ◌^◌, Bool, true, false, ◌&&◌, List, [], ◌∷◌, length, take_while, Option, Some, None, Ok, if◌then◌else◌, refl, sym, pos, ℤ, arith, nat_lt, nat_le, subst}
 use Rattle.std.specs.Prelude.{codes, neg_ℤ}
 use Rattle.std.specs.Bool.{◌==◌}
 use Rattle.std.specs.Str.{is_utf8}
@@ -9,7 +9,7 @@ use Rattle.std.proofs.lemmas.Bool.{ltb-true, leb-true, ltb-false, and_parts}
 use Rattle.std.proofs.lemmas.Str.{is_utf8-from_IsUtf8}
 use Rattle.leaf_model.specs.declared.rows.Value.{Value}
 use Rattle.leaf_model.specs.declared.rows.Value.TheVariants as value
-use Rattle.leaf_model.specs.declared.queries.Op.TheVariants.{Eq, Ne, Lt, Le, Gt, Ge}
+use Rattle.leaf_model.specs.declared.queries.Op.TheVariants.{Ne, Lt, Le, Gt, Ge}
 use Rattle.leaf_model.specs.declared.queries.Cond.{Cond}
 use Rattle.leaf_model.specs.declared.queries.Agg.{Agg}
 use Rattle.leaf_model.specs.declared.queries.Agg.TheVariants as agg
@@ -21,7 +21,7 @@ use Rattle.query_text.specs.Tokens.{Quote, tokens_of, token_with, begins_word, g
 use Rattle.query_text.specs.Roles.{name_of}
 use Rattle.query_text.specs.Reading.{query_of}
 use Rattle.query_text.specs.Printing.{printed, ordering_agg}
-use Rattle.query_text.specs.Grammar.{Sign, Says, Spells, TheName, Exactly, keyword, int, IsSpelled, plain_tokens, agg_signs, names_signs, more_aggs_signs, aggs_signs, range_signs, conds_signs, group_signs, order_signs, limit_signs, query_signs, const_sign}
+use Rattle.query_text.specs.Grammar.{Sign, Says, Spells, TheName, Exactly, keyword, int, IsSpelled, plain_tokens, agg_signs, names_signs, more_aggs_signs, aggs_signs, range_signs, conds_signs, group_signs, order_signs, limit_signs, const_sign}
 use Rattle.query_text.proofs.Lexing.{word_utf8}
 use Rattle.query_text.proofs.Found.{some_same, None≢Some, one, four, name_word}
 use Rattle.query_text.proofs.Meaning.{read_spelled}

@@ -1,5 +1,5 @@
 -- The text that a query is written as is cut into tokens that spell the query.
-use Rattle.std.proofs.Common.{◌≡◌, ℕ, suc, zero, ◌+◌, ◌<◌, ◌≤◌, ◌^◌, Bool, true, false, ◌&&◌, ◌||◌, List, [], ◌∷◌, ◌++◌, length, Option, Some, None, Ok, refl, sym, ap, ◌∙◌, pos, ℤ, arith, nat_le, subst}
+use Rattle.std.proofs.Common.{◌≡◌, ℕ, suc, zero, ◌≤◌, true, ◌&&◌, ◌||◌, List, [], ◌∷◌, ◌++◌, length, Option, Some, None, Ok, refl, sym, ap, ◌∙◌, pos, arith, nat_le, subst}
 use Rattle.std.specs.Prelude.{codes, decimal, slice_get}
 use Rattle.std.specs.Fmt.{signed_decimal}
 use Rattle.std.specs.Bool.{◌==◌}
@@ -14,13 +14,12 @@ use Rattle.leaf_model.specs.declared.queries.Cond.{Cond}
 use Rattle.leaf_model.specs.declared.queries.Agg.{Agg}
 use Rattle.leaf_model.specs.declared.queries.Agg.TheVariants as agg
 use Rattle.leaf_model.specs.declared.queries.Query.{Query}
-use Rattle.query_text.specs.declared.tokens.Token.{Token}
 use Rattle.query_text.specs.declared.tokens.Token.TheVariants as token
-use Rattle.query_text.specs.Tokens.{tokens_of, begins_word, goes_on_word}
+use Rattle.query_text.specs.Tokens.{begins_word, goes_on_word}
 use Rattle.query_text.specs.Roles.{is_table_name}
 use Rattle.query_text.specs.Reading.{query_of}
-use Rattle.query_text.specs.Printing.{printed, name_text, op_text, value_text, agg_then, names_then, more_aggs_then, aggs_then, range_then, cond_then, conds_then, more_names_then, group_then, ordering_agg, order_then}
-use Rattle.query_text.specs.Grammar.{Sign, Says, Spells, TheName, Exactly, keyword, int, IsQuery, IsOrder, IsSpelled, plain_tokens, agg_signs, names_signs, more_aggs_signs, aggs_signs, range_signs, conds_signs, more_names_signs, group_signs, order_signs, limit_signs, query_signs, const_sign}
+use Rattle.query_text.specs.Printing.{printed, name_text, op_text, value_text, agg_then, names_then, more_aggs_then, aggs_then, range_then, conds_then, more_names_then, group_then, ordering_agg, order_then}
+use Rattle.query_text.specs.Grammar.{Sign, Spells, TheName, Exactly, IsQuery, IsOrder, agg_signs, names_signs, more_aggs_signs, aggs_signs, range_signs, conds_signs, more_names_signs, group_signs, order_signs, limit_signs, query_signs, const_sign}
 use Rattle.query_text.proofs.Found.{some_same, None≢Some}
 use Rattle.query_text.proofs.Meaning.{spelled_read}
 use Rattle.query_text.proofs.Lexed.{lexed, same_tokens, stops, lexed_word, lexed_int, lexed_text, lexed_name, lexed_op, IsI64, IsText, IsName}

@@ -1,5 +1,5 @@
 -- What a query's text means: the tokens one by one, each of which some query goes on with, or the fault of the first that none does.
-use Rattle.std.specs.Prelude.{◌≡◌, ℕ, ◌+◌, Bool, true, false, ◌&&◌, ◌||◌, List, [], ◌∷◌, ◌++◌, length, ℤ, pos, Option, Some, None, Result, Ok, Err, if◌then◌else◌, nat_lt, codes, bytes_eq, slice_get}
+use Rattle.std.specs.Prelude.{ℕ, ◌+◌, Bool, true, false, ◌&&◌, List, [], ◌∷◌, ◌++◌, length, ℤ, pos, Option, Some, None, Result, Ok, Err, if◌then◌else◌, nat_lt, codes, bytes_eq, slice_get}
 use Rattle.std.specs.List.{list_any}
 use Rattle.leaf_model.specs.declared.rows.Value.{Value}
 use Rattle.leaf_model.specs.declared.queries.Op.{Op}

@@ -1,4 +1,4 @@
-use Rattle.std.proofs.Common.{◌≡◌, ◌++◌, ℕ, List, OnOk, codes, string_bytes, rules, ◌∙◌, FitsSigned, w64, to_z, of_z}
+use Rattle.std.proofs.Common.{◌≡◌, rules, ◌∙◌, w64, to_z, of_z}
 use Rattle.query_text.proofs.Results.{on_ok}
 use Rattle.query_text.proofs.printing.push_range.Goals as goal
 

@@ -1,9 +1,8 @@
-use Rattle.std.proofs.Common.{◌≡◌, ◌+◌, ◌≤◌, length, drop, get_or, arith, rules, sym, ◌∙◌, length-drop, false}
-use Rattle.query_text.specs.Tokens.{is_blank}
+use Rattle.std.proofs.Common.{◌≡◌, ◌+◌, length, arith, rules, sym, ◌∙◌}
 use Rattle.query_text.specs.declared.places.Move.TheVariants.{On}
 use Rattle.query_text.specs.Reading.{goes_on}
 use Rattle.query_text.proofs.Lexing.{one_token, take_rest}
-use Rattle.query_text.proofs.OneStep.{goes_further, gets_stuck}
+use Rattle.query_text.proofs.OneStep.{goes_further}
 use Rattle.query_text.proofs.reading.read.Goals as goal
 
 pub loop-at-preserved : goal.loop-at-preserved
