@@ -5,6 +5,7 @@ pub mod Results
 pub mod Plain
 pub mod Found
 pub mod Inverse
+pub mod OnlyTail
 pub mod Only
 pub mod Meaning
 pub mod Lexed

@@ -22,6 +22,7 @@ pub data Sign : Type 0 where
   Exactly : (token : Token) → Sign
   TheName : (name : List ℕ) → Sign
 
+-- that token, or one of those that give the name
 abbrev pub Says : Sign → Token → Type 0
 Says (Exactly u) t = t ≡ u
 Says (TheName name) t = name_of t ≡ Some name
@@ -33,14 +34,17 @@ Spells [] (t ∷ ts) = ⊥
 Spells (s ∷ signs) [] = ⊥
 Spells (s ∷ signs) (t ∷ ts) = Says s t × Spells signs ts
 
+-- a word that is not quoted
 abbrev pub keyword : List ℕ → Sign
 keyword word = Exactly (token.Word word)
 
+-- an integer
 abbrev pub int : ℤ → Sign
 int n = Exactly (token.Int (Some n))
 
 -- ---- the parts
 
+-- a word, and a name in parentheses
 abbrev pub call : List ℕ → List ℕ → List Sign → List Sign
 call word name further = keyword word ∷ Exactly token.Open ∷ TheName name ∷ Exactly token.Close ∷ further
 
@@ -57,6 +61,7 @@ abbrev pub names_signs : List (List ℕ) → List Sign → List Sign
 names_signs [] further = further
 names_signs (name ∷ names) further = TheName name ∷ Exactly token.Comma ∷ names_signs names further
 
+-- more aggregates, each behind a comma
 abbrev pub more_aggs_signs : List Agg → List Sign → List Sign
 more_aggs_signs [] further = further
 more_aggs_signs (a ∷ aggs) further = Exactly token.Comma ∷ agg_signs a (more_aggs_signs aggs further)
@@ -73,14 +78,17 @@ range_signs table from to further =
     ∷ keyword (codes "WHERE") ∷ keyword (codes "time") ∷ Exactly (token.Compare Ge) ∷ int from
     ∷ keyword (codes "AND") ∷ keyword (codes "time") ∷ Exactly (token.Compare Le) ∷ int to ∷ further
 
+-- an integer or a text
 abbrev pub const_sign : Value → Sign
 const_sign (value.Int n) = int n
 const_sign (value.Text t) = Exactly (token.Text t)
 
+-- AND, a name, a comparison and a constant, for each condition
 abbrev pub conds_signs : List Cond → List Sign → List Sign
 conds_signs [] further = further
 conds_signs (c ∷ conds) further = keyword (codes "AND") ∷ TheName c.name ∷ Exactly (token.Compare c.op) ∷ const_sign c.value ∷ conds_signs conds further
 
+-- more names, each behind a comma
 abbrev pub more_names_signs : List (List ℕ) → List Sign → List Sign
 more_names_signs [] further = further
 more_names_signs (name ∷ names) further = Exactly token.Comma ∷ TheName name ∷ more_names_signs names further
@@ -90,10 +98,12 @@ abbrev pub group_signs : List (List ℕ) → List Sign → List Sign
 group_signs [] further = further
 group_signs (name ∷ names) further = keyword (codes "GROUP") ∷ keyword (codes "BY") ∷ TheName name ∷ more_names_signs names further
 
+-- ORDER BY and an aggregate, where the answer has an order
 abbrev pub order_signs : Option Agg → List Sign → List Sign
 order_signs None further = further
 order_signs (Some a) further = keyword (codes "ORDER") ∷ keyword (codes "BY") ∷ agg_signs a further
 
+-- LIMIT and an integer, where it is written
 abbrev pub limit_signs : Bool → ℕ → List Sign
 limit_signs false n = []
 limit_signs true n = keyword (codes "LIMIT") ∷ int (pos n) ∷ []

@@ -24,6 +24,7 @@ is_plain (b ∷ bs) = begins_word b && (list_all goes_on_word bs && not (is_keyw
 abbrev pub doubled : ℕ → ℕ → List ℕ
 doubled mark b = if b == mark then b ∷ b ∷ [] else b ∷ []
 
+-- a mark, the inside, and the mark again
 abbrev pub in_quotes : ℕ → List ℕ → List ℕ
 in_quotes mark bs = mark ∷ (flat_map (doubled mark) bs ++ (mark ∷ []))
 
@@ -31,10 +32,12 @@ in_quotes mark bs = mark ∷ (flat_map (doubled mark) bs ++ (mark ∷ []))
 abbrev pub name_text : List ℕ → List ℕ
 name_text name = if is_plain name then name else in_quotes 34 name
 
+-- an integer in decimal, a text in single quotes
 abbrev pub value_text : Value → List ℕ
 value_text (value.Int n) = signed_decimal n
 value_text (value.Text t) = in_quotes 39 t
 
+-- the comparisons
 abbrev pub op_text : Op → List ℕ
 op_text Eq = codes "="
 op_text Ne = codes "!="
@@ -43,6 +46,7 @@ op_text Le = codes "<="
 op_text Gt = codes ">"
 op_text Ge = codes ">="
 
+-- an aggregate's word, and what it takes in parentheses
 abbrev pub agg_then : Agg → List ℕ → List ℕ
 agg_then Count further = codes "COUNT(*)" ++ further
 agg_then (Sum name) further = codes "SUM(" ++ (name_text name ++ (codes ")" ++ further))
@@ -55,21 +59,26 @@ abbrev pub names_then : List (List ℕ) → List ℕ → List ℕ
 names_then [] further = further
 names_then (name ∷ names) further = name_text name ++ (codes ", " ++ names_then names further)
 
+-- more aggregates, each behind a comma
 abbrev pub more_aggs_then : List Agg → List ℕ → List ℕ
 more_aggs_then [] further = further
 more_aggs_then (a ∷ aggs) further = codes ", " ++ agg_then a (more_aggs_then aggs further)
 
+-- the aggregates
 abbrev pub aggs_then : List Agg → List ℕ → List ℕ
 aggs_then [] further = further
 aggs_then (a ∷ aggs) further = agg_then a (more_aggs_then aggs further)
 
+-- AND, the name, the comparison and the constant
 abbrev pub cond_then : Cond → List ℕ → List ℕ
 cond_then c further = codes " AND " ++ (name_text c.name ++ (codes " " ++ (op_text c.op ++ (codes " " ++ (value_text c.value ++ further)))))
 
+-- the conditions
 abbrev pub conds_then : List Cond → List ℕ → List ℕ
 conds_then [] further = further
 conds_then (c ∷ conds) further = cond_then c (conds_then conds further)
 
+-- more names, each behind a comma
 abbrev pub more_names_then : List (List ℕ) → List ℕ → List ℕ
 more_names_then [] further = further
 more_names_then (name ∷ names) further = codes ", " ++ (name_text name ++ more_names_then names further)
@@ -84,6 +93,7 @@ abbrev pub ordering_agg : Option ℕ → List Agg → Option Agg
 ordering_agg None aggs = None
 ordering_agg (Some i) aggs = slice_get aggs i
 
+-- ORDER BY, where the answer has an order
 abbrev pub order_then : Option Agg → List ℕ → List ℕ
 order_then None further = further
 order_then (Some a) further = codes " ORDER BY " ++ agg_then a further

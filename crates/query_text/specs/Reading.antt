@@ -19,32 +19,41 @@ use Rattle.query_text.specs.Roles.{is_word, name_of, kind_of, table_of, is_open,
 
 -- ---- what was read, with one part more
 
+-- one selected name more
 abbrev pub with_key : Query → List ℕ → Query
 with_key q name = record { table = q.table; from = q.from; to = q.to; conds = q.conds; keys = q.keys ++ (name ∷ []); aggs = q.aggs; order = q.order; limit = q.limit }
 
+-- one aggregate more
 abbrev pub with_agg : Query → Agg → Query
 with_agg q a = record { table = q.table; from = q.from; to = q.to; conds = q.conds; keys = q.keys; aggs = q.aggs ++ (a ∷ []); order = q.order; limit = q.limit }
 
+-- the table
 abbrev pub with_table : Query → List ℕ → Query
 with_table q name = record { table = name; from = q.from; to = q.to; conds = q.conds; keys = q.keys; aggs = q.aggs; order = q.order; limit = q.limit }
 
+-- the low end of the range
 abbrev pub with_low : Query → ℤ → Query
 with_low q n = record { table = q.table; from = n; to = q.to; conds = q.conds; keys = q.keys; aggs = q.aggs; order = q.order; limit = q.limit }
 
+-- the high end of the range
 abbrev pub with_high : Query → ℤ → Query
 with_high q n = record { table = q.table; from = q.from; to = n; conds = q.conds; keys = q.keys; aggs = q.aggs; order = q.order; limit = q.limit }
 
+-- one condition more
 abbrev pub with_cond : Query → List ℕ → Op → Value → Query
 with_cond q name op v = record { table = q.table; from = q.from; to = q.to; conds = q.conds ++ (record { name = name; op = op; value = v } ∷ []); keys = q.keys; aggs = q.aggs; order = q.order; limit = q.limit }
 
+-- the place of the aggregate that orders
 abbrev pub with_order : Query → ℕ → Query
 with_order q i = record { table = q.table; from = q.from; to = q.to; conds = q.conds; keys = q.keys; aggs = q.aggs; order = Some i; limit = q.limit }
 
+-- the limit
 abbrev pub with_limit : Query → ℕ → Query
 with_limit q n = record { table = q.table; from = q.from; to = q.to; conds = q.conds; keys = q.keys; aggs = q.aggs; order = q.order; limit = n }
 
 -- ---- one token more
 
+-- on where a test holds
 abbrev pub on_if : Bool → Query → Place → Move
 on_if true q place = On q place
 on_if false q place = Stuck
@@ -59,34 +68,42 @@ abbrev pub kind_goes_on_if : Query → Option Kind → Move
 kind_goes_on_if q None = Stuck
 kind_goes_on_if q (Some kind) = on_if (list_any (has_kind kind) q.aggs) q (OrderOpening kind)
 
+-- a selected name, and a comma next
 abbrev pub key_goes_on : Query → Option (List ℕ) → Move
 key_goes_on q None = Stuck
 key_goes_on q (Some name) = On (with_key q name) NameEnd
 
+-- an aggregate, and its `)` next
 abbrev pub agg_goes_on : Query → Option Agg → Move
 agg_goes_on q None = Stuck
 agg_goes_on q (Some a) = On q (Closing a)
 
+-- the table, and WHERE next
 abbrev pub table_goes_on : Query → Option (List ℕ) → Move
 table_goes_on q None = Stuck
 table_goes_on q (Some name) = On (with_table q name) Where
 
+-- the low end, and AND next
 abbrev pub low_goes_on : Query → Option ℤ → Move
 low_goes_on q None = Stuck
 low_goes_on q (Some n) = On (with_low q n) And
 
+-- the high end, which ends the range
 abbrev pub high_goes_on : Query → Option ℤ → Move
 high_goes_on q None = Stuck
 high_goes_on q (Some n) = On (with_high q n) CondEnd
 
+-- a condition's name, and its comparison next
 abbrev pub cond_goes_on : Query → Option (List ℕ) → Move
 cond_goes_on q None = Stuck
 cond_goes_on q (Some name) = On q (CondOp name)
 
+-- a condition's comparison, and its constant next
 abbrev pub op_goes_on : Query → List ℕ → Option Op → Move
 op_goes_on q name None = Stuck
 op_goes_on q name (Some op) = On q (CondValue name op)
 
+-- a condition's constant, which ends it
 abbrev pub const_goes_on : Query → List ℕ → Op → Option Value → Move
 const_goes_on q name op None = Stuck
 const_goes_on q name op (Some v) = On (with_cond q name op v) CondEnd
@@ -102,10 +119,12 @@ abbrev pub is_key : Option (List ℕ) → Option (List ℕ) → Bool
 is_key (Some a) (Some b) = bytes_eq a b
 is_key a b = false
 
+-- the place of the aggregate of ORDER BY, and its `)` next
 abbrev pub order_goes_on : Query → Option ℕ → Move
 order_goes_on q None = Stuck
 order_goes_on q (Some i) = On q (OrderClosing i)
 
+-- a limit, and nothing next
 abbrev pub limit_goes_on : Query → Option ℕ → Move
 limit_goes_on q None = Stuck
 limit_goes_on q (Some n) = On (with_limit q n) Last
@@ -114,6 +133,7 @@ limit_goes_on q (Some n) = On (with_limit q n) Last
 abbrev pub order_or_limit : Query → Token → Move
 order_or_limit q t = if is_word (codes "ORDER") t && list_any is_orderable q.aggs then On q OrderBy else on_if (is_word (codes "LIMIT") t) q LimitNumber
 
+-- a name is selected
 abbrev pub has_keys : Query → Bool
 has_keys q = nat_lt 0 (length q.keys)
 
@@ -188,6 +208,7 @@ is_in_range place = false
 abbrev pub plain_fault : Place → ℕ → QueryFault
 plain_fault place at = if is_in_range place then NoTime else Syntax at
 
+-- of a token that no query goes on with: TooLarge where only its size is wrong
 abbrev pub fault_of : Place → ℕ → Token → QueryFault
 fault_of place at t = if takes_int place && is_int t then TooLarge at else plain_fault place at
 

@@ -13,6 +13,7 @@ use Rattle.query_text.specs.declared.tokens.Token.TheVariants as token
 use Rattle.query_text.specs.declared.places.Kind.{Kind}
 use Rattle.query_text.specs.declared.places.Kind.TheVariants.{Count, Sum, Min, Max, Avg}
 
+-- the words that no plain name may be
 abbrev pub is_keyword : List ℕ → Bool
 is_keyword w =
     bytes_eq w (codes "SELECT") || (bytes_eq w (codes "FROM") || (bytes_eq w (codes "WHERE") || (bytes_eq w (codes "AND")
@@ -30,6 +31,7 @@ name_of (token.Word w) = if is_keyword w || nat_lt 255 (length w) then None else
 name_of (token.Name n) = Some n
 name_of other = None
 
+-- the words of aggregates
 abbrev pub kind_of : Token → Option Kind
 kind_of (token.Word w) =
     if bytes_eq w (codes "COUNT") then Some Count
@@ -44,34 +46,42 @@ abbrev pub is_table_name : List ℕ → Bool
 is_table_name [] = false
 is_table_name (b ∷ bs) = is_ascii_lowercase b && (nat_le (length bs) 63 && list_all (λ c. is_ascii_lowercase c || (is_ascii_digit c || c == 95)) bs)
 
+-- a word that fits a table's name
 abbrev pub table_of : Token → Option (List ℕ)
 table_of (token.Word w) = if is_table_name w then Some w else None
 table_of other = None
 
+-- `(`
 abbrev pub is_open : Token → Bool
 is_open token.Open = true
 is_open other = false
 
+-- `)`
 abbrev pub is_close : Token → Bool
 is_close token.Close = true
 is_close other = false
 
+-- `*`
 abbrev pub is_star : Token → Bool
 is_star token.Star = true
 is_star other = false
 
+-- `,`
 abbrev pub is_comma : Token → Bool
 is_comma token.Comma = true
 is_comma other = false
 
+-- an integer, whatever its size
 abbrev pub is_int : Token → Bool
 is_int (token.Int n) = true
 is_int other = false
 
+-- a comparison
 abbrev pub op_of : Token → Option Op
 op_of (token.Compare op) = Some op
 op_of other = None
 
+-- an integer that is an i64
 abbrev pub int_of : Token → Option ℤ
 int_of (token.Int n) = n
 int_of other = None
@@ -102,10 +112,12 @@ abbrev pub agg_named : Kind → Option (List ℕ) → Option Agg
 agg_named kind None = None
 agg_named kind (Some name) = agg_with kind name
 
+-- COUNT takes `*`, and every other one a name
 abbrev pub agg_inside : Kind → Token → Option Agg
 agg_inside Count t = if is_star t then Some agg.Count else None
 agg_inside kind t = agg_named kind (name_of t)
 
+-- of one kind and one name
 abbrev pub same_agg : Agg → Agg → Bool
 same_agg agg.Count agg.Count = true
 same_agg (agg.Sum a) (agg.Sum b) = bytes_eq a b
@@ -119,6 +131,7 @@ abbrev pub place_from : ℕ → Agg → List Agg → Option ℕ
 place_from i a [] = None
 place_from i a (b ∷ bs) = if same_agg a b then Some i else place_from (i + 1) a bs
 
+-- the place of an aggregate, where one was read
 abbrev pub place_in : List Agg → Option Agg → Option ℕ
 place_in aggs None = None
 place_in aggs (Some a) = place_from 0 a aggs
@@ -131,6 +144,7 @@ has_kind Min (agg.Min name) = true
 has_kind Max (agg.Max name) = true
 has_kind kind a = false
 
+-- every aggregate but AVG
 abbrev pub is_orderable : Agg → Bool
 is_orderable (agg.Avg name) = false
 is_orderable a = true

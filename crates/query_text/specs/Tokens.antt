@@ -38,10 +38,12 @@ abbrev pub behind : List ℕ → ℕ → Option Quote → Option Quote
 behind bs n None = None
 behind bs n (Some q) = Some (record { inside = bs ++ q.inside; long = n + q.long })
 
+-- one byte of the inside in front
 abbrev pub with_byte : ℕ → Option Quote → Option Quote
 with_byte b None = None
 with_byte b (Some q) = Some (record { inside = b ∷ q.inside; long = q.long + 1 })
 
+-- the closing mark behind the inside
 abbrev pub with_end : Option Quote → Option Quote
 with_end None = None
 with_end (Some q) = Some (record { inside = q.inside; long = q.long + 1 })
@@ -85,6 +87,7 @@ abbrev pub signed_value : Bool → ℕ → Option ℤ
 signed_value false n = if nat_lt n (2 ^ 63) then Some (pos n) else None
 signed_value true n = if nat_le n (2 ^ 63) then Some (neg_ℤ (pos n)) else None
 
+-- the token of digits, of which all but the first stand behind
 abbrev pub number_token : List ℕ → List ℕ → Found
 number_token digits more = record { token = Int (signed_value false (value_from 0 digits)); more = length more }
 
@@ -136,5 +139,6 @@ tokens_from zero at (b ∷ rest) =
     if is_blank b then tokens_from 0 (at + 1) rest
     else (let found = token_with b rest in record { at = at; token = found.token } ∷ tokens_from found.more (at + 1) rest)
 
+-- the tokens of a text
 abbrev pub tokens_of : List ℕ → List Placed
 tokens_of text = tokens_from 0 0 text
