@@ -1,0 +1,61 @@
+-- The order of keys is total, and so is the order of an answer's groups.
+use Rattle.std.proofs.Common.{◌≡◌, ℕ, List, [], ◌∷◌, ℤ, pos, refl, subst}
+use Rattle.std.specs.Cmp.{IsTotalOrder}
+use Rattle.std.specs.Cmp.Lexicographic.{slice_cmp, options_total}
+use Rattle.std.specs.Ordering.{nat_cmp, int_cmp, ordering_then}
+use Rattle.std.specs.declared.cmp.Ordering.{Ordering}
+use Rattle.std.specs.declared.cmp.Ordering.TheVariants.{Less, Equal, Greater}
+use Rattle.std.proofs.lemmas.Cmp.{nat_cmp_total, int_cmp_total, nat_list_cmp_total, on_total, then_total, back_total, lists_total}
+use Rattle.leaf_model.specs.declared.groups.Key.{Key}
+use Rattle.leaf_model.specs.declared.groups.Key.TheVariants as key
+use Rattle.leaf_model.specs.declared.groups.Group.{Group}
+use Rattle.leaf_model.specs.declared.queries.Query.{Query}
+use Rattle.leaf_model.specs.Groups.{key_cmp, keys_cmp}
+use Rattle.answer_text.specs.Answer.{measure_of, group_cmp}
+
+-- a key as its kind, its integer and its text
+abbrev kind_of : Key → ℕ
+kind_of key.Missing = 0
+kind_of (key.Int n) = 1
+kind_of (key.Text t) = 2
+
+abbrev number_of : Key → ℤ
+number_of key.Missing = pos 0
+number_of (key.Int n) = n
+number_of (key.Text t) = pos 0
+
+abbrev text_of : Key → List ℕ
+text_of key.Missing = []
+text_of (key.Int n) = []
+text_of (key.Text t) = t
+
+abbrev by_parts : Key → Key → Ordering
+by_parts a b = ordering_then (nat_cmp (kind_of a) (kind_of b)) (ordering_then (int_cmp (number_of a) (number_of b)) (slice_cmp nat_cmp (text_of a) (text_of b)))
+
+by_parts_total : IsTotalOrder by_parts
+by_parts_total = then_total (on_total kind_of nat_cmp_total) (then_total (on_total number_of int_cmp_total) (on_total text_of nat_list_cmp_total))
+
+then_equal : (o : Ordering) → ordering_then o Equal ≡ o
+then_equal Less = refl
+then_equal Equal = refl
+then_equal Greater = refl
+
+same_cmp : (a b : Key) → by_parts a b ≡ key_cmp a b
+same_cmp key.Missing key.Missing = refl
+same_cmp key.Missing (key.Int b) = refl
+same_cmp key.Missing (key.Text b) = refl
+same_cmp (key.Int a) key.Missing = refl
+same_cmp (key.Int a) (key.Int b) = then_equal (int_cmp a b)
+same_cmp (key.Int a) (key.Text b) = refl
+same_cmp (key.Text a) key.Missing = refl
+same_cmp (key.Text a) (key.Int b) = refl
+same_cmp (key.Text a) (key.Text b) = refl
+
+key_cmp_total : IsTotalOrder key_cmp
+key_cmp_total = subst IsTotalOrder (λ i a b. same_cmp a b i) by_parts_total
+
+keys_cmp_total : IsTotalOrder keys_cmp
+keys_cmp_total = lists_total key_cmp_total
+
+pub group_cmp_total : (q : Query) → IsTotalOrder (group_cmp q)
+group_cmp_total q = then_total (on_total (measure_of q) (back_total (options_total int_cmp_total))) (on_total (λ (g : Group). g.keys) keys_cmp_total)

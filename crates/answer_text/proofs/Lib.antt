@@ -1,0 +1,4 @@
+pub mod Ends
+pub mod KeyOrder
+pub mod Sorting
+pub mod Parts

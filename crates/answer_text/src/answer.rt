@@ -1,0 +1,31 @@
+// The lines of an answer.
+ghost use Rattle.std.specs.Prelude.{◌≡◌, IfOk, map};
+ghost use Rattle.answer_text.specs.Answer.{answer_lines, group_line};
+
+use crate::list::Lines;
+use crate::order::in_order;
+use crate::print::line;
+use leaf_model::{Group, Groups, Query, Text};
+use std::alloc::{AllocError, Global};
+
+/// The lines that answer a query, from its groups: by key ascending, or by the aggregate at the place `order`, the
+/// greatest first, and then by key; at most `limit` of them. A place where no aggregate stands, or an AVG, orders
+/// nothing. Fails only for want of memory.
+pub fn lines(alloc: Global, query: &Query, groups: &Groups) -> Result<Lines, AllocError>
+    ensures { IfOk result (λ lines. lines ≡ answer_lines query.now groups.now) }
+{
+    let ordered = in_order(alloc, query, groups.as_slice())?;
+    let shown = (query.limit as usize).min(ordered.len());
+    Ok(Lines::of(print_all(alloc, query, &ordered[..shown])?))
+}
+
+/// A line for each of the groups.
+fn print_all(alloc: Global, query: &Query, groups: &[&Group]) -> Result<Vec<Text>, AllocError>
+    ensures { IfOk result (λ lines. lines.items ≡ map (λ g. group_line query.now g.now) groups.now) }
+{
+    let mut lines = Vec::new(alloc);
+    for group in groups {
+        lines.push(line(alloc, query, group)?)?;
+    }
+    Ok(lines)
+}

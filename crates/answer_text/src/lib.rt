@@ -1,0 +1,12 @@
+//! Answers as text: the groups of a query in order, cut at its limit, each as one line.
+#![tactic(auto)]
+
+mod answer;
+mod list;
+mod order;
+mod print;
+#[cfg(test)]
+mod tests;
+
+pub use answer::lines;
+pub use list::Lines;

@@ -1,0 +1,98 @@
+// The order of an answer's groups.
+ghost use Rattle.std.specs.Prelude.{◌≡◌, IfOk, map};
+ghost use Rattle.leaf_model.specs.Groups.{key_cmp, keys_cmp};
+ghost use Rattle.answer_text.specs.Answer.{group_cmp, in_order, measure, measure_of};
+
+use leaf_model::{Agg, Fold, Group, Key, Query};
+use std::alloc::{AllocError, Global};
+use std::cmp::Ordering;
+
+/// Missing, then integers, then texts by their bytes.
+fn compare_key(a: &Key, b: &Key) -> Ordering
+    ensures { result ≡ key_cmp a.now b.now }
+{
+    match a {
+        Key::Missing => match b {
+            Key::Missing => Ordering::Equal,
+            Key::Int(_m) => Ordering::Less,
+            Key::Text(_u) => Ordering::Less,
+        },
+        Key::Int(n) => match b {
+            Key::Missing => Ordering::Greater,
+            Key::Int(m) => n.cmp(m),
+            Key::Text(_u) => Ordering::Less,
+        },
+        Key::Text(t) => match b {
+            Key::Missing => Ordering::Greater,
+            Key::Int(_m) => Ordering::Greater,
+            Key::Text(u) => t.as_str().cmp(u.as_str()),
+        },
+    }
+}
+
+/// Lists of keys compare from the left.
+fn compare_keys(a: &[Key], b: &[Key]) -> Ordering
+    ensures { result ≡ keys_cmp a.now b.now }
+{
+    let mut i: usize = 0;
+    while i < a.len() && i < b.len() {
+        match compare_key(&a[i], &b[i]) {
+            Ordering::Less => return Ordering::Less,
+            Ordering::Equal => i += 1,
+            Ordering::Greater => return Ordering::Greater,
+        }
+    }
+    a.len().cmp(&b.len())
+}
+
+fn measure(agg: &Agg, count: u64, fold: &Fold) -> Option<i128>
+    ensures { result ≡ measure agg.now count fold.now }
+{
+    match agg {
+        Agg::Count => Some(i128::from(count)),
+        Agg::Sum(_name) => Some(fold.sum),
+        Agg::Min(_name) => fold.min.map(i128::from),
+        Agg::Max(_name) => fold.max.map(i128::from),
+        Agg::Avg(_name) => None,
+    }
+}
+
+/// What a group has of the aggregate that orders the answer.
+fn measure_of(query: &Query, group: &Group) -> Option<i128>
+    ensures { result ≡ measure_of query.now group.now }
+{
+    let place = query.order? as usize;
+    let agg = query.aggs.as_slice().get(place)?;
+    let fold = group.folds.as_slice().get(place)?;
+    measure(agg, group.count, fold)
+}
+
+/// The greatest first, and then by key.
+fn compare_groups(query: &Query, a: &Group, b: &Group) -> Ordering
+    ensures { result ≡ group_cmp query.now a.now b.now }
+{
+    match measure_of(query, b).cmp(&measure_of(query, a)) {
+        Ordering::Less => Ordering::Less,
+        Ordering::Equal => compare_keys(a.keys.as_slice(), b.keys.as_slice()),
+        Ordering::Greater => Ordering::Greater,
+    }
+}
+
+fn refs_of(alloc: Global, groups: &[Group]) -> Result<Vec<&Group>, AllocError>
+    ensures { IfOk result (λ all. map (λ g. g.now) all.items ≡ groups.now) }
+{
+    groups.iter().collect(alloc)
+}
+
+/// The groups as an answer has them. The sort is stable, and one pass where they stand in order.
+pub fn in_order<'a>(
+    alloc: Global,
+    query: &Query,
+    groups: &'a [Group],
+) -> Result<Vec<&'a Group>, AllocError>
+    ensures { IfOk result (λ all. map (λ g. g.now) all.items ≡ in_order (group_cmp query.now) groups.now) }
+{
+    let mut all = refs_of(alloc, groups)?;
+    all.sort_by(|a, b| compare_groups(query, a, b))?;
+    Ok(all)
+}
