@@ -2,3 +2,4 @@ pub mod Ends
 pub mod KeyOrder
 pub mod Sorting
 pub mod Parts
+pub mod Samples

@@ -1,12 +1,12 @@
 -- A list in order is the one that does not fall and keeps what is alike as it stood, which a stable sort gives.
-use Rattle.std.proofs.Common.{◌≡◌, ℕ, suc, ◌<◌, ◌≤◌, Bool, true, false, not, ◌&&◌, List, [], ◌∷◌, length, map, get_or, drop, cond, subst, refl, sym, ap, ◌∙◌, arith, if◌then◌else◌, true≢false}
+use Rattle.std.proofs.Common.{◌≡◌, ℕ, zero, suc, ◌+◌, ◌<◌, ◌≤◌, Bool, true, false, not, ◌&&◌, List, [], ◌∷◌, length, map, get_or, drop, cond, subst, refl, sym, ap, ◌∙◌, arith, if◌then◌else◌, true≢false}
 use Rattle.std.specs.Prelude.{⊤}
 use Rattle.std.specs.List.{AllByRecursion, filter}
-use Rattle.std.specs.List.Sorted.{IsSortedBy, IsStableBy, ties}
+use Rattle.std.specs.List.Sorted.{IsPermutation, IsSortedBy, IsStableBy, ties}
 use Rattle.std.specs.Cmp.{IsStrictWeakOrder, IsTotalOrder}
 use Rattle.std.specs.Ordering.{is_lt}
 use Rattle.std.specs.declared.cmp.Ordering.{Ordering}
-use Rattle.std.proofs.lemmas.List.Sorted.{ranks_by, sorted_far}
+use Rattle.std.proofs.lemmas.List.Sorted.{ranks_by, sorted_far, IsPermutation-refl, IsPermutation-sym, IsPermutation-cons, IsPermutation-trans, IsPermutation-middle}
 use Rattle.answer_text.specs.Answer.{placed, in_order}
 
 -- by position: no element is less than one before it
@@ -123,6 +123,14 @@ module _ {X : Type 0} (cmp : X → X → Ordering) (o : IsStrictWeakOrder (λ (a
       let rest : xs ≡ ys = unique xs ys up.1 vp.1 (λ z. tails (ties lt z) x y xs ys one (same z)) in
       ap (λ l. x ∷ l) rest ∙ ap (λ w. w ∷ ys) one
 
+  sorted_from : (xs : List X) → Rises lt xs → (k : ℕ) (d : X) → k + 1 < length xs → lt (get_or xs (k + 1) d) (get_or xs k d) ≡ false
+  sorted_from [] up k d h = absurd (omega arith)
+  sorted_from (x ∷ []) up k d h = absurd (omega arith)
+  sorted_from (x ∷ y ∷ ys) up zero d h = up.0.0
+  sorted_from (x ∷ y ∷ ys) up (suc k) d h =
+      let e : suc k + 1 ≡ suc (k + 1) = omega arith in
+      rw e (sorted_from (y ∷ ys) up.1 k d (omega arith))
+
   sorted_once : (xs ys : List X) → IsSortedBy lt ys → IsStableBy lt xs ys → ys ≡ in_order cmp xs
   sorted_once xs ys up stable = unique ys (in_order cmp xs) (rises_from lt ys (sorted_far lt o ys up)) (rises_in_order xs) (λ z. stable z ∙ sym (kept_in_order z xs))
 
@@ -143,3 +151,20 @@ pub sorted_as : {X Y : Type 0} (f : X → Y) (cmp : Y → Y → Ordering) → Is
     → IsSortedBy (λ a b. is_lt (cmp (f a) (f b))) ys → IsStableBy (λ a b. is_lt (cmp (f a) (f b))) xs ys → map f ys ≡ in_order cmp (map f xs)
 sorted_as f cmp total xs ys up stable =
     ap (map f) (sorted_once (λ a b. cmp (f a) (f b)) (ranks_by total f) xs ys up stable) ∙ map_in_order f cmp xs
+
+moved_at : {X : Type 0} (x y : X) (ys further : List X) (t : Bool) → IsPermutation (x ∷ ys) further → IsPermutation (x ∷ y ∷ ys) (if t then y ∷ further else x ∷ y ∷ ys)
+moved_at x y ys further true h =
+    IsPermutation-trans (x ∷ y ∷ ys) (y ∷ x ∷ ys) (y ∷ further) (IsPermutation-sym (y ∷ x ∷ ys) (x ∷ y ∷ ys) (IsPermutation-middle (y ∷ []) x ys)) (IsPermutation-cons y (x ∷ ys) further h)
+moved_at x y ys further false h = IsPermutation-refl (x ∷ y ∷ ys)
+
+same_placed : {X : Type 0} (cmp : X → X → Ordering) (x : X) (ys : List X) → IsPermutation (x ∷ ys) (placed cmp x ys)
+same_placed cmp x [] = IsPermutation-refl (x ∷ [])
+same_placed cmp x (y ∷ ys) = moved_at x y ys (placed cmp x ys) (is_lt (cmp y x)) (same_placed cmp x ys)
+
+pub same_in_order : {X : Type 0} (cmp : X → X → Ordering) (xs : List X) → IsPermutation xs (in_order cmp xs)
+same_in_order cmp [] = IsPermutation-refl []
+same_in_order cmp (x ∷ xs) =
+    IsPermutation-trans (x ∷ xs) (x ∷ in_order cmp xs) (placed cmp x (in_order cmp xs)) (IsPermutation-cons x xs (in_order cmp xs) (same_in_order cmp xs)) (same_placed cmp x (in_order cmp xs))
+
+pub sorted_in_order : {X : Type 0} (cmp : X → X → Ordering) → IsTotalOrder cmp → (xs : List X) → IsSortedBy (λ a b. is_lt (cmp a b)) (in_order cmp xs)
+sorted_in_order cmp total xs = λ k d l h. sorted_from cmp (ranks_by total (λ x. x)) (in_order cmp xs) (rises_in_order cmp (ranks_by total (λ x. x)) xs) k d h

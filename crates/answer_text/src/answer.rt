@@ -1,5 +1,5 @@
 // The lines of an answer.
-ghost use Rattle.std.specs.Prelude.{◌≡◌, IfOk, map};
+ghost use Rattle.std.specs.Prelude.{◌≡◌, IfOk, map, take};
 ghost use Rattle.answer_text.specs.Answer.{answer_lines, group_line};
 
 use crate::list::Lines;
@@ -15,8 +15,15 @@ pub fn lines(alloc: Global, query: &Query, groups: &Groups) -> Result<Lines, All
     ensures { IfOk result (λ lines. lines ≡ answer_lines query.now groups.now) }
 {
     let ordered = in_order(alloc, query, groups.as_slice())?;
-    let shown = (query.limit as usize).min(ordered.len());
-    Ok(Lines::of(print_all(alloc, query, &ordered[..shown])?))
+    let shown = cut(&ordered, query.limit);
+    Ok(Lines::of(print_all(alloc, query, shown)?))
+}
+
+/// At most so many groups.
+fn cut<'a, 'b>(groups: &'a [&'b Group], limit: u32) -> &'a [&'b Group]
+    ensures { result.now ≡ take limit groups.now }
+{
+    &groups[..groups.len().min(limit as usize)]
 }
 
 /// A line for each of the groups.

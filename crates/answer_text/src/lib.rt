@@ -10,3 +10,4 @@ mod tests;
 
 pub use answer::lines;
 pub use list::Lines;
+pub use order::order_meaning;

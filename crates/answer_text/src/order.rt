@@ -1,5 +1,7 @@
 // The order of an answer's groups.
-ghost use Rattle.std.specs.Prelude.{◌≡◌, IfOk, map};
+ghost use Rattle.std.specs.Prelude.{◌≡◌, List, IfOk, OnOk, IsPermutation, IsSorted, map};
+ghost use Rattle.leaf_model.specs.declared.groups.Group.{Group};
+ghost use Rattle.leaf_model.specs.declared.queries.Query.{Query};
 ghost use Rattle.leaf_model.specs.Groups.{key_cmp, keys_cmp};
 ghost use Rattle.answer_text.specs.Answer.{group_cmp, in_order, measure, measure_of};
 
@@ -84,7 +86,14 @@ fn refs_of(alloc: Global, groups: &[Group]) -> Result<Vec<&Group>, AllocError>
     groups.iter().collect(alloc)
 }
 
-/// The groups as an answer has them. The sort is stable, and one pass where they stand in order.
+/// A stable sort, which is one pass where the groups stand in order.
+fn sort(query: &Query, groups: &mut Vec<&Group>) -> Result<(), AllocError>
+    ensures { OnOk result (map (λ g. g.now) groups.new.items ≡ in_order (group_cmp query.now) (map (λ g. g.now) groups.old.items)) }
+{
+    groups.sort_by(|a, b| compare_groups(query, a, b))
+}
+
+/// The groups as the answer has them.
 pub fn in_order<'a>(
     alloc: Global,
     query: &Query,
@@ -93,6 +102,12 @@ pub fn in_order<'a>(
     ensures { IfOk result (λ all. map (λ g. g.now) all.items ≡ in_order (group_cmp query.now) groups.now) }
 {
     let mut all = refs_of(alloc, groups)?;
-    all.sort_by(|a, b| compare_groups(query, a, b))?;
+    sort(query, &mut all)?;
     Ok(all)
 }
+
+/// Law: an answer in order has the same groups, and none of them stands right before one that goes before it.
+pub fn order_meaning()
+    ensures same { (q : Query) → (gs : List Group) → IsPermutation gs (in_order (group_cmp q) gs) }
+    ensures sorted { (q : Query) → (gs : List Group) → IsSorted (group_cmp q) (in_order (group_cmp q) gs) }
+{}
