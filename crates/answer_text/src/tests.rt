@@ -1,5 +1,5 @@
 // Answers of groups made by hand: their order, the cut, and each part of a line.
-use crate::{Lines, lines};
+use crate::{Lines, lines, order_meaning};
 use leaf_model::{Agg, Aggs, Conds, Fold, Folds, Group, Groups, Key, Keys, Names, Query, Text};
 use std::alloc::{AllocError, Global};
 use std::test;
@@ -10,13 +10,6 @@ enum Held<'a> {
     Int(i64),
     Text(&'a str),
 }
-
-const NONE: Fold = Fold {
-    seen: 0,
-    sum: 0,
-    min: None,
-    max: None,
-};
 
 fn text(alloc: Global, letters: &str) -> Result<Text, AllocError> {
     Ok(Text::of(String::from_str(alloc, letters)?))
@@ -30,30 +23,54 @@ fn key(alloc: Global, held: Held) -> Result<Key, AllocError> {
     }
 }
 
-// The one integer of a group.
-fn one(number: i64) -> Fold {
+// The fold of no integer, or of so many of one number.
+fn fold(seen: u64, number: i64) -> Fold {
+    if seen == 0 {
+        return Fold {
+            seen,
+            sum: 0,
+            min: None,
+            max: None,
+        };
+    }
     Fold {
-        seen: 1,
-        sum: i128::from(number),
+        seen,
+        sum: i128::from(seen) * i128::from(number),
         min: Some(number),
         max: Some(number),
     }
 }
 
-fn group(alloc: Global, held: &[Held], count: u64, parts: &[Fold]) -> Result<Group, AllocError> {
+fn keys(alloc: Global, held: Held) -> Result<Keys, AllocError> {
     let mut keys = Vec::new(alloc);
-    for one in held {
-        keys.push(key(alloc, *one)?)?;
-    }
+    keys.push(key(alloc, held)?)?;
+    Ok(Keys::of(keys))
+}
+
+// The same fold for each of three aggregates.
+fn folds(alloc: Global, fold: Fold) -> Result<Folds, AllocError> {
     let mut folds = Vec::new(alloc);
-    for part in parts {
-        folds.push(*part)?;
+    for _ in 0..3 {
+        folds.push(fold)?;
     }
+    Ok(Folds::of(folds))
+}
+
+fn group(alloc: Global, held: Held, count: u64, fold: Fold) -> Result<Group, AllocError> {
     Ok(Group {
-        keys: Keys::of(keys),
+        keys: keys(alloc, held)?,
         count,
-        folds: Folds::of(folds),
+        folds: folds(alloc, fold)?,
     })
+}
+
+// Each with its key, its count, and how many integers of which number it has.
+fn groups(alloc: Global, parts: &[(Held, u64, u64, i64)]) -> Result<Groups, AllocError> {
+    let mut groups = Vec::new(alloc);
+    for (held, count, seen, number) in parts {
+        groups.push(group(alloc, *held, *count, fold(*seen, *number))?)?;
+    }
+    Ok(Groups::of(groups))
 }
 
 fn agg(alloc: Global, kind: &str) -> Result<Agg, AllocError> {
@@ -67,30 +84,29 @@ fn agg(alloc: Global, kind: &str) -> Result<Agg, AllocError> {
     }
 }
 
-// The names of the keys are in no line, so there are none.
-fn query(
-    alloc: Global,
-    kinds: &[&str],
-    order: Option<u64>,
-    limit: u32,
-) -> Result<Query, AllocError> {
+fn aggs(alloc: Global, kinds: &str) -> Result<Aggs, AllocError> {
     let mut aggs = Vec::new(alloc);
-    for kind in kinds {
+    for kind in kinds.split(' ') {
         aggs.push(agg(alloc, kind)?)?;
     }
+    Ok(Aggs::of(aggs))
+}
+
+// The names of the keys are in no line, so there are none.
+fn query(alloc: Global, kinds: &str, order: Option<u64>, limit: u32) -> Result<Query, AllocError> {
     Ok(Query {
         table: text(alloc, "errors")?,
         from: 0,
         to: 9,
         conds: Conds::of(Vec::new(alloc)),
         keys: Names::of(Vec::new(alloc)),
-        aggs: Aggs::of(aggs),
+        aggs: aggs(alloc, kinds)?,
         order,
         limit,
     })
 }
 
-// Each line with an end.
+// Each line with its end.
 fn shown(alloc: Global, lines: &Lines) -> Result<String, AllocError> {
     let mut shown = String::new(alloc);
     for line in lines.as_slice() {
@@ -100,138 +116,92 @@ fn shown(alloc: Global, lines: &Lines) -> Result<String, AllocError> {
     Ok(shown)
 }
 
-// The group without a host has one row, and host a has two, of which one has a number.
-fn hosts(alloc: Global) -> Result<Groups, AllocError> {
-    let mut groups = Vec::new(alloc);
-    groups.push(group(alloc, &[Held::Missing], 1, &[NONE, one(3), one(3), one(3)])?)?;
-    groups.push(group(
-        alloc,
-        &[Held::Text("a")],
-        2,
-        &[NONE, one(2), one(2), one(2)],
-    )?)?;
-    Ok(Groups::of(groups))
+fn answer(
+    alloc: Global,
+    kinds: &str,
+    order: Option<u64>,
+    limit: u32,
+    groups: &Groups,
+) -> Result<String, AllocError> {
+    let query = query(alloc, kinds, order, limit)?;
+    let answer = lines(alloc, &query, groups)?;
+    shown(alloc, &Lines::of(answer.into_inner()))
 }
 
+// The worked rows, and then the others in their order.
+const BY_COUNT: &str = "\"a\" 2 2/1 2\n- 1 3/1 3\n";
+
+const BY_KEY: &str = "- 1 3/1 3\n\"a\" 2 2/1 2\n";
+
 #[test]
-fn answers_are_ordered_cut_and_printed(rt: HostRuntime) -> Result<(), test::Fail> {
+fn answers_are_ordered_and_cut(rt: HostRuntime) -> Result<(), test::Fail> {
     let alloc = rt.alloc();
-    let groups = hosts(alloc)?;
+    order_meaning();
+    let parts = [(Held::Missing, 1, 1, 3), (Held::Text("a"), 2, 1, 2)];
+    let hosts = groups(alloc, &parts)?;
     for (kinds, order, limit, want) in [
-        (
-            ["COUNT", "AVG", "MAX"],
-            Some(0),
-            100_000,
-            "\"a\" 2 2/1 2\n- 1 3/1 3\n",
-        ),
-        (
-            ["COUNT", "AVG", "MAX"],
-            None,
-            100_000,
-            "- 1 3/1 3\n\"a\" 2 2/1 2\n",
-        ),
-        (
-            ["MAX", "MIN", "SUM"],
-            Some(2),
-            100_000,
-            "- - 3 3\n\"a\" - 2 2\n",
-        ),
-        (["COUNT", "AVG", "MAX"], Some(0), 1, "\"a\" 2 2/1 2\n"),
-        (["COUNT", "AVG", "MAX"], Some(0), 0, ""),
+        ("COUNT AVG MAX", Some(0), 100_000, BY_COUNT),
+        ("COUNT AVG MAX", None, 100_000, BY_KEY),
+        ("COUNT AVG MAX", Some(0), 1, "\"a\" 2 2/1 2\n"),
+        ("MIN COUNT SUM", Some(2), 2, "- 3 1 3\n\"a\" 2 2 2\n"),
+        ("COUNT AVG MAX", Some(0), 0, ""),
     ] {
-        let query = query(alloc, &kinds, order, limit)?;
-        let answer = lines(alloc, &query, &groups)?;
-        assert_eq!(rt;
-            shown(alloc, &answer)?.as_str(),
-            want,
-            "at {order:?} {limit}"
-        );
+        let got = answer(alloc, kinds, order, limit, &hosts)?;
+        assert_eq!(rt; got.as_str(), want, "{kinds} by {order:?}, {limit} lines");
     }
     Ok(())
 }
 
 #[test]
-fn the_greatest_comes_first_and_then_the_key(rt: HostRuntime) -> Result<(), test::Fail> {
+fn a_missing_number_is_least_and_ties_go_by_key(rt: HostRuntime) -> Result<(), test::Fail> {
     let alloc = rt.alloc();
-    let mut groups = Vec::new(alloc);
-    for (name, number) in [
-        ("a", None),
-        ("b", Some(-5)),
-        ("c", Some(7)),
-        ("d", None),
-        ("e", Some(-5)),
-    ] {
-        let fold = number.map_or(NONE, one);
-        groups.push(group(alloc, &[Held::Text(name), Held::Int(1)], 1, &[fold, fold])?)?;
-    }
-    let groups = Groups::of(groups);
-    let by_greatest = query(alloc, &["MAX", "AVG"], Some(0), 4)?;
-    let answer = lines(alloc, &by_greatest, &groups)?;
-    let want = "\"c\" 1 7 7/1\n\"b\" 1 -5 -5/1\n\"e\" 1 -5 -5/1\n\"a\" 1 - 0/0\n";
-    assert_eq!(rt; shown(alloc, &answer)?.as_str(), want);
+    let parts = [
+        (Held::Text("a"), 1, 0, 0),
+        (Held::Text("b"), 1, 1, -5),
+        (Held::Text("c"), 1, 1, 7),
+        (Held::Text("d"), 1, 0, 0),
+        (Held::Text("e"), 1, 1, -5),
+    ];
+    let groups = groups(alloc, &parts)?;
+    let got = answer(alloc, "MAX AVG", Some(0), 4, &groups)?;
+    let want = "\"c\" 7 7/1\n\"b\" -5 -5/1\n\"e\" -5 -5/1\n\"a\" - 0/0\n";
+    assert_eq!(rt; got.as_str(), want);
     // SUM of no integer is 0, which is above -5
-    let by_sum = query(alloc, &["SUM"], Some(0), 100_000)?;
-    let answer = lines(alloc, &by_sum, &groups)?;
-    let want = "\"c\" 1 7\n\"a\" 1 0\n\"d\" 1 0\n\"b\" 1 -5\n\"e\" 1 -5\n";
-    assert_eq!(rt; shown(alloc, &answer)?.as_str(), want);
+    let got = answer(alloc, "SUM", Some(0), 100_000, &groups)?;
+    let want = "\"c\" 7\n\"a\" 0\n\"d\" 0\n\"b\" -5\n\"e\" -5\n";
+    assert_eq!(rt; got.as_str(), want);
     Ok(())
 }
 
+// A DEL is no control character of JSON, and stands as it is.
+const LINES: &str = "- 645636042579834306490000 645636042579834306490000/70000
+-9223372036854775808 0 0/0
+-1 0 0/0
+10 0 0/0
+\"\" 0 0/0
+\"\\u0001\\b\\t\\n\\f\\r\\u001f \u{7f}\" 0 0/0
+\"-\" 0 0/0
+\"10\" 0 0/0
+\"a\\\"b\\\\c/é\" 0 0/0
+";
+
 #[test]
-fn keys_are_missing_integers_and_json_strings(rt: HostRuntime) -> Result<(), test::Fail> {
+fn keys_are_json_strings_and_sums_have_128_bits(rt: HostRuntime) -> Result<(), test::Fail> {
     let alloc = rt.alloc();
-    let mut groups = Vec::new(alloc);
-    for held in [
-        Held::Missing,
-        Held::Int(i64::MIN),
-        Held::Int(-1),
-        Held::Int(10),
-        Held::Text(""),
-        Held::Text("\u{1}\u{8}\u{9}\n\u{c}\r\u{1f} \u{7f}"),
-        Held::Text("-"),
-        Held::Text("10"),
-        Held::Text("a\"b\\c/é"),
-    ] {
-        groups.push(group(alloc, &[held, held], 1, &[NONE])?)?;
-    }
     // an answer is by key, whatever the order of the groups
-    groups.reverse();
-    let by_key = query(alloc, &["COUNT"], None, 100_000)?;
-    let answer = lines(alloc, &by_key, &Groups::of(groups))?;
-    let want = r#"- - 1
--9223372036854775808 -9223372036854775808 1
--1 -1 1
-10 10 1
-"" "" 1
-"\u0001\b\t\n\f\r\u001f " "\u0001\b\t\n\f\r\u001f " 1
-"-" "-" 1
-"10" "10" 1
-"a\"b\\c/é" "a\"b\\c/é" 1
-"#;
-    let got = shown(alloc, &answer)?;
-    // a DEL is no control character of JSON, and stands as it is
-    assert_eq!(rt; got.replace(alloc, "\u{7f}", "")?.as_str(), want);
-    assert!(rt; got.contains(" \u{7f}\" \""));
-    Ok(())
-}
-
-#[test]
-fn sums_have_128_bits(rt: HostRuntime) -> Result<(), test::Fail> {
-    let alloc = rt.alloc();
-    let all = Fold {
-        seen: 70_000,
-        sum: 645_636_042_579_834_306_490_000,
-        min: Some(i64::MAX),
-        max: Some(i64::MAX),
-    };
-    let mut groups = Vec::new(alloc);
-    groups.push(group(alloc, &[], 70_000, &[all, all])?)?;
-    let sums = query(alloc, &["SUM", "AVG"], None, 100_000)?;
-    let answer = lines(alloc, &sums, &Groups::of(groups))?;
-    let want = "645636042579834306490000 645636042579834306490000/70000\n";
-    assert_eq!(rt; shown(alloc, &answer)?.as_str(), want);
-    let taken = answer.into_inner();
-    assert_eq!(rt; taken.len(), 1);
-    assert_eq!(rt; Lines::of(taken).as_slice().len(), 1);
+    let parts = [
+        (Held::Text("a\"b\\c/é"), 1, 0, 0),
+        (Held::Text("10"), 1, 0, 0),
+        (Held::Text("-"), 1, 0, 0),
+        (Held::Text("\u{1}\u{8}\t\n\u{c}\r\u{1f} \u{7f}"), 1, 0, 0),
+        (Held::Text(""), 1, 0, 0),
+        (Held::Int(10), 1, 0, 0),
+        (Held::Int(-1), 1, 0, 0),
+        (Held::Int(i64::MIN), 1, 0, 0),
+        (Held::Missing, 70_000, 70_000, i64::MAX),
+    ];
+    let groups = groups(alloc, &parts)?;
+    let got = answer(alloc, "SUM AVG", None, 100_000, &groups)?;
+    assert_eq!(rt; got.as_str(), LINES);
     Ok(())
 }
