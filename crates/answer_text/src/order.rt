@@ -106,7 +106,7 @@ pub fn in_order<'a>(
     Ok(all)
 }
 
-/// Law: an answer in order has the same groups, and none of them stands right before one that goes before it.
+/// Law: an answer in order has the same groups, and no two that stand side by side are the wrong way round.
 pub fn order_meaning()
     ensures same { (q : Query) → (gs : List Group) → IsPermutation gs (in_order (group_cmp q) gs) }
     ensures sorted { (q : Query) → (gs : List Group) → IsSorted (group_cmp q) (in_order (group_cmp q) gs) }
