@@ -143,7 +143,7 @@ fn answers_are_ordered_and_cut(rt: HostRuntime) -> Result<(), test::Fail> {
         ("COUNT AVG MAX", Some(0), 100_000, BY_COUNT),
         ("COUNT AVG MAX", None, 100_000, BY_KEY),
         ("COUNT AVG MAX", Some(0), 1, "\"a\" 2 2/1 2\n"),
-        ("MIN COUNT SUM", Some(2), 2, "- 3 1 3\n\"a\" 2 2 2\n"),
+        ("COUNT MIN SUM", Some(2), 2, "- 1 3 3\n\"a\" 2 2 2\n"),
         ("COUNT AVG MAX", Some(0), 0, ""),
     ] {
         let got = answer(alloc, kinds, order, limit, &hosts)?;
