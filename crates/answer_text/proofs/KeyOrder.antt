@@ -1,5 +1,5 @@
 -- The order of keys is total, and so is the order of an answer's groups.
-use Rattle.std.proofs.Common.{◌≡◌, ℕ, List, [], ◌∷◌, ℤ, pos, refl, subst}
+use Rattle.std.proofs.Common.{◌≡◌, ℕ, List, [], ℤ, pos, refl, subst}
 use Rattle.std.specs.Cmp.{IsTotalOrder}
 use Rattle.std.specs.Cmp.Lexicographic.{slice_cmp, options_total}
 use Rattle.std.specs.Ordering.{nat_cmp, int_cmp, ordering_then}
