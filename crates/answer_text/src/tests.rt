@@ -128,7 +128,7 @@ fn answer(
     shown(alloc, &Lines::of(answer.into_inner()))
 }
 
-// The worked rows, and then the others in their order.
+// The worked lines, by the count and by key.
 const BY_COUNT: &str = "\"a\" 2 2/1 2\n- 1 3/1 3\n";
 
 const BY_KEY: &str = "- 1 3/1 3\n\"a\" 2 2/1 2\n";
