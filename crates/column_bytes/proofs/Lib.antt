@@ -1,0 +1,9 @@
+pub mod Parts
+pub mod Ends
+pub mod Spelled
+pub mod Laid
+pub mod Offsets
+pub mod Distinct
+pub mod JoinedTexts
+pub mod Reading
+pub mod Greatest

@@ -1,0 +1,102 @@
+-- The lists that parts of a column mean, place by place.
+use Rattle.std.proofs.Common.{◌≡◌, ℕ, ◌*◌, ◌<◌, Bool, true, false, List, [], length, map, slice_index, slice_index_or, ℤ, pos, Option, Some, None, IfSome, if◌then◌else◌, refl, sym, ap, subst, ◌∙◌, arith}
+use Rattle.std.specs.List.{range_with_len}
+use Rattle.std.specs.Int.{div_ceil}
+use Rattle.std.proofs.lemmas.List.FromFn.{length-map-range_with_len, get_or-map-range_with_len, fill_by_all}
+use Rattle.bit_columns.specs.Bits.{code, codes, BitString, PackedCodes}
+use Rattle.leaf_model.specs.declared.rows.Value.{Value}
+use Rattle.leaf_model.specs.declared.rows.Value.TheVariants as values
+use Rattle.column_bytes.specs.declared.kind.Kind.TheVariants as kinds
+use Rattle.column_bytes.specs.declared.form.Form.{Form}
+use Rattle.column_bytes.specs.Fields.{i64_at}
+use Rattle.column_bytes.specs.Dictionary.{text_count, text_at, texts_at}
+use Rattle.column_bytes.specs.Cells.{anchors_at, is_there, there, coded_of, book_of, value_at, cell_at, cells_of, integer_cells, text_cells, kind_of, entries, IsCode, AreCodes, Coded, Codebook, Base, Anchors, Entries}
+
+pub length-codes : (bytes : List ℕ) (w n : ℕ) → length (codes bytes w n) ≡ n
+length-codes bytes w n = length-map-range_with_len (code bytes w) 0 n
+
+pub codes_at : (bytes : List ℕ) (w n i : ℕ) → i < n → slice_index (codes bytes w n) i ≡ code bytes w i
+codes_at bytes w n i within = get_or-map-range_with_len (code bytes w) 0 n i i 0 within (omega arith)
+
+pub length-there : (presence : Option BitString) (n : ℕ) → length (there presence n) ≡ n
+length-there presence n = length-map-range_with_len (is_there presence) 0 n
+
+pub there_at : (presence : Option BitString) (n i : ℕ) (d : Bool) → i < n → slice_index_or (there presence n) i d ≡ is_there presence i
+there_at presence n i d within = get_or-map-range_with_len (is_there presence) 0 n i i d within (omega arith)
+
+pub length-texts : (extra : List ℕ) → length (texts_at extra) ≡ text_count extra
+length-texts extra = length-map-range_with_len (text_at extra) 0 (text_count extra)
+
+pub texts_at_place : (extra : List ℕ) (k : ℕ) → k < text_count extra → slice_index_or (texts_at extra) k [] ≡ text_at extra k
+texts_at_place extra k within = get_or-map-range_with_len (text_at extra) 0 (text_count extra) k k [] within (omega arith)
+
+pub anchors_at_place : (n : ℕ) (extra : List ℕ) (k : ℕ) → k < div_ceil n 64 → slice_index_or (anchors_at n extra) k (pos 0) ≡ i64_at extra (8 * k)
+anchors_at_place n extra k within = get_or-map-range_with_len (λ j. i64_at extra (8 * j)) 0 (div_ceil n 64) k k (pos 0) within (omega arith)
+
+-- what is said of codes place by place is said of the bits, and the other way round
+pub are_codes-from_each : (form : Form) (n : ℕ) (presence : Option BitString) (packed : PackedCodes) (extra : List ℕ)
+    → ((j : ℕ) → j < n → is_there presence j ≡ true → IsCode (book_of form n extra) (code packed.bytes packed.width j))
+    → AreCodes (coded_of form n presence packed extra)
+are_codes-from_each form n presence packed extra each i within present =
+    let inside : i < n = omega (arith, length-codes packed.bytes packed.width n) in
+    subst (IsCode (book_of form n extra)) (sym (codes_at packed.bytes packed.width n i inside))
+    (each i inside (sym (there_at presence n i false inside) ∙ present))
+
+pub each-from_are_codes : (form : Form) (n : ℕ) (presence : Option BitString) (packed : PackedCodes) (extra : List ℕ)
+    → AreCodes (coded_of form n presence packed extra)
+    → (j : ℕ) → j < n → is_there presence j ≡ true → IsCode (book_of form n extra) (code packed.bytes packed.width j)
+each-from_are_codes form n presence packed extra are j within present =
+    subst (IsCode (book_of form n extra)) (codes_at packed.bytes packed.width n j within)
+    (are j (omega (arith, length-codes packed.bytes packed.width n)) (there_at presence n j false within ∙ present))
+
+pub present_below : (presence : Option BitString) (n i : ℕ) → IfSome presence (λ bits. bits.count ≡ n) → i < n → IfSome presence (λ bits. i < bits.count)
+present_below None n i same below = tt
+present_below (Some bits) n i same below = omega (arith, same)
+
+-- ---- cells
+
+pub cell_there : (form : Form) (n : ℕ) (presence : Option BitString) (packed : PackedCodes) (extra : List ℕ) (i : ℕ)
+    → i < n → is_there presence i ≡ true
+    → cell_at (coded_of form n presence packed extra) i ≡ Some (value_at (book_of form n extra) (codes packed.bytes packed.width n) i)
+cell_there form n presence packed extra i within present = rw (there_at presence n i false within, present) refl
+
+pub cell_missing : (form : Form) (n : ℕ) (presence : Option BitString) (packed : PackedCodes) (extra : List ℕ) (i : ℕ)
+    → i < n → is_there presence i ≡ false
+    → cell_at (coded_of form n presence packed extra) i ≡ None
+cell_missing form n presence packed extra i within missing = rw (there_at presence n i false within, missing) refl
+
+-- ---- all cells in order
+
+cell_same : (b : Bool) (v w : Value) → (b ≡ true → v ≡ w) → (if b then Some v else None) ≡ (if b then Some w else None)
+cell_same true v w same = ap Some (same refl)
+cell_same false v w same = refl
+
+-- integers that are the values of the cells that are there are the cells
+pub cells-from_integers : (coded : Coded) (integers : List ℤ) → AreCodes coded → length coded.present ≡ length coded.codes
+    → ((i : ℕ) → i < length coded.codes → IsCode coded.book (slice_index coded.codes i) → value_at coded.book coded.codes i ≡ values.Int (slice_index_or integers i (pos 0)))
+    → cells_of coded ≡ integer_cells coded.present integers
+cells-from_integers coded integers are len each =
+    let n = length coded.codes in
+    let integer = λ (i : ℕ). if slice_index_or coded.present i false then Some (values.Int (slice_index_or integers i (pos 0))) else None in
+    fill_by_all integer (cells_of coded) n None (length-map-range_with_len (cell_at coded) 0 n)
+    (λ k within. get_or-map-range_with_len (cell_at coded) 0 n k k None within (omega arith)
+    ∙ cell_same (slice_index_or coded.present k false) (value_at coded.book coded.codes k) (values.Int (slice_index_or integers k (pos 0)))
+    (λ there. each k within (are k within there)))
+    ∙ ap (λ m. map integer (range_with_len 0 m)) (sym len)
+
+ints_no_texts : kinds.Ints ≡ kinds.Texts → ⊥
+ints_no_texts e = cc
+
+-- a book of texts is its entries
+pub cells-from_texts : (coded : Coded) → kind_of coded.book ≡ kinds.Texts → cells_of coded ≡ text_cells (entries coded.book) coded.present coded.codes
+cells-from_texts coded is = ap (λ book. cells_of (record { present = coded.present; codes = coded.codes; book = book })) (book_is coded.book is)
+  where
+    book_is : (book : Codebook) → kind_of book ≡ kinds.Texts → book ≡ Entries (entries book)
+    book_is (Base base) e = absurd (ints_no_texts e)
+    book_is (Anchors anchors) e = absurd (ints_no_texts e)
+    book_is (Entries texts) e = refl
+
+pub below-from_texts : (book : Codebook) (code : ℕ) → kind_of book ≡ kinds.Texts → IsCode book code → code < length (entries book)
+below-from_texts (Base base) code e is = absurd (ints_no_texts e)
+below-from_texts (Anchors anchors) code e is = absurd (ints_no_texts e)
+below-from_texts (Entries texts) code e is = is

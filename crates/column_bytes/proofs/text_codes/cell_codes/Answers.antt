@@ -1,0 +1,18 @@
+use Rattle.std.proofs.Common.{length, None, ap, ◌∙◌, arith}
+use Rattle.std.proofs.lemmas.List.{get_or_default, length_push}
+use Rattle.column_bytes.proofs.Distinct.{coded_more}
+use Rattle.column_bytes.proofs.text_codes.cell_codes.Goals as goal
+
+pub loop-cell-preserved : goal.loop-cell-preserved
+loop-cell-preserved c =
+    let cells = c.args.cells.now in let i = c.loop-cell.cell-index in
+    let codes = c.loop-cell.codes.items in
+    let found = c.in_ok-last.ensures in
+    let was = c.loop-cell.invariant in
+    record {
+      texts = found.texts was.texts;
+      few = omega (arith, found.grows, was.few);
+      same = omega (arith, ap length c.in_ok-push.ensures.items, length_push codes c.in_ok-last.last, was.same);
+      each = coded_more cells codes c.push.new.self.items c.loop-cell.set c.code_or.new.set i c.in_ok-last.last was.same c.in_ok-push.ensures.items found.kept
+          (λ value e. found.code value (c.cell-item.is ∙ get_or_default cells i c.cell-item.result None c.loop-cell-test.true ∙ e)) was.each;
+    }

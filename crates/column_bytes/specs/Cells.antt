@@ -1,0 +1,110 @@
+-- What presence, codes and what the codes stand for mean together: a list of cells.
+use Rattle.std.specs.Prelude.{◌≡◌, ℕ, ◌*◌, ◌<◌, Bool, true, false, List, [], length, map, slice_index, slice_index_or, ℤ, pos, ◌+ℤ◌, FitsSigned, Option, Some, None, if◌then◌else◌}
+use Rattle.std.specs.List.{range_with_len}
+use Rattle.std.specs.Int.{w64, div_ceil}
+use Rattle.bit_columns.specs.Bits.{codes, is_present, BitString, PackedCodes}
+use Rattle.delta_codes.specs.Slots.{slot}
+use Rattle.leaf_model.specs.declared.rows.Value.{Value}
+use Rattle.leaf_model.specs.declared.rows.Value.TheVariants as values
+use Rattle.column_bytes.specs.declared.kind.Kind.{Kind}
+use Rattle.column_bytes.specs.declared.kind.Kind.TheVariants as kinds
+use Rattle.column_bytes.specs.declared.form.Form.{Form}
+use Rattle.column_bytes.specs.declared.form.Form.TheVariants as forms
+use Rattle.column_bytes.specs.declared.value.ValueRef.{ValueRef}
+use Rattle.column_bytes.specs.declared.value.ValueRef.TheVariants as seen
+use Rattle.column_bytes.specs.Fields.{i64_at}
+use Rattle.column_bytes.specs.Dictionary.{IsDictionary, texts_at}
+
+-- what codes stand for: a base to be added to, differences between anchors, or texts
+pub data Codebook : Type 0 where
+  Base : ℤ → Codebook
+  Anchors : List ℤ → Codebook
+  Entries : List (List ℕ) → Codebook
+
+-- which cells are there, a code for each cell, and what the codes stand for
+pub record Coded : Type 0 where
+  pub present : List Bool
+  pub codes : List ℕ
+  pub book : Codebook
+
+-- the value of the cell at a place
+abbrev pub value_at : Codebook → List ℕ → ℕ → Value
+value_at (Base base) codes i = values.Int (base +ℤ pos (slice_index codes i))
+value_at (Anchors anchors) codes i = values.Int (slot anchors codes i)
+value_at (Entries texts) codes i = values.Text (slice_index_or texts (slice_index codes i) [])
+
+-- the cell at a place, or nothing where it is missing
+abbrev pub cell_at : Coded → ℕ → Option Value
+cell_at coded i = if slice_index_or coded.present i false then Some (value_at coded.book coded.codes i) else None
+
+-- the cells in order
+abbrev pub cells_of : Coded → List (Option Value)
+cells_of coded = map (cell_at coded) (range_with_len 0 (length coded.codes))
+
+-- the cells that integers are
+abbrev pub integer_cells : List Bool → List ℤ → List (Option Value)
+integer_cells present integers =
+    map (λ i. if slice_index_or present i false then Some (values.Int (slice_index_or integers i (pos 0))) else None) (range_with_len 0 (length present))
+
+-- the cells that codes of texts are
+abbrev pub text_cells : List (List ℕ) → List Bool → List ℕ → List (Option Value)
+text_cells texts present codes = cells_of (record { present = present; codes = codes; book = Entries texts })
+
+-- a code that stands for a value
+abbrev pub IsCode : Codebook → ℕ → Type 0
+IsCode (Base base) code = FitsSigned w64 (base +ℤ pos code)
+IsCode (Anchors anchors) code = Unit {0}
+IsCode (Entries texts) code = code < length texts
+
+-- each cell that is there has such a code
+abbrev pub AreCodes : Coded → Type 0
+AreCodes coded = (i : ℕ) → i < length coded.codes → slice_index_or coded.present i false ≡ true → IsCode coded.book (slice_index coded.codes i)
+
+abbrev pub kind_of : Codebook → Kind
+kind_of (Base base) = kinds.Ints
+kind_of (Anchors anchors) = kinds.Ints
+kind_of (Entries texts) = kinds.Texts
+
+-- the texts that codes stand for, in the order of their codes
+abbrev pub entries : Codebook → List (List ℕ)
+entries (Base base) = []
+entries (Anchors anchors) = []
+entries (Entries texts) = texts
+
+-- a cell's value, behind a loan
+abbrev pub value_of : ValueRef → Value
+value_of (seen.Int n) = values.Int n
+value_of (seen.Text text) = values.Text text.now
+
+-- ---- what the parts of a column mean
+
+-- the i64s that stand one after the other in the extra part of the delta form, one for each 64 cells begun
+abbrev pub anchors_at : ℕ → List ℕ → List ℤ
+anchors_at n extra = map (λ k. i64_at extra (8 * k)) (range_with_len 0 (div_ceil n 64))
+
+abbrev pub book_of : Form → ℕ → List ℕ → Codebook
+book_of forms.Offset n extra = Base (i64_at extra 0)
+book_of forms.Delta n extra = Anchors (anchors_at n extra)
+book_of forms.Dictionary n extra = Entries (texts_at extra)
+
+-- one i64, an i64 for each 64 cells begun, or a dictionary
+abbrev pub IsExtra : Form → ℕ → List ℕ → Type 0
+IsExtra forms.Offset n extra = length extra ≡ 8
+IsExtra forms.Delta n extra = length extra ≡ 8 * div_ceil n 64
+IsExtra forms.Dictionary n extra = IsDictionary extra
+
+-- whether a cell is there: each is, where there are no presence bits
+abbrev pub is_there : Option BitString → ℕ → Bool
+is_there None i = true
+is_there (Some bits) i = is_present bits.bytes i
+
+abbrev pub there : Option BitString → ℕ → List Bool
+there presence n = map (is_there presence) (range_with_len 0 n)
+
+-- what n cells in these parts mean
+abbrev pub coded_of : Form → ℕ → Option BitString → PackedCodes → List ℕ → Coded
+coded_of form n presence packed extra = record {
+  present = there presence n;
+  codes = codes packed.bytes packed.width n;
+  book = book_of form n extra;
+}

@@ -1,0 +1,13 @@
+-- What a view of a column keeps true of the parts that it holds.
+use Rattle.std.specs.Prelude.{◌≡◌, ℕ, ◌<◌, ◌≤◌, List, Option, IfSome}
+use Rattle.bit_columns.specs.Bits.{BitString, PackedCodes}
+use Rattle.column_bytes.specs.declared.form.Form.{Form}
+use Rattle.column_bytes.specs.Cells.{coded_of, IsExtra, AreCodes}
+
+pub record IsHeld (form : Form) (n : ℕ) (bits : Option BitString) (packed : PackedCodes) (part : List ℕ) : Type 0 where
+  pub some : 0 < n
+  pub few : n ≤ 65536
+  pub presence : IfSome bits (λ found. found.count ≡ n)
+  pub codes : packed.count ≡ n
+  pub extra : IsExtra form n part
+  pub each : AreCodes (coded_of form n bits packed part)

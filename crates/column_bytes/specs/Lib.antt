@@ -1,0 +1,6 @@
+pub mod Fields
+pub mod Dictionary
+pub mod Cells
+pub mod Column
+pub mod Held
+pub mod Coding

@@ -1,0 +1,82 @@
+// A column of cells as bytes.
+ghost use Rattle.std.specs.Prelude.{◌≡◌, ◌<◌, ◌≤◌, ◌↔◌, ℕ, length, IfOk, IfSome, IsTrue};
+ghost use Rattle.column_bytes.specs.Column.{HasCells, kind_in};
+ghost use Rattle.column_bytes.specs.Coding.{AreOfKind, IsOfKind};
+
+use crate::integers::encode_integers;
+use crate::kind::Kind;
+use crate::text_codes::encode_texts;
+use leaf_model::Value;
+use std::alloc::{AllocError, Global};
+use std::marker::Model;
+
+/// A column as one run of bytes, whose inner places are offsets from its first. Contracts see the bytes.
+#[derive(Debug, Drop)]
+pub struct Column {
+    bytes: Vec<u8>,
+}
+
+impl Model for Column {
+    ghost use Rattle.std.specs.Prelude.{List, ℕ};
+
+    ghost Value = { List ℕ };
+
+    ghost view = { λ column. column.bytes.items };
+}
+
+impl Column {
+    pub fn bytes(&self) -> &[u8]
+        ensures { result.now ≡ self.now }
+    {
+        self.bytes.as_slice()
+    }
+
+    pub fn into_bytes(self) -> Vec<u8>
+        ensures { result.items ≡ self }
+    {
+        self.bytes
+    }
+}
+
+fn is_of_kind(kind: Kind, cell: &Option<Value>) -> bool
+    ensures { IsTrue result ↔ IfSome cell.now (IsOfKind kind) }
+{
+    match cell {
+        None => true,
+        Some(Value::Int(_)) => kind == Kind::Ints,
+        Some(Value::Text(text)) => kind == Kind::Texts && text.as_str().len() <= 65535,
+    }
+}
+
+/// Whether each cell that is there is of the kind, and no text has more than 65,535 bytes.
+pub fn are_of_kind(kind: Kind, cells: &[Option<Value>]) -> bool
+    ensures { IsTrue result ↔ AreOfKind kind cells.now }
+{
+    for cell in cells {
+        if !is_of_kind(kind, cell) {
+            return false;
+        }
+    }
+    true
+}
+
+/// The bytes of a column of 1 to 65,536 cells, each that is there of the kind: integers in the form that takes fewer bytes,
+/// and codes of the least width that holds them.
+pub fn encode(alloc: Global, kind: Kind, cells: &[Option<Value>]) -> Result<Column, AllocError>
+    requires some { 0 < length cells.now }
+    requires few { length cells.now ≤ 65536 }
+    requires kind { AreOfKind kind cells.now }
+    ensures cells { IfOk result (λ column. HasCells column (length cells.now) cells.now) }
+    ensures kind { IfOk result (λ column. kind_in column ≡ kind) }
+{
+    match kind {
+        Kind::Ints => {
+            let bytes = encode_integers(alloc, cells)?;
+            Ok(Column { bytes })
+        }
+        Kind::Texts => {
+            let bytes = encode_texts(alloc, cells)?;
+            Ok(Column { bytes })
+        }
+    }
+}

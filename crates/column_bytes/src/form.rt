@@ -1,0 +1,12 @@
+// How the cells of a column are coded.
+
+// What the codes of a column stand for.
+#[derive(Debug, Clone, Copy, PartialEq, Eq)]
+pub(crate) enum Form {
+    // What is to be added to one base.
+    Offset,
+    // Differences between neighbours, with an anchor at each 64th place.
+    Delta,
+    // Places of texts in a dictionary.
+    Dictionary,
+}

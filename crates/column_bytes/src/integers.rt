@@ -1,0 +1,168 @@
+// Coding integers: by offsets from the least, or by the differences between neighbours.
+ghost use Rattle.std.specs.Prelude.{◌≡◌, ℕ, ◌+◌, ◌*◌, ◌<◌, ◌≤◌, ◌^◌, length, IfOk, IfSome, Some, pos, ◌+ℤ◌, ◌≤ℤ◌, FitsSigned, slice_index, slice_index_or, Option};
+ghost use Rattle.std.specs.Int.{w64};
+ghost use Rattle.leaf_model.specs.declared.rows.Value.{Value};
+ghost use Rattle.leaf_model.specs.declared.rows.Value.TheVariants.{Int};
+ghost use Rattle.column_bytes.specs.declared.kind.Kind.TheVariants.{Ints};
+ghost use Rattle.column_bytes.specs.Fields.{i64_at};
+ghost use Rattle.column_bytes.specs.Cells.{IsExtra, book_of, kind_of};
+ghost use Rattle.column_bytes.specs.Column.{HasCells, kind_in};
+ghost use Rattle.column_bytes.specs.Coding.{IsOfKind, AreOfKind, AreIntegers, AreCodesOf};
+
+use crate::form::Form;
+use crate::writer::{put_u64, write};
+use bit_columns::width_of;
+use delta_codes::delta;
+use leaf_model::Value;
+use std::alloc::{AllocError, Global};
+
+// The first integer that is there, or 0.
+fn first_integer(cells: &[Option<Value>]) -> i64 {
+    for cell in cells {
+        if let Some(Value::Int(integer)) = cell {
+            return *integer;
+        }
+    }
+    0
+}
+
+// The integer of a cell, or the one before where it is missing.
+fn integer_or(cell: &Option<Value>, before: i64) -> i64
+    requires { IfSome cell.now (IsOfKind Ints) }
+    ensures { (value : Value) → cell.now ≡ Some value → value ≡ Int result }
+{
+    match cell {
+        Some(Value::Int(integer)) => *integer,
+        Some(Value::Text(_)) | None => before,
+    }
+}
+
+// An integer for each cell. A missing one has that of the cell before, so that it makes no code longer.
+pub(crate) fn integers_of(alloc: Global, cells: &[Option<Value>]) -> Result<Vec<i64>, AllocError>
+    requires { AreOfKind Ints cells.now }
+    ensures { IfOk result (λ integers. AreIntegers cells.now integers.items) }
+{
+    let mut last = first_integer(cells);
+    let mut integers = Vec::with_capacity(alloc, cells.len())?;
+    for cell in cells {
+        last = integer_or(cell, last);
+        integers.push(last)?;
+    }
+    Ok(integers)
+}
+
+fn least_of(integers: &[i64]) -> i64
+    requires { 0 < length integers.now }
+    ensures { (i : ℕ) → i < length integers.now → result ≤ℤ slice_index_or integers.now i (pos 0) }
+{
+    let mut least = integers[0];
+    for integer in integers {
+        least = least.min(*integer);
+    }
+    least
+}
+
+fn offset_codes(alloc: Global, integers: &[i64], base: i64) -> Result<Vec<u64>, AllocError>
+    requires { (i : ℕ) → i < length integers.now → base ≤ℤ slice_index_or integers.now i (pos 0) }
+    ensures same { IfOk result (λ codes. length codes.items ≡ length integers.now) }
+    ensures each { IfOk result (λ codes. (i : ℕ) → i < length integers.now → base +ℤ pos (slice_index codes.items i) ≡ slice_index_or integers.now i (pos 0)) }
+    ensures fit { IfOk result (λ codes. (i : ℕ) → i < length integers.now → FitsSigned w64 (slice_index_or integers.now i (pos 0))) }
+{
+    let mut codes = Vec::with_capacity(alloc, integers.len())?;
+    for integer in integers {
+        codes.push(integer.abs_diff(base))?;
+    }
+    Ok(codes)
+}
+
+fn integer_bytes(alloc: Global, integers: &[i64]) -> Result<Vec<u8>, AllocError>
+    requires { length integers.now ≤ 65536 }
+    ensures len { IfOk result (λ bytes. length bytes.items ≡ 8 * length integers.now) }
+    ensures each { IfOk result (λ bytes. (i : ℕ) → i < length integers.now → i64_at bytes.items (8 * i) ≡ slice_index_or integers.now i (pos 0)) }
+{
+    let mut bytes = Vec::with_capacity(alloc, 8 * integers.len())?;
+    for integer in integers {
+        put_u64(&mut bytes, integer.cast_unsigned())?;
+    }
+    Ok(bytes)
+}
+
+// The codes of some integers, and what stands behind them.
+#[derive(Drop)]
+pub(crate) struct Coding {
+    pub codes: Vec<u64>,
+    pub extra: Vec<u8>,
+}
+
+impl Coding {
+    // How many bytes the codes and what stands behind them take.
+    fn size(&self) -> usize
+        requires codes { length self.now.codes.items ≤ 65536 }
+        requires extra { length self.now.extra.items ≤ 2 ^ 40 }
+    {
+        let bits = self.codes.len() * width_of(&self.codes) as usize;
+        bits.div_ceil(8) + self.extra.len()
+    }
+}
+
+fn offset_coding(alloc: Global, integers: &[i64]) -> Result<Coding, AllocError>
+    requires some { 0 < length integers.now }
+    ensures extra { IfOk result (λ coding. length coding.extra.items ≡ 8) }
+    ensures codes { IfOk result (λ coding. AreCodesOf integers.now coding.codes.items (book_of Form.Offset (length integers.now) coding.extra.items)) }
+{
+    let base = least_of(integers);
+    let codes = offset_codes(alloc, integers, base)?;
+    let extra = integer_bytes(alloc, &[base])?;
+    Ok(Coding { codes, extra })
+}
+
+pub(crate) fn delta_coding(alloc: Global, integers: &[i64]) -> Result<Coding, AllocError>
+    requires few { length integers.now ≤ 65536 }
+    ensures extra { IfOk result (λ coding. IsExtra Form.Delta (length integers.now) coding.extra.items) }
+    ensures codes { IfOk result (λ coding. AreCodesOf integers.now coding.codes.items (book_of Form.Delta (length integers.now) coding.extra.items)) }
+{
+    let deltas = delta(alloc, integers)?;
+    let extra = integer_bytes(alloc, deltas.anchors.as_slice())?;
+    Ok(Coding {
+        codes: deltas.codes.into_inner(),
+        extra,
+    })
+}
+
+// The column of the integers in one form.
+pub(crate) fn write_integers(
+    alloc: Global,
+    form: Form,
+    cells: &[Option<Value>],
+    integers: &[i64],
+    coding: &Coding,
+) -> Result<Vec<u8>, AllocError>
+    requires some { 0 < length cells.now }
+    requires few { length cells.now ≤ 65536 }
+    requires integers { AreIntegers cells.now integers.now }
+    requires extra { IsExtra form (length integers.now) coding.now.extra.items }
+    requires small { length coding.now.extra.items ≤ 2 ^ 40 }
+    requires codes { AreCodesOf integers.now coding.now.codes.items (book_of form (length integers.now) coding.now.extra.items) }
+    ensures cells { IfOk result (λ bytes. HasCells bytes.items (length cells.now) cells.now) }
+    ensures kind { IfOk result (λ bytes. kind_in bytes.items ≡ kind_of (book_of form (length cells.now) coding.now.extra.items)) }
+{
+    write(alloc, form, cells, &coding.codes, &coding.extra)
+}
+
+/// The bytes of a column of integers, in the form that takes fewer.
+pub(crate) fn encode_integers(alloc: Global, cells: &[Option<Value>]) -> Result<Vec<u8>, AllocError>
+    requires some { 0 < length cells.now }
+    requires few { length cells.now ≤ 65536 }
+    requires kind { AreOfKind Ints cells.now }
+    ensures cells { IfOk result (λ bytes. HasCells bytes.items (length cells.now) cells.now) }
+    ensures kind { IfOk result (λ bytes. kind_in bytes.items ≡ Ints) }
+{
+    let integers = integers_of(alloc, cells)?;
+    let offset = offset_coding(alloc, &integers)?;
+    let delta = delta_coding(alloc, &integers)?;
+    if delta.size() < offset.size() {
+        write_integers(alloc, Form::Delta, cells, &integers, &delta)
+    } else {
+        write_integers(alloc, Form::Offset, cells, &integers, &offset)
+    }
+}

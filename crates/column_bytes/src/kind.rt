@@ -1,0 +1,10 @@
+// What a column holds.
+
+/// What the cells of a column that are there hold.
+#[derive(Debug, Clone, Copy, PartialEq, Eq)]
+pub enum Kind {
+    /// Integers of 64 bits.
+    Ints,
+    /// Texts of at most 65,535 bytes.
+    Texts,
+}

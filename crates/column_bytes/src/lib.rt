@@ -1,0 +1,27 @@
+//! One column of a block as bytes: packed codes, presence, and what the codes stand for, behind a header of offsets.
+#![tactic(auto)]
+
+mod column;
+mod fields;
+mod form;
+mod header;
+mod in_order;
+mod integers;
+mod kind;
+mod laws;
+mod slots;
+#[cfg(test)]
+mod tests;
+mod text_codes;
+mod text_set;
+mod texts;
+mod value;
+mod view;
+mod writer;
+
+pub use column::{Column, are_of_kind, encode};
+pub use kind::Kind;
+pub use laws::one_reading;
+pub use text_codes::{Dict, dictionary};
+pub use value::ValueRef;
+pub use view::{ColumnView, NoColumn};

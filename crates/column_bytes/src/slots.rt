@@ -1,0 +1,25 @@
+// Integers of the delta form.
+ghost use Rattle.std.specs.Prelude.{◌≡◌, ◌*◌, ◌<◌, ◌≤◌, length};
+ghost use Rattle.std.specs.Int.{div_ceil};
+ghost use Rattle.bit_columns.specs.Bits.{codes};
+ghost use Rattle.delta_codes.specs.Slots.{slot};
+ghost use Rattle.column_bytes.specs.Cells.{anchors_at};
+
+use crate::fields::i64_at;
+use bit_columns::Packed;
+use delta_codes::undo;
+
+/// The integer at a place: the anchor before it, and the differences since, of which there are at most 63.
+pub(crate) fn slot_at(packed: &Packed, extra: &[u8], i: u32) -> i64
+    requires inside { i < packed.now.count }
+    requires few { packed.now.count ≤ 65536 }
+    requires anchored { length extra.now ≡ 8 * div_ceil packed.now.count 64 }
+    ensures { result ≡ slot (anchors_at packed.now.count extra.now) (codes packed.now.bytes packed.now.width packed.now.count) i }
+{
+    let first = i - i % 64;
+    let mut value = i64_at(extra, first as usize / 8);
+    for k in first + 1..i + 1 {
+        value = undo(value, packed.get(k));
+    }
+    value
+}

@@ -1,0 +1,299 @@
+// A column in bytes that are lent.
+ghost use Rattle.std.specs.Prelude.{◌≡◌, ℕ, ◌+◌, ◌*◌, ◌^◌, ◌<◌, ◌≤◌, ◌==◌, ◌↔◌, Bool, true, List, length, pos, ◌+ℤ◌, FitsSigned, [], false, slice_index, slice_index_or, Option, IfOk, IsOk, IsTrue, IsSome, IfSome, Some, None, option_map, if◌then◌else◌, MatchOption, slice_range};
+ghost use Rattle.std.specs.Int.{w64, div_ceil};
+ghost use Rattle.bit_columns.specs.Bits.{code, codes};
+ghost use Rattle.leaf_model.specs.declared.rows.Value.{Value};
+ghost use Rattle.column_bytes.specs.declared.kind.Kind.TheVariants.{Ints, Texts};
+ghost use Rattle.column_bytes.specs.declared.form.Form.{Form};
+ghost use Rattle.column_bytes.specs.Cells.{Coded, coded_of, cells_of, cell_at, value_at, value_of, kind_of, entries, integer_cells, text_cells, is_there, IsCode, IsExtra, AreCodes, book_of};
+ghost use Rattle.column_bytes.specs.Column.{HasCells, IsColumn, IsPresence, coded_in, kind_in, presence_bits};
+
+use crate::fields::i64_at;
+use crate::form::Form;
+use crate::header::{HEADER_LEN, Header, header_of};
+use crate::in_order::{fill_present, fill_values, offset_sum};
+use crate::kind::Kind;
+use crate::slots::slot_at;
+use crate::texts::{is_dictionary, text_count, text_of};
+use crate::value::ValueRef;
+use bit_columns::{Packed, PresenceBits};
+use leaf_model::Steps;
+use std::marker::Model;
+use std::sync::ledger::Ledger;
+
+/// The bytes mean no list of cells.
+#[derive(Debug, Clone, Copy, PartialEq, Eq)]
+pub struct NoColumn;
+
+/// A column in bytes that are lent. Contracts see which cells are there, their codes, and what codes stand for.
+#[derive(Drop)]
+pub struct ColumnView<'a> {
+    form: Form,
+    count: u32,
+    presence: Option<PresenceBits<'a>>,
+    packed: Packed<'a>,
+    extra: &'a [u8],
+}
+
+impl<'a> Model for ColumnView<'a> {
+    ghost use Rattle.column_bytes.specs.Cells.{Coded, coded_of};
+    ghost use Rattle.column_bytes.specs.Held.{IsHeld};
+
+    ghost Value = { Coded };
+
+    ghost view = { λ column. coded_of column.form column.count column.presence column.packed column.extra.now };
+
+    ghost invariant = { λ column. IsHeld column.form column.count column.presence column.packed column.extra.now };
+}
+
+// The base and what is to be added to it, which the column's reading found to be an i64.
+fn offset_value(base: i64, code: u64) -> i64
+    requires { FitsSigned w64 (base +ℤ pos code) }
+    ensures { result ≡ base +ℤ pos code }
+{
+    offset_sum(base, code)
+}
+
+fn presence_of(part: &[u8], all_there: bool, count: u32) -> Option<Option<PresenceBits<'_>>>
+    ensures exact { IsSome result ↔ IsPresence (presence_bits all_there part.now count) part.now count }
+    ensures view { IfSome result (λ presence. presence ≡ presence_bits all_there part.now count) }
+{
+    if !all_there {
+        return PresenceBits::view(part, count).map(Some);
+    }
+    if part.is_empty() { Some(None) } else { None }
+}
+
+fn is_extra(form: Form, extra: &[u8], count: u32) -> bool
+    ensures { IsTrue result ↔ IsExtra form count extra.now }
+{
+    match form {
+        Form::Offset => extra.len() == 8,
+        Form::Delta => extra.len() == 8 * count.div_ceil(64) as usize,
+        Form::Dictionary => is_dictionary(extra),
+    }
+}
+
+fn is_there(presence: &Option<PresenceBits>, i: u32) -> bool
+    requires { IfSome presence.now (λ bits. i < bits.count) }
+    ensures { result ≡ is_there presence.now i }
+{
+    match presence {
+        None => true,
+        Some(bits) => bits.get(i),
+    }
+}
+
+// Whether a code stands for a value.
+fn is_code(form: Form, extra: &[u8], count: u32, code: u64) -> bool
+    requires { IsExtra form count extra.now }
+    ensures { IsTrue result ↔ IsCode (book_of form count extra.now) code }
+{
+    match form {
+        Form::Offset => i64_at(extra, 0).checked_add_unsigned(code).is_some(),
+        Form::Delta => true,
+        Form::Dictionary => code < u64::from(text_count(extra)),
+    }
+}
+
+// Whether each cell that is there has a code that stands for a value, one by one.
+fn is_each_code(
+    form: Form,
+    count: u32,
+    presence: &Option<PresenceBits>,
+    packed: &Packed,
+    extra: &[u8],
+) -> bool
+    requires few { count ≤ 65536 }
+    requires presence { IfSome presence.now (λ bits. bits.count ≡ count) }
+    requires codes { packed.now.count ≡ count }
+    requires extra { IsExtra form count extra.now }
+    ensures { IsTrue result ↔ AreCodes (coded_of form count presence.now packed.now extra.now) }
+{
+    for i in 0..count {
+        if is_there(presence, i) && !is_code(form, extra, count, packed.get(i)) {
+            return false;
+        }
+    }
+    true
+}
+
+// The greatest code of a width.
+fn greatest_code(width: u8) -> u64
+    requires { width ≤ 64 }
+    ensures { result + 1 ≡ 2 ^ width }
+{
+    if width < 64 {
+        (1 << width) - 1
+    } else {
+        u64::MAX
+    }
+}
+
+// Whether each cell that is there has a code that stands for a value. Where the least and the greatest code of the width
+// do, all do.
+fn are_codes(
+    header: &Header,
+    presence: &Option<PresenceBits>,
+    packed: &Packed,
+    extra: &[u8],
+) -> bool
+    requires few { header.now.count ≤ 65536 }
+    requires width { header.now.width ≤ 64 }
+    requires presence { IfSome presence.now (λ bits. bits.count ≡ header.now.count) }
+    requires codes { packed.now.count ≡ header.now.count }
+    requires same { packed.now.width ≡ header.now.width }
+    requires extra { IsExtra header.now.form header.now.count extra.now }
+    ensures { IsTrue result ↔ AreCodes (coded_of header.now.form header.now.count presence.now packed.now extra.now) }
+{
+    let greatest = greatest_code(header.width);
+    if is_code(header.form, extra, header.count, 0)
+        && is_code(header.form, extra, header.count, greatest)
+    {
+        return true;
+    }
+    is_each_code(header.form, header.count, presence, packed, extra)
+}
+
+fn value_in<'a>(form: Form, packed: &Packed, extra: &'a [u8], i: u32) -> ValueRef<'a>
+    requires few { packed.now.count ≤ 65536 }
+    requires inside { i < packed.now.count }
+    requires extra { IsExtra form packed.now.count extra.now }
+    requires code { IsCode (book_of form packed.now.count extra.now) (code packed.now.bytes packed.now.width i) }
+    ensures { value_of result ≡ value_at (book_of form packed.now.count extra.now) (codes packed.now.bytes packed.now.width packed.now.count) i }
+{
+    match form {
+        Form::Offset => ValueRef::Int(offset_value(i64_at(extra, 0), packed.get(i))),
+        Form::Delta => ValueRef::Int(slot_at(packed, extra, i)),
+        Form::Dictionary => ValueRef::Text(text_of(extra, packed.get(i) as usize)),
+    }
+}
+
+// The column that the bytes are. None exactly where they are none.
+pub(crate) fn view_of(bytes: &[u8]) -> Option<ColumnView<'_>>
+    ensures column { IfSome result (λ view. (form : Form) × IsColumn bytes.now form × (view ≡ coded_in form bytes.now)) }
+    ensures only { (form : Form) → IsColumn bytes.now form → IsSome result }
+{
+    let Some(header) = header_of(bytes) else {
+        return None;
+    };
+    let part = &bytes[HEADER_LEN..header.codes_from];
+    let Some(presence) = presence_of(part, header.all_there, header.count) else {
+        return None;
+    };
+    let part = &bytes[header.codes_from..header.extra_from];
+    let Some(packed) = Packed::view(part, header.count, header.width) else {
+        return None;
+    };
+    let extra = &bytes[header.extra_from..];
+    if !is_extra(header.form, extra, header.count)
+        || !are_codes(&header, &presence, &packed, extra)
+    {
+        return None;
+    }
+    Some(ColumnView {
+        form: header.form,
+        count: header.count,
+        presence,
+        packed,
+        extra,
+    })
+}
+
+impl<'a> ColumnView<'a> {
+    /// The column that the bytes are. NoColumn exactly where they mean no list of cells. It takes one step.
+    pub fn read<L: Ledger>(
+        bytes: &'a [u8],
+        steps: &mut Steps<L>,
+    ) -> Result<ColumnView<'a>, NoColumn>
+        ensures accepted { IfOk result (λ view. HasCells bytes.now (length view.codes) (cells_of view)) }
+        ensures kind { IfOk result (λ view. kind_of view.book ≡ kind_in bytes.now) }
+        ensures exact { (n : ℕ) (cells : List (Option Value)) → HasCells bytes.now n cells → IsOk result }
+        ensures step { steps.new ≡ steps.old + 1 }
+    {
+        steps.tick();
+        match view_of(bytes) {
+            Some(view) => Ok(view),
+            None => Err(NoColumn),
+        }
+    }
+
+    /// What the cells that are there hold.
+    pub fn kind(&self) -> Kind
+        ensures { result ≡ kind_of self.now.book }
+    {
+        match self.form {
+            Form::Offset | Form::Delta => Kind::Ints,
+            Form::Dictionary => Kind::Texts,
+        }
+    }
+
+    /// How many cells there are, missing ones among them: 1 to 65,536.
+    pub fn len(&self) -> u32
+        ensures len { result ≡ length self.now.codes }
+        ensures some { 0 < result }
+        ensures few { result ≤ 65536 }
+    {
+        self.count
+    }
+
+    /// The cell at a place, or None where it is missing. In the delta form up to 63 differences are added.
+    pub fn cell(&self, i: u32) -> Option<ValueRef<'a>>
+        requires { i < length self.now.codes }
+        ensures { option_map value_of result ≡ cell_at self.now i }
+    {
+        if is_there(&self.presence, i) {
+            Some(value_in(self.form, &self.packed, self.extra, i))
+        } else {
+            None
+        }
+    }
+
+    /// The integers of a column of integers, in order: which cells are there, and their values.
+    /// Each slice has a place for each cell. The codes are written as well; the value of a missing cell means nothing.
+    pub fn integers(&self, codes: &mut [u64], present: &mut [bool], values: &mut [i64])
+        requires kind { kind_of self.now.book ≡ Ints }
+        requires codes { length codes.old ≡ length self.now.codes }
+        requires present { length present.old ≡ length self.now.codes }
+        requires values { length values.old ≡ length self.now.codes }
+        ensures { cells_of self.now ≡ integer_cells present.new values.new }
+    {
+        self.packed.fill(codes);
+        fill_present(&self.presence, present);
+        fill_values(self.form, self.extra, codes, values);
+    }
+
+    /// The codes of a column of texts, in order: which cells are there, and the codes of their texts.
+    /// Each slice has a place for each cell. The code of a missing cell means nothing.
+    pub fn codes(&self, codes: &mut [u64], present: &mut [bool])
+        requires kind { kind_of self.now.book ≡ Texts }
+        requires codes { length codes.old ≡ length self.now.codes }
+        requires present { length present.old ≡ length self.now.codes }
+        ensures cells { cells_of self.now ≡ text_cells (entries self.now.book) present.new codes.new }
+        ensures below { (i : ℕ) → i < length self.now.codes → slice_index_or present.new i false ≡ true → slice_index codes.new i < length (entries self.now.book) }
+    {
+        self.packed.fill(codes);
+        fill_present(&self.presence, present);
+    }
+
+    /// How many texts the codes of a column of texts stand for; 0 in a column of integers.
+    pub fn texts(&self) -> u32
+        ensures { result ≡ length (entries self.now.book) }
+    {
+        match self.form {
+            Form::Offset | Form::Delta => 0,
+            Form::Dictionary => text_count(self.extra),
+        }
+    }
+
+    /// The text that a code stands for.
+    pub fn text(&self, code: u32) -> &'a str
+        requires { code < length (entries self.now.book) }
+        ensures { result.now ≡ slice_index_or (entries self.now.book) code [] }
+    {
+        match self.form {
+            Form::Offset | Form::Delta => unreachable!(),
+            Form::Dictionary => text_of(self.extra, code as usize),
+        }
+    }
+}
