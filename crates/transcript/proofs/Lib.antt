@@ -1,0 +1,11 @@
+pub mod Telling
+pub mod Growing
+pub mod Running
+pub mod Calling
+pub mod Adding
+pub mod Asking
+pub mod Ways
+pub mod Stewarding
+pub mod Starting
+pub mod Draining
+pub mod Playing

@@ -1,0 +1,6 @@
+pub mod Life
+pub mod Transcript
+pub mod Base
+pub mod Steps
+pub mod Session
+pub mod Laws

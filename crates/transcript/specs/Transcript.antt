@@ -1,0 +1,282 @@
+-- What a script prints: the lines of each command, the one history of each table, and the answers over those.
+use Rattle.std.specs.Prelude.{◌≡◌, ℕ, zero, suc, ◌+◌, ◌-◌, ◌*◌, ◌<◌, ◌≤◌, ◌==◌, Bool, true, false, ◌&&◌, ◌||◌, List, [], ◌∷◌, ◌++◌, length, map, take, count_by, decimal, Option, Some, None, slice_get, slice_set, ⊤, if◌then◌else◌, bytes_eq}
+use Rattle.std.specs.List.{flat_map, AllByRecursion}
+use Rattle.leaf_model.specs.declared.rows.Row.{Row}
+use Rattle.leaf_model.specs.declared.queries.Query.{Query}
+use Rattle.leaf_model.specs.declared.groups.Group.{Group}
+use Rattle.leaf_model.specs.Content.{Contents}
+use Rattle.leaf_model.specs.Groups.{passes}
+use Rattle.leaf_history.specs.Calls.{Call}
+use Rattle.leaf_history.specs.Calls as call
+use Rattle.leaf_history.specs.Replies as reply
+use Rattle.leaf_history.specs.History.{Entry, TableState, LegalFrom, after, held}
+use Rattle.script_text.specs.declared.command.Command.{Command}
+use Rattle.script_text.specs.declared.command.Command.TheVariants as command
+use Rattle.printed_lines.specs.declared.line.Said.{Said}
+use Rattle.printed_lines.specs.declared.line.Said.TheVariants.{Added, Asked, RefusedShut, RefusedFull, RefusedMemory, Opened, Closed, Handed}
+use Rattle.printed_lines.specs.declared.line.Verb.{Verb}
+use Rattle.printed_lines.specs.declared.line.Verb.TheVariants.{Drain, Start}
+use Rattle.printed_lines.specs.declared.line.Ending.{Ending}
+use Rattle.printed_lines.specs.declared.line.Ending.TheVariants.{Done, NotUp, NotDown, Started, FaultRegion, FaultMemory, FaultStranger}
+use Rattle.printed_lines.specs.declared.line.Line.{Line}
+use Rattle.printed_lines.specs.declared.line.Line.TheVariants as line
+use Rattle.printed_lines.specs.Lines.{lines_text}
+use Rattle.transcript.specs.Life.{Life, Starts, Drains}
+
+-- ---- what was played, and by which fleet
+
+-- a command and the lines that it printed
+pub record Played : Type 0 where
+  pub command : Command
+  pub lines : List Line
+
+pub record Fleet : Type 0 where
+  pub leaves : ℕ
+  pub names : List (List ℕ)
+
+-- the place of a name among the tables, or their number
+abbrev pub place_of : List ℕ → List (List ℕ) → ℕ
+place_of name [] = 0
+place_of name (n ∷ ns) = if bytes_eq name n then 0 else suc (place_of name ns)
+
+-- the fleet that a script's first command makes: none where there is no command
+abbrev pub fleet_of : List Command → Fleet
+fleet_of (command.Fleet machines per_machine tables ∷ more) = record { leaves = machines * per_machine; names = tables }
+fleet_of _ = record { leaves = 0; names = [] }
+
+-- what commands change: the leaves
+pub record Scene : Type 0 where
+  pub lives : List Life
+
+-- ---- the lines of each command, but for their numbers, and the scene behind it
+
+-- one line of an entry of this table
+abbrev pub EntryLine : (Said → Type 0) → ℕ → ℕ → List Line → Type 0
+EntryLine P leaf table lines = (number : ℕ) × (said : Said) × P said × (lines ≡ line.Entry leaf table number said ∷ [])
+
+abbrev pub IsAddSaid : Said → Type 0
+IsAddSaid (Added kept late) = ⊤
+IsAddSaid RefusedShut = ⊤
+IsAddSaid RefusedFull = ⊤
+IsAddSaid RefusedMemory = ⊤
+IsAddSaid Asked = ⊥
+IsAddSaid (Opened writes) = ⊥
+IsAddSaid (Closed writes) = ⊥
+IsAddSaid Handed = ⊥
+
+abbrev pub IsAskSaid : Said → Type 0
+IsAskSaid Asked = ⊤
+IsAskSaid RefusedShut = ⊤
+IsAskSaid RefusedMemory = ⊤
+IsAskSaid (Added kept late) = ⊥
+IsAskSaid RefusedFull = ⊥
+IsAskSaid (Opened writes) = ⊥
+IsAskSaid (Closed writes) = ⊥
+IsAskSaid Handed = ⊥
+
+-- one line for each leaf from `leaf` on, in their order
+abbrev pub AskLines : ℕ → ℕ → ℕ → List Line → Type 0
+AskLines leaf zero table lines = lines ≡ []
+AskLines leaf (suc count) table lines = (first rest : List Line) × EntryLine IsAskSaid leaf table first × AskLines (suc leaf) count table rest × (lines ≡ first ++ rest)
+
+-- the leaves that the lines name, each with the number of its entry
+abbrev pub named_by : ℕ → ℕ → Said → List (ℕ × ℕ)
+named_by leaf number Asked = (leaf, number) ∷ []
+named_by leaf number (Added kept late) = []
+named_by leaf number RefusedShut = []
+named_by leaf number RefusedFull = []
+named_by leaf number RefusedMemory = []
+named_by leaf number (Opened writes) = []
+named_by leaf number (Closed writes) = []
+named_by leaf number Handed = []
+
+abbrev pub named_in : Line → List (ℕ × ℕ)
+named_in (line.Entry leaf table number said) = named_by leaf number said
+named_in (line.Answer named leaves rows) = []
+named_in (line.Ended verb leaf ending) = []
+
+abbrev pub named : List Line → List (ℕ × ℕ)
+named lines = flat_map named_in lines
+
+-- the lines of the leaves, and then the answer, which tells how many were named
+abbrev pub QueryLines : Fleet → Query → List Line → Type 0
+QueryLines fleet q lines =
+    (asks : List Line) × (rows : List (List ℕ)) × AskLines 0 fleet.leaves (place_of q.table fleet.names) asks
+    × (lines ≡ asks ++ line.Answer (length (named asks)) fleet.leaves rows ∷ [])
+
+-- one leaf's command
+abbrev pub OfLeaf : ℕ → Scene → Scene → (Life → Life → Type 0) → Type 0
+OfLeaf leaf scene next R = (life life' : Life) × (slice_get scene.lives leaf ≡ Some life) × R life life' × (next ≡ record { lives = slice_set scene.lives leaf life' })
+
+-- the starts of all leaves in order
+abbrev pub StartsAll : ℕ → ℕ → List Life → List Line → List Life → Type 0
+StartsAll tables leaf [] lines next = (lines ≡ []) × (next ≡ [])
+StartsAll tables leaf (life ∷ lives) lines next =
+    (first rest : List Line) × (life' : Life) × (others : List Life) × Starts tables leaf life first life' × StartsAll tables (suc leaf) lives rest others
+    × (lines ≡ first ++ rest) × (next ≡ life' ∷ others)
+
+-- The lines that a command may print, but for their numbers. A new command adds a case.
+abbrev pub Prints : Fleet → Scene → Command → List Line → Scene → Type 0
+Prints fleet scene (command.Fleet machines per_machine tables) lines next = StartsAll (length fleet.names) 0 scene.lives lines next.lives
+Prints fleet scene (command.Add leaf table rows) lines next = EntryLine IsAddSaid leaf table lines × (next ≡ scene)
+Prints fleet scene (command.Query q) lines next = QueryLines fleet q lines × (next ≡ scene)
+Prints fleet scene (command.Drain leaf) lines next = OfLeaf leaf scene next (λ life life'. Drains (length fleet.names) leaf life lines life')
+Prints fleet scene (command.Start leaf) lines next = OfLeaf leaf scene next (λ life life'. Starts (length fleet.names) leaf life lines life')
+
+-- commands one after another
+abbrev pub PrintsAll : Fleet → Scene → List Played → Scene → Type 0
+PrintsAll fleet scene [] next = next ≡ scene
+PrintsAll fleet scene (p ∷ ps) next = (between : Scene) × Prints fleet scene p.command p.lines between × PrintsAll fleet between ps next
+
+-- ---- one history for each table
+
+-- an entry's line, with the command that printed it
+pub record Shown : Type 0 where
+  pub number : ℕ
+  pub said : Said
+  pub command : Command
+
+abbrev pub shown_in : ℕ → ℕ → Command → List Line → List Shown
+shown_in leaf table c [] = []
+shown_in leaf table c (line.Entry l t number said ∷ lines) =
+    if (l == leaf) && (t == table) then record { number = number; said = said; command = c } ∷ shown_in leaf table c lines else shown_in leaf table c lines
+shown_in leaf table c (line.Answer n leaves rows ∷ lines) = shown_in leaf table c lines
+shown_in leaf table c (line.Ended verb l ending ∷ lines) = shown_in leaf table c lines
+
+-- the entry lines of one table, in the order of printing
+abbrev pub shown : ℕ → ℕ → List Played → List Shown
+shown leaf table ps = flat_map (λ (p : Played). shown_in leaf table p.command p.lines) ps
+
+-- the call that a caller's command makes
+abbrev pub call_of : Command → Option Call
+call_of (command.Add leaf table rows) = Some (call.Add rows)
+call_of (command.Query q) = Some (call.Ask q)
+call_of (command.Fleet machines per_machine tables) = None
+call_of (command.Drain leaf) = None
+call_of (command.Start leaf) = None
+
+-- the entry is what the line of this command says
+abbrev pub Shows : Command → Said → Entry → Type 0
+Shows c (Added kept late) e = (call_of c ≡ Some e.call) × (e.reply ≡ reply.Added kept late)
+Shows c Asked e = (call_of c ≡ Some e.call) × ((gs : List Group) × (e.reply ≡ reply.Groups gs))
+Shows c RefusedShut e = (call_of c ≡ Some e.call) × (e.reply ≡ reply.Shut)
+Shows c RefusedFull e = (call_of c ≡ Some e.call) × (e.reply ≡ reply.Full)
+Shows c RefusedMemory e = (call_of c ≡ Some e.call) × (e.reply ≡ reply.NoMemory)
+Shows c (Opened n) e = (contents : Contents) × (e.call ≡ call.Open n contents)
+Shows c (Closed n) e = (e.call ≡ call.Shut) × (e.reply ≡ reply.Counted n)
+Shows c Handed e = e.call ≡ call.Done
+
+-- the lines, in the order of printing, have the numbers from n on, and show these entries
+abbrev pub Tells : ℕ → List Shown → List Entry → Type 0
+Tells n [] [] = ⊤
+Tells n [] (e ∷ es) = ⊥
+Tells n (s ∷ ss) [] = ⊥
+Tells n (s ∷ ss) (e ∷ es) = (s.number ≡ n) × Shows s.command s.said e × Tells (suc n) ss es
+
+-- A table's entries: those of which all is claimed, and those behind a loss, of which it is not claimed what a table is opened with.
+pub record Chronicle : Type 0 where
+  pub claimed : List Entry
+  pub rest : List Entry
+
+-- the state after a chronicle
+abbrev pub state_after : TableState → Chronicle → TableState
+state_after base h = after false (after true base h.claimed) h.rest
+
+-- the lines of a table show each entry of one legal history, in their order and each once
+pub record IsHistoryOf (base : TableState) (lines : List Shown) (h : Chronicle) : Type 0 where
+  pub legal : LegalFrom true base h.claimed
+  pub goes_on : LegalFrom false (after true base h.claimed) h.rest
+  pub tells : Tells 1 lines (h.claimed ++ h.rest)
+
+-- what a drained leaf left may be lost: a start was refused, or the region failed in a drain
+abbrev pub is_loss : Verb → Ending → Bool
+is_loss Start FaultRegion = true
+is_loss Start FaultMemory = true
+is_loss Start (FaultStranger name) = true
+is_loss Start Done = false
+is_loss Start NotUp = false
+is_loss Start NotDown = false
+is_loss Start (Started way) = false
+is_loss Drain FaultRegion = true
+is_loss Drain FaultMemory = false
+is_loss Drain (FaultStranger name) = false
+is_loss Drain Done = false
+is_loss Drain NotUp = false
+is_loss Drain NotDown = false
+is_loss Drain (Started way) = false
+
+abbrev pub has_loss : ℕ → List Line → Bool
+has_loss leaf [] = false
+has_loss leaf (line.Ended verb l ending ∷ lines) = ((l == leaf) && is_loss verb ending) || has_loss leaf lines
+has_loss leaf (line.Entry l t number said ∷ lines) = has_loss leaf lines
+has_loss leaf (line.Answer n leaves rows ∷ lines) = has_loss leaf lines
+
+-- the commands up to the first that lost what the leaf held
+abbrev pub until_loss : ℕ → List Played → List Played
+until_loss leaf [] = []
+until_loss leaf (p ∷ ps) = if has_loss leaf p.lines then p ∷ [] else p ∷ until_loss leaf ps
+
+-- ---- the answers
+
+-- the rows of a table as they are before the entry of this number
+abbrev pub rows_before : TableState → Chronicle → ℕ → List Row
+rows_before base h number =
+    (held (state_after base (record { claimed = take (number - 1) h.claimed; rest = take (number - 1 - length h.claimed) h.rest }))).rows
+
+-- the lines of an answer: how many rows pass, where any does
+abbrev pub count_lines : ℕ → List (List ℕ)
+count_lines zero = []
+count_lines (suc n) = decimal (suc n) ∷ []
+
+abbrev pub answer_lines : Query → List Row → List (List ℕ)
+answer_lines q rows = count_lines (count_by (passes q) rows)
+
+-- the answer is over the rows of exactly the named leaves, each before its entry
+abbrev pub AnswersLine : (ℕ → TableState) → (ℕ → Chronicle) → Query → List (ℕ × ℕ) → Line → Type 0
+AnswersLine bases histories q leaves (line.Answer count of rows) =
+    rows ≡ answer_lines q (flat_map (λ l. rows_before (bases l.0) (histories l.0) l.1) leaves)
+AnswersLine bases histories q leaves (line.Entry l t number said) = ⊤
+AnswersLine bases histories q leaves (line.Ended verb l ending) = ⊤
+
+abbrev pub Answers : Fleet → (ℕ → ℕ → TableState) → (ℕ → ℕ → Chronicle) → Command → List Line → Type 0
+Answers fleet bases histories (command.Query q) lines =
+    let table = place_of q.table fleet.names in
+    AllByRecursion (AnswersLine (λ leaf. bases leaf table) (λ leaf. histories leaf table) q (named lines)) lines
+Answers fleet bases histories (command.Fleet machines per_machine tables) lines = ⊤
+Answers fleet bases histories (command.Add leaf table rows) lines = ⊤
+Answers fleet bases histories (command.Drain leaf) lines = ⊤
+Answers fleet bases histories (command.Start leaf) lines = ⊤
+
+-- ---- all of it
+
+-- The text is what these commands print over leaves and tables that begin so.
+pub record Transcript (fleet : Fleet) (scene : Scene) (bases : ℕ → ℕ → TableState) (commands : List Command) (out : List ℕ) : Type 0 where
+  pub played : List Played
+  pub histories : ℕ → ℕ → Chronicle
+  pub scene_after : Scene
+  pub commands_are : map (λ (p : Played). p.command) played ≡ commands
+  pub text : out ≡ lines_text fleet.names (flat_map (λ (p : Played). p.lines) played)
+  pub prints : PrintsAll fleet scene played scene_after
+  pub one_history : (leaf table : ℕ) → leaf < fleet.leaves → table < length fleet.names →
+      IsHistoryOf (bases leaf table) (shown leaf table played) (histories leaf table)
+  pub claimed : (leaf table : ℕ) → leaf < fleet.leaves → table < length fleet.names →
+      length (shown leaf table (until_loss leaf played)) ≤ length (histories leaf table).claimed
+  pub answers : AllByRecursion (λ (p : Played). Answers fleet bases histories p.command p.lines) played
+
+-- ---- the faults
+
+abbrev pub is_region_fault : Ending → Bool
+is_region_fault FaultRegion = true
+is_region_fault FaultMemory = false
+is_region_fault (FaultStranger name) = false
+is_region_fault Done = false
+is_region_fault NotUp = false
+is_region_fault NotDown = false
+is_region_fault (Started way) = false
+
+-- how many lines of a leaf tell of a fault of its region
+abbrev pub region_faults_in : ℕ → List Line → ℕ
+region_faults_in leaf [] = 0
+region_faults_in leaf (line.Ended verb l ending ∷ lines) = (if (l == leaf) && is_region_fault ending then 1 else 0) + region_faults_in leaf lines
+region_faults_in leaf (line.Entry l t number said ∷ lines) = region_faults_in leaf lines
+region_faults_in leaf (line.Answer n leaves rows ∷ lines) = region_faults_in leaf lines
