@@ -1,0 +1,4 @@
+pub mod Places
+pub mod Noted
+pub mod Told
+pub mod Tested

@@ -1,0 +1,9 @@
+use Rattle.std.proofs.Common.{subst}
+use Rattle.transcript.specs.Steps.{MayPlay}
+use Rattle.player.proofs.Places.{known_place}
+use Rattle.player.proofs.commands.play_command.Goals as goal
+
+pub ask-lines-requires-clause-table : goal.ask-lines-requires-clause-table
+ask-lines-requires-clause-table g c κs within =
+    let may = subst (MayPlay c.args.names.now) c.in-Query.is c.requires.may in
+    known_place c.in-Query.query.table c.args.names.now may.table.0 may.table.1 may.table.2

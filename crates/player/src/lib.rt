@@ -1,0 +1,12 @@
+//! One leaf, and what each command of a script does to it, as lines.
+#![tactic(auto)]
+
+mod answer;
+mod commands;
+mod entries;
+mod leaf;
+mod player;
+#[cfg(test)]
+mod tests;
+
+pub use player::Player;

@@ -1,0 +1,187 @@
+// A leaf over a berth in memory, with ample memory.
+ghost use Rattle.std.specs.Prelude.{◌≡◌, ◌∷◌, [], codes, length, IfOk};
+ghost use Rattle.std.specs.List.{AllByRecursion};
+ghost use Rattle.leaf_model.specs.Values.{IsRow};
+ghost use Rattle.script_text.specs.declared.command.Command.TheVariants as command;
+ghost use Rattle.transcript.specs.Steps.{MayPlay};
+
+use super::*;
+use berth_mem::{Fail, Fails, MemBerth, Method};
+use leaf_model::{Agg, Aggs, Cells, Conds, Names, Query, Row, Rows, Text};
+use printed_lines::put_lines;
+use script_text::Command;
+use std::alloc::{AllocError, Global};
+use std::test;
+
+/// The commands of the cases: an add of one row with the time 5, and a count from 0 to 9.
+#[derive(Clone, Copy)]
+enum Step {
+    Fleet,
+    Add,
+    Count,
+    Drain,
+    Start,
+}
+
+fn text(alloc: Global) -> Result<Text, AllocError>
+    ensures { IfOk result (λ name. name ≡ codes "errors") }
+{
+    Ok(Text::of(String::from_str(alloc, "errors")?))
+}
+
+/// The leaf's one table.
+fn names(alloc: Global) -> Result<Names, AllocError>
+    ensures named { IfOk result (λ names. names ≡ codes "errors" ∷ []) }
+{
+    let mut names = Vec::new(alloc);
+    names.push(text(alloc)?)?;
+    Ok(Names::of(names))
+}
+
+fn row(alloc: Global) -> Row
+    ensures { IsRow result }
+{
+    Row {
+        time: 5,
+        cells: Cells::of(Vec::new(alloc)),
+    }
+}
+
+fn one_row(alloc: Global) -> Result<Rows, AllocError>
+    ensures { IfOk result (λ rows. (length rows ≡ 1) × AllByRecursion IsRow rows) }
+{
+    let mut rows = Vec::new(alloc);
+    rows.push(row(alloc))?;
+    Ok(Rows::of(rows))
+}
+
+fn count_query(alloc: Global) -> Result<Query, AllocError>
+    ensures { IfOk result (λ query. MayPlay (codes "errors" ∷ []) (command.Query query)) }
+{
+    let mut aggs = Vec::new(alloc);
+    aggs.push(Agg::Count)?;
+    Ok(Query {
+        table: text(alloc)?,
+        from: 0,
+        to: 9,
+        conds: Conds::of(Vec::new(alloc)),
+        keys: Names::of(Vec::new(alloc)),
+        aggs: Aggs::of(aggs),
+        order: None,
+        limit: 100_000,
+    })
+}
+
+fn command_of(alloc: Global, step: Step) -> Result<Command, AllocError>
+    ensures { IfOk result (MayPlay (codes "errors" ∷ [])) }
+{
+    match step {
+        Step::Fleet => Ok(Command::Fleet {
+            machines: 1,
+            per_machine: 1,
+            tables: names(alloc)?,
+        }),
+        Step::Add => Ok(Command::Add {
+            leaf: 0,
+            table: 0,
+            rows: one_row(alloc)?,
+        }),
+        Step::Count => Ok(Command::Query(count_query(alloc)?)),
+        Step::Drain => Ok(Command::Drain { leaf: 0 }),
+        Step::Start => Ok(Command::Start(0)),
+    }
+}
+
+fn player(alloc: Global, berth: MemBerth) -> Result<Player<MemBerth>, AllocError>
+    ensures named { IfOk result (λ player. player.names ≡ codes "errors" ∷ []) }
+    ensures berth { IfOk result (λ player. player.berth ≡ berth) }
+{
+    match Player::new(alloc, names(alloc)?, berth) {
+        Ok(player) => Ok(player),
+        Err(_) => Err(AllocError),
+    }
+}
+
+/// Plays one step, and puts the text of its lines behind the others.
+fn play_step(
+    alloc: Global,
+    player: Player<MemBerth>,
+    names: &Names,
+    step: Step,
+    out: &mut Vec<u8>,
+) -> Result<Player<MemBerth>, AllocError>
+    requires player { player.names ≡ codes "errors" ∷ [] }
+    requires names { names.now ≡ codes "errors" ∷ [] }
+    ensures { IfOk result (λ player. player.names ≡ codes "errors" ∷ []) }
+{
+    let (player, lines) = player.play(alloc, command_of(alloc, step)?);
+    put_lines(out, names, lines?.as_slice())?;
+    Ok(player)
+}
+
+/// The text of all lines that these steps print over this berth.
+fn played(alloc: Global, berth: MemBerth, steps: &[Step]) -> Result<Vec<u8>, AllocError> {
+    let names = names(alloc)?;
+    let mut player = player(alloc, berth)?;
+    let mut out = Vec::new(alloc);
+    for step in steps {
+        player = play_step(alloc, player, &names, *step, &mut out)?;
+    }
+    Ok(out)
+}
+
+#[test]
+fn each_command_prints_its_lines(rt: HostRuntime) -> Result<(), test::Fail> {
+    let alloc = rt.alloc();
+    let cases = [
+        (
+            [
+                Step::Fleet,
+                Step::Add,
+                Step::Drain,
+                Step::Start,
+                Step::Count,
+            ],
+            "0 errors #1 opened 0\nstart 0 disk nohead\n0 errors #2 added 1 late 0\n0 errors #3 closed 1\n0 errors #4 handed\ndrain 0 done\n0 errors #5 opened 1\nstart 0 memory\n0 errors #6 asked\nanswer named 1 of 1 lines 1\n1\n",
+        ),
+        (
+            [
+                Step::Drain,
+                Step::Add,
+                Step::Count,
+                Step::Start,
+                Step::Start,
+            ],
+            "drain 0 not up\n0 errors #1 refused shut\n0 errors #2 refused shut\nanswer named 0 of 1 lines 0\n0 errors #3 opened 0\nstart 0 disk nohead\nstart 0 not down\n",
+        ),
+        (
+            [Step::Fleet, Step::Count, Step::Add, Step::Count, Step::Add],
+            "0 errors #1 opened 0\nstart 0 disk nohead\n0 errors #2 asked\nanswer named 1 of 1 lines 0\n0 errors #3 added 1 late 0\n0 errors #4 asked\nanswer named 1 of 1 lines 1\n1\n0 errors #5 added 1 late 0\n",
+        ),
+    ];
+    for (steps, expected) in cases {
+        let berth = MemBerth::new(Vec::new(alloc), Vec::new(alloc));
+        let out = played(alloc, berth, &steps)?;
+        assert!(rt; out.as_slice() == expected.as_bytes());
+    }
+    Ok(())
+}
+
+#[test]
+fn a_region_that_fails_is_told_after_the_closed_tables(rt: HostRuntime) -> Result<(), test::Fail> {
+    let alloc = rt.alloc();
+    let fails = Fails::of(vec![in alloc;
+        Fail {
+            method: Method::RegionWrite,
+            count: 1
+        },
+    ]?);
+    let berth = MemBerth::failing(Vec::new(alloc), Vec::new(alloc), fails);
+    let out = played(alloc, berth, &[Step::Fleet, Step::Drain])?;
+    let expected =
+        "0 errors #1 opened 0\nstart 0 disk nohead\n0 errors #2 closed 0\ndrain 0 fault region\n";
+    assert!(rt; out.as_slice() == expected.as_bytes());
+    let player = player(alloc, MemBerth::new(Vec::new(alloc), out))?;
+    assert!(rt; player.abandon().disk() == expected.as_bytes());
+    Ok(())
+}
