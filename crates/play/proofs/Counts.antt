@@ -6,7 +6,7 @@ use Rattle.row_json.specs.declared.object.RowFault.{RowFault}
 use Rattle.row_json.specs.Row.{row_of}
 use Rattle.play.specs.declared.count.LineFault.{LineFault}
 use Rattle.play.specs.declared.words.Range.{Range}
-use Rattle.play.specs.Lines.{lines, is_blank, without_return}
+use Rattle.script_text.specs.Lines.{lines, is_blank, without_return}
 use Rattle.play.specs.Count.{with_row, rows_from, rows_of, is_in, count_in, count_of}
 
 -- how many rows are in the range, of the text that follows the line n

@@ -1,3 +1,5 @@
-pub mod Cut
 pub mod Numbers
 pub mod Counts
+pub mod Plays
+pub mod Own
+pub mod Ends

@@ -4,7 +4,7 @@ use Rattle.std.specs.Int.RustNames.{int_le}
 use Rattle.leaf_model.specs.declared.rows.Row.{Row}
 use Rattle.row_json.specs.declared.object.RowFault.{RowFault}
 use Rattle.row_json.specs.Row.{row_of}
-use Rattle.play.specs.Lines.{lines, without_return, is_blank}
+use Rattle.script_text.specs.Lines.{lines, without_return, is_blank}
 use Rattle.play.specs.declared.count.CountError.{CountError}
 use Rattle.play.specs.declared.count.CountError.TheVariants.{Fault, NoMemory}
 use Rattle.play.specs.declared.count.LineFault.{LineFault}

@@ -1,5 +1,7 @@
 pub mod Words
-pub mod Lines
 pub mod Count
 pub mod Source
+pub mod Played
+pub mod Runs
 pub mod Outcome
+pub mod Faults

@@ -1,14 +1,20 @@
-//! The top call: what the program does with its words, its source and its sink.
+//! The top call: what the program does with its words, its source, its sink and its berths.
 #![tactic(auto)]
 
+mod berths;
 mod count;
-mod lines;
+mod faults;
 mod program;
+mod script;
+#[cfg(test)]
+mod script_tests;
 mod status;
 mod stream;
 #[cfg(test)]
 mod tests;
 mod words;
 
+pub use faults::fault_text;
 pub use program::run;
-pub use status::{Status, Why};
+pub use script_text::Why;
+pub use status::Status;

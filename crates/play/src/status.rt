@@ -1,14 +1,5 @@
 // How a run ended.
-use row_json::RowFault;
-
-/// Why a source's text is refused.
-#[derive(Debug, Drop)]
-pub enum Why {
-    /// The source has more than 16,777,216 bytes. The line is then 0.
-    TooLong,
-    /// The line is no row.
-    Row(RowFault),
-}
+use script_text::Why;
 
 /// How a run ended.
 #[derive(Debug, Drop)]
@@ -17,7 +8,7 @@ pub enum Status {
     Done,
     /// The words of the command line are no command.
     Words,
-    /// The source's text is refused at a line, counted from 1.
+    /// The source's text is refused at a line, counted from 1; as too long at line 0.
     Script { line: u64, why: Why },
     /// The source failed.
     ReadFault,

@@ -1,9 +1,7 @@
-// Whole runs over memory.
-ghost use Rattle.std.specs.Prelude.{◌≡◌};
-
+// Whole runs over memory that count rows.
 use crate::{Status, run};
-use berth_face::{Failed, Sink};
-use berth_mem::{Fail, Fails, MemSink, MemSource, Method};
+use berth_face::{Failed, OpenGate, Sink, Source};
+use berth_mem::{Fail, Fails, MemBerth, MemSink, MemSource, Method};
 use std::alloc::{AllocError, Global};
 use std::test;
 
@@ -23,7 +21,7 @@ impl Sink for NarrowSink {
     }
 }
 
-fn words_of(alloc: Global, line: &str) -> Result<Vec<String>, AllocError> {
+pub(crate) fn words_of(alloc: Global, line: &str) -> Result<Vec<String>, AllocError> {
     let mut words = Vec::new(alloc);
     for word in line.split_whitespace() {
         words.push(String::from_str(alloc, word)?)?;
@@ -31,11 +29,22 @@ fn words_of(alloc: Global, line: &str) -> Result<Vec<String>, AllocError> {
     Ok(words)
 }
 
+/// Runs over no berth.
+fn run_over<S: Source, K: Sink>(
+    alloc: Global,
+    words: &[String],
+    source: &mut S,
+    sink: &mut K,
+) -> Status {
+    let mut berths: Vec<MemBerth> = Vec::new(alloc);
+    run(alloc, words, source, sink, &mut berths, &OpenGate)
+}
+
 fn spaces(alloc: Global, count: usize) -> Result<Vec<u8>, AllocError> {
     vec![in alloc; b' '; count]
 }
 
-fn fails_at(alloc: Global, method: Method, count: u64) -> Result<Fails, AllocError> {
+pub(crate) fn fails_at(alloc: Global, method: Method, count: u64) -> Result<Fails, AllocError> {
     Ok(Fails::of(vec![in alloc; Fail { method, count }]?))
 }
 
@@ -96,7 +105,7 @@ fn answers_each_text(rt: HostRuntime) -> Result<(), test::Fail> {
         ),
         // Words.
         ("", "{", "", "Words"),
-        ("play", "{", "", "Words"),
+        ("play now", "{", "", "Words"),
         ("count 1", "{", "", "Words"),
         ("count 1 2 3", "{", "", "Words"),
         ("count +1 2", "{", "", "Words"),
@@ -113,7 +122,7 @@ fn answers_each_text(rt: HostRuntime) -> Result<(), test::Fail> {
         let words = words_of(alloc, line)?;
         let mut source = MemSource::new(text.as_bytes().to_vec(alloc)?);
         let mut sink = MemSink::new(alloc);
-        let got = run(alloc, words.as_slice(), &mut source, &mut sink);
+        let got = run_over(alloc, words.as_slice(), &mut source, &mut sink);
         let got = format!(in alloc; "{got:?}")?;
         assert_eq!(rt; got.as_str(), status, "at {line}");
         assert_eq!(rt; sink.bytes(), want.as_bytes(), "at {line}");
@@ -131,7 +140,7 @@ fn the_longest_text_is_read(rt: HostRuntime) -> Result<(), test::Fail> {
     ] {
         let mut source = MemSource::new(spaces(alloc, length)?);
         let mut sink = MemSink::new(alloc);
-        let got = run(alloc, words.as_slice(), &mut source, &mut sink);
+        let got = run_over(alloc, words.as_slice(), &mut source, &mut sink);
         let got = format!(in alloc; "{got:?}")?;
         assert_eq!(rt; got.as_str(), status);
         assert_eq!(rt; sink.bytes(), want.as_bytes());
@@ -152,7 +161,7 @@ fn faults_have_their_status(rt: HostRuntime) -> Result<(), test::Fail> {
             fails_at(alloc, Method::Take, count)?,
         );
         let mut sink = MemSink::new(alloc);
-        let got = run(alloc, words.as_slice(), &mut source, &mut sink);
+        let got = run_over(alloc, words.as_slice(), &mut source, &mut sink);
         assert!(rt; matches!(got, Status::ReadFault));
         assert_eq!(rt; sink.bytes().len(), 0);
     }
@@ -160,7 +169,7 @@ fn faults_have_their_status(rt: HostRuntime) -> Result<(), test::Fail> {
         let mut source = MemSource::new(text.to_vec(alloc)?);
         let inner = MemSink::failing(fails_at(alloc, Method::Put, count)?);
         let mut sink = NarrowSink { inner };
-        let got = run(alloc, words.as_slice(), &mut source, &mut sink);
+        let got = run_over(alloc, words.as_slice(), &mut source, &mut sink);
         assert!(rt; matches!(got, Status::WriteFault));
         assert_eq!(rt; sink.inner.bytes(), want.as_bytes());
     }

@@ -6,11 +6,16 @@ ghost use Rattle.scuba_cli.specs.Exit.{exit_number};
 
 mod standard;
 
-use play::{Status, run};
+use berth_face::OpenGate;
+use berth_mem::MemBerth;
+use play::{Status, fault_text, run};
 use standard::{StdSink, StdSource};
-use std::alloc::Global;
+use std::alloc::{AllocError, Global};
 use std::process::ExitCode;
 use std::{env, io};
+
+/// How many leaves may have a berth.
+const BERTHS: usize = 256;
 
 /// The words of the command line are no command.
 const WORDS: u8 = 2;
@@ -29,10 +34,40 @@ fn main(rt: HostRuntime) -> ExitCode {
     if folder.as_str() != "mem" {
         return ExitCode::from(WORDS);
     }
+    let Ok(mut berths) = fresh_berths(rt.alloc()) else {
+        return ExitCode::from(NO_MEMORY);
+    };
     let mut source = StdSource::new(rt.reader());
     let mut sink = StdSink::new(io::writer(&rt));
-    let status = run(rt.alloc(), words, &mut source, &mut sink);
+    let status = run(
+        rt.alloc(),
+        words,
+        &mut source,
+        &mut sink,
+        &mut berths,
+        &OpenGate,
+    );
+    tell(&rt, &status);
     ExitCode::from(status_number(&status))
+}
+
+/// Berths in memory that hold nothing.
+fn fresh_berths(alloc: Global) -> Result<Vec<MemBerth>, AllocError> {
+    let mut berths = Vec::with_capacity(alloc, BERTHS)?;
+    for _ in 0..BERTHS {
+        berths.push(MemBerth::new(Vec::new(alloc), Vec::new(alloc)))?;
+    }
+    Ok(berths)
+}
+
+/// Says on standard error why the run was not done. Where there is no memory for that, nothing is said.
+fn tell(rt: &HostRuntime, status: &Status) {
+    if matches!(status, Status::Done) {
+        return;
+    }
+    if let Ok(text) = fault_text(rt.alloc(), status) {
+        let _ = eprintln!(rt; "scuba: {}", text.as_str());
+    }
 }
 
 /// The words of the command line after the program's name.

@@ -1,5 +1,5 @@
 use Rattle.std.proofs.Common.{◌≡◌, ap, ◌∙◌, arith, true}
-use Rattle.play.specs.Lines.{is_blank, without_return}
+use Rattle.script_text.specs.Lines.{is_blank, without_return}
 use Rattle.play.proofs.Counts.{count_blank, count_start, more_by}
 use Rattle.play.proofs.count.count_rows.Goals as goal
 

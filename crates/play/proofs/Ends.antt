@@ -1,0 +1,136 @@
+-- A play from its beginning to its end.
+use Rattle.std.proofs.Common.{◌≡◌, ℕ, zero, suc, ◌+◌, ◌*◌, ◌<◌, ◌≤◌, List, [], ◌∷◌, ◌++◌, length, refl, sym, ap, subst, ◌∙◌, arith, Option, Some, None}
+use Rattle.std.specs.Prelude.{IsTrue, slice_index_or}
+use Rattle.std.specs.List.{AllByRecursion, remove}
+use Rattle.berth_face.specs.Berth.{Meaning}
+use Rattle.leaf_history.specs.History.{TableState}
+use Rattle.region_layout.specs.Region.{AreDistinct}
+use Rattle.leaf_machine.specs.Tables.{AreNames, IsName}
+use Rattle.script_text.specs.declared.command.Command.{Command}
+use Rattle.script_text.specs.declared.command.Command.TheVariants as command
+use Rattle.script_text.specs.Fits.{AreTables, IsTableName, IsCommand, AreCommands}
+use Rattle.script_text.specs.Fits as fits
+use Rattle.printed_lines.specs.Lines.{lines_text}
+use Rattle.transcript.specs.Life.{Down}
+use Rattle.transcript.specs.Steps.{MayPlay}
+use Rattle.transcript.specs.Transcript.{Transcript, fleet_of, Scene}
+use Rattle.transcript.specs.Session.{one_leaf, scene_of}
+use Rattle.transcript.proofs.Telling.{All-weaken}
+use Rattle.transcript.proofs.Running.{ended}
+use Rattle.play.specs.Played.{IsTold, Counted, OverFirst, IsWritten, leaf_count, names_in}
+use Rattle.play.specs.Runs.{IsRun}
+use Rattle.play.proofs.Plays.{appends_nothing}
+
+-- ---- names
+
+distinct_names : (names : List (List ℕ)) → fits.AreDistinct names → AreDistinct names
+distinct_names [] d = tt
+distinct_names (n ∷ ns) d = (d.0, distinct_names ns d.1)
+
+tables_are_names : (names : List (List ℕ)) → AreTables names → AreNames names
+tables_are_names names t = record {
+  some = t.some;
+  few = t.few;
+  each = All-weaken IsTableName IsName (λ name n. (n.utf8, omega (arith, n.short))) names t.names;
+  distinct = distinct_names names t.distinct;
+}
+
+pub names_are : (commands : List Command) → AreCommands commands → 0 < length commands → AreNames (names_in commands)
+names_are [] c some = absurd (omega (arith, some))
+names_are (command.Fleet m p tables ∷ more) c some = tables_are_names tables c.2
+names_are (command.Add leaf table rows ∷ more) c some = absurd c
+names_are (command.Query q ∷ more) c some = absurd c
+names_are (command.Drain leaf ∷ more) c some = absurd c
+names_are (command.Start leaf ∷ more) c some = absurd c
+
+-- ---- commands
+
+may_later : (names : List (List ℕ)) (c : Command) → IsCommand names c → MayPlay names c
+may_later names (command.Fleet m p ts) h = absurd h
+may_later names (command.Add leaf table rows) h = h
+may_later names (command.Query q) h = h
+may_later names (command.Drain leaf) h = h
+may_later names (command.Start leaf) h = h
+
+pub all_may_play : (commands : List Command) → AreCommands commands → AllByRecursion (MayPlay (names_in commands)) commands
+all_may_play [] c = tt
+all_may_play (command.Fleet m p tables ∷ more) c = (tt, All-weaken (IsCommand tables) (MayPlay tables) (may_later tables) more c.3)
+all_may_play (command.Add leaf table rows ∷ more) c = absurd c
+all_may_play (command.Query q ∷ more) c = absurd c
+all_may_play (command.Drain leaf ∷ more) c = absurd c
+all_may_play (command.Start leaf ∷ more) c = absurd c
+
+-- ---- no command
+
+nothing_told : (m : Meaning) → IsTold m [] []
+nothing_told m told way bases is bs = (
+  record {
+    played = [];
+    histories = λ leaf table. record { claimed = []; rest = [] };
+    scene_after = scene_of (Down (Some way));
+    commands_are = refl;
+    text = refl;
+    prints = refl;
+    one_history = λ leaf table l t. absurd (omega (arith, l));
+    claimed = λ leaf table l t. absurd (omega (arith, l));
+    answers = tt;
+  },
+  refl,
+)
+
+nothing_over : {B : Type 0} (meaning : B → Meaning) (berths : List B) → OverFirst meaning [] [] berths berths
+nothing_over meaning [] = tt
+nothing_over meaning (b ∷ bs) = (nothing_told (meaning b), omega arith)
+
+pub nothing_written : {B : Type 0} (meaning : B → Meaning) (commands : List Command) (was : Option (List ℕ)) (berths : List B) → commands ≡ [] → IsWritten meaning commands was was berths berths
+nothing_written meaning commands was berths e = rw e (record {
+  lines = [];
+  written = appends_nothing was;
+  transcript = nothing_over meaning berths;
+  empty = λ none. refl;
+})
+
+-- ---- a run over the first berth
+
+first_and_rest : {B : Type 0} (olds rest : List B) (b : B) → 0 < length olds → b ≡ slice_index_or olds 0 b → rest ≡ remove olds 0 → olds ≡ b ∷ rest
+first_and_rest [] rest b some e f = absurd (omega (arith, some))
+first_and_rest (o ∷ os) rest b some e f = rw (e, f) refl
+
+one_fleet : (m p : ℕ) (names : List (List ℕ)) → m ≡ 1 → p ≡ 1 → record { leaves = m * p; names = names } ≡ one_leaf names
+one_fleet m p names e f = rw (e, f) refl
+
+some_commands : (commands : List Command) → AreCommands commands → 0 < length (names_in commands) → (fleet_of commands ≡ one_leaf (names_in commands)) × (commands ≡ [] → ⊥)
+some_commands [] c some = absurd (omega (arith, some))
+some_commands (command.Fleet m p tables ∷ more) c some = (one_fleet m p tables c.0 c.1, λ e. nil e)
+  where
+    nil : command.Fleet m p tables ∷ more ≡ [] → ⊥
+    nil e = cc
+some_commands (command.Add leaf table rows ∷ more) c some = absurd c
+some_commands (command.Query q ∷ more) c some = absurd c
+some_commands (command.Drain leaf ∷ more) c some = absurd c
+some_commands (command.Start leaf ∷ more) c some = absurd c
+
+run_written : {B : Type 0} (meaning : B → Meaning) (commands : List Command) (was now : Option (List ℕ)) (old new : B) (rest : List B)
+    → AreCommands commands → 0 < length (names_in commands)
+    → IsRun (names_in commands) (meaning old) (meaning new) was now commands
+    → IsWritten meaning commands was now (old ∷ rest) (new ∷ rest)
+run_written meaning commands was now old new rest are some run =
+    let fleet = some_commands commands are some in record {
+      lines = run.2.lines;
+      written = run.2.text;
+      transcript = (
+        λ told way bases is bs.
+            rw fleet.0 (ended (names_in commands) (Down (Some way)) bases commands run.2.lines run.0 (meaning new).held.region run.1 (run.2.session told way bases is bs)),
+        run.2.counted,
+      );
+      empty = λ none. absurd (fleet.1 none);
+    }
+
+pub first_written : {B : Type 0} (meaning : B → Meaning) (commands : List Command) (names : List (List ℕ)) (was now : Option (List ℕ)) (olds rest news : List B) (old new : B)
+    → AreCommands commands → names ≡ names_in commands → 0 < length names
+    → 0 < length olds → old ≡ slice_index_or olds 0 old → rest ≡ remove olds 0 → news ≡ new ∷ rest
+    → IsRun names (meaning old) (meaning new) was now commands
+    → IsWritten meaning commands was now olds news
+first_written meaning commands names was now olds rest news old new are named some enough first others put run =
+    rw (first_and_rest olds rest old enough first others, put)
+    (run_written meaning commands was now old new rest are (subst (λ ns. 0 < length ns) named some) (subst (λ ns. IsRun ns (meaning old) (meaning new) was now commands) named run))

@@ -1,0 +1,97 @@
+// A status as one line for people.
+ghost use Rattle.std.specs.Prelude.{◌≡◌, ◌≢◌, IfOk, string_bytes};
+ghost use Rattle.row_json.specs.declared.object.RowFault.TheVariants as fault;
+ghost use Rattle.play.specs.Faults.{at_line, cause_of, fault_text, quoted, row_cause};
+
+use crate::status::Status;
+use leaf_model::Text;
+use row_json::RowFault;
+use script_text::Why;
+use serde_json::Value;
+use std::alloc::{AllocError, Global};
+
+/// What a status other than Done says to the one who ran the program: one line, without its end.
+pub fn fault_text(alloc: Global, status: &Status) -> Result<Text, AllocError>
+    requires { status.now ≢ Status.Done }
+    ensures { IfOk result (λ text. text ≡ fault_text status.now) }
+{
+    let text = match status {
+        Status::Done => String::from_str(alloc, ""),
+        Status::Words => String::from_str(
+            alloc,
+            "the words are neither `count FROM TO` nor `play`",
+        ),
+        Status::Script { line, why } => at_line(alloc, *line, cause_of(alloc, why)?),
+        Status::ReadFault => String::from_str(alloc, "the input could not be read"),
+        Status::WriteFault => String::from_str(alloc, "the output could not be written"),
+        Status::NoMemory => String::from_str(alloc, "out of memory"),
+    };
+    Ok(Text::of(text?))
+}
+
+/// The line, where there is one, and the cause.
+fn at_line(alloc: Global, line: u64, cause: String) -> Result<String, AllocError>
+    ensures { IfOk result (λ text. string_bytes text ≡ at_line line (string_bytes cause)) }
+{
+    if line == 0 {
+        return Ok(cause);
+    }
+    format!(in alloc; "line {line}: {cause}")
+}
+
+/// What is wrong with a line.
+fn cause_of(alloc: Global, why: &Why) -> Result<String, AllocError>
+    ensures { IfOk result (λ text. string_bytes text ≡ cause_of why.now) }
+{
+    match why {
+        Why::TooLong => String::from_str(alloc, "the input has more than 16777216 bytes"),
+        Why::Command => String::from_str(alloc, "no such command"),
+        Why::NoFleet => String::from_str(alloc, "a command before any fleet"),
+        Why::Place => String::from_str(alloc, "a second fleet"),
+        Why::Words => String::from_str(alloc, "the words do not fit the command"),
+        Why::Leaf => String::from_str(alloc, "the fleet has no such leaf"),
+        Why::Table => String::from_str(alloc, "the fleet has no such table"),
+        Why::Short => String::from_str(alloc, "fewer rows follow than the command says"),
+        Why::Row(fault) => row_cause(alloc, fault),
+        Why::NoBerth => String::from_str(alloc, "the fleet has more leaves than there are berths"),
+    }
+}
+
+/// What is wrong with a row.
+fn row_cause(alloc: Global, fault: &RowFault) -> Result<String, AllocError>
+    ensures { IfOk result (λ text. string_bytes text ≡ row_cause fault.now) }
+{
+    match fault {
+        RowFault::Json => String::from_str(alloc, "the row is no JSON"),
+        RowFault::NotObject => String::from_str(alloc, "the row is no object"),
+        RowFault::NoTime => String::from_str(
+            alloc,
+            "`time` is no integer from 0 to 9223372036854775807",
+        ),
+        RowFault::TooMany => String::from_str(alloc, "the row has more than 1024 cells"),
+        RowFault::Name(name) => bad_name(alloc, name),
+        RowFault::Value(name) => bad_value(alloc, name),
+        RowFault::NoMemory => String::from_str(alloc, "out of memory"),
+    }
+}
+
+fn bad_name(alloc: Global, name: &Text) -> Result<String, AllocError>
+    ensures { IfOk result (λ text. string_bytes text ≡ row_cause (fault.Name name.now)) }
+{
+    let name = quoted(alloc, name)?;
+    format!(in alloc; "no cell may have the name {name}")
+}
+
+fn bad_value(alloc: Global, name: &Text) -> Result<String, AllocError>
+    ensures { IfOk result (λ text. string_bytes text ≡ row_cause (fault.Value name.now)) }
+{
+    let name = quoted(alloc, name)?;
+    format!(in alloc; "{name} has no value that a cell may have")
+}
+
+/// A name as a JSON string.
+fn quoted(alloc: Global, name: &Text) -> Result<String, AllocError>
+    ensures { IfOk result (λ text. string_bytes text ≡ quoted name.now) }
+{
+    Value::String(name.copy()?.into_inner()).to_string(alloc)
+}

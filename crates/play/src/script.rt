@@ -1,0 +1,67 @@
+// A source that is a script, and its play.
+ghost use Rattle.std.specs.Prelude.{◌≡◌, ◌≢◌, ◌<◌, ◌∷◌, [], length, Some, None, IfSome, IfOk, IfErr};
+ghost use Rattle.berth_face.specs.Causes.{Rose};
+ghost use Rattle.berth_face.specs.Streams.{TakesAtMost};
+ghost use Rattle.play.specs.Outcome.{IsNoPlay, IfScript, UnlessCutOff, UnlessPlayed, Takes, play_verdict, status_of_fault};
+ghost use Rattle.play.specs.Played.{IsPlayed, LeavesBerths};
+ghost use Rattle.play.specs.Source.{most_taken};
+
+use crate::berths::{leaf_count, play_commands};
+use crate::status::Status;
+use crate::stream::{ReadError, read_all};
+use berth_face::{Berth, Sink, Source};
+use script_text::{ScriptFault, Why, parse};
+use std::alloc::Global;
+
+/// Reads a source that is a script, and plays it.
+pub fn play_source<S: Source, K: Sink, B: Berth>(
+    alloc: Global,
+    source: &mut S,
+    sink: &mut K,
+    berths: &mut Vec<B>,
+) -> Status
+    ensures done { result ≡ Status.Done → IsPlayed B.meaning (S.left source.old) (S.left source.new) (K.written sink.old) (K.written sink.new) berths.old.items berths.new.items }
+    ensures known_words { result ≢ Status.Words }
+    ensures script { IfScript result (IsNoPlay (length berths.old.items) (S.left source.old) (S.left source.new)) }
+    ensures read_fault { result ≡ Status.ReadFault → Rose (S.faults source.old) (S.faults source.new) }
+    ensures write_fault { result ≡ Status.WriteFault → Rose (K.faults sink.old) (K.faults sink.new) }
+    ensures exact { IfSome (S.left source.old) (λ text. UnlessCutOff result (result ≡ play_verdict (length berths.old.items) text)) }
+    ensures takes { TakesAtMost (S.left source.old) (S.left source.new) most_taken }
+    ensures too_long { Takes result (S.left source.old) (S.left source.new) }
+    ensures unwritten { UnlessPlayed result (sink.new ≡ sink.old) }
+    ensures unplayed { UnlessPlayed result (berths.new ≡ berths.old) }
+    ensures berths { LeavesBerths B.meaning berths.old.items berths.new.items }
+{
+    let text = match read_all(alloc, source) {
+        Ok(text) => text,
+        Err(ReadError::Failed) => return Status::ReadFault,
+        Err(ReadError::TooLong) => {
+            return Status::Script {
+                line: 0,
+                why: Why::TooLong,
+            };
+        }
+        Err(ReadError::NoMemory) => return Status::NoMemory,
+    };
+    let script = match parse(alloc, text.as_slice()) {
+        Ok(script) => script,
+        Err(fault) => return status_of(fault),
+    };
+    if berths.len() < leaf_count(&script.commands) {
+        return Status::Script {
+            line: script.fleet_line,
+            why: Why::NoBerth,
+        };
+    }
+    play_commands(alloc, script.commands, sink, berths)
+}
+
+/// The status of a text that is no script.
+fn status_of(fault: ScriptFault) -> Status
+    ensures { result ≡ status_of_fault fault }
+{
+    match fault {
+        ScriptFault::At { line, why } => Status::Script { line, why },
+        ScriptFault::NoMemory => Status::NoMemory,
+    }
+}
