@@ -1,0 +1,122 @@
+// A file of a folder, which may not be there yet.
+ghost use Rattle.std.specs.Prelude.{◌+◌, ◌^◌, ◌<◌, length, IfOk};
+ghost use Rattle.std.specs.Io.{ReadsAtMost};
+
+use crate::raw::RawFile;
+use crate::whole::{LIMIT, cut, read_whole, sync, write_whole};
+use berth_face::Failed;
+use std::alloc::AllocError;
+use std::fs::{File, OpenOptions};
+use std::io::ErrorKind;
+
+/// A file of a folder, which is made at its first write. One that is not there holds nothing.
+#[derive(Drop)]
+pub(crate) struct Kept {
+    rt: HostRuntime,
+    folder: String,
+    path: String,
+    file: Option<File>,
+    /// Whether the folder's own entry of the file was synced since the file was opened.
+    entered: bool,
+}
+
+impl Kept {
+    pub(crate) fn new(rt: HostRuntime, folder: &str, path: String) -> Result<Kept, AllocError> {
+        let folder = format!(in rt.alloc(); "{folder}")?;
+        Ok(Kept {
+            rt,
+            folder,
+            path,
+            file: None,
+            entered: false,
+        })
+    }
+
+    pub(crate) fn len(&mut self) -> Result<u64, Failed>
+        ensures bound { IfOk result (λ n. n < 2 ^ 63) }
+    {
+        let Some(file) = self.found()? else {
+            return Ok(0);
+        };
+        match file.len() {
+            Ok(len) if len < LIMIT => Ok(len),
+            Ok(_) | Err(_) => Err(Failed),
+        }
+    }
+
+    pub(crate) fn read(&mut self, at: u64, buf: &mut [u8]) -> Result<usize, Failed>
+        ensures bound { ReadsAtMost result buf.new }
+    {
+        match self.found()? {
+            Some(file) => read_whole(file, at, buf),
+            None => Ok(0),
+        }
+    }
+
+    pub(crate) fn write(&mut self, at: u64, bytes: &[u8]) -> Result<(), Failed>
+        requires { at + length bytes.now < 2 ^ 63 }
+    {
+        match self.made()? {
+            Some(file) => write_whole(file, at, bytes),
+            None => Err(Failed),
+        }
+    }
+
+    pub(crate) fn cut(&mut self, len: u64) -> Result<(), Failed> {
+        match self.found()? {
+            Some(file) => cut(file, len),
+            None => Ok(()),
+        }
+    }
+
+    /// Syncs the file, and the first time its folder too, without which the file itself may be lost.
+    pub(crate) fn sync(&mut self) -> Result<(), Failed> {
+        let Some(file) = self.found()? else {
+            return Ok(());
+        };
+        sync(file)?;
+        if !self.entered {
+            sync_folder(&self.rt, self.folder.as_str())?;
+            self.entered = true;
+        }
+        Ok(())
+    }
+
+    /// The open file, where it is there.
+    fn found(&mut self) -> Result<Option<&mut File>, Failed> {
+        if self.file.is_none() {
+            self.file = open(&self.rt, self.path.as_str(), false)?;
+        }
+        Ok(self.file.as_mut())
+    }
+
+    /// The open file, made where it is not there.
+    fn made(&mut self) -> Result<Option<&mut File>, Failed> {
+        if self.file.is_none() {
+            self.file = open(&self.rt, self.path.as_str(), true)?;
+        }
+        Ok(self.file.as_mut())
+    }
+}
+
+/// Opens a file for reads and writes, and makes it if asked. None is a file that is not there.
+fn open(rt: &HostRuntime, path: &str, make: bool) -> Result<Option<File>, Failed> {
+    let opened = OpenOptions::new()
+        .read(true)
+        .write(true)
+        .create(make)
+        .open(rt, path);
+    match opened {
+        Ok(file) => Ok(Some(file)),
+        Err(error) if !make && error.kind() == ErrorKind::NotFound => Ok(None),
+        Err(_) => Err(Failed),
+    }
+}
+
+/// Gives the folder's entries to the device.
+fn sync_folder(rt: &HostRuntime, folder: &str) -> Result<(), Failed> {
+    match File::open(rt, folder) {
+        Ok(mut entries) => sync(&mut entries),
+        Err(_) => Err(Failed),
+    }
+}
