@@ -1,5 +1,5 @@
 -- What an open file means, and what its calls give.
-use Rattle.std.specs.Prelude.{◌≡◌, ℕ, ◌-◌, ◌<◌, ◌≤◌, Bool, false, List, [], length, take, drop, Result, IfOk}
+use Rattle.std.specs.Prelude.{◌≡◌, ℕ, ◌-◌, ◌<◌, ◌≤◌, Bool, false, List, [], length, take, drop}
 
 -- all that an open file means
 pub record Contents : Type 0 where

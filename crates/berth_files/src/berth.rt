@@ -1,5 +1,5 @@
 // A berth over two files of one folder.
-ghost use Rattle.std.specs.Prelude.{◌≡◌, ◌↔◌, ◌+◌, ◌^◌, ◌<◌, ◌≤◌, length, IfOk, IsErr, IsTrue};
+ghost use Rattle.std.specs.Prelude.{◌≡◌, ◌↔◌, ◌+◌, ◌-◌, ◌^◌, ◌<◌, ◌≤◌, length, min, IfOk, IsOk, IsErr, IsTrue};
 ghost use Rattle.std.proofs.lemmas.Bool.{false≢true};
 ghost use Rattle.berth_face.specs.Causes.{Rose, HasCause};
 ghost use Rattle.berth_face.specs.Berth.{untold};
@@ -109,6 +109,8 @@ fn is_far(at: u64, len: usize) -> bool
 fn counted<T>(done: Result<T, Failed>, faults: &mut u64) -> Result<T, Failed>
     ensures same { result ≡ done }
     ensures cause { HasCause faults.old faults.new result }
+    ensures ok { IsOk result → faults.new ≡ faults.old }
+    ensures err { IsErr result → faults.new ≡ min (faults.old + 1) (2 ^ 64 - 1) }
 {
     match done {
         Ok(value) => Ok(value),
@@ -121,6 +123,7 @@ fn counted<T>(done: Result<T, Failed>, faults: &mut u64) -> Result<T, Failed>
 
 /// Counts one more. At its last value the count stands still.
 fn count(number: &mut u64)
+    ensures value { number.new ≡ min (number.old + 1) (2 ^ 64 - 1) }
     ensures rose { Rose number.old number.new }
     ensures later { number.old ≤ number.new }
 {

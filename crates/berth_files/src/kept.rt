@@ -56,10 +56,7 @@ impl Kept {
     pub(crate) fn write(&mut self, at: u64, bytes: &[u8]) -> Result<(), Failed>
         requires { at + length bytes.now < 2 ^ 63 }
     {
-        match self.made()? {
-            Some(file) => write_whole(file, at, bytes),
-            None => Err(Failed),
-        }
+        write_whole(self.made()?, at, bytes)
     }
 
     pub(crate) fn cut(&mut self, len: u64) -> Result<(), Failed> {
@@ -85,32 +82,38 @@ impl Kept {
     /// The open file, where it is there.
     fn found(&mut self) -> Result<Option<&mut File>, Failed> {
         if self.file.is_none() {
-            self.file = open(&self.rt, self.path.as_str(), false)?;
+            self.file = find(&self.rt, self.path.as_str())?;
         }
         Ok(self.file.as_mut())
     }
 
     /// The open file, made where it is not there.
-    fn made(&mut self) -> Result<Option<&mut File>, Failed> {
-        if self.file.is_none() {
-            self.file = open(&self.rt, self.path.as_str(), true)?;
-        }
-        Ok(self.file.as_mut())
+    fn made(&mut self) -> Result<&mut File, Failed> {
+        let file = match self.file.take() {
+            Some(file) => file,
+            None => make(&self.rt, self.path.as_str())?,
+        };
+        Ok(self.file.insert(file))
     }
 }
 
-/// Opens a file for reads and writes, and makes it if asked. None is a file that is not there.
-fn open(rt: &HostRuntime, path: &str, make: bool) -> Result<Option<File>, Failed> {
-    let opened = OpenOptions::new()
-        .read(true)
-        .write(true)
-        .create(make)
-        .open(rt, path);
-    match opened {
+/// Opens a file for reads and writes. None is a file that is not there.
+fn find(rt: &HostRuntime, path: &str) -> Result<Option<File>, Failed> {
+    match OpenOptions::new().read(true).write(true).open(rt, path) {
         Ok(file) => Ok(Some(file)),
-        Err(error) if !make && error.kind() == ErrorKind::NotFound => Ok(None),
+        Err(error) if error.kind() == ErrorKind::NotFound => Ok(None),
         Err(_) => Err(Failed),
     }
+}
+
+/// Opens a file for reads and writes, and makes it where it is not there.
+fn make(rt: &HostRuntime, path: &str) -> Result<File, Failed> {
+    OpenOptions::new()
+        .read(true)
+        .write(true)
+        .create(true)
+        .open(rt, path)
+        .map_err(|_| Failed)
 }
 
 /// Gives the folder's entries to the device.

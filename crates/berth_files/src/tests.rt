@@ -59,13 +59,12 @@ fn two_files_of_one_folder_hold_what_was_written(rt: HostRuntime) -> Result<(), 
     assert!(rt; disk_bytes(&mut next, 0) == Some((4, [1, 2, 0, 0, 9, 9])));
     assert_eq!(rt; next.region_len().ok(), Some(4));
     assert_eq!(rt; FileBerth::new(rt, "berth", 4)?.disk_len().ok(), Some(0));
+    fs::remove_dir_all(&rt, "berth")?;
     Ok(())
 }
 
 #[test]
-fn in_a_folder_that_is_not_there_nothing_is_held_and_each_write_fails(
-    rt: HostRuntime,
-) -> Result<(), Fail> {
+fn what_is_not_there_holds_nothing_and_what_is_no_file_fails(rt: HostRuntime) -> Result<(), Fail> {
     let mut berth = FileBerth::new(rt, "no folder", 0)?;
     assert_eq!(rt; berth.region_len().ok(), Some(0));
     assert_eq!(rt; berth.disk_len().ok(), Some(0));
@@ -73,5 +72,16 @@ fn in_a_folder_that_is_not_there_nothing_is_held_and_each_write_fails(
     assert!(rt; berth.region_write(0, &[1]).is_err());
     assert!(rt; berth.disk_write(0, &[]).is_err());
     assert_eq!(rt; berth.disk_len().ok(), Some(0));
+
+    // A folder in the place of a file is a fault at each call.
+    let _ = fs::remove_dir_all(&rt, "other");
+    fs::create_dir_all(&rt, "other/leaf-0.disk")?;
+    let mut berth = FileBerth::new(rt, "other", 0)?;
+    assert!(rt; berth.disk_len().is_err());
+    assert!(rt; disk_bytes(&mut berth, 0).is_none());
+    assert!(rt; berth.disk_write(0, &[1]).is_err());
+    assert!(rt; berth.disk_sync().is_err());
+    assert!(rt; berth.region_write(0, &[1]).is_ok());
+    fs::remove_dir_all(&rt, "other")?;
     Ok(())
 }
