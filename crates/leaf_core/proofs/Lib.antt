@@ -1,0 +1,11 @@
+pub mod Places
+pub mod Modes
+pub mod Changes
+pub mod Leaving
+pub mod AtOnce
+pub mod Turning
+pub mod Opening
+pub mod EveryEvent
+pub mod Fitting
+pub mod Plain
+pub mod Runs

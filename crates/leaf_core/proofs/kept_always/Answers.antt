@@ -1,0 +1,11 @@
+use Rattle.leaf_core.proofs.Runs.{kept_throughout, plain_throughout, left_throughout}
+use Rattle.leaf_core.proofs.kept_always.Goals as goal
+
+pub returns-clause-kept : goal.returns-clause-kept
+returns-clause-kept c = kept_throughout
+
+pub returns-clause-plain : goal.returns-clause-plain
+returns-clause-plain c = plain_throughout
+
+pub returns-clause-left : goal.returns-clause-left
+returns-clause-left c = left_throughout

@@ -1,0 +1,8 @@
+pub mod Log
+pub mod Left
+pub mod Base
+pub mod Machine
+pub mod Events
+pub mod Kept
+pub mod Fits
+pub mod Laws
