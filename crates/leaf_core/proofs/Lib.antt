@@ -9,3 +9,6 @@ pub mod EveryEvent
 pub mod Fitting
 pub mod Plain
 pub mod Runs
+pub mod Fresh
+pub mod Beginning
+pub mod Ready

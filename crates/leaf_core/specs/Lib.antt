@@ -6,3 +6,4 @@ pub mod Events
 pub mod Kept
 pub mod Fits
 pub mod Laws
+pub mod Begins
