@@ -12,3 +12,4 @@ pub mod Runs
 pub mod Fresh
 pub mod Beginning
 pub mod Ready
+pub mod Names

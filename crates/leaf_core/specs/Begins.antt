@@ -51,3 +51,8 @@ pub record Begins (reads : ℕ → Bool) (berth : Meaning) (base : Tables) (own 
   pub kept : Kept (begun base own others region)
   pub plain : IsPlain (begun_tables base own others)
   pub fits : (pair : Pair) → berth.leaves berth.clock pair → FitsPair reads (begun base own others region) pair
+
+-- over a berth a leaf with these tables begins, whatever its base is
+abbrev pub LeafBegins : (ℕ → Bool) → Meaning → Type 0
+LeafBegins reads berth = (base : Tables) (own : List (List ℕ)) → IsReady reads berth base → AreDistinct own
+    → (others : List (List ℕ)) × AreDistinct (own ++ others) × Begins reads berth base own others
