@@ -13,3 +13,5 @@ pub mod Fresh
 pub mod Beginning
 pub mod Ready
 pub mod Names
+pub mod Empty
+mod Samples
