@@ -13,5 +13,6 @@ pub mod Fresh
 pub mod Beginning
 pub mod Ready
 pub mod Names
+pub mod Crashes
 pub mod Empty
 mod Samples

@@ -96,7 +96,7 @@ each_image : (base tables : Tables) (images : List TableImage) → ((name : List
 each_image base tables [] same of = tt
 each_image base tables (t ∷ images) same of = (subst (λ s. IsImageOf s t) (sym (same t.name)) of.0, each_image base tables images same of.1)
 
-image_of : (base tables : Tables) (images : List TableImage) → ((name : List ℕ) → tables name ≡ base name) → ImageOf base images → ImageOf tables images
+pub image_of : (base tables : Tables) (images : List TableImage) → ((name : List ℕ) → tables name ≡ base name) → ImageOf base images → ImageOf tables images
 image_of base tables images same of = record {
   all = λ name some. of.all name (λ none. some (ap (λ (s : TableState). s.writes) (same name) ∙ none));
   each = each_image base tables images same of.each;

@@ -3,8 +3,8 @@ use Rattle.std.specs.Prelude.{◌≡◌, ℕ, Bool, List}
 use Rattle.std.specs.List.{AllByRecursion}
 use Rattle.berth_face.specs.Berth.{Pair}
 use Rattle.leaf_core.specs.Left.{Left}
-use Rattle.leaf_core.specs.Machine.{Machine, Tracked}
-use Rattle.leaf_core.specs.Events.{Reaches}
+use Rattle.leaf_core.specs.Machine.{Machine, Tracked, Down}
+use Rattle.leaf_core.specs.Events.{Reaches, Step}
 use Rattle.leaf_core.specs.Kept.{Kept}
 use Rattle.leaf_core.specs.Fits.{FitsPair, state_of}
 
@@ -23,3 +23,7 @@ PlainThroughout = (m m' : Machine) → IsPlain m.tables → Reaches m m' → IsP
 -- a pair that fits what was reached belongs to its tables, whatever versions are read
 abbrev pub LeftThroughout : Type 0
 LeftThroughout = (reads : ℕ → Bool) (m m' : Machine) (pair : Pair) → IsPlain m.tables → Kept m → Reaches m m' → FitsPair reads m' pair → Left reads (state_of m'.tables) pair
+
+-- a pair that fits is left by a crash, and fits what the leaf then is: down, with nothing in the hand
+abbrev pub FittingIsCrash : Type 0
+FittingIsCrash = (reads : ℕ → Bool) (m : Machine) (pair : Pair) → FitsPair reads m pair → (m' : Machine) × (m'.mode ≡ Down) × Step m m' × FitsPair reads m' pair

@@ -3,16 +3,18 @@
 
 ghost use Rattle.std.specs.Prelude.{ℕ, Bool};
 ghost use Rattle.leaf_core.specs.Begins.{LeafBegins};
-ghost use Rattle.leaf_core.specs.Laws.{KeptThroughout, LeftThroughout, PlainThroughout};
+ghost use Rattle.leaf_core.specs.Laws.{FittingIsCrash, KeptThroughout, LeftThroughout, PlainThroughout};
 
 use berth_face::Berth;
 
 /// After each event of a run, whatever the events are, what is kept holds; no table got writes that were handed in; and a
-/// region and a disk that a crash may leave then belong to the tables as they stand.
+/// region and a disk that a crash may leave then belong to the tables as they stand. What a crash may leave is what the
+/// event of a crash leaves.
 pub fn kept_always()
     ensures kept { KeptThroughout }
     ensures plain { PlainThroughout }
     ensures left { LeftThroughout }
+    ensures crash { FittingIsCrash }
 {}
 
 /// Over a berth that is ready a leaf begins: the machine that is down with the base of each name keeps what it has to, and

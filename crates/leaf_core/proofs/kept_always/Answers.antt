@@ -1,4 +1,5 @@
 use Rattle.leaf_core.proofs.Runs.{kept_throughout, plain_throughout, left_throughout}
+use Rattle.leaf_core.proofs.Crashes.{crashes_fit}
 use Rattle.leaf_core.proofs.kept_always.Goals as goal
 
 pub returns-clause-kept : goal.returns-clause-kept
@@ -9,3 +10,6 @@ returns-clause-plain c = plain_throughout
 
 pub returns-clause-left : goal.returns-clause-left
 returns-clause-left c = left_throughout
+
+pub returns-clause-crash : goal.returns-clause-crash
+returns-clause-crash c = crashes_fit
