@@ -8,7 +8,8 @@ use Rattle.leaf_core.specs.Left.{Tables}
 use Rattle.leaf_core.specs.Machine.{Machine, Tracked, Down, RegionIs, Closed, Whole, Either, Other}
 use Rattle.leaf_core.specs.Events.{MayBe, Resettled, AfterCrash, Step, crash}
 use Rattle.leaf_core.specs.Kept.{AllPlaces}
-use Rattle.leaf_core.specs.Fits.{FitsPair, RegionFits, shows_closed, shows_whole, shows_either, shows_other, state_of, IsElsewhere}
+use Rattle.leaf_core.specs.Fits.{FitsPair, RegionFits, shows_lost, shows_closed, shows_whole, shows_either, shows_other, state_of, IsElsewhere}
+use Rattle.leaf_core.proofs.Places.{no}
 use Rattle.leaf_core.proofs.Fresh.{MayHave}
 use Rattle.leaf_core.proofs.Ready.{image_of}
 
@@ -44,9 +45,11 @@ closes Other = tt
 
 region_after : (reads : ℕ → Bool) (base tables : Tables) (pair : Pair) (end : ℕ) (r : RegionIs) → ((name : List ℕ) → tables name ≡ base name) → RegionFits reads base pair end r
     → (r' : RegionIs) × AfterCrash r r' × RegionFits reads tables pair end r'
-region_after reads base tables pair end r same (shows_closed shut) = (Closed, closes r, shows_closed shut)
+region_after reads base tables pair end r same (shows_lost none) = (Closed, closes r, shows_lost none)
+region_after reads base tables pair end r same (shows_closed may shut) = (Closed, closes r, shows_closed refl shut)
 region_after reads base tables pair end Whole same (shows_whole v images may is of gate) = (Whole, tt, shows_whole v images may is (image_of base tables images same of) gate)
-region_after reads base tables pair end Either same (shows_either (shows_closed shut)) = (Closed, tt, shows_closed shut)
+region_after reads base tables pair end Either same (shows_either (shows_lost none)) = (Closed, tt, shows_lost none)
+region_after reads base tables pair end Either same (shows_either (shows_closed may shut)) = no (sym may)
 region_after reads base tables pair end Either same (shows_either (shows_whole v images may is of gate)) = (Whole, tt, shows_whole v images may is (image_of base tables images same of) gate)
 region_after reads base tables pair end Other same (shows_other v head not) = (Other, tt, shows_other v head not)
 
@@ -54,13 +57,17 @@ pub crashes_fit : (reads : ℕ → Bool) (m : Machine) (pair : Pair) → FitsPai
 crashes_fit reads m pair f =
     let a : After m f.records 0 m.tables = after m f.records 0 m.tables f.logs in
     let r = region_after reads (state_of m.tables) (state_of a.tables) pair f.end m.region a.states f.region in
-    let m' : Machine = record { tables = a.tables; hand = None; mode = Down; region = r.0 } in
-    (m', refl, crash r.0 a.tables r.1 a.resettled refl, record {
-      records = f.records;
-      end = f.end;
-      log = f.log;
-      bounded = f.bounded;
-      logs = a.logs m';
-      others = λ name far. f.others name (a.far name far);
-      region = r.2;
-    })
+    let m' : Machine = record { tables = a.tables; hand = None; mode = Down; region = r.0 } in (
+      m',
+      refl,
+      crash r.0 a.tables r.1 a.resettled refl,
+      record {
+        records = f.records;
+        end = f.end;
+        log = f.log;
+        bounded = f.bounded;
+        logs = a.logs m';
+        others = λ name far. f.others name (a.far name far);
+        region = r.2;
+      },
+    )

@@ -1,5 +1,5 @@
 -- A pair that fits a kept state belongs to its tables.
-use Rattle.std.proofs.Common.{◌≡◌, ℕ, ◌+◌, ◌≤◌, Bool, true, false, List, [], ◌∷◌, length, take, refl, ap, ◌∙◌, arith}
+use Rattle.std.proofs.Common.{◌≡◌, ℕ, ◌+◌, ◌≤◌, Bool, true, false, List, [], ◌∷◌, length, take, refl, inl, ap, ◌∙◌, arith}
 use Rattle.std.specs.Prelude.{if◌then◌else◌, bytes_eq}
 use Rattle.std.proofs.lemmas.Slice.Eq.{bytes_eq-Decides}
 use Rattle.std.proofs.Math.Seq.{take-length}
@@ -11,7 +11,7 @@ use Rattle.leaf_core.specs.Left.{Tables, Left, RegionLeft, closed, other_version
 use Rattle.leaf_core.specs.Machine.{Machine, Tracked, RegionIs, Whole, Either, Other}
 use Rattle.leaf_core.specs.Events.{IsSettled, MayBe}
 use Rattle.leaf_core.specs.Kept.{KeptTable, Kept, AllPlaces, in_hand, holds_image, is_frozen, stays}
-use Rattle.leaf_core.specs.Fits.{RegionFits, shows_closed, shows_whole, shows_either, shows_other, FitsPair, state_of, IsElsewhere}
+use Rattle.leaf_core.specs.Fits.{RegionFits, shows_lost, shows_closed, shows_whole, shows_either, shows_other, FitsPair, state_of, IsElsewhere}
 use Rattle.leaf_core.specs.Laws.{IsPlain}
 use Rattle.leaf_core.proofs.Leaving.{may_be_between}
 use Rattle.leaf_core.proofs.Modes.{or_left}
@@ -57,7 +57,8 @@ wholes m records name frozen b (x ∷ xs) k l plain others = by (bytes_eq name x
 regions : (reads : ℕ → Bool) (tables : Tables) (pair : Pair) (records : List LogRecord) (end : ℕ) (r : RegionIs)
     → (holds_image r ≡ true → (name : List ℕ) → writes_of name records ≡ (tables name).writes)
     → RegionFits reads tables pair end r → RegionLeft reads tables pair records end
-regions reads tables pair records end r whole (shows_closed c) = closed c
+regions reads tables pair records end r whole (shows_lost none) = closed (inl (let short : length pair.region ≡ 0 = ap (λ (bytes : List ℕ). length bytes) none in omega (arith, short)))
+regions reads tables pair records end r whole (shows_closed may shut) = closed shut
 regions reads tables pair records end Whole whole (shows_whole version images may is of gate) = image version images may is of (whole refl) gate
 regions reads tables pair records end Either whole (shows_either f) = regions reads tables pair records end Whole (λ e. whole refl) f
 regions reads tables pair records end Other whole (shows_other version head n) = other_version version head n

@@ -11,14 +11,14 @@ use Rattle.leaf_history.specs.History.{TableState, base_of, no_base}
 use Rattle.region_layout.specs.declared.head.Head.TheVariants.{Version}
 use Rattle.region_layout.specs.declared.image.TableImage.{TableImage}
 use Rattle.region_layout.specs.Region.{AreDistinct, IsImage, head_of}
-use Rattle.region_layout.proofs.Heads.{image_head}
+use Rattle.region_layout.proofs.Heads.{closed_head, image_head}
 use Rattle.row_records.specs.Records.{LogRecord}
 use Rattle.leaf_core.specs.Log.{writes_of}
 use Rattle.leaf_core.specs.Left.{Tables, Left, ImageOf, RegionLeft, closed, other_version, image}
 use Rattle.leaf_core.specs.Base.{HasLog, IsBaseOf, IsFixed, HasTwoLengths, MayBegin, IsReady}
 use Rattle.leaf_core.specs.Machine.{Machine, Tracked, Down, RegionIs, Closed, Whole, Either, Other}
 use Rattle.leaf_core.specs.Kept.{Kept, is_frozen, AllPlaces}
-use Rattle.leaf_core.specs.Fits.{FitsPair, RegionFits, shows_closed, shows_whole, shows_other, state_of, IsElsewhere}
+use Rattle.leaf_core.specs.Fits.{FitsPair, RegionFits, shows_lost, shows_closed, shows_whole, shows_other, state_of, IsElsewhere}
 use Rattle.leaf_core.specs.Laws.{IsPlain}
 use Rattle.leaf_core.specs.Begins.{begun_table, begun_tables, begun, RegionReads, reads_closed, reads_whole, reads_other, LeavesItself, HasNoOther, Begins}
 use Rattle.leaf_core.proofs.Places.{no, both, closed_is_not_other, whole_is_not_other}
@@ -113,10 +113,10 @@ no_other reads region v w images end may is head not =
 
 region_fits : (reads : ℕ → Bool) (base tables : Tables) (p : Pair) (records : List LogRecord) (end : ℕ) (r : RegionIs) → ((name : List ℕ) → tables name ≡ base name)
     → RegionReads reads p.region r → RegionLeft reads base p records end → RegionFits reads tables p end r
-region_fits reads base tables p records end Closed same (reads_closed is) left = shows_closed is
+region_fits reads base tables p records end Closed same (reads_closed is) left = shows_closed refl is
 region_fits reads base tables p records end Other same (reads_other v head not) left = shows_other v head not
 region_fits reads base tables p records end Either same shows left = elim shows [ ]
-region_fits reads base tables p records end Whole same (reads_whole v images e may is) (closed shut) = shows_closed shut
+region_fits reads base tables p records end Whole same (reads_whole v images e may is) (closed shut) = absurd (closed_head p.region shut v (image_head p.region images v e is))
 region_fits reads base tables p records end Whole same (reads_whole v images e may is) (other_version w head not) = no_other reads p.region v w images e may is head not
 region_fits reads base tables p records end Whole same (reads_whole v images e may is) (image w all may' is' of whole gate) = shows_whole w all may' is' (image_of base tables all same of) gate
 
@@ -145,7 +145,7 @@ pair_fits reads berth base own others r p ready itself distinct none shows left 
       others = λ name far. (l.front name).3 ∙ none_longer (l.front name).0 (base name).writes (none name far);
       region = elim (itself.region p left) [
         | inl held ↦ region_fits reads base (state_of xs) p l.records l.end r same (subst (λ bytes. RegionReads reads bytes r) (sym held) shows) l.region
-        | inr lost ↦ shows_closed (inl (let few_bytes : length p.region ≡ 0 = ap (λ (bytes : List ℕ). length bytes) lost in omega (arith, few_bytes)))
+        | inr lost ↦ shows_lost lost
       ];
     }
 

@@ -10,16 +10,17 @@ use Rattle.row_records.specs.Records.{LogRecord}
 use Rattle.leaf_core.specs.Log.{IsLog, IsBounded, writes_of}
 use Rattle.leaf_core.specs.Left.{Tables, ImageOf, HasShutGate}
 use Rattle.leaf_core.specs.Machine.{Machine, Tracked, RegionIs, Whole, Either, Other}
-use Rattle.leaf_core.specs.Events.{MayBe}
+use Rattle.leaf_core.specs.Events.{MayBe, is_whole}
 use Rattle.leaf_core.specs.Kept.{AllPlaces}
 
 -- the log has the sure writes of each table, and the hand's behind them where its gate was begun: all of its record or nothing
 abbrev pub LogFits : Machine → List LogRecord → Type 0
 LogFits m records = AllPlaces (λ t x. (n : ℕ) × MayBe m t x n × (writes_of x.name records ≡ take n x.state.writes)) 0 m.tables
 
--- the region is what the machine says, or closed as an empty one is
+-- the region is what the machine says, or empty where the machine was lost
 pub data RegionFits (reads : ℕ → Bool) (tables : Tables) (pair : Pair) (end : ℕ) : RegionIs → Type 0 where
-  shows_closed : {r : RegionIs} → IsClosed pair.region → RegionFits reads tables pair end r
+  shows_lost : {r : RegionIs} → pair.region ≡ [] → RegionFits reads tables pair end r
+  shows_closed : {r : RegionIs} → is_whole r ≡ false → IsClosed pair.region → RegionFits reads tables pair end r
   shows_whole : (version : ℕ) (images : List TableImage) → reads version ≡ true → IsImage version pair.region images end → ImageOf tables images → HasShutGate pair.disk end
       → RegionFits reads tables pair end Whole
   shows_either : RegionFits reads tables pair end Whole → RegionFits reads tables pair end Either
