@@ -82,6 +82,6 @@ kept_always m m' k (adopt mode same) = subst Kept (sym same) k
 kept_always m m' k (first_gate made mode same) = subst Kept (sym same) k
 kept_always m m' k (barrier made ts mode rs same) = subst Kept (sym same) (barriers m made ts mode rs k)
 kept_always m m' k (open_table t x at own may shut zero_sure same) =
-    subst Kept (sym same) (opens_table m t x (content_from x.state.before (first_writes x.state x.sure)) may at own zero_sure k)
+    subst Kept (sym same) (opens_table m t x may at own zero_sure k)
 kept_always m m' k (stop may same) = subst Kept (sym same) (is_stopped m.mode m.region m.hand m.tables may k)
 kept_always m m' k (crash r ts shows rs same) = subst Kept (sym same) (crashes m r ts shows rs k)

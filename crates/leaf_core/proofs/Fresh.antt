@@ -8,7 +8,7 @@ use Rattle.leaf_core.specs.Log.{writes_of}
 use Rattle.leaf_core.specs.Machine.{Machine, Tracked, Hand, Down, RegionIs}
 use Rattle.leaf_core.specs.Events.{MayBe, gate_begun}
 use Rattle.leaf_core.specs.Kept.{AllPlaces, KeptTable, in_hand, is_frozen}
-use Rattle.leaf_core.specs.Begins.{open_hand}
+use Rattle.leaf_core.specs.Begins.{open_of, open_hand}
 use Rattle.leaf_core.proofs.Places.{no, both}
 
 -- a table of a base: shut, with nothing handed in, and all of its writes taken
@@ -41,9 +41,9 @@ before b c [] l = refl
 before b c (x ∷ xs) l = by (length x.state.writes == x.sure) (before b (c + 1) xs (omega (arith, l)))
   where
     by : (all : Bool) → in_hand (open_hand (c + 1) xs) b ≡ 0
-        → in_hand (if all then open_hand (c + 1) xs else Some (record { table = c; writes = length x.state.writes - x.sure; laid = true; gate = true })) b ≡ 0
+        → in_hand (if all then open_hand (c + 1) xs else Some (open_of c x)) b ≡ 0
     by true rest = rest
-    by false rest = away (record { table = c; writes = length x.state.writes - x.sure; laid = true; gate = true }) b (λ e. omega (arith, e, l))
+    by false rest = away (open_of c x) b (λ e. omega (arith, e, l))
 
 fresh_kept : (r : RegionIs) (n : ℕ) (x : Tracked) → Fresh x → x.sure + n ≤ length x.state.writes → (is_frozen Down r ≡ true → IsAll x) → KeptTable Down r n x
 fresh_kept r n x f le all = record {
@@ -73,12 +73,12 @@ all_kept r b [] f all = tt
 all_kept r b (x ∷ xs) f all = by (length x.state.writes == x.sure) refl (all_kept r (b + 1) xs f.1 (λ e. (all e).1))
   where
     by : (c : Bool) → (length x.state.writes == x.sure) ≡ c → AllPlaces (λ t x. KeptTable Down r (in_hand (open_hand (b + 1) xs) t) x) (b + 1) xs
-        → AllPlaces (λ t z. KeptTable Down r (in_hand (if c then open_hand (b + 1) xs else Some (record { table = b; writes = length x.state.writes - x.sure; laid = true; gate = true })) t) z) b (x ∷ xs)
+        → AllPlaces (λ t z. KeptTable Down r (in_hand (if c then open_hand (b + 1) xs else Some (open_of b x)) t) z) b (x ∷ xs)
     by true e rest =
         let none : in_hand (open_hand (b + 1) xs) b ≡ 0 = before b (b + 1) xs (omega arith) in
         (fresh_kept r (in_hand (open_hand (b + 1) xs) b) x f.0 (omega (arith, none, f.0.le)) (λ e. (all e).0), rest)
     by false e rest =
-        let h : Hand = record { table = b; writes = length x.state.writes - x.sure; laid = true; gate = true } in
+        let h : Hand = open_of b x in
         let its : in_hand (Some h) b ≡ length x.state.writes - x.sure = rw (eq-eqb b b refl) refl in
         (fresh_kept r (in_hand (Some h) b) x f.0 (omega (arith, its, f.0.le)) (λ e. (all e).0), kept_after r h (b + 1) xs (omega arith) f.1 (λ e. (all e).1))
 
@@ -114,11 +114,11 @@ all_have m records b [] hand few logs f = tt
 all_have m records b (x ∷ xs) hand few logs f = by (length x.state.writes == x.sure) refl hand (λ h. all_have m records (b + 1) xs h few.1 logs.1 f.1)
   where
     by : (c : Bool) → (length x.state.writes == x.sure) ≡ c
-        → m.hand ≡ (if c then open_hand (b + 1) xs else Some (record { table = b; writes = length x.state.writes - x.sure; laid = true; gate = true }))
+        → m.hand ≡ (if c then open_hand (b + 1) xs else Some (open_of b x))
         → (m.hand ≡ open_hand (b + 1) xs → AllPlaces (MayHave m records) (b + 1) xs) → AllPlaces (MayHave m records) b (x ∷ xs)
     by true e same rest = (have_all m records b x (sym (eqb-true (length x.state.writes) x.sure e)) logs.0, rest same)
     by false e same rest =
-        let h : Hand = record { table = b; writes = length x.state.writes - x.sure; laid = true; gate = true } in
+        let h : Hand = open_of b x in
         let begun : gate_begun (Some h) b ≡ length x.state.writes - x.sure = rw (eq-eqb b b refl) refl in
         let begun' : gate_begun m.hand b ≡ length x.state.writes - x.sure = subst (λ o. gate_begun o b ≡ length x.state.writes - x.sure) (sym same) begun in (
           (

@@ -2,17 +2,15 @@
 use Rattle.std.proofs.Common.{◌≡◌, ℕ, ◌+◌, ◌-◌, Bool, true, false, List, [], ◌∷◌, map, refl, sym, ap, subst, ◌∙◌, arith, Option, Some, None, slice_get, slice_set}
 use Rattle.std.specs.Prelude.{◌&&◌, ◌||◌, not, if◌then◌else◌}
 use Rattle.std.proofs.lemmas.List.{length-take}
-use Rattle.leaf_model.specs.Content.{Contents}
 use Rattle.leaf_history.specs.History.{changed}
 use Rattle.leaf_core.specs.Machine.{Machine, Tracked, Hand, Mode, Down, Finding, Scanning, Adopting, Opening, Up, Preparing, Copying, RegionIs, Closed}
-use Rattle.leaf_core.specs.Events.{all_own_live, forgotten, NoneElsewhere, MayOpenFrom}
+use Rattle.leaf_core.specs.Events.{all_own_live, emptied, forgotten, open_call, NoneElsewhere, MayOpenFrom}
 use Rattle.leaf_core.specs.Kept.{AllPlaces, KeptTable, KeptLeaf, KeptIn, Kept}
-use Rattle.leaf_history.specs.Calls as call
 use Rattle.leaf_core.proofs.Places.{Places-get, Places-set, no, both, closed_is_not_other, with_all, Places-map}
 
-opened_one : (n : ℕ) (mode : Mode) (x : Tracked) (contents : Contents) → x.own ≡ true → KeptTable mode Closed n x
-    → KeptTable Opening Closed 0 (record x { state = changed true x.state (call.Open x.sure contents) })
-opened_one n mode x contents own h = record {
+opened_one : (n : ℕ) (mode : Mode) (x : Tracked) → x.own ≡ true → KeptTable mode Closed n x
+    → KeptTable Opening Closed 0 (record x { state = changed true x.state (open_call x) })
+opened_one n mode x own h = record {
   flushed = omega arith;
   sure = omega arith;
   taken = rw (length-take (x.sure - x.state.handed_in) x.state.writes) (omega (arith, h.sure, h.taken));
@@ -36,7 +34,7 @@ open_tight Down x may h own live = absurd may
 open_tight (Finding found) x may h own live = absurd may
 
 beside_opened : (mode : Mode) (x : Tracked) → MayOpenFrom mode → (x.own ≡ false → x.sure ≡ 0) → KeptTable mode Closed 0 x → (b : Bool) → x.own ≡ b
-    → KeptTable Opening Closed 0 (if b then x else record x { state = record x.state { writes = []; taken = 0 } })
+    → KeptTable Opening Closed 0 (if b then x else emptied x)
 beside_opened mode x may z h true own = record {
   flushed = h.flushed;
   sure = h.sure;
@@ -73,16 +71,16 @@ if_false true p q e = both true e refl
 forgotten_own : (x : Tracked) → x.own ≡ true → forgotten x ≡ x
 forgotten_own x own = if_true x.own x _ own
 
-opening : (mode : Mode) (ts : List Tracked) (t : ℕ) (x : Tracked) (contents : Contents) → MayOpenFrom mode → slice_get ts t ≡ Some x → x.own ≡ true
+opening : (mode : Mode) (ts : List Tracked) (t : ℕ) (x : Tracked) → MayOpenFrom mode → slice_get ts t ≡ Some x → x.own ≡ true
     → NoneElsewhere ts
     → AllPlaces (λ i z. KeptTable mode Closed 0 z) 0 ts
-    → AllPlaces (λ i z. KeptTable Opening Closed 0 z) 0 (map forgotten (slice_set ts t (record x { state = changed true x.state (call.Open x.sure contents) })))
-opening mode ts t x contents may at own zero_sure k =
+    → AllPlaces (λ i z. KeptTable Opening Closed 0 z) 0 (map forgotten (slice_set ts t (record x { state = changed true x.state (open_call x) })))
+opening mode ts t x may at own zero_sure k =
     let A : Tracked → Type 0 = λ y. y.own ≡ false → y.sure ≡ 0 in
     let P : ℕ → Tracked → Type 0 = λ i z. KeptTable mode Closed 0 z in
     let Q : ℕ → Tracked → Type 0 = λ i z. KeptTable Opening Closed 0 (forgotten z) in
-    let y : Tracked = record x { state = changed true x.state (call.Open x.sure contents) } in
-    let opened_y : KeptTable Opening Closed 0 y = opened_one 0 mode x contents own (Places-get P 0 t ts x at k) in
+    let y : Tracked = record x { state = changed true x.state (open_call x) } in
+    let opened_y : KeptTable Opening Closed 0 y = opened_one 0 mode x own (Places-get P 0 t ts x at k) in
     Places-map (λ i z. KeptTable Opening Closed 0 z) forgotten 0 (slice_set ts t y)
     (Places-set (λ i z. A z × P i z) Q 0 t ts x y at (λ i z n h. beside_opened mode z may h.0 h.1 z.own refl) (subst (KeptTable Opening Closed 0) (sym (forgotten_own y own)) opened_y) (with_all A P 0 ts zero_sure k))
 
@@ -120,21 +118,21 @@ all_up b (x ∷ xs) e h =
 
     is_live : (x : Tracked) (b : Bool) → x.own ≡ b → (not x.own || x.state.live) ≡ true → (forgotten x).own ≡ true → (forgotten x).state.live ≡ true
     is_live x true own e o = subst (λ (z : Tracked). z.state.live ≡ true) (sym (forgotten_own x own)) (or_live x.own x.state.live own e)
-    is_live x false own e o = both (forgotten x).own (ap (λ (z : Tracked). z.own) (if_false x.own x (record x { state = record x.state { writes = []; taken = 0 } }) own) ∙ own) o
+    is_live x false own e o = both (forgotten x).own (ap (λ (z : Tracked). z.own) (if_false x.own x (emptied x) own) ∙ own) o
 
 -- one of the tables is opened
-opens_one : (mode : Mode) (ts : List Tracked) (t : ℕ) (x : Tracked) (contents : Contents) (b : Bool) → MayOpenFrom mode → slice_get ts t ≡ Some x → x.own ≡ true
+opens_one : (mode : Mode) (ts : List Tracked) (t : ℕ) (x : Tracked) (b : Bool) → MayOpenFrom mode → slice_get ts t ≡ Some x → x.own ≡ true
     → NoneElsewhere ts
-    → all_own_live (slice_set ts t (record x { state = changed true x.state (call.Open x.sure contents) })) ≡ b
+    → all_own_live (slice_set ts t (record x { state = changed true x.state (open_call x) })) ≡ b
     → AllPlaces (λ i z. KeptTable mode Closed 0 z) 0 ts
-    → KeptIn (if b then Up else Opening) Closed None (map forgotten (slice_set ts t (record x { state = changed true x.state (call.Open x.sure contents) })))
-opens_one mode ts t x contents true may at own zero_sure all k = (
+    → KeptIn (if b then Up else Opening) Closed None (map forgotten (slice_set ts t (record x { state = changed true x.state (open_call x) })))
+opens_one mode ts t x true may at own zero_sure all k = (
   record { frozen = λ e. no e; shut = λ e. refl; other = closed_is_not_other; no_hand = λ e. refl },
-  all_up 0 (slice_set ts t (record x { state = changed true x.state (call.Open x.sure contents) })) all (opening mode ts t x contents may at own zero_sure k),
+  all_up 0 (slice_set ts t (record x { state = changed true x.state (open_call x) })) all (opening mode ts t x may at own zero_sure k),
 )
-opens_one mode ts t x contents false may at own zero_sure all k = (
+opens_one mode ts t x false may at own zero_sure all k = (
   record { frozen = λ e. no e; shut = λ e. refl; other = closed_is_not_other; no_hand = λ e. refl },
-  opening mode ts t x contents may at own zero_sure k,
+  opening mode ts t x may at own zero_sure k,
 )
 
 -- from these modes the region is closed and no record is settled
@@ -148,15 +146,15 @@ open_calm Copying region hand may k = absurd may
 open_calm Down region hand may k = absurd may
 open_calm (Finding found) region hand may k = absurd may
 
-pub opens_table : (m : Machine) (t : ℕ) (x : Tracked) (contents : Contents) → MayOpenFrom m.mode → slice_get m.tables t ≡ Some x → x.own ≡ true
+pub opens_table : (m : Machine) (t : ℕ) (x : Tracked) → MayOpenFrom m.mode → slice_get m.tables t ≡ Some x → x.own ≡ true
     → NoneElsewhere m.tables → Kept m
-    → KeptIn (if all_own_live (slice_set m.tables t (record x { state = changed true x.state (call.Open x.sure contents) })) then Up else Opening) m.region m.hand
-    (map forgotten (slice_set m.tables t (record x { state = changed true x.state (call.Open x.sure contents) })))
-opens_table m t x contents may at own zero_sure k =
+    → KeptIn (if all_own_live (slice_set m.tables t (record x { state = changed true x.state (open_call x) })) then Up else Opening) m.region m.hand
+    (map forgotten (slice_set m.tables t (record x { state = changed true x.state (open_call x) })))
+opens_table m t x may at own zero_sure k =
     let calm : (m.region ≡ Closed) × (m.hand ≡ None) = open_calm m.mode m.region m.hand may k.0 in
     let k' : KeptIn m.mode Closed None m.tables = subst (λ h. KeptIn m.mode Closed h m.tables) calm.1 (subst (λ r. KeptIn m.mode r m.hand m.tables) calm.0 k) in
-    let ts : List Tracked = map forgotten (slice_set m.tables t (record x { state = changed true x.state (call.Open x.sure contents) })) in
-    let all : Bool = all_own_live (slice_set m.tables t (record x { state = changed true x.state (call.Open x.sure contents) })) in
+    let ts : List Tracked = map forgotten (slice_set m.tables t (record x { state = changed true x.state (open_call x) })) in
+    let all : Bool = all_own_live (slice_set m.tables t (record x { state = changed true x.state (open_call x) })) in
     subst (λ r. KeptIn (if all then Up else Opening) r m.hand ts) (sym calm.0)
     (subst (λ h. KeptIn (if all then Up else Opening) Closed h ts) (sym calm.1)
-    (opens_one m.mode m.tables t x contents all may at own zero_sure refl k'.1))
+    (opens_one m.mode m.tables t x all may at own zero_sure refl k'.1))

@@ -3,11 +3,10 @@ use Rattle.std.proofs.Common.{◌≡◌, ℕ, zero, suc, ◌+◌, Bool, true, fa
 use Rattle.std.specs.Prelude.{if◌then◌else◌}
 use Rattle.leaf_history.specs.Calls.{Call}
 use Rattle.leaf_history.specs.Calls as call
-use Rattle.leaf_model.specs.Content.{content_from}
-use Rattle.leaf_history.specs.History.{TableState, changed, after_entry, is_refusal, first_writes}
+use Rattle.leaf_history.specs.History.{TableState, changed, after_entry, is_refusal}
 use Rattle.leaf_core.specs.Laws.{IsPlain}
 use Rattle.leaf_core.specs.Machine.{Machine, Tracked}
-use Rattle.leaf_core.specs.Events.{Step, turn, take_writes, close_taking, close, lay, gate, gate_sync, flushed, prepare, plan, copy, open_flag, flag_open, done, kill, fail, find, close_flag, flag_closed, way, adopt, first_gate, barrier, open_table, stop, crash, Resettled, forgotten}
+use Rattle.leaf_core.specs.Events.{Step, turn, take_writes, close_taking, close, lay, gate, gate_sync, flushed, prepare, plan, copy, open_flag, flag_open, done, kill, fail, find, close_flag, flag_closed, way, adopt, first_gate, barrier, open_table, stop, crash, Resettled, emptied, forgotten, open_call}
 use Rattle.leaf_core.proofs.Places.{some_is}
 
 plain_get : (ts : List Tracked) (t : ℕ) (x : Tracked) → slice_get ts t ≡ Some x → IsPlain ts → x.state.handed_in ≡ 0
@@ -42,7 +41,7 @@ resettled m t [] (y ∷ ys) r p = absurd r
 resettled m t (x ∷ xs) [] r p = absurd r
 resettled m t (x ∷ xs) (y ∷ ys) r p = (ap (λ (z : Tracked). z.state.handed_in) r.0.2 ∙ p.0, resettled m (t + 1) xs ys r.1 p.1)
 
-forgetting : (x : Tracked) (own : Bool) → (if own then x else record x { state = record x.state { writes = []; taken = 0 } }).state.handed_in ≡ x.state.handed_in
+forgetting : (x : Tracked) (own : Bool) → (if own then x else emptied x).state.handed_in ≡ x.state.handed_in
 forgetting x true = refl
 forgetting x false = refl
 
@@ -81,7 +80,7 @@ plain_always m m' p (adopt mode same) = to m m' _ same p
 plain_always m m' p (first_gate made mode same) = to m m' _ same p
 plain_always m m' p (barrier made ts mode rs same) = to m m' _ same (resettled m 0 m.tables ts rs p)
 plain_always m m' p (open_table t x at own may shut zero_sure same) =
-    let c : Call = call.Open x.sure (content_from x.state.before (first_writes x.state x.sure)) in
+    let c : Call = open_call x in
     to m m' _ same (all_forgotten (slice_set m.tables t (record x { state = changed true x.state c })) (one m t x (changed true x.state c) at (stays_in x.state c) p))
 plain_always m m' p (stop may same) = to m m' _ same p
 plain_always m m' p (crash r ts shows rs same) = to m m' _ same (resettled m 0 m.tables ts rs p)

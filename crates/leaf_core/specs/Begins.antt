@@ -19,11 +19,15 @@ begun_table base own name = record { name = name; own = own; state = base name; 
 abbrev pub begun_tables : Tables → List (List ℕ) → List (List ℕ) → List Tracked
 begun_tables base own others = map (begun_table base true) own ++ map (begun_table base false) others
 
--- the record that may still be lost or not, where there is one: of the first table, from place t on, that has more writes than are sure
+-- the record that may still be lost or not, of a table that has more writes than are sure
+abbrev pub open_of : ℕ → Tracked → Hand
+open_of t x = record { table = t; writes = length x.state.writes - x.sure; laid = true; gate = true }
+
+-- of the first such table, from place t on, where there is one
 abbrev pub open_hand : ℕ → List Tracked → Option Hand
 open_hand t [] = None
 open_hand t (x ∷ xs) = if length x.state.writes == x.sure then open_hand (t + 1) xs
-    else Some (record { table = t; writes = length x.state.writes - x.sure; laid = true; gate = true })
+    else Some (open_of t x)
 
 -- the machine begins in Down
 abbrev pub begun : Tables → List (List ℕ) → List (List ℕ) → RegionIs → Machine

@@ -1,6 +1,7 @@
 -- The events of a leaf's machine: when each may come, and what it changes.
 use Rattle.std.specs.Prelude.{◌≡◌, ◌≢◌, ◌⊎◌, ℕ, ◌+◌, ◌-◌, ◌<◌, ◌≤◌, ◌==◌, Bool, true, false, ◌&&◌, ◌||◌, not, List, [], ◌∷◌, map, slice_get, slice_set, Some, None, Option, ⊤, if◌then◌else◌}
 use Rattle.std.specs.List.{AllByRecursion, list_all}
+use Rattle.leaf_history.specs.Calls.{Call}
 use Rattle.leaf_history.specs.Calls as call
 use Rattle.leaf_model.specs.Content.{content_from}
 use Rattle.leaf_history.specs.History.{Entry, TableState, Allowed, after_entry, changed, write_count, first_writes}
@@ -82,9 +83,17 @@ is_whole Closed = false
 is_whole Either = false
 is_whole Other = false
 
+-- a table without its writes
+abbrev pub emptied : Tracked → Tracked
+emptied x = record x { state = record x.state { writes = []; taken = 0 } }
+
 -- a name that the leaf does not have is forgotten once a table is opened
 abbrev pub forgotten : Tracked → Tracked
-forgotten x = if x.own then x else record x { state = record x.state { writes = []; taken = 0 } }
+forgotten x = if x.own then x else emptied x
+
+-- a table is opened with its sure writes
+abbrev pub open_call : Tracked → Call
+open_call x = call.Open x.sure (content_from x.state.before (first_writes x.state x.sure))
 
 -- no write of a name that the leaf does not have is on the disk
 abbrev pub NoneElsewhere : List Tracked → Type 0
@@ -172,9 +181,9 @@ pub data Step (m m' : Machine) : Type 0 where
   first_gate : (made : Bool) → m.mode ≡ Scanning made → m' ≡ m → Step m m'
   -- a sync: what reads give is what every crash leaves
   barrier : (made : Bool) (ts : List Tracked) → m.mode ≡ Scanning made → Resettled m 0 m.tables ts → m' ≡ record m { tables = ts; hand = None; mode = Scanning true } → Step m m'
-  -- a table is opened with its sure writes; after the last one the leaf is Up
+  -- a table is opened; after the last one the leaf is Up
   open_table : (t : ℕ) (x : Tracked) → slice_get m.tables t ≡ Some x → x.own ≡ true → MayOpenFrom m.mode → x.state.live ≡ false → NoneElsewhere m.tables
-      → m' ≡ (let n = with_state m t x (changed true x.state (call.Open x.sure (content_from x.state.before (first_writes x.state x.sure)))) in
+      → m' ≡ (let n = with_state m t x (changed true x.state (open_call x)) in
       record n { tables = map forgotten n.tables; mode = if all_own_live n.tables then Up else Opening }) → Step m m'
   -- the start is given up
   stop : MayStop m.mode → m' ≡ record m { mode = Down } → Step m m'
