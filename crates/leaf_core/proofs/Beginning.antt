@@ -1,28 +1,18 @@
 -- Over a ready berth a leaf begins: its machine is kept, and each pair that a crash may leave fits it.
-use Rattle.std.proofs.Common.{◌≡◌, ℕ, ◌+◌, ◌≤◌, Bool, true, false, List, [], ◌∷◌, ◌++◌, length, take, map, refl, sym, ap, subst, ◌∙◌, arith, inl, inr}
-use Rattle.std.specs.Prelude.{◌≢◌, ◌⊎◌, if◌then◌else◌, bytes_eq}
+use Rattle.std.proofs.Common.{◌≡◌, ℕ, ◌≤◌, Bool, true, false, List, [], ◌∷◌, ◌++◌, length, map, refl, sym, ap, subst, ◌∙◌, arith, inl, inr}
+use Rattle.std.specs.Prelude.{◌≢◌, bytes_eq}
 use Rattle.std.specs.List.{AllByRecursion}
-use Rattle.std.proofs.lemmas.List.{length-take}
 use Rattle.std.proofs.lemmas.Slice.Eq.{bytes_eq-Decides}
-use Rattle.berth_face.specs.Berth.{Pair, Meaning}
-use Rattle.leaf_model.specs.declared.writes.Write.{Write}
-use Rattle.leaf_model.specs.Content.{content}
-use Rattle.leaf_history.specs.History.{TableState, base_of, no_base}
-use Rattle.region_layout.specs.declared.head.Head.TheVariants.{Version}
-use Rattle.region_layout.specs.declared.image.TableImage.{TableImage}
-use Rattle.region_layout.specs.Region.{AreDistinct, IsImage, head_of}
-use Rattle.region_layout.proofs.Heads.{image_head}
-use Rattle.row_records.specs.Records.{LogRecord}
-use Rattle.leaf_core.specs.Log.{writes_of}
-use Rattle.leaf_core.specs.Left.{Tables, Left, ImageOf, RegionLeft, closed, other_version, image}
-use Rattle.leaf_core.specs.Base.{HasLog, IsBaseOf, IsFixed, HasTwoLengths, MayBegin, IsReady}
-use Rattle.leaf_core.specs.Machine.{Machine, Tracked, Down, RegionIs, Closed, Whole, Other}
-use Rattle.leaf_core.specs.Kept.{Kept, is_frozen, AllPlaces}
-use Rattle.leaf_core.specs.Fits.{FitsPair, RegionFits, shows_closed, shows_whole, shows_other, state_of, IsElsewhere}
+use Rattle.berth_face.specs.Berth.{Pair}
+use Rattle.leaf_history.specs.History.{TableState, base_of}
+use Rattle.region_layout.specs.Region.{AreDistinct}
+use Rattle.leaf_core.specs.Left.{Tables}
+use Rattle.leaf_core.specs.Base.{IsBaseOf, IsFixed, MayBegin}
+use Rattle.leaf_core.specs.Machine.{Tracked}
 use Rattle.leaf_core.specs.Laws.{IsPlain}
-use Rattle.leaf_core.specs.Begins.{begun_table, begun_tables, begun, RegionReads, reads_closed, reads_whole, reads_other, LeavesItself, HasNoOther, Begins}
-use Rattle.leaf_core.proofs.Places.{no, both, closed_is_not_other, whole_is_not_other}
-use Rattle.leaf_core.proofs.Fresh.{Fresh, IsAll, AtMostOne, OfLog, all_kept, no_hand, all_have}
+use Rattle.leaf_core.specs.Begins.{begun_table, begun_tables}
+use Rattle.leaf_core.proofs.Places.{both}
+use Rattle.leaf_core.proofs.Fresh.{Fresh, IsAll, AtMostOne}
 
 -- a table that is as its base says
 abbrev pub IsBegun : Tables → Tracked → Type 0

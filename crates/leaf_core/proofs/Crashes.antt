@@ -1,12 +1,11 @@
 -- A pair that fits a state is left by a crash, and fits the state after it.
-use Rattle.std.proofs.Common.{◌≡◌, ℕ, ◌+◌, Bool, true, false, List, [], ◌∷◌, refl, sym, ap, subst, ◌∙◌, inl, None, take}
+use Rattle.std.proofs.Common.{◌≡◌, ℕ, ◌+◌, Bool, true, false, List, [], ◌∷◌, refl, sym, inl, None}
 use Rattle.std.specs.Prelude.{if◌then◌else◌, bytes_eq}
 use Rattle.berth_face.specs.Berth.{Pair}
 use Rattle.row_records.specs.Records.{LogRecord}
-use Rattle.leaf_core.specs.Log.{writes_of}
 use Rattle.leaf_core.specs.Left.{Tables}
 use Rattle.leaf_core.specs.Machine.{Machine, Tracked, Down, RegionIs, Closed, Whole, Either, Other}
-use Rattle.leaf_core.specs.Events.{MayBe, Resettled, AfterCrash, Step, crash}
+use Rattle.leaf_core.specs.Events.{Resettled, AfterCrash, Step, crash}
 use Rattle.leaf_core.specs.Kept.{AllPlaces}
 use Rattle.leaf_core.specs.Fits.{FitsPair, RegionFits, shows_lost, shows_closed, shows_whole, shows_either, shows_other, state_of, IsElsewhere}
 use Rattle.leaf_core.proofs.Places.{no}

@@ -1,8 +1,7 @@
 -- Every event keeps what is kept.
 use Rattle.std.proofs.Common.{◌≡◌, true, false, List, refl, sym, subst, None, slice_set}
 use Rattle.std.specs.Prelude.{if◌then◌else◌}
-use Rattle.leaf_model.specs.Content.{content_from}
-use Rattle.leaf_history.specs.History.{after_entry, changed, first_writes}
+use Rattle.leaf_history.specs.History.{after_entry, changed}
 use Rattle.leaf_core.specs.Machine.{Machine, Tracked, Mode, Down, Finding, Scanning, Adopting, Up, Preparing, Copying, RegionIs, Closed, Whole, Either}
 use Rattle.leaf_core.specs.Events.{hand_of, all_own_handed, Step, turn, take_writes, close_taking, close, lay, gate, gate_sync, flushed, prepare, plan, copy, open_flag, flag_open, done, kill, fail, find, close_flag, flag_closed, way, adopt, first_gate, barrier, open_table, stop, crash}
 use Rattle.leaf_core.specs.Kept.{in_hand, is_shut, KeptTable, KeptIn, Kept}

@@ -1,5 +1,5 @@
 -- Over a ready berth each pair that a crash may leave fits the machine that begins there.
-use Rattle.std.proofs.Common.{◌≡◌, ℕ, ◌+◌, ◌≤◌, Bool, true, false, List, [], ◌∷◌, ◌++◌, length, take, map, refl, sym, ap, subst, ◌∙◌, arith, inl, inr}
+use Rattle.std.proofs.Common.{◌≡◌, ℕ, ◌≤◌, Bool, true, false, List, [], ◌∷◌, ◌++◌, length, take, refl, sym, ap, subst, ◌∙◌, arith, inl, inr}
 use Rattle.std.specs.Prelude.{◌≢◌, ◌⊎◌, if◌then◌else◌, bytes_eq}
 use Rattle.std.specs.List.{AllByRecursion}
 use Rattle.std.proofs.lemmas.List.{length-take, nil_from_length}
@@ -17,13 +17,12 @@ use Rattle.leaf_core.specs.Log.{writes_of}
 use Rattle.leaf_core.specs.Left.{Tables, Left, ImageOf, RegionLeft, closed, other_version, image}
 use Rattle.leaf_core.specs.Base.{HasLog, IsBaseOf, IsFixed, HasTwoLengths, MayBegin, IsReady}
 use Rattle.leaf_core.specs.Machine.{Machine, Tracked, Down, RegionIs, Closed, Whole, Either, Other}
-use Rattle.leaf_core.specs.Kept.{Kept, is_frozen, AllPlaces}
+use Rattle.leaf_core.specs.Kept.{is_frozen}
 use Rattle.leaf_core.specs.Fits.{FitsPair, RegionFits, shows_lost, shows_closed, shows_whole, shows_other, state_of, IsElsewhere}
-use Rattle.leaf_core.specs.Laws.{IsPlain}
-use Rattle.leaf_core.specs.Begins.{begun_table, begun_tables, begun, RegionReads, reads_closed, reads_whole, reads_other, LeavesItself, HasNoOther, Begins}
-use Rattle.leaf_core.proofs.Places.{no, both, closed_is_not_other, whole_is_not_other}
+use Rattle.leaf_core.specs.Begins.{begun_tables, begun, RegionReads, reads_closed, reads_whole, reads_other, LeavesItself, HasNoOther, Begins}
+use Rattle.leaf_core.proofs.Places.{no, both}
 use Rattle.leaf_core.proofs.Fresh.{Fresh, IsAll, AtMostOne, OfLog, all_kept, no_hand, all_have}
-use Rattle.leaf_core.proofs.Beginning.{IsBegun, ButOne, name_of, are_begun, names_are, flushed_le, are_fresh, are_plain, but_one, at_most_one, all_one}
+use Rattle.leaf_core.proofs.Beginning.{IsBegun, ButOne, are_begun, names_are, flushed_le, are_fresh, are_plain, but_one, at_most_one, all_one}
 
 -- what a name's log has where it has one of two lengths
 two_lengths : (may : Pair → Type 0) (base : Tables) (p : Pair) (name : List ℕ) (records : List LogRecord) (m : ℕ) → HasTwoLengths may name (base name) → may p

@@ -1,15 +1,15 @@
 -- A worked life of a leaf: a start over an empty disk, a flush, a crash inside it, and a drain.
-use Rattle.std.specs.Prelude.{◌≡◌, ℕ, Bool, true, false, List, [], ◌∷◌, None, Some, codes, refl, map, pos, ◌≤◌, ◌^◌, length, take}
-use Rattle.std.proofs.Common.{lit<, lit≤, inl, inr, arith, ap, ◌∙◌, sym, subst}
+use Rattle.std.specs.Prelude.{ℕ, Bool, true, false, List, [], ◌∷◌, None, Some, codes, refl, map, pos}
+use Rattle.std.proofs.Common.{lit<, lit≤, inl, inr}
 use Rattle.leaf_model.specs.declared.rows.Row.{Row}
 use Rattle.leaf_model.specs.declared.writes.Write.{Write}
 use Rattle.leaf_model.specs.declared.writes.Write.TheVariants as write
 use Rattle.leaf_model.specs.Content.{nothing}
 use Rattle.leaf_history.specs.Calls as call
 use Rattle.leaf_history.specs.Replies as reply
-use Rattle.leaf_history.specs.History.{Entry, TableState, no_base}
+use Rattle.leaf_history.specs.History.{Entry}
 use Rattle.leaf_core.specs.Machine.{Machine, Tracked, Down, Up, Closed, Whole}
-use Rattle.leaf_core.specs.Events.{Step, Reaches, here, next, find, way, first_gate, barrier, open_table, turn, take_writes, lay, gate, gate_sync, flushed, prepare, close_taking, plan, copy, open_flag, flag_open, done, kill, close, crash}
+use Rattle.leaf_core.specs.Events.{Step, Reaches, here, next, find, way, first_gate, barrier, open_table, turn, take_writes, lay, gate, gate_sync, flushed, prepare, close_taking, plan, copy, open_flag, flag_open, done, crash}
 
 abbrev times : List ℕ → List Row
 times ts = map (λ t. record { time = pos t; cells = [] }) ts
