@@ -1,5 +1,5 @@
 -- What an open file means, and what its calls give.
-use Rattle.std.specs.Prelude.{◌≡◌, ℕ, ◌-◌, ◌<◌, ◌≤◌, Bool, false, List, [], length, take, drop}
+use Rattle.std.specs.Prelude.{◌≡◌, ℕ, ◌-◌, ◌<◌, ◌≤◌, Bool, true, false, List, [], length, take, drop}
 
 -- all that an open file means
 pub record Contents : Type 0 where
@@ -19,3 +19,7 @@ pub record GivesSome (at : ℕ) (content buf : List ℕ) (n : ℕ) : Type 0 wher
   pub within : n ≤ length content - at
   pub some : 0 < length buf → 0 < length content - at → 0 < n
   pub bytes : take n buf ≡ take n (drop at content)
+
+-- a file that tells these bytes, which are on the device
+abbrev pub told_file : List ℕ → Contents
+told_file bytes = record { tells = true; holds = bytes; keeps = bytes }

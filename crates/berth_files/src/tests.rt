@@ -1,7 +1,67 @@
+ghost use Rattle.std.specs.Prelude.{◌∷◌, ◌^◌, []};
+ghost use Rattle.std.proofs.Common.{refl};
+ghost use Rattle.std.proofs.lemmas.Bool.{ltb-true};
+ghost use Rattle.berth_files.specs.Raw.{told_file};
+
 use super::*;
+use crate::raw::RawFile;
+use crate::whole::read_whole;
 use berth_face::{Berth, Failed};
 use std::fs;
 use std::test::Fail;
+
+/// A file of two bytes that gives one at a time, and takes nothing.
+#[derive(Drop)]
+struct Dripping {
+    first: u8,
+    second: u8,
+}
+
+impl RawFile for Dripping {
+    ghost contents = { λ f. told_file (f.first ∷ f.second ∷ []) };
+
+    ghost short = { λ f told. ltb-true 2 (2 ^ 63) refl };
+
+    fn len(&self) -> Result<u64, Failed> {
+        Ok(2)
+    }
+
+    fn read_some(&self, at: u64, buf: &mut [u8]) -> Result<usize, Failed> {
+        if at >= 2 || buf.is_empty() {
+            return Ok(0);
+        }
+        if at == 0 {
+            buf[0] = self.first;
+            return Ok(1);
+        }
+        buf[0] = self.second;
+        Ok(1)
+    }
+
+    fn write_all(&mut self, _at: u64, _bytes: &[u8]) -> Result<(), Failed> {
+        Err(Failed)
+    }
+
+    fn resize(&mut self, _len: u64) -> Result<(), Failed> {
+        Err(Failed)
+    }
+
+    fn sync(&mut self) -> Result<(), Failed> {
+        Ok(())
+    }
+}
+
+#[test]
+fn a_read_goes_on_behind_a_short_one(rt: HostRuntime) -> Result<(), Fail> {
+    let file = Dripping {
+        first: 7,
+        second: 8,
+    };
+    let mut buf = [9u8; 4];
+    assert!(rt; read_whole(&file, 0, &mut buf) == Ok(2));
+    assert!(rt; buf == [7, 8, 9, 9]);
+    Ok(())
+}
 
 /// Lays four bytes of region and four of disk.
 fn lay(berth: &mut FileBerth) -> Result<(), Failed> {
