@@ -1,0 +1,5 @@
+pub mod Logs
+pub mod State
+pub mod Gates
+pub mod Settling
+pub mod Came

@@ -1,0 +1,62 @@
+-- What settling an owed record does to each pair that a crash may leave.
+use Rattle.std.specs.Prelude.{◌≡◌, ◌⊎◌, ℕ, ◌+◌, List, [], ◌∷◌, ◌++◌, length, Bool, true, false, Option, Some, None, Result, OnOk, OnErr}
+use Rattle.std.specs.List.{AllByRecursion}
+use Rattle.row_records.specs.Records.{LogRecord, IsRecord}
+use Rattle.row_records.specs.Pending.{pending_bytes}
+use Rattle.berth_face.specs.Berth.{Pair, Meaning}
+use Rattle.berth_face.specs.Moments.{EachNow, Throughout}
+use Rattle.disk_backup.specs.Logs.{ClosedLog, open_records}
+use Rattle.disk_backup.specs.State.{LogState}
+
+-- these records, at `end` a gate of any kind, and behind it the next record with a closed gate
+pub record LaidLog (records : List LogRecord) (next : LogRecord) (end : ℕ) (disk : List ℕ) : Type 0 where
+  pub gate : ℕ
+  pub rest : List ℕ
+  pub each : AllByRecursion IsRecord records
+  pub next_is : IsRecord next
+  pub is : disk ≡ open_records records ++ gate ∷ (pending_bytes (Some next) ++ rest)
+  pub end_is : end ≡ length (open_records records)
+
+-- a disk of these records, by what is owed and whether that is laid
+abbrev pub HoldsOwing : Option LogRecord → Bool → ℕ → List LogRecord → List ℕ → Type 0
+HoldsOwing None laid end records disk = ClosedLog records end disk
+HoldsOwing (Some next) false end records disk = ClosedLog records end disk × IsRecord next
+HoldsOwing (Some next) true end records disk = LaidLog records next end disk
+
+-- a disk that holds the log of these records: it ends at the log's end, and what is owed and laid is behind that
+abbrev pub HoldsLog : LogState → List LogRecord → List ℕ → Type 0
+HoldsLog log records disk = HoldsOwing log.owed log.laid log.end records disk
+
+-- the records with what is owed
+abbrev pub with_owed : Option LogRecord → List LogRecord → List LogRecord
+with_owed None records = records
+with_owed (Some next) records = records ++ next ∷ []
+
+-- where the log ends with what is owed: behind a gate and the record
+abbrev pub end_with : LogState → ℕ
+end_with log = log.end + length (pending_bytes log.owed)
+
+-- the log with what is owed
+abbrev pub WithOwed : LogState → List LogRecord → List ℕ → Type 0
+WithOwed log records disk = ClosedLog (with_owed log.owed records) (end_with log) disk
+
+-- the log with or without what is owed
+abbrev pub WithOrWithout : LogState → List LogRecord → List ℕ → Type 0
+WithOrWithout log records disk = ClosedLog records log.end disk ⊎ WithOwed log records disk
+
+-- The pair comes from one before: its region is the same or lost, and whichever records that one's disk held as the log had it,
+-- of these its disk is as `after` says. Disks that a crash may leave may hold different records.
+pub record Comes (log : LogState) (after : List LogRecord → List ℕ → Type 0) (old : Meaning) (p : Pair) : Type 0 where
+  pub from : Pair
+  pub before : old.leaves old.clock from
+  pub region : (p.region ≡ from.region) ⊎ (p.region ≡ [])
+  pub disk : (records : List LogRecord) → HoldsLog log records from.disk → after records p.disk
+
+-- what settling does where the berth tells
+pub record Settled {T E : Type 0} (log later : LogState) (result : Result T E) (old new : Meaning) : Type 0 where
+  -- at every moment a crash leaves the log with or without what was owed
+  pub moments : Throughout (Comes log (WithOrWithout log) old) old new
+  -- then every crash leaves it with what was owed
+  pub ok : OnOk result (EachNow (Comes log (WithOwed log) old) new)
+  -- or it is still owed, and the next call goes on
+  pub err : OnErr result (EachNow (Comes log (HoldsLog later) old) new)

@@ -1,0 +1,9 @@
+-- A log as its owner knows it.
+use Rattle.std.specs.Prelude.{ℕ, Bool, Option}
+use Rattle.row_records.specs.Records.{LogRecord}
+
+-- where the log ends, which record it owes, and whether that is known to be on the disk, behind the end's gate
+pub record LogState : Type 0 where
+  pub end : ℕ
+  pub owed : Option LogRecord
+  pub laid : Bool

@@ -1,0 +1,11 @@
+//! The gated log on a berth's disk: records behind open gates, up to the first gate that is not open.
+#![tactic(auto)]
+
+mod fault;
+mod halves;
+mod laws;
+mod log;
+
+pub use fault::{DiskFault, LogFault};
+pub use laws::logs_are_read_once;
+pub use log::BackupLog;
