@@ -1,6 +1,6 @@
 -- From the bytes before a gate to the records that they are.
-use Rattle.std.proofs.Common.{◌≡◌, ◌⊎◌, inl, inr, ◌+◌, ◌∙◌, List, ℕ, [], ◌∷◌, ◌++◌, length, Bool, true, false, Option, Some, None, refl, sym, ap, subst, arith, length-append}
-use Rattle.std.specs.Prelude.{Result, Ok, OnOk, OnErr, IsErr, IsOk, IsSome, IfSome}
+use Rattle.std.proofs.Common.{◌≡◌, inl, inr, ◌+◌, ◌∙◌, List, ℕ, [], ◌∷◌, ◌++◌, length, Bool, true, false, Option, Some, None, refl, sym, ap, subst, arith, length-append}
+use Rattle.std.specs.Prelude.{Result, IsErr, IsOk, IsSome, IfSome}
 use Rattle.std.specs.List.{AllByRecursion}
 use Rattle.row_records.specs.Records.{LogRecord, IsRecord, record_bytes}
 use Rattle.row_records.specs.Pending.{pending_bytes}
@@ -9,9 +9,9 @@ use Rattle.berth_face.specs.Moments.{EachNow, Throughout}
 use Rattle.berth_face.proofs.Moments.{started, throughout_map}
 use Rattle.disk_backup.specs.Logs.{ClosedLog, open_records}
 use Rattle.disk_backup.specs.State.{LogState}
-use Rattle.disk_backup.specs.Gates.{ClosedAfter, LaidAfter, OpenAfter, OwingAfter, EitherWay}
+use Rattle.disk_backup.specs.Gates.{ClosedAfter, OpenAfter, OwingAfter, EitherWay}
 use Rattle.disk_backup.specs.Came.{Came}
-use Rattle.disk_backup.specs.Settling.{LaidLog, HoldsOwing, HoldsLog, with_owed, end_with, WithOwed, WithOrWithout, Comes, Settled}
+use Rattle.disk_backup.specs.Settling.{HoldsOwing, HoldsLog, with_owed, WithOwed, WithOrWithout, Comes, Settled}
 use Rattle.disk_backup.proofs.Bytes.{laid_either, open_closed}
 use Rattle.disk_backup.proofs.Logs.{open_snoc, all_snoc}
 use Rattle.disk_backup.proofs.Results.{on_ok, on_err, on_ok_err, on_err_ok, of_err, of_ok}

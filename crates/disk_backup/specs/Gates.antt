@@ -1,5 +1,5 @@
 -- A disk by the bytes before one of its gates.
-use Rattle.std.specs.Prelude.{◌≡◌, ◌≢◌, ◌⊎◌, ℕ, List, [], ◌∷◌, ◌++◌, Bool, cond}
+use Rattle.std.specs.Prelude.{◌≡◌, ◌≢◌, ◌⊎◌, ℕ, List, ◌∷◌, ◌++◌, Bool, cond}
 
 -- these bytes, and then a gate that is not open
 pub record ClosedAfter (front disk : List ℕ) : Type 0 where

@@ -3,3 +3,4 @@ pub mod State
 pub mod Gates
 pub mod Settling
 pub mod Came
+pub mod Scanning

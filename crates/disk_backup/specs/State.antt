@@ -7,3 +7,8 @@ pub record LogState : Type 0 where
   pub end : ℕ
   pub owed : Option LogRecord
   pub laid : Bool
+
+-- a log that is being read: the place of the gate that comes next, and how many bytes the disk has
+pub record ScanState : Type 0 where
+  pub at : ℕ
+  pub len : ℕ

@@ -1,4 +1,4 @@
-use Rattle.std.proofs.Common.{Ok, Err, refl}
+use Rattle.std.proofs.Common.{Ok, refl}
 use Rattle.std.specs.Prelude.{Result}
 use Rattle.berth_face.specs.declared.stream.Failed.{Failed}
 use Rattle.disk_backup.specs.declared.fault.DiskFault.{DiskFault}

@@ -1,0 +1,65 @@
+-- What the first write of a scan does to each pair.
+use Rattle.std.proofs.Common.{◌≡◌, inl, inr, ℕ, ◌≤◌, ◌<◌, List, [], ◌∷◌, length, take, min, refl, ap, arith}
+use Rattle.std.specs.Prelude.{Result}
+use Rattle.berth_face.specs.Berth.{Pair, Meaning, Passes, Stays, Torn, DiskWritten}
+use Rattle.berth_face.specs.Moments.{EachNow, Throughout}
+use Rattle.berth_face.proofs.Moments.{started, goes_on, throughout_join, throughout_map}
+use Rattle.disk_backup.specs.Scanning.{StepsFrom, Begins, begun}
+use Rattle.disk_backup.proofs.Staying.{through_stay}
+
+-- a pair comes from itself
+pub from_itself : (n : ℕ) (a : Meaning) → EachNow (StepsFrom (Begins n) a) a
+from_itself n a = λ p left. record { from = p; was = left; region = inl refl; disk = inl refl }
+
+no_bytes : (n : ℕ) → min 0 n ≡ 0
+no_bytes n = omega arith
+
+untorn : (disk : List ℕ) → Torn 0 1 disk disk
+untorn disk = record { before = ap (λ (k : ℕ). take k disk) (no_bytes (length disk)); after = refl; no_shorter = omega arith; no_longer = omega arith }
+
+pub gate_written : {T E : Type 0} (result : Result T E) (a b : Meaning) → Passes a b → DiskWritten 0 (0 ∷ []) result a b → Throughout (StepsFrom (Torn 0 1) a) a b
+gate_written result a b time wrote =
+    goes_on a a b (StepsFrom (Torn 0 1) a) (started a (StepsFrom (Torn 0 1) a) (λ p left. record { from = p; was = left; region = inl refl; disk = untorn p.disk })) time
+    (λ t p from to left. let came = wrote.inside t p from to left in record { from = came.0; was = came.1; region = inl came.2.0; disk = came.2.1 })
+    (λ p left. let came = wrote.ended p left in record { from = came.0; was = came.1; region = inl came.2.0; disk = came.2.1 })
+
+-- the first write, where nothing was called before
+pub gate_first : (a b : Meaning) → Throughout (StepsFrom (Torn 0 1) a) a b → Throughout (StepsFrom (Begins 0) a) a b
+gate_first a b all = throughout_map a b (StepsFrom (Torn 0 1) a) (StepsFrom (Begins 0) a) (λ p came. record {
+  from = came.from;
+  was = came.was;
+  region = came.region;
+  disk = inr (record { short = omega arith; synced = λ e. absurd (omega (arith, e)); torn = came.disk });
+}) all
+
+-- and where a sync came before
+pub gate_synced : (n : ℕ) (a b c : Meaning) → n ≤ 1 → Throughout (StepsFrom (Begins n) a) a b → ((p : Pair) → b.leaves b.clock p → a.leaves a.clock p × (length p.disk ≤ 1)) → Throughout (StepsFrom (Torn 0 1) b) b c → Throughout (StepsFrom (Begins n) a) a c
+gate_synced n a b c few so_far were all = throughout_join a b c (StepsFrom (Begins n) a) so_far (throughout_map b c (StepsFrom (Torn 0 1) b) (StepsFrom (Begins n) a) (λ p came.
+    let was = were came.from came.was in
+    record {
+      from = came.from;
+      was = was.0;
+      region = came.region;
+      disk = inr (record { short = few; synced = λ e. was.1; torn = came.disk });
+    }) all)
+
+-- a call before that changed nothing
+pub begins_after : (n : ℕ) (a b c : Meaning) → Passes a b → Stays a b → Throughout (StepsFrom (Begins n) b) b c → Throughout (StepsFrom (Begins n) a) a c
+begins_after n a b c time stays all =
+    throughout_join a b c (StepsFrom (Begins n) a) (through_stay a a b (StepsFrom (Begins n) a) (started a (StepsFrom (Begins n) a) (from_itself n a)) time stays)
+    (throughout_map b c (StepsFrom (Begins n) b) (StepsFrom (Begins n) a) (λ p came. record {
+      from = came.from;
+      was = (stays.leaves b.clock came.from time.later (omega arith)).0 came.was;
+      region = came.region;
+      disk = came.disk;
+    }) all)
+
+pub begun_short : (disk : List ℕ) → length disk ≤ 1 → begun disk ≡ 0 ∷ []
+begun_short [] short = refl
+begun_short (b ∷ []) short = refl
+begun_short (b ∷ c ∷ rest) short = absurd (omega (arith, short))
+
+pub begun_long : (disk : List ℕ) → 1 < length disk → begun disk ≡ disk
+begun_long [] long = absurd (omega (arith, long))
+begun_long (b ∷ []) long = absurd (omega (arith, long))
+begun_long (b ∷ c ∷ rest) long = refl

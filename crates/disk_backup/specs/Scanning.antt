@@ -1,0 +1,81 @@
+-- A log that is read record by record.
+use Rattle.std.specs.Prelude.{◌≡◌, ◌⊎◌, ℕ, ◌+◌, ◌<◌, ◌≤◌, ◌^◌, List, [], ◌∷◌, ◌++◌, length, take, drop, None, false}
+use Rattle.std.specs.List.{AllByRecursion}
+use Rattle.std.specs.Int.{w64, from_le_bytes}
+use Rattle.row_records.specs.Records.{LogRecord, IsRecord, record_bytes}
+use Rattle.berth_face.specs.Berth.{Pair, Meaning, Torn}
+use Rattle.disk_backup.specs.Logs.{ClosedLog, open_records}
+use Rattle.disk_backup.specs.State.{ScanState}
+use Rattle.disk_backup.specs.declared.step.FlushRecord.{FlushRecord}
+use Rattle.disk_backup.specs.declared.step.LogStep.{LogStep}
+use Rattle.disk_backup.specs.declared.step.LogStep.TheVariants.{Record, Ended}
+
+-- ---- before the first read
+
+-- the pair comes from one before: its region is the same or lost, and its disk comes from that one's by a step
+pub record StepsFrom (step : List ℕ → List ℕ → Type 0) (old : Meaning) (p : Pair) : Type 0 where
+  pub from : Pair
+  pub was : old.leaves old.clock from
+  pub region : (p.region ≡ from.region) ⊎ (p.region ≡ [])
+  pub disk : step from.disk p.disk
+
+-- while the first gate is written on a disk that read as `len` bytes: its first byte may be any, and where there was one byte,
+-- a sync came before, so that there is no more than one
+pub record FirstByte (len : ℕ) (before now : List ℕ) : Type 0 where
+  pub short : len ≤ 1
+  pub synced : len ≡ 1 → length before ≤ 1
+  pub torn : Torn 0 1 before now
+
+-- a disk while a scan begins
+abbrev pub Begins : ℕ → List ℕ → List ℕ → Type 0
+Begins len before now = (now ≡ before) ⊎ FirstByte len before now
+
+-- the disk that is read: one of at most one byte has become one gate that is not open
+abbrev pub begun : List ℕ → List ℕ
+begun [] = 0 ∷ []
+begun (b ∷ []) = 0 ∷ []
+begun (b ∷ c ∷ rest) = b ∷ c ∷ rest
+
+-- ---- record by record
+
+-- these records stand behind open gates up to here, and something stands here
+pub record Scanned (disk : List ℕ) (records : List LogRecord) (at : ℕ) : Type 0 where
+  pub rest : List ℕ
+  pub each : AllByRecursion IsRecord records
+  pub is : disk ≡ open_records records ++ rest
+  pub at_is : at ≡ length (open_records records)
+  pub some : 0 < length rest
+
+-- how many bytes the record at the front has, its length included, where there is one
+abbrev pub size_at : List ℕ → ℕ
+size_at bytes = 8 + from_le_bytes w64 (take 8 bytes)
+
+-- no record with a gate after it stands at the front
+abbrev pub NoRecord : List ℕ → Type 0
+NoRecord bytes = (r : LogRecord) (gate : ℕ) (rest : List ℕ) → IsRecord r → bytes ≡ record_bytes r ++ gate ∷ rest → ⊥
+
+-- an open gate with no record and gate behind it
+pub record Damaged (disk : List ℕ) (at : ℕ) : Type 0 where
+  pub rest : List ℕ
+  pub opened : drop at disk ≡ 1 ∷ rest
+  pub none : NoRecord rest
+
+-- the record of what a flush gave
+abbrev pub record_is : FlushRecord → LogRecord
+record_is flush = record { name = flush.table; writes = flush.writes }
+
+-- the whole record at the front, behind which something stands
+pub record Found (bytes : List ℕ) (r : LogRecord) : Type 0 where
+  pub is : IsRecord r
+  pub front : take (length (record_bytes r)) bytes ≡ record_bytes r
+  pub more : length (record_bytes r) < length bytes
+
+-- what one step of a scan is: the next record, or the end of a log that is owed nothing, at a gate that is not open
+abbrev pub StepIs : List ℕ → List LogRecord → ℕ → LogStep → Type 0
+StepIs disk records len (Record scan flush) = Scanned disk (records ++ record_is flush ∷ []) scan.at × (scan.len ≡ len)
+StepIs disk records len (Ended log) = ClosedLog records log.end disk
+
+-- Of each berth, whether it tells its contents or not: a step passes a byte at least for each write, and stays below 2^63.
+abbrev pub GoesOn : ScanState → LogStep → Type 0
+GoesOn scan (Record later flush) = (scan.at + length flush.writes < later.at) × (later.at < 2 ^ 63)
+GoesOn scan (Ended log) = (log ≡ record { end = scan.at; owed = None; laid = false }) × (scan.at < 2 ^ 63)

@@ -1,0 +1,37 @@
+// A log that is being read, and what each step gives.
+ghost use Rattle.std.specs.Prelude.{◌<◌, ◌^◌};
+
+use crate::log::BackupLog;
+use leaf_model::{Text, Writes};
+use std::marker::Model;
+
+/// The writes of one flush of a table.
+#[derive(Drop)]
+pub struct FlushRecord {
+    pub table: Text,
+    pub writes: Writes,
+}
+
+/// A log that is being read. Contracts see the place of the gate that comes next, and how many bytes the disk has.
+#[derive(Drop)]
+pub struct LogScan {
+    pub(crate) at: u64,
+    pub(crate) len: u64,
+    ghost in_range: { at < len },
+    ghost short: { len < 2 ^ 63 },
+}
+
+impl Model for LogScan {
+    ghost use Rattle.disk_backup.specs.State.{ScanState};
+
+    ghost Value = { ScanState };
+
+    ghost view = { λ scan. record { at = scan.at; len = scan.len } };
+}
+
+/// The next record and the scan behind it, or the log at whose end the scan is.
+#[derive(Drop)]
+pub enum LogStep {
+    Record(LogScan, FlushRecord),
+    Ended(BackupLog),
+}
