@@ -3,6 +3,7 @@ pub mod Results
 pub mod Came
 pub mod Logs
 pub mod Settled
+pub mod Kept
 pub mod Staying
 pub mod Beginning
 pub mod Scanned

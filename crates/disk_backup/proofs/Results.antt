@@ -7,6 +7,10 @@ pub on_ok_map : {T E A B : Type 0} (r : Result T E) → (A → B) → OnOk r A �
 on_ok_map (Ok v) f a = f a
 on_ok_map (Err e) f a = tt
 
+pub on_err_map : {T E A B : Type 0} (r : Result T E) → (A → B) → OnErr r A → OnErr r B
+on_err_map (Ok v) f a = tt
+on_err_map (Err e) f a = f a
+
 pub on_ok_err : {T E : Type 0} (A : Type 0) (r : Result T E) → IsErr r → OnOk r A
 on_ok_err A (Ok v) h = absurd (false≢true h)
 on_ok_err A (Err e) h = tt

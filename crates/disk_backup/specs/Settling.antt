@@ -1,11 +1,12 @@
 -- What settling an owed record does to each pair that a crash may leave.
-use Rattle.std.specs.Prelude.{◌≡◌, ◌⊎◌, ℕ, ◌+◌, List, [], ◌∷◌, ◌++◌, length, Bool, true, false, Option, Some, None, Result, OnOk, OnErr}
+use Rattle.std.specs.Prelude.{◌≡◌, ◌⊎◌, ℕ, ◌+◌, List, [], ◌∷◌, ◌++◌, length, Bool, true, false, Option, Some, None, Result, OnOk, OnErr, bytes_eq, if◌then◌else◌}
 use Rattle.std.specs.List.{AllByRecursion}
+use Rattle.leaf_model.specs.declared.writes.Write.{Write}
 use Rattle.row_records.specs.Records.{LogRecord, IsRecord}
 use Rattle.row_records.specs.Pending.{pending_bytes}
 use Rattle.berth_face.specs.Berth.{Pair, Meaning}
 use Rattle.berth_face.specs.Moments.{EachNow, Throughout}
-use Rattle.disk_backup.specs.Logs.{ClosedLog, open_records}
+use Rattle.disk_backup.specs.Logs.{ClosedLog, open_records, writes_of}
 use Rattle.disk_backup.specs.State.{LogState}
 
 -- these records, at `end` a gate of any kind, and behind it the next record with a closed gate
@@ -60,3 +61,27 @@ pub record Settled {T E : Type 0} (log later : LogState) (result : Result T E) (
   pub ok : OnOk result (EachNow (Comes log (WithOwed log) old) new)
   -- or it is still owed, and the next call goes on
   pub err : OnErr result (EachNow (Comes log (HoldsLog later) old) new)
+
+-- ---- where each disk that a crash may leave has the same log
+
+-- the writes of each name with those of what is owed
+abbrev pub with_writes : Option LogRecord → (List ℕ → List Write) → List ℕ → List Write
+with_writes None writes name = writes name
+with_writes (Some r) writes name = if bytes_eq name r.name then writes name ++ r.writes else writes name
+
+-- the disk's log has these writes for each name, and ends here at a gate that is not open
+abbrev pub HasLog : (List ℕ → List Write) → ℕ → List ℕ → Type 0
+HasLog writes end disk = (records : List LogRecord) × ClosedLog records end disk × ((name : List ℕ) → writes_of name records ≡ writes name)
+
+-- Each disk that a crash may leave now holds records with these writes for each name, which are one and the same log:
+-- until what is owed is laid, its end is at a gate that is not open, and then what is owed is behind that.
+abbrev pub HaveLog : LogState → (List ℕ → List Write) → Meaning → Type 0
+HaveLog log writes m = EachNow (λ p. (records : List LogRecord) × HoldsLog log records p.disk × ((name : List ℕ) → writes_of name records ≡ writes name)) m
+
+pub record KeepsLog {T E : Type 0} (log later : LogState) (writes : List ℕ → List Write) (result : Result T E) (old new : Meaning) : Type 0 where
+  -- at every moment a crash leaves that log with or without what was owed
+  pub moments : Throughout (λ p. HasLog writes log.end p.disk ⊎ HasLog (with_writes log.owed writes) (end_with log) p.disk) old new
+  -- then every crash leaves it with what was owed
+  pub ok : OnOk result (EachNow (λ p. HasLog (with_writes log.owed writes) (end_with log) p.disk) new)
+  -- or each disk still has it, and the next call goes on
+  pub err : OnErr result (HaveLog later writes new)

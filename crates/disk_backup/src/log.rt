@@ -1,10 +1,11 @@
 // The log that records are written to, and the record that it is owed.
-ghost use Rattle.std.specs.Prelude.{◌≡◌, ◌+◌, ◌^◌, ◌<◌, length, IsTrue, true, false, None, OnOk, OnErr, IsOk, IsSome, is_some};
+ghost use Rattle.std.specs.Prelude.{◌≡◌, ◌+◌, ◌^◌, ◌<◌, ℕ, List, length, IsTrue, true, false, None, OnOk, OnErr, IsOk, IsSome, is_some};
+ghost use Rattle.leaf_model.specs.declared.writes.Write.{Write};
 ghost use Rattle.row_records.specs.Pending.{pending_bytes};
 ghost use Rattle.berth_face.specs.Causes.{HasCause};
 ghost use Rattle.berth_face.specs.Berth.{Passes};
 ghost use Rattle.disk_backup.specs.State.{LogState};
-ghost use Rattle.disk_backup.specs.Settling.{Settled, end_with};
+ghost use Rattle.disk_backup.specs.Settling.{Settled, HaveLog, KeepsLog, end_with};
 
 use crate::fault::DiskFault;
 use crate::halves::bring;
@@ -79,7 +80,11 @@ impl BackupLog {
         ensures cause { HasCause (B.meaning berth.old).disk_faults (B.meaning berth.new).disk_faults result }
         ensures time { Passes (B.meaning berth.old) (B.meaning berth.new) }
         ensures reads { (B.meaning berth.new).disk_reads ≡ (B.meaning berth.old).disk_reads }
+        // Whatever log each disk has that a crash may leave.
         ensures crash { IsTrue (B.meaning berth.old).tells → Settled self.old self.new result (B.meaning berth.old) (B.meaning berth.new) }
+        // Where they all have the same.
+        ensures log { (writes : List ℕ → List Write) → IsTrue (B.meaning berth.old).tells → HaveLog self.old writes (B.meaning berth.old)
+            → KeepsLog self.old self.new writes result (B.meaning berth.old) (B.meaning berth.new) }
     {
         if self.owes() {
             self.bring_owed(berth)?;
