@@ -1,4 +1,3 @@
-pub mod Ends
 pub mod KeyOrder
 pub mod Sorting
 pub mod Parts

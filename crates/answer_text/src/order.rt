@@ -2,50 +2,11 @@
 ghost use Rattle.std.specs.Prelude.{◌≡◌, List, IfOk, OnOk, IsPermutation, IsSorted, map};
 ghost use Rattle.leaf_model.specs.declared.groups.Group.{Group};
 ghost use Rattle.leaf_model.specs.declared.queries.Query.{Query};
-ghost use Rattle.leaf_model.specs.Groups.{key_cmp, keys_cmp};
 ghost use Rattle.answer_text.specs.Answer.{group_cmp, in_order, measure, measure_of};
 
-use leaf_model::{Agg, Fold, Group, Key, Query};
+use leaf_model::{Agg, Fold, Group, Query};
 use std::alloc::{AllocError, Global};
 use std::cmp::Ordering;
-
-/// Missing, then integers, then texts by their bytes.
-fn compare_key(a: &Key, b: &Key) -> Ordering
-    ensures { result ≡ key_cmp a.now b.now }
-{
-    match a {
-        Key::Missing => match b {
-            Key::Missing => Ordering::Equal,
-            Key::Int(_m) => Ordering::Less,
-            Key::Text(_u) => Ordering::Less,
-        },
-        Key::Int(n) => match b {
-            Key::Missing => Ordering::Greater,
-            Key::Int(m) => n.cmp(m),
-            Key::Text(_u) => Ordering::Less,
-        },
-        Key::Text(t) => match b {
-            Key::Missing => Ordering::Greater,
-            Key::Int(_m) => Ordering::Greater,
-            Key::Text(u) => t.as_str().cmp(u.as_str()),
-        },
-    }
-}
-
-/// Lists of keys compare from the left.
-fn compare_keys(a: &[Key], b: &[Key]) -> Ordering
-    ensures { result ≡ keys_cmp a.now b.now }
-{
-    let mut i: usize = 0;
-    while i < a.len() && i < b.len() {
-        match compare_key(&a[i], &b[i]) {
-            Ordering::Less => return Ordering::Less,
-            Ordering::Equal => i += 1,
-            Ordering::Greater => return Ordering::Greater,
-        }
-    }
-    a.len().cmp(&b.len())
-}
 
 fn measure(agg: &Agg, count: u64, fold: &Fold) -> Option<i128>
     ensures { result ≡ measure agg.now count fold.now }
@@ -75,7 +36,7 @@ fn compare_groups(query: &Query, a: &Group, b: &Group) -> Ordering
 {
     match measure_of(query, b).cmp(&measure_of(query, a)) {
         Ordering::Less => Ordering::Less,
-        Ordering::Equal => compare_keys(a.keys.as_slice(), b.keys.as_slice()),
+        Ordering::Equal => a.keys.compare(&b.keys),
         Ordering::Greater => Ordering::Greater,
     }
 }

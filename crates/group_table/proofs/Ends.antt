@@ -1,4 +1,4 @@
--- Where lists end: one of two lists of keys, folds cut to the others' number, and a list in three parts.
+-- Where lists end: a group's keys or a row's, folds cut to the others' number, and a list in three parts.
 use Rattle.std.proofs.Common.{◌≡◌, ℕ, suc, ◌≤◌, List, [], ◌∷◌, ◌++◌, length, drop, take, map, refl, ap, ◌∙◌, arith}
 use Rattle.std.specs.Ordering.{nat_cmp}
 use Rattle.std.specs.declared.cmp.Ordering.TheVariants.{Less, Greater}
@@ -19,18 +19,6 @@ zero_last n = grind (arith, nat_tests)
 
 one_less : (m n : ℕ) → nat_cmp m n ≡ nat_cmp (suc m) (suc n)
 one_less m n = grind (arith, nat_tests)
-
-pub left_ends : (a b : List Key) → length a ≤ length b → keys_cmp (drop (length a) a) (drop (length a) b) ≡ nat_cmp (length a) (length b)
-left_ends [] [] h = refl
-left_ends [] (y ∷ b) h = zero_first (length b)
-left_ends (x ∷ a) [] h = absurd (omega arith)
-left_ends (x ∷ a) (y ∷ b) h = left_ends a b (omega arith) ∙ one_less (length a) (length b)
-
-pub right_ends : (a b : List Key) → length b ≤ length a → keys_cmp (drop (length b) a) (drop (length b) b) ≡ nat_cmp (length a) (length b)
-right_ends [] [] h = refl
-right_ends (x ∷ a) [] h = zero_last (length a)
-right_ends [] (y ∷ b) h = absurd (omega arith)
-right_ends (x ∷ a) (y ∷ b) h = right_ends a b (omega arith) ∙ one_less (length a) (length b)
 
 pub cut_folds : (fs hs : List Fold) → joined_folds (take (length hs) fs) hs ≡ joined_folds fs hs
 cut_folds [] [] = refl

@@ -8,7 +8,6 @@ ghost use Rattle.leaf_model.specs.declared.rows.Row.{Row};
 ghost use Rattle.leaf_model.specs.Groups.{groups};
 ghost use Rattle.group_table.specs.Joined.{either, joined_fold, joined_folds, joined_group, joined, FitsFold, FitsGroup, IsWithin, IfBoth};
 
-use crate::order::compare_keys;
 use leaf_model::{Fold, Folds, Group, Groups};
 use std::alloc::{AllocError, Global};
 use std::cmp::Ordering;
@@ -92,7 +91,7 @@ fn take_first(mine: &mut VecDeque<Group>, theirs: &mut VecDeque<Group>) -> Optio
         None => return theirs.pop_front(),
         Some(group) => match theirs.front() {
             None => return mine.pop_front(),
-            Some(other) => compare_keys(group.keys.as_slice(), other.keys.as_slice()),
+            Some(other) => group.keys.compare(&other.keys),
         },
     };
     match order {

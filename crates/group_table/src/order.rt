@@ -1,4 +1,4 @@
-// The order of keys, and of lists of keys.
+// The order of a group's keys and a row's.
 ghost use Rattle.std.specs.Prelude.{◌≡◌, map};
 ghost use Rattle.leaf_model.specs.Groups.{key_cmp, keys_cmp};
 ghost use Rattle.group_table.specs.Reads.{seen_key};
@@ -30,22 +30,7 @@ fn compare_seen(a: Seen, b: Seen) -> Ordering
     }
 }
 
-/// Lists of keys compare from the left.
-pub fn compare_keys(a: &[Key], b: &[Key]) -> Ordering
-    ensures { result ≡ keys_cmp a.now b.now }
-{
-    let mut i: usize = 0;
-    while i < a.len() && i < b.len() {
-        match compare_seen(see_key(&a[i]), see_key(&b[i])) {
-            Ordering::Less => return Ordering::Less,
-            Ordering::Equal => i += 1,
-            Ordering::Greater => return Ordering::Greater,
-        }
-    }
-    a.len().cmp(&b.len())
-}
-
-/// The same, where a row's keys are not copied yet.
+/// Lists of keys compare from the left, as `Keys::compare`; a row's keys are not copied yet.
 pub fn compare_with(a: &[Key], b: &[Seen]) -> Ordering
     ensures { result ≡ keys_cmp a.now (map seen_key b.now) }
 {

@@ -1,7 +1,9 @@
 // Groups: what a query finds, before it is ordered and printed.
 ghost use Rattle.std.specs.Prelude.{◌≡◌};
+ghost use Rattle.leaf_model.specs.Groups.{key_cmp, keys_cmp};
 
 use crate::text::Text;
+use std::cmp::Ordering;
 use std::marker::Model;
 
 /// What a row has under a name of GROUP BY.
@@ -10,6 +12,45 @@ pub enum Key {
     Missing,
     Int(i64),
     Text(Text),
+}
+
+impl Key {
+    /// Missing, then integers, then texts by their bytes.
+    pub fn compare(&self, other: &Key) -> Ordering
+        ensures { result ≡ key_cmp self.now other.now }
+    {
+        match self {
+            Key::Missing => match other {
+                Key::Missing => Ordering::Equal,
+                Key::Int(_m) => Ordering::Less,
+                Key::Text(_u) => Ordering::Less,
+            },
+            Key::Int(n) => match other {
+                Key::Missing => Ordering::Greater,
+                Key::Int(m) => n.cmp(m),
+                Key::Text(_u) => Ordering::Less,
+            },
+            Key::Text(t) => match other {
+                Key::Missing => Ordering::Greater,
+                Key::Int(_m) => Ordering::Greater,
+                Key::Text(u) => t.as_str().cmp(u.as_str()),
+            },
+        }
+    }
+}
+
+fn compare_keys(a: &[Key], b: &[Key]) -> Ordering
+    ensures { result ≡ keys_cmp a.now b.now }
+{
+    let mut i: usize = 0;
+    while i < a.len() && i < b.len() {
+        match a[i].compare(&b[i]) {
+            Ordering::Less => return Ordering::Less,
+            Ordering::Equal => i += 1,
+            Ordering::Greater => return Ordering::Greater,
+        }
+    }
+    a.len().cmp(&b.len())
 }
 
 /// The keys of a group, in the order of GROUP BY. Contracts see them as the list.
@@ -38,6 +79,13 @@ impl Keys {
         ensures { result.now ≡ self.now }
     {
         self.inner.as_slice()
+    }
+
+    /// Compares from the left, key by key; where one list ends first, it is the less.
+    pub fn compare(&self, other: &Keys) -> Ordering
+        ensures { result ≡ keys_cmp self.now other.now }
+    {
+        compare_keys(self.inner.as_slice(), other.inner.as_slice())
     }
 
     pub fn into_inner(self) -> Vec<Key>

@@ -1,6 +1,9 @@
-// Each copy that takes memory is had, and is its source.
-use crate::{Agg, Aggs, Cell, Cells, Cond, Conds, Names, Op, Query, Row, Rows, Text, Value};
+// Each copy that takes memory is had, and is its source; keys in their order.
+use crate::{
+    Agg, Aggs, Cell, Cells, Cond, Conds, Key, Keys, Names, Op, Query, Row, Rows, Text, Value,
+};
 use std::alloc::{AllocError, Global};
+use std::cmp::Ordering;
 use std::test;
 
 fn text(alloc: Global, name: &str) -> Result<Text, AllocError> {
@@ -72,5 +75,36 @@ fn copies_of_queries_are_had(rt: HostRuntime) -> Result<(), test::Fail> {
         format!(in alloc; "{copy:?}")?.as_str(),
         format!(in alloc; "{query:?}")?.as_str()
     );
+    Ok(())
+}
+
+fn keys(alloc: Global, first: Key, second: Option<&str>) -> Result<Keys, AllocError> {
+    let mut inner = Vec::new(alloc);
+    inner.push(first)?;
+    if let Some(name) = second {
+        inner.push(Key::Text(text(alloc, name)?))?;
+    }
+    Ok(Keys::of(inner))
+}
+
+#[test]
+fn keys_stand_in_order(rt: HostRuntime) -> Result<(), test::Fail> {
+    let alloc = rt.alloc();
+    let mut ascending = Vec::new(alloc);
+    ascending.push(Keys::of(Vec::new(alloc)))?;
+    ascending.push(keys(alloc, Key::Missing, None)?)?;
+    ascending.push(keys(alloc, Key::Missing, Some("z"))?)?;
+    ascending.push(keys(alloc, Key::Int(-2), None)?)?;
+    ascending.push(keys(alloc, Key::Int(1), Some(""))?)?;
+    ascending.push(keys(alloc, Key::Int(1), Some("a"))?)?;
+    ascending.push(keys(alloc, Key::Text(text(alloc, "")?), None)?)?;
+    ascending.push(keys(alloc, Key::Text(text(alloc, "b")?), None)?)?;
+    for i in 0..ascending.len() {
+        for j in 0..ascending.len() {
+            let found = ascending.as_slice()[i].compare(&ascending.as_slice()[j]);
+            assert_eq!(rt; found, i.cmp(&j));
+        }
+    }
+    assert_eq!(rt; Key::Int(3).compare(&Key::Int(4)), Ordering::Less);
     Ok(())
 }
