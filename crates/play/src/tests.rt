@@ -69,6 +69,12 @@ fn answers_each_text(rt: HostRuntime) -> Result<(), test::Fail> {
         (
             "count 0 9",
             "{\"time\":1,\"host\":\"a\"}\n",
+            "count 1\n",
+            "Done",
+        ),
+        (
+            "count 0 9",
+            "{\"time\":1,\"host\":true}\n",
             "",
             "Script { line: 1, why: Row(Value(Text { inner: \"host\" })) }",
         ),

@@ -1,5 +1,6 @@
 -- The cells of an object's members, and the first fault, against what the members say.
-use Rattle.std.proofs.Common.{◌≡◌, ◌≢◌, inl, inr, ℕ, ℤ, List, arith, [], ◌∷◌, Option, Some, None, option_map, unwrap_or, Result, Ok, Err, Bool, true, false, cond, true≢false, Contains, refl, ap, sym, subst, ◌∙◌}
+use Rattle.std.proofs.Common.{◌≡◌, ◌≢◌, inl, inr, ℕ, ℤ, List, arith, [], ◌∷◌, length, nat_lt, Option, Some, None, option_map, option_and_then, unwrap_or, Result, Ok, Err, Bool, true, false, cond, true≢false, Contains, refl, ap, sym, subst, ◌∙◌}
+use Rattle.std.proofs.lemmas.Bool.{ltb-false, le-ltb}
 use Rattle.std.proofs.lemmas.List.Elements.{Contains-append_right}
 use Rattle.std.proofs.lemmas.Slice.Eq.{bytes_eq-Decides}
 use Rattle.std.specs.List.{AllByRecursion}
@@ -11,7 +12,7 @@ use Rattle.leaf_model.specs.Values.{time_name}
 use Rattle.leaf_model.specs.declared.rows.Value.{Value}
 use Rattle.leaf_model.specs.declared.rows.Value.TheVariants.{Int, Text}
 use Rattle.leaf_model.specs.declared.rows.Cell.{Cell}
-use Rattle.row_json.specs.Row.{is_time, is_bad_name, is_missing, value_of, named_cell, cell_with, cell_of, with_cell, before, cells_of}
+use Rattle.row_json.specs.Row.{is_time, is_bad_name, is_missing, text_of, value_of, named_cell, cell_with, cell_of, with_cell, before, cells_of}
 use Rattle.row_json.specs.Meaning.{Holds, IsOther}
 use Rattle.row_json.specs.declared.object.RowFault.{RowFault}
 use Rattle.row_json.specs.declared.object.RowFault.TheVariants.{Json, NotObject, NoTime, TooMany, Name, NoMemory}
@@ -25,11 +26,15 @@ integer_held : (n : Num) (o : Option ℤ) (v : Value) → as_i64 n ≡ o → opt
 integer_held n None v is h = absurd (found_none v h)
 integer_held n (Some z) v is h = subst (Holds (number n)) (ap (λ o. unwrap_or o v) h) is
 
+text_held : (s : List ℕ) (b : Bool) (v : Value) → nat_lt 65535 (length s) ≡ b → cond b None (Some (Text s)) ≡ Some v → Holds (string s) v
+text_held s true v is h = absurd (found_none v h)
+text_held s false v is h = subst (Holds (string s)) (ap (λ o. unwrap_or o v) h) (refl, ltb-false 65535 (length s) is)
+
 value_held : (d : Data) (v : Value) → value_of d ≡ Some v → Holds d v
 value_held null v h = absurd (found_none v h)
 value_held (boolean b) v h = absurd (found_none v h)
 value_held (number n) v h = integer_held n (as_i64 n) v refl h
-value_held (string s) v h = absurd (found_none v h)
+value_held (string s) v h = text_held s (nat_lt 65535 (length s)) v refl h
 value_held (array items) v h = absurd (found_none v h)
 value_held (object all) v h = absurd (found_none v h)
 
@@ -37,10 +42,15 @@ held_value : (d : Data) (v : Value) → Holds d v → value_of d ≡ Some v
 held_value null (Int z) h = ap (option_map Int) h
 held_value (boolean b) (Int z) h = ap (option_map Int) h
 held_value (number n) (Int z) h = ap (option_map Int) h
-held_value (string s) (Int z) h = ap (option_map Int) h
+held_value (string s) (Int z) h = absurd (found_none z h)
 held_value (array items) (Int z) h = ap (option_map Int) h
 held_value (object all) (Int z) h = ap (option_map Int) h
-held_value d (Text t) h = absurd h
+held_value null (Text t) h = absurd (found_none t h.0)
+held_value (boolean b) (Text t) h = absurd (found_none t h.0)
+held_value (number n) (Text t) h = absurd (found_none t h.0)
+held_value (string s) (Text t) h = ap (option_and_then text_of) h.0 ∙ ap (λ b. cond b None (Some (Text t))) (le-ltb 65535 (length t) h.1)
+held_value (array items) (Text t) h = absurd (found_none t h.0)
+held_value (object all) (Text t) h = absurd (found_none t h.0)
 
 null_missing : (d : Data) → is_missing d ≡ true → d ≡ null
 null_missing null h = refl

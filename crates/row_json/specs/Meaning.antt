@@ -1,11 +1,11 @@
 -- What a row and each fault say of a text, in terms of the members of its object.
-use Rattle.std.specs.Prelude.{◌≡◌, ◌≢◌, ◌⊎◌, ℕ, ◌<◌, ◌≤◌, ◌≤ℤ◌, ℤ, pos, List, true, false, Some, None, option_and_then, Contains, IsUtf8}
+use Rattle.std.specs.Prelude.{◌≡◌, ◌≢◌, ◌⊎◌, ℕ, ◌<◌, ◌≤◌, ◌≤ℤ◌, ℤ, pos, List, length, true, false, Some, None, option_and_then, Contains, IsUtf8}
 use Rattle.std.specs.Cmp.Lexicographic.{slice_cmp}
 use Rattle.std.specs.List.{AllByRecursion}
 use Rattle.std.specs.Ordering.{nat_cmp}
 use Rattle.std.specs.declared.cmp.Ordering.TheVariants.{Less}
 use Rattle.serde_json.specs.Data.{Data, null, object, Members}
-use Rattle.serde_json.specs.Find.{get_member, as_number, as_object, as_i64}
+use Rattle.serde_json.specs.Find.{get_member, as_number, as_str, as_object, as_i64}
 use Rattle.serde_json.specs.Read.{read}
 use Rattle.leaf_model.specs.Values.{time_name}
 use Rattle.leaf_model.specs.declared.rows.Value.{Value}
@@ -29,10 +29,14 @@ Has all name d = get_member name all ≡ Some d
 abbrev pub IsInteger : Data → ℤ → Type 0
 IsInteger d z = option_and_then as_i64 (as_number d) ≡ Some z
 
--- a cell holds what the JSON value says: an integer, and no text yet
+-- the JSON value is this text, which has at most 65,535 bytes
+abbrev pub IsText : Data → List ℕ → Type 0
+IsText d t = (as_str d ≡ Some t) × (length t ≤ 65535)
+
+-- a cell holds what the JSON value says: an integer or a text
 abbrev pub Holds : Data → Value → Type 0
 Holds d (Int z) = IsInteger d z
-Holds d (Text t) = ⊥
+Holds d (Text t) = IsText d t
 
 -- the object's member `time` is this integer, from 0 on
 pub record IsTimeOf (all : Members) (time : ℤ) : Type 0 where

@@ -8,7 +8,7 @@ use Rattle.serde_json.specs.Find.{get, as_number, as_null, as_i64}
 use Rattle.serde_json.specs.Read.{read}
 use Rattle.leaf_model.specs.Values.{time_name}
 use Rattle.leaf_model.specs.declared.rows.Value.{Value}
-use Rattle.leaf_model.specs.declared.rows.Value.TheVariants.{Int}
+use Rattle.leaf_model.specs.declared.rows.Value.TheVariants.{Int, Text}
 use Rattle.leaf_model.specs.declared.rows.Cell.{Cell}
 use Rattle.leaf_model.specs.declared.rows.Row.{Row}
 use Rattle.row_json.specs.declared.object.RowFault.{RowFault}
@@ -41,12 +41,16 @@ cell_count (member name d rest) = (if is_time name || is_missing d then 0 else 1
 abbrev pub is_bad_name : List ℕ → Bool
 is_bad_name name = length name == 0 || nat_lt 255 (length name)
 
--- what a cell would hold: an integer that is an i64
+-- a text is a value where it has at most 65,535 bytes
+abbrev pub text_of : List ℕ → Option Value
+text_of s = if nat_lt 65535 (length s) then None else Some (Text s)
+
+-- what a cell would hold: an integer that is an i64, or a text
 abbrev pub value_of : Data → Option Value
 value_of null = None
 value_of (boolean b) = None
 value_of (number n) = option_map Int (as_i64 n)
-value_of (string s) = None
+value_of (string s) = text_of s
 value_of (array items) = None
 value_of (object all) = None
 

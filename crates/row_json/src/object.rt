@@ -1,12 +1,12 @@
 // A row from its JSON text.
-ghost use Rattle.std.specs.Prelude.{◌≡◌, ◌≢◌, ◌↔◌, ◌≤ℤ◌, ℕ, List, Ok, Err, IfOk, IfSome, pos, string_bytes, string_cmp};
+ghost use Rattle.std.specs.Prelude.{◌≡◌, ◌≢◌, ◌↔◌, ◌≤ℤ◌, ℕ, List, nat_lt, Ok, Err, IfOk, IfSome, pos, string_bytes, string_cmp};
 ghost use Rattle.std.specs.List.{AllByRecursion};
 ghost use Rattle.std.specs.List.Sorted.{IsStrictlySortedBy};
 ghost use Rattle.std.specs.Map.{keys_of};
 ghost use Rattle.serde_json.specs.View.{view, members_view};
 ghost use Rattle.leaf_model.specs.Values.{IsCell, IsRow, IsValue};
 ghost use Rattle.row_json.specs.Meaning.{Gives, Refuses};
-ghost use Rattle.row_json.specs.Row.{row_of, row_of_data, row_of_members, time_of, cell_count, cells_of, cell_of, value_of, items_of};
+ghost use Rattle.row_json.specs.Row.{row_of, row_of_data, row_of_members, time_of, cell_count, cells_of, cell_of, value_of, text_of, items_of};
 
 use leaf_model::{Cell, Cells, Row, Text, Value};
 use std::alloc::Global;
@@ -17,6 +17,9 @@ const MAX_CELLS: usize = 1024;
 
 /// The most bytes of a cell's name.
 const MAX_NAME: usize = 255;
+
+/// The most bytes of a text that a cell holds.
+const MAX_TEXT: usize = 65_535;
 
 /// Why a text is no row. `Name` and `Value` carry the name of the member at fault.
 #[derive(Debug, Drop)]
@@ -80,7 +83,7 @@ fn row_of_members(alloc: Global, time: Option<i64>, members: Members) -> Result<
     let Some(time) = time else {
         return Err(RowFault::NoTime);
     };
-    if cell_count(&members) > MAX_CELLS {
+    if has_too_many(&members) {
         return Err(RowFault::TooMany);
     }
     let cells = cells(alloc, members)?;
@@ -97,6 +100,14 @@ fn time_of(value: &serde_json::Value) -> Option<i64>
 {
     let time = value.get("time")?.as_i64()?;
     if time < 0 { None } else { Some(time) }
+}
+
+/// Whether there are more cells than a row may have. Most objects have not even so many members.
+#[tactic(auto, using(crate::proofs::Few::cells_at_most))]
+fn has_too_many(members: &Members) -> bool
+    ensures { result ≡ nat_lt 1024 (cell_count (members_view members.now.entries)) }
+{
+    members.len() > MAX_CELLS && cell_count(members) > MAX_CELLS
 }
 
 /// How many members are neither the time nor null.
@@ -159,10 +170,23 @@ fn value_of(value: serde_json::Value) -> Option<Value>
 {
     match value {
         serde_json::Value::Number(number) => Some(Value::Int(number.as_i64()?)),
+        serde_json::Value::String(text) => text_of(text),
         serde_json::Value::Null => None,
         serde_json::Value::Bool(_is) => None,
-        serde_json::Value::String(_text) => None,
         serde_json::Value::Array(_items) => None,
         serde_json::Value::Object(_members) => None,
+    }
+}
+
+/// The value that a text is, where it is short enough.
+fn text_of(text: String) -> Option<Value>
+    ensures exact { result ≡ text_of (string_bytes text) }
+    ensures is_value { IfSome result IsValue }
+{
+    let text = Text::of(text);
+    if text.as_str().len() > MAX_TEXT {
+        None
+    } else {
+        Some(Value::Text(text))
     }
 }

@@ -15,7 +15,7 @@ fn shown(alloc: Global, answer: &Result<Row, RowFault>) -> Result<String, AllocE
         let name = cell.name.as_str();
         let part = match &cell.value {
             Value::Int(number) => format!(in alloc; " {name}={number}")?,
-            Value::Text(held) => format!(in alloc; " {name}={held:?}")?,
+            Value::Text(text) => format!(in alloc; " {name}={:?}", text.as_str())?,
         };
         text.push_str(part.as_str())?;
     }
@@ -50,6 +50,10 @@ fn table() -> &'static str {
 {"time":1,"time":2} -> 2
 {"time":1,"a":"x","a":7} -> 1 a=7
 {"time":1,"a":7,"a":null} -> 1
+{"time":1,"a":7,"a":"x"} -> 1 a="x"
+{"time":1,"a":true,"a":"x"} -> 1 a="x"
+{"time":1,"a":""} -> 1 a=""
+{"time":1,"host":"a","v":2,"e":"\u00e9\"7"} -> 1 e="é\"7" host="a" v=2
 {"time":1,"a":null} -> 1
 {"time":9223372036854775807,"a":-9223372036854775808,"b":9223372036854775807} -> 9223372036854775807 a=-9223372036854775808 b=9223372036854775807
  -> Json
@@ -73,12 +77,14 @@ null -> NotObject
 {"time":1,"":1,"a":true} -> Name(Text { inner: "" })
 {"time":1,"":null} -> Name(Text { inner: "" })
 {"time":1,"":true} -> Name(Text { inner: "" })
-{"time":1,"host":"a"} -> Value(Text { inner: "host" })
+{"time":1,"host":true} -> Value(Text { inner: "host" })
+{"time":1,"":"x","a":true} -> Name(Text { inner: "" })
 {"time":1,"b":1.5,"a":true} -> Value(Text { inner: "a" })
 {"time":1,"a":1e3} -> Value(Text { inner: "a" })
 {"time":1,"a":9223372036854775808} -> Value(Text { inner: "a" })
 {"time":1,"a":-9223372036854775809} -> Value(Text { inner: "a" })
-{"time":1,"a":[],"b":{}} -> Value(Text { inner: "a" })"#
+{"time":1,"a":[],"b":{}} -> Value(Text { inner: "a" })
+{"time":1,"a":"x","b":{}} -> Value(Text { inner: "b" })"#
 }
 
 #[test]
@@ -125,5 +131,32 @@ fn keeps_the_limits(rt: HostRuntime) -> Result<(), test::Fail> {
     }
     let cells = row(alloc, full.as_bytes()).map(|row| row.cells.as_slice().len());
     assert_eq!(rt; cells.ok(), Some(1024));
+    Ok(())
+}
+
+#[test]
+fn a_text_has_at_most_65535_bytes(rt: HostRuntime) -> Result<(), test::Fail> {
+    let alloc = rt.alloc();
+    for (piece, meant, times, fits) in [
+        ("a", "a", 65_535, true),
+        ("a", "a", 65_536, false),
+        // What an escape stands for is counted, and not its own bytes.
+        ("\\u0061", "a", 65_535, true),
+        ("\\u0061", "a", 65_536, false),
+        ("\\u00e9", "é", 32_767, true),
+        ("\\u00e9", "é", 32_768, false),
+    ] {
+        let text = format!(in alloc;
+            "{{\"time\":1,\"a\":\"{}\"}}",
+            repeated(alloc, piece, times)?
+        )?;
+        let want = if fits {
+            format!(in alloc; "1 a=\"{}\"", repeated(alloc, meant, times)?)?
+        } else {
+            String::from_str(alloc, "Value(Text { inner: \"a\" })")?
+        };
+        let got = shown(alloc, &row(alloc, text.as_bytes()))?;
+        assert!(rt; got.as_str() == want.as_str(), "at {times} of {piece}");
+    }
     Ok(())
 }

@@ -1,4 +1,5 @@
-use Rattle.std.proofs.Common.{◌≡◌, ◌≤◌, Ok, rules, arith, length, sym, subst}
+use Rattle.std.proofs.Common.{◌≡◌, ◌≤◌, Ok, rules, arith, length, sym, subst, ◌∙◌}
+use Rattle.std.proofs.lemmas.Bool.{ltb-false}
 use Rattle.std.specs.List.{AllByRecursion}
 use Rattle.serde_json.specs.View.{members_view}
 use Rattle.leaf_model.specs.Values.{IsCell, IsTime}
@@ -20,7 +21,7 @@ returns-clause-is_row c =
     let ascending : Ascend cells = at_ok cells _ Ascend made (entries_ascend entries c.in_ok-cells.ensures.ordered) in
     record {
       time = subst IsTime (sym back) time;
-      few = rw same (omega (arith, counted, c.cell_count.ensures));
+      few = rw same (omega (arith, counted, ltb-false 1024 (cell_count (members_view entries)) (sym c.has_too_many.ensures ∙ c.if-has_too_many.false)));
       cells = subst (AllByRecursion IsCell) (sym same) c.in_ok-cells.ensures.are_cells;
       ascending = subst Ascend (sym same) ascending;
     }
