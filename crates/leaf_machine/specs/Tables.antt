@@ -1,9 +1,12 @@
 -- The tables of a leaf: by name, out of an image, and after an add.
-use Rattle.std.specs.Prelude.{◌≡◌, ℕ, ◌+◌, ◌<◌, ◌≤◌, ◌^◌, ◌&&◌, Bool, not, List, [], ◌++◌, length, map, slice_set, slice_get, Option, Some, option_map, unwrap_or, Result, Ok, Err, ℤ, pos, int_le, IsUtf8}
+use Rattle.std.specs.Prelude.{◌≡◌, ℕ, ◌+◌, ◌<◌, ◌≤◌, ◌^◌, Bool, not, List, [], ◌++◌, length, map, slice_set, slice_get, Option, Some, option_map, unwrap_or, Result, Ok, Err, pos, IsUtf8}
 use Rattle.std.specs.Str.{bytes_eq}
-use Rattle.std.specs.List.{find, list_any, count_by, AllByRecursion}
+use Rattle.std.specs.List.{find, list_any, AllByRecursion}
 use Rattle.leaf_model.specs.declared.rows.Row.{Row}
+use Rattle.leaf_model.specs.declared.queries.Query.{Query}
+use Rattle.leaf_model.specs.declared.groups.Group.{Group}
 use Rattle.leaf_model.specs.Content.{Contents, rows_from, kept_count, late_count}
+use Rattle.leaf_model.specs.Groups.{groups}
 use Rattle.region_layout.specs.declared.image.TableImage.{TableImage}
 use Rattle.region_layout.specs.Region.{AreDistinct, MayBeImage}
 use Rattle.leaf_machine.specs.declared.adds.Added.{Added}
@@ -74,10 +77,6 @@ abbrev pub Adds : List TableImage → ℕ → List Row → Result Added AddFault
 Adds tables place rows result now = (before : TableImage) × (after : TableImage) × (slice_get tables place ≡ Some before)
     × AddsTo before rows result after × (now ≡ slice_set tables place after)
 
--- the row's time is from the one to the other, both of them included
-abbrev pub is_within : ℤ → ℤ → Row → Bool
-is_within from to row = int_le from row.time && int_le row.time to
-
--- how many rows of the table in that place are within the times
-abbrev pub CountsWithin : List TableImage → ℕ → ℤ → ℤ → ℕ → Type 0
-CountsWithin tables place from to n = (t : TableImage) × (slice_get tables place ≡ Some t) × (n ≡ count_by (is_within from to) t.rows)
+-- the groups of the rows of the table in that place that pass the query
+abbrev pub Asks : List TableImage → ℕ → Query → List Group → Type 0
+Asks tables place q gs = (t : TableImage) × (slice_get tables place ≡ Some t) × (gs ≡ groups q t.rows)

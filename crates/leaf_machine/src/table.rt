@@ -1,10 +1,10 @@
 // The rows of one table.
-ghost use Rattle.std.specs.Prelude.{◌≡◌, ◌+◌, ◌≤◌, ◌++◌, length, count_by, vec_len, vec_capacity, OnOk, OnErr};
+ghost use Rattle.std.specs.Prelude.{◌≡◌, ◌+◌, ◌≤◌, ◌++◌, length, vec_len, vec_capacity, OnOk, OnErr};
 ghost use Rattle.std.specs.List.{AllByRecursion};
 ghost use Rattle.leaf_model.specs.Values.{IsRow};
 ghost use Rattle.leaf_model.specs.Content.{rows_from};
 ghost use Rattle.region_layout.specs.Region.{IsTableImage};
-ghost use Rattle.leaf_machine.specs.Tables.{AddsTo, is_within};
+ghost use Rattle.leaf_machine.specs.Tables.{AddsTo};
 
 use crate::adds::{AddFault, Added};
 use leaf_model::{Row, Rows, TableRows};
@@ -38,20 +38,6 @@ pub fn add_to(table: &mut TableImage, rows: Rows) -> Result<Added, AddFault>
     }
     table.writes += 1;
     Ok(Added { kept, late })
-}
-
-/// How many rows have a time from the one to the other, both included.
-pub fn count_within(from: i64, to: i64, rows: &[Row]) -> u64
-    ensures few { result ≤ length rows.now }
-    ensures count { result ≡ count_by (is_within from to) rows.now }
-{
-    let mut count = 0;
-    for row in rows {
-        if from <= row.time && row.time <= to {
-            count += 1;
-        }
-    }
-    count
 }
 
 /// How many of the rows are not late.

@@ -1,14 +1,16 @@
 // A leaf that serves its tables.
-ghost use Rattle.std.specs.Prelude.{◌≡◌, ◌<◌, length};
+ghost use Rattle.std.specs.Prelude.{◌≡◌, ◌<◌, length, IfOk};
 ghost use Rattle.std.specs.List.{AllByRecursion};
 ghost use Rattle.leaf_model.specs.Values.{IsRow};
-ghost use Rattle.leaf_machine.specs.Tables.{names_of, Adds, CountsWithin};
+ghost use Rattle.leaf_machine.specs.Tables.{names_of, Adds, Asks};
 
 use crate::adds::{AddFault, Added};
-use crate::table::{add_to, count_within};
+use crate::table::add_to;
 use berth_face::Berth;
-use leaf_model::Rows;
+use group_table::fold_rows;
+use leaf_model::{Groups, Query, Rows};
 use region_layout::TableImage;
+use std::alloc::AllocError;
 use std::marker::Model;
 
 /// A leaf that serves its tables, and owns its berth. Contracts see both.
@@ -43,12 +45,13 @@ impl<B: Berth> Up<B> {
         add_to(&mut self.tables[table as usize], rows)
     }
 
-    /// How many rows of the table in that place have a time from the one to the other, both included.
-    pub fn count(&self, table: u32, from: i64, to: i64) -> u64
+    /// The groups of the rows of the table in that place that pass the query, by key. Fails only for want of memory.
+    pub fn ask(&self, table: u32, query: &Query) -> Result<Groups, AllocError>
         requires { table < length self.now.0 }
-        ensures { CountsWithin self.now.0 table from to result }
+        ensures { IfOk result (Asks self.now.0 table query.now) }
     {
-        count_within(from, to, self.tables[table as usize].rows.as_slice())
+        let rows = self.tables[table as usize].rows.as_slice();
+        fold_rows(*self.tables.allocator(), query, rows)
     }
 
     /// Gives the berth back as it is, and drops the tables.

@@ -15,8 +15,9 @@ use Rattle.script_text.specs.declared.verb.Verb.{Verb}
 use Rattle.script_text.specs.declared.verb.Verb.TheVariants as verb
 use Rattle.script_text.specs.Lines.{lines_of, is_skipped}
 use Rattle.script_text.specs.Words.{words_of, first_word, behind_word, trimmed, place_of}
-use Rattle.script_text.specs.Query.{query_of}
-use Rattle.script_text.specs.Commands.{Fault, AddForm, or_words, fleet_of, add_words, one_row, with_first, rows_from, add_rows, add_at, add_of, query_at, query_command, one_number, leaf_of, drain_of, start_of, first_command, later_command, command_of, verb_of, leaves}
+use Rattle.query_text.specs.Reading.{query_of}
+use Rattle.query_text.specs.declared.fault.QueryFault.{QueryFault}
+use Rattle.script_text.specs.Commands.{Fault, AddForm, or_words, fleet_of, add_words, one_row, with_first, rows_from, add_rows, add_at, add_of, query_at, one_query, query_command, one_number, leaf_of, drain_of, start_of, first_command, later_command, command_of, verb_of, leaves}
 use Rattle.script_text.specs.Script.{rows_taken, fleet_after, commands_from, number_in, next_line, script_with, script_of}
 use Rattle.script_text.specs.declared.fault.ScriptFault.{ScriptFault}
 use Rattle.script_text.specs.declared.fault.ScriptFault.TheVariants.{At, NoMemory}
@@ -37,6 +38,7 @@ IsOwn why.Leaf = Unit {0}
 IsOwn why.Table = Unit {0}
 IsOwn why.Short = Unit {0}
 IsOwn (why.Row fault) = Unit {0}
+IsOwn (why.Query fault) = Unit {0}
 
 abbrev Own : {X : Type 0} → Result X Fault → Type 0
 Own (Ok x) = Unit {0}
@@ -82,9 +84,9 @@ own_query_at : (n : ℕ) (q : Query) (place : Option ℕ) → Own (query_at n q 
 own_query_at n q (Some table) = tt
 own_query_at n q None = tt
 
-own_query : (n : ℕ) (tables : List (List ℕ)) (q : Option Query) → Own (query_command n tables q)
-own_query n tables (Some q) = own_query_at n q (place_of tables q.table)
-own_query n tables None = tt
+own_query : (n : ℕ) (tables : List (List ℕ)) (q : Result Query QueryFault) → Own (query_command n tables (one_query n q))
+own_query n tables (Ok q) = own_query_at n q (place_of tables q.table)
+own_query n tables (Err fault) = tt
 
 own_leaf : (n : ℕ) (leaf : Option ℕ) → Own (leaf_of n leaf)
 own_leaf n None = tt
@@ -150,6 +152,7 @@ no_play berths before after text line why.Leaf r e = (text, r, e)
 no_play berths before after text line why.Table r e = (text, r, e)
 no_play berths before after text line why.Short r e = (text, r, e)
 no_play berths before after text line (why.Row fault) r e = (text, r, e)
+no_play berths before after text line (why.Query fault) r e = (text, r, e)
 
 pub no_more_taken : (before after : Option (List ℕ)) (text : List ℕ) (line : ℕ) (w : Why) → script_of text ≡ Err (line, w) → TakesAtMost before after longest_text → Takes (status.Script line w) before after
 no_more_taken before after text line why.TooLong e t = absurd (own_fault text line why.TooLong e)
@@ -162,6 +165,7 @@ no_more_taken before after text line why.Leaf e t = t
 no_more_taken before after text line why.Table e t = t
 no_more_taken before after text line why.Short e t = t
 no_more_taken before after text line (why.Row fault) e t = t
+no_more_taken before after text line (why.Query fault) e t = t
 
 -- ---- of a fault that was found
 

@@ -4,6 +4,8 @@ use Rattle.serde_json.specs.Data.{string}
 use Rattle.serde_json.specs.Written.{compact_text}
 use Rattle.row_json.specs.declared.object.RowFault.{RowFault}
 use Rattle.row_json.specs.declared.object.RowFault.TheVariants as fault
+use Rattle.query_text.specs.declared.fault.QueryFault.{QueryFault}
+use Rattle.query_text.specs.declared.fault.QueryFault.TheVariants as query
 use Rattle.script_text.specs.declared.fault.Why.{Why}
 use Rattle.script_text.specs.declared.fault.Why.TheVariants as why
 use Rattle.play.specs.declared.status.Status.{Status}
@@ -22,6 +24,13 @@ row_cause (fault.Name name) = codes "no cell may have the name " ++ quoted name
 row_cause (fault.Value name) = quoted name ++ codes " has no value that a cell may have"
 row_cause fault.NoMemory = codes "out of memory"
 
+-- what is wrong with a query
+abbrev pub query_cause : QueryFault → List ℕ
+query_cause (query.Syntax at) = codes "the query is at fault at byte " ++ decimal at
+query_cause query.NoTime = codes "the query has no range `time >= A AND time <= B` behind WHERE"
+query_cause (query.TooLarge at) = codes "the query has an integer out of its range at byte " ++ decimal at
+query_cause query.NoMemory = codes "out of memory"
+
 -- what is wrong with a line
 abbrev pub cause_of : Why → List ℕ
 cause_of why.TooLong = codes "the input has more than 16777216 bytes"
@@ -33,6 +42,7 @@ cause_of why.Leaf = codes "the fleet has no such leaf"
 cause_of why.Table = codes "the fleet has no such table"
 cause_of why.Short = codes "fewer rows follow than the command says"
 cause_of (why.Row f) = row_cause f
+cause_of (why.Query f) = query_cause f
 cause_of why.NoBerth = codes "the fleet has more leaves than there are berths"
 
 -- the line, where there is one, and the cause

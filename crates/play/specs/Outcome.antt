@@ -55,6 +55,7 @@ HasFault before after found = (text : List ℕ) × ReadsAll before after text ×
 abbrev pub IsNoRows : Option (List ℕ) → Option (List ℕ) → ℕ → Why → Type 0
 IsNoRows before after line why.TooLong = (line ≡ 0) × TakesCount before after most_taken
 IsNoRows before after line (why.Row fault) = HasFault before after (record { line = line; fault = fault })
+IsNoRows before after line (why.Query fault) = ⊥
 IsNoRows before after line why.Command = ⊥
 IsNoRows before after line why.NoFleet = ⊥
 IsNoRows before after line why.Place = ⊥
@@ -78,6 +79,7 @@ abbrev pub IsNoPlay : ℕ → Option (List ℕ) → Option (List ℕ) → ℕ �
 IsNoPlay berths before after line why.TooLong = (line ≡ 0) × TakesCount before after most_taken
 IsNoPlay berths before after line why.NoBerth = IsTooMany berths before after line
 IsNoPlay berths before after line (why.Row fault) = IsNoScript before after line (why.Row fault)
+IsNoPlay berths before after line (why.Query fault) = IsNoScript before after line (why.Query fault)
 IsNoPlay berths before after line why.Command = IsNoScript before after line why.Command
 IsNoPlay berths before after line why.NoFleet = IsNoScript before after line why.NoFleet
 IsNoPlay berths before after line why.Place = IsNoScript before after line why.Place
@@ -172,6 +174,7 @@ IfCount (Some Play) P = Unit {0}
 abbrev pub Takes : Status → Option (List ℕ) → Option (List ℕ) → Type 0
 Takes (Status.Script line why.TooLong) before after = TakesCount before after most_taken
 Takes (Status.Script line (why.Row fault)) before after = TakesAtMost before after longest_text
+Takes (Status.Script line (why.Query fault)) before after = TakesAtMost before after longest_text
 Takes (Status.Script line why.Command) before after = TakesAtMost before after longest_text
 Takes (Status.Script line why.NoFleet) before after = TakesAtMost before after longest_text
 Takes (Status.Script line why.Place) before after = TakesAtMost before after longest_text

@@ -1,10 +1,11 @@
 // A status as one line for people.
 ghost use Rattle.std.specs.Prelude.{◌≡◌, ◌≢◌, IfOk, string_bytes};
 ghost use Rattle.row_json.specs.declared.object.RowFault.TheVariants as fault;
-ghost use Rattle.play.specs.Faults.{at_line, cause_of, fault_text, quoted, row_cause};
+ghost use Rattle.play.specs.Faults.{at_line, cause_of, fault_text, query_cause, quoted, row_cause};
 
 use crate::status::Status;
 use leaf_model::Text;
+use query_text::QueryFault;
 use row_json::RowFault;
 use script_text::Why;
 use serde_json::Value;
@@ -53,6 +54,7 @@ fn cause_of(alloc: Global, why: &Why) -> Result<String, AllocError>
         Why::Table => String::from_str(alloc, "the fleet has no such table"),
         Why::Short => String::from_str(alloc, "fewer rows follow than the command says"),
         Why::Row(fault) => row_cause(alloc, fault),
+        Why::Query(fault) => query_cause(alloc, *fault),
         Why::NoBerth => String::from_str(alloc, "the fleet has more leaves than there are berths"),
     }
 }
@@ -72,6 +74,23 @@ fn row_cause(alloc: Global, fault: &RowFault) -> Result<String, AllocError>
         RowFault::Name(name) => bad_name(alloc, name),
         RowFault::Value(name) => bad_value(alloc, name),
         RowFault::NoMemory => String::from_str(alloc, "out of memory"),
+    }
+}
+
+/// What is wrong with a query. Its bytes are counted from 0.
+fn query_cause(alloc: Global, fault: QueryFault) -> Result<String, AllocError>
+    ensures { IfOk result (λ text. string_bytes text ≡ query_cause fault) }
+{
+    match fault {
+        QueryFault::Syntax(at) => format!(in alloc; "the query is at fault at byte {at}"),
+        QueryFault::NoTime => String::from_str(
+            alloc,
+            "the query has no range `time >= A AND time <= B` behind WHERE",
+        ),
+        QueryFault::TooLarge(at) => {
+            format!(in alloc; "the query has an integer out of its range at byte {at}")
+        }
+        QueryFault::NoMemory => String::from_str(alloc, "out of memory"),
     }
 }
 

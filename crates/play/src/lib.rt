@@ -5,6 +5,8 @@ mod berths;
 mod count;
 mod faults;
 mod program;
+#[cfg(test)]
+mod query_tests;
 mod script;
 #[cfg(test)]
 mod script_tests;

@@ -25,7 +25,7 @@ const IMAGE: [u8; 61] = [
 /// The head of a region of version 9.
 const VERSION_9: [u8; 16] = [1, 0x53, 0x43, 0x42, 9, 0, 0, 0, 0, 0, 0, 0, 0, 0, 0, 0];
 
-fn berths_of(alloc: Global, region: &[u8]) -> Result<Vec<MemBerth>, AllocError> {
+pub fn berths_of(alloc: Global, region: &[u8]) -> Result<Vec<MemBerth>, AllocError> {
     let berth = MemBerth::new(region.to_vec(alloc)?, Vec::new(alloc));
     let mut berths = Vec::new(alloc);
     berths.push(berth)?;
@@ -33,7 +33,7 @@ fn berths_of(alloc: Global, region: &[u8]) -> Result<Vec<MemBerth>, AllocError> 
 }
 
 /// The status of a play of the script, and what it wrote.
-fn play(
+pub fn play(
     alloc: Global,
     berths: &mut Vec<MemBerth>,
     script: &str,
@@ -53,7 +53,7 @@ fn play(
 }
 
 /// What a refused script's status says, and nothing for another status.
-fn refusal_text(alloc: Global, status: &Status) -> Result<Text, AllocError> {
+pub fn refusal_text(alloc: Global, status: &Status) -> Result<Text, AllocError> {
     match status {
         Status::Script {
             line: _line,

@@ -1,15 +1,16 @@
 -- A start and a drain as steps, with their lines.
 use Rattle.std.proofs.Common.{◌≡◌, ℕ, suc, ◌+◌, ◌-◌, ◌^◌, ◌≤◌, ◌<◌, Bool, List, [], ◌∷◌, ◌++◌, length, refl, sym, ap, ap₂, subst, ◌∙◌, append_assoc, arith, rules, Vec, Global}
-use Rattle.std.specs.Prelude.{min, slice_get, slice_index, Option, Some, None, unwrap_or, Result, Ok, Err, IfOk, OnOk}
+use Rattle.std.specs.Prelude.{min, slice_get, slice_index, slice_index_or, Some, Result, Ok, Err, IfOk, OnOk}
 use Rattle.std.proofs.lemmas.Option.{slice_get-get_or}
 use Rattle.leaf_model.specs.declared.queries.Query.{Query}
 use Rattle.printed_lines.specs.declared.line.Said.{Said}
+use Rattle.printed_lines.specs.declared.line.Said.TheVariants as said
 use Rattle.player.specs.declared.answer.Reply.{Reply}
 use Rattle.std.specs.List.{AllByRecursion}
 use Rattle.berth_face.specs.Causes.{Rose}
 use Rattle.region_layout.specs.declared.image.TableImage.{TableImage}
 use Rattle.leaf_machine.specs.declared.notes.Note.{Note}
-use Rattle.leaf_machine.specs.Tables.{names_of}
+use Rattle.leaf_machine.specs.Tables.{names_of, empty_image}
 use Rattle.printed_lines.specs.declared.line.Verb.{Verb}
 use Rattle.printed_lines.specs.declared.line.Verb.TheVariants as verb
 use Rattle.printed_lines.specs.declared.line.Ending.{Ending}
@@ -19,10 +20,10 @@ use Rattle.printed_lines.specs.declared.line.Line.TheVariants as line
 use Rattle.printed_lines.specs.Lines.{IsOf}
 use Rattle.transcript.specs.Life.{table_lines}
 use Rattle.transcript.specs.Steps as step
-use Rattle.transcript.specs.Steps.{Leaf, StartStep, DrainStep, QueryStep, OneEntry, CountsRows, next_numbers, opened_of, closed_of, handed_of}
-use Rattle.transcript.specs.Transcript.{region_faults_in, named, count_lines}
+use Rattle.transcript.specs.Steps.{Leaf, StartStep, DrainStep, QueryStep, OneEntry, next_numbers, opened_of, closed_of, handed_of}
+use Rattle.transcript.specs.Transcript.{region_faults_in, named}
 use Rattle.player.specs.Moves as move
-use Rattle.player.specs.Moves.{Starts, Drains, ArePlaces, note_lines, next_line, numbers_after, raised, CountsIn, IsReplied}
+use Rattle.player.specs.Moves.{Starts, Drains, ArePlaces, note_lines, next_line, numbers_after, raised, named_of, IsReply}
 use Rattle.player.proofs.Noted.{notes_by, opening, closing, handing, opened_by, closed_by, handed_by, lines_all, numbers_all, lines_on, numbers_on, places_by, places_on, names_size, next_size}
 
 size_of : (names : List (List ℕ)) (tables : List TableImage) → names_of tables ≡ names → length tables ≡ length names
@@ -179,19 +180,15 @@ fit_result names verb end notes numbers (Err e) is places = tt
 
 -- ---- a query
 
-pub counted : (leaf : Leaf) (table : ℕ) (q : Query) (found : Option ℕ) (r : Reply) → CountsIn leaf table q.from q.to found → IsReplied found r
-    → CountsRows leaf table q r.said r.rows
-counted step.IsDown table q None r c is = (is.0, is.2)
-counted step.IsDown table q (Some n) r c is = absurd cc
-counted (step.IsUp tables) table q None r c is = absurd (none_some c.0 c.2)
-  where
-    none_some : (n : ℕ) → None ≡ Some n → ⊥
-    none_some n e = absurd cc
-counted (step.IsUp tables) table q (Some n) r c is = (is.0, (c.0, c.1, is.2 ∙ ap (λ (o : Option ℕ). count_lines (unwrap_or o 0)) c.2))
-
-named_so : (found : Option ℕ) (r : Reply) (table number : ℕ) → IsReplied found r → r.named ≡ length (named (line.Entry 0 table number r.said ∷ []))
-named_so None r table number is = is.1 ∙ sym (ap (λ (s : Said). length (named (line.Entry 0 table number s ∷ []))) is.0)
-named_so (Some n) r table number is = is.1 ∙ sym (ap (λ (s : Said). length (named (line.Entry 0 table number s ∷ []))) is.0)
+named_so : (s : Said) (table number : ℕ) → named_of s ≡ length (named (line.Entry 0 table number s ∷ []))
+named_so said.Asked table number = refl
+named_so (said.Added kept late) table number = refl
+named_so said.RefusedShut table number = refl
+named_so said.RefusedFull table number = refl
+named_so said.RefusedMemory table number = refl
+named_so (said.Opened n) table number = refl
+named_so (said.Closed n) table number = refl
+named_so said.Handed table number = refl
 
 index_is : (numbers : List ℕ) (table : ℕ) → table < length numbers → slice_get numbers table ≡ Some (slice_index numbers table)
 index_is numbers table below = slice_get-get_or numbers table 0 below
@@ -199,16 +196,31 @@ index_is numbers table below = slice_get-get_or numbers table 0 below
 pub next_is : (numbers : List ℕ) (table : ℕ) (s : Said) → table < length numbers → OneEntry table numbers s (next_line numbers table s) (raised numbers table)
 next_is numbers table s below = record { number = slice_index numbers table; number_is = index_is numbers table below; line_is = refl; numbers_are = refl }
 
-pub query_step : (leaf : Leaf) (table : ℕ) (q : Query) (numbers : List ℕ) (found : Option ℕ) (r : Reply) (entry : Line) (lines : List Line) (numbers' : List ℕ)
-    → table < length numbers → CountsIn leaf table q.from q.to found → IsReplied found r
+pub query_step : (leaf : Leaf) (table : ℕ) (q : Query) (numbers : List ℕ) (r : Reply) (entry : Line) (lines : List Line) (numbers' : List ℕ)
+    → table < length numbers → IsReply leaf table q r
     → entry ≡ next_line numbers table r.said → numbers' ≡ raised numbers table
     → lines ≡ entry ∷ line.Answer r.named 1 r.rows ∷ []
     → QueryStep table q leaf numbers lines numbers'
-query_step leaf table q numbers found r entry lines numbers' below c is entry_is after lines_are = record {
+query_step leaf table q numbers r entry lines numbers' below is entry_is after lines_are = record {
   said = r.said;
   entry = next_line numbers table r.said;
   rows = r.rows;
-  counts = counted leaf table q found r c is;
+  asks = is.asks;
   made = subst (OneEntry table numbers r.said (next_line numbers table r.said)) (sym after) (next_is numbers table r.said below);
-  lines_are = lines_are ∙ ap₂ (λ (e : Line) (n : ℕ). e ∷ line.Answer n 1 r.rows ∷ []) entry_is (named_so found r table (suc (slice_index numbers table)) is);
+  lines_are = lines_are ∙ ap₂ (λ (e : Line) (n : ℕ). e ∷ line.Answer n 1 r.rows ∷ []) entry_is (is.named ∙ named_so r.said table (suc (slice_index numbers table)));
 }
+
+-- ---- what a leaf replies
+
+-- a table of that place
+pub table_at : (tables : List TableImage) (table : ℕ) → table < length tables → (t : TableImage) × (slice_get tables table ≡ Some t)
+table_at tables table below = (slice_index_or tables table (empty_image []), slice_get-get_or tables table (empty_image []) below)
+
+pub below_size : (tables : List TableImage) (table : ℕ) → table < length (names_of tables) → table < length tables
+below_size tables table below = subst (λ n. table < n) (names_size tables) below
+
+pub starved_reply : (tables : List TableImage) (table : ℕ) (q : Query) (r : Reply) → table < length tables
+    → r.said ≡ said.RefusedMemory → r.named ≡ 0 → r.rows ≡ [] → IsReply (step.IsUp tables) table q r
+starved_reply tables table q r below said_is named_is rows_are =
+    let at = table_at tables table below in
+    record { asks = (at.0, at.1, step.starved said_is rows_are); named = named_is ∙ ap named_of (sym said_is) }

@@ -1,15 +1,16 @@
 -- What a start and a drain make of a leaf, with their notes, and the lines of notes.
-use Rattle.std.specs.Prelude.{◌≡◌, ◌<◌, ℕ, suc, Bool, List, [], ◌∷◌, ◌++◌, slice_index, slice_set, Option, Some, None, ℤ, IsTrue}
+use Rattle.std.specs.Prelude.{◌≡◌, ◌<◌, ℕ, suc, Bool, List, [], ◌∷◌, ◌++◌, slice_index, slice_set, IsTrue}
 use Rattle.std.specs.List.{AllByRecursion}
 use Rattle.region_layout.specs.declared.image.TableImage.{TableImage}
 use Rattle.region_layout.specs.Region.{IsImage}
+use Rattle.leaf_model.specs.declared.queries.Query.{Query}
 use Rattle.leaf_machine.specs.declared.notes.Note.{Note}
 use Rattle.leaf_machine.specs.declared.notes.What.{What}
 use Rattle.leaf_machine.specs.declared.notes.What.TheVariants as what
 use Rattle.leaf_machine.specs.declared.ways.Way.{Way}
 use Rattle.leaf_machine.specs.declared.ways.StartFault.{StartFault}
 use Rattle.leaf_machine.specs.Notes.{opened_notes, closed_notes, handed_notes}
-use Rattle.leaf_machine.specs.Tables.{names_of, CountsWithin}
+use Rattle.leaf_machine.specs.Tables.{names_of}
 use Rattle.leaf_machine.specs.Starts.{IsWay}
 use Rattle.printed_lines.specs.declared.line.Said.{Said}
 use Rattle.printed_lines.specs.declared.line.Said.TheVariants as said
@@ -17,9 +18,8 @@ use Rattle.printed_lines.specs.declared.line.Ending.{Ending}
 use Rattle.printed_lines.specs.declared.line.Ending.TheVariants as ending
 use Rattle.printed_lines.specs.declared.line.Line.{Line}
 use Rattle.printed_lines.specs.declared.line.Line.TheVariants as line
-use Rattle.transcript.specs.Transcript.{count_lines}
 use Rattle.player.specs.declared.answer.Reply.{Reply}
-use Rattle.transcript.specs.Steps.{Leaf, IsDown, IsUp, ending_of}
+use Rattle.transcript.specs.Steps.{Leaf, IsDown, IsUp, AsksRows, ending_of}
 
 -- what a note's line says
 abbrev pub said_of_note : What → Said
@@ -101,12 +101,18 @@ pub data Drains (names : List (List ℕ)) (tells : Bool) (region region' : List 
       → leaf' ≡ leaf
       → Drains names tells region region' leaf notes end leaf'
 
--- a count of a table's rows within the times; a leaf that is down tells none
-abbrev pub CountsIn : Leaf → ℕ → ℤ → ℤ → Option ℕ → Type 0
-CountsIn IsDown table from to found = found ≡ None
-CountsIn (IsUp tables) table from to found = (n : ℕ) × CountsWithin tables table from to n × (found ≡ Some n)
+-- how many leaves a reply names
+abbrev pub named_of : Said → ℕ
+named_of said.Asked = 1
+named_of (said.Added kept late) = 0
+named_of said.RefusedShut = 0
+named_of said.RefusedFull = 0
+named_of said.RefusedMemory = 0
+named_of (said.Opened n) = 0
+named_of (said.Closed n) = 0
+named_of said.Handed = 0
 
--- what a leaf replied to a count, where it told one
-abbrev pub IsReplied : Option ℕ → Reply → Type 0
-IsReplied None r = (r.said ≡ said.RefusedShut) × (r.named ≡ 0) × (r.rows ≡ [])
-IsReplied (Some n) r = (r.said ≡ said.Asked) × (r.named ≡ 1) × (r.rows ≡ count_lines n)
+-- what a leaf replies to a query of one of its tables
+pub record IsReply (leaf : Leaf) (table : ℕ) (q : Query) (r : Reply) : Type 0 where
+  pub asks : AsksRows leaf table q r.said r.rows
+  pub named : r.named ≡ named_of r.said

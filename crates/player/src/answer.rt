@@ -1,11 +1,13 @@
-// A count's table, and its answer.
-ghost use Rattle.std.specs.Prelude.{◌≡◌, ◌<◌, ◌≤◌, ◌^◌, length, IfOk};
+// A query's table, and its answer.
+ghost use Rattle.std.specs.Prelude.{◌≡◌, ◌<◌, ◌≤◌, ◌^◌, [], length, IfOk};
 ghost use Rattle.std.specs.List.{position};
 ghost use Rattle.std.specs.Str.{bytes_eq};
-ghost use Rattle.transcript.specs.Transcript.{count_lines, place_of};
-ghost use Rattle.player.specs.Moves.{IsReplied};
+ghost use Rattle.answer_text.specs.Answer.{answer_lines};
+ghost use Rattle.printed_lines.specs.declared.line.Said.TheVariants.{Asked};
+ghost use Rattle.transcript.specs.Transcript.{place_of};
 
-use leaf_model::{Names, Text, Texts};
+use answer_text::lines;
+use leaf_model::{Groups, Names, Query, Text, Texts};
 use printed_lines::Said;
 use std::alloc::{AllocError, Global};
 
@@ -36,30 +38,24 @@ fn position_of(names: &[Text], name: &str) -> Option<usize>
     names.iter().position(|other| name == other.as_str())
 }
 
-/// The reply to a count: of a leaf that is up the count, in one row where it is not 0.
-pub fn reply_of(alloc: Global, count: Option<u64>) -> Result<Reply, AllocError>
-    ensures { IfOk result (IsReplied count) }
+/// The reply of a table whose rows have these groups.
+pub fn answered(alloc: Global, query: &Query, groups: &Groups) -> Result<Reply, AllocError>
+    ensures { IfOk result (λ reply. (reply.said ≡ Asked) × (reply.named ≡ 1) × (reply.rows ≡ answer_lines query.now groups.now)) }
 {
-    match count {
-        None => Ok(Reply {
-            said: Said::RefusedShut,
-            named: 0,
-            rows: Texts::of(Vec::new(alloc)),
-        }),
-        Some(count) => Ok(Reply {
-            said: Said::Asked,
-            named: 1,
-            rows: count_rows(alloc, count)?,
-        }),
-    }
+    Ok(Reply {
+        said: Said::Asked,
+        named: 1,
+        rows: Texts::of(lines(alloc, query, groups)?.into_inner()),
+    })
 }
 
-fn count_rows(alloc: Global, count: u64) -> Result<Texts, AllocError>
-    ensures { IfOk result (λ rows. rows ≡ count_lines count) }
+/// The reply of a table that does not answer, for this reason.
+pub fn refused(alloc: Global, said: Said) -> Reply
+    ensures { (result.said ≡ said) × (result.named ≡ 0) × (result.rows ≡ []) }
 {
-    let mut rows = Vec::new(alloc);
-    if count > 0 {
-        rows.push(Text::of(format!(in alloc; "{count}")?))?;
+    Reply {
+        said,
+        named: 0,
+        rows: Texts::of(Vec::new(alloc)),
     }
-    Ok(Texts::of(rows))
 }

@@ -8,7 +8,7 @@ ghost use Rattle.transcript.specs.Steps.{StartStep, DrainStep, AddStep, QuerySte
 ghost use Rattle.transcript.specs.Transcript.{place_of, region_faults_in};
 ghost use Rattle.player.specs.Stage.{Fits, IsCall, state_of, berth_of};
 
-use crate::answer::{place_of, reply_of};
+use crate::answer::place_of;
 use crate::entries::{next_entry, steward_lines};
 use crate::leaf::OneLeaf;
 use berth_face::Berth;
@@ -129,7 +129,7 @@ fn add<B: Berth>(
     Ok(lines)
 }
 
-/// Counts the rows of the query's table.
+/// Asks the query's table.
 fn ask<B: Berth>(
     alloc: Global,
     names: &Names,
@@ -145,7 +145,7 @@ fn ask<B: Berth>(
     ensures lines_fit { IfOk result (λ lines. AllByRecursion (IsOf names.now) lines.items) }
 {
     let table = place_of(names, query.table.as_str());
-    let reply = reply_of(alloc, leaf.count(table, query.from, query.to))?;
+    let reply = leaf.ask(alloc, table, query)?;
     let mut lines = Vec::new(alloc);
     lines.push(next_entry(numbers, table, reply.said)?)?;
     lines.push(Line::Answer {

@@ -1,5 +1,5 @@
 // One leaf, down or up.
-ghost use Rattle.std.specs.Prelude.{◌≡◌, ◌<◌, [], length, IsTrue, IfSome, IfNone};
+ghost use Rattle.std.specs.Prelude.{◌≡◌, ◌<◌, [], length, IfOk, IsTrue, IfSome, IfNone};
 ghost use Rattle.std.specs.List.{AllByRecursion};
 ghost use Rattle.berth_face.specs.Berth.{Passes};
 ghost use Rattle.berth_face.specs.Causes.{Rose};
@@ -7,13 +7,14 @@ ghost use Rattle.leaf_model.specs.Values.{IsRow};
 ghost use Rattle.printed_lines.specs.declared.line.Ending.TheVariants.{FaultRegion};
 ghost use Rattle.transcript.specs.Steps.{AddsRows, IsDown, ending_of, said_of};
 ghost use Rattle.player.specs.Stage.{state_of, berth_of, names_in};
-ghost use Rattle.player.specs.Moves.{Starts, Drains, CountsIn};
+ghost use Rattle.player.specs.Moves.{Starts, Drains, IsReply};
 
+use crate::answer::{Reply, answered, refused};
 use berth_face::Berth;
 use leaf_machine::{AddFault, Added, Down, DrainFault, Notes, StartFault, Up};
-use leaf_model::Rows;
+use leaf_model::{Query, Rows};
 use printed_lines::{Ending, Said};
-use std::alloc::Global;
+use std::alloc::{AllocError, Global};
 
 /// One leaf, down or up.
 #[derive(Drop)]
@@ -76,14 +77,17 @@ impl<B: Berth> OneLeaf<B> {
         }
     }
 
-    /// How many rows of the table in that place have a time from the one to the other, both included. A leaf that is down tells none.
-    pub fn count(&self, table: u32, from: i64, to: i64) -> Option<u64>
+    /// What the table in that place replies to a query. Fails only where there is no memory for the lines of its answer.
+    pub fn ask(&self, alloc: Global, table: u32, query: &Query) -> Result<Reply, AllocError>
         requires { table < length (names_in self.now) }
-        ensures { CountsIn (state_of self.now) table from to result }
+        ensures { IfOk result (IsReply (state_of self.now) table query.now) }
     {
         match self {
-            OneLeaf::Down(_) => None,
-            OneLeaf::Up(up) => Some(up.count(table, from, to)),
+            OneLeaf::Down(_) => Ok(refused(alloc, Said::RefusedShut)),
+            OneLeaf::Up(up) => match up.ask(table, query) {
+                Ok(groups) => answered(alloc, query, &groups),
+                Err(_) => Ok(refused(alloc, Said::RefusedMemory)),
+            },
         }
     }
 

@@ -4,11 +4,8 @@ use Rattle.std.proofs.lemmas.Slice.Eq.{bytes_eq-Decides}
 use Rattle.std.specs.List.{list_any, position_from, Contains}
 use Rattle.std.specs.Option.{is_some}
 use Rattle.std.specs.Str.{bytes_eq}
-use Rattle.leaf_model.specs.Values.{IsTime}
 use Rattle.script_text.specs.Words.{place_of, is_among}
-use Rattle.script_text.specs.Query.{count_query}
-use Rattle.script_text.specs.Fits.{IsCountQuery}
-use Rattle.std.specs.Prelude.{ℤ, slice_index_or}
+use Rattle.std.specs.Prelude.{slice_index_or}
 
 some_by : {X : Type 0} (test : X → Bool) (i : ℕ) (x : X) (xs : List X) (is : Bool) → test x ≡ is → is_some (position_from test (i + 1) xs) ≡ list_any test xs → is_some (position_from test i (x ∷ xs)) ≡ list_any test (x ∷ xs)
 some_by test i x xs true is later = rw is
@@ -54,13 +51,3 @@ place_below names name place found = let p = place_from names name 0 place found
 
 pub place_contains : (names : List (List ℕ)) (name : List ℕ) (place : ℕ) → place_of names name ≡ Some place → Contains names name
 place_contains names name place found = let p = place_from names name 0 place found in (p.k, p.below, p.is)
-
-some_is : (o : Option ℕ) → is_some o ≡ true → (k : ℕ) × (o ≡ Some k)
-some_is (Some k) h = (k, refl)
-some_is None h = absurd (true≢false (sym h))
-
--- the query of a table that the fleet has
-pub is_count_query : (names : List (List ℕ)) (name : List ℕ) (from to : ℤ) → is_some (place_of names name) ≡ true → IsTime from → IsTime to → IsCountQuery names (count_query name from to)
-is_count_query names name from to found is_from is_to =
-    let p = some_is (place_of names name) found in
-    record { table = place_contains names name p.0 p.1; from = is_from; to = is_to; conds = refl; keys = refl; aggs = refl; order = refl; limit = refl }

@@ -5,6 +5,8 @@ use Rattle.leaf_model.specs.declared.queries.Query.{Query}
 use Rattle.leaf_model.specs.declared.rows.Row.{Row}
 use Rattle.row_json.specs.declared.object.RowFault.{RowFault}
 use Rattle.row_json.specs.Row.{row_of}
+use Rattle.query_text.specs.declared.fault.QueryFault.{QueryFault}
+use Rattle.query_text.specs.Reading.{query_of}
 use Rattle.script_text.specs.declared.command.Command.{Command}
 use Rattle.script_text.specs.declared.command.Command.TheVariants.{Fleet, Add, Drain, Start}
 use Rattle.script_text.specs.declared.command.Command.TheVariants as command
@@ -13,7 +15,6 @@ use Rattle.script_text.specs.declared.fault.Why.TheVariants as why
 use Rattle.script_text.specs.declared.verb.Verb.{Verb}
 use Rattle.script_text.specs.declared.verb.Verb.TheVariants as verb
 use Rattle.script_text.specs.Words.{words_of, first_word, behind_word, trimmed, number_of, capped, is_table_name, are_tables, place_of}
-use Rattle.script_text.specs.Query.{query_of}
 
 -- a line's number, and its first fault
 abbrev pub Fault : Type 0
@@ -109,9 +110,14 @@ abbrev pub query_at : ℕ → Query → Option ℕ → Result Command Fault
 query_at n query (Some table) = Ok (command.Query query)
 query_at n query None = Err (n, why.Table)
 
-abbrev pub query_command : ℕ → List (List ℕ) → Option Query → Result Command Fault
-query_command n tables (Some query) = query_at n query (place_of tables query.table)
-query_command n tables None = Err (n, why.Words)
+-- the query of line n, or its fault
+abbrev pub one_query : ℕ → Result Query QueryFault → Result Query Fault
+one_query n (Ok query) = Ok query
+one_query n (Err fault) = Err (n, why.Query fault)
+
+abbrev pub query_command : ℕ → List (List ℕ) → Result Query Fault → Result Command Fault
+query_command n tables (Ok query) = query_at n query (place_of tables query.table)
+query_command n tables (Err found) = Err found
 
 -- the number that is the one word
 abbrev pub one_number : List (List ℕ) → Option ℕ
@@ -148,7 +154,7 @@ abbrev pub later_command : ℕ → List (List ℕ) → List ℕ → List (List �
 later_command n tables line more None = Err (n, why.Command)
 later_command n tables line more (Some verb.Fleet) = Err (n, why.Place)
 later_command n tables line more (Some verb.Add) = add_of n tables (add_words (words_of (behind_word line))) more
-later_command n tables line more (Some verb.Query) = query_command n tables (query_of (trimmed (behind_word line)))
+later_command n tables line more (Some verb.Query) = query_command n tables (one_query n (query_of (trimmed (behind_word line))))
 later_command n tables line more (Some verb.Drain) = drain_of (leaf_of n (one_number (words_of (behind_word line))))
 later_command n tables line more (Some verb.Start) = start_of (leaf_of n (one_number (words_of (behind_word line))))
 

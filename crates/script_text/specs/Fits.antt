@@ -1,9 +1,8 @@
 -- What a caller knows of a script that was read.
-use Rattle.std.specs.Prelude.{◌≡◌, ◌<◌, ◌≤◌, ◌≢◌, ℕ, List, [], ◌∷◌, length, true, None, IsUtf8}
+use Rattle.std.specs.Prelude.{◌≡◌, ◌<◌, ◌≤◌, ◌≢◌, ℕ, List, [], ◌∷◌, length, true, IsUtf8}
 use Rattle.std.specs.List.{AllByRecursion, Contains}
-use Rattle.leaf_model.specs.declared.queries.Query.{Query}
-use Rattle.leaf_model.specs.declared.queries.Agg.TheVariants.{Count}
-use Rattle.leaf_model.specs.Values.{IsTime, IsRow}
+use Rattle.leaf_model.specs.Values.{IsRow}
+use Rattle.query_text.specs.Grammar.{IsQuery}
 use Rattle.script_text.specs.declared.command.Command.{Command}
 use Rattle.script_text.specs.declared.command.Command.TheVariants.{Fleet, Add, Drain, Start}
 use Rattle.script_text.specs.declared.command.Command.TheVariants as command
@@ -29,22 +28,11 @@ pub record AreTables (tables : List (List ℕ)) : Type 0 where
   pub names : AllByRecursion IsTableName tables
   pub distinct : AreDistinct tables
 
--- a query of the number of a table's rows from one time to another
-pub record IsCountQuery (tables : List (List ℕ)) (query : Query) : Type 0 where
-  pub table : Contains tables query.table
-  pub from : IsTime query.from
-  pub to : IsTime query.to
-  pub conds : query.conds ≡ []
-  pub keys : query.keys ≡ []
-  pub aggs : query.aggs ≡ Count ∷ []
-  pub order : query.order ≡ None
-  pub limit : query.limit ≡ 100000
-
 -- a command behind a fleet of one leaf with these tables
 abbrev pub IsCommand : List (List ℕ) → Command → Type 0
 IsCommand tables (Fleet machines per_machine names) = ⊥
 IsCommand tables (Add leaf table rows) = (leaf ≡ 0) × (table < length tables) × (length rows ≤ 100000) × AllByRecursion IsRow rows
-IsCommand tables (command.Query query) = IsCountQuery tables query
+IsCommand tables (command.Query query) = Contains tables query.table × IsQuery query
 IsCommand tables (Drain leaf) = leaf ≡ 0
 IsCommand tables (Start leaf) = leaf ≡ 0
 

@@ -1,6 +1,5 @@
 pub mod Lines
 pub mod Words
-pub mod Query
 pub mod Commands
 pub mod Script
 pub mod Fits

@@ -2,6 +2,7 @@
 ghost use Rattle.std.specs.Prelude.{◌≡◌};
 ghost use Rattle.script_text.specs.declared.fault.ScriptFault.TheVariants.{At, NoMemory};
 
+use query_text::QueryFault;
 use row_json::RowFault;
 use std::alloc::{AllocError, AllocFailed};
 
@@ -27,6 +28,8 @@ pub enum Why {
     Short,
     /// The line is to be a row, and is none.
     Row(RowFault),
+    /// The text of the query is none. It begins behind `query` and one space, and its places are counted from there.
+    Query(QueryFault),
     /// The fleet has more leaves than the caller has berths.
     NoBerth,
 }

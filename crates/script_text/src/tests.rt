@@ -135,48 +135,41 @@ fn tells_the_commands_or_the_first_fault(rt: HostRuntime) -> Result<(), test::Fa
             "fleet 1 1 errors b\nadd 0 b 2\r\n {\"time\":1}\r\n{\"time\":2,\"v\":3}\nadd 0 errors 0\n",
             "fleet at 1, 1 of 1 errors b, add 0 1: 1 2, add 0 0:",
         ),
-        // Queries.
+        // Queries. The text begins behind one space, and a place in it is an offset in bytes.
         (
             "fleet 1 1 a\nquery SELECT COUNT(*) FROM a WHERE time >= 0 AND time <= 9223372036854775807  ",
             "fleet at 1, 1 of 1 a, Query { table: Text { inner: \"a\" }, from: 0, to: 9223372036854775807, conds: Conds { inner: [] }, keys: Names { inner: [] }, aggs: Aggs { inner: [Count] }, order: None, limit: 100000 }",
         ),
         (
+            "fleet 1 1 a\n query \tSELECT host, MAX(\"v\") FROM a WHERE time>=-1 AND time<=1 AND v != 'x' GROUP BY host ORDER BY MAX(v) LIMIT 1\r\n",
+            "fleet at 1, 1 of 1 a, Query { table: Text { inner: \"a\" }, from: -1, to: 1, conds: Conds { inner: [Cond { name: Text { inner: \"v\" }, op: Ne, value: Text(Text { inner: \"x\" }) }] }, keys: Names { inner: [Text { inner: \"host\" }] }, aggs: Aggs { inner: [Max(Text { inner: \"v\" })] }, order: Some(0), limit: 1 }",
+        ),
+        (
             "fleet 1 1 a\nquery SELECT COUNT(*) FROM a WHERE time >= 0 AND time <= 9223372036854775808",
-            "2 Words",
+            "2 Query(TooLarge(51))",
         ),
         (
-            "fleet 1 1 a\nquery SELECT COUNT(*) FROM a WHERE time >= 9223372036854775808 AND time <= 1",
-            "2 Words",
-        ),
-        (
-            "fleet 1 1 a\nquery SELECT COUNT(*) FROM a WHERE time >= -1 AND time <= 1",
-            "2 Words",
-        ),
-        (
-            "fleet 1 1 a\nquery  SELECT COUNT(*) FROM a WHERE time >= 0 AND time <= 1",
-            "2 Words",
-        ),
-        (
-            "fleet 1 1 a\nquery SELECT COUNT(*) FROM a  WHERE time >= 0 AND time <= 1",
-            "2 Words",
-        ),
-        (
-            "fleet 1 1 a\nquery SELECT COUNT(*) FROM a WHERE time >= 0 AND time <= 1 LIMIT 1",
-            "2 Words",
+            "fleet 1 1 a\nquery  SELECT COUNT(*) FROM a WHERE time >= 9223372036854775808 AND time <= 1",
+            "2 Query(TooLarge(38))",
         ),
         (
             "fleet 1 1 a\nquery SELECT COUNT(*) FROM a WHERE time >= 0",
-            "2 Words",
+            "2 Query(NoTime)",
         ),
         (
             "fleet 1 1 a\nquery SELECT COUNT(*) FROM A WHERE time >= 0 AND time <= 1",
-            "2 Words",
+            "2 Query(Syntax(21))",
         ),
         (
             "fleet 1 1 a\nquery SELECT COUNT(*) FROM b WHERE time >= 0 AND time <= 1",
             "2 Table",
         ),
-        ("fleet 1 1 a\nquery", "2 Words"),
+        (
+            "fleet 1 1 a\nquery SELECT COUNT(*) FROM b WHERE time >= 0 AND time <= 1 LIMIT 100001",
+            "2 Query(TooLarge(59))",
+        ),
+        ("fleet 1 1 a\nquery", "2 Query(Syntax(0))"),
+        ("fleet 1 1 a\nquery SELECT FROM  \n", "2 Query(Syntax(7))"),
         // Leaves.
         ("fleet 1 1 a\ndrain", "2 Words"),
         ("fleet 1 1 a\ndrain 0 stop 1", "2 Words"),

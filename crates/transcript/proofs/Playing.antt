@@ -121,7 +121,7 @@ plays_on names first bases commands out leaf region region' numbers (command.Fle
 plays_on names first bases commands out leaf region region' numbers (command.Add l table rows) tells lines leaf' numbers' told may s step =
     rw (may.0, step.1 told) (add_goes_on names first bases commands out leaf region numbers table rows lines leaf' numbers' s may.1 step.0)
 plays_on names first bases commands out leaf region region' numbers (command.Query q) tells lines leaf' numbers' told may s step =
-    rw (step.1, step.2 told) (query_goes_on names first bases commands out leaf region numbers q lines numbers' s (found_place q.table names may.table.0 may.table.1 may.table.2) may.conds step.0)
+    rw (step.1, step.2 told) (query_goes_on names first bases commands out leaf region numbers q lines numbers' s (found_place q.table names may.0.0 may.0.1 may.0.2) step.0)
 plays_on names first bases commands out leaf region region' numbers (command.Drain l) tells lines leaf' numbers' told may s step =
     rw may (drain_goes_on names first bases commands out leaf region region' numbers tells lines leaf' numbers' told s step)
 plays_on names first bases commands out leaf region region' numbers (command.Start l) tells lines leaf' numbers' told may s step =

@@ -13,7 +13,7 @@ use Rattle.printed_lines.specs.Lines.{lines_text, name_at}
 use Rattle.transcript.specs.Life.{Life, Down, Up}
 use Rattle.leaf_machine.specs.declared.ways.Way.{Way}
 use Rattle.transcript.specs.Steps.{Leaf, IsDown, IsUp}
-use Rattle.transcript.specs.Transcript.{Transcript, Played, Fleet, Scene, Chronicle, Prints, PrintsAll, AnswersLine, Answers, state_after, has_loss, rows_before, place_of, named, answer_lines}
+use Rattle.transcript.specs.Transcript.{Transcript, Played, Fleet, Scene, Chronicle, Prints, PrintsAll, AnswersLine, Answers, state_after, has_loss, rows_before, place_of, named, row_lines}
 use Rattle.transcript.specs.Session.{Session, Stands, Claims, IsHandedIn, HoldsImage, Answered, IsMade, one_leaf, scene_of}
 use Rattle.transcript.proofs.Telling.{All-append, All-weaken}
 use Rattle.transcript.proofs.Growing.{entries, grown, IsWhole, grown_entries, grown_state, grown_whole, losses_go_on, TableStep, table_goes_on, rows_before-grows}
@@ -34,7 +34,7 @@ rows-grow base lost h es w (l ∷ ls) a = rw (rows_before-grows base lost h es l
 line-grows : (base : TableState) (lost : Bool) (h : Chronicle) (es : List Entry) → IsWhole lost h → (q : Query) (leaves : List (ℕ × ℕ))
     → AllByRecursion (λ (l : ℕ × ℕ). l.1 - 1 ≤ length (entries h)) leaves
     → (l : Line) → AnswersLine (λ leaf. base) (λ leaf. h) q leaves l → AnswersLine (λ leaf. base) (λ leaf. grown lost h es) q leaves l
-line-grows base lost h es w q leaves a (line.Answer count of rows) e = e ∙ sym (ap (answer_lines q) (rows-grow base lost h es w leaves a))
+line-grows base lost h es w q leaves a (line.Answer count of rows) e = e ∙ sym (ap (row_lines q) (rows-grow base lost h es w leaves a))
 line-grows base lost h es w q leaves a (line.Entry leaf table number said) e = e
 line-grows base lost h es w q leaves a (line.Ended verb leaf ending) e = e
 

@@ -10,7 +10,7 @@ use Rattle.leaf_machine.specs.declared.ways.StartFault.TheVariants as fault
 use Rattle.leaf_machine.specs.declared.adds.Added.{Added}
 use Rattle.leaf_machine.specs.declared.adds.AddFault.{AddFault}
 use Rattle.leaf_machine.specs.declared.adds.AddFault.TheVariants.{Full, NoMemory}
-use Rattle.leaf_machine.specs.Tables.{names_of, Adds, CountsWithin}
+use Rattle.leaf_machine.specs.Tables.{names_of, Adds}
 use Rattle.region_layout.specs.Region.{IsImage}
 use Rattle.leaf_machine.specs.Starts.{IsWay}
 use Rattle.printed_lines.specs.declared.line.Said.{Said}
@@ -24,7 +24,7 @@ use Rattle.transcript.specs.Life.{table_lines}
 use Rattle.script_text.specs.declared.command.Command.{Command}
 use Rattle.script_text.specs.declared.command.Command.TheVariants as command
 use Rattle.script_text.specs.Fits.{IsCommand}
-use Rattle.transcript.specs.Transcript.{named, count_lines, place_of}
+use Rattle.transcript.specs.Transcript.{named, row_lines, place_of}
 
 -- a leaf: down, or up with these tables
 pub data Leaf : Type 0 where
@@ -60,16 +60,21 @@ pub record AddStep (table : ℕ) (rows : List Row) (leaf : Leaf) (numbers : List
   pub made : OneEntry table numbers said entry numbers'
   pub lines_are : lines ≡ entry ∷ []
 
--- a count of a table's rows, and its answer's lines
-abbrev pub CountsRows : Leaf → ℕ → Query → Said → List (List ℕ) → Type 0
-CountsRows IsDown table q s rows = (s ≡ said.RefusedShut) × (rows ≡ [])
-CountsRows (IsUp tables) table q s rows = (s ≡ said.Asked) × ((n : ℕ) × CountsWithin tables table q.from q.to n × (rows ≡ count_lines n))
+-- what a query says of a table, and the lines of its answer: those of the table's rows, or none where there was no memory to find them
+pub data AsksTable (t : TableImage) (q : Query) (s : Said) (rows : List (List ℕ)) : Type 0 where
+  answered : s ≡ said.Asked → rows ≡ row_lines q t.rows → AsksTable t q s rows
+  starved : s ≡ said.RefusedMemory → rows ≡ [] → AsksTable t q s rows
+
+-- a query of a leaf's table
+abbrev pub AsksRows : Leaf → ℕ → Query → Said → List (List ℕ) → Type 0
+AsksRows IsDown table q s rows = (s ≡ said.RefusedShut) × (rows ≡ [])
+AsksRows (IsUp tables) table q s rows = (t : TableImage) × (slice_get tables table ≡ Some t) × AsksTable t q s rows
 
 pub record QueryStep (table : ℕ) (q : Query) (leaf : Leaf) (numbers : List ℕ) (lines : List Line) (numbers' : List ℕ) : Type 0 where
   pub said : Said
   pub entry : Line
   pub rows : List (List ℕ)
-  pub counts : CountsRows leaf table q said rows
+  pub asks : AsksRows leaf table q said rows
   pub made : OneEntry table numbers said entry numbers'
   pub lines_are : lines ≡ entry ∷ line.Answer (length (named (entry ∷ []))) 1 rows ∷ []
 

@@ -1,11 +1,12 @@
 -- What a script prints: the lines of each command, the one history of each table, and the answers over those.
-use Rattle.std.specs.Prelude.{◌≡◌, ℕ, zero, suc, ◌+◌, ◌-◌, ◌*◌, ◌<◌, ◌≤◌, ◌==◌, Bool, true, false, ◌&&◌, ◌||◌, List, [], ◌∷◌, ◌++◌, length, map, take, count_by, decimal, Option, Some, None, slice_get, slice_set, ⊤, if◌then◌else◌, bytes_eq}
+use Rattle.std.specs.Prelude.{◌≡◌, ℕ, zero, suc, ◌+◌, ◌-◌, ◌*◌, ◌<◌, ◌≤◌, ◌==◌, Bool, true, false, ◌&&◌, ◌||◌, List, [], ◌∷◌, ◌++◌, length, map, take, Option, Some, None, slice_get, slice_set, ⊤, if◌then◌else◌, bytes_eq}
 use Rattle.std.specs.List.{flat_map, AllByRecursion}
 use Rattle.leaf_model.specs.declared.rows.Row.{Row}
 use Rattle.leaf_model.specs.declared.queries.Query.{Query}
 use Rattle.leaf_model.specs.declared.groups.Group.{Group}
 use Rattle.leaf_model.specs.Content.{Contents}
-use Rattle.leaf_model.specs.Groups.{passes}
+use Rattle.leaf_model.specs.Groups.{groups}
+use Rattle.answer_text.specs.Answer.{answer_lines}
 use Rattle.leaf_history.specs.Calls.{Call}
 use Rattle.leaf_history.specs.Calls as call
 use Rattle.leaf_history.specs.Replies as reply
@@ -223,18 +224,14 @@ abbrev pub rows_before : TableState → Chronicle → ℕ → List Row
 rows_before base h number =
     (held (state_after base (record { claimed = take (number - 1) h.claimed; rest = take (number - 1 - length h.claimed) h.rest }))).rows
 
--- the lines of an answer: how many rows pass, where any does
-abbrev pub count_lines : ℕ → List (List ℕ)
-count_lines zero = []
-count_lines (suc n) = decimal (suc n) ∷ []
-
-abbrev pub answer_lines : Query → List Row → List (List ℕ)
-answer_lines q rows = count_lines (count_by (passes q) rows)
+-- the lines of an answer: the groups of the passing rows, in order, cut and printed
+abbrev pub row_lines : Query → List Row → List (List ℕ)
+row_lines q rows = answer_lines q (groups q rows)
 
 -- the answer is over the rows of exactly the named leaves, each before its entry
 abbrev pub AnswersLine : (ℕ → TableState) → (ℕ → Chronicle) → Query → List (ℕ × ℕ) → Line → Type 0
 AnswersLine bases histories q leaves (line.Answer count of rows) =
-    rows ≡ answer_lines q (flat_map (λ l. rows_before (bases l.0) (histories l.0) l.1) leaves)
+    rows ≡ row_lines q (flat_map (λ l. rows_before (bases l.0) (histories l.0) l.1) leaves)
 AnswersLine bases histories q leaves (line.Entry l t number said) = ⊤
 AnswersLine bases histories q leaves (line.Ended verb l ending) = ⊤
 

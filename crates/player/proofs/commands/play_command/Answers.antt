@@ -6,4 +6,4 @@ use Rattle.player.proofs.commands.play_command.Goals as goal
 pub ask-lines-requires-clause-table : goal.ask-lines-requires-clause-table
 ask-lines-requires-clause-table g c κs within =
     let may = subst (MayPlay c.args.names.now) c.in-Query.is c.requires.may in
-    known_place c.in-Query.query.table c.args.names.now may.table.0 may.table.1 may.table.2
+    known_place c.in-Query.query.table c.args.names.now may.0.0 may.0.1 may.0.2
