@@ -1,12 +1,16 @@
-//! The edge to real files: a berth over two files of one folder. It tells nothing of what they hold.
+//! The edge to the system: a berth over two files of one folder, which tells nothing of what they hold; standard input and output.
 #![tactic(auto)]
 
 mod berth;
 mod kept;
 mod raw;
+mod standard;
 mod whole;
 
 pub use berth::FileBerth;
+pub use standard::{StdSink, StdSource};
 
+#[cfg(test)]
+mod standard_tests;
 #[cfg(test)]
 mod tests;

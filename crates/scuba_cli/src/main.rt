@@ -4,18 +4,16 @@
 ghost use Rattle.std.specs.Prelude.{◌≡◌};
 ghost use Rattle.scuba_cli.specs.Exit.{exit_number};
 
-mod standard;
-
-use berth_face::OpenGate;
+use berth_face::{Berth, OpenGate};
+use berth_files::{FileBerth, StdSink, StdSource};
 use berth_mem::MemBerth;
 use play::{Status, fault_text, run};
-use standard::{StdSink, StdSource};
 use std::alloc::{AllocError, Global};
 use std::process::ExitCode;
 use std::{env, io};
 
 /// How many leaves may have a berth.
-const BERTHS: usize = 256;
+const BERTHS: u32 = 256;
 
 /// The words of the command line are no command.
 const WORDS: u8 = 2;
@@ -31,10 +29,19 @@ fn main(rt: HostRuntime) -> ExitCode {
     let Some((folder, words)) = words.split_first() else {
         return ExitCode::from(WORDS);
     };
-    if folder.as_str() != "mem" {
-        return ExitCode::from(WORDS);
+    match folder.as_str() {
+        "mem" => serve(rt, words, fresh_berths(rt.alloc())),
+        folder => serve(rt, words, file_berths(rt, folder)),
     }
-    let Ok(mut berths) = fresh_berths(rt.alloc()) else {
+}
+
+/// Does what the words say over these berths, and says why where it was not done.
+fn serve<B: Berth + Drop>(
+    rt: HostRuntime,
+    words: &[String],
+    berths: Result<Vec<B>, AllocError>,
+) -> ExitCode {
+    let Ok(mut berths) = berths else {
         return ExitCode::from(NO_MEMORY);
     };
     let mut source = StdSource::new(rt.reader());
@@ -53,9 +60,18 @@ fn main(rt: HostRuntime) -> ExitCode {
 
 /// Berths in memory that hold nothing.
 fn fresh_berths(alloc: Global) -> Result<Vec<MemBerth>, AllocError> {
-    let mut berths = Vec::with_capacity(alloc, BERTHS)?;
+    let mut berths = Vec::with_capacity(alloc, BERTHS as usize)?;
     for _ in 0..BERTHS {
         berths.push(MemBerth::new(Vec::new(alloc), Vec::new(alloc)))?;
+    }
+    Ok(berths)
+}
+
+/// Berths over the files of a folder, which are made where a leaf writes.
+fn file_berths(rt: HostRuntime, folder: &str) -> Result<Vec<FileBerth>, AllocError> {
+    let mut berths = Vec::with_capacity(rt.alloc(), BERTHS as usize)?;
+    for leaf in 0..BERTHS {
+        berths.push(FileBerth::new(rt, folder, leaf)?)?;
     }
     Ok(berths)
 }
