@@ -1,11 +1,11 @@
 // Decoding in order: one load for each code, but for the last few, near the end of the bytes.
-ghost use Rattle.std.specs.Prelude.{◌≡◌, ℕ, ◌+◌, ◌*◌, ◌%◌, ◌≤◌, ◌<◌, length, slice_index};
+ghost use Rattle.std.specs.Prelude.{◌≡◌, ℕ, ◌+◌, ◌*◌, ◌/◌, ◌%◌, ◌≤◌, ◌<◌, length, slice_index};
 ghost use Rattle.bit_columns.specs.Bits.{code};
 
 use crate::words::{bits_at, low_bits, word_at};
 
 // How many codes begin eight bytes or more before the end, so that each is read by one load.
-fn loadable(count: u32, width: u32) -> u32
+pub(crate) fn loadable(count: u32, width: u32) -> u32
     requires { width ≤ 64 }
     ensures few { result ≤ count }
     ensures inside { 0 < result → result * width + 64 ≤ count * width }
@@ -15,6 +15,18 @@ fn loadable(count: u32, width: u32) -> u32
     } else {
         count.saturating_sub(64u32.div_ceil(width))
     }
+}
+
+// The code at a place, by one load of eight bytes, past which it does not go.
+#[inline(always)]
+pub(crate) fn loaded(bytes: &[u8], i: u32, width: u32) -> u64
+    requires width { width ≤ 64 }
+    requires inside { i * width / 8 + 8 ≤ length bytes.now }
+    requires at_once { i * width % 8 + width ≤ 64 }
+    ensures { result ≡ code bytes.now width i }
+{
+    let from = i as usize * width as usize;
+    low_bits(word_at(bytes, from / 8) >> (from % 8), width)
 }
 
 // The first codes, where none goes past the word that it begins in.
@@ -27,8 +39,7 @@ fn fill_by_words(bytes: &[u8], out: &mut [u64], count: u32, width: u32)
     ensures { (k : ℕ) → k < count → slice_index out.new k ≡ code bytes.now width k }
 {
     for i in 0..count {
-        let from = i as usize * width as usize;
-        out[i as usize] = low_bits(word_at(bytes, from / 8) >> (from % 8), width);
+        out[i as usize] = loaded(bytes, i, width);
     }
 }
 

@@ -2,6 +2,7 @@
 #![tactic(auto)]
 
 mod decode;
+mod limit;
 mod packed;
 mod packing;
 mod presence;

@@ -1,8 +1,9 @@
 // Codes that stand in bytes.
-ghost use Rattle.std.specs.Prelude.{◌≡◌, ℕ, ◌*◌, ◌^◌, ◌≤◌, ◌<◌, ◌↔◌, IsSome, IfSome, length};
+ghost use Rattle.std.specs.Prelude.{◌≡◌, ℕ, ◌*◌, ◌^◌, ◌≤◌, ◌<◌, ◌↔◌, IsTrue, IsSome, IfSome, length};
 ghost use Rattle.bit_columns.specs.Bits.{IsBits, code, codes};
 
 use crate::decode::fill_codes;
+use crate::limit::are_at_most;
 use crate::words::{bits_at, is_bits};
 use std::marker::Model;
 
@@ -54,6 +55,13 @@ impl<'a> Packed<'a> {
             i as usize * self.width as usize,
             u32::from(self.width),
         )
+    }
+
+    /// Whether no code is above a number.
+    pub fn are_at_most(&self, most: u64) -> bool
+        ensures { IsTrue result ↔ ((i : ℕ) → i < self.now.count → code self.now.bytes self.now.width i ≤ most) }
+    {
+        are_at_most(self.bytes, self.count, u32::from(self.width), most)
     }
 
     /// Writes all codes in order.

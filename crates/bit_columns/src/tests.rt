@@ -5,7 +5,15 @@ ghost use Rattle.std.specs.List.{All};
 use crate::{Packed, PresenceBits, pack, pack_bits, width_of};
 use std::alloc::{AllocError, Global};
 
-// Whether values that are packed are these bytes, and are read back from them, one by one and in order.
+fn greatest(values: &[u64]) -> u64 {
+    let mut most = 0;
+    for value in values {
+        most = most.max(*value);
+    }
+    most
+}
+
+// Whether values that are packed are these bytes, and are read back from them, one by one and in order, and the greatest is known.
 fn is_read_back(alloc: Global, values: &[u64], width: u8, bytes: &[u8]) -> Result<bool, AllocError>
     requires width { width ≤ 64 }
     requires fit { All (λ value. value < 2 ^ width) values.now }
@@ -14,13 +22,21 @@ fn is_read_back(alloc: Global, values: &[u64], width: u8, bytes: &[u8]) -> Resul
     let written = pack(alloc, values, width)?;
     let mut filled = vec![in alloc; 0u64; values.len()]?;
     let mut got = Vec::new(alloc);
+    let most = greatest(values);
+    let mut bounded = false;
     if let Some(packed) = Packed::view(bytes, values.len() as u32, width) {
+        bounded = packed.are_at_most(most) && (most == 0 || !packed.are_at_most(most - 1));
         packed.fill(&mut filled);
         for i in 0..values.len() {
             got.push(packed.get(i as u32))?;
         }
     }
-    Ok(written.as_slice() == bytes && filled.as_slice() == values && got.as_slice() == values)
+    Ok(
+        bounded
+            && written.as_slice() == bytes
+            && filled.as_slice() == values
+            && got.as_slice() == values,
+    )
 }
 
 #[test]
