@@ -130,8 +130,34 @@ fn greatest_code(width: u8) -> u64
     }
 }
 
-// Whether each cell that is there has a code that stands for a value. Where the least and the greatest code of the width
-// do, all do.
+// A code that stands for a value, and above which none does, where 0 does.
+fn last_code(form: Form, extra: &[u8], count: u32) -> u64
+    requires extra { IsExtra form count extra.now }
+    requires some { IsCode (book_of form count extra.now) 0 }
+    ensures { IsCode (book_of form count extra.now) result }
+{
+    match form {
+        Form::Offset => i64::MAX.abs_diff(i64_at(extra, 0)),
+        Form::Delta => u64::MAX,
+        Form::Dictionary => u64::from(text_count(extra)) - 1,
+    }
+}
+
+// Whether the code of each cell stands for a value, that of a missing one too.
+fn is_every_code(header: &Header, packed: &Packed, extra: &[u8]) -> bool
+    requires width { header.now.width ≤ 64 }
+    requires same { packed.now.width ≡ header.now.width }
+    requires extra { IsExtra header.now.form header.now.count extra.now }
+    ensures { IsTrue result → (i : ℕ) → i < packed.now.count → IsCode (book_of header.now.form header.now.count extra.now) (code packed.now.bytes packed.now.width i) }
+{
+    if !is_code(header.form, extra, header.count, 0) {
+        return false;
+    }
+    let last = last_code(header.form, extra, header.count);
+    greatest_code(header.width) <= last || packed.are_at_most(last)
+}
+
+// Whether each cell that is there has a code that stands for a value. Missing ones are looked at only where some code is none.
 fn are_codes(
     header: &Header,
     presence: &Option<PresenceBits>,
@@ -146,13 +172,8 @@ fn are_codes(
     requires extra { IsExtra header.now.form header.now.count extra.now }
     ensures { IsTrue result ↔ AreCodes (coded_of header.now.form header.now.count presence.now packed.now extra.now) }
 {
-    let greatest = greatest_code(header.width);
-    if is_code(header.form, extra, header.count, 0)
-        && is_code(header.form, extra, header.count, greatest)
-    {
-        return true;
-    }
-    is_each_code(header.form, header.count, presence, packed, extra)
+    is_every_code(header, packed, extra)
+        || is_each_code(header.form, header.count, presence, packed, extra)
 }
 
 fn value_in<'a>(form: Form, packed: &Packed, extra: &'a [u8], i: u32) -> ValueRef<'a>

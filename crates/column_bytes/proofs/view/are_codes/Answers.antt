@@ -1,12 +1,11 @@
-use Rattle.std.proofs.Common.{◌^◌, refl, sym, ap, ◌∙◌}
-use Rattle.column_bytes.proofs.Greatest.{all_codes}
+use Rattle.std.proofs.Common.{arith}
+use Rattle.column_bytes.proofs.Parts.{are_codes-from_each}
 use Rattle.column_bytes.proofs.view.are_codes.Goals as goal
 
-pub returns-then-is_code-2 : goal.returns-then-is_code-2
-returns-then-is_code-2 c =
+pub returns-then-is_every_code : goal.returns-then-is_every_code
+returns-then-is_every_code c =
     let header = c.args.header.now in (
-      λ yes. all_codes header.form header.count c.args.presence.now c.args.packed.now c.args.extra.now c.greatest_code-greatest.result
-          (c.greatest_code-greatest.ensures ∙ ap (λ w. 2 ^ w) (sym c.requires.same))
-          (c.is_code.ensures.0 c.if-is_code.true) (c.is_code-then-is_code.ensures.0 c.if-is_code-2.true),
-      λ are. refl,
+      λ yes. are_codes-from_each header.form header.count c.args.presence.now c.args.packed.now c.args.extra.now
+          (λ j within there. c.is_every_code.ensures yes j (omega (arith, c.requires.codes))),
+      λ are. c.if-is_every_code.true,
     )
