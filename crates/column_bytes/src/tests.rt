@@ -1,62 +1,15 @@
 // Columns whose bytes were spelled by hand, both ways, and each call that takes memory, with ample memory.
-ghost use Rattle.std.specs.Prelude.{◌≤◌, ◌<◌, length};
-ghost use Rattle.column_bytes.specs.declared.kind.Kind.TheVariants.{Ints};
-ghost use Rattle.column_bytes.specs.Coding.{AreOfKind};
-
 use crate::form::Form;
 use crate::integers::{delta_coding, integers_of, write_integers};
+use crate::vectors::{
+    BY_DELTA, BY_OFFSET, EMPTY_TEXT, ENDS, FIVE, TEXTS, WIDE, WIDE_BY_DELTA, WRAPPED, are_same,
+    integer_cells, is_same, text_cell, text_cells,
+};
 use crate::view::view_of;
 use crate::{Column, ColumnView, Kind, ValueRef, are_of_kind, dictionary, encode};
 use leaf_model::{Text, Value};
 use std::alloc::{AllocError, Global};
 use std::test::Fail;
-
-/// The integer 5 by its offset, at width 0.
-const FIVE: &[u8] =
-    b"\x01\x01\0\0\x01\0\0\0\x28\0\0\0\0\0\0\0\x28\0\0\0\0\0\0\0\x28\0\0\0\0\0\0\0\x30\0\0\0\0\0\0\0\x05\0\0\0\0\0\0\0";
-
-/// The integers 10, 12, 11 by their offsets, at width 2.
-const BY_OFFSET: &[u8] =
-    b"\x01\x01\x02\0\x03\0\0\0\x28\0\0\0\0\0\0\0\x28\0\0\0\0\0\0\0\x29\0\0\0\0\0\0\0\x31\0\0\0\0\0\0\0\x18\x0a\0\0\0\0\0\0\0";
-
-/// The same by their differences, at width 3: the codes 0, 4, 1.
-const BY_DELTA: &[u8] =
-    b"\x01\x02\x03\0\x03\0\0\0\x28\0\0\0\0\0\0\0\x28\0\0\0\0\0\0\0\x2a\0\0\0\0\0\0\0\x32\0\0\0\0\0\0\0\x60\0\x0a\0\0\0\0\0\0\0";
-
-/// The texts `a`, missing, `bc`.
-const TEXTS: &[u8] =
-    b"\x02\x01\x01\x01\x03\0\0\0\x28\0\0\0\0\0\0\0\x29\0\0\0\0\0\0\0\x2a\0\0\0\0\0\0\0\x39\0\0\0\0\0\0\0\x05\x04\x02\0\0\0\x01\0\0\0\x03\0\0\0abc";
-
-/// The least and the greatest integer by their offsets, at width 64.
-const ENDS: &[u8] =
-    b"\x01\x01\x40\0\x02\0\0\0\x28\0\0\0\0\0\0\0\x28\0\0\0\0\0\0\0\x38\0\0\0\0\0\0\0\x40\0\0\0\0\0\0\0\0\0\0\0\0\0\0\0\xff\xff\xff\xff\xff\xff\xff\xff\0\0\0\0\0\0\0\x80";
-
-/// The same by their difference, which wraps round to -1.
-const WRAPPED: &[u8] =
-    b"\x01\x02\x01\0\x02\0\0\0\x28\0\0\0\0\0\0\0\x28\0\0\0\0\0\0\0\x29\0\0\0\0\0\0\0\x31\0\0\0\0\0\0\0\x02\0\0\0\0\0\0\0\x80";
-
-fn integer_cells(alloc: Global, values: &[Option<i64>]) -> Result<Vec<Option<Value>>, AllocError> {
-    let mut cells = Vec::with_capacity(alloc, values.len())?;
-    for value in values {
-        cells.push(value.map(Value::Int))?;
-    }
-    Ok(cells)
-}
-
-fn text_cell(alloc: Global, text: Option<&str>) -> Result<Option<Value>, AllocError> {
-    match text {
-        Some(text) => Ok(Some(Value::Text(Text::of(String::from_str(alloc, text)?)))),
-        None => Ok(None),
-    }
-}
-
-fn text_cells(alloc: Global, texts: &[Option<&str>]) -> Result<Vec<Option<Value>>, AllocError> {
-    let mut cells = Vec::with_capacity(alloc, texts.len())?;
-    for text in texts {
-        cells.push(text_cell(alloc, *text)?)?;
-    }
-    Ok(cells)
-}
 
 fn encoded(
     alloc: Global,
@@ -70,36 +23,19 @@ fn encoded(
     Ok(Some(column))
 }
 
-fn by_delta(alloc: Global, cells: &[Option<Value>]) -> Result<Vec<u8>, AllocError>
-    requires some { 0 < length cells.now }
-    requires few { length cells.now ≤ 65536 }
-    requires kind { AreOfKind Ints cells.now }
-{
+// Whether integers are written as these bytes in delta form, and read back from them.
+fn is_written_so_by_delta(
+    alloc: Global,
+    cells: &[Option<Value>],
+    bytes: &[u8],
+) -> Result<bool, AllocError> {
+    if cells.is_empty() || cells.len() > 65536 || !are_of_kind(Kind::Ints, cells) {
+        return Ok(false);
+    }
     let integers = integers_of(alloc, cells)?;
     let coding = delta_coding(alloc, &integers)?;
-    write_integers(alloc, Form::Delta, cells, &integers, &coding)
-}
-
-fn is_same(seen: Option<ValueRef>, cell: &Option<Value>) -> bool {
-    match cell {
-        None => seen.is_none(),
-        Some(Value::Int(integer)) => matches!(seen, Some(ValueRef::Int(n)) if n == *integer),
-        Some(Value::Text(text)) => matches!(seen, Some(ValueRef::Text(t)) if t == text.as_str()),
-    }
-}
-
-fn are_same(view: &ColumnView, cells: &[Option<Value>]) -> bool {
-    for i in 0..view.len() {
-        match cells.get(i as usize) {
-            Some(cell) => {
-                if !is_same(view.cell(i), cell) {
-                    return false;
-                }
-            }
-            None => return false,
-        }
-    }
-    true
+    let written = write_integers(alloc, Form::Delta, cells, &integers, &coding)?;
+    Ok(written.as_slice() == bytes && is_read_back(alloc, Kind::Ints, cells, bytes)?)
 }
 
 // The cell at a place, by what was read in order.
@@ -183,14 +119,20 @@ fn integers_are_written_in_the_smaller_form(rt: HostRuntime) -> Result<(), Fail>
         ([Some(5)].as_slice(), FIVE),
         ([Some(10), Some(12), Some(11)].as_slice(), BY_OFFSET),
         ([Some(i64::MIN), Some(i64::MAX)].as_slice(), WRAPPED),
+        ([Some(i64::MIN), Some(0), Some(i64::MAX)].as_slice(), WIDE),
     ] {
         let cells = integer_cells(alloc, values)?;
         assert!(rt; is_written_so(alloc, Kind::Ints, &cells, bytes)?);
     }
-    let three = integer_cells(alloc, &[Some(10), Some(12), Some(11)])?;
-    assert!(rt; is_read_back(alloc, Kind::Ints, &three, BY_DELTA)?);
-    if are_of_kind(Kind::Ints, &three) && !three.is_empty() && three.len() <= 65536 {
-        assert_eq!(rt; by_delta(alloc, &three)?.as_slice(), BY_DELTA);
+    for (values, bytes) in [
+        ([Some(10), Some(12), Some(11)].as_slice(), BY_DELTA),
+        (
+            [Some(i64::MIN), Some(0), Some(i64::MAX)].as_slice(),
+            WIDE_BY_DELTA,
+        ),
+    ] {
+        let cells = integer_cells(alloc, values)?;
+        assert!(rt; is_written_so_by_delta(alloc, &cells, bytes)?);
     }
     let ends = integer_cells(alloc, &[Some(i64::MIN), Some(i64::MAX)])?;
     assert!(rt; is_read_back(alloc, Kind::Ints, &ends, ENDS)?);
@@ -203,6 +145,8 @@ fn texts_are_written_and_read(rt: HostRuntime) -> Result<(), Fail> {
     let cells = text_cells(alloc, &[Some("a"), None, Some("bc")])?;
     assert!(rt; is_written_so(alloc, Kind::Texts, &cells, TEXTS)?);
     assert!(rt; encoded(alloc, Kind::Ints, &cells)?.is_none());
+    let cells = text_cells(alloc, &[Some("")])?;
+    assert!(rt; is_written_so(alloc, Kind::Texts, &cells, EMPTY_TEXT)?);
     let cells = text_cells(
         alloc,
         &[Some(""), Some("bc"), Some("de"), Some(""), Some("bc")],
@@ -220,52 +164,6 @@ fn texts_are_written_and_read(rt: HostRuntime) -> Result<(), Fail> {
     assert_eq!(rt; dict.codes.as_slice(), [0, 0, 1].as_slice());
     assert_eq!(rt; dict.texts.as_slice().len(), 2);
     assert_eq!(rt; dict.texts.as_slice()[1].as_str(), "bc");
-    Ok(())
-}
-
-/// The text `a`, with its code at width 1.
-const ONE_TEXT: &[u8] =
-    b"\x02\x01\x01\0\x01\0\0\0\x28\0\0\0\0\0\0\0\x28\0\0\0\0\0\0\0\x29\0\0\0\0\0\0\0\x32\0\0\0\0\0\0\0\0\x01\0\0\0\x01\0\0\0a";
-
-// Whether bytes are no column once a byte of them is another.
-fn is_refused_with(alloc: Global, bytes: &[u8], at: usize, byte: u8) -> Result<bool, AllocError> {
-    let mut spoilt = Vec::new(alloc);
-    spoilt.extend_from_slice(bytes)?;
-    if at < spoilt.len() {
-        spoilt[at] = byte;
-    }
-    Ok(view_of(bytes).is_some() && view_of(&spoilt).is_none())
-}
-
-#[test]
-fn bytes_that_break_a_rule_are_no_column(rt: HostRuntime) -> Result<(), Fail> {
-    let alloc = rt.alloc();
-    for (bytes, at, byte) in [
-        (FIVE, 0, 3),
-        (FIVE, 1, 3),
-        (FIVE, 2, 65),
-        (FIVE, 3, 2),
-        (FIVE, 4, 0),
-        (FIVE, 6, 2),
-        (FIVE, 8, 0x29),
-        (FIVE, 16, 0x29),
-        (FIVE, 24, 0x29),
-        (FIVE, 32, 0x31),
-        // A spare bit of the codes, and of the presence bits.
-        (BY_DELTA, 41, 0x02),
-        (TEXTS, 41, 0x0c),
-        (TEXTS, 40, 0x0d),
-        // A sum past the greatest integer.
-        (ENDS, 63, 0),
-        // A code at the count, an end that falls, and no UTF-8.
-        (ONE_TEXT, 40, 1),
-        (TEXTS, 46, 4),
-        (TEXTS, 54, 0xff),
-    ] {
-        assert!(rt; is_refused_with(alloc, bytes, at, byte)?);
-    }
-    assert!(rt; view_of(&FIVE[..47]).is_none());
-    assert!(rt; view_of(&[]).is_none());
     Ok(())
 }
 
