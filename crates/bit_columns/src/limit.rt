@@ -1,9 +1,50 @@
-// Whether codes keep to a greatest one: one load for each code, but for the last few, near the end of the bytes.
-ghost use Rattle.std.specs.Prelude.{◌≡◌, ℕ, ◌+◌, ◌*◌, ◌%◌, ◌≤◌, ◌<◌, ◌↔◌, IsTrue, length};
+// Whether codes keep to a greatest one: a load for four small codes or for each other one, but for the last few, near the end of the bytes.
+ghost use Rattle.std.specs.Prelude.{◌≡◌, ℕ, ◌+◌, ◌*◌, ◌/◌, ◌%◌, ◌^◌, ◌≤◌, ◌<◌, ◌↔◌, IsTrue, length};
 ghost use Rattle.bit_columns.specs.Bits.{code};
 
 use crate::decode::{loadable, loaded};
-use crate::words::bits_at;
+use crate::words::{bits_at, low_bits, word_at};
+
+// The eight bytes that a code begins in, from the code on.
+#[inline(always)]
+fn word_from(bytes: &[u8], i: u32, width: u32) -> u64
+    requires { i * width / 8 + 8 ≤ length bytes.now }
+    ensures { (j : ℕ) → i * width % 8 + j * width + width ≤ 64 → result / 2 ^ (j * width) % 2 ^ width ≡ code bytes.now width (i + j) }
+{
+    let from = i as usize * width as usize;
+    word_at(bytes, from / 8) >> (from % 8)
+}
+
+// Whether none of the four lowest codes of a word is above a number.
+#[inline(always)]
+fn are_four_at_most(word: u64, width: u32, most: u64) -> bool
+    requires { width ≤ 14 }
+    ensures { IsTrue result ↔ ((j : ℕ) → j < 4 → word / 2 ^ (j * width) % 2 ^ width ≤ most) }
+{
+    let mut rest = word;
+    for _j in 0..4u32 {
+        if most < low_bits(rest, width) {
+            return false;
+        }
+        rest >>= width;
+    }
+    true
+}
+
+// Whether none of the first codes is above a number, by fours.
+fn are_fours_at_most(bytes: &[u8], fours: u32, width: u32, most: u64) -> bool
+    requires few { width ≤ 14 }
+    requires fours { fours * 4 < 2 ^ 32 }
+    requires inside { 0 < fours → fours * 4 * width + 64 ≤ 8 * length bytes.now }
+    ensures { IsTrue result ↔ ((k : ℕ) → k < fours * 4 → code bytes.now width k ≤ most) }
+{
+    for i in 0..fours {
+        if !are_four_at_most(word_from(bytes, i * 4, width), width, most) {
+            return false;
+        }
+    }
+    true
+}
 
 // Whether none of the first codes is above a number, where none goes past the word that it begins in.
 #[inline(always)]
@@ -21,7 +62,7 @@ fn are_words_at_most(bytes: &[u8], count: u32, width: u32, most: u64) -> bool
     true
 }
 
-// The same of codes that are whole bytes, by a loop of their own, as in decoding.
+// The same by a loop of its own for codes of whole bytes, as in decoding.
 fn are_front_at_most(bytes: &[u8], count: u32, width: u32, most: u64) -> bool
     requires width { width ≤ 64 }
     requires inside { 0 < count → count * width + 64 ≤ 8 * length bytes.now }
@@ -29,7 +70,6 @@ fn are_front_at_most(bytes: &[u8], count: u32, width: u32, most: u64) -> bool
     ensures { IsTrue result ↔ ((k : ℕ) → k < count → code bytes.now width k ≤ most) }
 {
     match width {
-        8 => are_words_at_most(bytes, count, 8, most),
         16 => are_words_at_most(bytes, count, 16, most),
         32 => are_words_at_most(bytes, count, 32, most),
         64 => are_words_at_most(bytes, count, 64, most),
@@ -51,16 +91,38 @@ fn are_others_at_most(bytes: &[u8], from: u32, count: u32, width: u32, most: u64
     true
 }
 
+// Whether none of the codes is above a number, where four of them fit into a word.
+fn are_small_at_most(bytes: &[u8], count: u32, width: u32, most: u64) -> bool
+    requires few { width ≤ 14 }
+    requires inside { count * width ≤ 8 * length bytes.now }
+    ensures { IsTrue result ↔ ((k : ℕ) → k < count → code bytes.now width k ≤ most) }
+{
+    let fours = loadable(count, width) / 4;
+    are_fours_at_most(bytes, fours, width, most)
+        && are_others_at_most(bytes, fours * 4, count, width, most)
+}
+
+// Whether none of the codes is above a number, where each fits into the word that it begins in.
+fn are_whole_at_most(bytes: &[u8], count: u32, width: u32, most: u64) -> bool
+    requires width { width ≤ 64 }
+    requires inside { count * width ≤ 8 * length bytes.now }
+    requires at_once { (i : ℕ) → i * width % 8 + width ≤ 64 }
+    ensures { IsTrue result ↔ ((k : ℕ) → k < count → code bytes.now width k ≤ most) }
+{
+    let front = loadable(count, width);
+    are_front_at_most(bytes, front, width, most)
+        && are_others_at_most(bytes, front, count, width, most)
+}
+
 // Whether none of the codes is above a number.
 pub(crate) fn are_at_most(bytes: &[u8], count: u32, width: u32, most: u64) -> bool
     requires width { width ≤ 64 }
     requires inside { count * width ≤ 8 * length bytes.now }
     ensures { IsTrue result ↔ ((k : ℕ) → k < count → code bytes.now width k ≤ most) }
 {
-    if 57 < width && width < 64 {
-        return are_others_at_most(bytes, 0, count, width, most);
+    match width {
+        0..=14 => are_small_at_most(bytes, count, width, most),
+        15..=57 | 64 => are_whole_at_most(bytes, count, width, most),
+        _ => are_others_at_most(bytes, 0, count, width, most),
     }
-    let front = loadable(count, width);
-    are_front_at_most(bytes, front, width, most)
-        && are_others_at_most(bytes, front, count, width, most)
 }

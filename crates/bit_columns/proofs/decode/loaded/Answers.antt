@@ -1,4 +1,4 @@
-use Rattle.std.proofs.Common.{◌≡◌, ◌*◌, ◌/◌, ◌%◌, ◌^◌, ap, ◌∙◌, arith}
+use Rattle.std.proofs.Common.{◌*◌, ◌/◌, ◌%◌, ◌^◌, ap, ◌∙◌, arith}
 use Rattle.bit_columns.specs.Number.{AreBytes}
 use Rattle.bit_columns.proofs.Bits.{bits_from-window}
 use Rattle.bit_columns.proofs.decode.loaded.Goals as goal
