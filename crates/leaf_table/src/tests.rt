@@ -19,13 +19,13 @@ use std::thread::Threads;
 use table_state::TableState;
 
 /// A row with the time 5 and no cells.
-const AT_FIVE: &[u8] = b"\x05\0\0\0\0\0\0\0\0\0";
+pub(crate) const AT_FIVE: &[u8] = b"\x05\0\0\0\0\0\0\0\0\0";
 
 /// A row with the time 6 and no cells.
 const AT_SIX: &[u8] = b"\x06\0\0\0\0\0\0\0\0\0";
 
 /// One row, from its bytes.
-fn one_row(alloc: Global, bytes: &[u8]) -> Result<Rows, AllocError>
+pub(crate) fn one_row(alloc: Global, bytes: &[u8]) -> Result<Rows, AllocError>
     ensures { IfOk result (λ rows. AllByRecursion IsRow rows) }
 {
     match read_rows(alloc, bytes, 1)? {
@@ -34,7 +34,7 @@ fn one_row(alloc: Global, bytes: &[u8]) -> Result<Rows, AllocError>
     }
 }
 
-fn count_all(alloc: Global) -> Result<Query, AllocError> {
+pub(crate) fn count_all(alloc: Global) -> Result<Query, AllocError> {
     let mut aggs = Vec::new(alloc);
     aggs.push(Agg::Count)?;
     Ok(Query {
@@ -50,7 +50,7 @@ fn count_all(alloc: Global) -> Result<Query, AllocError> {
 }
 
 // Opens a table that is not founded with nothing in it. The number of the entry.
-fn open_empty<R: Wait>(
+pub(crate) fn open_empty<R: Wait>(
     rt: &R,
     alloc: Global,
     shared: &SharedTable,
