@@ -1,4 +1,4 @@
-use Rattle.std.proofs.Common.{◌≡◌, ℕ, ◌<◌, ◌^◌, ap, Option, Some, None, arith}
+use Rattle.std.proofs.Common.{◌≡◌, ap, Option, Some, None, arith}
 use Rattle.table_state.specs.Tables.{Table, empty_table}
 use Rattle.leaf_table.specs.declared.base.TableBase.{TableBase}
 use Rattle.leaf_table.specs.Turns.{is_founded, MayHandIn}
