@@ -15,7 +15,7 @@ use Rattle.row_records.proofs.Pended.{writes_fit, size}
 use Rattle.row_records.specs.Bytes.{write_bytes}
 use Rattle.leaf_model.specs.declared.writes.Write.{Write}
 use Rattle.row_records.specs.Pending.{pending_bytes}
-use Rattle.disk_backup.specs.Scanning.{Scanned, Damaged, NoRecord, size_at}
+use Rattle.disk_backup.specs.Scanning.{Scanned, Damaged, NoRecord, ScannedIsFront, LogIsWhole, size_at}
 use Rattle.disk_backup.proofs.Logs.{one_head, open_cons, open_snoc, all_snoc, end_snoc}
 
 record_size : (r : LogRecord) → length (record_bytes r) ≡ 8 + length (record_body r)
@@ -99,10 +99,33 @@ tail_none (r ∷ records) (s ∷ all) rest tail x gate each every shut e opened 
     let first = one_record r s (open_records records ++ rest) (open_records all ++ gate ∷ x) each.0 every.0 tails in
     tail_none records all rest tail x gate each.1 every.1 shut first.1 opened none
 
-pub never_damaged : (disk : List ℕ) (records all : List LogRecord) (at end : ℕ) → 1 < length disk → IsLog disk all end → Scanned disk records at → Damaged disk at → ⊥
+pub never_damaged : LogIsWhole
 never_damaged disk records all at end long (is_short short none zero_end) s damaged = absurd (omega (arith, long, short))
 never_damaged disk records all at end long (is_gated gate x every is shut at_end long2) s damaged =
     tail_none records all s.rest damaged.rest x gate s.each every shut (sym s.is ∙ is) (sym (here disk records at s) ∙ damaged.opened) damaged.none
+
+-- ---- what was scanned is a front of the log
+
+front_of : (records all : List LogRecord) (rest x : List ℕ) (gate : ℕ) → AllByRecursion IsRecord records → AllByRecursion IsRecord all → gate ≢ 1
+    → open_records records ++ rest ≡ open_records all ++ gate ∷ x → (others : List LogRecord) × (all ≡ records ++ others)
+front_of [] all rest x gate each every shut e = (all, refl)
+front_of (r ∷ records) [] rest x gate each every shut e = absurd (shut (one_head gate 1 x (record_bytes r ++ (open_records records ++ rest)) (sym e ∙ open_cons r records rest)).0)
+front_of (r ∷ records) (s ∷ all) rest x gate each every shut e =
+    let tails = (one_head 1 1 (record_bytes r ++ (open_records records ++ rest)) (record_bytes s ++ (open_records all ++ gate ∷ x)) (sym (open_cons r records rest) ∙ e ∙ open_cons s all (gate ∷ x))).1 in
+    let first = one_record r s (open_records records ++ rest) (open_records all ++ gate ∷ x) each.0 every.0 tails in
+    let next = front_of records all rest x gate each.1 every.1 shut first.1 in
+    (next.0, ap (λ (l : List LogRecord). s ∷ l) next.1 ∙ ap (λ (q : LogRecord). q ∷ (records ++ next.0)) (sym first.0))
+
+none_in : (records : List LogRecord) (rest : List ℕ) → length (open_records records ++ rest) ≤ 1 → 0 < length rest → records ≡ []
+none_in [] rest short some = refl
+none_in (r ∷ records) rest short some =
+    absurd (omega (arith, short, some, ap length (open_cons r records rest), length-append (record_bytes r) (open_records records ++ rest), length-append (open_records records) rest))
+
+pub scanned_is_front : ScannedIsFront
+scanned_is_front disk records all at end s (is_short short none zero_end) =
+    let few : length (open_records records ++ s.rest) ≤ 1 = subst (λ (d : List ℕ). length d ≤ 1) s.is short in
+    (all, sym (ap (λ (l : List LogRecord). l ++ all) (none_in records s.rest few s.some)))
+scanned_is_front disk records all at end s (is_gated gate x every is shut at_end long) = front_of records all s.rest x gate s.each every shut (sym s.is ∙ is)
 
 -- ---- for the scan's steps
 

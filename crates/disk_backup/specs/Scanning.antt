@@ -1,10 +1,10 @@
 -- A log that is read record by record.
-use Rattle.std.specs.Prelude.{◌≡◌, ◌⊎◌, ℕ, ◌+◌, ◌<◌, ◌≤◌, ◌^◌, List, [], ◌∷◌, ◌++◌, length, take, drop, None, false}
+use Rattle.std.specs.Prelude.{◌≡◌, ◌⊎◌, ℕ, ◌+◌, ◌<◌, ◌≤◌, ◌^◌, List, [], ◌∷◌, ◌++◌, length, take, drop, None, false, ⊤}
 use Rattle.std.specs.List.{AllByRecursion}
 use Rattle.std.specs.Int.{w64, from_le_bytes}
 use Rattle.row_records.specs.Records.{LogRecord, IsRecord, record_bytes}
 use Rattle.berth_face.specs.Berth.{Pair, Meaning, Torn}
-use Rattle.disk_backup.specs.Logs.{ClosedLog, open_records}
+use Rattle.disk_backup.specs.Logs.{IsLog, ClosedLog, open_records}
 use Rattle.disk_backup.specs.State.{ScanState}
 use Rattle.disk_backup.specs.declared.step.FlushRecord.{FlushRecord}
 use Rattle.disk_backup.specs.declared.step.LogStep.{LogStep}
@@ -74,6 +74,19 @@ pub record Found (bytes : List ℕ) (r : LogRecord) : Type 0 where
 abbrev pub StepIs : List ℕ → List LogRecord → ℕ → LogStep → Type 0
 StepIs disk records len (Record scan flush) = Scanned disk (records ++ record_is flush ∷ []) scan.at × (scan.len ≡ len)
 StepIs disk records len (Ended log) = ClosedLog records log.end disk
+
+-- what was scanned is a front of the disk's log
+abbrev pub ScannedIsFront : Type 0
+ScannedIsFront = (disk : List ℕ) (records all : List LogRecord) (at end : ℕ) → Scanned disk records at → IsLog disk all end → (rest : List LogRecord) × (all ≡ records ++ rest)
+
+-- a log of more than one byte is not damaged
+abbrev pub LogIsWhole : Type 0
+LogIsWhole = (disk : List ℕ) (records all : List LogRecord) (at end : ℕ) → 1 < length disk → IsLog disk all end → Scanned disk records at → Damaged disk at → ⊥
+
+-- Of each berth, whether it tells its contents or not: what a step gives is a record.
+abbrev pub GivesRecord : LogStep → Type 0
+GivesRecord (Record later flush) = IsRecord (record_is flush)
+GivesRecord (Ended log) = ⊤
 
 -- Of each berth, whether it tells its contents or not: a step passes a byte at least for each write, and stays below 2^63.
 abbrev pub GoesOn : ScanState → LogStep → Type 0

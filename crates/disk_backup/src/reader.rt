@@ -2,10 +2,10 @@
 ghost use Rattle.std.specs.Prelude.{◌≡◌, ◌≢◌, ◌+◌, ◌^◌, ◌<◌, ◌≤◌, List, length, take, drop, get_or, nat_eq, IsTrue, IfOk, Err};
 ghost use Rattle.berth_face.specs.Causes.{Rose};
 ghost use Rattle.berth_face.specs.Berth.{Passes, Stays};
-ghost use Rattle.row_records.specs.Records.{LogRecord, record_bytes};
+ghost use Rattle.row_records.specs.Records.{LogRecord, IsRecord, record_bytes};
 ghost use Rattle.disk_backup.specs.State.{ScanState};
 ghost use Rattle.disk_backup.specs.declared.fault.LogFault.TheVariants as fault;
-ghost use Rattle.disk_backup.specs.Scanning.{size_at, record_is, Scanned, Damaged, NoRecord, Found, StepIs, GoesOn};
+ghost use Rattle.disk_backup.specs.Scanning.{size_at, record_is, Scanned, Damaged, NoRecord, Found, StepIs, GivesRecord, GoesOn};
 
 use crate::fault::LogFault;
 use crate::log::BackupLog;
@@ -21,6 +21,7 @@ pub fn step<B: Berth>(alloc: Global, at: u64, len: u64, berth: &mut B) -> Result
     ensures stays { IsTrue (B.meaning berth.old).tells → Stays (B.meaning berth.old) (B.meaning berth.new) }
     ensures time { Passes (B.meaning berth.old) (B.meaning berth.new) }
     ensures cause { result ≡ Err fault.DiskFault → Rose (B.meaning berth.old).disk_faults (B.meaning berth.new).disk_faults }
+    ensures record { IfOk result GivesRecord }
     ensures goes_on { IfOk result (GoesOn (record { at = at; len = len })) }
     ensures step { (records : List LogRecord) → IsTrue (B.meaning berth.old).tells → len ≡ length (B.meaning berth.old).held.disk → Scanned (B.meaning berth.old).held.disk records at
         → IfOk result (StepIs (B.meaning berth.old).held.disk records len) }
@@ -58,6 +59,7 @@ fn record_at<B: Berth>(
     ensures stays { IsTrue (B.meaning berth.old).tells → Stays (B.meaning berth.old) (B.meaning berth.new) }
     ensures time { Passes (B.meaning berth.old) (B.meaning berth.new) }
     ensures cause { result ≡ Err fault.DiskFault → Rose (B.meaning berth.old).disk_faults (B.meaning berth.new).disk_faults }
+    ensures record { IfOk result (λ x. IsRecord (record_is x.0)) }
     ensures room { IfOk result (λ x. x.1 < len) }
     ensures writes { IfOk result (λ x. at + length x.0.writes ≤ x.1) }
     ensures told { IsTrue (B.meaning berth.old).tells → len ≡ length (B.meaning berth.old).held.disk → IfOk result (λ x. Found (drop at (B.meaning berth.old).held.disk) (record_is x.0) × (x.1 ≡ at + length (record_bytes (record_is x.0)))) }

@@ -6,7 +6,7 @@ ghost use Rattle.berth_face.specs.Moments.{EachNow, Throughout};
 ghost use Rattle.row_records.specs.Records.{LogRecord};
 ghost use Rattle.disk_backup.specs.Logs.{IsLog};
 ghost use Rattle.disk_backup.specs.declared.fault.LogFault.TheVariants as fault;
-ghost use Rattle.disk_backup.specs.Scanning.{StepsFrom, Begins, begun, Scanned, Damaged, StepIs, GoesOn};
+ghost use Rattle.disk_backup.specs.Scanning.{StepsFrom, Begins, begun, Scanned, Damaged, StepIs, GivesRecord, GoesOn};
 
 use crate::fault::LogFault;
 use crate::gate::first_gate;
@@ -22,6 +22,7 @@ impl LogScan {
         ensures start { IfOk result (λ scan. scan.at ≡ 0) }
         ensures len { IsTrue (B.meaning berth.old).tells → IfOk result (λ scan. scan.len ≡ length (B.meaning berth.new).held.disk) }
         ensures disk { IsTrue (B.meaning berth.old).tells → OnOk result ((B.meaning berth.new).held.disk ≡ begun (B.meaning berth.old).held.disk) }
+        ensures region { IsTrue (B.meaning berth.old).tells → (B.meaning berth.new).held.region ≡ (B.meaning berth.old).held.region }
         ensures durable { IsTrue (B.meaning berth.old).tells → OnOk result (EachNow (λ p. p.disk ≡ (B.meaning berth.new).held.disk) (B.meaning berth.new)) }
         ensures moments { IsTrue (B.meaning berth.old).tells
             → Throughout (StepsFrom (Begins (length (B.meaning berth.old).held.disk)) (B.meaning berth.old)) (B.meaning berth.old) (B.meaning berth.new) }
@@ -48,6 +49,8 @@ impl LogScan {
         // A log is never damaged.
         ensures sound { (records all : List LogRecord) (end : ℕ) → IsTrue (B.meaning berth.old).tells → self.len ≡ length (B.meaning berth.old).held.disk → Scanned (B.meaning berth.old).held.disk records self.at
             → IsLog (B.meaning berth.old).held.disk all end → 1 < self.len → result ≢ Err fault.DiskDamaged }
+        // On every berth, whether it tells its contents or not.
+        ensures record { IfOk result GivesRecord }
         ensures goes_on { IfOk result (GoesOn self) }
         ensures stays { IsTrue (B.meaning berth.old).tells → Stays (B.meaning berth.old) (B.meaning berth.new) }
         ensures time { Passes (B.meaning berth.old) (B.meaning berth.new) }

@@ -1,4 +1,5 @@
 use Rattle.disk_backup.proofs.Logs.{one_log, one_record_more, closed_is_log, log_is_closed}
+use Rattle.disk_backup.proofs.Scanned.{never_damaged, scanned_is_front}
 use Rattle.disk_backup.proofs.laws.logs_are_read_once.Goals as goal
 
 pub returns-clause-one : goal.returns-clause-one
@@ -12,3 +13,9 @@ returns-clause-closed c = closed_is_log
 
 pub returns-clause-log : goal.returns-clause-log
 returns-clause-log c = log_is_closed
+
+pub returns-clause-front : goal.returns-clause-front
+returns-clause-front c = scanned_is_front
+
+pub returns-clause-whole : goal.returns-clause-whole
+returns-clause-whole c = never_damaged
