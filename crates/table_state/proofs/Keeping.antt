@@ -1,11 +1,11 @@
 -- What a table holds stays what a table may hold.
-use Rattle.std.proofs.Common.{cond, ◌≡◌, ℕ, zero, suc, ◌+◌, ◌-◌, ◌≤◌, ◌^◌, Bool, true, false, List, [], ◌∷◌, ◌++◌, length, drop, refl, arith, length-append, subst, sym}
+use Rattle.std.proofs.Common.{cond, ◌≡◌, ℕ, zero, suc, ◌+◌, ◌-◌, ◌≤◌, Bool, true, false, List, [], ◌∷◌, ◌++◌, length, drop, refl, arith, length-append}
 use Rattle.std.specs.Prelude.{ℤ, int_le}
-use Rattle.std.specs.List.{AllByRecursion, filter}
+use Rattle.std.specs.List.{AllByRecursion}
 use Rattle.std.proofs.lemmas.List.{length-drop}
 use Rattle.leaf_model.specs.declared.rows.Row.{Row}
 use Rattle.leaf_model.specs.Values.{IsRow, IsTime}
-use Rattle.leaf_model.specs.Content.{Contents, rows_from, last_rows}
+use Rattle.leaf_model.specs.Content.{rows_from, last_rows}
 use Rattle.table_state.specs.Tables.{IsHeld, IsHeldRow, most_rows}
 
 module _ (P : Row → Type 0) where

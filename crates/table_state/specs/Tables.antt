@@ -1,5 +1,5 @@
 -- What a table means, and what its calls do.
-use Rattle.std.specs.Prelude.{◌≡◌, ℕ, ◌+◌, ◌-◌, ◌<◌, ◌≤◌, ◌^◌, true, List, ◌++◌, length, Option, Some, None, IfSome, Result, Ok, Err, ℤ, int_le}
+use Rattle.std.specs.Prelude.{◌≡◌, ℕ, ◌+◌, ◌-◌, ◌<◌, ◌≤◌, ◌^◌, true, List, length, Option, Some, None, IfSome, Result, Ok, Err, ℤ, int_le}
 use Rattle.std.specs.List.{AllByRecursion}
 use Rattle.leaf_model.specs.declared.rows.Row.{Row}
 use Rattle.leaf_model.specs.declared.writes.Write.{Write}
@@ -31,6 +31,10 @@ empty_table = record { contents = nothing; writes = 0; pending = None }
 abbrev pub with_write : List ℕ → Table → Write → Table
 with_write name t w = record { contents = content_after t.contents w; writes = t.writes + 1; pending = Some (with_push name w t.pending) }
 
+-- one more accepted write, of which the disk is owed nothing
+abbrev pub replayed : Table → Write → Table
+replayed t w = record t { contents = content_after t.contents w; writes = t.writes + 1 }
+
 -- a row that a table may hold: it is at or after the horizon
 abbrev pub IsHeldRow : ℤ → Row → Type 0
 IsHeldRow horizon row = IsRow row × (int_le horizon row.time ≡ true)
@@ -57,6 +61,12 @@ Adds name t rows (Err NoMemory) now = now ≡ t
 abbrev pub Removes : {E : Type 0} → List ℕ → Table → Write → Result ℕ E → Table → Type 0
 Removes name t w (Ok n) now = (n ≡ removed_count t.contents w) × (now ≡ with_write name t w)
 Removes name t w (Err e) now = now ≡ t
+
+-- a write that the disk has already is refused exactly where there would be more than 2^40 rows; a refusal changes nothing
+abbrev pub Replays : Table → Write → Result (Unit {0}) AddFault → Table → Type 0
+Replays t w (Ok done) now = (length (content_after t.contents w).rows ≤ most_rows) × (now ≡ replayed t w)
+Replays t w (Err Full) now = (most_rows < length (content_after t.contents w).rows) × (now ≡ t)
+Replays t w (Err NoMemory) now = now ≡ t
 
 -- the record of the writes since the last taking is handed out
 abbrev pub Takes : Table → Option LogRecord → Table → Type 0

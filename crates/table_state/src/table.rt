@@ -1,21 +1,18 @@
 // One table as a plain list of rows.
-ghost use Rattle.std.specs.Prelude.{◌≡◌, ◌≤◌, None, IsOk, length};
+ghost use Rattle.std.specs.Prelude.{◌≡◌, ◌≤◌, ◌<◌, ◌-◌, ◌^◌, None, IsOk, length};
 ghost use Rattle.std.specs.List.{AllByRecursion};
-ghost use Rattle.leaf_model.specs.Values.{IsRow, IsTime};
-ghost use Rattle.leaf_model.specs.declared.writes.Write.TheVariants.{Expire, Keep};
-ghost use Rattle.table_state.specs.Tables.{empty_table, contents_of, Adds, IsHeld, IsPartsOf, MayWrite, Removes, Takes};
+ghost use Rattle.leaf_model.specs.Values.{IsRow, IsTime, IsWrite};
+ghost use Rattle.leaf_model.specs.declared.writes.Write.TheVariants.{Add, Expire, Keep};
+ghost use Rattle.table_state.specs.Tables.{empty_table, contents_of, most_rows, replayed, Adds, IsHeld, IsPartsOf, MayWrite, Removes, Replays, Takes};
 
 use crate::fault::{AddFault, Added};
-use crate::held::{append_reserved, count_from, retain_from, retain_last, rows_of};
+use crate::held::{admit, make_room, retain_from, retain_last, rows_of};
 use crate::parts::Parts;
 use leaf_model::{Row, Rows, TableRows, Text, Write};
 use row_records::Pending;
 use std::alloc::{AllocError, Global};
 use std::marker::Model;
 use std::mem::replace;
-
-/// The most rows of a table.
-const MOST_ROWS: u64 = 1 << 40;
 
 /// Contracts see what it holds, how many writes it accepted, and the record of those that were not taken.
 #[derive(Drop)]
@@ -55,21 +52,13 @@ impl TableState {
         requires rows { AllByRecursion IsRow rows }
         ensures { Adds table.now self.old rows result self.new }
     {
-        let kept = count_from(self.horizon, rows.as_slice());
+        let kept = make_room(&mut self.rows, self.horizon, rows.as_slice())?;
         let late = rows.as_slice().len() as u64 - kept;
-        if self.rows.len() as u64 + kept > MOST_ROWS {
-            return Err(AddFault::Full);
-        }
-        if self.rows.reserve(kept as usize).is_err() {
-            return Err(AddFault::NoMemory);
-        }
         let write = Write::Add(rows);
         if self.pending.push(table, &write).is_err() {
             return Err(AddFault::NoMemory);
         }
-        let mut fresh = rows_of(write);
-        retain_from(&mut fresh, self.horizon);
-        append_reserved(&mut self.rows, &mut fresh);
+        admit(&mut self.rows, self.horizon, rows_of(write));
         self.writes += 1;
         Ok(Added { kept, late })
     }
@@ -82,9 +71,7 @@ impl TableState {
     {
         self.pending.push(table, &Write::Expire(horizon))?;
         let held = self.rows.len();
-        self.horizon = self.horizon.max(horizon);
-        retain_from(&mut self.rows, self.horizon);
-        self.writes += 1;
+        self.raise_horizon(horizon);
         Ok((held - self.rows.len()) as u64)
     }
 
@@ -94,11 +81,64 @@ impl TableState {
         ensures { Removes table.now self.old (Keep n) result self.new }
     {
         self.pending.push(table, &Write::Keep(n))?;
-        let gone = (self.rows.len() as u64).saturating_sub(n);
-        let kept = self.rows.len() - gone as usize;
+        let held = self.rows.len();
+        self.leave_last(n);
+        Ok((held - self.rows.len()) as u64)
+    }
+
+    /// One accepted write that the disk has already.
+    pub fn replay(&mut self, write: Write) -> Result<(), AddFault>
+        requires write { IsWrite write }
+        requires room { self.old.writes < 2 ^ 64 - 1 }
+        ensures { Replays self.old write result self.new }
+    {
+        match write {
+            Write::Add(rows) => self.replay_add(rows),
+            Write::Expire(horizon) => {
+                self.raise_horizon(horizon);
+                Ok(())
+            }
+            Write::Keep(n) => {
+                self.leave_last(n);
+                Ok(())
+            }
+        }
+    }
+
+    fn replay_add(&mut self, rows: Rows) -> Result<(), AddFault>
+        requires rows { AllByRecursion IsRow rows }
+        requires room { self.old.writes < 2 ^ 64 - 1 }
+        ensures { Replays self.old (Add rows) result self.new }
+    {
+        make_room(&mut self.rows, self.horizon, rows.as_slice())?;
+        admit(&mut self.rows, self.horizon, rows.into_inner());
+        self.writes += 1;
+        Ok(())
+    }
+
+    // The write of an expiry.
+    fn raise_horizon(&mut self, horizon: i64)
+        requires horizon { IsTime horizon }
+        requires room { self.old.writes < 2 ^ 64 - 1 }
+        ensures written { self.new ≡ replayed self.old (Expire horizon) }
+        ensures fewer { length self.new.contents.rows ≤ length self.old.contents.rows }
+        ensures few { length self.new.contents.rows ≤ most_rows }
+    {
+        self.horizon = self.horizon.max(horizon);
+        retain_from(&mut self.rows, self.horizon);
+        self.writes += 1;
+    }
+
+    // The write of a keep.
+    fn leave_last(&mut self, n: u64)
+        requires { self.old.writes < 2 ^ 64 - 1 }
+        ensures written { self.new ≡ replayed self.old (Keep n) }
+        ensures fewer { length self.new.contents.rows ≤ length self.old.contents.rows }
+        ensures few { length self.new.contents.rows ≤ most_rows }
+    {
+        let kept = n.min(self.rows.len() as u64) as usize;
         retain_last(&mut self.rows, kept);
         self.writes += 1;
-        Ok(gone)
     }
 
     /// How many rows it holds.

@@ -1,4 +1,4 @@
-use Rattle.std.proofs.Common.{◌≡◌, List, sym, subst, rules, arith, ℤ}
+use Rattle.std.proofs.Common.{◌≡◌, List, sym, subst, rules}
 use mir.Val.{to_z, of_z}
 use mir.Syntax.{w64}
 use Rattle.leaf_model.specs.declared.rows.Row.{Row}
@@ -6,10 +6,10 @@ use Rattle.leaf_model.specs.Values.{IsTime}
 use Rattle.leaf_model.specs.Content.{rows_from}
 use Rattle.table_state.specs.Tables.{IsHeld}
 use Rattle.table_state.proofs.Keeping.{held_expired}
-use Rattle.table_state.proofs.table.TableState.expire.Goals as goal
+use Rattle.table_state.proofs.table.TableState.raise_horizon.Goals as goal
 
-pub invariant_of-self-2 : goal.invariant_of-self-2
-invariant_of-self-2 c =
+pub invariant_of-self : goal.invariant_of-self
+invariant_of-self c =
     let now = to_z w64 (of_z w64 c.max-self-inside.result) in
     let time : IsTime now = search rules in
     let all : c.retain_from.new.rows.items ≡ rows_from now c.self.inside.rows.items = search rules in
