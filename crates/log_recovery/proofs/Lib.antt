@@ -1,0 +1,4 @@
+pub mod Replaying
+pub mod Places
+pub mod Applying
+pub mod Reading

@@ -1,0 +1,149 @@
+-- How far a log was read, and why not further.
+use Rattle.std.proofs.Common.{◌≡◌, ℕ, zero, suc, ◌+◌, ◌<◌, ◌≤◌, ◌^◌, inl, inr, Bool, false, List, [], ◌∷◌, ◌++◌, length, map, take, drop, min, None, refl, sym, ap, subst, ◌∙◌, length-append, arith}
+use Rattle.std.specs.Prelude.{IsTrue, Result, Err}
+use Rattle.std.specs.List.{AllByRecursion}
+use Rattle.std.proofs.lemmas.Bool.{cases_lt}
+use Rattle.std.proofs.lemmas.List.{take-append-le, take_all, take_min}
+use Rattle.leaf_model.specs.declared.writes.Write.{Write}
+use Rattle.leaf_model.specs.Content.{content}
+use Rattle.row_records.specs.Records.{LogRecord, record_bytes}
+use Rattle.table_state.specs.Tables.{Table}
+use Rattle.disk_backup.specs.declared.fault.LogFault.{LogFault}
+use Rattle.disk_backup.specs.declared.fault.LogFault.TheVariants as log_fault
+use Rattle.disk_backup.specs.declared.step.FlushRecord.{FlushRecord}
+use Rattle.disk_backup.specs.declared.step.LogStep.TheVariants.{Record, Ended}
+use Rattle.disk_backup.specs.Logs.{IsLog, IsSound, open_records, writes_of}
+use Rattle.disk_backup.specs.State.{LogState, ScanState}
+use Rattle.disk_backup.specs.Scanning.{Scanned, Damaged, StepIs, GoesOn, begun, record_is}
+use Rattle.disk_backup.proofs.Logs.{end_snoc}
+use Rattle.disk_backup.proofs.Beginning.{begun_short, begun_long}
+use Rattle.disk_backup.proofs.Scanned.{never_damaged, scanned_is_front}
+use Rattle.log_recovery.specs.declared.fault.RecoveryFault.{RecoveryFault}
+use Rattle.log_recovery.specs.declared.fault.RecoveryFault.TheVariants.{DiskFault, DiskDamaged, Stranger, NoMemory}
+use Rattle.log_recovery.specs.Faults.{told_of_log}
+use Rattle.log_recovery.specs.Recovery.{IsRecovered, ComesTo, IsTooLong, IsCut, IsRefusal, table_of, tables_of}
+use Rattle.log_recovery.specs.Applying.{Applies, HasApplied, MayApply, Reached, count_of}
+use Rattle.log_recovery.proofs.Applying.{writes_append, few_writes, count_more}
+
+module _ (names : List (List ℕ)) (tells : Bool) (disk : List ℕ) where
+  -- ---- the first gate
+
+  pub reached_none : (scan : ScanState) → scan.at ≡ 0 → (IsTrue tells → (scan.len ≡ length disk) × (0 < length disk)) → Reached names tells disk scan (tables_of names [])
+  reached_none scan start whole = record {
+    records = [];
+    applied = record {
+      known = refl;
+      bounded = λ name k. let none : take k (writes_of name []) ≡ [] = take_all k [] (omega arith) in subst (λ (l : List Write). length (content l).rows ≤ 2 ^ 40) (sym none) (omega arith);
+      tables_are = refl;
+    };
+    few = omega arith;
+    scanned = λ told. record { rest = disk; each = tt; is = refl; at_is = start; some = (whole told).1 };
+    len = λ told. (whole told).0;
+  }
+
+  module _ (scan : ScanState) (tables : List Table) (so_far : Reached names tells disk scan tables) where
+    -- ---- one record more
+
+    pub may_apply : (later : ScanState) (flush : FlushRecord) → GoesOn scan (Record later flush) → MayApply names (length flush.writes) tables
+    may_apply later flush goes = record { records = so_far.records; applied = so_far.applied; room = omega (arith, so_far.few, goes.0, goes.1) }
+
+    pub reached_more : (later : ScanState) (flush : FlushRecord) (now : List Table)
+        → (IsTrue tells → StepIs disk so_far.records scan.len (Record later flush)) → GoesOn scan (Record later flush)
+        → HasApplied names (so_far.records ++ record_is flush ∷ []) now → Reached names tells disk later now
+    reached_more later flush now step goes applied = record {
+      records = so_far.records ++ record_is flush ∷ [];
+      applied = applied;
+      few = omega (arith, so_far.few, goes.0, count_more so_far.records (record_is flush));
+      scanned = λ told. (step told).0;
+      len = λ told. (step told).1 ∙ so_far.len told;
+    }
+
+    -- ---- the end
+
+    pub recovered : (log : LogState) → StepIs disk so_far.records scan.len (Ended log) → GoesOn scan (Ended log) → IsRecovered names disk tables log
+    recovered log closed goes = record {
+      records = so_far.records;
+      closed = closed;
+      known = so_far.applied.known;
+      bounded = so_far.applied.bounded;
+      tables_are = so_far.applied.tables_are;
+      log_is = goes.0 ∙ ap (λ (n : ℕ). let l : LogState = record { end = n; owed = None; laid = false } in l) (sym (ap (λ (l : LogState). l.end) goes.0));
+    }
+
+    abbrev IsSettled : Table → Type 0
+    IsSettled t = (t.pending ≡ None) × (t.writes < 2 ^ 63)
+
+    each_settled : (ns : List (List ℕ)) → count_of so_far.records < 2 ^ 63 → AllByRecursion IsSettled (tables_of ns so_far.records)
+    each_settled [] few = tt
+    each_settled (n ∷ ns) few = ((refl, omega (arith, few, few_writes n so_far.records)), each_settled ns few)
+
+    pub settled : scan.at < 2 ^ 63 → AllByRecursion IsSettled tables
+    settled short = subst (AllByRecursion IsSettled) (sym so_far.applied.tables_are) (each_settled names (omega (arith, short, so_far.few)))
+
+    -- ---- no further
+
+    pub refused_log : (fault : LogFault) → (fault ≡ log_fault.DiskDamaged → Damaged disk scan.at) → IsTrue tells → IsRefusal names disk (told_of_log fault)
+    refused_log log_fault.DiskFault damaged told = tt
+    refused_log log_fault.DiskDamaged damaged told = inl (record { records = so_far.records; at = scan.at; scanned = so_far.scanned told; known = so_far.applied.known; damaged = damaged refl })
+    refused_log log_fault.NoMemory damaged told = tt
+
+    pub refused_record : (later : ScanState) (flush : FlushRecord) (fault : RecoveryFault) (left : List Table)
+        → StepIs disk so_far.records scan.len (Record later flush) → Applies names so_far.records (record_is flush) (Err fault) left → IsRefusal names disk fault
+    refused_record later flush DiskFault left step refused = tt
+    refused_record later flush DiskDamaged left step refused =
+        inr (so_far.records, record_is flush, record { at = later.at; scanned = step.0; known = so_far.applied.known }, refused)
+    refused_record later flush (Stranger name) left step refused =
+        (so_far.records, record_is flush, record { at = later.at; scanned = step.0; known = so_far.applied.known }, refused.0, refused.1)
+    refused_record later flush NoMemory left step refused = tt
+
+-- a record is never a want of the disk
+pub no_disk_fault : (names : List (List ℕ)) (records : List LogRecord) (r : LogRecord) (fault : RecoveryFault) (left : List Table) → Applies names records r (Err fault) left → fault ≡ DiskFault → ⊥
+no_disk_fault names records r DiskFault left refused e = refused
+no_disk_fault names records r DiskDamaged left refused e = cc
+no_disk_fault names records r (Stranger name) left refused e = cc
+no_disk_fault names records r NoMemory left refused e = cc
+
+-- ---- a log that is sound
+
+nothing_there : (n : ℕ) (x : List ℕ) → drop n (0 ∷ []) ≡ 1 ∷ x → ⊥
+nothing_there zero x e = cc
+nothing_there (suc zero) x e = cc
+nothing_there (suc (suc n)) x e = cc
+
+short_whole : (records : List LogRecord) (r : LogRecord) (at : ℕ) → Scanned (0 ∷ []) (records ++ r ∷ []) at → ⊥
+short_whole records r at s = absurd (omega (arith, s.some, ap length s.is, length-append (open_records (records ++ r ∷ [])) s.rest, end_snoc records r))
+
+never_too_long : (disk : List ℕ) (records : List LogRecord) (r : LogRecord) (at : ℕ) → IsSound disk → Scanned disk (records ++ r ∷ []) at → IsTooLong records r → ⊥
+never_too_long disk records r at sound s long =
+    let whole = records ++ r ∷ [] in
+    let front = scanned_is_front disk whole sound.0 at sound.1 s sound.2 in
+    let had = writes_of r.name whole in
+    let k = min long.0 (length had) in
+    let all : writes_of r.name sound.0 ≡ had ++ writes_of r.name front.0 = ap (writes_of r.name) front.1 ∙ writes_append r.name whole front.0 in
+    let same : take k (writes_of r.name sound.0) ≡ take long.0 had =
+    ap (take k) all ∙ take-append-le k had (writes_of r.name front.0) (omega arith) ∙ take_min long.0 had in
+    let few = subst (λ (l : List Write). length (content l).rows ≤ 2 ^ 40) same (sound.3 r.name k) in
+    absurd (omega (arith, few, long.1))
+
+never_refused_long : (names : List (List ℕ)) (disk : List ℕ) → IsSound disk → 1 < length disk → IsRefusal names disk DiskDamaged → ⊥
+never_refused_long names disk sound long (inl cut) = never_damaged disk cut.records sound.0 cut.at sound.1 long sound.2 cut.scanned cut.damaged
+never_refused_long names disk sound long (inr passed) = never_too_long disk passed.0 passed.1 passed.2.at sound passed.2.scanned passed.3
+
+never_refused_short : (names : List (List ℕ)) → IsRefusal names (0 ∷ []) DiskDamaged → ⊥
+never_refused_short names (inl cut) = nothing_there cut.at cut.damaged.rest cut.damaged.opened
+never_refused_short names (inr passed) = short_whole passed.0 passed.1 passed.2.at passed.2.scanned
+
+-- of a sound log no damage is told
+pub never_refused : (names : List (List ℕ)) (disk : List ℕ) → IsSound disk → IsRefusal names (begun disk) DiskDamaged → ⊥
+never_refused names disk sound refused = elim (cases_lt 1 (length disk)) [
+  | inl long ↦ never_refused_long names disk sound long (subst (λ (d : List ℕ). IsRefusal names d DiskDamaged) (begun_long disk long) refused)
+  | inr short ↦ never_refused_short names (subst (λ (d : List ℕ). IsRefusal names d DiskDamaged) (begun_short disk short) refused)
+]
+
+-- ---- for the answers
+
+abbrev failed : {T : Type 0} → RecoveryFault → Result T RecoveryFault
+failed a = Err a
+
+pub err_is : {T : Type 0} (a b : RecoveryFault) → failed {T = T} a ≡ failed {T = T} b → a ≡ b
+err_is a b e = cc

@@ -1,0 +1,3 @@
+pub mod Recovery
+pub mod Faults
+pub mod Applying

@@ -1,0 +1,65 @@
+-- The tables that a log gives back.
+use Rattle.std.specs.Prelude.{◌≡◌, ◌≢◌, ◌⊎◌, ℕ, ◌<◌, ◌^◌, Bool, false, not, List, [], ◌∷◌, ◌++◌, length, map, take, Option, None, option_map, ⊤, bytes_eq}
+use Rattle.std.specs.List.{AllByRecursion, find, list_any}
+use Rattle.leaf_model.specs.Content.{content}
+use Rattle.row_records.specs.Records.{LogRecord}
+use Rattle.table_state.specs.Tables.{Table}
+use Rattle.disk_backup.specs.Logs.{ClosedLog, IsBounded, writes_of}
+use Rattle.disk_backup.specs.State.{LogState}
+use Rattle.disk_backup.specs.Scanning.{Scanned, Damaged}
+use Rattle.log_recovery.specs.declared.fault.RecoveryFault.{RecoveryFault}
+use Rattle.log_recovery.specs.declared.fault.RecoveryFault.TheVariants.{DiskFault, DiskDamaged, Stranger, NoMemory}
+
+-- no name stands twice
+abbrev pub AreDistinct : List (List ℕ) → Type 0
+AreDistinct [] = ⊤
+AreDistinct (name ∷ names) = AllByRecursion (λ other. other ≢ name) names × AreDistinct names
+
+-- a table of this name after the writes of the records
+abbrev pub table_of : List LogRecord → List ℕ → Table
+table_of records name = record { contents = content (writes_of name records); writes = length (writes_of name records); pending = None }
+
+-- the tables of these names, in their order
+abbrev pub tables_of : List (List ℕ) → List LogRecord → List Table
+tables_of names records = map (table_of records) names
+
+abbrev pub is_stranger : List (List ℕ) → LogRecord → Bool
+is_stranger names r = not (list_any (bytes_eq r.name) names)
+
+-- the name of the first record that is of no table with one of these names
+abbrev pub stranger_in : List (List ℕ) → List LogRecord → Option (List ℕ)
+stranger_in names records = option_map (λ (r : LogRecord). r.name) (find (is_stranger names) records)
+
+-- the disk's log was read to its end: each record is of one of the tables, and no table grew too long
+pub record IsRecovered (names : List (List ℕ)) (disk : List ℕ) (tables : List Table) (log : LogState) : Type 0 where
+  pub records : List LogRecord
+  pub closed : ClosedLog records log.end disk
+  pub known : stranger_in names records ≡ None
+  pub bounded : IsBounded records
+  pub tables_are : tables ≡ tables_of names records
+  pub log_is : log ≡ record { end = log.end; owed = None; laid = false }
+
+-- up to the record r, which stands next, each record was of one of the tables
+pub record ComesTo (names : List (List ℕ)) (disk : List ℕ) (records : List LogRecord) (r : LogRecord) : Type 0 where
+  pub at : ℕ
+  pub scanned : Scanned disk (records ++ r ∷ []) at
+  pub known : stranger_in names records ≡ None
+
+-- after some writes of the record its table has more than 2^40 rows
+abbrev pub IsTooLong : List LogRecord → LogRecord → Type 0
+IsTooLong records r = (k : ℕ) × (2 ^ 40 < length (content (take k (writes_of r.name (records ++ r ∷ [])))).rows)
+
+-- an open gate with no record and gate behind it
+pub record IsCut (names : List (List ℕ)) (disk : List ℕ) : Type 0 where
+  pub records : List LogRecord
+  pub at : ℕ
+  pub scanned : Scanned disk records at
+  pub known : stranger_in names records ≡ None
+  pub damaged : Damaged disk at
+
+-- why a log that reads as this disk was not read to its end
+abbrev pub IsRefusal : List (List ℕ) → List ℕ → RecoveryFault → Type 0
+IsRefusal names disk (Stranger name) = (records : List LogRecord) × (r : LogRecord) × ComesTo names disk records r × (r.name ≡ name) × (list_any (bytes_eq name) names ≡ false)
+IsRefusal names disk DiskDamaged = IsCut names disk ⊎ ((records : List LogRecord) × (r : LogRecord) × ComesTo names disk records r × IsTooLong records r)
+IsRefusal names disk DiskFault = ⊤
+IsRefusal names disk NoMemory = ⊤

@@ -1,0 +1,59 @@
+// Applying a record to the table of its name.
+ghost use Rattle.std.specs.Prelude.{◌≡◌, ◌+◌, ◌-◌, ◌<◌, ◌≤◌, ◌^◌, List, [], length, IfOk, bytes_eq};
+ghost use Rattle.std.specs.List.{AllByRecursion, position};
+ghost use Rattle.leaf_model.specs.Values.{IsWrite};
+ghost use Rattle.row_records.specs.Records.{LogRecord, IsRecord};
+ghost use Rattle.disk_backup.specs.Scanning.{record_is};
+ghost use Rattle.log_recovery.specs.Recovery.{AreDistinct, tables_of};
+ghost use Rattle.log_recovery.specs.Applying.{Applies, HasApplied, MayApply, ReplaysAll};
+
+use crate::fault::RecoveryFault;
+use crate::recovered::Tables;
+use disk_backup::FlushRecord;
+use leaf_model::{Names, Text, Write};
+use std::alloc::{AllocError, Global};
+use std::collections::VecDeque;
+use table_state::{AddFault, TableState};
+
+/// A table that had no write for each name.
+pub fn empty_tables(alloc: Global, names: &Names) -> Result<Tables, AllocError>
+    ensures { IfOk result (λ tables. tables ≡ tables_of names.now []) }
+{
+    let mut inner = Vec::new(alloc);
+    for _name in names.as_slice() {
+        inner.push(TableState::new(alloc))?;
+    }
+    Ok(Tables { inner })
+}
+
+/// Applies a record to the table of its name.
+pub fn apply(tables: &mut Tables, names: &Names, flush: FlushRecord) -> Result<(), RecoveryFault>
+    requires distinct { AreDistinct names.now }
+    requires record { IsRecord (record_is flush) }
+    requires may { MayApply names.now (length flush.writes) tables.old }
+    ensures { (records : List LogRecord) → HasApplied names.now records tables.old → Applies names.now records (record_is flush) result tables.new }
+{
+    match place_of(names.as_slice(), flush.table.as_str()) {
+        None => Err(RecoveryFault::Stranger(flush.table)),
+        Some(place) => Ok(replay_all(&mut tables.inner[place], flush.writes.into_inner())?),
+    }
+}
+
+fn place_of(names: &[Text], name: &str) -> Option<usize>
+    ensures { result ≡ position (bytes_eq name.now) names.now }
+{
+    names.iter().position(|other| name == other.as_str())
+}
+
+fn replay_all(table: &mut TableState, writes: Vec<Write>) -> Result<(), AddFault>
+    requires few { length table.old.contents.rows ≤ 2 ^ 40 }
+    requires writes { AllByRecursion IsWrite writes.items }
+    requires room { table.old.writes + length writes.items < 2 ^ 64 }
+    ensures { ReplaysAll table.old writes.items result table.new }
+{
+    let mut rest = VecDeque::from_vec(writes);
+    while let Some(write) = rest.pop_front() {
+        table.replay(write)?;
+    }
+    Ok(())
+}
