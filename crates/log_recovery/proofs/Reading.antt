@@ -44,9 +44,6 @@ module _ (names : List (List ℕ)) (tells : Bool) (disk : List ℕ) where
   module _ (scan : ScanState) (tables : List Table) (so_far : Reached names tells disk scan tables) where
     -- ---- one record more
 
-    pub may_apply : (later : ScanState) (flush : FlushRecord) → GoesOn scan (Record later flush) → MayApply names (length flush.writes) tables
-    may_apply later flush goes = record { records = so_far.records; applied = so_far.applied; room = omega (arith, so_far.few, goes.0, goes.1) }
-
     pub reached_more : (later : ScanState) (flush : FlushRecord) (now : List Table)
         → (IsTrue tells → StepIs disk so_far.records scan.len (Record later flush)) → GoesOn scan (Record later flush)
         → HasApplied names (so_far.records ++ record_is flush ∷ []) now → Reached names tells disk later now
@@ -58,18 +55,6 @@ module _ (names : List (List ℕ)) (tells : Bool) (disk : List ℕ) where
       len = λ told. (step told).1 ∙ so_far.len told;
     }
 
-    -- ---- the end
-
-    pub recovered : (log : LogState) → StepIs disk so_far.records scan.len (Ended log) → GoesOn scan (Ended log) → IsRecovered names disk tables log
-    recovered log closed goes = record {
-      records = so_far.records;
-      closed = closed;
-      known = so_far.applied.known;
-      bounded = so_far.applied.bounded;
-      tables_are = so_far.applied.tables_are;
-      log_is = goes.0 ∙ ap (λ (n : ℕ). let l : LogState = record { end = n; owed = None; laid = false } in l) (sym (ap (λ (l : LogState). l.end) goes.0));
-    }
-
     abbrev IsSettled : Table → Type 0
     IsSettled t = (t.pending ≡ None) × (t.writes < 2 ^ 63)
 
@@ -77,31 +62,9 @@ module _ (names : List (List ℕ)) (tells : Bool) (disk : List ℕ) where
     each_settled [] few = tt
     each_settled (n ∷ ns) few = ((refl, omega (arith, few, few_writes n so_far.records)), each_settled ns few)
 
+    -- at the end each write was counted by a byte
     pub settled : scan.at < 2 ^ 63 → AllByRecursion IsSettled tables
     settled short = subst (AllByRecursion IsSettled) (sym so_far.applied.tables_are) (each_settled names (omega (arith, short, so_far.few)))
-
-    -- ---- no further
-
-    pub refused_log : (fault : LogFault) → (fault ≡ log_fault.DiskDamaged → Damaged disk scan.at) → IsTrue tells → IsRefusal names disk (told_of_log fault)
-    refused_log log_fault.DiskFault damaged told = tt
-    refused_log log_fault.DiskDamaged damaged told = inl (record { records = so_far.records; at = scan.at; scanned = so_far.scanned told; known = so_far.applied.known; damaged = damaged refl })
-    refused_log log_fault.NoMemory damaged told = tt
-
-    pub refused_record : (later : ScanState) (flush : FlushRecord) (fault : RecoveryFault) (left : List Table)
-        → StepIs disk so_far.records scan.len (Record later flush) → Applies names so_far.records (record_is flush) (Err fault) left → IsRefusal names disk fault
-    refused_record later flush DiskFault left step refused = tt
-    refused_record later flush DiskDamaged left step refused =
-        inr (so_far.records, record_is flush, record { at = later.at; scanned = step.0; known = so_far.applied.known }, refused)
-    refused_record later flush (Stranger name) left step refused =
-        (so_far.records, record_is flush, record { at = later.at; scanned = step.0; known = so_far.applied.known }, refused.0, refused.1)
-    refused_record later flush NoMemory left step refused = tt
-
--- a record is never a want of the disk
-pub no_disk_fault : (names : List (List ℕ)) (records : List LogRecord) (r : LogRecord) (fault : RecoveryFault) (left : List Table) → Applies names records r (Err fault) left → fault ≡ DiskFault → ⊥
-no_disk_fault names records r DiskFault left refused e = refused
-no_disk_fault names records r DiskDamaged left refused e = cc
-no_disk_fault names records r (Stranger name) left refused e = cc
-no_disk_fault names records r NoMemory left refused e = cc
 
 -- ---- a log that is sound
 

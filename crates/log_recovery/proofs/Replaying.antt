@@ -77,13 +77,3 @@ module _ (from : Table) (all rest : List Write) (w : Write) (mid : Table) (so_fa
   pub replayed_err : (fault : AddFault) (now : Table) → Replays mid w (Err fault) now → ReplaysAll from all (Err fault) now
   replayed_err add.Full now refused = replayed_full refused.0
   replayed_err add.NoMemory now refused = tt
-
-  -- the next write can be counted
-  pub counted : from.writes + length all < 2 ^ 64 → mid.writes + 1 < 2 ^ 64
-  counted room = omega (arith, room, ap length so_far.is, length-append so_far.done (w ∷ rest), ap (λ (t : Table). t.writes) so_far.now_is)
-
-pub replayed_all : (from : Table) (all rest : List Write) (now : Table) → Replayed from all rest now → rest ≡ []
-    → ((k : ℕ) → length (content_from from.contents (take k all)).rows ≤ 2 ^ 40) × (now ≡ table_after from all)
-replayed_all from all rest now so_far none =
-    let whole : so_far.done ≡ all = sym (so_far.is ∙ ap (λ (l : List Write). so_far.done ++ l) none ∙ append-nil so_far.done) in
-    (subst (λ (l : List Write). (k : ℕ) → length (content_from from.contents (take k l)).rows ≤ 2 ^ 40) whole so_far.within, so_far.now_is ∙ ap (table_after from) whole)

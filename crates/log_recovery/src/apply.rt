@@ -27,6 +27,7 @@ pub fn empty_tables(alloc: Global, names: &Names) -> Result<Tables, AllocError>
 }
 
 /// Applies a record to the table of its name.
+#[tactic(auto, using(crate::proofs::Places::stands_nowhere))]
 pub fn apply(tables: &mut Tables, names: &Names, flush: FlushRecord) -> Result<(), RecoveryFault>
     requires distinct { AreDistinct names.now }
     requires record { IsRecord (record_is flush) }

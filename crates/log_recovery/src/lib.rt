@@ -5,6 +5,8 @@ mod apply;
 mod fault;
 mod recovered;
 mod recovery;
+#[cfg(test)]
+mod tests;
 
 pub use fault::RecoveryFault;
 pub use recovered::{Recovered, Tables};

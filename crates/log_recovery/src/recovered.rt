@@ -1,4 +1,6 @@
 // What a log gives back.
+ghost use Rattle.std.specs.Prelude.{◌≡◌};
+
 use disk_backup::BackupLog;
 use std::marker::Model;
 use table_state::TableState;
@@ -16,6 +18,20 @@ impl Model for Tables {
     ghost Value = { List Table };
 
     ghost view = { λ tables. tables.inner.items };
+}
+
+impl Tables {
+    pub fn as_slice(&self) -> &[TableState]
+        ensures { result.now ≡ self.now }
+    {
+        self.inner.as_slice()
+    }
+
+    pub fn into_inner(self) -> Vec<TableState>
+        ensures { result.items ≡ self }
+    {
+        self.inner
+    }
 }
 
 /// The tables, and the log at its end, which owes nothing.

@@ -6,7 +6,7 @@ use Rattle.table_state.specs.Tables.{Table}
 use Rattle.disk_backup.specs.Scanning.{record_is}
 use Rattle.log_recovery.specs.declared.fault.RecoveryFault.{RecoveryFault}
 use Rattle.log_recovery.specs.Applying.{Applies, HasApplied, ReplaysAll}
-use Rattle.log_recovery.proofs.Places.{stands_at, stands_nowhere}
+use Rattle.log_recovery.proofs.Places.{stands_at}
 use Rattle.log_recovery.proofs.Applying.{before_few, before_room, applied_more, applies_err}
 use Rattle.log_recovery.proofs.apply.apply.Goals as goal
 
@@ -53,12 +53,6 @@ returns-in_err-replay_all-in-Some c =
     let here = applies_err records r names tables so_far i at before read c.in_err-replay_all-in-Some.field-0.0 now left refused in
     let told = subst (λ (fault : RecoveryFault). Applies names records r (Err fault) left) (sym p.2) here in
     subst (λ (result : Result (Unit {0}) RecoveryFault). Applies names records r result left) (sym p.1) told
-
-pub returns-in-None : goal.returns-in-None
-returns-in-None c =
-    λ records so_far.
-    let none : position (bytes_eq c.args.flush.table) c.args.names.now ≡ None = search rules in
-    (refl, stands_nowhere c.args.flush.table c.args.names.now none)
 
 pub returns-in_ok-replay_all-in-Some : goal.returns-in_ok-replay_all-in-Some
 returns-in_ok-replay_all-in-Some c =

@@ -1,4 +1,4 @@
-use Rattle.std.proofs.Common.{◌∙◌, ◌≡◌, List, IsTrue, length, ap, sym, subst, refl}
+use Rattle.std.proofs.Common.{rules, ◌∙◌, ◌≡◌, List, IsTrue, length, ap, sym, subst, refl}
 use Rattle.berth_face.specs.Berth.{Pair}
 use Rattle.berth_face.proofs.Moments.{passes_on}
 use Rattle.row_records.specs.Records.{LogRecord}
@@ -24,12 +24,12 @@ loop-log-preserved g c =
     let so_far = c.loop-log.invariant.reached in
     let told_mid = λ (told : IsTrue old.tells). subst IsTrue (sym c.loop-log.invariant.passes.tells) told in
     let step = λ (told : IsTrue old.tells).
-        subst (λ (p : Pair). scan.len ≡ length p.disk → Scanned p.disk so_far.records scan.at → StepIs p.disk so_far.records scan.len c.in_ok-log.field-0) (c.loop-log.invariant.stays told).held
-        (c.in_ok-log.ensures.step so_far.records (told_mid told)) (so_far.len told) (so_far.scanned told) in
+    subst (λ (p : Pair). scan.len ≡ length p.disk → Scanned p.disk so_far.records scan.at → StepIs p.disk so_far.records scan.len c.in_ok-log.field-0) (c.loop-log.invariant.stays told).held
+    (c.in_ok-log.ensures.step so_far.records (told_mid told)) (so_far.len told) (so_far.scanned told) in
     let next = λ (told : IsTrue old.tells). subst (StepIs old.held.disk so_far.records scan.len) c.in-Record.is (step told) in
     let goes = subst (GoesOn scan) c.in-Record.is c.in_ok-log.ensures.goes_on in
     record {
-      reached = reached_more c.args.names.now old.tells old.held.disk scan c.loop-log.tables so_far later flush c.apply.new.tables next goes (c.in_ok-apply-in-Record.ensures so_far.records so_far.applied);
+      reached = reached_more c.args.names.now old.tells old.held.disk scan c.loop-log.tables so_far later flush c.apply.new.tables next goes (search rules);
       passes = passes_on old mid new c.loop-log.invariant.passes c.next.ensures.time;
       stays = λ told. stays_on old mid new c.loop-log.invariant.passes c.next.ensures.time (c.loop-log.invariant.stays told) (c.next.ensures.stays (told_mid told));
     }
