@@ -144,16 +144,27 @@ fn an_empty_disk_becomes_a_closed_gate(rt: HostRuntime) -> Result<(), Failure> {
     Ok(())
 }
 
+/// The table that has no name here.
+fn stranger(fault: RecoveryFault) -> Option<Text> {
+    match fault {
+        RecoveryFault::Stranger(name) => Some(name),
+        RecoveryFault::DiskFault => None,
+        RecoveryFault::DiskDamaged => None,
+        RecoveryFault::NoMemory => None,
+    }
+}
+
 #[test]
 fn a_stranger_is_named(rt: HostRuntime) -> Result<(), Failure> {
     let alloc = rt.alloc();
     let names = both(alloc)?;
     let mut berth = berth_of(alloc, &[TWO_TO_U, KEEP_OF_V, b"\0"])?;
     let named = match recover(alloc, &names, &mut berth) {
-        Err(RecoveryFault::Stranger(name)) => name.as_str() == "v",
-        _ => false,
+        Ok(_found) => None,
+        Err(fault) => stranger(fault),
     };
-    assert!(rt; named);
+    let name = named.expect(&rt, "a table has no name here");
+    assert_eq!(rt; name.as_str(), "v");
     Ok(())
 }
 
