@@ -1,28 +1,25 @@
 -- How far a log was read, and why not further.
-use Rattle.std.proofs.Common.{◌≡◌, ℕ, zero, suc, ◌+◌, ◌<◌, ◌≤◌, ◌^◌, inl, inr, Bool, false, List, [], ◌∷◌, ◌++◌, length, map, take, drop, min, None, refl, sym, ap, subst, ◌∙◌, length-append, arith}
+use Rattle.std.proofs.Common.{◌≡◌, ℕ, zero, suc, ◌<◌, ◌≤◌, ◌^◌, inl, inr, Bool, List, [], ◌∷◌, ◌++◌, length, take, drop, min, None, refl, sym, ap, subst, ◌∙◌, length-append, arith}
 use Rattle.std.specs.Prelude.{IsTrue, Result, Err}
 use Rattle.std.specs.List.{AllByRecursion}
 use Rattle.std.proofs.lemmas.Bool.{cases_lt}
 use Rattle.std.proofs.lemmas.List.{take-append-le, take_all, take_min}
 use Rattle.leaf_model.specs.declared.writes.Write.{Write}
 use Rattle.leaf_model.specs.Content.{content}
-use Rattle.row_records.specs.Records.{LogRecord, record_bytes}
+use Rattle.row_records.specs.Records.{LogRecord}
 use Rattle.table_state.specs.Tables.{Table}
-use Rattle.disk_backup.specs.declared.fault.LogFault.{LogFault}
-use Rattle.disk_backup.specs.declared.fault.LogFault.TheVariants as log_fault
 use Rattle.disk_backup.specs.declared.step.FlushRecord.{FlushRecord}
-use Rattle.disk_backup.specs.declared.step.LogStep.TheVariants.{Record, Ended}
-use Rattle.disk_backup.specs.Logs.{IsLog, IsSound, open_records, writes_of}
-use Rattle.disk_backup.specs.State.{LogState, ScanState}
-use Rattle.disk_backup.specs.Scanning.{Scanned, Damaged, StepIs, GoesOn, begun, record_is}
+use Rattle.disk_backup.specs.declared.step.LogStep.TheVariants.{Record}
+use Rattle.disk_backup.specs.Logs.{IsSound, open_records, writes_of}
+use Rattle.disk_backup.specs.State.{ScanState}
+use Rattle.disk_backup.specs.Scanning.{Scanned, StepIs, GoesOn, begun, record_is}
 use Rattle.disk_backup.proofs.Logs.{end_snoc}
 use Rattle.disk_backup.proofs.Beginning.{begun_short, begun_long}
 use Rattle.disk_backup.proofs.Scanned.{never_damaged, scanned_is_front}
 use Rattle.log_recovery.specs.declared.fault.RecoveryFault.{RecoveryFault}
-use Rattle.log_recovery.specs.declared.fault.RecoveryFault.TheVariants.{DiskFault, DiskDamaged, Stranger, NoMemory}
-use Rattle.log_recovery.specs.Faults.{told_of_log}
-use Rattle.log_recovery.specs.Recovery.{IsRecovered, ComesTo, IsTooLong, IsCut, IsRefusal, table_of, tables_of}
-use Rattle.log_recovery.specs.Applying.{Applies, HasApplied, MayApply, Reached, count_of}
+use Rattle.log_recovery.specs.declared.fault.RecoveryFault.TheVariants.{DiskDamaged}
+use Rattle.log_recovery.specs.Recovery.{IsTooLong, IsRefusal, tables_of}
+use Rattle.log_recovery.specs.Applying.{HasApplied, Reached, count_of}
 use Rattle.log_recovery.proofs.Applying.{writes_append, few_writes, count_more}
 
 module _ (names : List (List ℕ)) (tells : Bool) (disk : List ℕ) where

@@ -1,4 +1,4 @@
-use Rattle.std.proofs.Common.{rules, ◌≡◌, List, ◌∷◌, ◌++◌, [], get_or, set, position, Some, None, refl, sym, ap, subst, length, Ok, Err, arith}
+use Rattle.std.proofs.Common.{rules, ◌≡◌, List, ◌∷◌, ◌++◌, [], get_or, set, position, Some, sym, ap, subst, length, Ok, Err, arith}
 use Rattle.std.specs.Prelude.{Result, bytes_eq}
 use Rattle.std.proofs.lemmas.Result.{err_from_is_err_and}
 use Rattle.leaf_model.specs.declared.writes.Write.{Write}

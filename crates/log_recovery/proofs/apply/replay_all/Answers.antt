@@ -1,4 +1,4 @@
-use Rattle.std.proofs.Common.{List, ◌∷◌, sym, subst, Err}
+use Rattle.std.proofs.Common.{List, sym, subst, Err}
 use Rattle.std.specs.Prelude.{Result}
 use Rattle.std.proofs.lemmas.Result.{err_from_is_err_and}
 use Rattle.leaf_model.specs.declared.writes.Write.{Write}

@@ -1,8 +1,6 @@
-use Rattle.std.proofs.Common.{rules, ◌∙◌, ◌≡◌, List, IsTrue, length, ap, sym, subst, refl}
+use Rattle.std.proofs.Common.{rules, ◌≡◌, IsTrue, length, sym, subst}
 use Rattle.berth_face.specs.Berth.{Pair}
 use Rattle.berth_face.proofs.Moments.{passes_on}
-use Rattle.row_records.specs.Records.{LogRecord}
-use Rattle.disk_backup.specs.declared.step.LogStep.TheVariants.{Record}
 use Rattle.disk_backup.specs.Scanning.{Scanned, StepIs, GoesOn}
 use Rattle.disk_backup.proofs.Staying.{stays_on}
 use Rattle.log_recovery.proofs.Reading.{settled, reached_more}

@@ -2,7 +2,6 @@ use Rattle.std.proofs.Common.{◌≡◌, ◌∙◌, List, ℕ, length, IsTrue, s
 use Rattle.std.proofs.lemmas.Result.{err_from_is_err_and}
 use Rattle.disk_backup.specs.Scanning.{StepsFrom, Begins}
 use Rattle.disk_backup.proofs.Staying.{through_stay}
-use Rattle.log_recovery.specs.declared.fault.RecoveryFault.{RecoveryFault}
 use Rattle.log_recovery.specs.declared.fault.RecoveryFault.TheVariants as fault
 use Rattle.log_recovery.specs.Recovery.{IsRefusal}
 use Rattle.log_recovery.proofs.Reading.{err_is, never_refused}
