@@ -16,7 +16,7 @@ use std::thread;
 use std::thread::Threads;
 
 /// How often each thread adds a row and asks.
-const ROUNDS: u64 = 100;
+const ROUNDS: u64 = 500;
 
 /// The number of an entry, and how many rows it counts where it asked. A refusal is told as number 0, which no entry has.
 #[derive(Clone, Copy, Debug, Drop, PartialEq)]
