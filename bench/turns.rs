@@ -1,4 +1,4 @@
-//! Takes turns at tables behind a std Mutex: the peer of the turns at shared tables in the benchmark.
+//! Takes turns at tables behind a std Mutex: the peer of turns at shared tables in the benchmark.
 //! A turn does the same to a table of the same rows: it is refused while the table is shut, or adds rows and the record of that write.
 use std::process::exit;
 use std::sync::Mutex;
