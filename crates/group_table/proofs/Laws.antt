@@ -15,7 +15,7 @@ use Rattle.leaf_model.specs.Groups.{keys_cmp, keys_of, passes, with_keys, with_k
 use Rattle.group_table.specs.Joined.{joined_group, joined, joined_from, next_of}
 use Rattle.group_table.specs.Table.{keys_in, Above, Ascends, IsTable}
 use Rattle.group_table.proofs.KeyOrder.{keys_cmp_total, exact_keys}
-use Rattle.group_table.proofs.Monoid.{group_assoc, group_of-append}
+use Rattle.group_table.proofs.Monoid.{group_assoc, group_comm, group_of-append}
 
 -- a list of groups with one more
 abbrev with_group : Group → List Group → List Group
@@ -69,6 +69,21 @@ step g a gs ih (b ∷ bs) =
 with_joined : (g : Group) (gs hs : List Group) → Same g gs hs
 with_joined g [] hs = refl
 with_joined g (a ∷ gs) hs = step g a gs (with_joined g gs) hs
+
+-- one group joins alike from both sides
+one_at : (g a : Group) (gs : List Group) (o : Ordering) → keys_cmp a.keys g.keys ≡ o → joined gs (g ∷ []) ≡ joined (g ∷ []) gs
+    → joined (a ∷ gs) (g ∷ []) ≡ joined (g ∷ []) (a ∷ gs)
+one_at g a gs Less h more = let turned = turn_back a.keys g.keys h in rw (h, turned) (ap (λ hs. a ∷ hs) more)
+one_at g a gs Equal h more =
+    let turned = keys_cmp_total.antisymm g.keys a.keys ∙ ap ordering_reverse h in
+    let first = group_comm a g (exact_keys a.keys g.keys h) in
+    let rest = joined-nil gs in
+    rw (h, turned) (λ i. first i ∷ rest i)
+one_at g a gs Greater h more = let turned = turn a.keys g.keys h in rw (h, turned) (ap (λ hs. g ∷ a ∷ hs) (joined-nil gs))
+
+pub joined-one : (g : Group) (gs : List Group) → joined gs (g ∷ []) ≡ joined (g ∷ []) gs
+joined-one g [] = refl
+joined-one g (a ∷ gs) = one_at g a gs (keys_cmp a.keys g.keys) refl (joined-one g gs)
 
 -- ---- lists of keys
 

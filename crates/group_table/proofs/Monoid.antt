@@ -26,6 +26,12 @@ min_assoc a b c = omega (arith, ints, clamps)
 pub max_assoc : (a b c : ℤ) → int_max (int_max a b) c ≡ int_max a (int_max b c)
 max_assoc a b c = omega (arith, ints, clamps)
 
+min_comm : (a b : ℤ) → int_min a b ≡ int_min b a
+min_comm a b = omega (arith, ints, clamps)
+
+max_comm : (a b : ℤ) → int_max a b ≡ int_max b a
+max_comm a b = omega (arith, ints, clamps)
+
 -- a fold from a value is that value with the fold of the rest
 fold_out : (f : ℤ → ℤ → ℤ) → ((a b c : ℤ) → f (f a b) c ≡ f a (f b c)) → (a b : ℤ) (ns : List ℤ) → fold f (f a b) ns ≡ f a (fold f b ns)
 fold_out f assoc a b [] = refl
@@ -103,3 +109,29 @@ group_assoc a b c =
     let p : (a.count + b.count) + c.count ≡ a.count + (b.count + c.count) = omega arith in
     let r = folds_assoc a.folds b.folds c.folds in
     λ i. record { keys = a.keys; count = p i; folds = r i }
+
+either_comm : (f : ℤ → ℤ → ℤ) → ((a b : ℤ) → f a b ≡ f b a) → (a b : Option ℤ) → either f a b ≡ either f b a
+either_comm f comm None None = refl
+either_comm f comm None (Some b) = refl
+either_comm f comm (Some a) None = refl
+either_comm f comm (Some a) (Some b) = ap (λ z. Some z) (comm a b)
+
+fold_comm : (a b : Fold) → joined_fold a b ≡ joined_fold b a
+fold_comm a b =
+    let p : a.seen + b.seen ≡ b.seen + a.seen = omega arith in
+    let r : a.sum +ℤ b.sum ≡ b.sum +ℤ a.sum = omega (arith, ints) in
+    let s = either_comm int_min min_comm a.min b.min in
+    let t = either_comm int_max max_comm a.max b.max in
+    λ i. record { seen = p i; sum = r i; min = s i; max = t i }
+
+folds_comm : (as_ bs : List Fold) → joined_folds as_ bs ≡ joined_folds bs as_
+folds_comm [] [] = refl
+folds_comm [] (b ∷ bs) = refl
+folds_comm (a ∷ as_) [] = refl
+folds_comm (a ∷ as_) (b ∷ bs) = λ i. fold_comm a b i ∷ folds_comm as_ bs i
+
+pub group_comm : (a b : Group) → a.keys ≡ b.keys → joined_group a b ≡ joined_group b a
+group_comm a b h =
+    let p : a.count + b.count ≡ b.count + a.count = omega arith in
+    let r = folds_comm a.folds b.folds in
+    λ i. record { keys = h i; count = p i; folds = r i }

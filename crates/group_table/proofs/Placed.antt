@@ -1,6 +1,6 @@
 -- A group goes into an ascending table at the place that a search finds.
 use Rattle.std.proofs.Common.{◌≡◌, ℕ, suc, zero, ◌≤◌, ◌<◌, true, false, List, [], ◌∷◌, ◌++◌, length, drop, take, refl, ap, arith}
-use Rattle.std.specs.List.{slice_index_or, slice_set, insert}
+use Rattle.std.specs.List.{AllByRecursion, slice_index_or, slice_set, insert}
 use Rattle.std.specs.List.Sorted.{IsPartitionPoint, IsPartitionedBy}
 use Rattle.std.specs.Ordering.{is_lt, is_eq}
 use Rattle.std.specs.declared.cmp.Ordering.{Ordering}
@@ -21,6 +21,11 @@ above_at : (k : List Key) (gs : List Group) (j : ℕ) (d : Group) → Above k (k
 above_at k [] j d up h = absurd (omega arith)
 above_at k (g ∷ gs) zero d up h = up.0
 above_at k (g ∷ gs) (suc j) d up h = above_at k gs j d up.1 (omega arith)
+
+pub shaped_at : (n : ℕ) (gs : List Group) (j : ℕ) (d : Group) → AllByRecursion (λ (g : Group). length g.folds ≡ n) gs → j < length gs → length (slice_index_or gs j d).folds ≡ n
+shaped_at n [] j d all h = absurd (omega arith)
+shaped_at n (g ∷ gs) zero d all h = all.0
+shaped_at n (g ∷ gs) (suc j) d all h = shaped_at n gs j d all.1 (omega arith)
 
 -- no group below the keys comes after one that is not
 pub parted : (ks : List Key) (gs : List Group) → Ascends (keys_in gs) → IsPartitionedBy (λ (g : Group). is_lt (keys_cmp g.keys ks)) gs

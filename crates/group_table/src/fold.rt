@@ -5,50 +5,78 @@ ghost use Rattle.leaf_model.specs.Groups.{groups};
 ghost use Rattle.group_table.specs.Joined.{IsWithin};
 
 use crate::join::merge;
-use crate::table::add_row;
-use leaf_model::{Group, Groups, Query, Row};
+use crate::reads::Seen;
+use crate::tables::{Guessed, Tables, add_row, join_both, make_room};
+use leaf_model::{Groups, Query, Row};
 use std::alloc::{AllocError, Global};
 
-/// A table of so many groups is full: a larger one is dear to shift.
-const FULL: usize = 1024;
+/// So many rows go into the fresh table before it is settled, and no more rows are taken where so many groups are settled.
+#[derive(Clone, Copy)]
+pub struct Limits {
+    pub fresh: usize,
+    pub settled: usize,
+}
 
 /// A table of the first so many rows.
 #[derive(Drop)]
 struct Filled {
-    table: Vec<Group>,
+    table: Groups,
     rows: usize,
 }
 
 /// Takes rows until the table is full.
-fn fill(alloc: Global, query: &Query, rows: &[Row]) -> Result<Filled, AllocError>
+fn fill(alloc: Global, query: &Query, rows: &[Row], limits: Limits) -> Result<Filled, AllocError>
     ensures bound { IfOk result (λ first. first.rows ≤ length rows.now) }
     ensures some { IfOk result (λ first. 0 < length rows.now → 0 < first.rows) }
-    ensures value { IfOk result (λ first. first.table.items ≡ groups query.now (take first.rows rows.now)) }
-    ensures within { IfOk result (λ first. AllByRecursion (IsWithin first.rows) first.table.items) }
+    ensures value { IfOk result (λ first. first.table ≡ groups query.now (take first.rows rows.now)) }
+    ensures within { IfOk result (λ first. AllByRecursion (IsWithin first.rows) first.table) }
 {
-    let mut table: Vec<Group> = Vec::new(alloc);
-    let mut guesses = [0; 256];
+    let mut tables = Tables {
+        settled: Vec::new(alloc),
+        fresh: Vec::new(alloc),
+    };
+    let mut guessed = Guessed::new(alloc)?;
+    let mut keys: Vec<Seen> = Vec::new(alloc);
     let mut i: usize = 0;
-    while i < rows.len() && (i == 0 || table.len() < FULL) {
-        table = add_row(alloc, query, table, &mut guesses, &rows[i])?;
+    while i < rows.len() && (i == 0 || tables.settled.len() < limits.settled) {
+        tables = make_room(alloc, tables, &mut guessed, limits.fresh)?;
+        tables = add_row(alloc, query, tables, &mut guessed, &mut keys, &rows[i])?;
         i += 1;
     }
+    let table = join_both(alloc, tables)?;
     Ok(Filled { table, rows: i })
 }
 
-/// The groups of the rows that pass, by key ascending. What one table can't take is folded in halves.
+/// What one table can't take is folded in halves.
+pub fn fold_within(
+    alloc: Global,
+    query: &Query,
+    rows: &[Row],
+    limits: Limits,
+) -> Result<Groups, AllocError>
+    ensures value { IfOk result (λ gs. gs ≡ groups query.now rows.now) }
+    ensures within { IfOk result (λ gs. AllByRecursion (IsWithin (length rows.now)) gs) }
+{
+    let first = fill(alloc, query, rows, limits)?;
+    if first.rows == rows.len() {
+        return Ok(first.table);
+    }
+    let rest = &rows[first.rows..];
+    let (front, back) = rest.split_at(rest.len() / 2);
+    let folded = fold_within(alloc, query, front, limits)?;
+    let mine = merge(alloc, first.table, folded)?;
+    let theirs = fold_within(alloc, query, back, limits)?;
+    merge(alloc, mine, theirs)
+}
+
+/// The groups of the rows that pass, by key ascending.
 pub fn fold_rows(alloc: Global, query: &Query, rows: &[Row]) -> Result<Groups, AllocError>
     ensures value { IfOk result (λ gs. gs ≡ groups query.now rows.now) }
     ensures within { IfOk result (λ gs. AllByRecursion (IsWithin (length rows.now)) gs) }
 {
-    let first = fill(alloc, query, rows)?;
-    if first.rows == rows.len() {
-        return Ok(Groups::of(first.table));
-    }
-    let rest = &rows[first.rows..];
-    let (front, back) = rest.split_at(rest.len() / 2);
-    let folded = fold_rows(alloc, query, front)?;
-    let mine = merge(alloc, Groups::of(first.table), folded)?;
-    let theirs = fold_rows(alloc, query, back)?;
-    merge(alloc, mine, theirs)
+    let limits = Limits {
+        fresh: 512,
+        settled: 16384,
+    };
+    fold_within(alloc, query, rows, limits)
 }

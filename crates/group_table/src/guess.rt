@@ -1,35 +1,136 @@
-// A number made of a row's keys, for a guess at their place in a table.
-ghost use Rattle.std.specs.Prelude.{◌<◌};
+// Guesses at the places of keys in a table.
+use crate::reads::{Seen, see_key};
+use leaf_model::{Group, Key};
+use std::alloc::{AllocError, Global};
 
-use crate::reads::Seen;
+fn mix_word(mixed: u64, word: u64) -> u64 {
+    let mixed = (mixed ^ word).wrapping_mul(0x9E37_79B9_7F4A_7C15);
+    mixed ^ (mixed >> 32)
+}
 
-/// How many guesses are kept.
-pub const GUESSES: usize = 256;
-
-/// The last bytes tell names such as web1 and web2 apart, and a long text costs no more than a short one.
-fn mix_text(mixed: u64, text: &str) -> u64 {
+/// The first bytes, up to 64 of them, by eights.
+fn mix_front(mixed: u64, bytes: &[u8]) -> u64 {
     let mut mixed = mixed;
-    for byte in text.as_bytes().iter().rev().take(8) {
-        mixed = mixed.wrapping_mul(31).wrapping_add(u64::from(*byte));
+    let mut rest = match bytes.get(..64) {
+        None => bytes,
+        Some(front) => front,
+    };
+    while let Some((word, further)) = rest.split_first_chunk::<8>() {
+        mixed = mix_word(mixed, u64::from_le_bytes(*word));
+        rest = further;
     }
     mixed
 }
 
+/// The first and the last bytes tell most names apart, and a long text costs no more than a short one.
+fn mix_text(mixed: u64, text: &str) -> u64 {
+    let bytes = text.as_bytes();
+    let mut last: u64 = 2;
+    for byte in bytes.iter().rev().take(8) {
+        last = (last << 8) | u64::from(*byte);
+    }
+    mix_word(mix_front(mixed, bytes), last)
+}
+
 fn mix(mixed: u64, seen: Seen) -> u64 {
     match seen {
-        Seen::Missing => mixed.wrapping_add(1),
-        Seen::Int(n) => mixed.wrapping_add(n.unsigned_abs()).wrapping_mul(31),
+        Seen::Missing => mix_word(mixed, 1),
+        Seen::Int(n) => mix_word(mixed, u64::from_le_bytes(n.to_le_bytes())),
         Seen::Text(text) => mix_text(mixed, text.as_str()),
     }
 }
 
-/// Any number would do: a guess is tried before it is used.
-pub fn guess_of(seen: &[Seen]) -> usize
-    ensures { result < 256 }
-{
+/// A number made of a row's keys, never 0.
+pub fn mix_seen(keys: &[Seen]) -> u32 {
     let mut mixed: u64 = 0;
-    for one in seen {
-        mixed = mix(mixed, *one);
+    for key in keys {
+        mixed = mix(mixed, *key);
     }
-    (mixed.wrapping_mul(0x9E37_79B9_7F4A_7C15) >> 32) as usize % GUESSES
+    (mix_word(mixed, 3) >> 32) as u32 | 1
+}
+
+/// The same number, made of a group's keys.
+fn mix_keys(keys: &[Key]) -> u32 {
+    let mut mixed: u64 = 0;
+    for key in keys {
+        mixed = mix(mixed, see_key(key));
+    }
+    (mix_word(mixed, 3) >> 32) as u32 | 1
+}
+
+#[derive(Clone, Copy)]
+struct Guess {
+    mixed: u32,
+    at: u32,
+}
+
+const NONE: Guess = Guess { mixed: 0, at: 0 };
+
+/// Where keys stand in a table, by the numbers made of them. A guess is tried before it is used, so that any would do.
+#[derive(Drop)]
+pub struct Guesses {
+    slots: Vec<Guess>,
+}
+
+impl Guesses {
+    pub fn new(alloc: Global, count: usize) -> Result<Guesses, AllocError> {
+        Ok(Guesses {
+            slots: vec![in alloc; NONE; count]?,
+        })
+    }
+
+    /// The slot of that number, or the empty one where it would go.
+    fn slot(&self, mixed: u32) -> usize {
+        let count = self.slots.len();
+        let first = ((u64::from(mixed)).wrapping_mul(count as u64) >> 32) as usize;
+        let mut slot = first;
+        for _ in 0..count {
+            match self.slots.get(slot) {
+                None => slot = 0,
+                Some(guess) => {
+                    if guess.mixed == mixed || guess.mixed == 0 {
+                        return slot;
+                    }
+                    slot = slot.saturating_add(1);
+                }
+            }
+        }
+        first
+    }
+
+    /// None where no such number was kept.
+    pub fn guess(&self, mixed: u32) -> Option<usize> {
+        match self.slots.get(self.slot(mixed)) {
+            None => None,
+            Some(guess) => {
+                if guess.mixed == mixed {
+                    Some(guess.at as usize)
+                } else {
+                    None
+                }
+            }
+        }
+    }
+
+    fn keep(&mut self, mixed: u32, at: u32) {
+        let slot = self.slot(mixed);
+        if let Some(guess) = self.slots.get_mut(slot) {
+            *guess = Guess { mixed, at };
+        }
+    }
+
+    /// Guesses for that table; at most half of the slots are taken.
+    pub fn renew(&mut self, alloc: Global, table: &[Group]) -> Result<(), AllocError> {
+        if self.slots.len() < table.len().saturating_mul(2) {
+            self.slots = vec![in alloc; NONE; table.len().saturating_mul(4)]?;
+        } else {
+            self.slots.fill(NONE);
+        }
+        let mut at: u32 = 0;
+        for group in table {
+            self.keep(mix_keys(group.keys.as_slice()), at);
+            at = at.saturating_add(1);
+        }
+        Ok(())
+    }
 }

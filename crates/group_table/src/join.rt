@@ -118,13 +118,14 @@ fn take_both(mine: &mut VecDeque<Group>, theirs: &mut VecDeque<Group>) -> Option
     }
 }
 
-fn join_tables(alloc: Global, a: Groups, b: Groups) -> Result<Groups, AllocError>
+pub fn join_tables(alloc: Global, a: Groups, b: Groups) -> Result<Groups, AllocError>
     requires { AllByRecursion FitsGroup (joined a b) }
     ensures { IfOk result (λ gs. gs ≡ joined a b) }
 {
+    let most = a.as_slice().len().saturating_add(b.as_slice().len());
+    let mut out: Vec<Group> = Vec::with_capacity(alloc, most)?;
     let mut mine = VecDeque::from_vec(a.into_inner());
     let mut theirs = VecDeque::from_vec(b.into_inner());
-    let mut out: Vec<Group> = Vec::new(alloc);
     while let Some(group) = take_first(&mut mine, &mut theirs) {
         out.push(group)?;
     }

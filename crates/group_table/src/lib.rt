@@ -8,6 +8,7 @@ mod order;
 mod reads;
 mod rows;
 mod table;
+mod tables;
 
 pub use fold::fold_rows;
 pub use join::merge;

@@ -99,19 +99,19 @@ pub fn is_passing(query: &Query, row: &Row) -> bool
     query.from <= row.time && row.time <= query.to && meets_all(query.conds.as_slice(), row)
 }
 
-/// What a row has under each of the names.
+/// What a row has under each of the names, in place of what was seen.
 pub fn look_all<'a>(
-    alloc: Global,
     names: &[Text],
     row: &'a Row,
-) -> Result<Vec<Seen<'a>>, AllocError>
-    ensures { IfOk result (λ seen. map seen_key seen.items ≡ map (λ name. key_of (value_of name row.now)) names.now) }
+    seen: &mut Vec<Seen<'a>>,
+) -> Result<(), AllocError>
+    ensures { IfOk result (λ done. map seen_key seen.new.items ≡ map (λ name. key_of (value_of name row.now)) names.now) }
 {
-    let mut seen: Vec<Seen<'a>> = Vec::with_capacity(alloc, names.len())?;
+    seen.clear();
     for name in names {
         seen.push(look(name, row))?;
     }
-    Ok(seen)
+    Ok(())
 }
 
 /// A key of a table, as a row's are seen.

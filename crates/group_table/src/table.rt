@@ -4,15 +4,14 @@ ghost use Rattle.std.specs.List.{AllByRecursion};
 ghost use Rattle.std.specs.Vec.{vec_len};
 ghost use Rattle.leaf_model.specs.declared.groups.Key.{Key};
 ghost use Rattle.leaf_model.specs.declared.groups.Group.{Group};
-ghost use Rattle.leaf_model.specs.Groups.{groups, group_of, fold_of, agg_ints};
+ghost use Rattle.leaf_model.specs.Groups.{group_of, fold_of, agg_ints};
 ghost use Rattle.group_table.specs.Reads.{seen_key};
 ghost use Rattle.group_table.specs.Joined.{joined_fold, joined_folds, joined_group, joined, IsWithin, IsFoldWithin};
-ghost use Rattle.group_table.specs.Table.{Ascends, keys_in, is_first, put_first, IsTable};
+ghost use Rattle.group_table.specs.Table.{Ascends, keys_in, is_first, put_first};
 
-use crate::guess::guess_of;
 use crate::join::join_fold;
 use crate::order::compare_with;
-use crate::reads::{Seen, is_passing, look_all, own_keys};
+use crate::reads::{Seen, own_keys};
 use crate::rows::{fold_row, folds_of_row};
 use leaf_model::{Agg, Fold, Folds, Group, Query, Row};
 use std::alloc::{AllocError, Global};
@@ -20,9 +19,9 @@ use std::cmp::Ordering;
 
 /// A place in a table, and whether the keys that were looked for stand there.
 #[derive(Clone, Copy)]
-struct Place {
-    at: usize,
-    is_there: bool,
+pub struct Place {
+    pub at: usize,
+    pub is_there: bool,
 }
 
 fn stands_at(table: &[Group], place: usize, keys: &[Seen]) -> bool
@@ -44,23 +43,38 @@ fn search_for(table: &[Group], keys: &[Seen]) -> usize
     table.partition_point(|group| compare_with(group.keys.as_slice(), keys) == Ordering::Less)
 }
 
-/// Where those keys stand, or would stand, in an ascending table. The guess is tried first.
-fn place_of(table: &[Group], keys: &[Seen], guess: usize) -> Place
+/// Where those keys stand, or would stand, in an ascending table.
+pub fn place_of(table: &[Group], keys: &[Seen]) -> Place
     requires { Ascends (keys_in table.now) }
     ensures bound { result.at ≤ length table.now }
     ensures there { result.is_there ≡ is_first (map seen_key keys.now) (drop result.at table.now) }
     ensures inside { result.is_there ≡ true → result.at < length table.now }
     ensures place { (g : Group) → g.keys ≡ map seen_key keys.now → joined table.now (g ∷ []) ≡ take result.at table.now ++ put_first g (drop result.at table.now) }
 {
-    if stands_at(table, guess, keys) {
-        return Place {
-            at: guess,
-            is_there: true,
-        };
-    }
     let at = search_for(table, keys);
     let is_there = stands_at(table, at, keys);
     Place { at, is_there }
+}
+
+/// Where those keys stand. With no guess they are not looked for.
+pub fn find(table: &[Group], keys: &[Seen], guess: Option<usize>) -> Place
+    requires { Ascends (keys_in table.now) }
+    ensures there { result.is_there ≡ true → is_first (map seen_key keys.now) (drop result.at table.now) ≡ true }
+    ensures inside { result.is_there ≡ true → result.at < length table.now }
+{
+    match guess {
+        None => Place {
+            at: 0,
+            is_there: false,
+        },
+        Some(at) => {
+            if stands_at(table, at, keys) {
+                Place { at, is_there: true }
+            } else {
+                place_of(table, keys)
+            }
+        }
+    }
 }
 
 fn add_cell(mine: &mut Fold, agg: &Agg, row: &Row)
@@ -86,7 +100,7 @@ fn add_cells(mut folds: Vec<Fold>, aggs: &[Agg], row: &Row) -> Vec<Fold>
 }
 
 /// A row more in the group of its keys.
-fn add_to(alloc: Global, group: &mut Group, query: &Query, row: &Row)
+pub fn add_to(alloc: Global, group: &mut Group, query: &Query, row: &Row)
     requires same { length group.old.folds ≡ length query.now.aggs }
     requires within { IsWithin (2 ^ 62) group.old }
     ensures value { (ks : List Key) → group.new ≡ joined_group group.old (group_of query.now ks (row.now ∷ [])) }
@@ -98,7 +112,7 @@ fn add_to(alloc: Global, group: &mut Group, query: &Query, row: &Row)
 }
 
 /// A row of those keys, at their place.
-fn put_row(
+pub fn put_row(
     alloc: Global,
     query: &Query,
     mut table: Vec<Group>,
@@ -129,27 +143,4 @@ fn put_row(
         },
     )?;
     Ok(table)
-}
-
-/// The table with one row more. The guesses say where keys stood when they were last met.
-pub fn add_row(
-    alloc: Global,
-    query: &Query,
-    table: Vec<Group>,
-    guesses: &mut [usize; 256],
-    row: &Row,
-) -> Result<Vec<Group>, AllocError>
-    requires table { IsTable query.now table.items }
-    requires within { AllByRecursion (IsWithin (2 ^ 62)) table.items }
-    ensures value { IfOk result (λ gs. gs.items ≡ joined table.items (groups query.now (row.now ∷ []))) }
-    ensures row { IfOk result (λ gs. AllByRecursion (IsWithin 1) (groups query.now (row.now ∷ []))) }
-{
-    if !is_passing(query, row) {
-        return Ok(table);
-    }
-    let keys = look_all(alloc, query.keys.as_slice(), row)?;
-    let guess = guess_of(keys.as_slice());
-    let place = place_of(table.as_slice(), keys.as_slice(), guesses[guess]);
-    guesses[guess] = place.at;
-    put_row(alloc, query, table, place, keys.as_slice(), row)
 }

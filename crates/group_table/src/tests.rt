@@ -1,4 +1,5 @@
-// Groups of a few rows by the rules of evaluation, the sum past 64 bits, and two tables in one.
+// Groups of a few rows by the rules of evaluation, the sum past 64 bits, two tables in one, and full tables.
+use crate::fold::{Limits, fold_within};
 use crate::{fold_rows, merge};
 use leaf_model::{
     Agg, Aggs, Cell, Cells, Cond, Conds, Fold, Group, Groups, Key, Names, Op, Query, Row, Text,
@@ -248,6 +249,23 @@ fn two_tables_are_one(rt: HostRuntime) -> Result<(), test::Fail> {
         let (xs, ys) = rows.as_slice().split_at(cut.min(rows.len()));
         let groups = merged(alloc, &by_host, xs, ys)?;
         assert_eq!(rt; shown(alloc, &groups)?.as_str(), BY_HOST, "cut at {cut}");
+    }
+    Ok(())
+}
+
+#[test]
+fn full_tables_lose_no_row(rt: HostRuntime) -> Result<(), test::Fail> {
+    let alloc = rt.alloc();
+    let rows = some_rows(alloc)?;
+    let by_host = query(alloc, (0, 9), &[], &["host"], &[("SUM", "v")])?;
+    for (fresh, settled) in [(0, 0), (1, 9), (1, 2), (2, 3), (3, 9), (4, 1), (9, 0)] {
+        let limits = Limits { fresh, settled };
+        let groups = fold_within(alloc, &by_host, rows.as_slice(), limits)?;
+        assert_eq!(rt;
+            shown(alloc, &groups)?.as_str(),
+            BY_HOST,
+            "limits {fresh} and {settled}"
+        );
     }
     Ok(())
 }

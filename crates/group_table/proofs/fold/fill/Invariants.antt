@@ -1,15 +1,15 @@
 use Rattle.std.proofs.Common.{◌≡◌, ◌≤◌, ◌-◌, length, take}
-use Rattle.std.specs.List.{AllByRecursion}
 use Rattle.leaf_model.specs.Groups.{groups}
-use Rattle.group_table.specs.Joined.{IsWithin}
+use Rattle.group_table.specs.Joined.{joined}
+use Rattle.group_table.specs.Split.{IsSplit}
 use Rattle.group_table.proofs.fold.fill.Given as goal
 
--- the table is that of the rows so far
+-- the tables are together that of the rows so far
 abbrev pub invariant-loop-i : goal.invariant-loop-i
 invariant-loop-i l = record {
   bound : l.i ≤ length l.rows;
-  value : l.table.items ≡ groups l.query (take l.i l.rows);
-  within : AllByRecursion (IsWithin l.i) l.table.items;
+  value : joined l.tables.settled.items l.tables.fresh.items ≡ groups l.query (take l.i l.rows);
+  split : IsSplit l.i l.query l.tables.settled.items l.tables.fresh.items;
 }
 
 abbrev pub decreases-loop-i : goal.decreases-loop-i

@@ -1,0 +1,109 @@
+// The groups of the rows so far, in two ascending tables: a row's keys are new seldom, and a large table is dear to shift.
+ghost use Rattle.std.specs.Prelude.{◌≡◌, IfOk, List, [], ◌∷◌, ◌+◌, ◌^◌, ℕ};
+ghost use Rattle.std.specs.List.{AllByRecursion};
+ghost use Rattle.leaf_model.specs.declared.queries.Query.{Query};
+ghost use Rattle.leaf_model.specs.Groups.{groups};
+ghost use Rattle.group_table.specs.Joined.{joined, FitsGroup, IsWithin};
+ghost use Rattle.group_table.specs.Split.{IsSplit};
+
+use crate::guess::{Guesses, mix_seen};
+use crate::join::join_tables;
+use crate::reads::{Seen, is_passing, look_all};
+use crate::table::{add_to, find, place_of, put_row};
+use leaf_model::{Group, Groups, Query, Row};
+use std::alloc::{AllocError, Global};
+
+/// A table that no group is put into, and one for the rows whose keys were not found there.
+#[derive(Drop)]
+pub struct Tables {
+    pub settled: Vec<Group>,
+    pub fresh: Vec<Group>,
+}
+
+/// Guesses for the settled table, and how many rows went into the fresh one since then.
+#[derive(Drop)]
+pub struct Guessed {
+    settled: Guesses,
+    missed: usize,
+}
+
+impl Guessed {
+    pub fn new(alloc: Global) -> Result<Guessed, AllocError> {
+        Ok(Guessed {
+            settled: Guesses::new(alloc, 0)?,
+            missed: 0,
+        })
+    }
+
+    fn renew(&mut self, alloc: Global, settled: &[Group]) -> Result<(), AllocError> {
+        self.missed = 0;
+        self.settled.renew(alloc, settled)
+    }
+
+    /// A settled table is dear to make again where it is large, and a fresh one to shift.
+    fn is_due(&self, settled: usize, most: usize) -> bool {
+        self.missed >= settled.max(64).min(most).max(settled / 32)
+    }
+}
+
+/// The tables with one row more: in the settled one where its keys are found there. `keys` is room for them.
+pub fn add_row<'a>(
+    alloc: Global,
+    query: &Query,
+    mut tables: Tables,
+    guessed: &mut Guessed,
+    keys: &mut Vec<Seen<'a>>,
+    row: &'a Row,
+) -> Result<Tables, AllocError>
+    requires { IsSplit (2 ^ 62) query.now tables.settled.items tables.fresh.items }
+    ensures value { IfOk result (λ ts. joined ts.settled.items ts.fresh.items ≡ joined (joined tables.settled.items tables.fresh.items) (groups query.now (row.now ∷ []))) }
+    ensures split { IfOk result (λ ts. (n : ℕ) → IsSplit n query.now tables.settled.items tables.fresh.items → IsSplit (n + 1) query.now ts.settled.items ts.fresh.items) }
+{
+    if !is_passing(query, row) {
+        return Ok(tables);
+    }
+    look_all(query.keys.as_slice(), row, keys)?;
+    let guess = guessed.settled.guess(mix_seen(keys.as_slice()));
+    let place = find(tables.settled.as_slice(), keys.as_slice(), guess);
+    if place.is_there {
+        add_to(alloc, &mut tables.settled[place.at], query, row);
+        return Ok(tables);
+    }
+    guessed.missed = guessed.missed.saturating_add(1);
+    let place = place_of(tables.fresh.as_slice(), keys.as_slice());
+    let fresh = put_row(alloc, query, tables.fresh, place, keys.as_slice(), row)?;
+    Ok(Tables {
+        settled: tables.settled,
+        fresh,
+    })
+}
+
+/// One table of both.
+pub fn join_both(alloc: Global, tables: Tables) -> Result<Groups, AllocError>
+    requires { AllByRecursion FitsGroup (joined tables.settled.items tables.fresh.items) }
+    ensures { IfOk result (λ gs. gs ≡ joined tables.settled.items tables.fresh.items) }
+{
+    Ok(join_tables(alloc, Groups::of(tables.settled), Groups::of(tables.fresh))?)
+}
+
+/// Settles all groups where enough rows went into the fresh table.
+pub fn make_room(
+    alloc: Global,
+    tables: Tables,
+    guessed: &mut Guessed,
+    most: usize,
+) -> Result<Tables, AllocError>
+    requires { AllByRecursion FitsGroup (joined tables.settled.items tables.fresh.items) }
+    ensures value { IfOk result (λ ts. joined ts.settled.items ts.fresh.items ≡ joined tables.settled.items tables.fresh.items) }
+    ensures split { IfOk result (λ ts. (n : ℕ) → (q : Query) → IsSplit n q tables.settled.items tables.fresh.items → IsSplit n q ts.settled.items ts.fresh.items) }
+{
+    if !guessed.is_due(tables.settled.len(), most) {
+        return Ok(tables);
+    }
+    let settled = join_both(alloc, tables)?.into_inner();
+    guessed.renew(alloc, settled.as_slice())?;
+    Ok(Tables {
+        settled,
+        fresh: Vec::new(alloc),
+    })
+}
