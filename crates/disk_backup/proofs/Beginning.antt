@@ -1,7 +1,7 @@
 -- What the first write of a scan does to each pair.
-use Rattle.std.proofs.Common.{◌≡◌, inl, inr, ℕ, ◌≤◌, ◌<◌, List, [], ◌∷◌, length, take, min, refl, ap, arith}
+use Rattle.std.proofs.Common.{◌≡◌, inl, inr, ℕ, ◌≤◌, ◌<◌, List, [], ◌∷◌, length, take, min, refl, sym, ap, subst, arith}
 use Rattle.std.specs.Prelude.{Result}
-use Rattle.berth_face.specs.Berth.{Pair, Meaning, Passes, Stays, Torn, DiskWritten}
+use Rattle.berth_face.specs.Berth.{Pair, Meaning, Passes, Stays, Torn, DiskWritten, written}
 use Rattle.berth_face.specs.Moments.{EachNow, Throughout}
 use Rattle.berth_face.proofs.Moments.{started, goes_on, throughout_join, throughout_map}
 use Rattle.disk_backup.specs.Scanning.{StepsFrom, Begins, begun}
@@ -63,3 +63,22 @@ pub begun_long : (disk : List ℕ) → 1 < length disk → begun disk ≡ disk
 begun_long [] long = absurd (omega (arith, long))
 begun_long (b ∷ []) long = absurd (omega (arith, long))
 begun_long (b ∷ c ∷ rest) long = refl
+
+-- ---- what the disk reads as
+
+-- a first byte that is written whole is one of those that a cut write leaves
+pub gate_torn : (old new : List ℕ) → new ≡ written 0 (0 ∷ []) old → Torn 0 1 old new
+gate_torn old new is = subst (λ (disk : List ℕ). Torn 0 1 old disk) (sym is) (whole old)
+  where
+    whole : (disk : List ℕ) → Torn 0 1 disk (written 0 (0 ∷ []) disk)
+    whole [] = record { before = refl; after = refl; no_shorter = omega arith; no_longer = omega arith }
+    whole (b ∷ rest) = record { before = ap (λ (k : ℕ). take k (0 ∷ rest)) (no_bytes (length (b ∷ rest))); after = refl; no_shorter = omega arith; no_longer = omega arith }
+
+-- a disk that reads as so many bytes, whose first one was written
+pub gate_begins : (n : ℕ) (old new : List ℕ) → n ≤ 1 → n ≡ length old → Torn 0 1 old new → Begins n old new
+gate_begins n old new few size torn = inr (record { short = few; synced = λ e. omega (arith, few, size); torn = torn })
+
+-- a read before it
+pub begins_of : (n : ℕ) (p q : Pair) (now : List ℕ) → q ≡ p → n ≡ length p.disk → Begins n q.disk now → Begins (length p.disk) p.disk now
+begins_of n p q now same size held =
+    subst (λ (m : ℕ). Begins m p.disk now) size (subst (λ (r : Pair). Begins n r.disk now) same held)

@@ -8,14 +8,14 @@ use Rattle.std.specs.Int.{w64, from_le_bytes}
 use Rattle.std.proofs.lemmas.List.{take_at, drop_at, drop_more}
 use Rattle.row_records.specs.Bytes.{u64_bytes}
 use Rattle.row_records.specs.Records.{LogRecord, IsRecord, record_body, record_bytes, flush_of}
-use Rattle.disk_backup.specs.Logs.{IsLog, is_short, is_gated, ClosedLog, open_records}
+use Rattle.disk_backup.specs.Logs.{is_short, is_gated, ClosedLog, open_records}
 use Rattle.row_records.proofs.Fields.{wide64}
 use Rattle.row_records.proofs.Once.{one_record}
 use Rattle.row_records.proofs.Pended.{writes_fit, size}
 use Rattle.row_records.specs.Bytes.{write_bytes}
 use Rattle.leaf_model.specs.declared.writes.Write.{Write}
 use Rattle.row_records.specs.Pending.{pending_bytes}
-use Rattle.disk_backup.specs.Scanning.{Scanned, Damaged, NoRecord, ScannedIsFront, LogIsWhole, size_at}
+use Rattle.disk_backup.specs.Scanning.{Scanned, NoRecord, ScannedIsFront, LogIsWhole, size_at}
 use Rattle.disk_backup.proofs.Logs.{one_head, open_cons, open_snoc, all_snoc, end_snoc}
 
 record_size : (r : LogRecord) → length (record_bytes r) ≡ 8 + length (record_body r)

@@ -17,6 +17,7 @@ pub fn bring<B: Berth>(end: u64, owed: &[u8], laid: &mut bool, berth: &mut B) ->
     ensures cause { HasCause (B.meaning berth.old).disk_faults (B.meaning berth.new).disk_faults result }
     ensures time { Passes (B.meaning berth.old) (B.meaning berth.new) }
     ensures reads { (B.meaning berth.new).disk_reads ≡ (B.meaning berth.old).disk_reads }
+    ensures region { IsTrue (B.meaning berth.old).tells → (B.meaning berth.new).held.region ≡ (B.meaning berth.old).held.region }
     ensures crash { IsTrue (B.meaning berth.old).tells
         → Throughout (Came end (OwingAfter laid.old owed.now) (EitherWay owed.now) (B.meaning berth.old)) (B.meaning berth.old) (B.meaning berth.new)
         × OnOk result (EachNow (Came end (OwingAfter laid.old owed.now) (λ front. OpenAfter front owed.now) (B.meaning berth.old)) (B.meaning berth.new))
@@ -36,6 +37,7 @@ fn lay_once<B: Berth>(end: u64, owed: &[u8], laid: &mut bool, berth: &mut B) -> 
     ensures cause { HasCause (B.meaning berth.old).disk_faults (B.meaning berth.new).disk_faults result }
     ensures time { Passes (B.meaning berth.old) (B.meaning berth.new) }
     ensures reads { (B.meaning berth.new).disk_reads ≡ (B.meaning berth.old).disk_reads }
+    ensures region { IsTrue (B.meaning berth.old).tells → (B.meaning berth.new).held.region ≡ (B.meaning berth.old).held.region }
     ensures crash { IsTrue (B.meaning berth.old).tells
         → Throughout (Came end (OwingAfter laid.old owed.now) (OwingAfter laid.old owed.now) (B.meaning berth.old)) (B.meaning berth.old) (B.meaning berth.new)
         × OnOk result (EachNow (Came end (OwingAfter laid.old owed.now) (λ front. LaidAfter front owed.now) (B.meaning berth.old)) (B.meaning berth.new)) }
@@ -55,6 +57,7 @@ fn lay<B: Berth>(end: u64, owed: &[u8], berth: &mut B) -> Result<(), Failed>
     ensures cause { HasCause (B.meaning berth.old).disk_faults (B.meaning berth.new).disk_faults result }
     ensures time { Passes (B.meaning berth.old) (B.meaning berth.new) }
     ensures reads { (B.meaning berth.new).disk_reads ≡ (B.meaning berth.old).disk_reads }
+    ensures region { IsTrue (B.meaning berth.old).tells → (B.meaning berth.new).held.region ≡ (B.meaning berth.old).held.region }
     ensures crash { IsTrue (B.meaning berth.old).tells
         → Throughout (Came end ClosedAfter ClosedAfter (B.meaning berth.old)) (B.meaning berth.old) (B.meaning berth.new)
         × OnOk result (EachNow (Came end ClosedAfter (λ front. LaidAfter front owed.now) (B.meaning berth.old)) (B.meaning berth.new)) }
@@ -68,6 +71,7 @@ fn open_gate<B: Berth>(end: u64, berth: &mut B) -> Result<(), Failed>
     ensures cause { HasCause (B.meaning berth.old).disk_faults (B.meaning berth.new).disk_faults result }
     ensures time { Passes (B.meaning berth.old) (B.meaning berth.new) }
     ensures reads { (B.meaning berth.new).disk_reads ≡ (B.meaning berth.old).disk_reads }
+    ensures region { IsTrue (B.meaning berth.old).tells → (B.meaning berth.new).held.region ≡ (B.meaning berth.old).held.region }
     ensures crash { (owed : List ℕ) → IsTrue (B.meaning berth.old).tells
         → Throughout (Came end (λ front. LaidAfter front owed) (λ front. LaidAfter front owed) (B.meaning berth.old)) (B.meaning berth.old) (B.meaning berth.new)
         × OnOk result (EachNow (Came end (λ front. LaidAfter front owed) (λ front. OpenAfter front owed) (B.meaning berth.old)) (B.meaning berth.new)) }

@@ -22,6 +22,7 @@ impl LogScan {
         ensures start { IfOk result (λ scan. scan.at ≡ 0) }
         ensures len { IsTrue (B.meaning berth.old).tells → IfOk result (λ scan. scan.len ≡ length (B.meaning berth.new).held.disk) }
         ensures disk { IsTrue (B.meaning berth.old).tells → OnOk result ((B.meaning berth.new).held.disk ≡ begun (B.meaning berth.old).held.disk) }
+        ensures held { IsTrue (B.meaning berth.old).tells → Begins (length (B.meaning berth.old).held.disk) (B.meaning berth.old).held.disk (B.meaning berth.new).held.disk }
         ensures region { IsTrue (B.meaning berth.old).tells → (B.meaning berth.new).held.region ≡ (B.meaning berth.old).held.region }
         ensures durable { IsTrue (B.meaning berth.old).tells → OnOk result (EachNow (λ p. p.disk ≡ (B.meaning berth.new).held.disk) (B.meaning berth.new)) }
         ensures moments { IsTrue (B.meaning berth.old).tells

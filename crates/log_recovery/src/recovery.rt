@@ -32,6 +32,7 @@ pub fn recover<B: Berth>(
     ensures sound { IsTrue (B.meaning berth.old).tells → IsSound (B.meaning berth.old).held.disk → result ≢ Err fault.DiskDamaged }
     // What is left of the berth, and what a crash leaves of it at each moment; after Ok a crash leaves the disk that was read.
     ensures disk { IsTrue (B.meaning berth.old).tells → OnOk result ((B.meaning berth.new).held.disk ≡ begun (B.meaning berth.old).held.disk) }
+    ensures held { IsTrue (B.meaning berth.old).tells → Begins (length (B.meaning berth.old).held.disk) (B.meaning berth.old).held.disk (B.meaning berth.new).held.disk }
     ensures region { IsTrue (B.meaning berth.old).tells → (B.meaning berth.new).held.region ≡ (B.meaning berth.old).held.region }
     ensures durable { IsTrue (B.meaning berth.old).tells → OnOk result (EachNow (λ p. p.disk ≡ (B.meaning berth.new).held.disk) (B.meaning berth.new)) }
     ensures moments { IsTrue (B.meaning berth.old).tells

@@ -1,5 +1,6 @@
 use Rattle.std.proofs.Common.{◌≡◌, ◌∙◌, List, ℕ, length, IsTrue, sym, subst}
 use Rattle.std.proofs.lemmas.Result.{err_from_is_err_and}
+use Rattle.berth_face.specs.Berth.{Pair}
 use Rattle.disk_backup.specs.Scanning.{StepsFrom, Begins}
 use Rattle.disk_backup.proofs.Staying.{through_stay}
 use Rattle.log_recovery.specs.declared.fault.RecoveryFault.TheVariants as fault
@@ -34,3 +35,19 @@ returns-clause-moments g c =
     let mid = g.B.Berth.meaning c.begin.new.berth in
     let told_mid : IsTrue mid.tells = subst IsTrue (sym c.begin.ensures.time.tells) told in
     through_stay old mid (g.B.Berth.meaning c.read_on.new.berth) (StepsFrom (Begins (length old.held.disk)) old) (c.begin.ensures.moments told) c.read_on.ensures.time (c.read_on.ensures.stays told_mid)
+
+pub returns-in_err-log-clause-held : goal.returns-in_err-log-clause-held
+returns-in_err-log-clause-held g c =
+    λ told.
+    let old = g.B.Berth.meaning c.args.berth.now in
+    let mid = g.B.Berth.meaning c.begin.new.berth in
+    let told_mid : IsTrue mid.tells = subst IsTrue (sym c.begin.ensures.time.tells) told in
+    subst (λ (p : Pair). Begins (length old.held.disk) old.held.disk p.disk) (sym (c.read_on.ensures.stays told_mid).held) (c.begin.ensures.held told)
+
+pub returns-clause-held : goal.returns-clause-held
+returns-clause-held g c =
+    λ told.
+    let old = g.B.Berth.meaning c.args.berth.now in
+    let mid = g.B.Berth.meaning c.begin.new.berth in
+    let told_mid : IsTrue mid.tells = subst IsTrue (sym c.begin.ensures.time.tells) told in
+    subst (λ (p : Pair). Begins (length old.held.disk) old.held.disk p.disk) (sym (c.read_on.ensures.stays told_mid).held) (c.begin.ensures.held told)
