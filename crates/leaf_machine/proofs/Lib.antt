@@ -1,6 +1,9 @@
-pub mod Heads
-pub mod Noting
-pub mod Adopting
-pub mod Leaves
-pub mod Finding
-pub mod BareRows
+mod Places
+mod Owing
+mod Adding
+mod Going
+mod Noting
+mod Flushing
+mod Treating
+mod Handing
+mod Opening

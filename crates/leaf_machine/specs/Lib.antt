@@ -1,6 +1,8 @@
+pub mod Shutting
 pub mod Notes
 pub mod Tables
-pub mod Adopting
-pub mod Starts
-pub mod Finds
-pub mod Drains
+pub mod Flushes
+pub mod Bringing
+pub mod Prepares
+pub mod Copies
+pub mod Steps

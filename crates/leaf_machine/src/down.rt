@@ -1,6 +1,6 @@
 // A leaf at rest.
 ghost use Rattle.std.specs.Prelude.{◌≡◌, Ok};
-ghost use Rattle.leaf_machine.specs.Tables.{AreNames};
+ghost use Rattle.region_layout.specs.Names.{AreNames};
 
 use berth_face::Berth;
 use leaf_model::Names;
@@ -16,7 +16,7 @@ pub struct Down<B: Berth> {
 
 impl<B: Berth> Model for Down<B> {
     ghost use Rattle.std.specs.Prelude.{List, ℕ};
-    ghost use Rattle.leaf_machine.specs.Tables.{AreNames};
+    ghost use Rattle.region_layout.specs.Names.{AreNames};
 
     ghost Value = { List (List ℕ) × B };
 

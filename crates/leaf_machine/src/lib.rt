@@ -1,26 +1,19 @@
-//! A leaf that serves its tables or rests, and hands them over through its region.
+//! A leaf: at rest, serving its tables, shutting them, or copying them into its region.
 #![tactic(auto)]
 
-mod adds;
-mod adopt;
+mod copying;
 mod down;
-mod drain;
-mod drain_fault;
-mod find;
-mod found;
 mod notes;
-mod pour;
-mod ready;
+mod preparing;
+mod served;
 mod start;
-mod table;
 #[cfg(test)]
 mod tests;
 mod up;
-mod ways;
 
-pub use adds::{AddFault, Added};
+pub use copying::{Copied, Copying, RegionFault};
 pub use down::Down;
-pub use drain_fault::DrainFault;
+pub use leaf_opening::{StartFault, Way, WhyDisk};
 pub use notes::{Note, Notes, What};
-pub use up::Up;
-pub use ways::{StartFault, Way, WhyDisk};
+pub use preparing::{PrepareFault, Prepared, Preparing};
+pub use up::{FlushReply, Up};

@@ -2,13 +2,16 @@
 ghost use Rattle.std.specs.Prelude.{◌≡◌, ◌<◌, ◌≤◌, ◌+◌, ◌++◌, ◌∷◌, [], length, slice_get, Some};
 ghost use Rattle.leaf_machine.specs.Notes.{note, opened_notes, closed_notes, handed_notes};
 
-use region_layout::TableImage;
+use leaf_model::Text;
 use std::marker::Model;
+use table_state::TableState;
 
-/// An entry: the table was opened or closed with so many writes, or it was handed over.
+/// An entry: the table was opened with so many writes; so many were taken, or were flushed; it was closed after so many; or it was handed over.
 #[derive(Clone, Copy, Debug, PartialEq, Eq)]
 pub enum What {
     Opened(u64),
+    Took(u64),
+    Flushed(u64),
     Closed(u64),
     Handed,
 }
@@ -89,31 +92,32 @@ impl Notes {
 }
 
 /// Notes each table as opened.
-pub(crate) fn note_opened(notes: &mut Notes, tables: &[TableImage])
+pub(crate) fn note_opened(notes: &mut Notes, tables: &[TableState])
     requires { length notes.old + length tables.now ≤ 32 }
     ensures { notes.new ≡ notes.old ++ opened_notes 0 tables.now }
 {
     for (place, table) in tables.iter().enumerate() {
-        notes.push(place as u32, What::Opened(table.writes));
+        notes.push(place as u32, What::Opened(table.writes()));
     }
 }
 
-/// Notes each table as closed.
-pub(crate) fn note_closed(notes: &mut Notes, tables: &[TableImage])
-    requires { length notes.old + length tables.now ≤ 32 }
-    ensures { notes.new ≡ notes.old ++ closed_notes 0 tables.now }
+/// Notes each table as closed, of which the first has this place.
+pub(crate) fn note_closed(notes: &mut Notes, first: u32, tables: &[TableState])
+    requires few { length notes.old + length tables.now ≤ 32 }
+    requires place { first ≤ 32 }
+    ensures { notes.new ≡ notes.old ++ closed_notes first tables.now }
 {
     for (place, table) in tables.iter().enumerate() {
-        notes.push(place as u32, What::Closed(table.writes));
+        notes.push(first + place as u32, What::Closed(table.writes()));
     }
 }
 
-/// Notes each table as handed over.
-pub(crate) fn note_handed(notes: &mut Notes, tables: &[TableImage])
-    requires { length notes.old + length tables.now ≤ 32 }
-    ensures { notes.new ≡ notes.old ++ handed_notes 0 tables.now }
+/// Notes each table of these names as handed over.
+pub(crate) fn note_handed(notes: &mut Notes, names: &[Text])
+    requires { length notes.old + length names.now ≤ 32 }
+    ensures { notes.new ≡ notes.old ++ handed_notes 0 names.now }
 {
-    for (place, _) in tables.iter().enumerate() {
+    for (place, _) in names.iter().enumerate() {
         notes.push(place as u32, What::Handed);
     }
 }

@@ -3,20 +3,22 @@ use Rattle.std.proofs.Common.{◌≡◌, ℕ, zero, suc, ◌+◌, ◌*◌, ◌<�
 use Rattle.std.specs.Prelude.{IsTrue, slice_index_or}
 use Rattle.std.specs.List.{AllByRecursion, remove}
 use Rattle.berth_face.specs.Berth.{Meaning}
-use Rattle.leaf_history.specs.History.{TableState}
+use Rattle.leaf_model.specs.declared.writes.Write.{Write}
 use Rattle.region_layout.specs.Region.{AreDistinct}
-use Rattle.leaf_machine.specs.Tables.{AreNames, IsName}
+use Rattle.region_layout.specs.Names.{AreNames, IsName}
 use Rattle.script_text.specs.declared.command.Command.{Command}
 use Rattle.script_text.specs.declared.command.Command.TheVariants as command
 use Rattle.script_text.specs.Fits.{AreTables, IsTableName, IsCommand, AreCommands}
 use Rattle.script_text.specs.Fits as fits
 use Rattle.printed_lines.specs.Lines.{lines_text}
 use Rattle.transcript.specs.Life.{Down}
+use Rattle.transcript.specs.Laws.{IsToldRun}
 use Rattle.transcript.specs.Steps.{MayPlay}
-use Rattle.transcript.specs.Transcript.{Transcript, fleet_of, Scene}
+use Rattle.transcript.specs.Transcript.{fleet_of}
 use Rattle.transcript.specs.Session.{one_leaf, scene_of}
-use Rattle.transcript.proofs.Telling.{All-weaken}
-use Rattle.transcript.proofs.Running.{ended}
+use Rattle.transcript.proofs.Lists.{All-weaken}
+use Rattle.leaf_opening.proofs.Resting.{backed_rests}
+use Rattle.transcript.proofs.Ended.{ended}
 use Rattle.play.specs.Played.{IsTold, Counted, OverFirst, IsWritten, leaf_count, names_in}
 use Rattle.play.specs.Runs.{IsRun}
 use Rattle.play.proofs.Plays.{appends_nothing}
@@ -40,7 +42,9 @@ names_are [] c some = absurd (omega (arith, some))
 names_are (command.Fleet m p tables ∷ more) c some = tables_are_names tables c.2
 names_are (command.Add leaf table rows ∷ more) c some = absurd c
 names_are (command.Query q ∷ more) c some = absurd c
+names_are (command.Flush leaf table ∷ more) c some = absurd c
 names_are (command.Drain leaf ∷ more) c some = absurd c
+names_are (command.Kill leaf ∷ more) c some = absurd c
 names_are (command.Start leaf ∷ more) c some = absurd c
 
 -- ---- commands
@@ -49,7 +53,9 @@ may_later : (names : List (List ℕ)) (c : Command) → IsCommand names c → Ma
 may_later names (command.Fleet m p ts) h = absurd h
 may_later names (command.Add leaf table rows) h = h
 may_later names (command.Query q) h = h
+may_later names (command.Flush leaf table) h = h
 may_later names (command.Drain leaf) h = h
+may_later names (command.Kill leaf) h = h
 may_later names (command.Start leaf) h = h
 
 pub all_may_play : (commands : List Command) → AreCommands commands → AllByRecursion (MayPlay (names_in commands)) commands
@@ -57,30 +63,38 @@ all_may_play [] c = tt
 all_may_play (command.Fleet m p tables ∷ more) c = (tt, All-weaken (IsCommand tables) (MayPlay tables) (may_later tables) more c.3)
 all_may_play (command.Add leaf table rows ∷ more) c = absurd c
 all_may_play (command.Query q ∷ more) c = absurd c
+all_may_play (command.Flush leaf table ∷ more) c = absurd c
 all_may_play (command.Drain leaf ∷ more) c = absurd c
+all_may_play (command.Kill leaf ∷ more) c = absurd c
 all_may_play (command.Start leaf ∷ more) c = absurd c
 
 -- ---- no command
 
-nothing_told : (m : Meaning) → IsTold m [] []
-nothing_told m told way bases is bs = (
-  record {
+nothing_told : (m : Meaning) → IsTold m m [] []
+nothing_told m told way first rests way_is = record {
+  transcript = record {
     played = [];
-    histories = λ leaf table. record { claimed = []; rest = [] };
+    histories = λ leaf table. [];
     scene_after = scene_of (Down (Some way));
     commands_are = refl;
     text = refl;
     prints = refl;
     one_history = λ leaf table l t. absurd (omega (arith, l));
-    claimed = λ leaf table l t. absurd (omega (arith, l));
     answers = tt;
-  },
-  refl,
-)
+    opened = λ leaf table l t. absurd (omega (arith, l));
+  };
+  lines_are = refl;
+  leaves = record {
+    writes = first;
+    rests = rests;
+    each = λ table t. absurd (omega (arith, t));
+    others = λ name other. refl;
+  };
+}
 
 nothing_over : {B : Type 0} (meaning : B → Meaning) (berths : List B) → OverFirst meaning [] [] berths berths
 nothing_over meaning [] = tt
-nothing_over meaning (b ∷ bs) = (nothing_told (meaning b), omega arith)
+nothing_over meaning (b ∷ bs) = (nothing_told (meaning b), omega arith, omega arith)
 
 pub nothing_written : {B : Type 0} (meaning : B → Meaning) (commands : List Command) (was : Option (List ℕ)) (berths : List B) → commands ≡ [] → IsWritten meaning commands was was berths berths
 nothing_written meaning commands was berths e = rw e (record {
@@ -107,7 +121,9 @@ some_commands (command.Fleet m p tables ∷ more) c some = (one_fleet m p tables
     nil e = cc
 some_commands (command.Add leaf table rows ∷ more) c some = absurd c
 some_commands (command.Query q ∷ more) c some = absurd c
+some_commands (command.Flush leaf table ∷ more) c some = absurd c
 some_commands (command.Drain leaf ∷ more) c some = absurd c
+some_commands (command.Kill leaf ∷ more) c some = absurd c
 some_commands (command.Start leaf ∷ more) c some = absurd c
 
 run_written : {B : Type 0} (meaning : B → Meaning) (commands : List Command) (was now : Option (List ℕ)) (old new : B) (rest : List B)
@@ -119,9 +135,11 @@ run_written meaning commands was now old new rest are some run =
       lines = run.2.lines;
       written = run.2.text;
       transcript = (
-        λ told way bases is bs.
-            rw fleet.0 (ended (names_in commands) (Down (Some way)) bases commands run.2.lines run.0 (meaning new).held.region run.1 (run.2.session told way bases is bs)),
-        run.2.counted,
+        λ told way first rests way_is.
+            subst (λ f. IsToldRun f way first commands run.2.lines (meaning new)) (sym fleet.0)
+            (ended (names_in commands) way first commands run.2.lines run.0 (meaning new) run.1 (backed_rests (meaning new)) (run.2.session told way first rests way_is)),
+        run.2.region_counted,
+        run.2.disk_counted,
       );
       empty = λ none. absurd (fleet.1 none);
     }

@@ -17,7 +17,7 @@ use Rattle.script_text.specs.Lines.{lines_of, is_skipped}
 use Rattle.script_text.specs.Words.{words_of, first_word, behind_word, trimmed, place_of}
 use Rattle.query_text.specs.Reading.{query_of}
 use Rattle.query_text.specs.declared.fault.QueryFault.{QueryFault}
-use Rattle.script_text.specs.Commands.{Fault, AddForm, or_words, fleet_of, add_words, one_row, with_first, rows_from, add_rows, add_at, add_of, query_at, one_query, query_command, one_number, leaf_of, drain_of, start_of, first_command, later_command, command_of, verb_of, leaves}
+use Rattle.script_text.specs.Commands.{Fault, AddForm, or_words, fleet_of, add_words, one_row, with_first, rows_from, add_rows, add_at, add_of, query_at, one_query, query_command, one_number, leaf_of, flush_at, flush_of, flush_words, kill_of, FlushForm, drain_of, start_of, first_command, later_command, command_of, verb_of, leaves}
 use Rattle.script_text.specs.Script.{rows_taken, fleet_after, commands_from, number_in, next_line, script_with, script_of}
 use Rattle.script_text.specs.declared.fault.ScriptFault.{ScriptFault}
 use Rattle.script_text.specs.declared.fault.ScriptFault.TheVariants.{At, NoMemory}
@@ -96,6 +96,19 @@ own_drain : (r : Result ℕ Fault) → Own r → Own (drain_of r)
 own_drain (Ok leaf) h = tt
 own_drain (Err found) h = h
 
+own_flush_at : (n leaf : ℕ) (place : Option ℕ) → Own (flush_at n leaf place)
+own_flush_at n leaf None = tt
+own_flush_at n leaf (Some table) = tt
+
+own_flush : (n : ℕ) (tables : List (List ℕ)) (flush : Option FlushForm) → Own (flush_of n tables flush)
+own_flush n tables None = tt
+own_flush n tables (Some flush) =
+    own_if (nat_lt flush.leaf leaves) (flush_at n flush.leaf (place_of tables flush.table)) (Err (n, why.Leaf)) (own_flush_at n flush.leaf (place_of tables flush.table)) tt
+
+own_kill : (r : Result ℕ Fault) → Own r → Own (kill_of r)
+own_kill (Ok leaf) h = tt
+own_kill (Err found) h = h
+
 own_start : (r : Result ℕ Fault) → Own r → Own (start_of r)
 own_start (Ok leaf) h = tt
 own_start (Err found) h = h
@@ -105,7 +118,9 @@ own_first_command n line None = tt
 own_first_command n line (Some verb.Fleet) = own_words n (fleet_of (words_of (behind_word line)))
 own_first_command n line (Some verb.Add) = tt
 own_first_command n line (Some verb.Query) = tt
+own_first_command n line (Some verb.Flush) = tt
 own_first_command n line (Some verb.Drain) = tt
+own_first_command n line (Some verb.Kill) = tt
 own_first_command n line (Some verb.Start) = tt
 
 own_later : (n : ℕ) (tables : List (List ℕ)) (line : List ℕ) (more : List (List ℕ)) (v : Option Verb) → Own (later_command n tables line more v)
@@ -113,6 +128,8 @@ own_later n tables line more None = tt
 own_later n tables line more (Some verb.Fleet) = tt
 own_later n tables line more (Some verb.Add) = own_add n tables (add_words (words_of (behind_word line))) more
 own_later n tables line more (Some verb.Query) = own_query n tables (query_of (trimmed (behind_word line)))
+own_later n tables line more (Some verb.Flush) = own_flush n tables (flush_words (words_of (behind_word line)))
+own_later n tables line more (Some verb.Kill) = own_kill (leaf_of n (one_number (words_of (behind_word line)))) (own_leaf n (one_number (words_of (behind_word line))))
 own_later n tables line more (Some verb.Drain) = own_drain (leaf_of n (one_number (words_of (behind_word line)))) (own_leaf n (one_number (words_of (behind_word line))))
 own_later n tables line more (Some verb.Start) = own_start (leaf_of n (one_number (words_of (behind_word line)))) (own_leaf n (one_number (words_of (behind_word line))))
 

@@ -1,10 +1,10 @@
 // A script's play over the berths.
-ghost use Rattle.std.specs.Prelude.{◌≡◌, ◌<◌, ◌≤◌, ◌∷◌, [], vec_len, vec_capacity, length, replicate, IsTrue, OnOk, IfOk, IfSome, None, IsErrOf, IsOk};
+ghost use Rattle.std.specs.Prelude.{◌≡◌, ◌<◌, ◌≤◌, ◌∷◌, [], vec_len, vec_capacity, length, replicate, OnOk, IfOk, IfSome, None, IsErrOf, IsOk};
 ghost use Rattle.std.specs.List.{AllByRecursion};
 ghost use Rattle.std.specs.Io.KnownBytes.{Appends};
 ghost use Rattle.berth_face.specs.Berth.{Passes};
 ghost use Rattle.berth_face.specs.Causes.{Rose};
-ghost use Rattle.leaf_machine.specs.Tables.{AreNames};
+ghost use Rattle.region_layout.specs.Names.{AreNames};
 ghost use Rattle.script_text.specs.Fits.{AreCommands};
 ghost use Rattle.printed_lines.specs.Lines.{lines_text, IsOf};
 ghost use Rattle.transcript.specs.Steps.{IsDown, MayPlay};
@@ -164,8 +164,6 @@ fn play_next<K: Sink, B: Berth>(
     ensures names { result.0.names ≡ names.now }
     ensures played { OnOk result.1 (Advances names.now (B.meaning player.berth) (B.meaning result.0.berth) (K.written sink.old) (K.written sink.new) command player.leaf player.numbers result.0.leaf result.0.numbers) }
     ensures time { Passes (B.meaning player.berth) (B.meaning result.0.berth) }
-    ensures disk { IsTrue (B.meaning player.berth).tells → (B.meaning result.0.berth).held.disk ≡ (B.meaning player.berth).held.disk }
-    ensures reads { (B.meaning result.0.berth).disk_reads ≡ (B.meaning player.berth).disk_reads }
     ensures failed { IsErrOf result.1 WriteError.Failed → Rose (K.faults sink.old) (K.faults sink.new) }
     ensures later { K.faults sink.old ≤ K.faults sink.new }
 {

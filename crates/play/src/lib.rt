@@ -4,6 +4,8 @@
 mod berths;
 mod count;
 mod faults;
+#[cfg(test)]
+mod leaf_tests;
 mod program;
 #[cfg(test)]
 mod query_tests;

@@ -52,7 +52,7 @@ pub fn run<S: Source, K: Sink, B: Berth, G: Gate>(
         IsCutShort range (S.left source.old) (S.left source.new) (K.written sink.old) (K.written sink.new)) }
     ensures count_unplayed { IfCount (request_of (map string_bytes words.now)) (λ range. berths.new ≡ berths.old) }
 
-    // The berths come back in their places, and no disk is read or changed so far.
+    // The berths come back in their places, and only the first may have changed.
     ensures berths { LeavesBerths B.meaning berths.old.items berths.new.items }
 {
     match request_of(words) {

@@ -36,7 +36,7 @@ fn queries_are_answered_in_lines(rt: HostRuntime) -> Result<(), test::Fail> {
         // Texts go through the region; a leaf that is down is named by no answer.
         (
             "fleet 1 1 t\nadd 0 t 2\n{\"time\":1,\"host\":\"\"}\n{\"time\":2,\"host\":\"é\",\"n\":null}\ndrain 0\nquery SELECT host, MAX(n) FROM t WHERE time >= 0 AND time <= 9 GROUP BY host\nstart 0\nquery SELECT host, MAX(n) FROM t WHERE time >= 0 AND time <= 9 GROUP BY host\n",
-            "0 t #1 opened 0\nstart 0 disk nohead\n0 t #2 added 2 late 0\n0 t #3 closed 1\n0 t #4 handed\ndrain 0 done\n0 t #5 refused shut\nanswer named 0 of 1 lines 0\n0 t #6 opened 1\nstart 0 memory\n0 t #7 asked\nanswer named 1 of 1 lines 2\n\"\" -\n\"é\" -\n",
+            "0 t #1 opened 0\nstart 0 disk nohead\n0 t #2 added 2 late 0\n0 t #3 closed 1\n0 t #4 flushed 1\n0 t #5 handed\ndrain 0 done\n0 t #6 refused shut\nanswer named 0 of 1 lines 0\n0 t #7 opened 1\nstart 0 memory\n0 t #8 asked\nanswer named 1 of 1 lines 2\n\"\" -\n\"é\" -\n",
         ),
     ] {
         let out = printed(alloc, script)?;

@@ -13,7 +13,7 @@ const DRAINED: &str = "fleet 1 1 t\nadd 0 t 1\n{\"time\":5}\ndrain 0\n";
 /// The region that a drain of one row with the time 5 in the table t leaves.
 const IMAGE: [u8; 61] = [
     1, 0x53, 0x43, 0x42, 1, 0, 0, 0, 16, 0, 0, 0, 0, 0, 0, 0, // head
-    0, 0, 0, 0, 0, 0, 0, 0, // end of the log
+    35, 0, 0, 0, 0, 0, 0, 0, // end of the log
     1, // tables
     1, 0x74, // name
     0, 0, 0, 0, 0, 0, 0, 0, // horizon
@@ -78,15 +78,15 @@ fn prints_each_command(rt: HostRuntime) -> Result<(), test::Fail> {
         ),
         (
             "fleet 1 1 errors\nadd 0 errors 1\n{\"time\":5}\ndrain 0\nstart 0\nquery SELECT COUNT(*) FROM errors WHERE time >= 0 AND time <= 9\n",
-            "0 errors #1 opened 0\nstart 0 disk nohead\n0 errors #2 added 1 late 0\n0 errors #3 closed 1\n0 errors #4 handed\ndrain 0 done\n0 errors #5 opened 1\nstart 0 memory\n0 errors #6 asked\nanswer named 1 of 1 lines 1\n1\n",
+            "0 errors #1 opened 0\nstart 0 disk nohead\n0 errors #2 added 1 late 0\n0 errors #3 closed 1\n0 errors #4 flushed 1\n0 errors #5 handed\ndrain 0 done\n0 errors #6 opened 1\nstart 0 memory\n0 errors #7 asked\nanswer named 1 of 1 lines 1\n1\n",
         ),
         (
             "fleet 1 1 t\nadd 0 t 3\n{\"time\":1,\"host\":\"a\"}\n{\"time\":2,\"host\":\"\"}\n{\"time\":3,\"host\":\"é\",\"code\":-1}\ndrain 0\nstart 0\nquery SELECT COUNT(*) FROM t WHERE time >= 2 AND time <= 9\n",
-            "0 t #1 opened 0\nstart 0 disk nohead\n0 t #2 added 3 late 0\n0 t #3 closed 1\n0 t #4 handed\ndrain 0 done\n0 t #5 opened 1\nstart 0 memory\n0 t #6 asked\nanswer named 1 of 1 lines 1\n2\n",
+            "0 t #1 opened 0\nstart 0 disk nohead\n0 t #2 added 3 late 0\n0 t #3 closed 1\n0 t #4 flushed 1\n0 t #5 handed\ndrain 0 done\n0 t #6 opened 1\nstart 0 memory\n0 t #7 asked\nanswer named 1 of 1 lines 1\n2\n",
         ),
         (
             "# two tables\nfleet 1 1 a b\nadd 0 b 1\n{\"time\":5}\ndrain 0\nadd 0 a 1\n{\"time\":5}\ndrain 0\nstart 0\nstart 0\nquery SELECT COUNT(*) FROM a WHERE time >= 0 AND time <= 9",
-            "0 a #1 opened 0\n0 b #1 opened 0\nstart 0 disk nohead\n0 b #2 added 1 late 0\n0 a #2 closed 0\n0 b #3 closed 1\n0 a #3 handed\n0 b #4 handed\ndrain 0 done\n0 a #4 refused shut\ndrain 0 not up\n0 a #5 opened 0\n0 b #5 opened 1\nstart 0 memory\nstart 0 not down\n0 a #6 asked\nanswer named 1 of 1 lines 0\n",
+            "0 a #1 opened 0\n0 b #1 opened 0\nstart 0 disk nohead\n0 b #2 added 1 late 0\n0 a #2 closed 0\n0 a #3 flushed 0\n0 b #3 closed 1\n0 b #4 flushed 1\n0 a #4 handed\n0 b #5 handed\ndrain 0 done\n0 a #5 refused shut\ndrain 0 not up\n0 a #6 opened 0\n0 b #6 opened 1\nstart 0 memory\nstart 0 not down\n0 a #7 asked\nanswer named 1 of 1 lines 0\n",
         ),
     ] {
         let mut berths = berths_of(alloc, b"")?;

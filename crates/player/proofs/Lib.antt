@@ -1,4 +1,9 @@
 pub mod Places
 pub mod Noted
+pub mod Placed
 pub mod Told
+pub mod Treated
+pub mod Drained
+pub mod Moved
+pub mod Replied
 pub mod Tested

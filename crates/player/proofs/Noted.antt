@@ -1,97 +1,11 @@
--- The lines of notes, table by table.
-use Rattle.std.proofs.Common.{◌≡◌, ℕ, zero, suc, ◌+◌, ◌<◌, ◌≤◌, List, [], ◌∷◌, ◌++◌, length, map, drop, slice_get, slice_set, Some, refl, sym, ap, ap₂, subst, ◌∙◌, append_assoc, arith, length-append}
-use Rattle.std.specs.Prelude.{slice_index}
-use Rattle.region_layout.specs.declared.image.TableImage.{TableImage}
+-- The lines of notes.
+use Rattle.std.proofs.Common.{◌≡◌, ℕ, zero, suc, ◌<◌, List, [], ◌∷◌, ◌++◌, length, drop, slice_get, Some, Result, Ok, Err, Vec, Global, refl, sym, ap, ap₂, subst, ◌∙◌, append_assoc, arith}
+use Rattle.std.specs.Prelude.{IfOk}
 use Rattle.leaf_machine.specs.declared.notes.Note.{Note}
-use Rattle.leaf_machine.specs.declared.notes.What.{What}
-use Rattle.leaf_machine.specs.declared.notes.What.TheVariants as what
-use Rattle.leaf_machine.specs.Notes.{note, opened_notes, closed_notes, handed_notes}
-use Rattle.leaf_machine.specs.Tables.{names_of}
 use Rattle.printed_lines.specs.declared.line.Said.{Said}
 use Rattle.printed_lines.specs.declared.line.Line.{Line}
-use Rattle.printed_lines.specs.declared.line.Line.TheVariants as line
-use Rattle.transcript.specs.Life.{table_lines}
-use Rattle.transcript.specs.Steps.{next_numbers}
-use Rattle.player.specs.Moves.{said_of_note, raised, next_line, note_lines, numbers_after, ArePlaces}
-
--- the notes of tables, by what is noted of each
-abbrev pub notes_by : (TableImage → What) → ℕ → List TableImage → List Note
-notes_by f place [] = []
-notes_by f place (t ∷ ts) = note place (f t) ∷ notes_by f (suc place) ts
-
-abbrev pub opening : TableImage → What
-opening t = what.Opened t.writes
-
-abbrev pub closing : TableImage → What
-closing t = what.Closed t.writes
-
-abbrev pub handing : TableImage → What
-handing t = what.Handed
-
-abbrev pub saids : (TableImage → What) → List TableImage → List Said
-saids f ts = map (λ (t : TableImage). said_of_note (f t)) ts
-
-pub opened_by : (place : ℕ) (ts : List TableImage) → opened_notes place ts ≡ notes_by opening place ts
-opened_by place [] = refl
-opened_by place (t ∷ ts) = ap (λ (l : List Note). note place (what.Opened t.writes) ∷ l) (opened_by (suc place) ts)
-
-pub closed_by : (place : ℕ) (ts : List TableImage) → closed_notes place ts ≡ notes_by closing place ts
-closed_by place [] = refl
-closed_by place (t ∷ ts) = ap (λ (l : List Note). note place (what.Closed t.writes) ∷ l) (closed_by (suc place) ts)
-
-pub handed_by : (place : ℕ) (ts : List TableImage) → handed_notes place ts ≡ notes_by handing place ts
-handed_by place [] = refl
-handed_by place (t ∷ ts) = ap (λ (l : List Note). note place what.Handed ∷ l) (handed_by (suc place) ts)
-
--- ---- the number in a place behind a front
-
-index_at : (front : List ℕ) (r : ℕ) (rest : List ℕ) → slice_index (front ++ r ∷ rest) (length front) ≡ r
-index_at [] r rest = refl
-index_at (x ∷ xs) r rest = index_at xs r rest
-
-set_at : (front : List ℕ) (r x : ℕ) (rest : List ℕ) → slice_set (front ++ r ∷ rest) (length front) x ≡ (front ++ x ∷ []) ++ rest
-set_at [] r x rest = refl
-set_at (y ∷ ys) r x rest = ap (λ (l : List ℕ). y ∷ l) (set_at ys r x rest)
-
-number_at : (place : ℕ) (front : List ℕ) (r : ℕ) (rest numbers : List ℕ) → place ≡ length front → numbers ≡ front ++ r ∷ rest → slice_index numbers place ≡ r
-number_at place front r rest numbers p n = ap₂ (λ (l : List ℕ) (i : ℕ). slice_index l i) n p ∙ index_at front r rest
-
-raised_at : (place : ℕ) (front : List ℕ) (r : ℕ) (rest numbers : List ℕ) → place ≡ length front → numbers ≡ front ++ r ∷ rest → raised numbers place ≡ (front ++ suc r ∷ []) ++ rest
-raised_at place front r rest numbers p n =
-    ap (λ (x : ℕ). slice_set numbers place (suc x)) (number_at place front r rest numbers p n)
-    ∙ ap₂ (λ (l : List ℕ) (i : ℕ). slice_set l i (suc r)) n p ∙ set_at front r (suc r) rest
-
--- ---- the lines of the tables from a place on
-
-lines_at : (f : TableImage → What) (ts : List TableImage) (place : ℕ) (front rest numbers : List ℕ) → place ≡ length front → numbers ≡ front ++ rest → length rest ≡ length ts
-    → note_lines (notes_by f place ts) numbers ≡ table_lines 0 place (next_numbers rest) (saids f ts)
-lines_at f [] place front [] numbers p n l = refl
-lines_at f [] place front (r ∷ rest) numbers p n l = absurd cc
-lines_at f (t ∷ ts) place front [] numbers p n l = absurd cc
-lines_at f (t ∷ ts) place front (r ∷ rest) numbers p n l =
-    let size : length rest ≡ length ts = omega (arith, l) in
-    let next : suc place ≡ length (front ++ suc r ∷ []) = omega (arith, p, length-append front (suc r ∷ [])) in
-    ap₂ (λ (x : ℕ) (ls : List Line). line.Entry 0 place (suc x) (said_of_note (f t)) ∷ ls) (number_at place front r rest numbers p n)
-    (lines_at f ts (suc place) (front ++ suc r ∷ []) rest (raised numbers place) next (raised_at place front r rest numbers p n) size)
-
-numbers_at : (f : TableImage → What) (ts : List TableImage) (place : ℕ) (front rest numbers : List ℕ) → place ≡ length front → numbers ≡ front ++ rest → length rest ≡ length ts
-    → numbers_after (notes_by f place ts) numbers ≡ front ++ next_numbers rest
-numbers_at f [] place front [] numbers p n l = n
-numbers_at f [] place front (r ∷ rest) numbers p n l = absurd cc
-numbers_at f (t ∷ ts) place front [] numbers p n l = absurd cc
-numbers_at f (t ∷ ts) place front (r ∷ rest) numbers p n l =
-    let size : length rest ≡ length ts = omega (arith, l) in
-    let next : suc place ≡ length (front ++ suc r ∷ []) = omega (arith, p, length-append front (suc r ∷ [])) in
-    numbers_at f ts (suc place) (front ++ suc r ∷ []) rest (raised numbers place) next (raised_at place front r rest numbers p n) size
-    ∙ append_assoc front (suc r ∷ []) (next_numbers rest)
-
-pub lines_all : (f : TableImage → What) (ts : List TableImage) (numbers : List ℕ) → length numbers ≡ length ts
-    → note_lines (notes_by f 0 ts) numbers ≡ table_lines 0 0 (next_numbers numbers) (saids f ts)
-lines_all f ts numbers l = lines_at f ts 0 [] numbers numbers refl refl l
-
-pub numbers_all : (f : TableImage → What) (ts : List TableImage) (numbers : List ℕ) → length numbers ≡ length ts
-    → numbers_after (notes_by f 0 ts) numbers ≡ next_numbers numbers
-numbers_all f ts numbers l = numbers_at f ts 0 [] numbers numbers refl refl l
+use Rattle.transcript.specs.Steps.{said_of_note, raised, next_line, note_lines, numbers_after}
+use Rattle.player.specs.Moves.{ArePlaces, AreTold, AreAdded}
 
 -- ---- notes behind notes
 
@@ -103,21 +17,30 @@ pub numbers_on : (a b : List Note) (numbers : List ℕ) → numbers_after (a ++ 
 numbers_on [] b numbers = refl
 numbers_on (n ∷ ns) b numbers = numbers_on ns b (raised numbers n.table)
 
-pub places_by : (f : TableImage → What) (place : ℕ) (ts : List TableImage) (count : ℕ) → place + length ts ≤ count → ArePlaces count (notes_by f place ts)
-places_by f place [] count le = tt
-places_by f place (t ∷ ts) count le = (omega (arith, le), places_by f (suc place) ts count (omega (arith, le)))
-
 pub places_on : (count : ℕ) (a b : List Note) → ArePlaces count a → ArePlaces count b → ArePlaces count (a ++ b)
 places_on count [] b pa pb = pb
 places_on count (n ∷ ns) b pa pb = (pa.0, places_on count ns b pa.1 pb)
 
-pub names_size : (ts : List TableImage) → length (names_of ts) ≡ length ts
-names_size [] = refl
-names_size (t ∷ ts) = ap suc (names_size ts)
+-- the lines of more notes, told behind others
+pub told_on : {E : Type 0} (a b : List Note) (first : List ℕ) (before : Result (Vec Line Global) E) (numbers : List ℕ) (after : Vec Line Global) (numbers' : List ℕ)
+    → AreTold a first before numbers → AreAdded before b numbers after.items numbers'
+    → (after.items ≡ note_lines (a ++ b) first) × (numbers' ≡ numbers_after (a ++ b) first)
+told_on a b first (Ok before) numbers after numbers' told added = (
+  added.0 ∙ ap₂ (λ (ls : List Line) (ns : List ℕ). ls ++ note_lines b ns) told.0 told.1 ∙ sym (lines_on a b first),
+  added.1 ∙ ap (numbers_after b) told.1 ∙ sym (numbers_on a b first),
+)
+told_on a b first (Err e) numbers after numbers' told added = absurd added
 
-pub next_size : (numbers : List ℕ) → length (next_numbers numbers) ≡ length numbers
-next_size [] = refl
-next_size (n ∷ ns) = ap suc (next_size ns)
+pub told_more : {E : Type 0} (a b : List Note) (first : List ℕ) (before : Result (Vec Line Global) E) (numbers : List ℕ) (after : Result (Vec Line Global) E) (numbers' : List ℕ)
+    → AreTold a first before numbers → IfOk after (λ lines. AreAdded before b numbers lines.items numbers')
+    → AreTold (a ++ b) first after numbers'
+told_more a b first before numbers (Ok after) numbers' told added = told_on a b first before numbers after numbers' told added
+told_more a b first before numbers (Err e) numbers' told added = tt
+
+-- lines that stand behind none
+pub told_first : {E : Type 0} (notes : List Note) (first : List ℕ) (none : Vec Line Global) (after : Result (Vec Line Global) E) (numbers' : List ℕ)
+    → none.items ≡ [] → IfOk after (λ lines. AreAdded {E = E} (Ok none) notes first lines.items numbers') → AreTold notes first after numbers'
+told_first {E} notes first none after numbers' empty added = told_more {E = E} [] notes first (Ok none) first after numbers' (empty, refl) added
 
 -- ---- a loop over notes
 

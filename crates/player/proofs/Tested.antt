@@ -4,7 +4,7 @@ use Rattle.std.specs.Prelude.{codes, IsUtf8}
 use Rattle.std.specs.List.Sorted.{IsStrictlySortedBy}
 use Rattle.leaf_model.specs.declared.rows.Cell.{Cell}
 use Rattle.leaf_model.specs.Values.{IsTime, IsRow}
-use Rattle.leaf_machine.specs.Tables.{AreNames}
+use Rattle.region_layout.specs.Names.{AreNames}
 
 time_5 : IsTime (pos 5)
 time_5 = search rules

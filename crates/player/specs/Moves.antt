@@ -1,105 +1,152 @@
--- What a start and a drain make of a leaf, with their notes, and the lines of notes.
-use Rattle.std.specs.Prelude.{◌≡◌, ◌<◌, ℕ, suc, Bool, List, [], ◌∷◌, ◌++◌, slice_index, slice_set, IsTrue}
+-- What the leaf's methods do, with the notes that they make and the lines of those.
+use Rattle.std.specs.Prelude.{◌≡◌, ℕ, ◌+◌, ◌-◌, ◌^◌, ◌<◌, ◌≤◌, min, List, [], ◌++◌, length, Result, Ok, Err, Vec, IsTrue, ⊤}
+use Rattle.std.specs.Global.{Global}
 use Rattle.std.specs.List.{AllByRecursion}
-use Rattle.region_layout.specs.declared.image.TableImage.{TableImage}
-use Rattle.region_layout.specs.Region.{IsImage}
 use Rattle.leaf_model.specs.declared.queries.Query.{Query}
+use Rattle.leaf_model.specs.declared.groups.Group.{Group}
+use Rattle.leaf_model.specs.declared.writes.Write.{Write}
+use Rattle.answer_text.specs.Answer.{answer_lines}
+use Rattle.berth_face.specs.Berth.{Meaning}
+use Rattle.berth_face.specs.Causes.{Rose}
+use Rattle.leaf_opening.specs.Backed.{Backed, all_writes}
 use Rattle.leaf_machine.specs.declared.notes.Note.{Note}
-use Rattle.leaf_machine.specs.declared.notes.What.{What}
-use Rattle.leaf_machine.specs.declared.notes.What.TheVariants as what
-use Rattle.leaf_machine.specs.declared.ways.Way.{Way}
-use Rattle.leaf_machine.specs.declared.ways.StartFault.{StartFault}
-use Rattle.leaf_machine.specs.Notes.{opened_notes, closed_notes, handed_notes}
-use Rattle.leaf_machine.specs.Tables.{names_of}
-use Rattle.leaf_machine.specs.Starts.{IsWay}
+use Rattle.leaf_machine.specs.declared.preparing.PrepareFault.{PrepareFault}
+use Rattle.leaf_machine.specs.declared.preparing.PrepareFault.TheVariants as fault
+use Rattle.leaf_machine.specs.Shutting.{Shutting, IsShutting}
+use Rattle.leaf_machine.specs.Notes.{handed_notes}
+use Rattle.leaf_machine.specs.Prepares.{Halts, AllTreated}
+use Rattle.leaf_machine.specs.Copies.{CopyState, Copies}
+use Rattle.leaf_machine.specs.Steps.{IsCopyOf}
 use Rattle.printed_lines.specs.declared.line.Said.{Said}
 use Rattle.printed_lines.specs.declared.line.Said.TheVariants as said
 use Rattle.printed_lines.specs.declared.line.Ending.{Ending}
-use Rattle.printed_lines.specs.declared.line.Ending.TheVariants as ending
+use Rattle.printed_lines.specs.declared.line.Ending.TheVariants.{Done, NotUp, NotDown, Started, FaultRegion, FaultDisk, FaultDamaged, FaultMemory, FaultStranger}
 use Rattle.printed_lines.specs.declared.line.Line.{Line}
-use Rattle.printed_lines.specs.declared.line.Line.TheVariants as line
+use Rattle.printed_lines.specs.Lines.{IsOf}
 use Rattle.player.specs.declared.answer.Reply.{Reply}
-use Rattle.transcript.specs.Steps.{Leaf, IsDown, IsUp, AsksRows, ending_of}
+use Rattle.transcript.specs.Transcript.{region_faults_in, disk_faults_in}
+use Rattle.transcript.specs.Steps.{Leaf, AsksRows, Continues, TreatsOn, DrainMoves, note_lines, numbers_after}
 
--- what a note's line says
-abbrev pub said_of_note : What → Said
-said_of_note (what.Opened writes) = said.Opened writes
-said_of_note (what.Closed writes) = said.Closed writes
-said_of_note what.Handed = said.Handed
-
--- the table's next number is taken
-abbrev pub raised : List ℕ → ℕ → List ℕ
-raised numbers table = slice_set numbers table (suc (slice_index numbers table))
-
--- the line of a table's next entry
-abbrev pub next_line : List ℕ → ℕ → Said → Line
-next_line numbers table s = line.Entry 0 table (suc (slice_index numbers table)) s
-
--- one line for each note in order
-abbrev pub note_lines : List Note → List ℕ → List Line
-note_lines [] numbers = []
-note_lines (n ∷ ns) numbers = next_line numbers n.table (said_of_note n.what) ∷ note_lines ns (raised numbers n.table)
-
-abbrev pub numbers_after : List Note → List ℕ → List ℕ
-numbers_after [] numbers = numbers
-numbers_after (n ∷ ns) numbers = numbers_after ns (raised numbers n.table)
+-- ---- notes, and their lines
 
 -- each note is of a table among so many
 abbrev pub ArePlaces : ℕ → List Note → Type 0
 ArePlaces count notes = AllByRecursion (λ (n : Note). n.table < count) notes
 
--- a start of a leaf: each table is opened, or it is refused, or the leaf is up
-pub data Starts (names : List (List ℕ)) (tells : Bool) (region : List ℕ) (leaf : Leaf) (notes : List Note) (end : Ending) (leaf' : Leaf) : Type 0 where
-  opened : (tables : List TableImage) (way : Way)
-      → leaf ≡ IsDown
-      → names_of tables ≡ names
-      → (IsTrue tells → IsWay names region tables way)
-      → notes ≡ opened_notes 0 tables
-      → end ≡ ending.Started way
-      → leaf' ≡ IsUp tables
-      → Starts names tells region leaf notes end leaf'
-  refused : (f : StartFault)
-      → leaf ≡ IsDown
-      → notes ≡ []
-      → end ≡ ending_of f
-      → leaf' ≡ IsDown
-      → Starts names tells region leaf notes end leaf'
-  not_down : (tables : List TableImage)
-      → leaf ≡ IsUp tables
-      → notes ≡ []
-      → end ≡ ending.NotDown
-      → leaf' ≡ leaf
-      → Starts names tells region leaf notes end leaf'
+-- the lines are those of the notes, and the numbers have grown by them, unless there was no memory for a line
+abbrev pub AreTold : {E : Type 0} → List Note → List ℕ → Result (Vec Line Global) E → List ℕ → Type 0
+AreTold notes numbers (Ok lines) numbers' = (lines.items ≡ note_lines notes numbers) × (numbers' ≡ numbers_after notes numbers)
+AreTold notes numbers (Err e) numbers' = ⊤
 
--- a drain of a leaf, which leaves this region: each table is closed and handed over, or closed alone, or nothing happens
-pub data Drains (names : List (List ℕ)) (tells : Bool) (region region' : List ℕ) (leaf : Leaf) (notes : List Note) (end : Ending) (leaf' : Leaf) : Type 0 where
-  done : (tables : List TableImage)
-      → leaf ≡ IsUp tables
-      → names_of tables ≡ names
-      → (IsTrue tells → IsImage 1 region' tables 0)
-      → notes ≡ closed_notes 0 tables ++ handed_notes 0 tables
-      → end ≡ ending.Done
-      → leaf' ≡ IsDown
-      → Drains names tells region region' leaf notes end leaf'
-  failed : (tables : List TableImage)
-      → leaf ≡ IsUp tables
-      → names_of tables ≡ names
-      → notes ≡ closed_notes 0 tables
-      → end ≡ ending.FaultRegion
-      → leaf' ≡ IsDown
-      → Drains names tells region region' leaf notes end leaf'
-  starved : (tables : List TableImage)
-      → leaf ≡ IsUp tables
-      → notes ≡ []
-      → end ≡ ending.FaultMemory
-      → leaf' ≡ leaf
-      → Drains names tells region region' leaf notes end leaf'
-  not_up : leaf ≡ IsDown
-      → (IsTrue tells → region' ≡ region)
-      → notes ≡ []
-      → end ≡ ending.NotUp
-      → leaf' ≡ leaf
-      → Drains names tells region region' leaf notes end leaf'
+-- the lines of the notes stand behind those that there were, which were not refused
+abbrev pub AreAdded : {E : Type 0} → Result (Vec Line Global) E → List Note → List ℕ → List Line → List ℕ → Type 0
+AreAdded (Ok before) notes numbers lines numbers' = (lines ≡ before.items ++ note_lines notes numbers) × (numbers' ≡ numbers_after notes numbers)
+AreAdded (Err e) notes numbers lines numbers' = ⊥
+
+-- ---- what callers know of a command's lines
+
+-- a fault of the region or of the disk is told only where the count of its faults rose
+abbrev pub FaultRose : Ending → Meaning → Meaning → Type 0
+FaultRose FaultRegion m m' = Rose m.region_faults m'.region_faults
+FaultRose FaultDisk m m' = Rose m.disk_faults m'.disk_faults
+FaultRose FaultDamaged m m' = ⊤
+FaultRose FaultMemory m m' = ⊤
+FaultRose (FaultStranger name) m m' = ⊤
+FaultRose Done m m' = ⊤
+FaultRose NotUp m m' = ⊤
+FaultRose NotDown m m' = ⊤
+FaultRose (Started way) m m' = ⊤
+
+-- the lines tell of no more faults than were counted, and their tables are the leaf's
+pub record AreSound (names : List (List ℕ)) (m m' : Meaning) (lines : List Line) : Type 0 where
+  pub region_faults : min (m.region_faults + region_faults_in 0 lines) (2 ^ 64 - 1) ≤ m'.region_faults
+  pub disk_faults : min (m.disk_faults + disk_faults_in 0 lines) (2 ^ 64 - 1) ≤ m'.disk_faults
+  pub fit : AllByRecursion (IsOf names) lines
+
+-- ---- drains
+
+-- the copy has just what the leaf accepted
+abbrev pub HandsOver : Shutting → Meaning → CopyState → Meaning → Type 0
+HandsOver x m c m' = (writes : List ℕ → List Write) → Backed writes x.serving m
+    → (later : List ℕ → List Write) × Copies later c m' × ((name : List ℕ) → later name ≡ all_writes x.serving writes name)
+
+-- all tables were treated, by these notes, and the copy of them is made
+pub record IsReady (x : Shutting) (m : Meaning) (notes : List Note) (c : CopyState) (m' : Meaning) : Type 0 where
+  pub whole : Shutting
+  pub treats : TreatsOn x notes whole
+  pub treated : AllTreated whole
+  pub names : c.names ≡ x.serving.names
+  pub copy : IsCopyOf whole c
+  pub hands : IsTrue m.tells → HandsOver x m c m'
+
+-- the disk failed at a table
+pub record IsHalted (x : Shutting) (m : Meaning) (notes : List Note) (z : Shutting) (m' : Meaning) : Type 0 where
+  pub half : Shutting
+  pub treating : List Note
+  pub halting : List Note
+  pub treats : TreatsOn x treating half
+  pub more : half.treated < length half.serving.tables
+  pub halts : Halts half z halting
+  pub same : z.serving.names ≡ half.serving.names
+  pub notes_are : notes ≡ treating ++ halting
+  pub continues : IsTrue m.tells → Continues x.serving z.serving m m'
+  pub shutting : IsShutting z
+
+-- all tables were treated, and there was no memory for the copy
+pub record IsStarved (x : Shutting) (m : Meaning) (notes : List Note) (y : Shutting) (m' : Meaning) : Type 0 where
+  pub treats : TreatsOn x notes y
+  pub treated : AllTreated y
+  pub continues : IsTrue m.tells → Continues x.serving y.serving m m'
+  pub shutting : IsShutting y
+
+-- how the shutting of a leaf's tables ends
+abbrev pub ShutEnds : {B : Type 0} → (B → Meaning) → Shutting → Meaning → List Note → Result (CopyState × B) ((Shutting × B) × PrepareFault) → Type 0
+ShutEnds meaning x m notes (Ok leaf) = IsReady x m notes leaf.0 (meaning leaf.1)
+ShutEnds meaning x m notes (Err (leaf, fault.DiskFault)) = IsHalted x m notes leaf.0 (meaning leaf.1)
+ShutEnds meaning x m notes (Err (leaf, fault.NoMemory)) = IsStarved x m notes leaf.0 (meaning leaf.1)
+
+-- the leaf that is left, and its berth
+abbrev pub names_left : {B : Type 0} → Result (CopyState × B) ((Shutting × B) × PrepareFault) → List (List ℕ)
+names_left (Ok leaf) = leaf.0.names
+names_left (Err x) = x.0.0.serving.names
+
+abbrev pub berth_left : {B : Type 0} → Result (CopyState × B) ((Shutting × B) × PrepareFault) → B
+berth_left (Ok leaf) = leaf.1
+berth_left (Err x) = x.0.1
+
+-- a fault of the disk is told only where the count of its faults rose
+abbrev pub RoseShut : {B : Type 0} → ℕ → ℕ → Result (CopyState × B) ((Shutting × B) × PrepareFault) → Type 0
+RoseShut before now (Ok leaf) = ⊤
+RoseShut before now (Err (leaf, fault.DiskFault)) = Rose before now
+RoseShut before now (Err (leaf, fault.NoMemory)) = ⊤
+
+-- tables were shut, with these lines, and how that ended
+pub record Shuts {B E : Type 0} (meaning : B → Meaning) (x : Shutting) (m : Meaning) (numbers : List ℕ)
+    (result : Result (CopyState × B) ((Shutting × B) × PrepareFault)) (lines : Result (Vec Line Global) E) (numbers' : List ℕ) : Type 0 where
+  pub notes : List Note
+  pub ends : ShutEnds meaning x m notes result
+  pub places : ArePlaces (length x.serving.names) notes
+  pub told : AreTold notes numbers lines numbers'
+
+-- how a copy ends: each table is handed over, and the region is the image; or the region failed
+pub data CopyEnds (c : CopyState) (m m' : Meaning) (notes : List Note) (ends : Ending) : Type 0 where
+  done : notes ≡ handed_notes 0 c.names
+      → (IsTrue m.tells → m'.held.region ≡ c.drain.image)
+      → ends ≡ Done
+      → CopyEnds c m m' notes ends
+  failed : notes ≡ []
+      → ends ≡ FaultRegion
+      → CopyEnds c m m' notes ends
+
+-- what a drain does to a leaf, with the lines of its notes
+pub record Drains {E : Type 0} (names : List (List ℕ)) (m m' : Meaning) (leaf : Leaf) (numbers : List ℕ) (ends : Ending)
+    (lines : Result (Vec Line Global) E) (leaf' : Leaf) (numbers' : List ℕ) : Type 0 where
+  pub notes : List Note
+  pub moves : DrainMoves m m' leaf notes ends leaf'
+  pub places : ArePlaces (length names) notes
+  pub told : AreTold notes numbers lines numbers'
+
+-- ---- queries
 
 -- how many leaves a reply names
 abbrev pub named_of : Said → ℕ
@@ -109,8 +156,15 @@ named_of said.RefusedShut = 0
 named_of said.RefusedFull = 0
 named_of said.RefusedMemory = 0
 named_of (said.Opened n) = 0
+named_of (said.Took n) = 0
+named_of (said.Flushed n) = 0
 named_of (said.Closed n) = 0
 named_of said.Handed = 0
+
+-- the reply of a table whose rows have these groups, or for which there was no memory
+abbrev pub IsFound : {E : Type 0} → Query → Result (List Group) E → Reply → Type 0
+IsFound q (Ok gs) r = (r.said ≡ said.Asked) × (r.named ≡ 1) × (r.rows ≡ answer_lines q gs)
+IsFound q (Err e) r = (r.said ≡ said.RefusedMemory) × (r.named ≡ 0) × (r.rows ≡ [])
 
 -- what a leaf replies to a query of one of its tables
 pub record IsReply (leaf : Leaf) (table : ℕ) (q : Query) (r : Reply) : Type 0 where

@@ -1,7 +1,8 @@
-// The lines of entries, and of what a start or a drain did.
-ghost use Rattle.std.specs.Prelude.{◌≡◌, ◌<◌, ◌∷◌, ◌++◌, [], length, IfOk, OnOk};
+// The lines of entries, and of what a steward's command did.
+ghost use Rattle.std.specs.Prelude.{◌≡◌, ◌<◌, ◌∷◌, ◌++◌, [], length, IfOk, OnOk, MatchResult};
 ghost use Rattle.printed_lines.specs.declared.line.Line.TheVariants.{Ended};
-ghost use Rattle.player.specs.Moves.{ArePlaces, next_line, raised, note_lines, numbers_after, said_of_note};
+ghost use Rattle.transcript.specs.Steps.{StewardLines, next_line, note_lines, numbers_after, raised, said_of_note};
+ghost use Rattle.player.specs.Moves.{AreAdded, ArePlaces};
 
 use leaf_machine::{Notes, What};
 use printed_lines::{Ending, Line, Said, Verb};
@@ -27,7 +28,7 @@ pub fn next_entry(numbers: &mut Vec<u64>, table: u32, said: Said) -> Result<Line
     })
 }
 
-/// The lines of a start or a drain: one for each note, and how it ended.
+/// The lines of a command that made these notes: one for each, and how it ended.
 pub fn steward_lines(
     alloc: Global,
     numbers: &mut Vec<u64>,
@@ -36,12 +37,37 @@ pub fn steward_lines(
     ending: Ending,
 ) -> Result<Vec<Line>, AllocError>
     requires { ArePlaces (length numbers.old.items) notes.now }
-    ensures lines { IfOk result (λ lines. lines.items ≡ note_lines notes.now numbers.old.items ++ Ended verb 0 ending ∷ []) }
-    ensures numbers { OnOk result (numbers.new.items ≡ numbers_after notes.now numbers.old.items) }
+    ensures prints { IfOk result (λ lines. StewardLines verb notes.now ending numbers.old.items lines.items numbers.new.items) }
     ensures same_length { length numbers.new.items ≡ length numbers.old.items }
 {
-    let mut lines = Vec::new(alloc);
+    let lines = with_notes(Ok(Vec::new(alloc)), numbers, notes);
+    with_ending(lines, verb, ending)
+}
+
+/// The lines with those of these notes behind them. Where the lines were refused for want of memory, so are these.
+pub fn with_notes(
+    lines: Result<Vec<Line>, AllocError>,
+    numbers: &mut Vec<u64>,
+    notes: &Notes,
+) -> Result<Vec<Line>, AllocError>
+    requires { ArePlaces (length numbers.old.items) notes.now }
+    ensures added { IfOk result (λ after. AreAdded lines notes.now numbers.old.items after.items numbers.new.items) }
+    ensures same_length { length numbers.new.items ≡ length numbers.old.items }
+{
+    let mut lines = lines?;
     put_notes(&mut lines, numbers, notes)?;
+    Ok(lines)
+}
+
+/// The lines with how the command ended behind them. Where the lines were refused, so are these.
+pub fn with_ending(
+    lines: Result<Vec<Line>, AllocError>,
+    verb: Verb,
+    ending: Ending,
+) -> Result<Vec<Line>, AllocError>
+    ensures { IfOk result (λ after. MatchResult lines (λ before. after.items ≡ before.items ++ Ended verb 0 ending ∷ []) (λ refused. ⊥)) }
+{
+    let mut lines = lines?;
     lines.push(Line::Ended {
         verb,
         leaf: 0,
@@ -70,6 +96,8 @@ fn said_of_note(what: What) -> Said
 {
     match what {
         What::Opened(writes) => Said::Opened(writes),
+        What::Took(writes) => Said::Took(writes),
+        What::Flushed(writes) => Said::Flushed(writes),
         What::Closed(writes) => Said::Closed(writes),
         What::Handed => Said::Handed,
     }

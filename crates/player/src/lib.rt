@@ -3,6 +3,7 @@
 
 mod answer;
 mod commands;
+mod drain;
 mod entries;
 mod leaf;
 mod player;

@@ -1,11 +1,11 @@
 // One leaf, and what each command of a script does to it.
-ghost use Rattle.std.specs.Prelude.{◌≡◌, ◌≤◌, ◌+◌, ◌-◌, ◌^◌, min, length, replicate, IfOk, IfErr, IsTrue};
+ghost use Rattle.std.specs.Prelude.{◌≡◌, ◌≤◌, ◌+◌, ◌-◌, ◌^◌, min, length, replicate, IfOk, IfErr};
 ghost use Rattle.std.specs.List.{AllByRecursion};
 ghost use Rattle.berth_face.specs.Berth.{Passes};
-ghost use Rattle.leaf_machine.specs.Tables.{AreNames};
+ghost use Rattle.region_layout.specs.Names.{AreNames};
 ghost use Rattle.printed_lines.specs.Lines.{IsOf};
 ghost use Rattle.transcript.specs.Steps.{IsDown, MayPlay, Plays};
-ghost use Rattle.transcript.specs.Transcript.{region_faults_in};
+ghost use Rattle.transcript.specs.Transcript.{region_faults_in, disk_faults_in};
 ghost use Rattle.player.specs.Stage.{IsCall};
 
 use crate::commands::play_command;
@@ -69,13 +69,12 @@ impl<B: Berth> Player<B> {
     /// Want of memory for the lines loses none of what the command did to the leaf, and the numbers may have grown.
     pub fn play(self, alloc: Global, command: Command) -> (Player<B>, Result<Vec<Line>, AllocError>)
         requires { MayPlay self.names command }
-        ensures plays { IfOk result.1 (λ lines. Plays self.names (B.meaning self.berth).tells (B.meaning self.berth).held.region (B.meaning result.0.berth).held.region command self.leaf self.numbers lines.items result.0.leaf result.0.numbers) }
+        ensures plays { IfOk result.1 (λ lines. Plays self.names (B.meaning self.berth) (B.meaning result.0.berth) command self.leaf self.numbers lines.items result.0.leaf result.0.numbers) }
         ensures names { result.0.names ≡ self.names }
         ensures time { Passes (B.meaning self.berth) (B.meaning result.0.berth) }
-        ensures disk { IsTrue (B.meaning self.berth).tells → (B.meaning result.0.berth).held.disk ≡ (B.meaning self.berth).held.disk }
-        ensures reads { (B.meaning result.0.berth).disk_reads ≡ (B.meaning self.berth).disk_reads }
         ensures kept { IsCall command → result.0.berth ≡ self.berth }
-        ensures faults { IfOk result.1 (λ lines. min ((B.meaning self.berth).region_faults + region_faults_in 0 lines.items) (2 ^ 64 - 1) ≤ (B.meaning result.0.berth).region_faults) }
+        ensures region_faults { IfOk result.1 (λ lines. min ((B.meaning self.berth).region_faults + region_faults_in 0 lines.items) (2 ^ 64 - 1) ≤ (B.meaning result.0.berth).region_faults) }
+        ensures disk_faults { IfOk result.1 (λ lines. min ((B.meaning self.berth).disk_faults + disk_faults_in 0 lines.items) (2 ^ 64 - 1) ≤ (B.meaning result.0.berth).disk_faults) }
         ensures lines_fit { IfOk result.1 (λ lines. AllByRecursion (IsOf self.names) lines.items) }
     {
         let Player {

@@ -19,7 +19,9 @@ enum Step {
     Fleet,
     Add,
     Count,
+    Flush,
     Drain,
+    Kill,
     Start,
 }
 
@@ -87,7 +89,9 @@ fn command_of(alloc: Global, step: Step) -> Result<Command, AllocError>
             rows: one_row(alloc)?,
         }),
         Step::Count => Ok(Command::Query(count_query(alloc)?)),
+        Step::Flush => Ok(Command::Flush { leaf: 0, table: 0 }),
         Step::Drain => Ok(Command::Drain { leaf: 0 }),
+        Step::Kill => Ok(Command::Kill(0)),
         Step::Start => Ok(Command::Start(0)),
     }
 }
@@ -130,6 +134,12 @@ fn played(alloc: Global, berth: MemBerth, steps: &[Step]) -> Result<Vec<u8>, All
     Ok(out)
 }
 
+/// A berth in memory with nothing on it, of which this call fails.
+fn failing(alloc: Global, method: Method, count: u64) -> Result<MemBerth, AllocError> {
+    let fails = Fails::of(vec![in alloc; Fail { method, count }]?);
+    Ok(MemBerth::failing(Vec::new(alloc), Vec::new(alloc), fails))
+}
+
 #[test]
 fn each_command_prints_its_lines(rt: HostRuntime) -> Result<(), test::Fail> {
     let alloc = rt.alloc();
@@ -141,22 +151,31 @@ fn each_command_prints_its_lines(rt: HostRuntime) -> Result<(), test::Fail> {
                 Step::Drain,
                 Step::Start,
                 Step::Count,
+                Step::Kill,
             ],
-            "0 errors #1 opened 0\nstart 0 disk nohead\n0 errors #2 added 1 late 0\n0 errors #3 closed 1\n0 errors #4 handed\ndrain 0 done\n0 errors #5 opened 1\nstart 0 memory\n0 errors #6 asked\nanswer named 1 of 1 lines 1\n1\n",
+            "0 errors #1 opened 0\nstart 0 disk nohead\n0 errors #2 added 1 late 0\n0 errors #3 closed 1\n0 errors #4 flushed 1\n0 errors #5 handed\ndrain 0 done\n0 errors #6 opened 1\nstart 0 memory\n0 errors #7 asked\nanswer named 1 of 1 lines 1\n1\n0 errors #8 closed 1\nkill 0 done\n",
         ),
         (
             [
+                Step::Flush,
                 Step::Drain,
-                Step::Add,
+                Step::Kill,
                 Step::Count,
                 Step::Start,
                 Step::Start,
             ],
-            "drain 0 not up\n0 errors #1 refused shut\n0 errors #2 refused shut\nanswer named 0 of 1 lines 0\n0 errors #3 opened 0\nstart 0 disk nohead\nstart 0 not down\n",
+            "flush 0 not up\ndrain 0 not up\nkill 0 not up\n0 errors #1 refused shut\nanswer named 0 of 1 lines 0\n0 errors #2 opened 0\nstart 0 disk nohead\nstart 0 not down\n",
         ),
         (
-            [Step::Fleet, Step::Count, Step::Add, Step::Count, Step::Add],
-            "0 errors #1 opened 0\nstart 0 disk nohead\n0 errors #2 asked\nanswer named 1 of 1 lines 0\n0 errors #3 added 1 late 0\n0 errors #4 asked\nanswer named 1 of 1 lines 1\n1\n0 errors #5 added 1 late 0\n",
+            [
+                Step::Fleet,
+                Step::Count,
+                Step::Add,
+                Step::Count,
+                Step::Add,
+                Step::Flush,
+            ],
+            "0 errors #1 opened 0\nstart 0 disk nohead\n0 errors #2 asked\nanswer named 1 of 1 lines 0\n0 errors #3 added 1 late 0\n0 errors #4 asked\nanswer named 1 of 1 lines 1\n1\n0 errors #5 added 1 late 0\n0 errors #6 took 2\n0 errors #7 flushed 2\nflush 0 done\n",
         ),
     ];
     for (steps, expected) in cases {
@@ -168,18 +187,53 @@ fn each_command_prints_its_lines(rt: HostRuntime) -> Result<(), test::Fail> {
 }
 
 #[test]
-fn a_region_that_fails_is_told_after_the_closed_tables(rt: HostRuntime) -> Result<(), test::Fail> {
+fn a_killed_leaf_is_opened_with_what_was_flushed(rt: HostRuntime) -> Result<(), test::Fail> {
     let alloc = rt.alloc();
-    let fails = Fails::of(vec![in alloc;
-        Fail {
-            method: Method::RegionWrite,
-            count: 1
-        },
-    ]?);
-    let berth = MemBerth::failing(Vec::new(alloc), Vec::new(alloc), fails);
+    let berth = MemBerth::new(Vec::new(alloc), Vec::new(alloc));
+    let steps = [
+        Step::Fleet,
+        Step::Add,
+        Step::Flush,
+        Step::Add,
+        Step::Kill,
+        Step::Start,
+        Step::Count,
+    ];
+    let out = played(alloc, berth, &steps)?;
+    let expected =
+        "0 errors #1 opened 0\nstart 0 disk nohead\n0 errors #2 added 1 late 0\n0 errors #3 took 1\n0 errors #4 flushed 1\nflush 0 done\n0 errors #5 added 1 late 0\n0 errors #6 closed 2\nkill 0 done\n0 errors #7 opened 1\nstart 0 disk nohead\n0 errors #8 asked\nanswer named 1 of 1 lines 1\n1\n";
+    assert!(rt; out.as_slice() == expected.as_bytes());
+    Ok(())
+}
+
+#[test]
+fn a_drain_that_the_disk_stopped_goes_on(rt: HostRuntime) -> Result<(), test::Fail> {
+    let alloc = rt.alloc();
+    // The start makes the first sync, so this is the drain's second.
+    let berth = failing(alloc, Method::DiskSync, 3)?;
+    let steps = [
+        Step::Fleet,
+        Step::Add,
+        Step::Drain,
+        Step::Add,
+        Step::Flush,
+        Step::Drain,
+        Step::Start,
+    ];
+    let out = played(alloc, berth, &steps)?;
+    let expected =
+        "0 errors #1 opened 0\nstart 0 disk nohead\n0 errors #2 added 1 late 0\n0 errors #3 closed 1\ndrain 0 fault disk\n0 errors #4 refused shut\nflush 0 not up\n0 errors #5 flushed 1\n0 errors #6 handed\ndrain 0 done\n0 errors #7 opened 1\nstart 0 memory\n";
+    assert!(rt; out.as_slice() == expected.as_bytes());
+    Ok(())
+}
+
+#[test]
+fn a_region_that_fails_is_told_after_the_flushed_tables(rt: HostRuntime) -> Result<(), test::Fail> {
+    let alloc = rt.alloc();
+    let berth = failing(alloc, Method::RegionWrite, 1)?;
     let out = played(alloc, berth, &[Step::Fleet, Step::Drain])?;
     let expected =
-        "0 errors #1 opened 0\nstart 0 disk nohead\n0 errors #2 closed 0\ndrain 0 fault region\n";
+        "0 errors #1 opened 0\nstart 0 disk nohead\n0 errors #2 closed 0\n0 errors #3 flushed 0\ndrain 0 fault region\n";
     assert!(rt; out.as_slice() == expected.as_bytes());
     let player = player(alloc, MemBerth::new(Vec::new(alloc), out))?;
     assert!(rt; player.abandon().disk() == expected.as_bytes());

@@ -1,15 +1,15 @@
 -- The text of each printed line.
 use Rattle.std.specs.Prelude.{ℕ, zero, suc, ◌<◌, List, [], ◌∷◌, ◌++◌, length, ⊤, decimal, codes}
 use Rattle.std.specs.List.{flat_map}
-use Rattle.leaf_machine.specs.declared.ways.Way.{Way}
-use Rattle.leaf_machine.specs.declared.ways.Way.TheVariants.{Memory, Disk}
-use Rattle.leaf_machine.specs.declared.ways.WhyDisk.TheVariants as why
+use Rattle.leaf_opening.specs.declared.ways.Way.{Way}
+use Rattle.leaf_opening.specs.declared.ways.Way.TheVariants.{Memory, Disk}
+use Rattle.adopt.specs.declared.found.WhyDisk.TheVariants as why
 use Rattle.printed_lines.specs.declared.line.Said.{Said}
-use Rattle.printed_lines.specs.declared.line.Said.TheVariants.{Added, Asked, RefusedShut, RefusedFull, RefusedMemory, Opened, Closed, Handed}
+use Rattle.printed_lines.specs.declared.line.Said.TheVariants.{Added, Asked, RefusedShut, RefusedFull, RefusedMemory, Opened, Took, Flushed, Closed, Handed}
 use Rattle.printed_lines.specs.declared.line.Verb.{Verb}
-use Rattle.printed_lines.specs.declared.line.Verb.TheVariants.{Drain, Start}
+use Rattle.printed_lines.specs.declared.line.Verb.TheVariants.{Flush, Drain, Kill, Start}
 use Rattle.printed_lines.specs.declared.line.Ending.{Ending}
-use Rattle.printed_lines.specs.declared.line.Ending.TheVariants.{Done, NotUp, NotDown, Started, FaultRegion, FaultMemory, FaultStranger}
+use Rattle.printed_lines.specs.declared.line.Ending.TheVariants.{Done, NotUp, NotDown, Started, FaultRegion, FaultDisk, FaultDamaged, FaultMemory, FaultStranger}
 use Rattle.printed_lines.specs.declared.line.Line.{Line}
 use Rattle.printed_lines.specs.declared.line.Line.TheVariants.{Entry, Answer, Ended}
 
@@ -21,6 +21,8 @@ said_text RefusedShut = codes "refused shut"
 said_text RefusedFull = codes "refused full"
 said_text RefusedMemory = codes "refused memory"
 said_text (Opened writes) = codes "opened " ++ decimal writes
+said_text (Took writes) = codes "took " ++ decimal writes
+said_text (Flushed writes) = codes "flushed " ++ decimal writes
 said_text (Closed writes) = codes "closed " ++ decimal writes
 said_text Handed = codes "handed"
 
@@ -38,11 +40,15 @@ ending_text NotUp = codes "not up"
 ending_text NotDown = codes "not down"
 ending_text (Started way) = way_text way
 ending_text FaultRegion = codes "fault region"
+ending_text FaultDisk = codes "fault disk"
+ending_text FaultDamaged = codes "fault damaged"
 ending_text FaultMemory = codes "fault memory"
 ending_text (FaultStranger name) = codes "fault stranger " ++ name
 
 abbrev pub verb_text : Verb → List ℕ
+verb_text Flush = codes "flush"
 verb_text Drain = codes "drain"
+verb_text Kill = codes "kill"
 verb_text Start = codes "start"
 
 -- the name of a table of the fleet, by its place

@@ -1,6 +1,6 @@
 // The lines that a script's commands print.
-use leaf_machine::Way;
 use leaf_model::{Text, Texts};
+use leaf_opening::Way;
 
 /// What an entry's line says after its number.
 #[derive(Debug, Clone, Copy, PartialEq, Eq)]
@@ -13,6 +13,10 @@ pub enum Said {
     RefusedMemory,
     /// The table was opened with so many writes.
     Opened(u64),
+    /// So many writes, all that the table had accepted, were taken for the log.
+    Took(u64),
+    /// So many writes are in the log, and on the disk.
+    Flushed(u64),
     /// The table was closed after so many writes.
     Closed(u64),
     /// The closed table was handed to the region.
@@ -22,7 +26,9 @@ pub enum Said {
 /// The commands of a leaf's steward.
 #[derive(Debug, Clone, Copy, PartialEq, Eq)]
 pub enum Verb {
+    Flush,
     Drain,
+    Kill,
     Start,
 }
 
@@ -34,6 +40,9 @@ pub enum Ending {
     NotDown,
     Started(Way),
     FaultRegion,
+    FaultDisk,
+    /// The log of the disk is damaged.
+    FaultDamaged,
     FaultMemory,
     FaultStranger(Text),
 }

@@ -3,8 +3,9 @@ ghost use Rattle.std.specs.Prelude.{◌≡◌, ◌<◌, length, IfOk, string_byt
 ghost use Rattle.printed_lines.specs.Lines.{said_text, way_text, ending_text, verb_text, name_at};
 
 use crate::line::{Ending, Said, Verb};
-use leaf_machine::{Way, WhyDisk};
+use adopt::WhyDisk;
 use leaf_model::Names;
+use leaf_opening::Way;
 use std::alloc::{AllocError, Global};
 
 pub fn said_string(alloc: Global, said: Said) -> Result<String, AllocError>
@@ -17,6 +18,8 @@ pub fn said_string(alloc: Global, said: Said) -> Result<String, AllocError>
         Said::RefusedFull => String::from_str(alloc, "refused full"),
         Said::RefusedMemory => String::from_str(alloc, "refused memory"),
         Said::Opened(writes) => format!(in alloc; "opened {writes}"),
+        Said::Took(writes) => format!(in alloc; "took {writes}"),
+        Said::Flushed(writes) => format!(in alloc; "flushed {writes}"),
         Said::Closed(writes) => format!(in alloc; "closed {writes}"),
         Said::Handed => String::from_str(alloc, "handed"),
     }
@@ -31,6 +34,8 @@ pub fn ending_string(alloc: Global, ending: &Ending) -> Result<String, AllocErro
         Ending::NotDown => String::from_str(alloc, "not down"),
         Ending::Started(way) => way_string(alloc, *way),
         Ending::FaultRegion => String::from_str(alloc, "fault region"),
+        Ending::FaultDisk => String::from_str(alloc, "fault disk"),
+        Ending::FaultDamaged => String::from_str(alloc, "fault damaged"),
         Ending::FaultMemory => String::from_str(alloc, "fault memory"),
         Ending::FaultStranger(table) => {
             let name = table.as_str();
@@ -57,7 +62,9 @@ pub fn verb_str(verb: Verb) -> &'static str
     ensures { result.now ≡ verb_text verb }
 {
     match verb {
+        Verb::Flush => "flush",
         Verb::Drain => "drain",
+        Verb::Kill => "kill",
         Verb::Start => "start",
     }
 }

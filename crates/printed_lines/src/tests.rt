@@ -2,8 +2,9 @@
 ghost use Rattle.std.specs.Prelude.{◌≡◌, ◌<◌, length, IfOk};
 
 use crate::{Ending, Line, Said, Verb, put_line, put_lines};
-use leaf_machine::{Way, WhyDisk};
+use adopt::WhyDisk;
 use leaf_model::{Names, Text, Texts};
+use leaf_opening::Way;
 use std::alloc::{AllocError, Global};
 use std::test::Fail;
 
@@ -75,6 +76,8 @@ fn an_entry_has_its_line(rt: HostRuntime) -> Result<(), Fail> {
         (5, Said::Asked, "0 errors #5 asked\n"),
         (6, Said::RefusedShut, "0 errors #6 refused shut\n"),
         (7, Said::RefusedMemory, "0 errors #7 refused memory\n"),
+        (8, Said::Took(10), "0 errors #8 took 10\n"),
+        (9, Said::Flushed(10), "0 errors #9 flushed 10\n"),
     ] {
         assert_eq!(rt; entry(alloc, 0, number, said)?.as_slice(), bytes.as_bytes());
     }
@@ -84,7 +87,7 @@ fn an_entry_has_its_line(rt: HostRuntime) -> Result<(), Fail> {
 }
 
 #[test]
-fn a_start_and_a_drain_have_their_lines(rt: HostRuntime) -> Result<(), Fail> {
+fn the_end_of_a_command_has_its_line(rt: HostRuntime) -> Result<(), Fail> {
     let alloc = rt.alloc();
     for (way, bytes) in [
         (Way::Memory, "start 0 memory\n"),
@@ -105,6 +108,9 @@ fn a_start_and_a_drain_have_their_lines(rt: HostRuntime) -> Result<(), Fail> {
         (Verb::Drain, Ending::NotUp, "drain 0 not up\n"),
         (Verb::Start, Ending::NotDown, "start 0 not down\n"),
         (Verb::Start, Ending::FaultMemory, "start 0 fault memory\n"),
+        (Verb::Start, Ending::FaultDamaged, "start 0 fault damaged\n"),
+        (Verb::Flush, Ending::FaultDisk, "flush 0 fault disk\n"),
+        (Verb::Kill, Ending::Done, "kill 0 done\n"),
     ] {
         assert_eq!(rt; ended(alloc, verb, ending)?.as_slice(), bytes.as_bytes());
     }

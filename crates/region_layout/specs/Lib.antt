@@ -1,2 +1,4 @@
 pub mod Region
+pub mod Names
+pub mod Images
 pub mod Reading

@@ -1,7 +1,17 @@
 // Regions against bytes that were spelled by hand.
+ghost use Rattle.std.specs.Prelude.{◌≡◌, ◌<◌, ◌≤◌, ◌^◌, length, IfOk, IfSome};
+ghost use Rattle.std.specs.List.{AllByRecursion};
+ghost use Rattle.leaf_model.specs.Values.{IsRow, IsWrite};
+ghost use Rattle.region_layout.specs.Names.{AreNames};
+ghost use Rattle.region_layout.specs.Region.{IsTableImage};
+
 use super::*;
+use leaf_model::{Names, Rows, Text, Write};
+use row_records::read_rows;
 use std::alloc::{AllocError, Global};
+use std::collections::VecDeque;
 use std::test::Fail;
+use table_state::{Parts, TableState};
 
 /// The table `t` with one write and one row, whose time is 5.
 const ONE_ROW: &[u8; 61] =
@@ -38,12 +48,82 @@ fn heads_are_told_apart(rt: HostRuntime) -> Result<(), Fail> {
     Ok(())
 }
 
+/// The one name `t`.
+fn name_t(alloc: Global) -> Result<Names, AllocError>
+    ensures names { IfOk result AreNames }
+    ensures one { IfOk result (λ names. length names ≡ 1) }
+{
+    let mut names = Vec::new(alloc);
+    names.push(Text::of(String::from_str(alloc, "t")?))?;
+    Ok(Names::of(names))
+}
+
+/// A table as an image has it.
+fn state_of(table: TableImage) -> TableState
+    requires { IsTableImage table }
+    ensures { result.writes < 2 ^ 63 }
+{
+    TableState::from_parts(Parts {
+        horizon: table.horizon,
+        writes: table.writes,
+        rows: table.rows,
+    })
+}
+
+/// The first table of the image that is read in these bytes.
+fn first_table(alloc: Global, region: &[u8]) -> Result<Option<TableState>, AllocError>
+    ensures { IfOk result (λ found. IfSome found (λ t. t.writes < 2 ^ 63)) }
+{
+    match read_image(alloc, region)? {
+        Some(image) => {
+            let mut tables = VecDeque::from_vec(image.tables.into_inner());
+            match tables.pop_front() {
+                Some(table) => Ok(Some(state_of(table))),
+                None => Ok(None),
+            }
+        }
+        None => Ok(None),
+    }
+}
+
+/// The add of one row with the time 5.
+fn add_of_5(alloc: Global) -> Result<Write, AllocError>
+    ensures { IfOk result IsWrite }
+{
+    match read_rows(alloc, b"\x05\0\0\0\0\0\0\0\0\0", 1)? {
+        Some((rows, _taken)) => Ok(Write::Add(Rows::of(rows))),
+        None => Ok(Write::Keep(0)),
+    }
+}
+
+/// A table with one write and one row, whose time is 5, that were replayed.
+fn replayed(alloc: Global) -> Result<TableState, AllocError>
+    ensures { IfOk result (λ t. t.writes < 2 ^ 63) }
+{
+    let mut table = TableState::new(alloc);
+    match table.replay(add_of_5(alloc)?) {
+        Ok(()) => Ok(table),
+        Err(_) => Err(AllocError),
+    }
+}
+
+/// The image of the table `t`, whose log ends at 0.
+fn image_of_t(alloc: Global, table: TableState) -> Result<Vec<u8>, AllocError>
+    requires { table.writes < 2 ^ 63 }
+{
+    let mut tables = Vec::new(alloc);
+    tables.push(table)?;
+    write_image(alloc, &name_t(alloc)?, &tables, 0)
+}
+
 #[test]
 fn an_image_is_read_as_it_is_written(rt: HostRuntime) -> Result<(), Fail> {
     let alloc = rt.alloc();
-    match read_image(alloc, ONE_ROW)? {
-        Some(image) => {
-            let bytes = write_image(alloc, image.tables.as_slice(), image.log_end)?;
+    let bytes = image_of_t(alloc, replayed(alloc)?)?;
+    assert!(rt; bytes.as_slice() == ONE_ROW.as_slice());
+    match first_table(alloc, ONE_ROW)? {
+        Some(table) => {
+            let bytes = image_of_t(alloc, table)?;
             assert!(rt; bytes.as_slice() == ONE_ROW.as_slice());
         }
         None => assert!(rt; false, "the image was not read"),

@@ -1,5 +1,5 @@
 -- The place of a name among the names.
-use Rattle.std.proofs.Common.{◌≡◌, ◌<◌, ◌+◌, ℕ, suc, List, [], ◌∷◌, length, refl, ap, sym, ◌∙◌, arith, Option, Some, None, Bool, true, false, cond, not, subst, true≢false}
+use Rattle.std.proofs.Common.{◌≡◌, ◌<◌, ◌+◌, ℕ, suc, List, [], ◌∷◌, length, refl, ap, sym, ◌∙◌, arith, Some, None, Bool, true, false, cond, not, subst, true≢false}
 use Rattle.std.proofs.lemmas.Slice.Eq.{bytes_eq-Decides}
 use Rattle.std.specs.List.{list_any, position_from, Contains}
 use Rattle.std.specs.Option.{is_some}

@@ -8,7 +8,7 @@ use Rattle.row_json.specs.Row.{row_of}
 use Rattle.query_text.specs.declared.fault.QueryFault.{QueryFault}
 use Rattle.query_text.specs.Reading.{query_of}
 use Rattle.script_text.specs.declared.command.Command.{Command}
-use Rattle.script_text.specs.declared.command.Command.TheVariants.{Fleet, Add, Drain, Start}
+use Rattle.script_text.specs.declared.command.Command.TheVariants.{Fleet, Add, Flush, Drain, Kill, Start}
 use Rattle.script_text.specs.declared.command.Command.TheVariants as command
 use Rattle.script_text.specs.declared.fault.Why.{Why}
 use Rattle.script_text.specs.declared.fault.Why.TheVariants as why
@@ -25,8 +25,10 @@ abbrev pub verb_of : List ℕ → Option Verb
 verb_of word = if bytes_eq word (codes "fleet") then Some verb.Fleet
     else (if bytes_eq word (codes "add") then Some verb.Add
     else (if bytes_eq word (codes "query") then Some verb.Query
+    else (if bytes_eq word (codes "flush") then Some verb.Flush
     else (if bytes_eq word (codes "drain") then Some verb.Drain
-    else (if bytes_eq word (codes "start") then Some verb.Start else None))))
+    else (if bytes_eq word (codes "kill") then Some verb.Kill
+    else (if bytes_eq word (codes "start") then Some verb.Start else None))))))
 
 -- the command, where the words are of its form
 abbrev pub or_words : ℕ → Option Command → Result Command Fault
@@ -130,6 +132,36 @@ abbrev pub leaf_of : ℕ → Option ℕ → Result ℕ Fault
 leaf_of n (Some leaf) = if nat_lt leaf leaves then Ok leaf else Err (n, why.Leaf)
 leaf_of n None = Err (n, why.Words)
 
+-- the words of a flush: a leaf and a table's name
+pub record FlushForm : Type 0 where
+  pub leaf : ℕ
+  pub table : List ℕ
+
+abbrev pub flush_with : Option ℕ → List ℕ → Option FlushForm
+flush_with (Some leaf) table = if is_table_name table then Some (record { leaf = leaf; table = table }) else None
+flush_with None table = None
+
+-- `flush L T`
+abbrev pub flush_words : List (List ℕ) → Option FlushForm
+flush_words [] = None
+flush_words (leaf ∷ []) = None
+flush_words (leaf ∷ table ∷ []) = flush_with (number_of leaf) table
+flush_words (leaf ∷ table ∷ word ∷ words) = None
+
+-- a flush of the table of this place
+abbrev pub flush_at : ℕ → ℕ → Option ℕ → Result Command Fault
+flush_at n leaf (Some table) = Ok (Flush leaf table)
+flush_at n leaf None = Err (n, why.Table)
+
+abbrev pub flush_of : ℕ → List (List ℕ) → Option FlushForm → Result Command Fault
+flush_of n tables (Some flush) = if nat_lt flush.leaf leaves then flush_at n flush.leaf (place_of tables flush.table) else Err (n, why.Leaf)
+flush_of n tables None = Err (n, why.Words)
+
+-- `kill L`
+abbrev pub kill_of : Result ℕ Fault → Result Command Fault
+kill_of (Ok leaf) = Ok (Kill leaf)
+kill_of (Err found) = Err found
+
 -- `drain L`
 abbrev pub drain_of : Result ℕ Fault → Result Command Fault
 drain_of (Ok leaf) = Ok (Drain leaf)
@@ -146,6 +178,8 @@ first_command n line None = Err (n, why.Command)
 first_command n line (Some verb.Fleet) = or_words n (fleet_of (words_of (behind_word line)))
 first_command n line (Some verb.Add) = Err (n, why.NoFleet)
 first_command n line (Some verb.Query) = Err (n, why.NoFleet)
+first_command n line (Some verb.Flush) = Err (n, why.NoFleet)
+first_command n line (Some verb.Kill) = Err (n, why.NoFleet)
 first_command n line (Some verb.Drain) = Err (n, why.NoFleet)
 first_command n line (Some verb.Start) = Err (n, why.NoFleet)
 
@@ -155,6 +189,8 @@ later_command n tables line more None = Err (n, why.Command)
 later_command n tables line more (Some verb.Fleet) = Err (n, why.Place)
 later_command n tables line more (Some verb.Add) = add_of n tables (add_words (words_of (behind_word line))) more
 later_command n tables line more (Some verb.Query) = query_command n tables (one_query n (query_of (trimmed (behind_word line))))
+later_command n tables line more (Some verb.Flush) = flush_of n tables (flush_words (words_of (behind_word line)))
+later_command n tables line more (Some verb.Kill) = kill_of (leaf_of n (one_number (words_of (behind_word line))))
 later_command n tables line more (Some verb.Drain) = drain_of (leaf_of n (one_number (words_of (behind_word line))))
 later_command n tables line more (Some verb.Start) = start_of (leaf_of n (one_number (words_of (behind_word line))))
 

@@ -4,7 +4,7 @@ use Rattle.std.specs.List.{AllByRecursion, Contains}
 use Rattle.leaf_model.specs.Values.{IsRow}
 use Rattle.query_text.specs.Grammar.{IsQuery}
 use Rattle.script_text.specs.declared.command.Command.{Command}
-use Rattle.script_text.specs.declared.command.Command.TheVariants.{Fleet, Add, Drain, Start}
+use Rattle.script_text.specs.declared.command.Command.TheVariants.{Fleet, Add, Flush, Drain, Kill, Start}
 use Rattle.script_text.specs.declared.command.Command.TheVariants as command
 use Rattle.script_text.specs.declared.script.Script.{Script}
 use Rattle.script_text.specs.Words.{is_table_name}
@@ -33,7 +33,9 @@ abbrev pub IsCommand : List (List ℕ) → Command → Type 0
 IsCommand tables (Fleet machines per_machine names) = ⊥
 IsCommand tables (Add leaf table rows) = (leaf ≡ 0) × (table < length tables) × (length rows ≤ 100000) × AllByRecursion IsRow rows
 IsCommand tables (command.Query query) = Contains tables query.table × IsQuery query
+IsCommand tables (Flush leaf table) = (leaf ≡ 0) × (table < length tables)
 IsCommand tables (Drain leaf) = leaf ≡ 0
+IsCommand tables (Kill leaf) = leaf ≡ 0
 IsCommand tables (Start leaf) = leaf ≡ 0
 
 -- commands, of which the first is a fleet of one leaf, and no other is a fleet
@@ -42,7 +44,9 @@ AreCommands [] = Unit {0}
 AreCommands (Fleet machines per_machine tables ∷ commands) = (machines ≡ 1) × (per_machine ≡ 1) × AreTables tables × AllByRecursion (IsCommand tables) commands
 AreCommands (Add leaf table rows ∷ commands) = ⊥
 AreCommands (command.Query query ∷ commands) = ⊥
+AreCommands (Flush leaf table ∷ commands) = ⊥
 AreCommands (Drain leaf ∷ commands) = ⊥
+AreCommands (Kill leaf ∷ commands) = ⊥
 AreCommands (Start leaf ∷ commands) = ⊥
 
 -- a script that was read

@@ -1,7 +1,7 @@
 -- The script that a text is, or its first fault.
 use Rattle.std.specs.Prelude.{◌≡◌, ℕ, zero, suc, ◌+◌, List, [], ◌∷◌, length, if◌then◌else◌, Option, Some, None, Result, Ok, Err}
 use Rattle.script_text.specs.declared.command.Command.{Command}
-use Rattle.script_text.specs.declared.command.Command.TheVariants.{Fleet, Add, Query, Drain, Start}
+use Rattle.script_text.specs.declared.command.Command.TheVariants.{Fleet, Add, Query, Flush, Drain, Kill, Start}
 use Rattle.script_text.specs.declared.script.Script.{Script}
 use Rattle.script_text.specs.declared.fault.Why.{Why}
 use Rattle.script_text.specs.declared.fault.ScriptFault.{ScriptFault}
@@ -14,7 +14,9 @@ abbrev pub row_count : Command → ℕ
 row_count (Fleet machines per_machine tables) = 0
 row_count (Add leaf table rows) = length rows
 row_count (Query query) = 0
+row_count (Flush leaf table) = 0
 row_count (Drain leaf) = 0
+row_count (Kill leaf) = 0
 row_count (Start leaf) = 0
 
 abbrev pub rows_taken : Result Command Fault → ℕ
@@ -26,7 +28,9 @@ abbrev pub tables_in : Command → Option (List (List ℕ))
 tables_in (Fleet machines per_machine tables) = Some tables
 tables_in (Add leaf table rows) = None
 tables_in (Query query) = None
+tables_in (Flush leaf table) = None
 tables_in (Drain leaf) = None
+tables_in (Kill leaf) = None
 tables_in (Start leaf) = None
 
 -- the tables of the fleet that was read, after a line

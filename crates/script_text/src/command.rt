@@ -19,9 +19,14 @@ pub enum Command {
         rows: Rows,
     },
     Query(Query),
+    Flush {
+        leaf: u32,
+        table: u32,
+    },
     Drain {
         leaf: u32,
     },
+    Kill(u32),
     Start(u32),
 }
 

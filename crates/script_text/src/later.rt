@@ -9,6 +9,7 @@ ghost use Rattle.script_text.specs.Script.{Gives, row_count};
 use crate::add::{LEAVES, add};
 use crate::command::Command;
 use crate::fault::{ScriptFault, Why, fault_at};
+use crate::flush::flush;
 use crate::query::query;
 use crate::verb::{Verb, verb_of};
 use crate::words::{cut_word, next_word, number_of, trimmed};
@@ -35,9 +36,14 @@ pub fn later_command(
         Some(Verb::Fleet) => Err(fault_at(number, Why::Place)),
         Some(Verb::Add) => add(alloc, tables, rest, number, after),
         Some(Verb::Query) => query(alloc, tables, trimmed(rest), number),
+        Some(Verb::Flush) => flush(tables, rest, number),
         Some(Verb::Drain) => {
             let leaf = leaf_of(rest, number)?;
             Ok(Command::Drain { leaf })
+        }
+        Some(Verb::Kill) => {
+            let leaf = leaf_of(rest, number)?;
+            Ok(Command::Kill(leaf))
         }
         Some(Verb::Start) => {
             let leaf = leaf_of(rest, number)?;

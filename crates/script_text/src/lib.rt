@@ -5,6 +5,7 @@ mod add;
 mod command;
 mod fault;
 mod fleet;
+mod flush;
 mod later;
 mod lines;
 mod query;

@@ -127,7 +127,9 @@ fn row_count(command: &Command) -> u64
         Command::Add { rows, .. } => rows.as_slice().len() as u64,
         Command::Fleet { .. } => 0,
         Command::Query(_) => 0,
+        Command::Flush { .. } => 0,
         Command::Drain { .. } => 0,
+        Command::Kill(_) => 0,
         Command::Start(_) => 0,
     }
 }

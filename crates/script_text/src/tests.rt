@@ -41,7 +41,9 @@ fn shown_command(alloc: Global, command: &Command) -> Result<String, AllocError>
             Ok(part)
         }
         Command::Query(query) => format!(in alloc; ", {query:?}"),
+        Command::Flush { leaf, table } => format!(in alloc; ", flush {leaf} {table}"),
         Command::Drain { leaf } => format!(in alloc; ", drain {leaf}"),
+        Command::Kill(leaf) => format!(in alloc; ", kill {leaf}"),
         Command::Start(leaf) => format!(in alloc; ", start {leaf}"),
     }
 }
@@ -60,12 +62,15 @@ fn tells_the_commands_or_the_first_fault(rt: HostRuntime) -> Result<(), test::Fa
             "fleet at 3, 1 of 1 a b_9, start 0",
         ),
         // The first words.
-        ("kill 0\n", "1 Command"),
-        ("fleet 1 1 a\nkill 0", "2 Command"),
+        ("stop 0\n", "1 Command"),
+        ("fleet 1 1 a\nstop 0", "2 Command"),
+        ("fleet 1 1 a\nflushed 0 a", "2 Command"),
         ("fleet 1 1 a\nStart 0", "2 Command"),
         ("add 0 a 0\nfleet 1 1 a", "1 NoFleet"),
         ("query\n", "1 NoFleet"),
+        ("flush 0 a\n", "1 NoFleet"),
         ("drain 0 stop 1\n", "1 NoFleet"),
+        ("kill 0\nfleet 1 1 a", "1 NoFleet"),
         ("fleet 1 1 a\nfleet", "2 Place"),
         // Fleets.
         ("fleet", "1 Words"),
@@ -135,6 +140,17 @@ fn tells_the_commands_or_the_first_fault(rt: HostRuntime) -> Result<(), test::Fa
             "fleet 1 1 errors b\nadd 0 b 2\r\n {\"time\":1}\r\n{\"time\":2,\"v\":3}\nadd 0 errors 0\n",
             "fleet at 1, 1 of 1 errors b, add 0 1: 1 2, add 0 0:",
         ),
+    ] {
+        let got = shown(alloc, text)?;
+        assert_eq!(rt; got.as_str(), want, "at {text}");
+    }
+    Ok(())
+}
+
+#[test]
+fn tells_queries_flushes_and_leaves(rt: HostRuntime) -> Result<(), test::Fail> {
+    let alloc = rt.alloc();
+    for (text, want) in [
         // Queries. The text begins behind one space, and a place in it is an offset in bytes.
         (
             "fleet 1 1 a\nquery SELECT COUNT(*) FROM a WHERE time >= 0 AND time <= 9223372036854775807  ",
@@ -170,18 +186,34 @@ fn tells_the_commands_or_the_first_fault(rt: HostRuntime) -> Result<(), test::Fa
         ),
         ("fleet 1 1 a\nquery", "2 Query(Syntax(0))"),
         ("fleet 1 1 a\nquery SELECT FROM  \n", "2 Query(Syntax(7))"),
+        // Flushes.
+        ("fleet 1 1 a\nflush", "2 Words"),
+        ("fleet 1 1 a\nflush 0\n", "2 Words"),
+        ("fleet 1 1 a\nflush a 0\n", "2 Words"),
+        ("fleet 1 1 a\nflush 0 a 1", "2 Words"),
+        ("fleet 1 1 a\nflush 0 A", "2 Words"),
+        ("fleet 1 1 a\nflush 1 b", "2 Leaf"),
+        ("fleet 1 1 a\nflush 18446744073709551616 a", "2 Leaf"),
+        ("fleet 1 1 a\nflush 0 b\n", "2 Table"),
+        (
+            "fleet 1 1 a b\n flush  00 b \r\nflush 0 a",
+            "fleet at 1, 1 of 1 a b, flush 0 1, flush 0 0",
+        ),
         // Leaves.
         ("fleet 1 1 a\ndrain", "2 Words"),
         ("fleet 1 1 a\ndrain 0 stop 1", "2 Words"),
         ("fleet 1 1 a\nstart 1", "2 Leaf"),
         ("fleet 1 1 a\ndrain 18446744073709551616\n", "2 Leaf"),
         ("fleet 1 1 a\nstart x", "2 Words"),
+        ("fleet 1 1 a\nkill", "2 Words"),
+        ("fleet 1 1 a\nkill 0 a", "2 Words"),
+        ("fleet 1 1 a\nkill 1\n", "2 Leaf"),
         // An earlier line's fault decides.
         ("fleet 1 1 a\nstart 1\nadd 0 a 1\n{\nkill", "2 Leaf"),
         ("fleet 1 1 a\nadd 0 a 1\n{\nkill\n", "3 Row(Json)"),
         (
-            "fleet 1 1 a\ndrain 0\n\nstart 0\n",
-            "fleet at 1, 1 of 1 a, drain 0, start 0",
+            "fleet 1 1 a\ndrain 0\n\nstart 0\nkill 0\nstart 0\n",
+            "fleet at 1, 1 of 1 a, drain 0, start 0, kill 0, start 0",
         ),
     ] {
         let got = shown(alloc, text)?;

@@ -9,7 +9,9 @@ pub enum Verb {
     Fleet,
     Add,
     Query,
+    Flush,
     Drain,
+    Kill,
     Start,
 }
 
@@ -23,8 +25,12 @@ pub fn verb_of(word: &[u8]) -> Option<Verb>
         Some(Verb::Add)
     } else if is_word(word, "query") {
         Some(Verb::Query)
+    } else if is_word(word, "flush") {
+        Some(Verb::Flush)
     } else if is_word(word, "drain") {
         Some(Verb::Drain)
+    } else if is_word(word, "kill") {
+        Some(Verb::Kill)
     } else if is_word(word, "start") {
         Some(Verb::Start)
     } else {

@@ -1,170 +1,228 @@
 -- A drain.
-use Rattle.std.proofs.Common.{◌≡◌, ℕ, suc, ◌<◌, ◌≤◌, ◌||◌, not, Bool, true, false, List, [], ◌∷◌, ◌++◌, length, refl, sym, ap, subst, ◌∙◌, arith, Some, None}
-use Rattle.std.specs.Prelude.{slice_get, IsTrue}
-use Rattle.leaf_history.specs.History.{Entry, TableState, after, write_count}
-use Rattle.region_layout.specs.declared.image.TableImage.{TableImage}
+use Rattle.std.proofs.Common.{◌≡◌, ℕ, ◌<◌, ◌||◌, Bool, true, List, [], ◌∷◌, ◌++◌, length, map, refl, sym, ap, subst, ◌∙◌, arith, Some, None}
+use Rattle.std.specs.Prelude.{IsTrue}
+use Rattle.leaf_model.specs.declared.writes.Write.{Write}
+use Rattle.berth_face.specs.Berth.{Meaning}
+use Rattle.leaf_history.specs.History.{TableState}
 use Rattle.region_layout.specs.Region.{AreDistinct}
-use Rattle.leaf_machine.specs.declared.ways.Way.TheVariants.{Memory}
+use Rattle.leaf_opening.specs.declared.ways.Way.{Way}
+use Rattle.leaf_opening.specs.declared.ways.Way.TheVariants.{Memory}
+use Rattle.leaf_opening.specs.Starts.{IsWayOf}
+use Rattle.leaf_machine.specs.Shutting.{Shutting, IsShutting}
+use Rattle.leaf_machine.specs.Shutting as shutting
+use Rattle.leaf_machine.specs.declared.notes.Note.{Note}
+use Rattle.leaf_machine.specs.Notes.{handed_notes}
+use Rattle.leaf_machine.specs.Prepares.{Halts, AllTreated}
 use Rattle.script_text.specs.declared.command.Command.{Command}
 use Rattle.script_text.specs.declared.command.Command.TheVariants as command
-use Rattle.printed_lines.specs.declared.line.Said.TheVariants as said
 use Rattle.printed_lines.specs.declared.line.Verb.TheVariants.{Drain}
+use Rattle.printed_lines.specs.declared.line.Ending.{Ending}
 use Rattle.printed_lines.specs.declared.line.Ending.TheVariants as ending
 use Rattle.printed_lines.specs.declared.line.Line.{Line}
 use Rattle.printed_lines.specs.declared.line.Line.TheVariants as line
-use Rattle.transcript.specs.Life.{Life, Down, Up, table_lines, Drains, drains, region_fails, no_memory, not_up}
-use Rattle.transcript.specs.Steps.{Leaf, IsDown, IsUp, next_numbers, closed_of, handed_of, DrainStep}
+use Rattle.printed_lines.specs.Lines.{name_at}
+use Rattle.transcript.specs.Life.{Life, Down, Preparing, Progress}
+use Rattle.transcript.specs.Life as life
+use Rattle.transcript.specs.Steps.{Leaf, IsDown, IsPreparing, TreatsOn, Leaves, Continues, note_lines, numbers_after, DrainMoves, DrainStep, StewardLines, Untouched}
 use Rattle.transcript.specs.Steps as steps
-use Rattle.transcript.specs.Transcript.{shown_in, state_after, has_loss}
-use Rattle.transcript.specs.Session.{Session, Stands, HoldsImage}
-use Rattle.transcript.proofs.Telling.{slice_get-map}
-use Rattle.transcript.proofs.Growing.{entries, TableStep}
-use Rattle.transcript.proofs.Running.{goes_on}
-use Rattle.transcript.proofs.Calling.{or_false}
-use Rattle.transcript.proofs.Ways.{handed_out}
-use Rattle.transcript.proofs.Stewarding.{length_names, length_next, counts, length_counts, closed_counts, handed_counts, no_loss_lines, quiet, one_shown, shut_entry, done_entry, image_at, image_found}
+use Rattle.transcript.specs.Session.{Session, Stands}
+use Rattle.transcript.proofs.Lists.{length_mapped, or_nothing, neither}
+use Rattle.transcript.proofs.Noting.{behind, unopened, numbers_from, numbers_from-length}
+use Rattle.transcript.proofs.Owing.{all_of}
+use Rattle.transcript.proofs.Serving.{all_named, moved_ends, moved_treated}
+use Rattle.transcript.proofs.Settled.{lines_split, some_fault, again_of}
+use Rattle.transcript.proofs.Starting.{down_life}
+use Rattle.transcript.proofs.Treating.{Through, treats_on, halts}
+use Rattle.transcript.proofs.Handing.{Begins, begins_with, Treated, treated_at, left_whole, handing, handed_lines, handed_at, handed_fine}
+use Rattle.transcript.proofs.Stewarding.{now_at, Steward, steward_goes_on, nothing_done, unopening}
 
-or_true : (b : Bool) → (b || true) ≡ true
-or_true true = refl
-or_true false = refl
+-- from where a drain begins its tables are treated
+through : (names : List (List ℕ)) (first : List ℕ → List Write) (f : Bool) (old : Life) (x y : Shutting) (m : Meaning) (states : ℕ → TableState) (treating : List Note) (numbers : List ℕ)
+    → AreDistinct names → (b : Begins names first f old x m states) → TreatsOn x treating y
+    → Through names f (all_of names x.serving.tables x.serving.log.owed b.serves.writes) states [] treating b.at y numbers
+through names first f old x y m states treating numbers d b t =
+    treats_on names f (all_of names x.serving.tables x.serving.log.owed b.serves.writes) states d t [] b.at numbers b.chain
 
--- what a drain makes of a leaf: its lines, the entries of each table, and the leaf behind them
-record Finished (names : List (List ℕ)) (life : Life) (lost : Bool) (c : Command) (states : ℕ → TableState) (ns : ℕ → ℕ) (lines : List Line) (leaf : Leaf) (region numbers : List ℕ) : Type 0 where
-  next : Life
-  ess : ℕ → List Entry
-  drains : Drains (length names) 0 life lines next
-  steps : (t : ℕ) → t < length names → TableStep t c lines lost (states t) (ns t) numbers (ess t)
-  stands : Stands names next (lost || has_loss 0 lines) leaf region (λ t. after (not lost) (states t) (ess t))
+all_named_in : (names : List (List ℕ)) (y : Shutting) (q : Progress) (count : ℕ) → q.treated ≡ y.treated → AllTreated y → length y.serving.tables ≡ count → q.treated ≡ count
+all_named_in names y q count e done size = e ∙ (done ∙ size)
 
--- what is known of the tables of a leaf that is up
-abbrev AreKnown : List (List ℕ) → List ℕ → (ℕ → TableState) → (ℕ → ℕ) → Type 0
-AreKnown names numbers states ns = (t : ℕ) → t < length names → (slice_get numbers t ≡ Some (ns t)) × ((states t).flushed ≤ write_count (states t))
+-- ---- each table is treated, and the leaf is down
 
-closed_step : (lost : Bool) (c : Command) (states : ℕ → TableState) (ns : ℕ → ℕ) (numbers : List ℕ) (tables : List TableImage) (rest : List Line) (t : ℕ)
-    → slice_get tables t ≡ Some (image_at tables t) → slice_get numbers t ≡ Some (ns t) → shown_in 0 t c rest ≡ []
-    → (states t).live ≡ true → (states t).flushed ≤ write_count (states t) → HoldsImage (states t) (image_at tables t)
-    → TableStep t c (table_lines 0 0 (next_numbers numbers) (closed_of tables) ++ rest) lost (states t) (ns t) (next_numbers numbers) (shut_entry (image_at tables t) ∷ [])
-closed_step lost c states ns numbers tables rest t found at none live flushed holds =
-    let image = image_at tables t in
-    record {
-      tells = rw (
-        one_shown t c (next_numbers numbers) (closed_of tables) rest (suc (ns t)) (said.Closed image.writes)
-            (slice_get-map suc numbers t (ns t) at) (slice_get-map (λ (u : TableImage). said.Closed u.writes) tables t image found),
-        none,
-      ) (refl, (refl, refl), tt);
-      legal = ((refl, live, sym holds.1), tt);
-      number = slice_get-map suc numbers t (ns t) at ∙ ap Some (omega arith);
-      flushed = flushed;
-    }
+treated_each : (names : List (List ℕ)) (first : List ℕ → List Write) (f : Bool) (old : Life) (x y : Shutting) (m m' : Meaning) (states : ℕ → TableState) (treating : List Note) (numbers : List ℕ)
+    → AreDistinct names → (b : Begins names first f old x m states) → (t : TreatsOn x treating y) → AllTreated y → (left : Leaves x m m')
+    → (th : Through names f (all_of names x.serving.tables x.serving.log.owed b.serves.writes) states [] treating b.at y numbers)
+    → (i : ℕ) → i < length names → Treated f (th.chain.moved.states i) ((left b.serves.writes b.serves.backed).0 (name_at names i))
+treated_each names first f old x y m m' states treating numbers d b t done left th =
+    let on = left b.serves.writes b.serves.backed in
+    treated_at names f (all_of names x.serving.tables x.serving.log.owed b.serves.writes) states treating y th.q on.0 d th.chain done
+    (λ name. on.2 name ∙ sym (all_named names x.serving b.serves.writes name b.serves.named))
 
-handed_step : (lost : Bool) (c : Command) (states : ℕ → TableState) (ns : ℕ → ℕ) (numbers : List ℕ) (tables : List TableImage) (rest : List Line) (t : ℕ)
-    → slice_get tables t ≡ Some (image_at tables t) → slice_get numbers t ≡ Some (ns t) → shown_in 0 t c rest ≡ []
-    → (states t).live ≡ true → (states t).flushed ≤ write_count (states t) → HoldsImage (states t) (image_at tables t)
-    → TableStep t c (table_lines 0 0 (next_numbers numbers) (closed_of tables) ++ (table_lines 0 0 (next_numbers (next_numbers numbers)) (handed_of tables) ++ rest)) lost
-    (states t) (ns t) (next_numbers (next_numbers numbers)) (shut_entry (image_at tables t) ∷ (done_entry ∷ []))
-handed_step lost c states ns numbers tables rest t found at none live flushed holds =
-    let image = image_at tables t in
-    let once = slice_get-map suc numbers t (ns t) at in
-    let twice = slice_get-map suc (next_numbers numbers) t (suc (ns t)) once in
-    record {
-      tells = rw (
-        one_shown t c (next_numbers numbers) (closed_of tables) (table_lines 0 0 (next_numbers (next_numbers numbers)) (handed_of tables) ++ rest) (suc (ns t)) (said.Closed image.writes)
-            once (slice_get-map (λ (u : TableImage). said.Closed u.writes) tables t image found),
-        one_shown t c (next_numbers (next_numbers numbers)) (handed_of tables) rest (suc (suc (ns t))) said.Handed
-            twice (slice_get-map (λ (u : TableImage). said.Handed) tables t image found),
-        none,
-      ) (refl, (refl, refl), (refl, refl, tt));
-      legal = ((refl, live, sym holds.1), ((refl, refl, refl), tt));
-      number = twice ∙ ap Some (omega arith);
-      flushed = flushed;
-    }
+drained : (names : List (List ℕ)) (first : List ℕ → List Write) (f : Bool) (old : Life) (x y : Shutting) (m m' : Meaning) (states : ℕ → TableState) (treating notes : List Note) (numbers : List ℕ) (lines : List Line)
+    → AreDistinct names → Begins names first f old x m states → TreatsOn x treating y → AllTreated y
+    → notes ≡ treating ++ handed_notes 0 x.serving.names
+    → Leaves x m m' × IsWayOf m'.held.region Memory
+    → lines ≡ note_lines notes numbers ++ line.Ended Drain 0 ending.Done ∷ []
+    → Steward names first f old states (command.Drain 0) lines notes ending.Done IsDown m'
+drained names first f old x y m m' states treating notes numbers lines d b t done notes_are left lines_are =
+    let th = through names first f old x y m states treating numbers d b t in
+    let treated = treated_each names first f old x y m m' states treating numbers d b t done left.0 th in
+    let named : notes ≡ treating ++ handed_notes 0 names = notes_are ∙ ap (λ ns. treating ++ handed_notes 0 ns) b.chain.named in
+    let ended : List Line = line.Ended Drain 0 ending.Done ∷ [] in
+    let later = numbers_after treating numbers in
+    let handings = numbers_from 0 (map handing names) later in
+    let size : length handings ≡ length names = numbers_from-length 0 (map handing names) later ∙ length_mapped handing names in
+    rw named
+    (unopening names first f old states (command.Drain 0) lines (treating ++ handed_notes 0 names) ending.Done (Down (Some Memory)) IsDown m' (
+      old,
+      Down (Some Memory),
+      refl,
+      life.drains b.way b.at th.q (note_lines treating numbers) handings b.begins th.life
+          (all_named_in names y th.q (length names) th.chain.treated done th.chain.moved.size) size
+          (lines_are ∙ (ap (λ ns. note_lines ns numbers ++ ended) named ∙ (lines_split treating (handed_notes 0 names) numbers ended
+          ∙ ap (λ ls. note_lines treating numbers ++ (ls ++ ended)) (handed_lines names later)))) refl,
+      refl,
+    )
+    (λ i below. handed_fine names f treating states th.chain.moved.states _ i below (th.chain.moved.states_are i) (treated i below) (th.chain.moved.fine i below))
+    (subst (λ g. Stands names first g (Down (Some Memory)) IsDown m' (behind unopened (treating ++ handed_notes 0 names) states)) (sym (or_nothing f)) (
+      left_whole names first f x m m' states (behind unopened (treating ++ handed_notes 0 names) states) b.serves left.0
+          (λ i below. handed_at names f treating states th.chain.moved.states ((left.0 b.serves.writes b.serves.backed).0 (name_at names i)) i below (th.chain.moved.states_are i) (treated i below)),
+      left.1,
+    )))
 
-finished : (names : List (List ℕ)) (life : Life) (lost : Bool) (c : Command) (states : ℕ → TableState) (ns : ℕ → ℕ) (tells : Bool) (leaf : Leaf) (lines : List Line) (region region' numbers numbers' : List ℕ) (leaf' : Leaf)
-    → IsTrue tells → AreDistinct names
-    → AreKnown names numbers states ns
-    → length numbers ≡ length names
-    → Stands names life lost leaf region states
-    → DrainStep tells region region' leaf numbers lines leaf' numbers'
-    → Finished names life lost c states ns lines leaf' region' numbers'
-finished names Up lost c states ns tells (IsUp us) lines region region' numbers numbers' leaf' told distinct each count stands (steps.done tables up image lines_are leaf_is numbers_are) =
-    let same : us ≡ tables = same_tables us tables up in
-    let h : Stands names Up lost (IsUp tables) region states = subst (λ ts. Stands names Up lost (IsUp ts) region states) same stands in
-    let len : length tables ≡ length names = length_names tables names h.0 in
-    let found : (t : ℕ) → t < length names → slice_get tables t ≡ Some (image_at tables t) = λ t below. image_found tables t (omega (arith, below, len)) in
-    rw (lines_are, leaf_is, numbers_are) (record {
-      next = Down (Some Memory);
-      ess = λ t. shut_entry (image_at tables t) ∷ (done_entry ∷ []);
-      drains = drains (next_numbers numbers) (next_numbers (next_numbers numbers)) (counts tables) refl
-          (length_next numbers ∙ count) (length_next (next_numbers numbers) ∙ (length_next numbers ∙ count)) (length_counts tables ∙ len)
-          (rw (closed_counts tables, handed_counts tables) refl) refl;
-      steps = λ t below. handed_step lost c states ns numbers tables (line.Ended Drain 0 ending.Done ∷ []) t (found t below) (each t below).0 refl
-          (h.1 t (image_at tables t) (found t below)).0 (each t below).1 (h.1 t (image_at tables t) (found t below)).1;
-      stands = (
-        λ t below. refl,
-        (
-          (tables, 0, image told),
-          λ t below. handed_out names region' tables t (image_at tables t) (after (not lost) (states t) (shut_entry (image_at tables t) ∷ (done_entry ∷ [])))
-              distinct h.0 (image told) (found t below) (h.1 t (image_at tables t) (found t below)).1,
-        ),
-      );
-    })
-  where
-    same_tables : (a b : List TableImage) → IsUp a ≡ IsUp b → a ≡ b
-    same_tables a b e = cc
-finished names Up lost c states ns tells (IsUp us) lines region region' numbers numbers' leaf' told distinct each count stands (steps.failed tables up lines_are leaf_is numbers_are) =
-    let same : us ≡ tables = same_tables us tables up in
-    let h : Stands names Up lost (IsUp tables) region states = subst (λ ts. Stands names Up lost (IsUp ts) region states) same stands in
-    let len : length tables ≡ length names = length_names tables names h.0 in
-    let found : (t : ℕ) → t < length names → slice_get tables t ≡ Some (image_at tables t) = λ t below. image_found tables t (omega (arith, below, len)) in
-    rw (lines_are, leaf_is, numbers_are) (record {
-      next = Down None;
-      ess = λ t. shut_entry (image_at tables t) ∷ [];
-      drains = region_fails (next_numbers numbers) (counts tables) refl (length_next numbers ∙ count) (length_counts tables ∙ len)
-          (ap (λ ss. table_lines 0 0 (next_numbers numbers) ss ++ line.Ended Drain 0 ending.FaultRegion ∷ []) (closed_counts tables)) refl;
-      steps = λ t below. closed_step lost c states ns numbers tables (line.Ended Drain 0 ending.FaultRegion ∷ []) t (found t below) (each t below).0 refl
-          (h.1 t (image_at tables t) (found t below)).0 (each t below).1 (h.1 t (image_at tables t) (found t below)).1;
-      stands = (λ t below. refl, ap (λ x. lost || x) (no_loss_lines 0 (next_numbers numbers) (closed_of tables) (line.Ended Drain 0 ending.FaultRegion ∷ [])) ∙ or_true lost);
-    })
-  where
-    same_tables : (a b : List TableImage) → IsUp a ≡ IsUp b → a ≡ b
-    same_tables a b e = cc
-finished names Up lost c states ns tells (IsUp us) lines region region' numbers numbers' leaf' told distinct each count stands (steps.starved tables up lines_are leaf_is numbers_are) =
-    rw (lines_are, leaf_is, numbers_are) (record {
-      next = Up;
-      ess = λ t. [];
-      drains = no_memory refl refl refl;
-      steps = λ t below. quiet t c Drain ending.FaultMemory lost (states t) (ns t) numbers (each t below).0 (each t below).1;
-      stands = subst (λ b. Stands names Up b (IsUp us) region' states) (sym (or_false lost)) stands;
-    })
-finished names Up lost c states ns tells (IsUp us) lines region region' numbers numbers' leaf' told distinct each count stands (steps.not_up down same lines_are leaf_is numbers_are) = cc
-finished names Up lost c states ns tells IsDown lines region region' numbers numbers' leaf' told distinct each count stands step = absurd stands
-finished names (Down claim) lost c states ns tells (IsUp us) lines region region' numbers numbers' leaf' told distinct each count stands step = absurd stands
-finished names (Down claim) lost c states ns tells IsDown lines region region' numbers numbers' leaf' told distinct each count stands (steps.done tables up image lines_are leaf_is numbers_are) = cc
-finished names (Down claim) lost c states ns tells IsDown lines region region' numbers numbers' leaf' told distinct each count stands (steps.failed tables up lines_are leaf_is numbers_are) = cc
-finished names (Down claim) lost c states ns tells IsDown lines region region' numbers numbers' leaf' told distinct each count stands (steps.starved tables up lines_are leaf_is numbers_are) = cc
-finished names (Down claim) lost c states ns tells IsDown lines region region' numbers numbers' leaf' told distinct each count stands (steps.not_up down same lines_are leaf_is numbers_are) =
-    rw (lines_are, leaf_is, numbers_are, same told) (record {
-      next = Down claim;
-      ess = λ t. [];
-      drains = not_up claim refl refl refl;
-      steps = λ t below. quiet t c Drain ending.NotUp lost (states t) (ns t) numbers (each t below).0 (each t below).1;
-      stands = subst (λ b. Stands names (Down claim) b IsDown region states) (sym (or_false lost)) stands;
-    })
+-- the region failed
+lost : (names : List (List ℕ)) (first : List ℕ → List Write) (f : Bool) (old : Life) (x y : Shutting) (m m' : Meaning) (states : ℕ → TableState) (notes : List Note) (numbers : List ℕ) (lines : List Line)
+    → AreDistinct names → Begins names first f old x m states → TreatsOn x notes y → AllTreated y
+    → Leaves x m m'
+    → lines ≡ note_lines notes numbers ++ line.Ended Drain 0 ending.FaultRegion ∷ []
+    → Steward names first f old states (command.Drain 0) lines notes ending.FaultRegion IsDown m'
+lost names first f old x y m m' states notes numbers lines d b t done left lines_are =
+    let th = through names first f old x y m states notes numbers d b t in
+    let treated = treated_each names first f old x y m m' states notes numbers d b t done left th in
+    unopening names first f old states (command.Drain 0) lines notes ending.FaultRegion (Down None) IsDown m' (
+      old,
+      Down None,
+      refl,
+      life.region_fails b.way b.at th.q (note_lines notes numbers) b.begins th.life
+          (all_named_in names y th.q (length names) th.chain.treated done th.chain.moved.size) lines_are refl,
+      refl,
+    )
+    th.chain.moved.fine
+    (subst (λ g. Stands names first g (Down None) IsDown m' (behind unopened notes states)) (sym (or_nothing f)) (
+      left_whole names first f x m m' states (behind unopened notes states) b.serves left
+          (λ i below. subst (λ s. Treated f s ((left b.serves.writes b.serves.backed).0 (name_at names i))) (sym (th.chain.moved.states_are i)) (treated i below)),
+      tt,
+    ))
 
-drain_count : (tells : Bool) (region region' : List ℕ) (leaf : Leaf) (numbers : List ℕ) (lines : List Line) (leaf' : Leaf) (numbers' : List ℕ)
-    → DrainStep tells region region' leaf numbers lines leaf' numbers' → length numbers' ≡ length numbers
-drain_count tells region region' leaf numbers lines leaf' numbers' (steps.done tables up image lines_are leaf_is numbers_are) = ap length numbers_are ∙ (length_next (next_numbers numbers) ∙ length_next numbers)
-drain_count tells region region' leaf numbers lines leaf' numbers' (steps.failed tables up lines_are leaf_is numbers_are) = ap length numbers_are ∙ length_next numbers
-drain_count tells region region' leaf numbers lines leaf' numbers' (steps.starved tables up lines_are leaf_is numbers_are) = ap length numbers_are
-drain_count tells region region' leaf numbers lines leaf' numbers' (steps.not_up down same lines_are leaf_is numbers_are) = ap length numbers_are
+-- ---- the leaf goes on shutting its tables
 
-pub drain_goes_on : (names : List (List ℕ)) (first : Life) (bases : ℕ → TableState) (commands : List Command) (out : List Line) (leaf : Leaf) (region region' numbers : List ℕ)
-    (tells : Bool) (lines : List Line) (leaf' : Leaf) (numbers' : List ℕ)
-    → IsTrue tells
-    → Session names first bases commands out leaf region numbers → DrainStep tells region region' leaf numbers lines leaf' numbers'
-    → Session names first bases (commands ++ command.Drain 0 ∷ []) (out ++ lines) leaf' region' numbers'
-drain_goes_on names first bases commands out leaf region region' numbers tells lines leaf' numbers' told s step =
-    let d = finished names s.life s.lost (command.Drain 0) (λ t. state_after (bases t) (s.histories t)) (λ t. length (entries (s.histories t))) tells leaf lines region region' numbers numbers' leaf' told
-    s.distinct (λ t below. ((s.tables t below).number, (s.tables t below).flushed)) s.count s.stands step in
-    goes_on names first bases commands out leaf region numbers (record { command = command.Drain 0; lines = lines }) d.ess d.next leaf' region' numbers' s
-    (s.life, d.next, refl, d.drains, refl) d.steps (tt, tt) d.stands (drain_count tells region region' leaf numbers lines leaf' numbers' step ∙ s.count)
+starved : (names : List (List ℕ)) (first : List ℕ → List Write) (f : Bool) (old : Life) (x y : Shutting) (m m' : Meaning) (states : ℕ → TableState) (notes : List Note) (numbers : List ℕ) (lines : List Line)
+    → AreDistinct names → Begins names first f old x m states → TreatsOn x notes y → AllTreated y
+    → Continues x.serving y.serving m m' → IsShutting y
+    → lines ≡ note_lines notes numbers ++ line.Ended Drain 0 ending.FaultMemory ∷ []
+    → Steward names first f old states (command.Drain 0) lines notes ending.FaultMemory (IsPreparing y) m'
+starved names first f old x y m m' states notes numbers lines d b t done on is lines_are =
+    let th = through names first f old x y m states notes numbers d b t in
+    let all = all_of names x.serving.tables x.serving.log.owed b.serves.writes in
+    let mv = th.chain.moved in
+    unopening names first f old states (command.Drain 0) lines notes ending.FaultMemory (Preparing b.way th.q) (IsPreparing y) m' (
+      old,
+      Preparing b.way th.q,
+      refl,
+      life.no_memory b.way b.at th.q (note_lines notes numbers) b.begins th.life
+          (all_named_in names y th.q (length names) th.chain.treated done mv.size) lines_are refl,
+      refl,
+    )
+    mv.fine
+    (subst (λ g. Stands names first g (Preparing b.way th.q) (IsPreparing y) m' (behind unopened notes states)) (sym (or_nothing f)) (
+      moved_ends names first f f all states notes (shutting.first_open y) y.treated y.serving y.serving.owner y.serving.count m' (λ e. e) mv
+          (again_of names first f f x.serving y.serving (shutting.first_open x) m m' states b.serves on.goes_on (th.chain.named ∙ sym b.chain.named) (λ e. is.settled done)),
+      subst (λ region. IsWayOf region b.way) (sym on.region) b.way_is,
+      th.chain.owed,
+      th.chain.treated,
+      th.chain.shut,
+      moved_treated names f all states notes (shutting.first_open y) y.treated y.serving.tables y.serving.log.owed y.serving.owner y.serving.count mv,
+      is,
+    ))
+
+halted : (names : List (List ℕ)) (first : List ℕ → List Write) (f : Bool) (old : Life) (x y z : Shutting) (m m' : Meaning) (states : ℕ → TableState) (treating halting notes : List Note) (numbers : List ℕ) (lines : List Line)
+    → AreDistinct names → Begins names first f old x m states → TreatsOn x treating y → y.treated < length y.serving.tables
+    → Halts y z halting → z.serving.names ≡ y.serving.names → notes ≡ treating ++ halting
+    → Continues x.serving z.serving m m' → IsShutting z
+    → lines ≡ note_lines notes numbers ++ line.Ended Drain 0 ending.FaultDisk ∷ []
+    → Steward names first f old states (command.Drain 0) lines notes ending.FaultDisk (IsPreparing z) m'
+halted names first f old x y z m m' states treating halting notes numbers lines d b t few h named notes_are on is lines_are =
+    let th = through names first f old x y m states treating numbers d b t in
+    let all = all_of names x.serving.tables x.serving.log.owed b.serves.writes in
+    let back = on.goes_on b.serves.writes b.serves.backed in
+    let ended : List Line = line.Ended Drain 0 ending.FaultDisk ∷ [] in
+    let hl = halts names f all states treating halting y z th.q (numbers_after treating numbers) back.0 m' d th.chain h named back.1 in
+    rw notes_are
+    (unopening names first f old states (command.Drain 0) lines (treating ++ halting) ending.FaultDisk (Preparing b.way hl.r) (IsPreparing z) m' (
+      old,
+      Preparing b.way hl.r,
+      refl,
+      life.disk_fails b.way b.at th.q hl.r (note_lines treating numbers) (note_lines halting (numbers_after treating numbers)) b.begins th.life
+          (omega (arith, few, th.chain.treated, th.chain.moved.size)) hl.life
+          (lines_are ∙ (ap (λ ns. note_lines ns numbers ++ ended) notes_are ∙ lines_split treating halting numbers ended)) refl,
+      refl,
+    )
+    hl.moved.fine (
+      moved_ends names first f (f || true) all states (treating ++ halting) (shutting.first_open z) z.treated z.serving hl.owner hl.count m' (neither f true) hl.moved
+          (again_of names first f (f || true) x.serving z.serving (shutting.first_open x) m m' states b.serves on.goes_on (named ∙ (th.chain.named ∙ sym b.chain.named)) (λ e. absurd (some_fault f e))),
+      subst (λ region. IsWayOf region b.way) (sym on.region) b.way_is,
+      hl.owed,
+      hl.treated,
+      hl.shut,
+      moved_treated names f all states (treating ++ halting) (shutting.first_open z) z.treated z.serving.tables z.serving.log.owed hl.owner hl.count hl.moved,
+      is,
+    ))
+
+-- ---- any drain
+
+told_lines : (notes : List Note) (numbers : List ℕ) (ends e : Ending) (lines : List Line) → ends ≡ e → lines ≡ note_lines notes numbers ++ line.Ended Drain 0 ends ∷ []
+    → lines ≡ note_lines notes numbers ++ line.Ended Drain 0 e ∷ []
+told_lines notes numbers ends e lines is h = subst (λ x. lines ≡ note_lines notes numbers ++ line.Ended Drain 0 x ∷ []) is h
+
+draining : (names : List (List ℕ)) (first : List ℕ → List Write) (f : Bool) (old : Life) (m m' : Meaning) (states : ℕ → TableState) (leaf leaf' : Leaf) (numbers numbers' : List ℕ) (lines : List Line)
+    (notes : List Note) (ends : Ending)
+    → IsTrue m.tells → AreDistinct names
+    → Stands names first f old leaf m states
+    → DrainMoves m m' leaf notes ends leaf' → StewardLines Drain notes ends numbers lines numbers' → (leaf ≡ IsDown → Untouched m m')
+    → Steward names first f old states (command.Drain 0) lines notes ends leaf' m'
+draining names first f old m m' states leaf leaf' numbers numbers' lines notes ends tells d h (steps.done x y treating shuts t done notes_are left ends_are leaf_is) prints others =
+    rw (ends_are, leaf_is)
+    (drained names first f old x y m m' states treating notes numbers lines d (begins_with names first f old leaf x m states h shuts) t done notes_are (left tells)
+    (told_lines notes numbers ends ending.Done lines ends_are prints.lines_are))
+draining names first f old m m' states leaf leaf' numbers numbers' lines notes ends tells d h (steps.failed x y shuts t done left ends_are leaf_is) prints others =
+    rw (ends_are, leaf_is)
+    (lost names first f old x y m m' states notes numbers lines d (begins_with names first f old leaf x m states h shuts) t done (left tells)
+    (told_lines notes numbers ends ending.FaultRegion lines ends_are prints.lines_are))
+draining names first f old m m' states leaf leaf' numbers numbers' lines notes ends tells d h (steps.starved x y shuts t done on is ends_are leaf_is) prints others =
+    rw (ends_are, leaf_is)
+    (starved names first f old x y m m' states notes numbers lines d (begins_with names first f old leaf x m states h shuts) t done (on tells) is
+    (told_lines notes numbers ends ending.FaultMemory lines ends_are prints.lines_are))
+draining names first f old m m' states leaf leaf' numbers numbers' lines notes ends tells d h (steps.halted x y z treating halting shuts t few hl named notes_are on is ends_are leaf_is) prints others =
+    rw (ends_are, leaf_is)
+    (halted names first f old x y z m m' states treating halting notes numbers lines d (begins_with names first f old leaf x m states h shuts) t few hl named notes_are (on tells) is
+    (told_lines notes numbers ends ending.FaultDisk lines ends_are prints.lines_are))
+draining names first f old m m' states leaf leaf' numbers numbers' lines notes ends tells d h (steps.not_up down notes_are ends_are leaf_is) prints others =
+    let l = down_life names first f old leaf m states h down in
+    rw (notes_are, ends_are, leaf_is)
+    (nothing_done names first f old leaf m m' states (command.Drain 0) lines ending.NotUp (
+      old,
+      old,
+      refl,
+      life.not_up (subst life.IsDownLife (sym l.is) tt)
+          (told_lines [] numbers ends ending.NotUp lines ends_are (subst (λ ns. lines ≡ note_lines ns numbers ++ line.Ended Drain 0 ends ∷ []) notes_are prints.lines_are)) refl,
+      refl,
+    )
+    refl (others down) h)
+
+pub drain_goes_on : (names : List (List ℕ)) (way : Way) (first : List ℕ → List Write) (commands : List Command) (out : List Line) (leaf : Leaf) (m m' : Meaning) (numbers : List ℕ)
+    (lines : List Line) (leaf' : Leaf) (numbers' : List ℕ)
+    → IsTrue m.tells
+    → Session names way first commands out leaf m numbers → DrainStep m m' leaf numbers lines leaf' numbers'
+    → Session names way first (commands ++ command.Drain 0 ∷ []) (out ++ lines) leaf' m' numbers'
+drain_goes_on names way first commands out leaf m m' numbers lines leaf' numbers' tells s step =
+    steward_goes_on names way first commands out leaf m numbers (command.Drain 0) Drain step.notes step.ends lines leaf' m' numbers' s step.prints (λ hs. (tt, tt))
+    (draining names first s.faulted s.life m m' (now_at names first s.histories) leaf leaf' numbers numbers' lines step.notes step.ends tells s.distinct s.stands step.moves step.prints step.others)

@@ -1,176 +1,294 @@
 -- A start.
-use Rattle.std.proofs.Common.{◌≡◌, ℕ, suc, ◌<◌, ◌≤◌, ◌||◌, not, Bool, true, false, List, [], ◌∷◌, ◌++◌, length, refl, sym, ap, subst, ◌∙◌, arith, Option, Some, None}
-use Rattle.std.specs.Prelude.{slice_get, IsTrue}
-use Rattle.std.proofs.lemmas.List.{append-nil}
-use Rattle.leaf_history.specs.History.{Entry, TableState, after, write_count, opened}
-use Rattle.region_layout.specs.declared.image.TableImage.{TableImage}
-use Rattle.leaf_machine.specs.declared.ways.Way.{Way}
-use Rattle.leaf_machine.specs.declared.ways.StartFault.{StartFault}
-use Rattle.leaf_machine.specs.declared.ways.StartFault.TheVariants as fault
-use Rattle.leaf_machine.specs.Tables.{contents_of, names_of}
-use Rattle.leaf_machine.specs.Starts.{IsWay}
+use Rattle.std.proofs.Common.{◌≡◌, ℕ, suc, ◌-◌, ◌<◌, ◌||◌, not, Bool, true, false, List, [], ◌∷◌, ◌++◌, length, map, take, refl, sym, ap, subst, ◌∙◌, arith, Option, Some, None}
+use Rattle.std.specs.Prelude.{slice_get, IsTrue, IfSome}
+use Rattle.std.proofs.lemmas.List.{append-nil, length-take}
+use Rattle.leaf_model.specs.declared.writes.Write.{Write}
+use Rattle.leaf_model.specs.Content.{Contents, nothing, content, content_from}
+use Rattle.berth_face.specs.Berth.{Meaning}
+use Rattle.leaf_history.specs.Calls as call
+use Rattle.leaf_history.specs.Replies as reply
+use Rattle.leaf_history.specs.History.{Entry, TableState, LegalFrom, MayOpen, after, opened}
+use Rattle.table_state.specs.Tables.{Table}
+use Rattle.disk_backup.specs.Settling.{with_writes}
+use Rattle.leaf_opening.specs.declared.ways.Way.{Way}
+use Rattle.leaf_opening.specs.declared.ways.StartFault.{StartFault}
+use Rattle.leaf_opening.specs.declared.ways.StartFault.TheVariants as fault
+use Rattle.leaf_opening.specs.Serving.{Serving}
+use Rattle.leaf_opening.specs.Backed.{Backed, Rests, untaken, writes_in}
+use Rattle.leaf_opening.specs.Starts.{IsWayOf, AreFresh, way_after}
+use Rattle.leaf_machine.specs.declared.notes.Note.{Note}
+use Rattle.leaf_machine.specs.declared.notes.What.{What}
+use Rattle.leaf_machine.specs.declared.notes.What.TheVariants as what
+use Rattle.leaf_machine.specs.Notes.{opened_notes, note}
 use Rattle.script_text.specs.declared.command.Command.{Command}
 use Rattle.script_text.specs.declared.command.Command.TheVariants as command
 use Rattle.printed_lines.specs.declared.line.Said.TheVariants as said
 use Rattle.printed_lines.specs.declared.line.Verb.TheVariants.{Start}
+use Rattle.printed_lines.specs.declared.line.Ending.{Ending}
 use Rattle.printed_lines.specs.declared.line.Ending.TheVariants as ending
 use Rattle.printed_lines.specs.declared.line.Line.{Line}
 use Rattle.printed_lines.specs.declared.line.Line.TheVariants as line
-use Rattle.transcript.specs.Life.{Life, Down, Up, table_lines, IsStartRefusal, Starts, opens, refuses, not_down}
-use Rattle.transcript.specs.Steps.{Leaf, IsDown, IsUp, next_numbers, ending_of, opened_of, StartStep}
+use Rattle.printed_lines.specs.Lines.{name_at}
+use Rattle.transcript.specs.Life.{Life, Down, Up, Preparing, table_lines, IsDownLife, IsStartRefusal, Starts}
+use Rattle.transcript.specs.Life as life
+use Rattle.transcript.specs.Steps.{Leaf, IsDown, IsUp, IsPreparing, ending_of, said_of_note, note_lines, StartsTold, StartMoves, StartStep, StewardLines, Untouched}
 use Rattle.transcript.specs.Steps as steps
-use Rattle.std.proofs.lemmas.Option.{slice_get_within}
-use Rattle.transcript.specs.Transcript.{Chronicle, Prints, shown_in, state_after, has_loss}
-use Rattle.transcript.specs.Session.{Session, Stands, HoldsImage, Answered, one_leaf, scene_of}
-use Rattle.transcript.proofs.Telling.{slice_get-map}
-use Rattle.transcript.proofs.Growing.{entries, grown, TableStep}
-use Rattle.transcript.proofs.Running.{goes_on}
-use Rattle.transcript.proofs.Calling.{same_some, or_false}
-use Rattle.transcript.proofs.Stewarding.{length_names, length_next, counts, length_counts, opened_counts, quiet, one_shown, open_entry, image_at, image_found, may_open, open_allowed, open_holds, open_live, open_flushed, claimed_holds, claimed_way}
-
-or_true : (b : Bool) → (b || true) ≡ true
-or_true true = refl
-or_true false = refl
+use Rattle.transcript.specs.Transcript.{Prints, OpensFlushed, is_disk_fault}
+use Rattle.transcript.specs.Session.{Session, Stands, RestsAs, ServesAs, IsRestOf, IsServed, Answered, one_leaf, scene_of}
+use Rattle.transcript.proofs.Lists.{element_at, within, name_found, All_at, get_map, length_mapped, lt_false, or_nothing, neither}
+use Rattle.transcript.proofs.Noting.{steward, entries_at, behind, notes_from, numbers_from, numbers_from-length, lines_from, entries_placed}
+use Rattle.transcript.proofs.Ways.{same_way, way_left}
+use Rattle.transcript.proofs.Stewarding.{now_at, Steward, steward_goes_on, nothing_done, unopening}
 
 -- a command that starts the leaf, and is no query
-record StartsLeaf (names : List (List ℕ)) (c : Command) : Type 0 where
-  prints : (life next : Life) (lines : List Line) → Starts (length names) 0 life lines next → Prints (one_leaf names) (scene_of life) c lines (scene_of next)
-  no_answer : (bases : ℕ → TableState) (hs : ℕ → Chronicle) (lines : List Line) → Answered names bases hs (record { command = c; lines = lines })
+pub record StartsLeaf (names : List (List ℕ)) (first : List ℕ → List Write) (c : Command) : Type 0 where
+  pub prints : (old next : Life) (lines : List Line) → Starts (length names) 0 old lines next → Prints (one_leaf names) (scene_of old) c lines (scene_of next)
+  pub no_answer : (hs : ℕ → List Entry) (lines : List Line) → Answered names first hs (record { command = c; lines = lines })
 
--- what a start makes of a leaf: its lines, the entries of each table, and the leaf behind them
-record Begun (names : List (List ℕ)) (life : Life) (lost : Bool) (c : Command) (states : ℕ → TableState) (ns : ℕ → ℕ) (lines : List Line) (leaf : Leaf) (region numbers : List ℕ) : Type 0 where
-  next : Life
-  ess : ℕ → List Entry
-  starts : Starts (length names) 0 life lines next
-  steps : (t : ℕ) → t < length names → TableStep t c lines lost (states t) (ns t) numbers (ess t)
-  stands : Stands names next (lost || has_loss 0 lines) leaf region (λ t. after (not lost) (states t) (ess t))
+-- ---- notes
 
-opened_step : (names : List (List ℕ)) (lost : Bool) (c : Command) (states : ℕ → TableState) (ns : ℕ → ℕ) (numbers : List ℕ) (tables : List TableImage) (rest : List Line) (t : ℕ)
-    → t < length names → length tables ≡ length names → slice_get numbers t ≡ Some (ns t) → shown_in 0 t c rest ≡ []
-    → (states t).live ≡ false → (states t).flushed ≤ write_count (states t) → (not lost ≡ true → HoldsImage (states t) (image_at tables t))
-    → TableStep t c (table_lines 0 0 (next_numbers numbers) (opened_of tables) ++ rest) lost (states t) (ns t) (next_numbers numbers) (open_entry (image_at tables t) ∷ [])
-opened_step names lost c states ns numbers tables rest t below len at none shut flushed holds =
-    let image = image_at tables t in
-    let found : slice_get tables t ≡ Some image = image_found tables t (omega (arith, below, len)) in
-    record {
-      tells = rw (
-        one_shown t c (next_numbers numbers) (opened_of tables) rest (suc (ns t)) (said.Opened image.writes)
-            (slice_get-map suc numbers t (ns t) at) (slice_get-map (λ (u : TableImage). said.Opened u.writes) tables t image found),
-        none,
-      ) (refl, (contents_of image, refl), tt);
-      legal = ((refl, shut, open_allowed (not lost) (states t) image (λ e. may_open (states t) image flushed (holds e)), refl), tt);
-      number = slice_get-map suc numbers t (ns t) at ∙ ap Some (omega arith);
-      flushed = open_flushed (not lost) (states t) image holds;
+abbrev opening : Table → What
+opening t = what.Opened t.writes
+
+opened_as : (place : ℕ) (ts : List Table) → opened_notes place ts ≡ notes_from place (map opening ts)
+opened_as place [] = refl
+opened_as place (t ∷ ts) = ap (λ ns. note place (what.Opened t.writes) ∷ ns) (opened_as (suc place) ts)
+
+opened_said : (ts : List Table) → map said_of_note (map opening ts) ≡ map said.Opened (map (λ (t : Table). t.writes) ts)
+opened_said [] = refl
+opened_said (t ∷ ts) = ap (λ ss. said.Opened t.writes ∷ ss) (opened_said ts)
+
+opened_lines : (ts : List Table) (numbers : List ℕ) → note_lines (opened_notes 0 ts) numbers ≡ table_lines 0 0 (numbers_from 0 (map opening ts) numbers) (map said.Opened (map (λ (t : Table). t.writes) ts))
+opened_lines ts numbers =
+    ap (λ ns. note_lines ns numbers) (opened_as 0 ts)
+    ∙ (lines_from 0 (map opening ts) numbers ∙ ap (table_lines 0 0 (numbers_from 0 (map opening ts) numbers)) (opened_said ts))
+
+opened_entries : (contents : ℕ → Contents) (ts : List Table) (t : ℕ) (table : Table) → slice_get ts t ≡ Some table
+    → entries_at contents t (opened_notes 0 ts) ≡ steward (call.Open table.writes (contents t)) reply.Noted ∷ []
+opened_entries contents ts t table at =
+    ap (entries_at contents t) (opened_as 0 ts) ∙ entries_placed contents t (map opening ts) (what.Opened table.writes) (get_map opening ts t table at)
+
+-- ---- one table
+
+first_is : (f : Bool) (s : TableState) (ws : List Write) (n : ℕ) → IsRestOf f s ws → n ≡ length ws → take (n - s.handed_in) s.writes ≡ ws
+first_is f s ws n h e = ap (λ k. take k s.writes) (none n s.handed_in (length ws) h.founded.handed_in e) ∙ sym h.front
+  where
+    none : (a b c : ℕ) → b ≡ 0 → a ≡ c → a - b ≡ c
+    none a b c e g = omega (arith, e, g)
+
+may_open : (f : Bool) (s : TableState) (ws : List Write) (n : ℕ) → IsRestOf f s ws → n ≡ length ws → MayOpen s n (content ws)
+may_open f s ws n h e = record {
+  flushed = omega (arith, h.flushed, e);
+  accepted = omega (arith, e, ap length h.front, length-take (length ws) s.writes);
+  all = λ handed. let same = ap length (h.handed handed) in omega (arith, e, same, h.founded.handed_in);
+  contents_are = ap (content_from nothing) (sym (first_is f s ws n h e)) ∙ ap (λ c. content_from c (take (n - s.handed_in) s.writes)) (sym h.founded.before);
+}
+
+opened_served : (f : Bool) (s : TableState) (ws : List Write) (t : Table) (contents : Contents) → IsRestOf f s ws → t.writes ≡ length ws → t.pending ≡ None
+    → IsServed f (opened true s t.writes contents) ws ws t
+opened_served f s ws t contents h e fresh = record {
+  founded = record { before = h.founded.before; handed_in = h.founded.handed_in };
+  all = first_is f s ws t.writes h e ∙ (sym (append-nil ws) ∙ ap (λ p. ws ++ writes_in p) (sym fresh));
+  taken_is = e;
+  flushed = omega (arith, e);
+  handed = refl;
+  exact = λ calm. e;
+}
+
+-- ---- a start that is not refused
+
+-- the table of a place, as it was opened
+record Opening (names : List (List ℕ)) (f : Bool) (writes : List ℕ → List Write) (s : Serving) (states : ℕ → TableState) (t : ℕ) (table : Table) : Type 0 where
+  count : table.writes ≡ length (writes (name_at names t))
+  fresh : table.pending ≡ None
+  rest : IsRestOf f (states t) (writes (name_at names t))
+
+opening_of : (names : List (List ℕ)) (first : List ℕ → List Write) (f : Bool) (m m' : Meaning) (s : Serving) (states : ℕ → TableState)
+    → (r : RestsAs names first f m states) → Backed r.writes s m' → s.names ≡ names → length s.tables ≡ length names → AreFresh s.tables → s.log.owed ≡ None
+    → (t : ℕ) (table : Table) → slice_get s.tables t ≡ Some table → Opening names f r.writes s states t table
+opening_of names first f m m' s states r b named size fresh owed t table at =
+    let below : t < length names = omega (arith, within s.tables t table at, size) in
+    let is = b.each t (name_at names t) table (ap (λ ns. slice_get ns t) named ∙ name_found names t below) at in
+    let new : table.pending ≡ None = All_at (λ (x : Table). x.pending ≡ None) s.tables t table fresh at in
+    let all : with_writes s.log.owed r.writes (name_at names t) ++ untaken table ≡ r.writes (name_at names t) =
+    ap (λ o. with_writes o r.writes (name_at names t) ++ untaken table) owed
+    ∙ (ap (λ p. r.writes (name_at names t) ++ writes_in p) new ∙ append-nil (r.writes (name_at names t))) in
+    record { count = is.writes ∙ ap length all; fresh = new; rest = r.each t below }
+
+abbrev contents_of : List (List ℕ) → (List ℕ → List Write) → ℕ → Contents
+contents_of names writes t = content (writes (name_at names t))
+
+opened_behind : (contents : ℕ → Contents) (ts : List Table) (states : ℕ → TableState) (t : ℕ) (table : Table) → slice_get ts t ≡ Some table
+    → behind contents (opened_notes 0 ts) states t ≡ opened true (states t) table.writes (contents t)
+opened_behind contents ts states t table at = ap (after true (states t)) (opened_entries contents ts t table at)
+
+opened_serves : (names : List (List ℕ)) (first : List ℕ → List Write) (f : Bool) (m m' : Meaning) (s : Serving) (states : ℕ → TableState)
+    → (r : RestsAs names first f m states) → Backed r.writes s m' → s.names ≡ names → length s.tables ≡ length names → AreFresh s.tables → s.log.owed ≡ None
+    → ServesAs names first f s 0 m' (behind (contents_of names r.writes) (opened_notes 0 s.tables) states)
+opened_serves names first f m m' s states r b named size fresh owed = record {
+  writes = r.writes;
+  backed = b;
+  named = named;
+  open_ = λ t below.
+      let found = element_at s.tables t (omega (arith, below, size)) in
+      ap (λ (x : TableState). x.live) (opened_behind (contents_of names r.writes) s.tables states t found.0 found.1) ∙ ap not (sym (lt_false t 0 (omega arith)));
+  each = λ t table at.
+      let o = opening_of names first f m m' s states r b named size fresh owed t table at in
+      subst (λ x. IsServed f x (r.writes (name_at names t)) (with_writes s.log.owed r.writes (name_at names t)) table) (sym (opened_behind (contents_of names r.writes) s.tables states t table at))
+      (subst (λ p. IsServed f (opened true (states t) table.writes (contents_of names r.writes t)) (r.writes (name_at names t)) (with_writes p r.writes (name_at names t)) table) (sym owed)
+      (opened_served f (states t) (r.writes (name_at names t)) table (contents_of names r.writes t) o.rest o.count o.fresh));
+  others = r.others;
+  none_owed = λ calm. owed;
+}
+
+claimed : (claim : Option Way) (region : List ℕ) (way : Way) → IsWayOf region way → IfSome claim (IsWayOf region) → IfSome claim (λ claimed. way ≡ claimed)
+claimed None region way is h = tt
+claimed (Some v) region way is h = same_way region way v is h
+
+started : (names : List (List ℕ)) (first : List ℕ → List Write) (claim : Option Way) (f : Bool) (m m' : Meaning) (states : ℕ → TableState) (c : Command) (numbers : List ℕ) (lines : List Line) (s : Serving) (way : Way)
+    → StartsLeaf names first c
+    → (r : RestsAs names first f m states) → IfSome claim (IsWayOf m.held.region)
+    → s.names ≡ names → length s.tables ≡ length names → AreFresh s.tables → s.log.owed ≡ None → StartsTold m m' s way
+    → lines ≡ note_lines (opened_notes 0 s.tables) numbers ++ line.Ended Start 0 (ending.Started way) ∷ []
+    → Steward names first f (Down claim) states c lines (opened_notes 0 s.tables) (ending.Started way) (IsUp s) m'
+started names first claim f m m' states c numbers lines s way kind r claim_is named size fresh owed told lines_are =
+    let b = told.backed r.writes r.rests in
+    let contents = contents_of names r.writes in record {
+      next = Up (way_after way) None;
+      contents = contents;
+      prints = kind.prints (Down claim) (Up (way_after way) None) lines
+          (life.opens claim way (numbers_from 0 (map opening s.tables) numbers) (map (λ (t : Table). t.writes) s.tables) refl (claimed claim m.held.region way told.way_is claim_is)
+          (numbers_from-length 0 (map opening s.tables) numbers ∙ (length_mapped opening s.tables ∙ size)) (length_mapped (λ (t : Table). t.writes) s.tables ∙ size)
+          (lines_are ∙ ap (λ ls. ls ++ line.Ended Start 0 (ending.Started way) ∷ []) (opened_lines s.tables numbers)) refl);
+      legal = λ t below.
+          let found = element_at s.tables t (omega (arith, below, size)) in
+          let o = opening_of names first f m m' s states r b named size fresh owed t found.0 found.1 in
+          subst (LegalFrom true (states t)) (sym (opened_entries contents s.tables t found.0 found.1))
+          ((refl, r.shut t below, may_open f (states t) (r.writes (name_at names t)) found.0.writes o.rest o.count, refl), tt);
+      opened = λ t below calm whole.
+          let found = element_at s.tables t (omega (arith, below, size)) in
+          let o = opening_of names first f m m' s states r b named size fresh owed t found.0 found.1 in
+          subst (OpensFlushed (states t)) (sym (opened_entries contents s.tables t found.0 found.1)) (o.count ∙ sym (o.rest.exact calm), tt);
+      stands = subst (λ g. Stands names first g (Up (way_after way) None) (IsUp s) m' (behind contents (opened_notes 0 s.tables) states)) (sym (or_nothing f)) (
+        opened_serves names first f m m' s states r b named size fresh owed,
+        subst (λ region. IsWayOf region (way_after way)) (sym told.region) (way_left m.held.region way told.way_is),
+        owed,
+      );
     }
 
-begun_up : (names : List (List ℕ)) (claim : Option Way) (lost : Bool) (c : Command) (states : ℕ → TableState) (ns : ℕ → ℕ) (lines : List Line) (region region' numbers numbers' : List ℕ) (leaf' : Leaf)
-    (tables : List TableImage) (w : Way)
-    → ((t : ℕ) → t < length names → (slice_get numbers t ≡ Some (ns t)) × ((states t).flushed ≤ write_count (states t)))
-    → length numbers ≡ length names
-    → Stands names (Down claim) lost IsDown region states
-    → names_of tables ≡ names → IsWay names region tables w
-    → lines ≡ table_lines 0 0 (next_numbers numbers) (opened_of tables) ++ line.Ended Start 0 (ending.Started w) ∷ []
-    → leaf' ≡ IsUp tables → numbers' ≡ next_numbers numbers
-    → Begun names (Down claim) lost c states ns lines leaf' region' numbers'
-begun_up names claim lost c states ns lines region region' numbers numbers' leaf' tables w each count stands named way lines_are leaf_is numbers_are =
-    let len : length tables ≡ length names = length_names tables names named in
-    let found : (t : ℕ) → t < length names → slice_get tables t ≡ Some (image_at tables t) = λ t below. image_found tables t (omega (arith, below, len)) in
-    let holds : (t : ℕ) → t < length names → not lost ≡ true → HoldsImage (states t) (image_at tables t) =
-    λ t below. claimed_holds claim lost names region states tables w t stands.1 way below (found t below) in
-    rw (lines_are, leaf_is, numbers_are) (record {
-      next = Up;
-      ess = λ t. open_entry (image_at tables t) ∷ [];
-      starts = opens claim w (next_numbers numbers) (counts tables) refl (claimed_way claim lost names region states tables w stands.1 way)
-          (length_next numbers ∙ count) (length_counts tables ∙ len) (ap (λ ss. table_lines 0 0 (next_numbers numbers) ss ++ line.Ended Start 0 (ending.Started w) ∷ []) (opened_counts tables)) refl;
-      steps = λ t below. opened_step names lost c states ns numbers tables (line.Ended Start 0 (ending.Started w) ∷ []) t below len (each t below).0 refl (stands.0 t below) (each t below).1 (holds t below);
-      stands = (
-        named,
-        λ t image at.
-            let below : t < length names = below_names t image at in
-            let is : image ≡ image_at tables t = same_some image (image_at tables t) (sym at ∙ found t below) in
-            (open_live (not lost) (states t) (image_at tables t), subst (HoldsImage (opened (not lost) (states t) (image_at tables t).writes (contents_of (image_at tables t)))) (sym is) (open_holds (not lost) (states t) (image_at tables t) (holds t below))),
-      );
-    })
-  where
-    below_names : (t : ℕ) (image : TableImage) → slice_get tables t ≡ Some image → t < length names
-    below_names t image at = omega (arith, slice_get_within tables t image at, length_names tables names named)
+-- ---- a start that is
 
-begun : (names : List (List ℕ)) (life : Life) (lost : Bool) (c : Command) (states : ℕ → TableState) (ns : ℕ → ℕ) (tells : Bool) (leaf : Leaf) (lines : List Line) (region region' numbers numbers' : List ℕ) (leaf' : Leaf)
-    → IsTrue tells
-    → ((t : ℕ) → t < length names → (slice_get numbers t ≡ Some (ns t)) × ((states t).flushed ≤ write_count (states t)))
-    → length numbers ≡ length names
-    → Stands names life lost leaf region states
-    → StartStep names tells region leaf numbers lines leaf' numbers'
-    → Begun names life lost c states ns lines leaf' region' numbers'
-begun names (Down claim) lost c states ns tells IsDown lines region region' numbers numbers' leaf' told each count stands (steps.opened tables w down named way lines_are leaf_is numbers_are) =
-    begun_up names claim lost c states ns lines region region' numbers numbers' leaf' tables w each count stands named (way told) lines_are leaf_is numbers_are
-begun names (Down claim) lost c states ns tells IsDown lines region region' numbers numbers' leaf' told each count stands (steps.refused f down lines_are leaf_is numbers_are) =
-    rw (lines_are, leaf_is, numbers_are) (record {
-      next = Down None;
-      ess = λ t. [];
-      starts = refuses claim (ending_of f) refl (is_refusal f) refl refl;
-      steps = λ t below. quiet t c Start (ending_of f) lost (states t) (ns t) numbers (each t below).0 (each t below).1;
-      stands = (stands.0, ap (λ x. lost || x) (loses f) ∙ or_true lost);
-    })
-  where
-    is_refusal : (f : StartFault) → IsStartRefusal (ending_of f)
-    is_refusal fault.RegionFault = tt
-    is_refusal (fault.Stranger name) = tt
-    is_refusal fault.NoMemory = tt
+rests_weaker : (names : List (List ℕ)) (first : List ℕ → List Write) (f g : Bool) (m m' : Meaning) (states : ℕ → TableState) → (g ≡ false → f ≡ false)
+    → (r : RestsAs names first f m states) → Rests r.writes m' → RestsAs names first g m' states
+rests_weaker names first f g m m' states calm r rests = record {
+  writes = r.writes;
+  rests = rests;
+  shut = r.shut;
+  each = λ t below. let is = r.each t below in record {
+    founded = is.founded;
+    front = is.front;
+    flushed = is.flushed;
+    handed = is.handed;
+    exact = λ e. is.exact (calm e);
+  };
+  others = r.others;
+}
 
-    loses : (f : StartFault) → has_loss 0 (line.Ended Start 0 (ending_of f) ∷ []) ≡ true
-    loses fault.RegionFault = refl
-    loses (fault.Stranger name) = refl
-    loses fault.NoMemory = refl
-begun names (Down claim) lost c states ns tells IsDown lines region region' numbers numbers' leaf' told each count stands (steps.not_down tables up lines_are leaf_is numbers_are) = cc
-begun names (Down claim) lost c states ns tells (IsUp ts) lines region region' numbers numbers' leaf' told each count stands step = absurd stands
-begun names Up lost c states ns tells IsDown lines region region' numbers numbers' leaf' told each count stands step = absurd stands
-begun names Up lost c states ns tells (IsUp ts) lines region region' numbers numbers' leaf' told each count stands (steps.opened tables w down named way lines_are leaf_is numbers_are) = cc
-begun names Up lost c states ns tells (IsUp ts) lines region region' numbers numbers' leaf' told each count stands (steps.refused f down lines_are leaf_is numbers_are) = cc
-begun names Up lost c states ns tells (IsUp ts) lines region region' numbers numbers' leaf' told each count stands (steps.not_down tables up lines_are leaf_is numbers_are) =
-    rw (lines_are, leaf_is, numbers_are) (record {
-      next = Up;
-      ess = λ t. [];
-      starts = not_down refl refl refl;
-      steps = λ t below. quiet t c Start ending.NotDown lost (states t) (ns t) numbers (each t below).0 (each t below).1;
-      stands = subst (λ b. Stands names Up b (IsUp ts) region' states) (sym (or_false lost)) stands;
-    })
+is_refusal : (f : StartFault) → (f ≡ fault.DiskDamaged → ⊥) → IsStartRefusal (ending_of f)
+is_refusal fault.RegionFault n = tt
+is_refusal fault.DiskFault n = tt
+is_refusal fault.DiskDamaged n = absurd (n refl)
+is_refusal (fault.Stranger name) n = tt
+is_refusal fault.NoMemory n = tt
 
-begins : (names : List (List ℕ)) (first : Life) (bases : ℕ → TableState) (commands : List Command) (out : List Line) (leaf : Leaf) (region region' numbers : List ℕ)
-    (c : Command) (tells : Bool) (lines : List Line) (leaf' : Leaf) (numbers' : List ℕ)
-    → IsTrue tells → StartsLeaf names c
-    → Session names first bases commands out leaf region numbers → StartStep names tells region leaf numbers lines leaf' numbers' → length numbers' ≡ length names
-    → Session names first bases (commands ++ c ∷ []) (out ++ lines) leaf' region' numbers'
-begins names first bases commands out leaf region region' numbers c tells lines leaf' numbers' told kind s step count =
-    let b = begun names s.life s.lost c (λ t. state_after (bases t) (s.histories t)) (λ t. length (entries (s.histories t))) tells leaf lines region region' numbers numbers' leaf' told
-    (λ t below. ((s.tables t below).number, (s.tables t below).flushed)) s.count s.stands step in
-    goes_on names first bases commands out leaf region numbers (record { command = c; lines = lines }) b.ess b.next leaf' region' numbers' s
-    (kind.prints s.life b.next lines b.starts) b.steps (kind.no_answer bases (λ t. grown s.lost (s.histories t) (b.ess t)) lines) b.stands count
+refused : (names : List (List ℕ)) (first : List ℕ → List Write) (claim : Option Way) (f : Bool) (m m' : Meaning) (states : ℕ → TableState) (c : Command) (lines : List Line) (why : StartFault)
+    → StartsLeaf names first c
+    → (r : RestsAs names first f m states) → Rests r.writes m' × (why ≡ fault.DiskDamaged → ⊥)
+    → lines ≡ line.Ended Start 0 (ending_of why) ∷ []
+    → Steward names first f (Down claim) states c lines [] (ending_of why) IsDown m'
+refused names first claim f m m' states c lines why kind r rests lines_are =
+    unopening names first f (Down claim) states c lines [] (ending_of why) (Down None) IsDown m'
+    (kind.prints (Down claim) (Down None) lines (life.refuses claim (ending_of why) refl (is_refusal why rests.1) lines_are refl))
+    (λ t below. (tt, tt))
+    (rests_weaker names first f (f || is_disk_fault (ending_of why)) m m' states (neither f (is_disk_fault (ending_of why))) r rests.0, tt)
 
-start_count : (names : List (List ℕ)) (tells : Bool) (region : List ℕ) (leaf : Leaf) (numbers : List ℕ) (lines : List Line) (leaf' : Leaf) (numbers' : List ℕ)
-    → StartStep names tells region leaf numbers lines leaf' numbers' → length numbers' ≡ length numbers
-start_count names tells region leaf numbers lines leaf' numbers' (steps.opened tables w down named way lines_are leaf_is numbers_are) = ap length numbers_are ∙ length_next numbers
-start_count names tells region leaf numbers lines leaf' numbers' (steps.refused f down lines_are leaf_is numbers_are) = ap length numbers_are
-start_count names tells region leaf numbers lines leaf' numbers' (steps.not_down tables up lines_are leaf_is numbers_are) = ap length numbers_are
+-- ---- any start
+
+not_down_life : (names : List (List ℕ)) (first : List ℕ → List Write) (f : Bool) (old : Life) (leaf : Leaf) (m : Meaning) (states : ℕ → TableState)
+    → Stands names first f old leaf m states → (leaf ≡ IsDown → ⊥) → IsDownLife old → ⊥
+not_down_life names first f (Down claim) IsDown m states h n d = n refl
+not_down_life names first f (Down claim) (IsUp s) m states h n d = h
+not_down_life names first f (Down claim) (IsPreparing x) m states h n d = h
+not_down_life names first f (Up way owed) leaf m states h n d = d
+not_down_life names first f (Preparing way p) leaf m states h n d = d
+
+-- a leaf that is down has a life that is
+pub record DownLife (names : List (List ℕ)) (first : List ℕ → List Write) (f : Bool) (old : Life) (m : Meaning) (states : ℕ → TableState) : Type 0 where
+  pub claim : Option Way
+  pub is : old ≡ Down claim
+  pub rests : RestsAs names first f m states
+  pub claim_is : IfSome claim (IsWayOf m.held.region)
+
+pub down_life : (names : List (List ℕ)) (first : List ℕ → List Write) (f : Bool) (old : Life) (leaf : Leaf) (m : Meaning) (states : ℕ → TableState)
+    → Stands names first f old leaf m states → leaf ≡ IsDown → DownLife names first f old m states
+down_life names first f (Down claim) IsDown m states h e = record { claim = claim; is = refl; rests = h.0; claim_is = h.1 }
+down_life names first f (Down claim) (IsUp s) m states h e = absurd h
+down_life names first f (Down claim) (IsPreparing x) m states h e = absurd h
+down_life names first f (Up way owed) IsDown m states h e = absurd h
+down_life names first f (Up way owed) (IsUp s) m states h e = cc
+down_life names first f (Up way owed) (IsPreparing x) m states h e = absurd h
+down_life names first f (Preparing way p) IsDown m states h e = absurd h
+down_life names first f (Preparing way p) (IsUp s) m states h e = absurd h
+down_life names first f (Preparing way p) (IsPreparing x) m states h e = cc
+
+begun : (names : List (List ℕ)) (first : List ℕ → List Write) (f : Bool) (old : Life) (m m' : Meaning) (states : ℕ → TableState) (c : Command) (leaf leaf' : Leaf) (numbers numbers' : List ℕ) (lines : List Line)
+    (notes : List Note) (ends : Ending)
+    → IsTrue m.tells → StartsLeaf names first c
+    → Stands names first f old leaf m states
+    → StartMoves names m m' leaf notes ends leaf' → StewardLines Start notes ends numbers lines numbers' → ((leaf ≡ IsDown → ⊥) → Untouched m m')
+    → Steward names first f old states c lines notes ends leaf' m'
+begun names first f old m m' states c leaf leaf' numbers numbers' lines notes ends tells kind h (steps.opened s way down named size fresh owed told notes_are ends_are leaf_is) prints others =
+    let d = down_life names first f old leaf m states h down in
+    rw (d.is, notes_are, ends_are, leaf_is)
+    (started names first d.claim f m m' states c numbers lines s way kind d.rests d.claim_is named size fresh owed (told tells)
+    (subst (λ ns. lines ≡ note_lines ns numbers ++ line.Ended Start 0 (ending.Started way) ∷ []) notes_are (subst (λ e. lines ≡ note_lines notes numbers ++ line.Ended Start 0 e ∷ []) ends_are prints.lines_are)))
+begun names first f old m m' states c leaf leaf' numbers numbers' lines notes ends tells kind h (steps.refused why down kept notes_are ends_are leaf_is) prints others =
+    let d = down_life names first f old leaf m states h down in
+    rw (d.is, notes_are, ends_are, leaf_is)
+    (refused names first d.claim f m m' states c lines why kind d.rests (kept tells d.rests.writes d.rests.rests)
+    (subst (λ ns. lines ≡ note_lines ns numbers ++ line.Ended Start 0 (ending_of why) ∷ []) notes_are (subst (λ e. lines ≡ note_lines notes numbers ++ line.Ended Start 0 e ∷ []) ends_are prints.lines_are)))
+begun names first f old m m' states c leaf leaf' numbers numbers' lines notes ends tells kind h (steps.not_down up notes_are ends_are leaf_is) prints others =
+    rw (notes_are, ends_are, leaf_is)
+    (nothing_done names first f old leaf m m' states c lines ending.NotDown
+    (kind.prints old old lines (life.not_down (not_down_life names first f old leaf m states h up)
+    (subst (λ ns. lines ≡ note_lines ns numbers ++ line.Ended Start 0 ending.NotDown ∷ []) notes_are (subst (λ e. lines ≡ note_lines notes numbers ++ line.Ended Start 0 e ∷ []) ends_are prints.lines_are)) refl))
+    refl (others up) h)
+
+begins : (names : List (List ℕ)) (way : Way) (first : List ℕ → List Write) (commands : List Command) (out : List Line) (leaf : Leaf) (m m' : Meaning) (numbers : List ℕ)
+    (c : Command) (lines : List Line) (leaf' : Leaf) (numbers' : List ℕ)
+    → IsTrue m.tells → StartsLeaf names first c
+    → Session names way first commands out leaf m numbers → StartStep names m m' leaf numbers lines leaf' numbers'
+    → Session names way first (commands ++ c ∷ []) (out ++ lines) leaf' m' numbers'
+begins names way first commands out leaf m m' numbers c lines leaf' numbers' tells kind s step =
+    steward_goes_on names way first commands out leaf m numbers c Start step.notes step.ends lines leaf' m' numbers' s step.prints (λ hs. kind.no_answer hs lines)
+    (begun names first s.faulted s.life m m' (now_at names first s.histories) c leaf leaf' numbers numbers' lines step.notes step.ends tells kind s.stands step.moves step.prints step.others)
 
 -- a start of the leaf
-pub start_goes_on : (names : List (List ℕ)) (first : Life) (bases : ℕ → TableState) (commands : List Command) (out : List Line) (leaf : Leaf) (region region' numbers : List ℕ)
-    (tells : Bool) (lines : List Line) (leaf' : Leaf) (numbers' : List ℕ)
-    → IsTrue tells
-    → Session names first bases commands out leaf region numbers → StartStep names tells region leaf numbers lines leaf' numbers'
-    → Session names first bases (commands ++ command.Start 0 ∷ []) (out ++ lines) leaf' region' numbers'
-start_goes_on names first bases commands out leaf region region' numbers tells lines leaf' numbers' told s step =
-    begins names first bases commands out leaf region region' numbers (command.Start 0) tells lines leaf' numbers' told
-    (record { prints = λ life next ls h. (life, next, refl, h, refl); no_answer = λ bases hs ls. (tt, tt) })
-    s step (start_count names tells region leaf numbers lines leaf' numbers' step ∙ s.count)
+pub start_goes_on : (names : List (List ℕ)) (way : Way) (first : List ℕ → List Write) (commands : List Command) (out : List Line) (leaf : Leaf) (m m' : Meaning) (numbers : List ℕ)
+    (lines : List Line) (leaf' : Leaf) (numbers' : List ℕ)
+    → IsTrue m.tells
+    → Session names way first commands out leaf m numbers → StartStep names m m' leaf numbers lines leaf' numbers'
+    → Session names way first (commands ++ command.Start 0 ∷ []) (out ++ lines) leaf' m' numbers'
+start_goes_on names way first commands out leaf m m' numbers lines leaf' numbers' tells s step =
+    begins names way first commands out leaf m m' numbers (command.Start 0) lines leaf' numbers' tells
+    (record { prints = λ old next ls h. (old, next, refl, h, refl); no_answer = λ hs ls. (tt, tt) }) s step
 
 -- the fleet's start of its one leaf
-pub fleet_goes_on : (names : List (List ℕ)) (first : Life) (bases : ℕ → TableState) (commands : List Command) (out : List Line) (leaf : Leaf) (region region' numbers : List ℕ)
-    (machines per_machine : ℕ) (tables : List (List ℕ)) (tells : Bool) (lines : List Line) (leaf' : Leaf) (numbers' : List ℕ)
-    → IsTrue tells
-    → Session names first bases commands out leaf region numbers → StartStep names tells region leaf numbers lines leaf' numbers'
-    → Session names first bases (commands ++ command.Fleet machines per_machine tables ∷ []) (out ++ lines) leaf' region' numbers'
-fleet_goes_on names first bases commands out leaf region region' numbers machines per_machine tables tells lines leaf' numbers' told s step =
-    begins names first bases commands out leaf region region' numbers (command.Fleet machines per_machine tables) tells lines leaf' numbers' told
-    (record { prints = λ life next ls h. (ls, [], next, [], h, (refl, refl), sym (append-nil ls), refl); no_answer = λ bases hs ls. (tt, tt) })
-    s step (start_count names tells region leaf numbers lines leaf' numbers' step ∙ s.count)
+pub fleet_goes_on : (names : List (List ℕ)) (way : Way) (first : List ℕ → List Write) (commands : List Command) (out : List Line) (leaf : Leaf) (m m' : Meaning) (numbers : List ℕ)
+    (machines per_machine : ℕ) (tables : List (List ℕ)) (lines : List Line) (leaf' : Leaf) (numbers' : List ℕ)
+    → IsTrue m.tells
+    → Session names way first commands out leaf m numbers → StartStep names m m' leaf numbers lines leaf' numbers'
+    → Session names way first (commands ++ command.Fleet machines per_machine tables ∷ []) (out ++ lines) leaf' m' numbers'
+fleet_goes_on names way first commands out leaf m m' numbers machines per_machine tables lines leaf' numbers' tells s step =
+    begins names way first commands out leaf m m' numbers (command.Fleet machines per_machine tables) lines leaf' numbers' tells
+    (record { prints = λ old next ls h. (ls, [], next, [], h, (refl, refl), sym (append-nil ls), refl); no_answer = λ hs ls. (tt, tt) }) s step

@@ -1,85 +1,17 @@
--- What a region hands in.
-use Rattle.std.proofs.Common.{◌≡◌, ℕ, zero, suc, ◌<◌, Bool, true, false, List, [], ◌∷◌, length, refl, sym, ap, subst, ◌∙◌, arith, Some}
-use Rattle.std.specs.Prelude.{slice_get, unwrap_or}
-use Rattle.std.specs.List.{find, AllByRecursion}
-use Rattle.std.specs.Str.{bytes_eq}
-use Rattle.std.proofs.lemmas.Slice.Eq.{bytes_eq-Decides}
-use Rattle.leaf_history.specs.History.{TableState}
+-- The one way of a region, and that of what a start leaves of it.
+use Rattle.std.proofs.Common.{◌≡◌, ℕ, ◌==◌, Bool, true, false, List, [], ◌∷◌, length, refl, ap, ◌∙◌}
+use Rattle.std.specs.Prelude.{nat_lt, slice_index, if◌then◌else◌}
 use Rattle.region_layout.specs.declared.head.Head.{Head}
 use Rattle.region_layout.specs.declared.head.Head.TheVariants as head
-use Rattle.region_layout.specs.declared.image.Image.{Image}
 use Rattle.region_layout.specs.declared.image.TableImage.{TableImage}
-use Rattle.region_layout.specs.Region.{IsImage, AreDistinct, head_of}
+use Rattle.region_layout.specs.Region.{IsImage, head_of, version_of}
 use Rattle.region_layout.proofs.Heads.{image_head}
-use Rattle.region_layout.proofs.Images.{one_image}
-use Rattle.leaf_machine.specs.declared.ways.Way.{Way}
-use Rattle.leaf_machine.specs.declared.ways.Way.TheVariants.{Memory, Disk}
-use Rattle.leaf_machine.specs.declared.ways.WhyDisk.{WhyDisk}
-use Rattle.leaf_machine.specs.declared.ways.WhyDisk.TheVariants as why
-use Rattle.leaf_machine.specs.Tables.{names_of, empty_image, table_named, is_named}
-use Rattle.leaf_machine.specs.Starts.{IsWhy, IsWay}
-use Rattle.printed_lines.specs.Lines.{name_at}
-use Rattle.transcript.specs.Base.{IsWayOf, IsNoImage}
-use Rattle.transcript.specs.Session.{HoldsImage, IsHandedIn}
-use Rattle.transcript.proofs.Telling.{slice_get-map}
-
--- ---- lists
-
--- a place below the length has an element
-pub element_at : {X : Type 0} (xs : List X) (i : ℕ) → i < length xs → (x : X) × (slice_get xs i ≡ Some x)
-element_at [] i h = absurd (omega (arith, h))
-element_at (x ∷ xs) zero h = (x, refl)
-element_at (x ∷ xs) (suc i) h = element_at xs i (omega (arith, h))
-
-pub name_found : (names : List (List ℕ)) (i : ℕ) → i < length names → slice_get names i ≡ Some (name_at names i)
-name_found [] i h = absurd (omega (arith, h))
-name_found (n ∷ ns) zero h = refl
-name_found (n ∷ ns) (suc i) h = name_found ns i (omega (arith, h))
-
--- ---- a table by its name
-
-eq_bytes : (a b : List ℕ) → a ≡ b → bytes_eq a b ≡ true
-eq_bytes a b e = (bytes_eq-Decides a b).1 e
-
-ne_bytes : (a b : List ℕ) → (a ≡ b → ⊥) → bytes_eq a b ≡ false
-ne_bytes a b n = by (bytes_eq a b) refl
-  where
-    by : (x : Bool) → bytes_eq a b ≡ x → x ≡ false
-    by true e = absurd (n ((bytes_eq-Decides a b).0 e))
-    by false e = refl
-
-not_first : (name : List ℕ) (us : List TableImage) (i : ℕ) (t : TableImage) → AllByRecursion (λ other. other ≡ name → ⊥) (names_of us) → slice_get us i ≡ Some t → t.name ≡ name → ⊥
-not_first name [] i t h g e = cc
-not_first name (u ∷ us) zero t h g e = h.0 (ap (λ (w : TableImage). w.name) (same u t g) ∙ e)
-  where
-    same : (a b : TableImage) → Some a ≡ Some b → a ≡ b
-    same a b x = cc
-not_first name (u ∷ us) (suc i) t h g e = not_first name us i t h.1 g e
-
-find_named : (tables : List TableImage) (i : ℕ) (t : TableImage) → AreDistinct (names_of tables) → slice_get tables i ≡ Some t → find (is_named t.name) tables ≡ Some t
-find_named [] i t d g = cc
-find_named (u ∷ us) zero t d g = rw (same u t g, eq_bytes t.name t.name refl) refl
-  where
-    same : (a b : TableImage) → Some a ≡ Some b → a ≡ b
-    same a b x = cc
-find_named (u ∷ us) (suc i) t d g = rw (ne_bytes u.name t.name (λ e. not_first u.name us i t d.0 g (sym e))) (find_named us i t d.1 g)
-
--- the table of a place, by its name
-pub named_is : (names : List (List ℕ)) (tables : List TableImage) (i : ℕ) (t : TableImage) → AreDistinct names → names_of tables ≡ names → slice_get tables i ≡ Some t
-    → table_named tables (name_at names i) ≡ t
-named_is names tables i t d e g =
-    let name : t.name ≡ name_at names i = name_of tables i t g ∙ ap (λ ns. name_at ns i) e in
-    rw (sym name) (ap (λ o. unwrap_or o (empty_image t.name)) (find_named tables i t (subst AreDistinct (sym e) d) g))
-  where
-    name_of : (us : List TableImage) (i : ℕ) (t : TableImage) → slice_get us i ≡ Some t → t.name ≡ name_at (names_of us) i
-    name_of [] i t g = cc
-    name_of (u ∷ us) zero t g = ap (λ (w : TableImage). w.name) (same t u (sym g))
-      where
-        same : (a b : TableImage) → Some a ≡ Some b → a ≡ b
-        same a b x = cc
-    name_of (u ∷ us) (suc i) t g = name_of us i t g
-
--- ---- ways
+use Rattle.adopt.specs.declared.found.WhyDisk.{WhyDisk}
+use Rattle.adopt.specs.declared.found.WhyDisk.TheVariants as why
+use Rattle.adopt.specs.Found.{IsWhy, closed_flag, after_head, left_behind}
+use Rattle.leaf_opening.specs.declared.ways.Way.{Way}
+use Rattle.leaf_opening.specs.declared.ways.Way.TheVariants.{Memory, Disk}
+use Rattle.leaf_opening.specs.Starts.{IsWayOf, way_after}
 
 no_why : (region : List ℕ) (images : List TableImage) (log_end : ℕ) → IsImage 1 region images log_end → (w : WhyDisk) → IsWhy region w → ⊥
 no_why region images log_end is why.NoHead h = clash (head_of region) (image_head region images 1 log_end is) h
@@ -95,10 +27,6 @@ no_why region images log_end is (why.OtherVersion v) h = h.1 (same (head_of regi
     same : (x : Head) → x ≡ head.Version v → x ≡ head.Version 1 → v ≡ 1
     same x e f = cc
 no_why region images log_end is why.NoImage h = h.1 images log_end is
-
--- a region that is no image for some reason is none
-pub why_no_image : (region : List ℕ) (w : WhyDisk) → IsWhy region w → IsNoImage region
-why_no_image region w h = λ images log_end is. no_why region images log_end is w h
 
 same_why : (region : List ℕ) (v w : WhyDisk) → IsWhy region v → IsWhy region w → v ≡ w
 same_why region why.NoHead why.NoHead g h = refl
@@ -164,29 +92,35 @@ same_way region Memory (Disk w) g h = absurd (no_why region g.0 g.1 g.2 w h)
 same_way region (Disk v) Memory g h = absurd (no_why region h.0 h.1 h.2 v g)
 same_way region (Disk v) (Disk w) g h = ap Disk (same_why region v w g h)
 
-pub way_of : (names : List (List ℕ)) (region : List ℕ) (tables : List TableImage) (w : Way) → IsWay names region tables w → IsWayOf region w
-way_of names region tables Memory h = (h.0, h.1, h.2)
-way_of names region tables (Disk w) h = h.0
+-- ---- what a start leaves
 
-same_some : {X : Type 0} (x y : X) → Some x ≡ Some y → x ≡ y
-same_some x y e = cc
+-- a head by its two tests
+abbrev head_by : Bool → Bool → ℕ → ℕ → Head
+head_by short open_ version flag = if short then head.NoHead else (if open_ then head.Version version else head.Closed flag)
 
--- what was opened is what the region handed in
-pub handed_in : (names : List (List ℕ)) (region : List ℕ) (tables : List TableImage) (w : Way) (i : ℕ) (t : TableImage) (s : TableState)
-    → i < length names → IsWay names region tables w → IsHandedIn region (name_at names i) s → slice_get tables i ≡ Some t → HoldsImage s t
-handed_in names region tables Memory i t s below way h g =
-    subst (HoldsImage s) (same_some _ t (sym (slice_get-map (table_named way.0) names i (name_at names i) (name_found names i below)) ∙ (ap (λ ts. slice_get ts i) (sym way.4) ∙ g)))
-    (h.in_image way.0 way.1 way.2)
-handed_in names region tables (Disk w) i t s below way h g =
-    subst (HoldsImage s) (same_some _ t (sym (slice_get-map empty_image names i (name_at names i) (name_found names i below)) ∙ (ap (λ ts. slice_get ts i) (sym way.1) ∙ g)))
-    (h.in_none (why_no_image region w way.0))
+-- a region with a version is no shorter than a head
+long_region : (region : List ℕ) (v : ℕ) → head_of region ≡ head.Version v → nat_lt (length region) 16 ≡ false
+long_region region v h = by (nat_lt (length region) 16) h
+  where
+    by : (b : Bool) → (if b then head.NoHead else (if slice_index region 0 == 1 then head.Version (version_of region) else head.Closed (slice_index region 0))) ≡ head.Version v → b ≡ false
+    by true e = cc
+    by false e = refl
 
--- an image of a leaf's tables hands just these in
-pub handed_out : (names : List (List ℕ)) (region : List ℕ) (tables : List TableImage) (i : ℕ) (t : TableImage) (s : TableState)
-    → AreDistinct names → names_of tables ≡ names → IsImage 1 region tables 0 → slice_get tables i ≡ Some t → HoldsImage s t → IsHandedIn region (name_at names i) s
-handed_out names region tables i t s d e is g h = record {
-  in_image = λ images log_end other.
-      let one : record { log_end = log_end; tables = images } ≡ record { log_end = 0; tables = tables } = one_image region (record { log_end = log_end; tables = images }) (record { log_end = 0; tables = tables }) other is in
-      subst (HoldsImage s) (sym (ap (λ (x : Image). table_named x.tables (name_at names i)) one ∙ named_is names tables i t d e g)) h;
-  in_none = λ none. absurd (none tables 0 is);
-}
+closed_length : (region : List ℕ) → nat_lt (length region) 16 ≡ false → nat_lt (length (closed_flag region)) 16 ≡ false
+closed_length [] h = cc
+closed_length (x ∷ xs) h = h
+
+-- and with its flag closed it has a closed head
+closed_head : (region : List ℕ) (v : ℕ) → head_of region ≡ head.Version v → head_of (closed_flag region) ≡ head.Closed 0
+closed_head region v h = rw (closed_length region (long_region region v h)) refl
+
+after_version : (region : List ℕ) (v : ℕ) → head_of region ≡ head.Version v → head_of (left_behind region) ≡ head.Closed 0
+after_version region v h = ap (λ (x : Head). head_of (after_head x region)) h ∙ closed_head region v h
+
+-- the way of the region that a start leaves
+pub way_left : (region : List ℕ) (w : Way) → IsWayOf region w → IsWayOf (left_behind region) (way_after w)
+way_left region Memory h = after_version region 1 (image_head region h.0 1 h.1 h.2)
+way_left region (Disk why.NoHead) h = ap (λ (x : Head). head_of (after_head x region)) h ∙ h
+way_left region (Disk (why.Closed flag)) h = ap (λ (x : Head). head_of (after_head x region)) h ∙ h
+way_left region (Disk (why.OtherVersion v)) h = after_version region v h.0
+way_left region (Disk why.NoImage) h = after_version region 1 h.0

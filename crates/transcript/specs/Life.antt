@@ -1,19 +1,34 @@
 -- What one leaf's commands print, but for the numbers of the lines, and what they leave behind.
-use Rattle.std.specs.Prelude.{◌≡◌, ℕ, suc, List, [], ◌∷◌, ◌++◌, length, map, Option, Some, None, IfSome, ⊤}
-use Rattle.leaf_machine.specs.declared.ways.Way.{Way}
-use Rattle.leaf_machine.specs.declared.ways.Way.TheVariants.{Memory}
+use Rattle.std.specs.Prelude.{◌≡◌, ℕ, suc, ◌+◌, ◌<◌, Bool, true, false, List, [], ◌∷◌, ◌++◌, length, map, Option, Some, None, IfSome, if◌then◌else◌, ⊤}
+use Rattle.leaf_opening.specs.declared.ways.Way.{Way}
+use Rattle.leaf_opening.specs.declared.ways.Way.TheVariants.{Memory}
+use Rattle.leaf_opening.specs.Starts.{way_after}
 use Rattle.printed_lines.specs.declared.line.Said.{Said}
-use Rattle.printed_lines.specs.declared.line.Said.TheVariants.{Opened, Closed, Handed}
-use Rattle.printed_lines.specs.declared.line.Verb.TheVariants.{Drain, Start}
+use Rattle.printed_lines.specs.declared.line.Said.TheVariants.{Opened, Took, Flushed, Closed, Handed}
+use Rattle.printed_lines.specs.declared.line.Verb.TheVariants.{Flush, Drain, Kill, Start}
 use Rattle.printed_lines.specs.declared.line.Ending.{Ending}
-use Rattle.printed_lines.specs.declared.line.Ending.TheVariants.{Done, NotUp, NotDown, Started, FaultRegion, FaultMemory, FaultStranger}
+use Rattle.printed_lines.specs.declared.line.Ending.TheVariants.{Done, NotUp, NotDown, Started, FaultRegion, FaultDisk, FaultDamaged, FaultMemory, FaultStranger}
 use Rattle.printed_lines.specs.declared.line.Line.{Line}
 use Rattle.printed_lines.specs.declared.line.Line.TheVariants.{Entry, Ended}
 
--- A leaf is gone or not yet started, and its next start prints this way, where that is claimed; or it is up.
+-- what the log is owed: a table's place, and how many writes were taken of it up to then
+pub record Owed : Type 0 where
+  pub table : ℕ
+  pub count : ℕ
+
+-- How far a leaf has come that shuts its tables: what its log is owed; how many tables, from the first on, are shut and flushed since then;
+-- and whether the next one is shut, so that it is the one whose record is owed.
+pub record Progress : Type 0 where
+  pub owed : Option Owed
+  pub treated : ℕ
+  pub shut : Bool
+
+-- A leaf is gone or not yet started, and its next start prints this way, where that is claimed; or it is up, or shuts its tables, and the next start
+-- prints this way unless the leaf is drained first.
 pub data Life : Type 0 where
   Down : (claim : Option Way) → Life
-  Up : Life
+  Up : (way : Way) (owed : Option Owed) → Life
+  Preparing : (way : Way) (at : Progress) → Life
 
 -- one line for each table in order, from a place on
 abbrev pub table_lines : ℕ → ℕ → List ℕ → List Said → List Line
@@ -23,17 +38,36 @@ table_lines leaf place (number ∷ numbers) (said ∷ saids) = Entry leaf place 
 
 -- the lines of tables that were handed over
 abbrev pub handed : List ℕ → List Said
-handed counts = map (λ _. Handed) counts
+handed numbers = map (λ _. Handed) numbers
+
+-- the line of what was owed, once it is on the disk
+abbrev pub owed_line : ℕ → ℕ → Option Owed → List Line
+owed_line leaf number None = []
+owed_line leaf number (Some o) = Entry leaf o.table number (Flushed o.count) ∷ []
+
+-- ---- starts
 
 -- how a start is refused
 abbrev pub IsStartRefusal : Ending → Type 0
 IsStartRefusal FaultRegion = ⊤
+IsStartRefusal FaultDisk = ⊤
 IsStartRefusal FaultMemory = ⊤
 IsStartRefusal (FaultStranger name) = ⊤
+IsStartRefusal FaultDamaged = ⊥
 IsStartRefusal Done = ⊥
 IsStartRefusal NotUp = ⊥
 IsStartRefusal NotDown = ⊥
 IsStartRefusal (Started way) = ⊥
+
+abbrev pub IsDownLife : Life → Type 0
+IsDownLife (Down claim) = ⊤
+IsDownLife (Up way owed) = ⊥
+IsDownLife (Preparing way p) = ⊥
+
+abbrev pub IsUpLife : Life → Type 0
+IsUpLife (Down claim) = ⊥
+IsUpLife (Up way owed) = ⊤
+IsUpLife (Preparing way p) = ⊥
 
 -- A start of a leaf of so many tables: each is opened and the way is told, or the start is refused and nothing is claimed
 -- of the next one, or the leaf is not down.
@@ -44,7 +78,7 @@ pub data Starts (tables leaf : ℕ) (life : Life) (lines : List Line) (next : Li
       → length numbers ≡ tables
       → length writes ≡ tables
       → lines ≡ table_lines leaf 0 numbers (map Opened writes) ++ Ended Start leaf (Started way) ∷ []
-      → next ≡ Up
+      → next ≡ Up (way_after way) None
       → Starts tables leaf life lines next
   refuses : (claim : Option Way) (ending : Ending)
       → life ≡ Down claim
@@ -52,35 +86,141 @@ pub data Starts (tables leaf : ℕ) (life : Life) (lines : List Line) (next : Li
       → lines ≡ Ended Start leaf ending ∷ []
       → next ≡ Down None
       → Starts tables leaf life lines next
-  not_down : life ≡ Up
+  not_down : (IsDownLife life → ⊥)
       → lines ≡ Ended Start leaf NotDown ∷ []
       → next ≡ life
       → Starts tables leaf life lines next
 
--- A drain of a leaf of so many tables: each is closed and handed over, and the next start finds memory; or the region fails
--- once they are closed; or there is no memory and nothing happens; or the leaf is not up.
-pub data Drains (tables leaf : ℕ) (life : Life) (lines : List Line) (next : Life) : Type 0 where
-  drains : (closings handings writes : List ℕ)
-      → life ≡ Up
-      → length closings ≡ tables
-      → length handings ≡ tables
+-- ---- flushes
+
+-- A flush of a table: what was owed is flushed, and then the table is taken and flushed with the same number of writes; or the disk fails, before anything
+-- was flushed or when the table was taken; or the leaf is not up.
+pub data Flushes (table leaf : ℕ) (life : Life) (lines : List Line) (next : Life) : Type 0 where
+  done : (way : Way) (owed : Option Owed) (first taking flushing count : ℕ)
+      → life ≡ Up way owed
+      → lines ≡ owed_line leaf first owed ++ (Entry leaf table taking (Took count) ∷ Entry leaf table flushing (Flushed count) ∷ Ended Flush leaf Done ∷ [])
+      → next ≡ Up way None
+      → Flushes table leaf life lines next
+  half : (way : Way) (owed : Option Owed) (first taking count : ℕ)
+      → life ≡ Up way owed
+      → lines ≡ owed_line leaf first owed ++ (Entry leaf table taking (Took count) ∷ Ended Flush leaf FaultDisk ∷ [])
+      → next ≡ Up way (Some (record { table = table; count = count }))
+      → Flushes table leaf life lines next
+  stuck : (way : Way) (o : Owed)
+      → life ≡ Up way (Some o)
+      → lines ≡ Ended Flush leaf FaultDisk ∷ []
+      → next ≡ life
+      → Flushes table leaf life lines next
+  not_up : (IsUpLife life → ⊥)
+      → lines ≡ Ended Flush leaf NotUp ∷ []
+      → next ≡ life
+      → Flushes table leaf life lines next
+
+-- ---- kills
+
+-- the place of the first table that is still open
+abbrev pub first_open : Progress → ℕ
+first_open p = if p.shut then suc p.treated else p.treated
+
+-- A kill closes each open table, and what the next start prints stays claimed; or the leaf is down.
+pub data Kills (tables leaf : ℕ) (life : Life) (lines : List Line) (next : Life) : Type 0 where
+  kills : (way : Way) (owed : Option Owed) (numbers writes : List ℕ)
+      → life ≡ Up way owed
+      → length numbers ≡ tables
       → length writes ≡ tables
-      → lines ≡ table_lines leaf 0 closings (map Closed writes) ++ (table_lines leaf 0 handings (handed writes) ++ Ended Drain leaf Done ∷ [])
+      → lines ≡ table_lines leaf 0 numbers (map Closed writes) ++ Ended Kill leaf Done ∷ []
+      → next ≡ Down (Some way)
+      → Kills tables leaf life lines next
+  kills_preparing : (way : Way) (p : Progress) (numbers writes : List ℕ)
+      → life ≡ Preparing way p
+      → first_open p + length numbers ≡ tables
+      → length writes ≡ length numbers
+      → lines ≡ table_lines leaf (first_open p) numbers (map Closed writes) ++ Ended Kill leaf Done ∷ []
+      → next ≡ Down (Some way)
+      → Kills tables leaf life lines next
+  not_up : IsDownLife life
+      → lines ≡ Ended Kill leaf NotUp ∷ []
+      → next ≡ life
+      → Kills tables leaf life lines next
+
+-- ---- drains
+
+-- one table more is treated: what was owed is flushed; then the next table is closed and flushed with one number of writes, where it was not shut before
+pub data Treats (leaf : ℕ) (p : Progress) (lines : List Line) (q : Progress) : Type 0 where
+  whole : (first closing flushing count : ℕ)
+      → p.shut ≡ false
+      → lines ≡ owed_line leaf first p.owed ++ (Entry leaf p.treated closing (Closed count) ∷ Entry leaf p.treated flushing (Flushed count) ∷ [])
+      → q ≡ record { owed = None; treated = suc p.treated; shut = false }
+      → Treats leaf p lines q
+  rest : (first : ℕ)
+      → p.shut ≡ true
+      → lines ≡ owed_line leaf first p.owed
+      → q ≡ record { owed = None; treated = suc p.treated; shut = false }
+      → Treats leaf p lines q
+
+-- some tables more, of so many
+pub data TreatsOn (tables leaf : ℕ) : Progress → List Line → Progress → Type 0 where
+  none : (p : Progress) (lines : List Line) (q : Progress) → lines ≡ [] → q ≡ p → TreatsOn tables leaf p lines q
+  more : (p : Progress) (lines : List Line) (q : Progress) (first others : List Line) (between : Progress)
+      → p.treated < tables
+      → Treats leaf p first between
+      → TreatsOn tables leaf between others q
+      → lines ≡ first ++ others
+      → TreatsOn tables leaf p lines q
+
+-- the disk fails, before anything was flushed or when the next table was closed
+pub data Halts (leaf : ℕ) (p : Progress) (lines : List Line) (q : Progress) : Type 0 where
+  half : (first closing count : ℕ)
+      → p.shut ≡ false
+      → lines ≡ owed_line leaf first p.owed ++ Entry leaf p.treated closing (Closed count) ∷ []
+      → q ≡ record { owed = Some (record { table = p.treated; count = count }); treated = p.treated; shut = true }
+      → Halts leaf p lines q
+  stuck : (o : Owed)
+      → p.owed ≡ Some o
+      → lines ≡ []
+      → q ≡ p
+      → Halts leaf p lines q
+
+-- where a drain of such a leaf begins
+abbrev pub BeginsAt : Life → Way → Progress → Type 0
+BeginsAt (Down claim) way p = ⊥
+BeginsAt (Up w owed) way p = (w ≡ way) × (p ≡ record { owed = owed; treated = 0; shut = false })
+BeginsAt (Preparing w at) way p = (w ≡ way) × (p ≡ at)
+
+-- A drain of a leaf of so many tables: each that is left is closed and flushed, then each is handed over, and the next start finds memory; or the region fails
+-- once all are flushed; or there is no memory for the copy, or the disk fails, and the leaf goes on when it is drained again; or the leaf is down.
+pub data Drains (tables leaf : ℕ) (life : Life) (lines : List Line) (next : Life) : Type 0 where
+  drains : (way : Way) (p q : Progress) (treating : List Line) (handings : List ℕ)
+      → BeginsAt life way p
+      → TreatsOn tables leaf p treating q
+      → q.treated ≡ tables
+      → length handings ≡ tables
+      → lines ≡ treating ++ (table_lines leaf 0 handings (handed handings) ++ Ended Drain leaf Done ∷ [])
       → next ≡ Down (Some Memory)
       → Drains tables leaf life lines next
-  region_fails : (closings writes : List ℕ)
-      → life ≡ Up
-      → length closings ≡ tables
-      → length writes ≡ tables
-      → lines ≡ table_lines leaf 0 closings (map Closed writes) ++ Ended Drain leaf FaultRegion ∷ []
+  region_fails : (way : Way) (p q : Progress) (treating : List Line)
+      → BeginsAt life way p
+      → TreatsOn tables leaf p treating q
+      → q.treated ≡ tables
+      → lines ≡ treating ++ Ended Drain leaf FaultRegion ∷ []
       → next ≡ Down None
       → Drains tables leaf life lines next
-  no_memory : life ≡ Up
-      → lines ≡ Ended Drain leaf FaultMemory ∷ []
-      → next ≡ Up
+  no_memory : (way : Way) (p q : Progress) (treating : List Line)
+      → BeginsAt life way p
+      → TreatsOn tables leaf p treating q
+      → q.treated ≡ tables
+      → lines ≡ treating ++ Ended Drain leaf FaultMemory ∷ []
+      → next ≡ Preparing way q
       → Drains tables leaf life lines next
-  not_up : (claim : Option Way)
-      → life ≡ Down claim
+  disk_fails : (way : Way) (p q r : Progress) (treating halting : List Line)
+      → BeginsAt life way p
+      → TreatsOn tables leaf p treating q
+      → q.treated < tables
+      → Halts leaf q halting r
+      → lines ≡ treating ++ (halting ++ Ended Drain leaf FaultDisk ∷ [])
+      → next ≡ Preparing way r
+      → Drains tables leaf life lines next
+  not_up : IsDownLife life
       → lines ≡ Ended Drain leaf NotUp ∷ []
       → next ≡ life
       → Drains tables leaf life lines next

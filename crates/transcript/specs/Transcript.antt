@@ -1,5 +1,5 @@
 -- What a script prints: the lines of each command, the one history of each table, and the answers over those.
-use Rattle.std.specs.Prelude.{◌≡◌, ℕ, zero, suc, ◌+◌, ◌-◌, ◌*◌, ◌<◌, ◌≤◌, ◌==◌, Bool, true, false, ◌&&◌, ◌||◌, List, [], ◌∷◌, ◌++◌, length, map, take, Option, Some, None, slice_get, slice_set, ⊤, if◌then◌else◌, bytes_eq}
+use Rattle.std.specs.Prelude.{◌≡◌, ℕ, zero, suc, ◌+◌, ◌-◌, ◌*◌, ◌<◌, ◌≤◌, ◌==◌, Bool, true, false, ◌&&◌, List, [], ◌∷◌, ◌++◌, length, map, take, Option, Some, None, slice_get, slice_set, ⊤, if◌then◌else◌, bytes_eq}
 use Rattle.std.specs.List.{flat_map, AllByRecursion}
 use Rattle.leaf_model.specs.declared.rows.Row.{Row}
 use Rattle.leaf_model.specs.declared.queries.Query.{Query}
@@ -10,19 +10,17 @@ use Rattle.answer_text.specs.Answer.{answer_lines}
 use Rattle.leaf_history.specs.Calls.{Call}
 use Rattle.leaf_history.specs.Calls as call
 use Rattle.leaf_history.specs.Replies as reply
-use Rattle.leaf_history.specs.History.{Entry, TableState, LegalFrom, after, held}
+use Rattle.leaf_history.specs.History.{Entry, TableState, Legal, after, after_entry, held}
 use Rattle.script_text.specs.declared.command.Command.{Command}
 use Rattle.script_text.specs.declared.command.Command.TheVariants as command
 use Rattle.printed_lines.specs.declared.line.Said.{Said}
-use Rattle.printed_lines.specs.declared.line.Said.TheVariants.{Added, Asked, RefusedShut, RefusedFull, RefusedMemory, Opened, Closed, Handed}
-use Rattle.printed_lines.specs.declared.line.Verb.{Verb}
-use Rattle.printed_lines.specs.declared.line.Verb.TheVariants.{Drain, Start}
+use Rattle.printed_lines.specs.declared.line.Said.TheVariants.{Added, Asked, RefusedShut, RefusedFull, RefusedMemory, Opened, Took, Flushed, Closed, Handed}
 use Rattle.printed_lines.specs.declared.line.Ending.{Ending}
-use Rattle.printed_lines.specs.declared.line.Ending.TheVariants.{Done, NotUp, NotDown, Started, FaultRegion, FaultMemory, FaultStranger}
+use Rattle.printed_lines.specs.declared.line.Ending.TheVariants.{Done, NotUp, NotDown, Started, FaultRegion, FaultDisk, FaultDamaged, FaultMemory, FaultStranger}
 use Rattle.printed_lines.specs.declared.line.Line.{Line}
 use Rattle.printed_lines.specs.declared.line.Line.TheVariants as line
 use Rattle.printed_lines.specs.Lines.{lines_text}
-use Rattle.transcript.specs.Life.{Life, Starts, Drains}
+use Rattle.transcript.specs.Life.{Life, Starts, Flushes, Kills, Drains}
 
 -- ---- what was played, and by which fleet
 
@@ -62,6 +60,8 @@ IsAddSaid RefusedFull = ⊤
 IsAddSaid RefusedMemory = ⊤
 IsAddSaid Asked = ⊥
 IsAddSaid (Opened writes) = ⊥
+IsAddSaid (Took writes) = ⊥
+IsAddSaid (Flushed writes) = ⊥
 IsAddSaid (Closed writes) = ⊥
 IsAddSaid Handed = ⊥
 
@@ -72,6 +72,8 @@ IsAskSaid RefusedMemory = ⊤
 IsAskSaid (Added kept late) = ⊥
 IsAskSaid RefusedFull = ⊥
 IsAskSaid (Opened writes) = ⊥
+IsAskSaid (Took writes) = ⊥
+IsAskSaid (Flushed writes) = ⊥
 IsAskSaid (Closed writes) = ⊥
 IsAskSaid Handed = ⊥
 
@@ -88,6 +90,8 @@ named_by leaf number RefusedShut = []
 named_by leaf number RefusedFull = []
 named_by leaf number RefusedMemory = []
 named_by leaf number (Opened writes) = []
+named_by leaf number (Took writes) = []
+named_by leaf number (Flushed writes) = []
 named_by leaf number (Closed writes) = []
 named_by leaf number Handed = []
 
@@ -121,6 +125,8 @@ abbrev pub Prints : Fleet → Scene → Command → List Line → Scene → Type
 Prints fleet scene (command.Fleet machines per_machine tables) lines next = StartsAll (length fleet.names) 0 scene.lives lines next.lives
 Prints fleet scene (command.Add leaf table rows) lines next = EntryLine IsAddSaid leaf table lines × (next ≡ scene)
 Prints fleet scene (command.Query q) lines next = QueryLines fleet q lines × (next ≡ scene)
+Prints fleet scene (command.Flush leaf table) lines next = OfLeaf leaf scene next (λ life life'. Flushes table leaf life lines life')
+Prints fleet scene (command.Kill leaf) lines next = OfLeaf leaf scene next (λ life life'. Kills (length fleet.names) leaf life lines life')
 Prints fleet scene (command.Drain leaf) lines next = OfLeaf leaf scene next (λ life life'. Drains (length fleet.names) leaf life lines life')
 Prints fleet scene (command.Start leaf) lines next = OfLeaf leaf scene next (λ life life'. Starts (length fleet.names) leaf life lines life')
 
@@ -153,7 +159,9 @@ abbrev pub call_of : Command → Option Call
 call_of (command.Add leaf table rows) = Some (call.Add rows)
 call_of (command.Query q) = Some (call.Ask q)
 call_of (command.Fleet machines per_machine tables) = None
+call_of (command.Flush leaf table) = None
 call_of (command.Drain leaf) = None
+call_of (command.Kill leaf) = None
 call_of (command.Start leaf) = None
 
 -- the entry is what the line of this command says
@@ -164,6 +172,8 @@ Shows c RefusedShut e = (call_of c ≡ Some e.call) × (e.reply ≡ reply.Shut)
 Shows c RefusedFull e = (call_of c ≡ Some e.call) × (e.reply ≡ reply.Full)
 Shows c RefusedMemory e = (call_of c ≡ Some e.call) × (e.reply ≡ reply.NoMemory)
 Shows c (Opened n) e = (contents : Contents) × (e.call ≡ call.Open n contents)
+Shows c (Took n) e = (e.call ≡ call.Take) × (e.reply ≡ reply.Counted n)
+Shows c (Flushed n) e = e.call ≡ call.Flushed n
 Shows c (Closed n) e = (e.call ≡ call.Shut) × (e.reply ≡ reply.Counted n)
 Shows c Handed e = e.call ≡ call.Done
 
@@ -174,96 +184,61 @@ Tells n [] (e ∷ es) = ⊥
 Tells n (s ∷ ss) [] = ⊥
 Tells n (s ∷ ss) (e ∷ es) = (s.number ≡ n) × Shows s.command s.said e × Tells (suc n) ss es
 
--- A table's entries: those of which all is claimed, and those behind a loss, of which it is not claimed what a table is opened with.
-pub record Chronicle : Type 0 where
-  pub claimed : List Entry
-  pub rest : List Entry
-
--- the state after a chronicle
-abbrev pub state_after : TableState → Chronicle → TableState
-state_after base h = after false (after true base h.claimed) h.rest
-
 -- the lines of a table show each entry of one legal history, in their order and each once
-pub record IsHistoryOf (base : TableState) (lines : List Shown) (h : Chronicle) : Type 0 where
-  pub legal : LegalFrom true base h.claimed
-  pub goes_on : LegalFrom false (after true base h.claimed) h.rest
-  pub tells : Tells 1 lines (h.claimed ++ h.rest)
+pub record IsHistoryOf (base : TableState) (lines : List Shown) (entries : List Entry) : Type 0 where
+  pub legal : Legal base entries
+  pub tells : Tells 1 lines entries
 
--- what a drained leaf left may be lost: a start was refused, or the region failed in a drain
-abbrev pub is_loss : Verb → Ending → Bool
-is_loss Start FaultRegion = true
-is_loss Start FaultMemory = true
-is_loss Start (FaultStranger name) = true
-is_loss Start Done = false
-is_loss Start NotUp = false
-is_loss Start NotDown = false
-is_loss Start (Started way) = false
-is_loss Drain FaultRegion = true
-is_loss Drain FaultMemory = false
-is_loss Drain (FaultStranger name) = false
-is_loss Drain Done = false
-is_loss Drain NotUp = false
-is_loss Drain NotDown = false
-is_loss Drain (Started way) = false
+-- a table is opened with just the writes that are known to be on the disk
+abbrev pub OpenIs : TableState → Call → Type 0
+OpenIs s (call.Open n contents) = n ≡ s.flushed
+OpenIs s (call.Add rows) = ⊤
+OpenIs s (call.Expire horizon) = ⊤
+OpenIs s (call.Keep n) = ⊤
+OpenIs s (call.Ask q) = ⊤
+OpenIs s call.Take = ⊤
+OpenIs s (call.Flushed n) = ⊤
+OpenIs s call.Shut = ⊤
+OpenIs s call.Done = ⊤
 
-abbrev pub has_loss : ℕ → List Line → Bool
-has_loss leaf [] = false
-has_loss leaf (line.Ended verb l ending ∷ lines) = ((l == leaf) && is_loss verb ending) || has_loss leaf lines
-has_loss leaf (line.Entry l t number said ∷ lines) = has_loss leaf lines
-has_loss leaf (line.Answer n leaves rows ∷ lines) = has_loss leaf lines
-
--- the commands up to the first that lost what the leaf held
-abbrev pub until_loss : ℕ → List Played → List Played
-until_loss leaf [] = []
-until_loss leaf (p ∷ ps) = if has_loss leaf p.lines then p ∷ [] else p ∷ until_loss leaf ps
+abbrev pub OpensFlushed : TableState → List Entry → Type 0
+OpensFlushed s [] = ⊤
+OpensFlushed s (e ∷ es) = OpenIs s e.call × OpensFlushed (after_entry true s e) es
 
 -- ---- the answers
 
 -- the rows of a table as they are before the entry of this number
-abbrev pub rows_before : TableState → Chronicle → ℕ → List Row
-rows_before base h number =
-    (held (state_after base (record { claimed = take (number - 1) h.claimed; rest = take (number - 1 - length h.claimed) h.rest }))).rows
+abbrev pub rows_before : TableState → List Entry → ℕ → List Row
+rows_before base entries number = (held (after true base (take (number - 1) entries))).rows
 
 -- the lines of an answer: the groups of the passing rows, in order, cut and printed
 abbrev pub row_lines : Query → List Row → List (List ℕ)
 row_lines q rows = answer_lines q (groups q rows)
 
 -- the answer is over the rows of exactly the named leaves, each before its entry
-abbrev pub AnswersLine : (ℕ → TableState) → (ℕ → Chronicle) → Query → List (ℕ × ℕ) → Line → Type 0
+abbrev pub AnswersLine : (ℕ → TableState) → (ℕ → List Entry) → Query → List (ℕ × ℕ) → Line → Type 0
 AnswersLine bases histories q leaves (line.Answer count of rows) =
     rows ≡ row_lines q (flat_map (λ l. rows_before (bases l.0) (histories l.0) l.1) leaves)
 AnswersLine bases histories q leaves (line.Entry l t number said) = ⊤
 AnswersLine bases histories q leaves (line.Ended verb l ending) = ⊤
 
-abbrev pub Answers : Fleet → (ℕ → ℕ → TableState) → (ℕ → ℕ → Chronicle) → Command → List Line → Type 0
+abbrev pub Answers : Fleet → (ℕ → ℕ → TableState) → (ℕ → ℕ → List Entry) → Command → List Line → Type 0
 Answers fleet bases histories (command.Query q) lines =
     let table = place_of q.table fleet.names in
     AllByRecursion (AnswersLine (λ leaf. bases leaf table) (λ leaf. histories leaf table) q (named lines)) lines
 Answers fleet bases histories (command.Fleet machines per_machine tables) lines = ⊤
 Answers fleet bases histories (command.Add leaf table rows) lines = ⊤
+Answers fleet bases histories (command.Flush leaf table) lines = ⊤
 Answers fleet bases histories (command.Drain leaf) lines = ⊤
+Answers fleet bases histories (command.Kill leaf) lines = ⊤
 Answers fleet bases histories (command.Start leaf) lines = ⊤
-
--- ---- all of it
-
--- The text is what these commands print over leaves and tables that begin so.
-pub record Transcript (fleet : Fleet) (scene : Scene) (bases : ℕ → ℕ → TableState) (commands : List Command) (out : List ℕ) : Type 0 where
-  pub played : List Played
-  pub histories : ℕ → ℕ → Chronicle
-  pub scene_after : Scene
-  pub commands_are : map (λ (p : Played). p.command) played ≡ commands
-  pub text : out ≡ lines_text fleet.names (flat_map (λ (p : Played). p.lines) played)
-  pub prints : PrintsAll fleet scene played scene_after
-  pub one_history : (leaf table : ℕ) → leaf < fleet.leaves → table < length fleet.names →
-      IsHistoryOf (bases leaf table) (shown leaf table played) (histories leaf table)
-  pub claimed : (leaf table : ℕ) → leaf < fleet.leaves → table < length fleet.names →
-      length (shown leaf table (until_loss leaf played)) ≤ length (histories leaf table).claimed
-  pub answers : AllByRecursion (λ (p : Played). Answers fleet bases histories p.command p.lines) played
 
 -- ---- the faults
 
 abbrev pub is_region_fault : Ending → Bool
 is_region_fault FaultRegion = true
+is_region_fault FaultDisk = false
+is_region_fault FaultDamaged = false
 is_region_fault FaultMemory = false
 is_region_fault (FaultStranger name) = false
 is_region_fault Done = false
@@ -271,9 +246,49 @@ is_region_fault NotUp = false
 is_region_fault NotDown = false
 is_region_fault (Started way) = false
 
+abbrev pub is_disk_fault : Ending → Bool
+is_disk_fault FaultRegion = false
+is_disk_fault FaultDisk = true
+is_disk_fault FaultDamaged = false
+is_disk_fault FaultMemory = false
+is_disk_fault (FaultStranger name) = false
+is_disk_fault Done = false
+is_disk_fault NotUp = false
+is_disk_fault NotDown = false
+is_disk_fault (Started way) = false
+
+-- how many lines of a leaf tell of such an ending
+abbrev pub endings_in : (Ending → Bool) → ℕ → List Line → ℕ
+endings_in test leaf [] = 0
+endings_in test leaf (line.Ended verb l ending ∷ lines) = (if (l == leaf) && test ending then 1 else 0) + endings_in test leaf lines
+endings_in test leaf (line.Entry l t number said ∷ lines) = endings_in test leaf lines
+endings_in test leaf (line.Answer n leaves rows ∷ lines) = endings_in test leaf lines
+
 -- how many lines of a leaf tell of a fault of its region
 abbrev pub region_faults_in : ℕ → List Line → ℕ
-region_faults_in leaf [] = 0
-region_faults_in leaf (line.Ended verb l ending ∷ lines) = (if (l == leaf) && is_region_fault ending then 1 else 0) + region_faults_in leaf lines
-region_faults_in leaf (line.Entry l t number said ∷ lines) = region_faults_in leaf lines
-region_faults_in leaf (line.Answer n leaves rows ∷ lines) = region_faults_in leaf lines
+region_faults_in leaf lines = endings_in is_region_fault leaf lines
+
+-- and of its disk
+abbrev pub disk_faults_in : ℕ → List Line → ℕ
+disk_faults_in leaf lines = endings_in is_disk_fault leaf lines
+
+-- the commands before the first that tells of a fault of a leaf's disk
+abbrev pub until_disk_fault : ℕ → List Played → List Played
+until_disk_fault leaf [] = []
+until_disk_fault leaf (p ∷ ps) = if disk_faults_in leaf p.lines == 0 then p ∷ until_disk_fault leaf ps else []
+
+-- ---- all of it
+
+-- The text is what these commands print over leaves and tables that begin so.
+pub record Transcript (fleet : Fleet) (scene : Scene) (bases : ℕ → ℕ → TableState) (commands : List Command) (out : List ℕ) : Type 0 where
+  pub played : List Played
+  pub histories : ℕ → ℕ → List Entry
+  pub scene_after : Scene
+  pub commands_are : map (λ (p : Played). p.command) played ≡ commands
+  pub text : out ≡ lines_text fleet.names (flat_map (λ (p : Played). p.lines) played)
+  pub prints : PrintsAll fleet scene played scene_after
+  pub one_history : (leaf table : ℕ) → leaf < fleet.leaves → table < length fleet.names →
+      IsHistoryOf (bases leaf table) (shown leaf table played) (histories leaf table)
+  pub answers : AllByRecursion (λ (p : Played). Answers fleet bases histories p.command p.lines) played
+  pub opened : (leaf table : ℕ) → leaf < fleet.leaves → table < length fleet.names →
+      OpensFlushed (bases leaf table) (take (length (shown leaf table (until_disk_fault leaf played))) (histories leaf table))

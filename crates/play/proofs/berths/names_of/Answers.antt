@@ -1,5 +1,5 @@
 use Rattle.std.proofs.Common.{rules, ◌≡◌, ◌<◌, length, sym, subst}
-use Rattle.leaf_machine.specs.Tables.{AreNames}
+use Rattle.region_layout.specs.Names.{AreNames}
 use Rattle.play.specs.Played.{names_in}
 use Rattle.play.proofs.Ends.{names_are}
 use Rattle.play.proofs.berths.names_of.Goals as goal

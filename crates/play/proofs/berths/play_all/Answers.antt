@@ -28,7 +28,7 @@ loop-command-preserved g c =
       run_goes_on c.args.names.now (g.B.Berth.meaning c.args.player.berth) (g.B.Berth.meaning c.loop-command.player.berth) (g.B.Berth.meaning c.play_next-next.result.0.berth)
           (g.K.Sink.written c.args.sink.now) (g.K.Sink.written c.loop-command.sink) (g.K.Sink.written c.play_next-next.new.sink) inv.0
           c.loop-command.player.leaf c.play_next-next.result.0.leaf c.loop-command.player.numbers c.play_next-next.result.0.numbers c.in-Some.command
-          inv.2 may.0 step c.play_next-next.ensures.time c.play_next-next.ensures.disk c.play_next-next.ensures.reads,
+          inv.2 may.0 step c.play_next-next.ensures.time,
       c.play_next-next.ensures.names,
       may.1,
       omega (arith, inv.5, c.play_next-next.ensures.later),

@@ -1,6 +1,6 @@
 use Rattle.std.proofs.Common.{rules, ◌≡◌, ◌<◌, [], length, sym, subst}
 use Rattle.std.specs.List.{AllByRecursion}
-use Rattle.leaf_machine.specs.Tables.{AreNames}
+use Rattle.region_layout.specs.Names.{AreNames}
 use Rattle.transcript.specs.Steps.{MayPlay}
 use Rattle.play.specs.Played.{names_in}
 use Rattle.play.proofs.Ends.{all_may_play, nothing_written, first_written}

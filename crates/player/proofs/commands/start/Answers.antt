@@ -1,25 +1,38 @@
 use Rattle.std.proofs.Common.{length, sym, subst}
+use Rattle.std.proofs.lemmas.Result.{IfOk-weaker}
 use Rattle.printed_lines.specs.declared.line.Verb.TheVariants as verb
+use Rattle.transcript.specs.Steps.{StartMoves, StartStep, StewardLines}
 use Rattle.player.specs.Stage.{state_of, berth_of}
-use Rattle.player.specs.Moves.{ArePlaces, Starts}
-use Rattle.player.proofs.Told.{start_places, start_result, faults_result, fit_result}
+use Rattle.player.specs.Moves.{ArePlaces}
+use Rattle.player.proofs.Told.{sound_result, untouched_berth}
 use Rattle.player.proofs.commands.start.Goals as goal
 
 pub steward_lines-lines-requires : goal.steward_lines-lines-requires
 steward_lines-lines-requires g c =
-    let moved : ArePlaces (length c.args.names.now) c.start-leaf.new.notes = start_places c.args.names.now (g.B.Berth.meaning (berth_of c.args.leaf)).tells (g.B.Berth.meaning (berth_of c.args.leaf)).held.region (state_of c.args.leaf) c.start-leaf.new.notes c.start-leaf.result.1 (state_of c.start-leaf.result.0) (subst (λ names. Starts names (g.B.Berth.meaning (berth_of c.args.leaf)).tells (g.B.Berth.meaning (berth_of c.args.leaf)).held.region (state_of c.args.leaf) c.start-leaf.new.notes c.start-leaf.result.1 (state_of c.start-leaf.result.0)) c.requires.same c.start-leaf.ensures.starts) in
-    subst (λ n. ArePlaces n c.start-leaf.new.notes) (sym c.requires.each) moved
+    subst (λ n. ArePlaces n c.start-leaf.new.notes) (sym c.requires.each) (subst (λ names. ArePlaces (length names) c.start-leaf.new.notes) c.requires.same c.start-leaf.ensures.places)
 
 pub returns-clause-starts : goal.returns-clause-starts
-returns-clause-starts g c = start_result c.args.names.now (g.B.Berth.meaning (berth_of c.args.leaf)).tells (g.B.Berth.meaning (berth_of c.args.leaf)).held.region (state_of c.args.leaf) c.start-leaf.new.notes c.start-leaf.result.1 (state_of c.start-leaf.result.0)
-    c.args.numbers.now.items c.steward_lines-lines.new.numbers.items c.steward_lines-lines.result (subst (λ names. Starts names (g.B.Berth.meaning (berth_of c.args.leaf)).tells (g.B.Berth.meaning (berth_of c.args.leaf)).held.region (state_of c.args.leaf) c.start-leaf.new.notes c.start-leaf.result.1 (state_of c.start-leaf.result.0)) c.requires.same c.start-leaf.ensures.starts) c.requires.each c.steward_lines-lines.ensures.lines c.steward_lines-lines.ensures.numbers
+returns-clause-starts g c =
+    let meaning = g.B.Berth.meaning in
+    let old = berth_of c.args.leaf in
+    let new = berth_of c.start-leaf.result.0 in
+    let notes = c.start-leaf.new.notes in
+    let ends = c.start-leaf.result.1 in
+    let numbers = c.args.numbers.now.items in
+    let numbers' = c.steward_lines-lines.new.numbers.items in
+    IfOk-weaker c.steward_lines-lines.result (λ lines. StewardLines verb.Start notes ends numbers lines.items numbers')
+    (λ lines. StartStep c.args.names.now (meaning old) (meaning new) (state_of c.args.leaf) numbers lines.items (state_of c.start-leaf.result.0) numbers')
+    (λ lines prints. record {
+      notes = notes;
+      ends = ends;
+      moves = subst (λ names. StartMoves names (meaning old) (meaning new) (state_of c.args.leaf) notes ends (state_of c.start-leaf.result.0)) c.requires.same c.start-leaf.ensures.moves;
+      prints = prints;
+      others = λ up. untouched_berth meaning old new (c.start-leaf.ensures.others up);
+    })
+    c.steward_lines-lines.ensures.prints
 
-pub returns-clause-faults : goal.returns-clause-faults
-returns-clause-faults g c = faults_result verb.Start c.start-leaf.result.1 c.start-leaf.new.notes c.args.numbers.now.items c.steward_lines-lines.result
-    (g.B.Berth.meaning (berth_of c.args.leaf)).region_faults (g.B.Berth.meaning (berth_of c.start-leaf.result.0)).region_faults
-    c.steward_lines-lines.ensures.lines c.start-leaf.ensures.time.region_faults c.start-leaf.ensures.cause
-
-pub returns-clause-lines_fit : goal.returns-clause-lines_fit
-returns-clause-lines_fit g c =
-    let moved : ArePlaces (length c.args.names.now) c.start-leaf.new.notes = start_places c.args.names.now (g.B.Berth.meaning (berth_of c.args.leaf)).tells (g.B.Berth.meaning (berth_of c.args.leaf)).held.region (state_of c.args.leaf) c.start-leaf.new.notes c.start-leaf.result.1 (state_of c.start-leaf.result.0) (subst (λ names. Starts names (g.B.Berth.meaning (berth_of c.args.leaf)).tells (g.B.Berth.meaning (berth_of c.args.leaf)).held.region (state_of c.args.leaf) c.start-leaf.new.notes c.start-leaf.result.1 (state_of c.start-leaf.result.0)) c.requires.same c.start-leaf.ensures.starts) in
-    fit_result c.args.names.now verb.Start c.start-leaf.result.1 c.start-leaf.new.notes c.args.numbers.now.items c.steward_lines-lines.result c.steward_lines-lines.ensures.lines moved
+pub returns-clause-sound : goal.returns-clause-sound
+returns-clause-sound g c =
+    sound_result c.args.names.now (g.B.Berth.meaning (berth_of c.args.leaf)) (g.B.Berth.meaning (berth_of c.start-leaf.result.0)) verb.Start c.start-leaf.new.notes c.start-leaf.result.1
+    c.args.numbers.now.items c.steward_lines-lines.result c.steward_lines-lines.new.numbers.items c.start-leaf.ensures.time c.start-leaf.ensures.cause
+    (subst (λ names. ArePlaces (length names) c.start-leaf.new.notes) c.requires.same c.start-leaf.ensures.places) c.steward_lines-lines.ensures.prints

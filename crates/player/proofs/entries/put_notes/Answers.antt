@@ -1,5 +1,5 @@
 use Rattle.std.proofs.Common.{◌≡◌, ◌+◌, ℕ, suc, slice_get, Some, rules, arith, subst}
-use Rattle.player.specs.Moves.{next_line}
+use Rattle.transcript.specs.Steps.{next_line}
 use Rattle.player.proofs.Noted.{Going, goes_on}
 use Rattle.player.proofs.entries.put_notes.Goals as goal
 

@@ -1,13 +1,13 @@
 use Rattle.transcript.proofs.Playing.{begins, plays_on}
-use Rattle.transcript.proofs.Running.{ended}
+use Rattle.transcript.proofs.Ended.{ended}
 use Rattle.transcript.proofs.laws.plays_go_on.Goals as goal
 
 pub returns-clause-begin : goal.returns-clause-begin
-returns-clause-begin c = λ names region way bases distinct is bs. begins names region way bases distinct is bs
+returns-clause-begin g c = λ names way first distinct rests is. begins names way first _ distinct rests is
 
 pub returns-clause-on : goal.returns-clause-on
-returns-clause-on c = λ names first bases commands out leaf region region' numbers command tells lines leaf' numbers' told may s step.
-    plays_on names first bases commands out leaf region region' numbers command tells lines leaf' numbers' told may s step
+returns-clause-on g c = λ names way first commands out leaf leaf' numbers numbers' command lines told may s step.
+    plays_on names way first commands out leaf leaf' _ _ numbers numbers' command lines c.leaves_rest.ensures.rests told may s step
 
 pub returns-clause-end : goal.returns-clause-end
-returns-clause-end c = λ names first bases commands out leaf region numbers s. ended names first bases commands out leaf region numbers s
+returns-clause-end g c = λ names way first commands out leaf numbers s. ended names way first commands out leaf _ numbers c.leaves_rest.ensures.rests s

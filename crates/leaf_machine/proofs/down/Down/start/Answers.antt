@@ -1,33 +1,37 @@
-use Rattle.std.proofs.Common.{◌≡◌, ℕ, List, None, IsTrue, sym, ap, subst, ◌∙◌}
-use Rattle.leaf_machine.specs.Tables.{names_of, stranger_of, AreTables}
-use Rattle.leaf_machine.specs.Starts.{Started}
-use Rattle.leaf_machine.proofs.Leaves.{adopted_are, adopted_names, way_is}
+use Rattle.std.proofs.Common.{sym, subst, IsTrue}
+use Rattle.leaf_opening.specs.Backed.{Rests}
+use Rattle.leaf_opening.specs.Starts.{Started, IsWayOf, serving_of}
+use Rattle.leaf_machine.proofs.Opening.{opened_serves}
 use Rattle.leaf_machine.proofs.down.Down.start.Goals as goal
 
 pub invariant_of-result : goal.invariant_of-result
 invariant_of-result g c =
-    subst AreTables (sym c.arranged-tables.ensures) (adopted_are c.self.inside.names c.in-Ok.ready.images.items c.self.invariant c.in-Ok.ensures.images)
-
-pub returns-in-Ok-clause-names : goal.returns-in-Ok-clause-names
-returns-in-Ok-clause-names g c =
-    ap names_of c.arranged-tables.ensures
-    ∙ adopted_names c.self.inside.names c.in-Ok.ready.images.items c.self.invariant.each c.in-Ok.ensures.images
-    ∙ ap (λ v. v.0) c.self.view_is
+    let opened = c.in-Ok.opened in
+    opened_serves c.self.inside.names opened.tables.items opened.log c.self.invariant c.in-Ok.ensures.one c.in-Ok.ensures.fresh.0 c.in-Ok.ensures.room
 
 pub returns-in-Ok-clause-told : goal.returns-in-Ok-clause-told
-returns-in-Ok-clause-told g c = λ told_now.
-    let told = subst (λ v. IsTrue (g.B.Berth.meaning v.1).tells) (sym c.self.view_is) told_now in
-    let names = c.self.inside.names in
-    let a = g.B.Berth.meaning c.self.inside.berth in
-    let b = g.B.Berth.meaning c.ready.new.berth in
-    let items = c.arranged-tables.result.items in
-    let way = c.in-Ok.ready.way in
-    let images = c.in-Ok.ready.images.items in
-    let is = c.in-Ok.ensures.told told in
-    let known : stranger_of names images ≡ None = ap (λ (ns : List (List ℕ)). stranger_of ns images) (sym c.as_slice.ensures) ∙ is.1 in
-    let started : Started names a b items way = record {
-      came = way_is names a.held.region images items way is.0 known c.arranged-tables.ensures;
-      region = is.2;
-      disk = c.in-Ok.ensures.disk told;
-    } in
-    subst (λ v. Started v.0 (g.B.Berth.meaning v.1) b items way) c.self.view_is started
+returns-in-Ok-clause-told g c =
+    λ told_now.
+    let told : IsTrue (g.B.Berth.meaning c.self.inside.berth).tells = subst (λ v. IsTrue (g.B.Berth.meaning v.1).tells) (sym c.self.view_is) told_now in
+    let new = g.B.Berth.meaning c.open_tables.new.berth in
+    subst (λ v. Started v.0 (g.B.Berth.meaning v.1) new (serving_of c.self.inside.names c.in-Ok.opened) c.in-Ok.opened.way) c.self.view_is (c.in-Ok.ensures.told told)
+
+pub returns-in-Ok-clause-way : goal.returns-in-Ok-clause-way
+returns-in-Ok-clause-way g c =
+    λ told_now.
+    let told : IsTrue (g.B.Berth.meaning c.self.inside.berth).tells = subst (λ v. IsTrue (g.B.Berth.meaning v.1).tells) (sym c.self.view_is) told_now in
+    subst (λ v. IsWayOf (g.B.Berth.meaning v.1).held.region c.in-Ok.opened.way) c.self.view_is (c.in-Ok.ensures.way told)
+
+pub returns-in-Ok-clause-backed : goal.returns-in-Ok-clause-backed
+returns-in-Ok-clause-backed g c =
+    λ writes told_now rests_now.
+    let told : IsTrue (g.B.Berth.meaning c.self.inside.berth).tells = subst (λ v. IsTrue (g.B.Berth.meaning v.1).tells) (sym c.self.view_is) told_now in
+    let rests : Rests writes (g.B.Berth.meaning c.self.inside.berth) = subst (λ v. Rests writes (g.B.Berth.meaning v.1)) (sym c.self.view_is) rests_now in
+    c.in-Ok.ensures.backed writes told rests
+
+pub returns-in-Err-clause-rests : goal.returns-in-Err-clause-rests
+returns-in-Err-clause-rests g c =
+    λ writes told_now rests_now.
+    let told : IsTrue (g.B.Berth.meaning c.self.inside.berth).tells = subst (λ v. IsTrue (g.B.Berth.meaning v.1).tells) (sym c.self.view_is) told_now in
+    let rests : Rests writes (g.B.Berth.meaning c.self.inside.berth) = subst (λ v. Rests writes (g.B.Berth.meaning v.1)) (sym c.self.view_is) rests_now in
+    c.in-Err.ensures.rests writes told rests

@@ -1,0 +1,4 @@
+pub mod Heads
+pub mod Ending
+pub mod Taking
+pub mod Finding

@@ -1,0 +1,13 @@
+use Rattle.std.proofs.Common.{◌≡◌, ◌++◌, drop}
+use Rattle.std.specs.List.{AllByRecursion}
+use Rattle.region_layout.specs.Images.{tables_of}
+use Rattle.region_layout.specs.Region.{AreDistinct, IsTableImage}
+use Rattle.adopt.proofs.tables.arranged.Given as goal
+
+-- the tables so far, and then those of the names that are left, are all tables
+abbrev pub invariant-loop-name : goal.invariant-loop-name
+invariant-loop-name l = record {
+  so_far : l.tables.items ++ tables_of (drop l.name-index l.names) l.images.items ≡ tables_of l.fn.names l.fn.images.items;
+  distinct : AreDistinct (drop l.name-index l.names);
+  each : AllByRecursion IsTableImage l.images.items;
+}

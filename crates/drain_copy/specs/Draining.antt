@@ -1,0 +1,28 @@
+-- How far a drain has come.
+use Rattle.std.specs.Prelude.{◌≡◌, ℕ, List, ◌∷◌, drop, replicate, ⊤}
+use Rattle.drain_copy.specs.declared.step.Next.{Next}
+use Rattle.drain_copy.specs.declared.step.Next.TheVariants as next
+use Rattle.drain_copy.specs.declared.step.DrainStep.{DrainStep}
+use Rattle.drain_copy.specs.declared.step.DrainStep.TheVariants.{Begun, Written, Finished}
+
+-- the image that is copied, and the step that comes next
+pub record DrainState : Type 0 where
+  pub image : List ℕ
+  pub next : Next
+
+-- what stands in the region before a step: anything before the first; then a closed head; then the image but for its flag; then the image
+abbrev pub StandsAt : Next → List ℕ → List ℕ → Type 0
+StandsAt next.Begin image region = ⊤
+StandsAt next.Write image region = region ≡ replicate 16 0
+StandsAt next.Flag image region = region ≡ 0 ∷ drop 1 image
+StandsAt next.Nothing image region = region ≡ image
+
+abbrev pub Draining : DrainState → List ℕ → Type 0
+Draining d region = StandsAt d.next d.image region
+
+-- what a step is, by the one that comes next before it and behind it
+abbrev pub IsStep : Next → DrainStep → Next → Type 0
+IsStep next.Begin s later = (s ≡ Begun) × (later ≡ next.Write)
+IsStep next.Write s later = (s ≡ Written) × (later ≡ next.Flag)
+IsStep next.Flag s later = (s ≡ Finished) × (later ≡ next.Nothing)
+IsStep next.Nothing s later = ⊥

@@ -1,0 +1,51 @@
+// What each step of a drain does to the region.
+ghost use Rattle.std.specs.Prelude.{◌≡◌, ◌⊎◌, ◌≤◌, ◌∷◌, length, drop, replicate, OnOk, OnErr, IsTrue};
+ghost use Rattle.berth_face.specs.Causes.{HasCause};
+ghost use Rattle.berth_face.specs.Berth.{Passes, Ended, SameDisk};
+ghost use Rattle.region_layout.specs.Region.{IsClosed};
+
+use berth_face::{Berth, Failed};
+
+/// Empties the region, and puts a closed head into it. The flag goes first, so that a write that is cut short leaves it closed.
+pub fn begin<B: Berth>(berth: &mut B) -> Result<(), Failed>
+    ensures done { IsTrue (B.meaning berth.old).tells → OnOk result ((B.meaning berth.new).held.region ≡ replicate 16 0) }
+    ensures failed { IsTrue (B.meaning berth.old).tells → IsClosed (B.meaning berth.old).held.region → OnErr result (IsClosed (B.meaning berth.new).held.region) }
+    ensures disk { IsTrue (B.meaning berth.old).tells → (B.meaning berth.new).held.disk ≡ (B.meaning berth.old).held.disk }
+    ensures disks { IsTrue (B.meaning berth.old).tells → Ended SameDisk (B.meaning berth.old) (B.meaning berth.new) }
+    ensures time { Passes (B.meaning berth.old) (B.meaning berth.new) }
+    ensures cause { HasCause (B.meaning berth.old).region_faults (B.meaning berth.new).region_faults result }
+    ensures reads { (B.meaning berth.new).disk_reads ≡ (B.meaning berth.old).disk_reads }
+{
+    berth.region_cut(0)?;
+    berth.region_write(0, &[0])?;
+    berth.region_write(1, &[0; 15])
+}
+
+/// Writes all of the image behind the flag, over a closed head.
+pub fn fill<B: Berth>(image: &[u8], berth: &mut B) -> Result<(), Failed>
+    requires { 16 ≤ length image.now }
+    ensures done { IsTrue (B.meaning berth.old).tells → (B.meaning berth.old).held.region ≡ replicate 16 0
+        → OnOk result ((B.meaning berth.new).held.region ≡ 0 ∷ drop 1 image.now) }
+    ensures failed { IsTrue (B.meaning berth.old).tells → (B.meaning berth.old).held.region ≡ replicate 16 0 → OnErr result (IsClosed (B.meaning berth.new).held.region) }
+    ensures disk { IsTrue (B.meaning berth.old).tells → (B.meaning berth.new).held.disk ≡ (B.meaning berth.old).held.disk }
+    ensures disks { IsTrue (B.meaning berth.old).tells → Ended SameDisk (B.meaning berth.old) (B.meaning berth.new) }
+    ensures time { Passes (B.meaning berth.old) (B.meaning berth.new) }
+    ensures cause { HasCause (B.meaning berth.old).region_faults (B.meaning berth.new).region_faults result }
+    ensures reads { (B.meaning berth.new).disk_reads ≡ (B.meaning berth.old).disk_reads }
+{
+    berth.region_write(1, &image[1..])
+}
+
+/// Opens the flag.
+pub fn open<B: Berth>(berth: &mut B) -> Result<(), Failed>
+    ensures done { IsTrue (B.meaning berth.old).tells → OnOk result ((B.meaning berth.new).held.region ≡ 1 ∷ drop 1 (B.meaning berth.old).held.region) }
+    ensures failed { IsTrue (B.meaning berth.old).tells
+        → OnErr result (IsClosed (B.meaning berth.new).held.region ⊎ ((B.meaning berth.new).held.region ≡ 1 ∷ drop 1 (B.meaning berth.old).held.region)) }
+    ensures disk { IsTrue (B.meaning berth.old).tells → (B.meaning berth.new).held.disk ≡ (B.meaning berth.old).held.disk }
+    ensures disks { IsTrue (B.meaning berth.old).tells → Ended SameDisk (B.meaning berth.old) (B.meaning berth.new) }
+    ensures time { Passes (B.meaning berth.old) (B.meaning berth.new) }
+    ensures cause { HasCause (B.meaning berth.old).region_faults (B.meaning berth.new).region_faults result }
+    ensures reads { (B.meaning berth.new).disk_reads ≡ (B.meaning berth.old).disk_reads }
+{
+    berth.region_write(0, &[1])
+}

@@ -1,0 +1,75 @@
+-- A disk's log while a recovery begins, and how long its tables grow.
+use Rattle.std.proofs.Common.{◌≡◌, inl, inr, ℕ, ◌+◌, ◌≤◌, ◌∙◌, List, [], ◌++◌, length, take, min, sym, ap, subst, arith}
+use Rattle.std.proofs.lemmas.Bool.{cases_lt}
+use Rattle.std.proofs.lemmas.List.{take-append-le, take_all, take_min}
+use Rattle.leaf_model.specs.declared.writes.Write.{Write}
+use Rattle.leaf_model.specs.Content.{content}
+use Rattle.row_records.specs.Records.{LogRecord}
+use Rattle.table_state.specs.Tables.{most_rows}
+use Rattle.disk_backup.specs.Logs.{IsLog, is_short, is_gated, IsBounded, IsSound, ClosedLog, writes_of}
+use Rattle.disk_backup.specs.Scanning.{Begins, begun}
+use Rattle.disk_backup.proofs.Beginning.{begun_short, begun_long}
+use Rattle.disk_backup.proofs.Logs.{one_log, closed_is_log}
+use Rattle.leaf_opening.specs.Backed.{HasSoundLog, IsShort}
+
+-- ---- how long a table grows
+
+pub short_of : (name : List ℕ) (records : List LogRecord) (taken : List Write) → IsBounded records → writes_of name records ≡ taken → IsShort taken
+short_of name records taken bounded same = λ k. subst (λ (l : List Write). length (content (take k l)).rows ≤ most_rows) same (bounded name k)
+
+pub bounded_of : (records : List LogRecord) (writes : List ℕ → List Write) → ((name : List ℕ) → writes_of name records ≡ writes name) → ((name : List ℕ) → IsShort (writes name)) → IsBounded records
+bounded_of records writes same short = λ name k. subst (λ (l : List Write). length (content (take k l)).rows ≤ most_rows) (sym (same name)) (short name k)
+
+-- the first of the writes
+pub shorter : (a b : List Write) → IsShort (a ++ b) → IsShort a
+shorter a b short = λ k.
+    let m = min k (length a) in
+    let front : take m (a ++ b) ≡ take k a = take-append-le m a b (omega arith) ∙ take_min k a in
+    subst (λ (l : List Write). length (content l).rows ≤ most_rows) front (short m)
+
+abbrev pub no_writes : List Write
+no_writes = []
+
+pub none_short : IsShort no_writes
+none_short = λ k.
+    let none : take k no_writes ≡ no_writes = take_all k no_writes (omega arith) in
+    subst (λ (l : List Write). length (content l).rows ≤ most_rows) (sym none) (omega arith)
+
+-- ---- a disk of at most one byte
+
+short_log : (disk : List ℕ) (records : List LogRecord) (end : ℕ) → length disk ≤ 1 → IsLog disk records end → (records ≡ []) × (end ≡ 0)
+short_log disk records end short (is_short few none at) = (none, at)
+short_log disk records end short (is_gated gate rest each is shut at long) = absurd (omega (arith, short, long))
+
+begun_log : (disk : List ℕ) (records : List LogRecord) (end : ℕ) → IsLog disk records end → IsLog (begun disk) records end
+begun_log disk records end log = elim (cases_lt 1 (length disk)) [
+  | inl long ↦ subst (λ (d : List ℕ). IsLog d records end) (sym (begun_long disk long)) log
+  | inr short ↦
+      let none = short_log disk records end short log in
+      subst (λ (d : List ℕ). IsLog d records end) (sym (begun_short disk short)) (is_short (omega arith) none.0 none.1)
+]
+
+module _ (writes : List ℕ → List Write) (disk : List ℕ) (had : HasSoundLog writes disk) where
+  pub sound_of : IsSound disk
+  sound_of = (had.records, had.log_end, had.log, had.bounded)
+
+  -- whatever became of its first byte, it has the same log
+  pub sound_begins : (now : List ℕ) → Begins (length disk) disk now → HasSoundLog writes now
+  sound_begins now (inl same) = subst (HasSoundLog writes) (sym same) had
+  sound_begins now (inr first) =
+      let none = short_log disk had.records had.log_end first.short had.log in
+      record {
+        records = had.records;
+        log_end = had.log_end;
+        log = is_short (omega (arith, first.short, first.torn.no_longer)) none.0 none.1;
+        bounded = had.bounded;
+        each = had.each;
+      }
+
+  -- the log that is read is the one that it had
+  pub same_writes : (now : List ℕ) (records : List LogRecord) (end : ℕ) → now ≡ begun disk → ClosedLog records end now → (name : List ℕ) → writes_of name records ≡ writes name
+  same_writes now records end is closed name =
+      let whole = begun_log disk had.records had.log_end had.log in
+      let read = closed_is_log (begun disk) records end (subst (ClosedLog records end) is closed) in
+      let one = one_log (begun disk) records had.records end had.log_end read whole in
+      ap (writes_of name) one.0 ∙ had.each name

@@ -1,0 +1,157 @@
+use Rattle.std.proofs.Common.{◌≡◌, ◌∙◌, List, length, IsTrue, Err, sym, ap, subst}
+use Rattle.std.proofs.lemmas.Result.{err_from_is_err_and}
+use Rattle.table_state.specs.Tables.{Table}
+use Rattle.adopt.specs.Found.{AreAdopted, IsFound}
+use Rattle.disk_backup.specs.State.{LogState}
+use Rattle.disk_backup.specs.Scanning.{begun}
+use Rattle.log_recovery.specs.declared.fault.RecoveryFault.{RecoveryFault}
+use Rattle.leaf_opening.specs.Faults.{told_of_adopt, told_of_recovery}
+use Rattle.leaf_opening.specs.Starts.{IsWayOf}
+use Rattle.leaf_opening.proofs.Places.{AreSettled, are_fresh, have_room}
+use Rattle.leaf_opening.proofs.Backing.{started_by_memory, started_by_disk, backed_by_memory, backed_by_disk, recovered_as, not_by_memory}
+use Rattle.leaf_opening.proofs.Refusing.{told_as, rests_adopt, rests_read}
+use Rattle.leaf_opening.proofs.opening.open_tables.Goals as goal
+
+pub returns-in_err-found-clause-rests : goal.returns-in_err-found-clause-rests
+returns-in_err-found-clause-rests g c =
+    λ writes told rests.
+    let old = g.B.Berth.meaning c.args.berth.now in
+    let new = g.B.Berth.meaning c.adopt.new.berth in
+    let fault = c.in_err-found.field-0.0 in
+    let p = err_from_is_err_and c.from_residual.result c.from_residual.ensures.1 in
+    told_as writes new c.from_residual.result p.0 (told_of_adopt fault) p.1 p.2
+    (rests_adopt writes old new rests (c.adopt.ensures.disk told) (c.adopt.ensures.disks told) c.args.names.now fault (c.in_err-found.ensures.told told))
+
+pub returns-in_err-recovered-in-NoTables-clause-rests :
+    goal.returns-in_err-recovered-in-NoTables-clause-rests
+returns-in_err-recovered-in-NoTables-clause-rests g c =
+    λ writes told rests.
+    let old = g.B.Berth.meaning c.args.berth.now in
+    let mid = g.B.Berth.meaning c.adopt.new.berth in
+    let new = g.B.Berth.meaning c.recover.new.berth in
+    let told_mid : IsTrue mid.tells = subst IsTrue (sym c.adopt.ensures.time.tells) told in
+    let fault = c.in_err-recovered-in-NoTables.field-0.0 in
+    let result = c.from_residual-in_err-recovered-in-NoTables.result in
+    let p = err_from_is_err_and result c.from_residual-in_err-recovered-in-NoTables.ensures.1 in
+    told_as writes new result p.0 (told_of_recovery fault) p.1 p.2
+    (rests_read writes old mid new rests (c.adopt.ensures.disk told) (c.in_ok-found.ensures.told told).1 (c.recover.ensures.region told_mid) (c.recover.ensures.held told_mid) fault
+    (λ sound e. c.in_err-recovered-in-NoTables.ensures.sound told_mid sound (ap (λ (f : RecoveryFault). Err f) e)))
+
+-- ---- out of the region
+
+pub returns-in-Tables-clause-one : goal.returns-in-Tables-clause-one
+returns-in-Tables-clause-one g c =
+    let adopted = subst (AreAdopted (length c.args.names.now)) c.in-Tables.is c.in_ok-found.ensures.adopted in
+    ap (λ (ts : List Table). length ts) c.from_image.ensures.tables ∙ adopted.0
+
+pub returns-in-Tables-clause-fresh : goal.returns-in-Tables-clause-fresh
+returns-in-Tables-clause-fresh g c =
+    let adopted = subst (AreAdopted (length c.args.names.now)) c.in-Tables.is c.in_ok-found.ensures.adopted in
+    (are_fresh c.from_image.result.tables.items (subst AreSettled (sym c.from_image.ensures.tables) adopted.1), ap (λ (l : LogState). l.owed) c.from_image.ensures.log)
+
+pub returns-in-Tables-clause-room : goal.returns-in-Tables-clause-room
+returns-in-Tables-clause-room g c =
+    let adopted = subst (AreAdopted (length c.args.names.now)) c.in-Tables.is c.in_ok-found.ensures.adopted in
+    have_room c.from_image.result.tables.items (subst AreSettled (sym c.from_image.ensures.tables) adopted.1)
+
+pub returns-in-Tables-clause-told : goal.returns-in-Tables-clause-told
+returns-in-Tables-clause-told g c =
+    λ told.
+    let names = c.args.names.now in
+    let old = g.B.Berth.meaning c.args.berth.now in
+    let new = g.B.Berth.meaning c.adopt.new.berth in
+    let opened = c.from_image.result in
+    let answer = c.in_ok-found.ensures.told told in
+    let found = subst (IsFound names old.held.region) c.in-Tables.is answer.0 in
+    started_by_memory names opened.tables.items opened.log opened.way old new answer.1 c.in-Tables.adopted found c.from_image.ensures.tables c.from_image.ensures.log c.from_image.ensures.way (c.adopt.ensures.disk told)
+
+pub returns-in-Tables-clause-way : goal.returns-in-Tables-clause-way
+returns-in-Tables-clause-way g c =
+    λ told.
+    let region = (g.B.Berth.meaning c.args.berth.now).held.region in
+    let found = subst (IsFound c.args.names.now region) c.in-Tables.is (c.in_ok-found.ensures.told told).0 in
+    subst (IsWayOf region) (sym c.from_image.ensures.way) (found.0, c.in-Tables.adopted.log_end, found.1)
+
+pub returns-in-Tables-clause-backed : goal.returns-in-Tables-clause-backed
+returns-in-Tables-clause-backed g c =
+    λ writes told rests.
+    let names = c.args.names.now in
+    let old = g.B.Berth.meaning c.args.berth.now in
+    let new = g.B.Berth.meaning c.adopt.new.berth in
+    let law = (g.met.B.Berth g.world.𝓛 g.world.𝓜 g.world.𝓡 ((λ s x. x), (λ x. x), (λ x. x), λ x. x)) in
+    let told_now : IsTrue new.tells = subst IsTrue (sym c.adopt.ensures.time.tells) told in
+    let opened = c.from_image.result in
+    let are = c.from_image.ensures.tables in
+    let adopted = subst (AreAdopted (length names)) c.in-Tables.is c.in_ok-found.ensures.adopted in
+    let answer = c.in_ok-found.ensures.told told in
+    let found = subst (IsFound names old.held.region) c.in-Tables.is answer.0 in
+    backed_by_memory names opened.tables.items opened.log writes old new rests (ap (λ (ts : List Table). length ts) are ∙ adopted.0) (law.stands c.adopt.new.berth told_now) answer.1
+    c.in-Tables.adopted found are c.from_image.ensures.log (c.adopt.ensures.disks told)
+
+-- ---- out of the log
+
+pub returns-in_ok-recovered-in-NoTables-clause-one :
+    goal.returns-in_ok-recovered-in-NoTables-clause-one
+returns-in_ok-recovered-in-NoTables-clause-one g c =
+    ap (λ (ts : List Table). length ts) c.from_log.ensures.tables ∙ c.in_ok-recovered-in-NoTables.ensures.one
+
+pub returns-in_ok-recovered-in-NoTables-clause-fresh :
+    goal.returns-in_ok-recovered-in-NoTables-clause-fresh
+returns-in_ok-recovered-in-NoTables-clause-fresh g c = (
+  are_fresh c.from_log.result.tables.items (subst AreSettled (sym c.from_log.ensures.tables) c.in_ok-recovered-in-NoTables.ensures.settled),
+  ap (λ (l : LogState). l.owed) c.from_log.ensures.log ∙ c.in_ok-recovered-in-NoTables.ensures.none_owed.0,
+)
+
+pub returns-in_ok-recovered-in-NoTables-clause-room :
+    goal.returns-in_ok-recovered-in-NoTables-clause-room
+returns-in_ok-recovered-in-NoTables-clause-room g c =
+    have_room c.from_log.result.tables.items (subst AreSettled (sym c.from_log.ensures.tables) c.in_ok-recovered-in-NoTables.ensures.settled)
+
+pub returns-in_ok-recovered-in-NoTables-clause-told :
+    goal.returns-in_ok-recovered-in-NoTables-clause-told
+returns-in_ok-recovered-in-NoTables-clause-told g c =
+    λ told.
+    let names = c.args.names.now in
+    let old = g.B.Berth.meaning c.args.berth.now in
+    let mid = g.B.Berth.meaning c.adopt.new.berth in
+    let new = g.B.Berth.meaning c.recover.new.berth in
+    let told_mid : IsTrue mid.tells = subst IsTrue (sym c.adopt.ensures.time.tells) told in
+    let opened = c.from_log.result in
+    let said = c.in_ok-recovered-in-NoTables.ensures in
+    let answer = c.in_ok-found.ensures.told told in
+    let why = subst (IsFound names old.held.region) c.in-NoTables.is answer.0 in
+    let read = recovered_as names new.held.disk (sym c.from_log.ensures.tables) (sym c.from_log.ensures.log) (said.told told_mid) in
+    let disk : new.held.disk ≡ begun old.held.disk = said.disk told_mid ∙ ap begun (c.adopt.ensures.disk told) in
+    let region = c.recover.ensures.region told_mid ∙ answer.1 in
+    started_by_disk names opened.tables.items opened.log opened.way old new region c.in-NoTables.why why read c.from_log.ensures.way disk
+
+pub returns-in_ok-recovered-in-NoTables-clause-way :
+    goal.returns-in_ok-recovered-in-NoTables-clause-way
+returns-in_ok-recovered-in-NoTables-clause-way g c =
+    λ told.
+    let region = (g.B.Berth.meaning c.args.berth.now).held.region in
+    subst (IsWayOf region) (sym c.from_log.ensures.way) (subst (IsFound c.args.names.now region) c.in-NoTables.is (c.in_ok-found.ensures.told told).0)
+
+pub returns-in_ok-recovered-in-NoTables-clause-backed :
+    goal.returns-in_ok-recovered-in-NoTables-clause-backed
+returns-in_ok-recovered-in-NoTables-clause-backed g c =
+    λ writes told rests.
+    let names = c.args.names.now in
+    let old = g.B.Berth.meaning c.args.berth.now in
+    let mid = g.B.Berth.meaning c.adopt.new.berth in
+    let new = g.B.Berth.meaning c.recover.new.berth in
+    let law = (g.met.B.Berth g.world.𝓛 g.world.𝓜 g.world.𝓡 ((λ s x. x), (λ x. x), (λ x. x), λ x. x)) in
+    let told_mid : IsTrue mid.tells = subst IsTrue (sym c.adopt.ensures.time.tells) told in
+    let told_now : IsTrue new.tells = subst IsTrue (sym c.recover.ensures.time.tells) told_mid in
+    let opened = c.from_log.result in
+    let said = c.in_ok-recovered-in-NoTables.ensures in
+    let are = c.from_log.ensures.tables in
+    let read = recovered_as names new.held.disk (sym are) (sym c.from_log.ensures.log) (said.told told_mid) in
+    let one = ap (λ (ts : List Table). length ts) are ∙ said.one in
+    let disk : new.held.disk ≡ begun old.held.disk = said.disk told_mid ∙ ap begun (c.adopt.ensures.disk told) in
+    let region = c.recover.ensures.region told_mid ∙ (c.in_ok-found.ensures.told told).1 in
+    backed_by_disk names opened.tables.items opened.log writes old new rests one (law.stands c.recover.new.berth told_now) region read disk (said.durable told_mid)
+
+pub returns-in_ok-recovered-in-NoTables-clause-reads :
+    goal.returns-in_ok-recovered-in-NoTables-clause-reads
+returns-in_ok-recovered-in-NoTables-clause-reads g c = λ memory. absurd (not_by_memory c.from_log.result.way c.in-NoTables.why c.from_log.ensures.way memory)

@@ -1,0 +1,18 @@
+-- How the faults of a region and of a log are told.
+use Rattle.adopt.specs.declared.found.AdoptFault.{AdoptFault}
+use Rattle.adopt.specs.declared.found.AdoptFault.TheVariants as adopting
+use Rattle.log_recovery.specs.declared.fault.RecoveryFault.{RecoveryFault}
+use Rattle.log_recovery.specs.declared.fault.RecoveryFault.TheVariants as recovery
+use Rattle.leaf_opening.specs.declared.ways.StartFault.{StartFault}
+use Rattle.leaf_opening.specs.declared.ways.StartFault.TheVariants.{RegionFault, DiskFault, DiskDamaged, Stranger, NoMemory}
+
+abbrev pub told_of_adopt : AdoptFault → StartFault
+told_of_adopt adopting.RegionFault = RegionFault
+told_of_adopt (adopting.Stranger name) = Stranger name
+told_of_adopt adopting.NoMemory = NoMemory
+
+abbrev pub told_of_recovery : RecoveryFault → StartFault
+told_of_recovery recovery.DiskFault = DiskFault
+told_of_recovery recovery.DiskDamaged = DiskDamaged
+told_of_recovery (recovery.Stranger name) = Stranger name
+told_of_recovery recovery.NoMemory = NoMemory

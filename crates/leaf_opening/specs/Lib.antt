@@ -1,0 +1,5 @@
+pub mod Serving
+pub mod Backed
+pub mod Faults
+pub mod Starts
+pub mod Laws

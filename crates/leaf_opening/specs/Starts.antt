@@ -1,0 +1,67 @@
+-- What a start finds, and what it leaves.
+use Rattle.std.specs.Prelude.{◌≡◌, ◌⊎◌, ℕ, List, None, false}
+use Rattle.std.specs.List.{AllByRecursion}
+use Rattle.berth_face.specs.Berth.{Meaning}
+use Rattle.table_state.specs.Tables.{Table}
+use Rattle.region_layout.specs.declared.image.TableImage.{TableImage}
+use Rattle.region_layout.specs.Region.{IsImage}
+use Rattle.region_layout.specs.Images.{tables_of}
+use Rattle.adopt.specs.declared.found.WhyDisk.TheVariants as why
+use Rattle.adopt.specs.Found.{IsWhy, IsBroken, IsStranger, left_behind, stranger_of}
+use Rattle.disk_backup.specs.Scanning.{begun}
+use Rattle.log_recovery.specs.Recovery.{IsRecovered}
+use Rattle.log_recovery.specs.Recovery as recovery
+use Rattle.log_recovery.specs.declared.fault.RecoveryFault.TheVariants as found
+use Rattle.leaf_opening.specs.declared.ways.Way.{Way}
+use Rattle.leaf_opening.specs.declared.ways.Way.TheVariants.{Memory, Disk}
+use Rattle.leaf_opening.specs.declared.ways.StartFault.{StartFault}
+use Rattle.leaf_opening.specs.declared.ways.StartFault.TheVariants.{RegionFault, DiskFault, DiskDamaged, Stranger, NoMemory}
+use Rattle.leaf_opening.specs.declared.opening.Opened.{Opened}
+use Rattle.leaf_opening.specs.Serving.{Serving}
+
+-- the way of a start that finds these bytes and is not refused
+abbrev pub IsWayOf : List ℕ → Way → Type 0
+IsWayOf region Memory = (images : List TableImage) × (log_end : ℕ) × IsImage 1 region images log_end
+IsWayOf region (Disk w) = IsWhy region w
+
+-- the way of the next start of a leaf that came this way and was not drained
+abbrev pub way_after : Way → Way
+way_after Memory = Disk (why.Closed 0)
+way_after (Disk why.NoHead) = Disk why.NoHead
+way_after (Disk (why.Closed flag)) = Disk (why.Closed flag)
+way_after (Disk (why.OtherVersion version)) = Disk (why.Closed 0)
+way_after (Disk why.NoImage) = Disk (why.Closed 0)
+
+-- how a leaf of these names comes to its tables and its log: those of the region's image; or those of the disk, as it reads then
+abbrev pub IsCome : List (List ℕ) → List ℕ → List ℕ → Serving → Way → Type 0
+IsCome names region disk s Memory = (images : List TableImage) × (log_end : ℕ) × IsImage 1 region images log_end × (stranger_of names images ≡ None)
+    × (s.tables ≡ tables_of names images) × (s.log ≡ record { end = log_end; owed = None; laid = false })
+IsCome names region disk s (Disk w) = IsWhy region w × IsRecovered names disk s.tables s.log
+
+-- what a start by this way leaves of the disk: a disk of at most one byte is begun before it is read
+abbrev pub disk_after : Way → List ℕ → List ℕ
+disk_after Memory disk = disk
+disk_after (Disk w) disk = begun disk
+
+-- a start that came to its end
+pub record Started (names : List (List ℕ)) (old new : Meaning) (s : Serving) (way : Way) : Type 0 where
+  pub come : IsCome names old.held.region new.held.disk s way
+  pub region : new.held.region ≡ left_behind old.held.region
+  pub disk : new.held.disk ≡ disk_after way old.held.disk
+
+-- no table owes the log anything
+abbrev pub AreFresh : List Table → Type 0
+AreFresh tables = AllByRecursion (λ (t : Table). t.pending ≡ None) tables
+
+-- why a start was refused, and what it leaves of the region
+abbrev pub IsRefusal : List (List ℕ) → Meaning → Meaning → StartFault → Type 0
+IsRefusal names old new RegionFault = IsBroken old.held.region new.held.region × (new.held.disk ≡ old.held.disk)
+IsRefusal names old new DiskFault = new.held.region ≡ left_behind old.held.region
+IsRefusal names old new DiskDamaged = (new.held.region ≡ left_behind old.held.region) × recovery.IsRefusal names new.held.disk found.DiskDamaged
+IsRefusal names old new (Stranger name) = (new.held.region ≡ left_behind old.held.region)
+    × (IsStranger names old.held.region name ⊎ recovery.IsRefusal names new.held.disk (found.Stranger name))
+IsRefusal names old new NoMemory = new.held.region ≡ left_behind old.held.region
+
+-- the leaf that serves what was opened
+abbrev pub serving_of : List (List ℕ) → Opened → Serving
+serving_of names o = record { names = names; tables = o.tables.items; log = o.log; owner = 0; count = 0 }

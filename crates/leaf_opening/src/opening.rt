@@ -1,0 +1,90 @@
+// The tables of a leaf that starts.
+ghost use Rattle.std.specs.Prelude.{◌≡◌, ◌≢◌, ◌<◌, ◌^◌, ℕ, List, None, Err, false, length, IfOk, IfErr, IsTrue};
+ghost use Rattle.std.specs.List.{AllByRecursion};
+ghost use Rattle.leaf_model.specs.declared.writes.Write.{Write};
+ghost use Rattle.berth_face.specs.Causes.{Rose};
+ghost use Rattle.berth_face.specs.Berth.{Passes};
+ghost use Rattle.region_layout.specs.Names.{AreNames};
+ghost use Rattle.leaf_opening.specs.declared.ways.Way.TheVariants as way;
+ghost use Rattle.leaf_opening.specs.declared.ways.StartFault.TheVariants as fault;
+ghost use Rattle.leaf_opening.specs.Backed.{Backed, Rests};
+ghost use Rattle.leaf_opening.specs.Starts.{Started, IsRefusal, IsWayOf, AreFresh, serving_of};
+
+use crate::ways::{StartFault, Way};
+use adopt::{Adopted, Found, WhyDisk, adopt};
+use berth_face::Berth;
+use disk_backup::BackupLog;
+use leaf_model::Names;
+use log_recovery::{Recovered, recover};
+use std::alloc::Global;
+use table_state::TableState;
+
+/// One table for each name, in their order; the log, which is owed nothing; and where they come from.
+#[derive(Drop)]
+pub struct Opened {
+    pub tables: Vec<TableState>,
+    pub log: BackupLog,
+    pub way: Way,
+}
+
+/// Adopts the tables of the region's image; where the region is none, it reads the log to its end and applies each record to its table.
+/// An open flag is closed before anything else. A table that neither names is empty.
+pub fn open_tables<B: Berth>(
+    alloc: Global,
+    names: &Names,
+    berth: &mut B,
+) -> Result<Opened, StartFault>
+    requires names { AreNames names.now }
+    ensures one { IfOk result (λ o. length o.tables.items ≡ length names.now) }
+    ensures fresh { IfOk result (λ o. AreFresh o.tables.items × (o.log.owed ≡ None)) }
+    ensures room { IfOk result (λ o. AllByRecursion (λ t. t.writes < 2 ^ 63) o.tables.items) }
+    // Where the berth tells its contents: on any bytes, and where they are what a leaf left.
+    ensures told { IsTrue (B.meaning berth.old).tells → IfOk result (λ o. Started names.now (B.meaning berth.old) (B.meaning berth.new) (serving_of names.now o) o.way) }
+    ensures way { IsTrue (B.meaning berth.old).tells → IfOk result (λ o. IsWayOf (B.meaning berth.old).held.region o.way) }
+    ensures refused { IsTrue (B.meaning berth.old).tells → IfErr result (IsRefusal names.now (B.meaning berth.old) (B.meaning berth.new)) }
+    ensures backed { (writes : List ℕ → List Write) → IsTrue (B.meaning berth.old).tells → Rests writes (B.meaning berth.old)
+        → IfOk result (λ o. Backed writes (serving_of names.now o) (B.meaning berth.new)) }
+    ensures rests { (writes : List ℕ → List Write) → IsTrue (B.meaning berth.old).tells → Rests writes (B.meaning berth.old)
+        → IfErr result (λ e. Rests writes (B.meaning berth.new) × (e ≢ fault.DiskDamaged)) }
+    // On every berth.
+    ensures time { Passes (B.meaning berth.old) (B.meaning berth.new) }
+    ensures region_cause { result ≡ Err fault.RegionFault → Rose (B.meaning berth.old).region_faults (B.meaning berth.new).region_faults }
+    ensures disk_cause { result ≡ Err fault.DiskFault → Rose (B.meaning berth.old).disk_faults (B.meaning berth.new).disk_faults }
+    ensures reads { IfOk result (λ o. o.way ≡ way.Memory → (B.meaning berth.new).disk_reads ≡ (B.meaning berth.old).disk_reads) }
+{
+    let found = adopt(alloc, names, berth)?;
+    match found {
+        Found::Tables(adopted) => Ok(from_image(alloc, adopted)),
+        Found::NoTables(why) => {
+            let recovered = recover(alloc, names, berth)?;
+            Ok(from_log(why, recovered))
+        }
+    }
+}
+
+/// The tables of an image. The log goes on where that says it ended.
+fn from_image(alloc: Global, adopted: Adopted) -> Opened
+    requires { adopted.log_end < 2 ^ 63 }
+    ensures tables { result.tables.items ≡ adopted.tables.items }
+    ensures log { result.log ≡ record { end = adopted.log_end; owed = None; laid = false } }
+    ensures way { result.way ≡ way.Memory }
+{
+    Opened {
+        tables: adopted.tables,
+        log: BackupLog::at(alloc, adopted.log_end),
+        way: Way::Memory,
+    }
+}
+
+/// The tables of a log that was read to its end, since the region was no image.
+fn from_log(why: WhyDisk, recovered: Recovered) -> Opened
+    ensures tables { result.tables.items ≡ recovered.tables }
+    ensures log { result.log ≡ recovered.log }
+    ensures way { result.way ≡ way.Disk why }
+{
+    Opened {
+        tables: recovered.tables.into_inner(),
+        log: recovered.log,
+        way: Way::Disk(why),
+    }
+}

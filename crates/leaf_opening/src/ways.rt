@@ -1,0 +1,55 @@
+// Where a leaf's tables come from, and why a start is refused.
+ghost use Rattle.std.specs.Prelude.{◌≡◌};
+ghost use Rattle.leaf_opening.specs.Faults.{told_of_adopt, told_of_recovery};
+
+use adopt::{AdoptFault, WhyDisk};
+use leaf_model::Text;
+use log_recovery::RecoveryFault;
+
+/// Where the tables come from.
+#[derive(Clone, Copy, Debug, PartialEq, Eq)]
+pub enum Way {
+    /// From the region.
+    Memory,
+    /// From the disk, since the region was no image.
+    Disk(WhyDisk),
+}
+
+/// Why a start was refused.
+#[derive(Debug, Drop)]
+pub enum StartFault {
+    /// A call on the region failed.
+    RegionFault,
+    /// A call on the disk failed.
+    DiskFault,
+    /// The log has an open gate with no record and gate behind it, or a record that takes a table past 2^40 rows.
+    DiskDamaged,
+    /// The region's image or the log has a table of this name, and the leaf has none.
+    Stranger(Text),
+    NoMemory,
+}
+
+impl From<AdoptFault> for StartFault {
+    ghost from_gives = { λ f e. e ≡ told_of_adopt f };
+
+    fn from(fault: AdoptFault) -> StartFault {
+        match fault {
+            AdoptFault::RegionFault => StartFault::RegionFault,
+            AdoptFault::Stranger(name) => StartFault::Stranger(name),
+            AdoptFault::NoMemory => StartFault::NoMemory,
+        }
+    }
+}
+
+impl From<RecoveryFault> for StartFault {
+    ghost from_gives = { λ f e. e ≡ told_of_recovery f };
+
+    fn from(fault: RecoveryFault) -> StartFault {
+        match fault {
+            RecoveryFault::DiskFault => StartFault::DiskFault,
+            RecoveryFault::DiskDamaged => StartFault::DiskDamaged,
+            RecoveryFault::Stranger(name) => StartFault::Stranger(name),
+            RecoveryFault::NoMemory => StartFault::NoMemory,
+        }
+    }
+}

@@ -1,0 +1,41 @@
+-- Tables and their images.
+use Rattle.std.specs.Prelude.{ℕ, List, [], ◌∷◌, map, None, Option, unwrap_or, pos, Bool}
+use Rattle.std.specs.List.{find}
+use Rattle.std.specs.Str.{bytes_eq}
+use Rattle.leaf_model.specs.Content.{Contents}
+use Rattle.table_state.specs.Tables.{Table}
+use Rattle.region_layout.specs.declared.image.TableImage.{TableImage}
+
+-- a table of this name as an image has it
+abbrev pub image_of : List ℕ → Table → TableImage
+image_of name t = record { name = name; horizon = t.contents.horizon; writes = t.writes; rows = t.contents.rows }
+
+-- tables and their names, place by place
+abbrev pub images_of : List (List ℕ) → List Table → List TableImage
+images_of [] tables = []
+images_of (name ∷ names) [] = []
+images_of (name ∷ names) (t ∷ tables) = image_of name t ∷ images_of names tables
+
+-- what a table of an image holds
+abbrev pub contents_of : TableImage → Contents
+contents_of t = record { rows = t.rows; horizon = t.horizon }
+
+-- the table that a table of an image is
+abbrev pub table_of : TableImage → Table
+table_of t = record { contents = contents_of t; writes = t.writes; pending = None }
+
+-- a table that had no write
+abbrev pub empty_image : List ℕ → TableImage
+empty_image name = record { name = name; horizon = pos 0; writes = 0; rows = [] }
+
+-- the table has this name
+abbrev pub is_named : List ℕ → TableImage → Bool
+is_named name t = bytes_eq t.name name
+
+-- the table of that name, or an empty one
+abbrev pub table_named : List TableImage → List ℕ → TableImage
+table_named images name = unwrap_or (find (is_named name) images) (empty_image name)
+
+-- for each name the table of an image, in the order of the names
+abbrev pub tables_of : List (List ℕ) → List TableImage → List Table
+tables_of names images = map (λ name. table_of (table_named images name)) names
