@@ -2,3 +2,4 @@ pub mod Heads
 pub mod Ending
 pub mod Taking
 pub mod Finding
+pub mod Moments

@@ -3,11 +3,16 @@ use Rattle.std.specs.Prelude.{◌≡◌, ℕ, List, [], ◌∷◌, None, Some, R
 use Rattle.region_layout.specs.declared.image.Image.{Image}
 use Rattle.region_layout.specs.declared.image.TableImage.{TableImage}
 use Rattle.region_layout.specs.Images.{is_named, tables_of}
+use Rattle.region_layout.specs.Region.{IsClosed}
 use Rattle.adopt.specs.declared.found.Adopted.{Adopted}
 use Rattle.adopt.specs.declared.found.Found.{Found}
 use Rattle.adopt.specs.declared.found.AdoptFault.{AdoptFault}
 use Rattle.adopt.specs.declared.found.AdoptFault.TheVariants.{RegionFault, Stranger, NoMemory}
 use Rattle.adopt.specs.Found.{IsFound, IsStranger, stranger_of}
+
+-- there is a whole head, and its flag is open
+abbrev pub IsOpen : List ℕ → Type 0
+IsOpen region = IsClosed region → ⊥
 
 -- what is answered, where this was the region before its flag was closed
 abbrev pub IsAnswer : List (List ℕ) → List ℕ → Result Found AdoptFault → Type 0

@@ -1,7 +1,8 @@
 -- What a region hands to the leaf that adopts it, and what is left of it.
-use Rattle.std.specs.Prelude.{◌≡◌, ◌≢◌, ◌<◌, ◌^◌, ℕ, Bool, not, List, ◌∷◌, length, drop, Option, Some, None, option_map, Result, Ok, Err, ⊤}
+use Rattle.std.specs.Prelude.{◌≡◌, ◌≢◌, ◌<◌, ◌^◌, ℕ, Bool, not, List, [], ◌⊎◌, ◌∷◌, length, drop, Option, Some, None, option_map, Result, Ok, Err, ⊤}
 use Rattle.std.specs.List.{find, list_any, AllByRecursion}
 use Rattle.std.specs.Str.{bytes_eq}
+use Rattle.berth_face.specs.Berth.{Pair, Meaning}
 use Rattle.region_layout.specs.declared.head.Head.{Head}
 use Rattle.region_layout.specs.declared.head.Head.TheVariants as head
 use Rattle.region_layout.specs.declared.image.TableImage.{TableImage}
@@ -73,3 +74,11 @@ Adopts names old new (Err NoMemory) = new ≡ left_behind old
 abbrev pub AreAdopted : ℕ → Found → Type 0
 AreAdopted count (NoTables w) = ⊤
 AreAdopted count (Tables a) = (length a.tables.items ≡ count) × AllByRecursion (λ t. (t.pending ≡ None) × (t.writes < 2 ^ 63)) a.tables.items × (a.log_end < 2 ^ 63)
+
+-- A pair of a moment of an adoption comes from one before: the disk is the same; the region is lost, or has its length and its bytes but for the flag where
+-- that was open.
+pub record AdoptsFrom (old : Meaning) (p : Pair) : Type 0 where
+  pub from : Pair
+  pub was : old.leaves old.clock from
+  pub disk : p.disk ≡ from.disk
+  pub region : (p.region ≡ []) ⊎ IsBroken old.held.region p.region

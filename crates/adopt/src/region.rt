@@ -1,7 +1,7 @@
 // The bytes of a region: the first ones, and then all.
 ghost use Rattle.std.specs.Prelude.{◌≡◌, ◌+◌, ◌-◌, ◌≤◌, ◌++◌, length, min, take, drop, IfOk, IfErr, IsTrue, vec_len, Err};
 ghost use Rattle.berth_face.specs.Causes.{Rose, HasCause};
-ghost use Rattle.berth_face.specs.Berth.{Passes, Ended, SameDisk};
+ghost use Rattle.berth_face.specs.Berth.{Passes, Stays, Ended, SameDisk};
 ghost use Rattle.region_layout.specs.Region.{head_of};
 ghost use Rattle.adopt.specs.declared.found.AdoptFault.TheVariants as fault;
 ghost use Rattle.adopt.specs.Adopting.{NamesNobody};
@@ -24,6 +24,7 @@ pub fn read_front<B: Berth>(berth: &mut B) -> Result<Front, Failed>
     ensures bytes { IsTrue (B.meaning berth.old).tells → IfOk result (λ f. 16 ≤ length (B.meaning berth.old).held.region → f.bytes ≡ take 16 (B.meaning berth.old).held.region) }
     ensures held { IsTrue (B.meaning berth.old).tells → (B.meaning berth.new).held ≡ (B.meaning berth.old).held }
     ensures disks { IsTrue (B.meaning berth.old).tells → Ended SameDisk (B.meaning berth.old) (B.meaning berth.new) }
+    ensures stays { IsTrue (B.meaning berth.old).tells → Stays (B.meaning berth.old) (B.meaning berth.new) }
     ensures time { Passes (B.meaning berth.old) (B.meaning berth.new) }
     ensures cause { HasCause (B.meaning berth.old).region_faults (B.meaning berth.new).region_faults result }
     ensures reads { (B.meaning berth.new).disk_reads ≡ (B.meaning berth.old).disk_reads }
@@ -37,7 +38,7 @@ pub fn read_front<B: Berth>(berth: &mut B) -> Result<Front, Failed>
 }
 
 /// All bytes of the region, whose first ones are given.
-#[tactic(auto, using(crate::proofs::Ending::ended_stay, crate::proofs::Ending::ended_on))]
+#[tactic(auto, using(crate::proofs::Ending::ended_stay, crate::proofs::Ending::ended_on, crate::proofs::Ending::stays_on))]
 pub fn read_region<B: Berth>(
     alloc: Global,
     front: &[u8; 16],
@@ -46,6 +47,7 @@ pub fn read_region<B: Berth>(
     ensures told { IsTrue (B.meaning berth.old).tells → 16 ≤ length (B.meaning berth.old).held.region → IfOk result (λ bytes. bytes.items ≡ front.now ++ drop 16 (B.meaning berth.old).held.region) }
     ensures held { IsTrue (B.meaning berth.old).tells → (B.meaning berth.new).held ≡ (B.meaning berth.old).held }
     ensures disks { IsTrue (B.meaning berth.old).tells → Ended SameDisk (B.meaning berth.old) (B.meaning berth.new) }
+    ensures stays { IsTrue (B.meaning berth.old).tells → Stays (B.meaning berth.old) (B.meaning berth.new) }
     ensures nobody { IfErr result NamesNobody }
     ensures time { Passes (B.meaning berth.old) (B.meaning berth.new) }
     ensures cause { result ≡ Err fault.RegionFault → Rose (B.meaning berth.old).region_faults (B.meaning berth.new).region_faults }
@@ -74,6 +76,7 @@ fn read_behind<B: Berth>(front: &[u8; 16], berth: &mut B, room: &mut [u8]) -> Re
     ensures told { IsTrue (B.meaning berth.old).tells → IfOk result (λ n. (n ≡ min (length room.old - 16) (length (B.meaning berth.old).held.region - 16)) × (take (16 + n) room.new ≡ front.now ++ take n (drop 16 (B.meaning berth.old).held.region))) }
     ensures held { IsTrue (B.meaning berth.old).tells → (B.meaning berth.new).held ≡ (B.meaning berth.old).held }
     ensures disks { IsTrue (B.meaning berth.old).tells → Ended SameDisk (B.meaning berth.old) (B.meaning berth.new) }
+    ensures stays { IsTrue (B.meaning berth.old).tells → Stays (B.meaning berth.old) (B.meaning berth.new) }
     ensures time { Passes (B.meaning berth.old) (B.meaning berth.new) }
     ensures cause { HasCause (B.meaning berth.old).region_faults (B.meaning berth.new).region_faults result }
     ensures reads { (B.meaning berth.new).disk_reads ≡ (B.meaning berth.old).disk_reads }

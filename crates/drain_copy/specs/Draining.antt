@@ -1,5 +1,8 @@
 -- How far a drain has come.
-use Rattle.std.specs.Prelude.{◌≡◌, ℕ, List, ◌∷◌, drop, replicate, ⊤}
+use Rattle.std.specs.Prelude.{◌≡◌, ◌⊎◌, ℕ, List, ◌∷◌, drop, replicate, ⊤}
+use Rattle.berth_face.specs.Berth.{Pair, Meaning}
+use Rattle.berth_face.specs.Moments.{EachNow}
+use Rattle.region_layout.specs.Region.{IsClosed}
 use Rattle.drain_copy.specs.declared.step.Next.{Next}
 use Rattle.drain_copy.specs.declared.step.Next.TheVariants as next
 use Rattle.drain_copy.specs.declared.step.DrainStep.{DrainStep}
@@ -26,3 +29,14 @@ IsStep next.Begin s later = (s ≡ Begun) × (later ≡ next.Write)
 IsStep next.Write s later = (s ≡ Written) × (later ≡ next.Flag)
 IsStep next.Flag s later = (s ≡ Finished) × (later ≡ next.Nothing)
 IsStep next.Nothing s later = ⊥
+
+-- A pair of a moment of a step comes from one before: the disk is the same, and the region is closed, or in the last step it may be the image.
+pub record DrainsFrom (d : DrainState) (old : Meaning) (p : Pair) : Type 0 where
+  pub from : Pair
+  pub was : old.leaves old.clock from
+  pub disk : p.disk ≡ from.disk
+  pub region : IsClosed p.region ⊎ ((d.next ≡ next.Flag) × (p.region ≡ d.image))
+
+-- each region that a crash may leave now is closed
+abbrev pub AllClosed : Meaning → Type 0
+AllClosed m = EachNow (λ p. IsClosed p.region) m

@@ -2,12 +2,13 @@
 ghost use Rattle.std.specs.Prelude.{◌≡◌, ◌≢◌, ◌⊎◌, ◌<◌, ◌^◌, length, IsTrue, IfOk, OnOk, OnErr};
 ghost use Rattle.std.specs.List.{AllByRecursion};
 ghost use Rattle.berth_face.specs.Berth.{Passes, Ended, SameDisk};
+ghost use Rattle.berth_face.specs.Moments.{Throughout};
 ghost use Rattle.berth_face.specs.Causes.{HasCause};
 ghost use Rattle.region_layout.specs.Region.{IsClosed, IsImage};
 ghost use Rattle.region_layout.specs.Names.{AreNames};
 ghost use Rattle.region_layout.specs.Images.{images_of};
 ghost use Rattle.drain_copy.specs.declared.step.Next.TheVariants as next;
-ghost use Rattle.drain_copy.specs.Draining.{Draining, IsStep};
+ghost use Rattle.drain_copy.specs.Draining.{Draining, DrainsFrom, AllClosed, IsStep};
 
 use crate::region::{begin, fill, open};
 use crate::step::{DrainStep, Next, RegionFault};
@@ -69,6 +70,9 @@ impl Drain {
         // The disk is untouched, on every disk that a crash may leave.
         ensures disk { IsTrue (B.meaning berth.old).tells → (B.meaning berth.new).held.disk ≡ (B.meaning berth.old).held.disk }
         ensures disks { IsTrue (B.meaning berth.old).tells → Ended SameDisk (B.meaning berth.old) (B.meaning berth.new) }
+        // What a crash leaves at each moment.
+        ensures moments { IsTrue (B.meaning berth.old).tells → Draining self.old (B.meaning berth.old).held.region → AllClosed (B.meaning berth.old)
+            → Throughout (DrainsFrom self.old (B.meaning berth.old)) (B.meaning berth.old) (B.meaning berth.new) }
         ensures time { Passes (B.meaning berth.old) (B.meaning berth.new) }
         ensures cause { HasCause (B.meaning berth.old).region_faults (B.meaning berth.new).region_faults result }
         ensures reads { (B.meaning berth.new).disk_reads ≡ (B.meaning berth.old).disk_reads }

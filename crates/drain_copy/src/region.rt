@@ -2,7 +2,10 @@
 ghost use Rattle.std.specs.Prelude.{◌≡◌, ◌⊎◌, ◌≤◌, ◌∷◌, length, drop, replicate, OnOk, OnErr, IsTrue};
 ghost use Rattle.berth_face.specs.Causes.{HasCause};
 ghost use Rattle.berth_face.specs.Berth.{Passes, Ended, SameDisk};
+ghost use Rattle.berth_face.specs.Moments.{Throughout};
 ghost use Rattle.region_layout.specs.Region.{IsClosed};
+ghost use Rattle.drain_copy.specs.Draining.{AllClosed};
+ghost use Rattle.drain_copy.specs.Regions.{LeftFrom, ClosedOrOpened};
 
 use berth_face::{Berth, Failed};
 
@@ -12,6 +15,7 @@ pub fn begin<B: Berth>(berth: &mut B) -> Result<(), Failed>
     ensures failed { IsTrue (B.meaning berth.old).tells → IsClosed (B.meaning berth.old).held.region → OnErr result (IsClosed (B.meaning berth.new).held.region) }
     ensures disk { IsTrue (B.meaning berth.old).tells → (B.meaning berth.new).held.disk ≡ (B.meaning berth.old).held.disk }
     ensures disks { IsTrue (B.meaning berth.old).tells → Ended SameDisk (B.meaning berth.old) (B.meaning berth.new) }
+    ensures moments { IsTrue (B.meaning berth.old).tells → AllClosed (B.meaning berth.old) → Throughout (LeftFrom IsClosed (B.meaning berth.old)) (B.meaning berth.old) (B.meaning berth.new) }
     ensures time { Passes (B.meaning berth.old) (B.meaning berth.new) }
     ensures cause { HasCause (B.meaning berth.old).region_faults (B.meaning berth.new).region_faults result }
     ensures reads { (B.meaning berth.new).disk_reads ≡ (B.meaning berth.old).disk_reads }
@@ -29,6 +33,8 @@ pub fn fill<B: Berth>(image: &[u8], berth: &mut B) -> Result<(), Failed>
     ensures failed { IsTrue (B.meaning berth.old).tells → (B.meaning berth.old).held.region ≡ replicate 16 0 → OnErr result (IsClosed (B.meaning berth.new).held.region) }
     ensures disk { IsTrue (B.meaning berth.old).tells → (B.meaning berth.new).held.disk ≡ (B.meaning berth.old).held.disk }
     ensures disks { IsTrue (B.meaning berth.old).tells → Ended SameDisk (B.meaning berth.old) (B.meaning berth.new) }
+    ensures moments { IsTrue (B.meaning berth.old).tells → (B.meaning berth.old).held.region ≡ replicate 16 0 → AllClosed (B.meaning berth.old)
+        → Throughout (LeftFrom IsClosed (B.meaning berth.old)) (B.meaning berth.old) (B.meaning berth.new) }
     ensures time { Passes (B.meaning berth.old) (B.meaning berth.new) }
     ensures cause { HasCause (B.meaning berth.old).region_faults (B.meaning berth.new).region_faults result }
     ensures reads { (B.meaning berth.new).disk_reads ≡ (B.meaning berth.old).disk_reads }
@@ -43,6 +49,8 @@ pub fn open<B: Berth>(berth: &mut B) -> Result<(), Failed>
         → OnErr result (IsClosed (B.meaning berth.new).held.region ⊎ ((B.meaning berth.new).held.region ≡ 1 ∷ drop 1 (B.meaning berth.old).held.region)) }
     ensures disk { IsTrue (B.meaning berth.old).tells → (B.meaning berth.new).held.disk ≡ (B.meaning berth.old).held.disk }
     ensures disks { IsTrue (B.meaning berth.old).tells → Ended SameDisk (B.meaning berth.old) (B.meaning berth.new) }
+    ensures moments { IsTrue (B.meaning berth.old).tells → AllClosed (B.meaning berth.old)
+        → Throughout (LeftFrom (ClosedOrOpened (drop 1 (B.meaning berth.old).held.region)) (B.meaning berth.old)) (B.meaning berth.old) (B.meaning berth.new) }
     ensures time { Passes (B.meaning berth.old) (B.meaning berth.new) }
     ensures cause { HasCause (B.meaning berth.old).region_faults (B.meaning berth.new).region_faults result }
     ensures reads { (B.meaning berth.new).disk_reads ≡ (B.meaning berth.old).disk_reads }

@@ -5,3 +5,4 @@ pub mod Places
 pub mod Backing
 pub mod Refusing
 pub mod Resting
+pub mod Starting

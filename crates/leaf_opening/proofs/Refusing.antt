@@ -64,7 +64,7 @@ module _ (writes : List ℕ → List Write) (old new : Meaning) (rests : Rests w
 
 -- ---- the log was not read to its end
 
-never_damaged : (f : RecoveryFault) → f ≢ found.DiskDamaged → told_of_recovery f ≢ fault.DiskDamaged
+pub never_damaged : (f : RecoveryFault) → f ≢ found.DiskDamaged → told_of_recovery f ≢ fault.DiskDamaged
 never_damaged found.DiskFault other = λ e. absurd cc
 never_damaged found.DiskDamaged other = λ e. other refl
 never_damaged (found.Stranger name) other = λ e. absurd cc

@@ -1,14 +1,16 @@
 -- What a start finds, and what it leaves.
-use Rattle.std.specs.Prelude.{◌≡◌, ◌⊎◌, ℕ, List, None, false}
+use Rattle.std.specs.Prelude.{◌≡◌, ◌⊎◌, ℕ, List, [], length, None, false, Result, Ok, Err, ⊤}
 use Rattle.std.specs.List.{AllByRecursion}
-use Rattle.berth_face.specs.Berth.{Meaning}
+use Rattle.berth_face.specs.Berth.{Meaning, Pair, Ended, SameDisk}
+use Rattle.berth_face.specs.Moments.{EachNow}
 use Rattle.table_state.specs.Tables.{Table}
 use Rattle.region_layout.specs.declared.image.TableImage.{TableImage}
-use Rattle.region_layout.specs.Region.{IsImage}
+use Rattle.region_layout.specs.Region.{IsClosed, IsImage}
 use Rattle.region_layout.specs.Images.{tables_of}
+use Rattle.adopt.specs.declared.found.WhyDisk.{WhyDisk}
 use Rattle.adopt.specs.declared.found.WhyDisk.TheVariants as why
 use Rattle.adopt.specs.Found.{IsWhy, IsBroken, IsStranger, left_behind, stranger_of}
-use Rattle.disk_backup.specs.Scanning.{begun}
+use Rattle.disk_backup.specs.Scanning.{begun, Begins}
 use Rattle.log_recovery.specs.Recovery.{IsRecovered}
 use Rattle.log_recovery.specs.Recovery as recovery
 use Rattle.log_recovery.specs.declared.fault.RecoveryFault.TheVariants as found
@@ -65,3 +67,23 @@ IsRefusal names old new NoMemory = new.held.region ≡ left_behind old.held.regi
 -- the leaf that serves what was opened
 abbrev pub serving_of : List (List ℕ) → Opened → Serving
 serving_of names o = record { names = names; tables = o.tables.items; log = o.log; owner = 0; count = 0 }
+
+-- ---- what a crash leaves while a leaf starts
+
+-- A pair of a moment of a start comes from one before. The region is lost, or has its length and its bytes but for the flag where that was open.
+-- The disk is the same; or, once the region is closed, the first byte of one that read as at most one byte was written, before which one of one byte was synced.
+pub record OpensFrom (old : Meaning) (p : Pair) : Type 0 where
+  pub from : Pair
+  pub was : old.leaves old.clock from
+  pub region : (p.region ≡ []) ⊎ IsBroken old.held.region p.region
+  pub disk : (p.disk ≡ from.disk) ⊎ (IsClosed p.region × Begins (length old.held.disk) from.disk p.disk)
+
+-- the disks are those of before where nothing of the disk was called: an image was adopted, or the region failed
+abbrev pub KeepsDisks : Meaning → Meaning → Result Opened StartFault → Type 0
+KeepsDisks old new (Ok o) = o.way ≡ Memory → Ended SameDisk old new
+KeepsDisks old new (Err RegionFault) = Ended SameDisk old new
+KeepsDisks old new (Err fault) = ⊤
+
+-- a log that was read to its end is what every crash leaves
+abbrev pub IsDurable : Meaning → Opened → Type 0
+IsDurable new o = (w : WhyDisk) → o.way ≡ Disk w → EachNow (λ p. p.disk ≡ new.held.disk) new

@@ -4,11 +4,14 @@ ghost use Rattle.std.specs.List.{AllByRecursion};
 ghost use Rattle.leaf_model.specs.declared.writes.Write.{Write};
 ghost use Rattle.berth_face.specs.Causes.{Rose};
 ghost use Rattle.berth_face.specs.Berth.{Passes};
+ghost use Rattle.berth_face.specs.Moments.{Throughout};
+ghost use Rattle.disk_backup.specs.Logs.{IsSound};
+ghost use Rattle.disk_backup.specs.Scanning.{Begins};
 ghost use Rattle.region_layout.specs.Names.{AreNames};
 ghost use Rattle.leaf_opening.specs.declared.ways.Way.TheVariants as way;
 ghost use Rattle.leaf_opening.specs.declared.ways.StartFault.TheVariants as fault;
 ghost use Rattle.leaf_opening.specs.Backed.{Backed, Rests};
-ghost use Rattle.leaf_opening.specs.Starts.{Started, IsRefusal, IsWayOf, AreFresh, serving_of};
+ghost use Rattle.leaf_opening.specs.Starts.{Started, IsRefusal, IsWayOf, AreFresh, OpensFrom, KeepsDisks, IsDurable, serving_of};
 
 use crate::ways::{StartFault, Way};
 use adopt::{Adopted, Found, WhyDisk, adopt};
@@ -46,6 +49,14 @@ pub fn open_tables<B: Berth>(
         → IfOk result (λ o. Backed writes (serving_of names.now o) (B.meaning berth.new)) }
     ensures rests { (writes : List ℕ → List Write) → IsTrue (B.meaning berth.old).tells → Rests writes (B.meaning berth.old)
         → IfErr result (λ e. Rests writes (B.meaning berth.new) × (e ≢ fault.DiskDamaged)) }
+    // A log that is sound is never damaged.
+    ensures sound { IsTrue (B.meaning berth.old).tells → IsSound (B.meaning berth.old).held.disk → result ≢ Err fault.DiskDamaged }
+    // What a crash leaves at each moment, and behind the call.
+    ensures moments { IsTrue (B.meaning berth.old).tells → Throughout (OpensFrom (B.meaning berth.old)) (B.meaning berth.old) (B.meaning berth.new) }
+    ensures disks { IsTrue (B.meaning berth.old).tells → KeepsDisks (B.meaning berth.old) (B.meaning berth.new) result }
+    ensures durable { IsTrue (B.meaning berth.old).tells → IfOk result (IsDurable (B.meaning berth.new)) }
+    ensures held { IsTrue (B.meaning berth.old).tells → Begins (length (B.meaning berth.old).held.disk) (B.meaning berth.old).held.disk (B.meaning berth.new).held.disk }
+    ensures log_room { IfOk result (λ o. o.log.end < 2 ^ 63) }
     // On every berth.
     ensures time { Passes (B.meaning berth.old) (B.meaning berth.new) }
     ensures region_cause { result ≡ Err fault.RegionFault → Rose (B.meaning berth.old).region_faults (B.meaning berth.new).region_faults }

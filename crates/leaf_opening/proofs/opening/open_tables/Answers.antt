@@ -1,15 +1,19 @@
-use Rattle.std.proofs.Common.{◌≡◌, ◌∙◌, List, length, IsTrue, Err, sym, ap, subst}
+use Rattle.std.proofs.Common.{◌≡◌, ◌<◌, ◌^◌, ◌∙◌, List, length, IsTrue, Err, inl, sym, ap, subst}
 use Rattle.std.proofs.lemmas.Result.{err_from_is_err_and}
 use Rattle.table_state.specs.Tables.{Table}
 use Rattle.adopt.specs.Found.{AreAdopted, IsFound}
+use Rattle.region_layout.specs.Region.{IsClosed}
 use Rattle.disk_backup.specs.State.{LogState}
+use Rattle.disk_backup.specs.Logs.{IsSound}
 use Rattle.disk_backup.specs.Scanning.{begun}
 use Rattle.log_recovery.specs.declared.fault.RecoveryFault.{RecoveryFault}
 use Rattle.leaf_opening.specs.Faults.{told_of_adopt, told_of_recovery}
 use Rattle.leaf_opening.specs.Starts.{IsWayOf}
 use Rattle.leaf_opening.proofs.Places.{AreSettled, are_fresh, have_room}
 use Rattle.leaf_opening.proofs.Backing.{started_by_memory, started_by_disk, backed_by_memory, backed_by_disk, recovered_as, not_by_memory}
-use Rattle.leaf_opening.proofs.Refusing.{told_as, rests_adopt, rests_read}
+use Rattle.leaf_opening.proofs.Refusing.{told_as, rests_adopt, rests_read, never_damaged}
+use Rattle.leaf_opening.proofs.Regions.{left_closed}
+use Rattle.leaf_opening.proofs.Starting.{opens_adopting, opens_reading, held_on, never_told, never_adopting, kept_as, kept_adopting, kept_reading}
 use Rattle.leaf_opening.proofs.opening.open_tables.Goals as goal
 
 pub returns-in_err-found-clause-rests : goal.returns-in_err-found-clause-rests
@@ -21,6 +25,29 @@ returns-in_err-found-clause-rests g c =
     let p = err_from_is_err_and c.from_residual.result c.from_residual.ensures.1 in
     told_as writes new c.from_residual.result p.0 (told_of_adopt fault) p.1 p.2
     (rests_adopt writes old new rests (c.adopt.ensures.disk told) (c.adopt.ensures.disks told) c.args.names.now fault (c.in_err-found.ensures.told told))
+
+pub returns-in_err-found-clause-sound : goal.returns-in_err-found-clause-sound
+returns-in_err-found-clause-sound g c =
+    λ told sound.
+    let fault = c.in_err-found.field-0.0 in
+    let p = err_from_is_err_and c.from_residual.result c.from_residual.ensures.1 in
+    never_told c.from_residual.result p.0 (told_of_adopt fault) p.1 p.2 (never_adopting fault)
+
+pub returns-in_err-found-clause-moments : goal.returns-in_err-found-clause-moments
+returns-in_err-found-clause-moments g c =
+    λ told. opens_adopting (g.B.Berth.meaning c.args.berth.now) (g.B.Berth.meaning c.adopt.new.berth) (c.adopt.ensures.moments told)
+
+pub returns-in_err-found-clause-disks : goal.returns-in_err-found-clause-disks
+returns-in_err-found-clause-disks g c =
+    λ told.
+    let old = g.B.Berth.meaning c.args.berth.now in
+    let new = g.B.Berth.meaning c.adopt.new.berth in
+    let fault = c.in_err-found.field-0.0 in
+    let p = err_from_is_err_and c.from_residual.result c.from_residual.ensures.1 in
+    kept_as c.from_residual.result p.0 (told_of_adopt fault) p.1 p.2 old new (kept_adopting old new fault (c.adopt.ensures.disks told))
+
+pub returns-in_err-found-clause-held : goal.returns-in_err-found-clause-held
+returns-in_err-found-clause-held g c = λ told. inl (c.adopt.ensures.disk told)
 
 pub returns-in_err-recovered-in-NoTables-clause-rests :
     goal.returns-in_err-recovered-in-NoTables-clause-rests
@@ -36,6 +63,51 @@ returns-in_err-recovered-in-NoTables-clause-rests g c =
     told_as writes new result p.0 (told_of_recovery fault) p.1 p.2
     (rests_read writes old mid new rests (c.adopt.ensures.disk told) (c.in_ok-found.ensures.told told).1 (c.recover.ensures.region told_mid) (c.recover.ensures.held told_mid) fault
     (λ sound e. c.in_err-recovered-in-NoTables.ensures.sound told_mid sound (ap (λ (f : RecoveryFault). Err f) e)))
+
+pub returns-in_err-recovered-in-NoTables-clause-sound :
+    goal.returns-in_err-recovered-in-NoTables-clause-sound
+returns-in_err-recovered-in-NoTables-clause-sound g c =
+    λ told sound.
+    let mid = g.B.Berth.meaning c.adopt.new.berth in
+    let told_mid : IsTrue mid.tells = subst IsTrue (sym c.adopt.ensures.time.tells) told in
+    let sound_mid : IsSound mid.held.disk = subst IsSound (sym (c.adopt.ensures.disk told)) sound in
+    let fault = c.in_err-recovered-in-NoTables.field-0.0 in
+    let result = c.from_residual-in_err-recovered-in-NoTables.result in
+    let p = err_from_is_err_and result c.from_residual-in_err-recovered-in-NoTables.ensures.1 in
+    never_told result p.0 (told_of_recovery fault) p.1 p.2
+    (never_damaged fault (λ e. c.in_err-recovered-in-NoTables.ensures.sound told_mid sound_mid (ap (λ (f : RecoveryFault). Err f) e)))
+
+pub returns-in_err-recovered-in-NoTables-clause-moments :
+    goal.returns-in_err-recovered-in-NoTables-clause-moments
+returns-in_err-recovered-in-NoTables-clause-moments g c =
+    λ told.
+    let old = g.B.Berth.meaning c.args.berth.now in
+    let mid = g.B.Berth.meaning c.adopt.new.berth in
+    let law = (g.met.B.Berth g.world.𝓛 g.world.𝓜 g.world.𝓡 ((λ s x. x), (λ x. x), (λ x. x), λ x. x)) in
+    let told_mid : IsTrue mid.tells = subst IsTrue (sym c.adopt.ensures.time.tells) told in
+    let shut : IsClosed mid.held.region = subst IsClosed (sym (c.in_ok-found.ensures.told told).1) (left_closed old.held.region) in
+    opens_reading old mid (c.adopt.ensures.moments told) (c.adopt.ensures.disk told) shut (λ p left. law.keeps_region c.adopt.new.berth p told_mid left) (g.B.Berth.meaning c.recover.new.berth) (c.recover.ensures.moments told_mid)
+
+pub returns-in_err-recovered-in-NoTables-clause-disks :
+    goal.returns-in_err-recovered-in-NoTables-clause-disks
+returns-in_err-recovered-in-NoTables-clause-disks g c =
+    λ told.
+    let old = g.B.Berth.meaning c.args.berth.now in
+    let new = g.B.Berth.meaning c.recover.new.berth in
+    let fault = c.in_err-recovered-in-NoTables.field-0.0 in
+    let result = c.from_residual-in_err-recovered-in-NoTables.result in
+    let p = err_from_is_err_and result c.from_residual-in_err-recovered-in-NoTables.ensures.1 in
+    kept_as result p.0 (told_of_recovery fault) p.1 p.2 old new (kept_reading old new fault)
+
+pub returns-in_err-recovered-in-NoTables-clause-held :
+    goal.returns-in_err-recovered-in-NoTables-clause-held
+returns-in_err-recovered-in-NoTables-clause-held g c =
+    λ told.
+    let old = g.B.Berth.meaning c.args.berth.now in
+    let mid = g.B.Berth.meaning c.adopt.new.berth in
+    let new = g.B.Berth.meaning c.recover.new.berth in
+    let told_mid : IsTrue mid.tells = subst IsTrue (sym c.adopt.ensures.time.tells) told in
+    held_on old.held.disk mid.held.disk new.held.disk (c.adopt.ensures.disk told) (c.recover.ensures.held told_mid)
 
 -- ---- out of the region
 
@@ -87,6 +159,24 @@ returns-in-Tables-clause-backed g c =
     let found = subst (IsFound names old.held.region) c.in-Tables.is answer.0 in
     backed_by_memory names opened.tables.items opened.log writes old new rests (ap (λ (ts : List Table). length ts) are ∙ adopted.0) (law.stands c.adopt.new.berth told_now) answer.1
     c.in-Tables.adopted found are c.from_image.ensures.log (c.adopt.ensures.disks told)
+
+pub returns-in-Tables-clause-moments : goal.returns-in-Tables-clause-moments
+returns-in-Tables-clause-moments g c =
+    λ told. opens_adopting (g.B.Berth.meaning c.args.berth.now) (g.B.Berth.meaning c.adopt.new.berth) (c.adopt.ensures.moments told)
+
+pub returns-in-Tables-clause-disks : goal.returns-in-Tables-clause-disks
+returns-in-Tables-clause-disks g c = λ told memory. c.adopt.ensures.disks told
+
+pub returns-in-Tables-clause-durable : goal.returns-in-Tables-clause-durable
+returns-in-Tables-clause-durable g c = λ told w disk. absurd (not_by_memory c.from_image.result.way w disk c.from_image.ensures.way)
+
+pub returns-in-Tables-clause-held : goal.returns-in-Tables-clause-held
+returns-in-Tables-clause-held g c = λ told. inl (c.adopt.ensures.disk told)
+
+pub returns-in-Tables-clause-log_room : goal.returns-in-Tables-clause-log_room
+returns-in-Tables-clause-log_room g c =
+    let adopted = subst (AreAdopted (length c.args.names.now)) c.in-Tables.is c.in_ok-found.ensures.adopted in
+    subst (λ (l : LogState). l.end < 2 ^ 63) (sym c.from_image.ensures.log) adopted.2
 
 -- ---- out of the log
 
@@ -155,3 +245,41 @@ returns-in_ok-recovered-in-NoTables-clause-backed g c =
 pub returns-in_ok-recovered-in-NoTables-clause-reads :
     goal.returns-in_ok-recovered-in-NoTables-clause-reads
 returns-in_ok-recovered-in-NoTables-clause-reads g c = λ memory. absurd (not_by_memory c.from_log.result.way c.in-NoTables.why c.from_log.ensures.way memory)
+
+pub returns-in_ok-recovered-in-NoTables-clause-moments :
+    goal.returns-in_ok-recovered-in-NoTables-clause-moments
+returns-in_ok-recovered-in-NoTables-clause-moments g c =
+    λ told.
+    let old = g.B.Berth.meaning c.args.berth.now in
+    let mid = g.B.Berth.meaning c.adopt.new.berth in
+    let law = (g.met.B.Berth g.world.𝓛 g.world.𝓜 g.world.𝓡 ((λ s x. x), (λ x. x), (λ x. x), λ x. x)) in
+    let told_mid : IsTrue mid.tells = subst IsTrue (sym c.adopt.ensures.time.tells) told in
+    let shut : IsClosed mid.held.region = subst IsClosed (sym (c.in_ok-found.ensures.told told).1) (left_closed old.held.region) in
+    opens_reading old mid (c.adopt.ensures.moments told) (c.adopt.ensures.disk told) shut (λ p left. law.keeps_region c.adopt.new.berth p told_mid left) (g.B.Berth.meaning c.recover.new.berth) (c.recover.ensures.moments told_mid)
+
+pub returns-in_ok-recovered-in-NoTables-clause-disks :
+    goal.returns-in_ok-recovered-in-NoTables-clause-disks
+returns-in_ok-recovered-in-NoTables-clause-disks g c =
+    λ told memory. absurd (not_by_memory c.from_log.result.way c.in-NoTables.why c.from_log.ensures.way memory)
+
+pub returns-in_ok-recovered-in-NoTables-clause-durable :
+    goal.returns-in_ok-recovered-in-NoTables-clause-durable
+returns-in_ok-recovered-in-NoTables-clause-durable g c =
+    λ told w disk.
+    let told_mid = subst IsTrue (sym c.adopt.ensures.time.tells) told in
+    c.in_ok-recovered-in-NoTables.ensures.durable told_mid
+
+pub returns-in_ok-recovered-in-NoTables-clause-held :
+    goal.returns-in_ok-recovered-in-NoTables-clause-held
+returns-in_ok-recovered-in-NoTables-clause-held g c =
+    λ told.
+    let old = g.B.Berth.meaning c.args.berth.now in
+    let mid = g.B.Berth.meaning c.adopt.new.berth in
+    let new = g.B.Berth.meaning c.recover.new.berth in
+    let told_mid : IsTrue mid.tells = subst IsTrue (sym c.adopt.ensures.time.tells) told in
+    held_on old.held.disk mid.held.disk new.held.disk (c.adopt.ensures.disk told) (c.recover.ensures.held told_mid)
+
+pub returns-in_ok-recovered-in-NoTables-clause-log_room :
+    goal.returns-in_ok-recovered-in-NoTables-clause-log_room
+returns-in_ok-recovered-in-NoTables-clause-log_room g c =
+    subst (λ (l : LogState). l.end < 2 ^ 63) (sym c.from_log.ensures.log) c.in_ok-recovered-in-NoTables.ensures.none_owed.1

@@ -1,6 +1,6 @@
 use Rattle.std.proofs.Common.{sym, subst, IsTrue}
 use Rattle.leaf_opening.specs.Backed.{Rests}
-use Rattle.leaf_opening.specs.Starts.{Started, IsWayOf, serving_of}
+use Rattle.leaf_opening.specs.Starts.{Started, IsWayOf, IsRefusal, serving_of}
 use Rattle.leaf_machine.proofs.Opening.{opened_serves}
 use Rattle.leaf_machine.proofs.down.Down.start.Goals as goal
 
@@ -28,6 +28,12 @@ returns-in-Ok-clause-backed g c =
     let told : IsTrue (g.B.Berth.meaning c.self.inside.berth).tells = subst (λ v. IsTrue (g.B.Berth.meaning v.1).tells) (sym c.self.view_is) told_now in
     let rests : Rests writes (g.B.Berth.meaning c.self.inside.berth) = subst (λ v. Rests writes (g.B.Berth.meaning v.1)) (sym c.self.view_is) rests_now in
     c.in-Ok.ensures.backed writes told rests
+
+pub returns-in-Err-clause-refused : goal.returns-in-Err-clause-refused
+returns-in-Err-clause-refused g c =
+    λ told_now.
+    let told : IsTrue (g.B.Berth.meaning c.self.inside.berth).tells = subst (λ v. IsTrue (g.B.Berth.meaning v.1).tells) (sym c.self.view_is) told_now in
+    subst (λ v. IsRefusal v.0 (g.B.Berth.meaning v.1) (g.B.Berth.meaning c.open_tables.new.berth) c.in-Err.fault) c.self.view_is (c.in-Err.ensures.refused told)
 
 pub returns-in-Err-clause-rests : goal.returns-in-Err-clause-rests
 returns-in-Err-clause-rests g c =
