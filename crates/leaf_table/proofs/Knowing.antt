@@ -1,8 +1,8 @@
 -- What a seat knows of the table while others take their turns, and what its own turn tells it.
 use Rattle.std.specs.Prelude.{if◌then◌else◌}
-use Rattle.std.proofs.Common.{◌≡◌, inl, ℕ, zero, suc, ◌+◌, ◌<◌, Bool, true, false, List, [], ◌∷◌, ◌++◌, length, refl, sym, ap, ◌∙◌, subst, Option, Some, None, arith}
+use Rattle.std.proofs.Common.{◌≡◌, ◌⊎◌, inl, inr, ℕ, zero, suc, ◌+◌, ◌<◌, Bool, true, false, List, [], ◌∷◌, ◌++◌, length, refl, sym, ap, ◌∙◌, subst, Option, Some, None, arith}
 use Rattle.turnstile.specs.declared.object.Entry as turnstile
-use Rattle.turnstile.specs.Seats.{Others, Called}
+use Rattle.turnstile.specs.Seats.{Others, AreIds, Owns, Called}
 use Rattle.turnstile.specs.Objects as turned
 use Rattle.leaf_history.specs.Calls.{Call}
 use Rattle.leaf_history.specs.Calls as call
@@ -20,7 +20,7 @@ use Rattle.leaf_table.specs.declared.turns.Answer.{Answer}
 use Rattle.leaf_table.specs.declared.turns.Answer.TheVariants as answer
 use Rattle.leaf_table.specs.declared.replies.ClosedTable.{ClosedTable}
 use Rattle.leaf_table.specs.Turns.{Turns, is_founded, start_of, call_of, reply_of, told, history, HandsOut, Hands, HandsFrom, LegalTurns, state_after, MayHandIn, MayNow}
-use Rattle.leaf_table.specs.Calls.{SameSeat, SeatView, entry_of, AreOthers, Made, MadeTurn, seen_of, state_seen, state_before, IsSteward, ClosedBy}
+use Rattle.leaf_table.specs.Calls.{SameSeat, SeatView, entry_of, AreOthers, HaveIds, OwnsTheRest, AreOwnOrStewards, MakersKnown, Made, MadeTurn, seen_of, state_seen, state_before, IsSteward, ClosedBy}
 use Rattle.leaf_table.specs.Laws.{StewardKnows}
 
 history_append : (xs ys : Turns) → history (xs ++ ys) ≡ history xs ++ history ys
@@ -58,6 +58,21 @@ push_length (x ∷ h) e = let further = push_length h e in omega (arith, further
 others_all : (v : SeatView) (es : Turns) → Others v es → AreOthers v (history es)
 others_all v [] o = tt
 others_all v (e ∷ es) o = (o.0, others_all v es o.1)
+
+ids_told : (es : Turns) → AreIds es → HaveIds (history es)
+ids_told [] h = tt
+ids_told (e ∷ es) h = (h.0, ids_told es h.1)
+
+own_or_stewards : (v : SeatView) (es : List Entry) → OwnsTheRest v → HaveIds es → AreOwnOrStewards v es
+own_or_stewards v [] rest h = tt
+own_or_stewards v (e ∷ es) rest h = (whose e.caller h.0, own_or_stewards v es rest h.1)
+  where
+    whose : (x : ℕ) → x < 65537 → Owns v x ⊎ (x ≡ 0)
+    whose zero small = inr refl
+    whose (suc n) small = inl (rest (suc n) (omega arith) small)
+
+pub makers_known : MakersKnown
+makers_known = λ v h. let ids = ids_told v.seen h in record { ids = ids; own = λ rest. own_or_stewards v (seen_of v) rest ids }
 
 -- another's entry is a caller's
 pub callers_of : (v : SeatView) (es : List Entry) → v.id ≡ 0 → 0 < v.share → AreOthers v es → AreCallers es

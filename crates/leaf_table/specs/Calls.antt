@@ -1,7 +1,7 @@
 -- What a call on a shared table asks of its seat and tells it.
-use Rattle.std.specs.Prelude.{◌≡◌, ℕ, ◌+◌, ◌<◌, ◌≤◌, ◌^◌, true, false, List, [], ◌∷◌, ◌++◌, length, Option, Result, Ok, Err, ⊤}
+use Rattle.std.specs.Prelude.{◌≡◌, ◌⊎◌, ℕ, ◌+◌, ◌<◌, ◌≤◌, ◌^◌, true, false, List, [], ◌∷◌, ◌++◌, length, Option, Result, Ok, Err, ⊤}
 use Rattle.std.specs.List.{AllByRecursion}
-use Rattle.turnstile.specs.Seats.{Standing, Owns}
+use Rattle.turnstile.specs.Seats.{Standing, AreIds, Owns}
 use Rattle.leaf_history.specs.Calls.{Call}
 use Rattle.leaf_history.specs.Calls as call
 use Rattle.leaf_history.specs.Replies.{Reply}
@@ -58,6 +58,27 @@ state_seen base v = state_of base (seen_of v)
 -- entries of other seats
 abbrev pub AreOthers : SeatView → List Entry → Type 0
 AreOthers v es = AllByRecursion (λ (e : Entry). ¬ Owns v e.caller) es
+
+-- each entry has one of the ids of a turnstile
+abbrev pub HaveIds : List Entry → Type 0
+HaveIds es = AllByRecursion (λ (e : Entry). e.caller < 65537) es
+
+-- the seat owns every id but the steward's
+abbrev pub OwnsTheRest : SeatView → Type 0
+OwnsTheRest v = (x : ℕ) → 0 < x → x < 65537 → Owns v x
+
+-- each entry is the seat's own or the steward's
+abbrev pub AreOwnOrStewards : SeatView → List Entry → Type 0
+AreOwnOrStewards v es = AllByRecursion (λ (e : Entry). Owns v e.caller ⊎ (e.caller ≡ 0)) es
+
+-- who made the entries that a seat has seen: where it owns every id but the steward's, no third party made one
+pub record Makers (v : SeatView) : Type 0 where
+  pub ids : HaveIds (seen_of v)
+  pub own : OwnsTheRest v → AreOwnOrStewards v (seen_of v)
+
+-- of whatever seat has seen entries with ids of a turnstile alone, as each seat has
+abbrev pub MakersKnown : Type 0
+MakersKnown = (v : SeatView) → AreIds v.seen → Makers v
 
 -- the table just before the call's own entry
 abbrev pub state_before : Option TableBase → SeatView → List Entry → TableState

@@ -16,6 +16,7 @@ mod thread_tests;
 mod turns;
 mod value;
 
+ghost use Rattle.leaf_table.specs.Calls.{MakersKnown};
 ghost use Rattle.leaf_table.specs.Laws.{StewardKnows};
 
 pub use base::{Founds, Origin, TableBase};
@@ -28,4 +29,9 @@ pub use value::LeafTable;
 /// What the steward knows of its table after a call of its own.
 pub fn steward_knows()
     ensures { StewardKnows }
+{}
+
+/// Who made the entries that a seat has seen.
+pub fn makers_known()
+    ensures { MakersKnown }
 {}

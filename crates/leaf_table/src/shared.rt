@@ -1,6 +1,6 @@
 // A shared table, and one turn at it.
 ghost use Rattle.std.specs.Prelude.{◌≡◌, ◌<◌, ◌≤◌, length, IfOk, IsOk};
-ghost use Rattle.turnstile.specs.Seats.{IsSeatOf, HasRoom, Joined, Told, keeps_all_but, given, unused_seat};
+ghost use Rattle.turnstile.specs.Seats.{IsSeatOf, HasRoom, Joined, LearnsOthers, Told, keeps_all_but, given, unused_seat};
 ghost use Rattle.leaf_table.specs.Turns.{is_founded, MayNow};
 ghost use Rattle.leaf_table.specs.Calls.{base_of, name_of, state_seen, IsSteward, SeesShut, MadeTurn};
 
@@ -108,6 +108,7 @@ impl SharedTable {
         ensures seats { IsSeatOf a.new self.now.site × IsSeatOf b.new self.now.site }
         ensures a { Told a.old b.old a.new }
         ensures b { Told b.old a.old b.new }
+        ensures others { LearnsOthers a.old a.new × LearnsOthers b.old b.new }
         ensures same { a.new.seen ≡ b.new.seen }
         ensures done { IsOk result }
     {

@@ -11,7 +11,7 @@ use Rattle.turnstile.specs.declared.view.Stage.TheVariants.{Rests, Waits}
 use Rattle.turnstile.specs.Views.{staged, joined}
 use Rattle.turnstile.specs.Plays.{Comes, Met}
 use Rattle.turnstile.specs.Objects.{Ready}
-use Rattle.turnstile.specs.Seats.{Standing, MayCall, HasRoom, given, Joined, Told}
+use Rattle.turnstile.specs.Seats.{Standing, MayCall, HasRoom, AreIds, given, Joined, LearnsOthers, Told}
 use Rattle.turnstile.specs.Places.{standing, Rested, Entered}
 use Rattle.turnstile.proofs.Prefixes.{prefix_trans, prefix_whole, prefix_length}
 
@@ -103,6 +103,14 @@ module _ {B C R O : Type 0} (legal : B → List (Entry C R) → Type 0) (stands 
         view = λ i. standing (same i) (met'.view i);
         longer = met'.longer;
       }
+
+  pub learned_of : (at : TableId) (v u : View B C R) (m m' : M) → m.0 ≡ joined v u → Met m m' → LearnsOthers (standing at v) (standing at m'.0)
+  learned_of at v u m m' is met =
+      let met' : Met {O = O} (joined v u, m.1) m' = subst (λ (z : View B C R). Met {O = O} (z, m.1) m') is met in
+      λ more whole. met'.others more (sym (ap (λ (x : View B C R). x.seen) met'.view) ∙ whole)
+
+  pub ids_after : (m m' : M) → Met m m' → AreIds m'.0.seen
+  ids_after m m' met = subst (λ (v : View B C R). AreIds v.seen) (sym met.view) met.ids
 
   pub rested_after : (v u : View B C R) (m m' : M) → v.stage ≡ Rests → m ≡ (joined v u, []) → Met m m' → Rested m'
   rested_after v u m m' rests is met = record {

@@ -67,6 +67,7 @@ module _ {B C R O : Type 0} (legal : B → List (Entry C R) → Type 0) (stands 
           owner = put r.owner r.tickets id;
           holder = r.holder;
           is_legal = r.is_legal;
+          ids = r.ids;
           words = (λ i. set (r.words i) 1 (next i));
           counted = r.counted;
           busy = λ b. let c = r.busy b in omega arith;
@@ -77,9 +78,12 @@ module _ {B C R O : Type 0} (legal : B → List (Entry C R) → Type 0) (stands 
                 begins = k.begins;
                 other_begins = k.other_begins;
                 apart = k.apart;
+                own_apart = k.own_apart;
+                older_is = k.older_is;
                 fresh = k.fresh;
                 holder_is = k.holder_is;
                 taken_is = k.taken_is;
+                within = k.within;
                 turn = has;
                 stage = (omega arith, omega arith, ap (put r.owner r.tickets id) is_found ∙ put_here r.owner r.tickets id, λ e. dite (ℕ_discrete r.out 0) (λ z. z) (λ z. let b = r.busy (omega arith) in absurd (omega arith)));
                 room = k.room;
@@ -137,6 +141,7 @@ module _ {B C R O : Type 0} (legal : B → List (Entry C R) → Type 0) (stands 
           owner = r.owner;
           holder = r.holder;
           is_legal = r.is_legal;
+          ids = r.ids;
           words = (λ i. set (r.words i) 2 (is_found i));
           counted = (omega arith, omega arith);
           busy = λ b. omega arith;
@@ -147,9 +152,12 @@ module _ {B C R O : Type 0} (legal : B → List (Entry C R) → Type 0) (stands 
                 begins = ([], append-nil _ ∙ whole);
                 other_begins = k.other_begins;
                 apart = λ i e far _ is. let p : length (me.0.seen ++ between) ≡ length me.0.seen + length between = length-append me.0.seen between in k.apart i e (omega arith) (let n = at_inside r.log i e is in absurd (let q : length (me.0.seen ++ between) ≡ length r.log = ap length whole in omega arith)) is;
+                own_apart = λ i e far is. let p : length (me.0.seen ++ between) ≡ length me.0.seen + length between = length-append me.0.seen between in k.own_apart i e (omega arith) is;
+                older_is = k.older_is;
                 fresh = k.fresh;
                 holder_is = k.holder_is;
                 taken_is = k.taken_is;
+                within = k.within;
                 turn = subst (λ n. n ≤ me.0.share) ticket k.turn;
                 stage = (is_found, omega arith, ap r.owner is_found ∙ mine, refl, whole);
                 room = k.room;

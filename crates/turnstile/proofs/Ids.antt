@@ -56,6 +56,10 @@ pub among_append : (xs ys : List ℕ) (x : ℕ) → Among x (xs ++ ys) → Among
 among_append [] ys x h = inr h
 among_append (y ∷ xs) ys x h = ⊎_elim (λ e. inl (inl e)) (λ t. ⊎_elim (λ a. inl (inr a)) (λ b. inr b) (among_append xs ys x t)) h
 
+pub among_front : (xs ys : List ℕ) (x : ℕ) → Among x xs → Among x (xs ++ ys)
+among_front [] ys x h = absurd h
+among_front (y ∷ xs) ys x h = ⊎_elim (λ e. inl e) (λ t. inr (among_front xs ys x t)) h
+
 pub among_run : (n k x : ℕ) → Among x (run_of n k) → (n ≤ x) × (x < n + k)
 among_run n zero x h = absurd h
 among_run n (suc k) x h = ⊎_elim (λ (e : x ≡ n). (omega arith, omega arith)) (λ t. let r = among_run (suc n) k x t in let a = r.0 in let b = r.1 in (omega arith, omega arith)) h

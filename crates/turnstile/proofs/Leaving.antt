@@ -11,9 +11,10 @@ use Rattle.turnstile.specs.declared.view.Stage.TheVariants.{Rests, Waits, Inside
 use Rattle.turnstile.specs.Views.{ticketed, InRange, Owns, holds_ticket, room_of, staged}
 use Rattle.turnstile.specs.Rule.{Stands, Knows, Homes, Turned}
 use Rattle.turnstile.specs.Plays.{posted, left}
+use Rattle.turnstile.specs.Seats.{AreIds}
 use Rattle.turnstile.proofs.Totals.{total_at}
-use Rattle.turnstile.proofs.Prefixes.{prefix_trans, at_inside, at_push}
-use Rattle.turnstile.proofs.Views.{each_after, sums, moved, few}
+use Rattle.turnstile.proofs.Prefixes.{prefix_trans, at_inside, at_push, all_push}
+use Rattle.turnstile.proofs.Views.{each_after, sums, moved, still_owns, few}
 
 module _ {B C R O : Type 0} (legal : B → List (Entry C R) → Type 0) (stands : B → List (Entry C R) → O → Type 0) (base : B) where
   abbrev E : Type 0
@@ -66,6 +67,8 @@ module _ {B C R O : Type 0} (legal : B → List (Entry C R) → Type 0) (stands 
       let share : 0 < me.0.share = omega arith in
       let own : InRange me.0 me.0.id = (omega arith, omega arith) in
       let k_room = k.room in
+      let within = k.within in
+      let ids : AreIds log' = all_push (λ (x : E). x.by < 65537) r.log e r.ids (omega arith) in
       let were : s.homes ≡ none ∷ [] = subst (λ n. Homes (stands base) r.log n s.homes) out r.home in (
         w,
         keeps,
@@ -78,6 +81,7 @@ module _ {B C R O : Type 0} (legal : B → List (Entry C R) → Type 0) (stands 
           owner = r.owner;
           holder = r.holder;
           is_legal = subst (λ (x : B × List E). legal x.0 (x.1 ++ e ∷ [])) (λ i. (k.based b told i, same i)) ok;
+          ids = ids;
           words = (λ i. set (r.words i) 0 (next i));
           counted = (omega arith, omega arith);
           busy = λ _. omega arith;
@@ -88,9 +92,12 @@ module _ {B C R O : Type 0} (legal : B → List (Entry C R) → Type 0) (stands 
                 begins = ([], append-nil _ ∙ ap (λ l. l ++ e ∷ []) same);
                 other_begins = prefix_trans me.0.other r.log log' k.other_begins (e ∷ [], refl);
                 apart = λ i x far _ is. let n = at_inside log' i x is in absurd (omega arith);
+                own_apart = λ i x far is. let n = at_inside log' i x is in absurd (omega arith);
+                older_is = k.older_is;
                 fresh = λ i x is f. ⊎_elim (λ old. k.fresh i x old f) (λ (new : (i ≡ length r.log) × (e ≡ x)). let same_id : x.by ≡ me.0.id = sym (ap (λ (y : E). y.by) new.1) ∙ by in let f₀ = f.0 in absurd (omega arith)) (at_push r.log e x i is);
                 holder_is = k.holder_is;
                 taken_is = k.taken_is;
+                within = k.within;
                 turn = omega arith;
                 stage = (here, low, st.2, refl, ap (λ l. l ++ e ∷ []) same);
                 room = omega arith;
@@ -101,9 +108,12 @@ module _ {B C R O : Type 0} (legal : B → List (Entry C R) → Type 0) (stands 
                 begins = prefix_trans d.seen r.log log' kj.begins (e ∷ [], refl);
                 other_begins = prefix_trans d.other r.log log' kj.other_begins (e ∷ [], refl);
                 apart = λ i x far far' is own_x. ⊎_elim (λ old. kj.apart i x far far' old own_x) (λ (new : (i ≡ length r.log) × (e ≡ x)). foreign kj k other (sym (ap (λ (y : E). y.by) new.1) ∙ by) own own_x) (at_push r.log e x i is);
+                own_apart = λ i x far is was. ⊎_elim (λ old. kj.own_apart i x far old was) (λ (new : (i ≡ length r.log) × (e ≡ x)). foreign kj k other (sym (ap (λ (y : E). y.by) new.1) ∙ by) own (still_owns base kj was)) (at_push r.log e x i is);
+                older_is = kj.older_is;
                 fresh = λ i x is f. ⊎_elim (λ old. kj.fresh i x old f) (λ (new : (i ≡ length r.log) × (e ≡ x)). let f₀ = f.0 in foreign kj k other (sym (ap (λ (y : E). y.by) new.1) ∙ by) own (inl (omega arith, f.1))) (at_push r.log e x i is);
                 holder_is = kj.holder_is;
                 taken_is = kj.taken_is;
+                within = kj.within;
                 turn = kj.turn;
                 stage = after r.log log' r.serving r.tickets r.out r.owner id j d other mine d.stage kj.stage;
                 room = kj.room;
@@ -113,7 +123,7 @@ module _ {B C R O : Type 0} (legal : B → List (Entry C R) → Type 0) (stands 
           shares = omega arith;
           rooms = omega arith;
         },
-        λ t' e' is' same_e. let same_t : t ≡ t' = ap ticket_or (sym is ∙ is') in let e_is : e ≡ e' = cc (same_e, said_is) in (room, (λ i. record me.0 { seen = me.0.seen ++ e_is i ∷ []; room = room; stage = Posted (same_t i) }), refl, omega arith, omega arith, λ low. omega arith),
+        λ t' e' is' same_e. let same_t : t ≡ t' = ap ticket_or (sym is ∙ is') in let e_is : e ≡ e' = cc (same_e, said_is) in (room, (λ i. record me.0 { seen = me.0.seen ++ e_is i ∷ []; room = room; stage = Posted (same_t i) }), refl, omega arith, omega arith, (λ low. omega arith), subst (λ (l : List E). AreIds (l ++ e ∷ [])) (sym same) ids),
       )
     where
       ticket_or : Stage → ℕ
@@ -162,6 +172,7 @@ module _ {B C R O : Type 0} (legal : B → List (Entry C R) → Type 0) (stands 
           owner = r.owner;
           holder = r.holder;
           is_legal = r.is_legal;
+          ids = r.ids;
           words = (λ i. set (r.words i) 2 (next i));
           counted = (omega arith, omega arith);
           busy = λ b. absurd (omega arith);
@@ -172,9 +183,12 @@ module _ {B C R O : Type 0} (legal : B → List (Entry C R) → Type 0) (stands 
                 begins = k.begins;
                 other_begins = k.other_begins;
                 apart = k.apart;
+                own_apart = k.own_apart;
+                older_is = k.older_is;
                 fresh = k.fresh;
                 holder_is = k.holder_is;
                 taken_is = k.taken_is;
+                within = k.within;
                 turn = omega arith;
                 stage = tt;
                 room = k.room;

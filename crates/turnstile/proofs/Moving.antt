@@ -1,5 +1,5 @@
 -- Ids move between seats, and the table is made.
-use Rattle.std.proofs.Common.{◌≡◌, ◌≢◌, ◌⊎◌, ℕ, zero, suc, ◌+◌, ◌<◌, ◌≤◌, List, [], ◌∷◌, ◌++◌, length, set, get_or, refl, sym, ap, ◌∙◌, subst, ⊎_elim, inl, inr, arith, Option, Some, length-set}
+use Rattle.std.proofs.Common.{◌≡◌, ◌≢◌, ◌⊎◌, ℕ, zero, suc, ◌+◌, ◌-◌, ◌<◌, ◌≤◌, List, [], ◌∷◌, ◌++◌, length, set, get_or, refl, sym, ap, ◌∙◌, subst, ⊎_elim, inl, inr, arith, Option, Some, length-set}
 use mathlib.Core.Logic.{dite}
 use mathlib.Core.Option.{none, some, some-ne-none, some-injective}
 use mathlib.Core.List.{IsPrefix}
@@ -8,18 +8,18 @@ use lib.ListN.{get_elem?}
 use lib.Seq.{set-get_or}
 use Rattle.atomic_table.specs.Table.{State, Me, step, Act, keeps, stepped, carried_after, Valid, Allows, Splits, Joins, opening}
 use Rattle.atomic_table.proofs.Lists.{set_else}
-use Rattle.turnstile.specs.Ids.{Among, run_of}
+use Rattle.turnstile.specs.Ids.{Among, run_of, InShare, OwnsId}
 use Rattle.turnstile.specs.declared.object.Entry.{Entry}
 use Rattle.turnstile.specs.declared.view.View.{View}
 use Rattle.turnstile.specs.declared.view.Start.{Start}
 use Rattle.turnstile.specs.declared.view.Stage.{Stage}
 use Rattle.turnstile.specs.declared.view.Stage.TheVariants.{Rests, Waits, Inside, Posted}
-use Rattle.turnstile.specs.Views.{keeps_all_but, given, joined, spent, ticketed, InRange, Owns, holds_ticket, share_of, room_of, first_view}
+use Rattle.turnstile.specs.Views.{keeps_all_but, given, joined, spent, ticketed, InRange, Owns, Owned, holds_ticket, share_of, room_of, first_view}
 use Rattle.turnstile.specs.Rule.{Stands, Knows, Turned}
 use Rattle.turnstile.specs.Plays.{met}
 use Rattle.turnstile.proofs.Totals.{total_snoc}
-use Rattle.turnstile.proofs.Prefixes.{prefix_shorter, at_inside, at_push}
-use Rattle.turnstile.proofs.Ids.{hand, hand_in, hand_out, dec_both, among_append, among_run}
+use Rattle.turnstile.proofs.Prefixes.{prefix_shorter, at_between, at_inside, at_push, all_begin, each_all}
+use Rattle.turnstile.proofs.Ids.{hand, hand_in, hand_out, dec_both, among_append, among_front, among_run}
 use Rattle.turnstile.proofs.Views.{each_after, sums, same_ids, few}
 
 module _ {B C R O : Type 0} (legal : B → List (Entry C R) → Type 0) (stands : B → List (Entry C R) → O → Type 0) (base : B) where
@@ -45,6 +45,7 @@ module _ {B C R O : Type 0} (legal : B → List (Entry C R) → Type 0) (stands 
   splits id n v is low alone s r at =
       let k = r.each id v at in
       let k_room = k.room in
+      let k_within = k.within in
       let left : V = keeps_all_but n v in
       let right : V = given n v in
       let fresh_seat : ℕ = length (set s.views id left) in
@@ -68,10 +69,13 @@ module _ {B C R O : Type 0} (legal : B → List (Entry C R) → Type 0) (stands 
         based = k.based;
         begins = k.begins;
         other_begins = k.other_begins;
-        apart = λ i e far far' is own. k.apart i e far far' is (widens n v e.by own);
+        apart = λ i e far far' is own. k.apart i e far far' is (widens n v.id v.share v.taken e.by own);
+        own_apart = λ i e far is was. k.own_apart i e far is (widens n v.id v.share v.older e.by was);
+        older_is = k.older_is;
         fresh = λ i e is f. let f₁ = f.1 in k.fresh i e is (f.0, omega arith);
-        holder_is = λ x own. hand_out p r.holder fresh_seat x (⊎_elim (λ (t : InRange left x) (q : InRange right x). let a = t.1 in let b = q.0 in absurd (omega arith)) (λ t q. k.taken_is x t (let b = q.0 in let c = q.1 in (omega arith, omega arith))) own) ∙ k.holder_is x (widens n v x own);
+        holder_is = λ x own. hand_out p r.holder fresh_seat x (⊎_elim (λ (t : InRange left x) (q : InRange right x). let a = t.1 in let b = q.0 in absurd (omega arith)) (λ t q. k.taken_is x t (let b = q.0 in let c = q.1 in (omega arith, omega arith))) own) ∙ k.holder_is x (widens n v.id v.share v.taken x own);
         taken_is = λ x a q. let q₁ = q.1 in k.taken_is x a (q.0, omega arith);
+        within = omega arith;
         turn = omega arith;
         stage = subst (Stands r.log r.serving r.tickets r.out r.owner id left) (sym is) tt;
         room = omega arith;
@@ -82,9 +86,12 @@ module _ {B C R O : Type 0} (legal : B → List (Entry C R) → Type 0) (stands 
         begins = k.begins;
         other_begins = (r.log, refl);
         apart = λ i e _ _ is own. ⊎_elim (λ (t : InRange right e.by). let a = t.0 in let b = t.1 in k.fresh i e is (omega arith, omega arith)) (λ t. t) own;
+        own_apart = λ i e _ is was. ⊎_elim (λ (t : InRange right e.by). let a = t.0 in let b = t.1 in k.fresh i e is (omega arith, omega arith)) (λ t. t) was;
+        older_is = λ x a. a;
         fresh = λ i e is f. let a = f.0 in let b = f.1 in k.fresh i e is (omega arith, omega arith);
         holder_is = λ x own. ⊎_elim (λ (t : InRange right x). hand_in p r.holder fresh_seat x t) (λ (t : ⊥). absurd t) own;
         taken_is = λ x a _. a;
+        within = omega arith;
         turn = omega arith;
         stage = tt;
         room = omega arith;
@@ -98,6 +105,7 @@ module _ {B C R O : Type 0} (legal : B → List (Entry C R) → Type 0) (stands 
         owner = r.owner;
         holder = holder;
         is_legal = r.is_legal;
+        ids = r.ids;
         words = r.words;
         counted = r.counted;
         busy = r.busy;
@@ -111,8 +119,8 @@ module _ {B C R O : Type 0} (legal : B → List (Entry C R) → Type 0) (stands 
         rooms = omega arith;
       }
     where
-      widens : (n : ℕ) (v : V) (x : ℕ) → Owns (keeps_all_but n v) x → Owns v x
-      widens n v x own = ⊎_elim (λ (t : InRange (keeps_all_but n v) x). let a = t.1 in inl (t.0, omega arith)) (λ t. inr t) own
+      widens : (n id share : ℕ) (taken : List ℕ) (x : ℕ) → OwnsId id (share - n) taken x → OwnsId id share taken x
+      widens n id share taken x own = ⊎_elim (λ (t : InShare id (share - n) x). let a = t.1 in inl (t.0, omega arith)) (λ t. inr t) own
 
   pub joins : (id : ℕ) (v : V) (other : ℕ) (u : V) → u.stage ≡ Rests → u.other ≡ [] → v.other ≡ [] → Joins Rule id v other u (joined v u) spent
   joins id v other u is alone bare s r at apart there' =
@@ -141,9 +149,12 @@ module _ {B C R O : Type 0} (legal : B → List (Entry C R) → Type 0) (stands 
         begins = k.begins;
         other_begins = ku.begins;
         apart = λ i e far far' is own. ⊎_elim (λ t. k.apart i e far (let z : length v.other ≡ 0 = ap length bare in omega arith) is t) (λ t. ku.apart i e far' (let z : length u.other ≡ 0 = ap length alone in omega arith) is t) (parts v u e.by own);
+        own_apart = λ i e far is was. k.apart i e far (let z : length v.other ≡ 0 = ap length bare in omega arith) is was;
+        older_is = λ x a. among_front v.taken (run_of u.id u.share ++ u.taken) x a;
         fresh = k.fresh;
         holder_is = λ x own. ⊎_elim (λ t. hand_out p r.holder id x (λ e. apart (sym e ∙ k.holder_is x t)) ∙ k.holder_is x t) (λ t. hand_in p r.holder id x (ku.holder_is x t)) (parts v u x own);
         taken_is = λ x a q. ⊎_elim (λ t. k.taken_is x t q) (λ t. apart (sym (ku.holder_is x (theirs u x t)) ∙ k.holder_is x (inl q))) (among_append v.taken (run_of u.id u.share ++ u.taken) x a);
+        within = k.within;
         turn = k.turn;
         stage = re_view r.log r.serving r.tickets r.out r.owner id v w v.stage refl k.stage;
         room = omega arith;
@@ -154,9 +165,12 @@ module _ {B C R O : Type 0} (legal : B → List (Entry C R) → Type 0) (stands 
         begins = (r.log, refl);
         other_begins = (r.log, refl);
         apart = λ i e _ _ is own. ⊎_elim (λ (t : (0 ≤ e.by) × (e.by < 0 + 0)). let z = t.1 in omega arith) (λ t. t) own;
+        own_apart = λ i e _ is was. ⊎_elim (λ (t : (0 ≤ e.by) × (e.by < 0 + 0)). let z = t.1 in omega arith) (λ t. t) was;
+        older_is = λ x a. a;
         fresh = λ i e is f. let z = f.1 in omega arith;
         holder_is = λ x own. ⊎_elim (λ (t : (0 ≤ x) × (x < 0 + 0)). let z = t.1 in absurd (omega arith)) (λ (t : ⊥). absurd t) own;
         taken_is = λ x a _. a;
+        within = omega arith;
         turn = omega arith;
         stage = tt;
         room = omega arith;
@@ -170,6 +184,7 @@ module _ {B C R O : Type 0} (legal : B → List (Entry C R) → Type 0) (stands 
         owner = r.owner;
         holder = holder;
         is_legal = r.is_legal;
+        ids = r.ids;
         words = r.words;
         counted = r.counted;
         busy = r.busy;
@@ -219,6 +234,7 @@ module _ {B C R O : Type 0} (legal : B → List (Entry C R) → Type 0) (stands 
           owner = r.owner;
           holder = r.holder;
           is_legal = r.is_legal;
+          ids = r.ids;
           words = set-get_or s.words 0 0 ∙ r.words;
           counted = r.counted;
           busy = r.busy;
@@ -229,9 +245,12 @@ module _ {B C R O : Type 0} (legal : B → List (Entry C R) → Type 0) (stands 
                 begins = begins;
                 other_begins = (r.log, refl);
                 apart = λ i e at_end _ is_e. k.apart i e (omega arith) (omega arith) is_e;
+                own_apart = λ i e at_end is_e. k.own_apart i e (omega arith) is_e;
+                older_is = k.older_is;
                 fresh = k.fresh;
                 holder_is = k.holder_is;
                 taken_is = k.taken_is;
+                within = k.within;
                 turn = k.turn;
                 stage = subst (Stands r.log r.serving r.tickets r.out r.owner id w) (sym is) tt;
                 room = k.room;
@@ -251,6 +270,8 @@ module _ {B C R O : Type 0} (legal : B → List (Entry C R) → Type 0) (stands 
             theirs = prefix_shorter me.0.other seen r.log k.other_begins begins far';
             one = one;
           };
+          ids = all_begin (λ (e : E). e.by < 65537) seen r.log begins r.ids;
+          others = λ more whole. each_all (λ (e : E). ¬ Owned me.0 e.by) more (λ i e is_e. k.own_apart (length me.0.seen + i) e (omega arith) (at_between me.0.seen seen more r.log i e whole begins is_e));
         },
       ) in y in
       dite (dec_le (length me.0.seen) (length me.0.other))
@@ -266,6 +287,7 @@ module _ {B C R O : Type 0} (legal : B → List (Entry C R) → Type 0) (stands 
     owner = λ _. 0;
     holder = λ _. 0;
     is_legal = ok;
+    ids = tt;
     words = refl;
     counted = (omega arith, omega arith);
     busy = λ b. absurd (omega arith);
@@ -282,9 +304,12 @@ module _ {B C R O : Type 0} (legal : B → List (Entry C R) → Type 0) (stands 
         begins = ([], refl);
         other_begins = ([], refl);
         apart = λ i x _ _ is _. some-ne-none x (sym is);
+        own_apart = λ i x _ is _. some-ne-none x (sym is);
+        older_is = λ x a. a;
         fresh = λ i x is _. some-ne-none x (sym is);
         holder_is = λ x _. refl;
         taken_is = λ x a _. a;
+        within = omega arith;
         turn = omega arith;
         stage = tt;
         room = omega arith;

@@ -1,5 +1,5 @@
 -- What the other seats know after one seat's view has changed.
-use Rattle.std.proofs.Common.{◌≡◌, ◌≢◌, ℕ, ◌+◌, ◌≤◌, List, set, sym, subst, ⊎_elim, ◌∙◌, Option}
+use Rattle.std.proofs.Common.{◌≡◌, ◌≢◌, ℕ, ◌+◌, ◌≤◌, List, set, sym, subst, ⊎_elim, inl, inr, ◌∙◌, Option}
 use mathlib.Core.Option.{some}
 use lib.ListN.{get_elem?}
 use Rattle.atomic_table.specs.Table.{State}
@@ -7,7 +7,7 @@ use Rattle.atomic_table.proofs.Lists.{at_set}
 use Rattle.turnstile.specs.Ids.{total_of}
 use Rattle.turnstile.specs.declared.object.Entry.{Entry}
 use Rattle.turnstile.specs.declared.view.View.{View}
-use Rattle.turnstile.specs.Views.{Owns, holds_ticket, share_of, room_of}
+use Rattle.turnstile.specs.Views.{Owns, Owned, holds_ticket, share_of, room_of}
 use Rattle.turnstile.specs.Rule.{Stands, Knows, Turned}
 use Rattle.turnstile.proofs.Totals.{total_set, total_below}
 
@@ -33,9 +33,12 @@ module _ {B C R : Type 0} (base : B) where
     begins = k.begins;
     other_begins = k.other_begins;
     apart = k.apart;
+    own_apart = k.own_apart;
+    older_is = k.older_is;
     fresh = k.fresh;
     holder_is = k.holder_is;
     taken_is = k.taken_is;
+    within = k.within;
     turn = k.turn;
     stage = f k.stage;
     room = k.room;
@@ -49,14 +52,21 @@ module _ {B C R : Type 0} (base : B) where
     begins = k.begins;
     other_begins = k.other_begins;
     apart = k.apart;
+    own_apart = k.own_apart;
+    older_is = k.older_is;
     fresh = k.fresh;
     holder_is = λ x own. f x own ∙ k.holder_is x own;
     taken_is = k.taken_is;
+    within = k.within;
     turn = k.turn;
     stage = k.stage;
     room = k.room;
     caller = k.caller;
   }
+
+  -- what was one of its ids still is
+  pub still_owns : {log : List (Entry C R)} {serving tickets out j x : ℕ} {owner holder : ℕ → ℕ} {d : View B C R} → Knows base log serving tickets out owner holder j d → Owned d x → Owns d x
+  still_owns {x = x} k was = ⊎_elim (λ t. inl t) (λ t. inr (k.older_is x t)) was
 
 -- no more tickets than ids
 pub few : {B C R O : Type 0} (legal : B → List (Entry C R) → Type 0) (stands : B → List (Entry C R) → O → Type 0) (base : B) (s : State (Option O) (View B C R)) → Turned legal stands base s → total_of holds_ticket s.views ≤ total_of share_of s.views

@@ -7,7 +7,7 @@ use Rattle.turnstile.specs.declared.object.Entry.{Entry}
 use Rattle.turnstile.specs.declared.view.View.{View}
 use Rattle.turnstile.specs.declared.view.Stage.TheVariants.{Rests, Inside}
 use Rattle.turnstile.specs.Views.{Others}
-use Rattle.turnstile.specs.Seats.{Standing}
+use Rattle.turnstile.specs.Seats.{Standing, AreIds}
 
 -- the seat's table is this one, and has three words
 abbrev pub Fits : TableId → TableId → Type 0
@@ -37,6 +37,8 @@ module _ {B C R : Type 0} where
       pub seen_is : seen ≡ length p.me.0.seen
       pub has_id : 0 < share
       pub within : id + share ≤ 65537
+      -- each entry that it has seen has one of the ids of a turnstile
+      pub ids : AreIds p.me.0.seen
 
   -- the turn has come, and the value is out: it stands for all that was seen
   pub record Entered {O : Type 0} (legal : B → List (Entry C R) → Type 0) (stands : B → List (Entry C R) → O → Type 0) (b : B) (v : View B C R) (ticket : ℕ) (value : O) (m : Me (Option O) (View B C R)) : Type 0 where

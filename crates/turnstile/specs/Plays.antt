@@ -1,11 +1,13 @@
 -- What each atomic step tells its caller.
 use Rattle.std.specs.Prelude.{◌≡◌, ◌≢◌, ℕ, ◌+◌, ◌^◌, ◌<◌, ◌≤◌, List, [], ◌∷◌, ◌++◌, length, Option, Some}
+use Rattle.std.specs.List.{AllByRecursion}
 use Rattle.atomic_table.specs.Table.{Me, Step}
 use Rattle.turnstile.specs.Ids.{LongerOf}
 use Rattle.turnstile.specs.declared.object.Entry.{Entry}
 use Rattle.turnstile.specs.declared.view.View.{View}
 use Rattle.turnstile.specs.declared.view.Stage.TheVariants.{Rests, Waits, Inside, Posted}
-use Rattle.turnstile.specs.Views.{Others, staged}
+use Rattle.turnstile.specs.Views.{Owned, Others, staged}
+use Rattle.turnstile.specs.Seats.{AreIds}
 
 abbrev At : Type 0 → Type 0
 At O = Step (Option O)
@@ -37,7 +39,7 @@ module _ {B C R O : Type 0} where
   -- the entry was added to all that had been seen
   abbrev pub posted : Option (Entry C R) → At O → Sat B C R O → ℕ → Sat B C R O → Type 0
   posted said st m found m' = (t : ℕ) (e : Entry C R) → m.0.stage ≡ Inside t → said ≡ Some e
-      → (room : ℕ) × (m'.0 ≡ record m.0 { seen = m.0.seen ++ e ∷ []; room = room; stage = Posted t }) × (m'.1 ≡ m.1) × (room ≤ m.0.room) × (m.0.room ≤ room + 1) × (length m.0.seen < 2 ^ 62 → room ≡ m.0.room)
+      → (room : ℕ) × (m'.0 ≡ record m.0 { seen = m.0.seen ++ e ∷ []; room = room; stage = Posted t }) × (m'.1 ≡ m.1) × (room ≤ m.0.room) × (m.0.room ≤ room + 1) × (length m.0.seen < 2 ^ 62 → room ≡ m.0.room) × AreIds m'.0.seen
 
   -- the turn was passed on
   abbrev pub left : At O → Sat B C R O → ℕ → Sat B C R O → Type 0
@@ -49,6 +51,9 @@ module _ {B C R O : Type 0} where
     pub view : m'.0 ≡ record m.0 { seen = seen; other = [] }
     pub slots : m'.1 ≡ m.1
     pub longer : LongerOf m.0.seen m.0.other seen
+    pub ids : AreIds seen
+    -- what it had not seen has none of the ids that it had before it last took over another's
+    pub others : (more : List (Entry C R)) → seen ≡ m.0.seen ++ more → AllByRecursion (λ (e : Entry C R). ¬ Owned m.0 e.by) more
 
   abbrev pub met : At O → Sat B C R O → ℕ → Sat B C R O → Type 0
   met st m found m' = Met m m'

@@ -10,7 +10,8 @@ use Rattle.turnstile.specs.declared.object.Entry.{Entry}
 use Rattle.turnstile.specs.declared.view.View.{View}
 use Rattle.turnstile.specs.declared.view.Stage.{Stage}
 use Rattle.turnstile.specs.declared.view.Stage.TheVariants.{Rests, Waits, Inside, Posted}
-use Rattle.turnstile.specs.Views.{ticketed, InRange, Fresh, Owns, holds_ticket, share_of, room_of}
+use Rattle.turnstile.specs.Views.{ticketed, InRange, Fresh, Owns, Owned, holds_ticket, share_of, room_of}
+use Rattle.turnstile.specs.Seats.{AreIds}
 
 -- a value at home stands for the history; none is at home while one is out
 abbrev pub Homes : {L O : Type 0} → (L → O → Type 0) → L → ℕ → List (maybe.Option (Option O)) → Type 0
@@ -34,11 +35,16 @@ module _ {B C R : Type 0} where
     pub other_begins : IsPrefix v.other log
     -- every entry of one of its ids has been seen
     pub apart : (k : ℕ) (e : Entry C R) → length v.seen ≤ k → length v.other ≤ k → get_elem? log k ≡ some e → ¬ Owns v e.by
+    -- those of the ids that it had before it last took over another's are in what it has seen itself
+    pub own_apart : (k : ℕ) (e : Entry C R) → length v.seen ≤ k → get_elem? log k ≡ some e → ¬ Owned v e.by
+    pub older_is : (x : ℕ) → Among x v.older → Among x v.taken
     -- no entry has one of its later ids, which it may give away
     pub fresh : (k : ℕ) (e : Entry C R) → get_elem? log k ≡ some e → ¬ Fresh v e.by
     -- no id is two seats', and none stands twice
     pub holder_is : (x : ℕ) → Owns v x → holder x ≡ j
     pub taken_is : (x : ℕ) → Among x v.taken → ¬ InRange v x
+    -- its own ids are ids of a turnstile
+    pub within : v.id + v.share ≤ 65537
     -- with a ticket it has an id of its own
     pub turn : ticketed v.stage ≤ v.share
     pub stage : Stands log serving tickets out owner j v v.stage
@@ -57,6 +63,8 @@ module _ {B C R : Type 0} where
     pub owner : ℕ → ℕ
     pub holder : ℕ → ℕ
     pub is_legal : legal base log
+    -- each entry has one of the ids of a turnstile
+    pub ids : AreIds log
     pub words : s.words ≡ length log ∷ tickets ∷ serving ∷ []
     pub counted : (out ≤ 2) × (length log ≡ serving + (out - 1))
     pub busy : 0 < out → serving < tickets

@@ -24,6 +24,10 @@ pub record Standing (B C R : Type 0) : Type 0 where
   -- how many entries after the 2^62nd it may still make
   pub room : ℕ
 
+-- each entry has one of the ids of a turnstile
+abbrev pub AreIds : {C R : Type 0} → List (Entry C R) → Type 0
+AreIds {C} {R} es = AllByRecursion (λ (e : Entry C R). e.by < 65537) es
+
 module _ {B C R : Type 0} where
   -- the seat is one of this turnstile's, and has an id of its own
   pub record IsSeatOf (s : Standing B C R) (t : Site B) : Type 0 where
@@ -74,6 +78,10 @@ module _ {B C R : Type 0} where
     pub seen : List (Entry C R)
     pub view : s' ≡ record s { seen = seen; taken = s.taken ++ (run_of u.id u.share ++ u.taken); room = s.room + u.room }
     pub longer : LongerOf s.seen u.seen seen
+
+  -- what a seat has learned, without a call of its own, are entries of other seats
+  abbrev pub LearnsOthers : Standing B C R → Standing B C R → Type 0
+  LearnsOthers s s' = (more : List (Entry C R)) → s'.seen ≡ s.seen ++ more → Others s more
 
   -- the seat s was told what the seat u had seen, and nothing else of it has changed
   pub record Told (s u s' : Standing B C R) : Type 0 where

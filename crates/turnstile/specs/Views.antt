@@ -28,6 +28,10 @@ module _ {B C R : Type 0} where
   abbrev pub Owns : View B C R → ℕ → Type 0
   Owns v x = OwnsId v.id v.share v.taken x
 
+  -- the id was one of the seat's before it last took over another's
+  abbrev pub Owned : View B C R → ℕ → Type 0
+  Owned v x = OwnsId v.id v.share v.older x
+
   -- these entries are other seats'
   abbrev pub Others : View B C R → List (Entry C R) → Type 0
   Others v es = AllByRecursion (λ (e : Entry C R). ¬ Owns v e.by) es
@@ -44,7 +48,7 @@ module _ {B C R : Type 0} where
 
   -- the first seat: the steward's and the first caller's in one
   abbrev pub first_view : Start B → View B C R
-  first_view k = record { base = Some k.base; seen = []; other = []; id = 0; share = 1 + k.share; taken = []; room = 1024 + k.share; stage = Rests }
+  first_view k = record { base = Some k.base; seen = []; other = []; id = 0; share = 1 + k.share; taken = []; older = []; room = 1024 + k.share; stage = Rests }
 
   -- the same seat at another stage
   abbrev pub staged : View B C R → Stage → View B C R
@@ -56,12 +60,12 @@ module _ {B C R : Type 0} where
 
   -- the new seat has them, and has seen as much
   abbrev pub given : ℕ → View B C R → View B C R
-  given k v = record { base = v.base; seen = v.seen; other = []; id = v.id + (v.share - k); share = k; taken = []; room = k; stage = Rests }
+  given k v = record { base = v.base; seen = v.seen; other = []; id = v.id + (v.share - k); share = k; taken = []; older = []; room = k; stage = Rests }
 
   -- the seat takes over the ids of another
   abbrev pub joined : View B C R → View B C R → View B C R
-  joined v u = record v { other = u.seen; taken = v.taken ++ (run_of u.id u.share ++ u.taken); room = v.room + u.room }
+  joined v u = record v { other = u.seen; taken = v.taken ++ (run_of u.id u.share ++ u.taken); older = v.taken; room = v.room + u.room }
 
   -- what is left of the other
   abbrev pub spent : View B C R
-  spent = record { base = None; seen = []; other = []; id = 0; share = 0; taken = []; room = 0; stage = Rests }
+  spent = record { base = None; seen = []; other = []; id = 0; share = 0; taken = []; older = []; room = 0; stage = Rests }

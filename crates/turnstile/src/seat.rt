@@ -1,5 +1,6 @@
 // A seat at a turnstile.
 ghost use Rattle.std.specs.Prelude.{◌≡◌, ◌+◌, ◌<◌, ◌≤◌, length};
+ghost use Rattle.turnstile.specs.Seats.{AreIds};
 
 use crate::object::Object;
 use crate::view::Place;
@@ -44,7 +45,8 @@ impl<O: Object> Seat<O> {
 
     /// The number of the last entry that the seat has seen.
     pub fn seen(&self) -> u64
-        ensures { result ≡ length self.now.seen }
+        ensures number { result ≡ length self.now.seen }
+        ensures ids { AreIds self.now.seen }
     {
         self.seen
     }

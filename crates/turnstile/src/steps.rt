@@ -5,7 +5,7 @@ ghost use Rattle.turnstile.specs.declared.view.Stage.TheVariants.{Rests, Waits, 
 ghost use Rattle.turnstile.specs.Views.{staged, keeps_all_but, given, first_view};
 ghost use Rattle.turnstile.specs.Plays.{Comes};
 ghost use Rattle.turnstile.specs.Objects.{entry_of};
-ghost use Rattle.turnstile.specs.Seats.{MayCall, HasRoom, Called, Joined, Told};
+ghost use Rattle.turnstile.specs.Seats.{AreIds, MayCall, HasRoom, Called, Joined, LearnsOthers, Told};
 ghost use Rattle.turnstile.specs.Places.{Fits, standing_of, Rested, Entered};
 
 use crate::object::{Clock, Object};
@@ -88,6 +88,7 @@ fn post<O: Object, N: Said<O::Call, O::Reply>>(
     requires said { (e : Entry O.Call O.Reply) × (N.entry ≡ Some e) × (e.by ≡ place.old.me.0.id) × O.legal turns.now.key.base (place.old.me.0.seen ++ e ∷ []) }
     ensures same { place.new.table_id ≡ place.old.table_id }
     ensures posted { (e : Entry O.Call O.Reply) → N.entry ≡ Some e → (room : ℕ) × (place.new.me ≡ (record place.old.me.0 { seen = place.old.me.0.seen ++ e ∷ []; room = room; stage = Posted ticket }, place.old.me.1)) × (room ≤ place.old.me.0.room) × (place.old.me.0.room ≤ room + 1) × (length place.old.me.0.seen < 2 ^ 62 → room ≡ place.old.me.0.room) }
+    ensures ids { AreIds place.new.me.0.seen }
 {
     turns.fetch_add::<Post<N>>(place, 0, 1);
 }
@@ -106,6 +107,7 @@ fn post_call<O: Object, C: Clock>(
     requires said { (id ≡ place.old.me.0.id) × O.legal turns.now.key.base (place.old.me.0.seen ++ entry_of id C.now call.now.value reply.now ∷ []) }
     ensures same { place.new.table_id ≡ place.old.table_id }
     ensures posted { (room : ℕ) × (place.new.me ≡ (record place.old.me.0 { seen = place.old.me.0.seen ++ entry_of id C.now call.now.value reply.now ∷ []; room = room; stage = Posted ticket }, place.old.me.1)) × (room ≤ place.old.me.0.room) × (place.old.me.0.room ≤ room + 1) × (length place.old.me.0.seen < 2 ^ 62 → room ≡ place.old.me.0.room) }
+    ensures ids { AreIds place.new.me.0.seen }
 {
     post::<O, Brand>(turns, place, ticket, id, call, reply);
 }
@@ -146,6 +148,7 @@ pub(crate) fn take_turn<O: Object, C: Clock, R: Wait, G: Gate>(
     ensures rests { Rested place.new.me }
     ensures call { Called O.legal turns.now.key.base C.now (standing_of place.old) call result.0 (standing_of place.new) }
     ensures number { result.1 ≡ length place.new.me.0.seen }
+    ensures ids { AreIds place.new.me.0.seen }
 {
     let (ticket, mut value) = enter(rt, turns, place);
     gate.within(leaf, table);
@@ -212,6 +215,8 @@ pub(crate) fn take_over<O: Object>(turns: &Turns<O>, place: &mut Place<O>, other
     requires rests { Rested place.old.me × Rested other.me }
     ensures rests { Rested place.new.me }
     ensures joined { Joined (standing_of place.old) (standing_of other) (standing_of place.new) }
+    ensures learned { LearnsOthers (standing_of place.old) (standing_of place.new) }
+    ensures ids { AreIds place.new.me.0.seen }
 {
     turns.join_seat::<TakeOver>(place, other);
     turns.load::<Meet>(place, 0);
@@ -225,6 +230,8 @@ pub(crate) fn tell<O: Object>(turns: &Turns<O>, from: &mut Place<O>, to: &mut Pl
     ensures from { (from.new.table_id ≡ from.old.table_id) × (from.new.me ≡ from.old.me) }
     ensures rests { Rested to.new.me }
     ensures told { Told (standing_of to.old) (standing_of from.old) (standing_of to.new) }
+    ensures learned { LearnsOthers (standing_of to.old) (standing_of to.new) }
+    ensures ids { AreIds to.new.me.0.seen }
 {
     let note = cut_off(turns, from, 0);
     take_over(turns, to, note);

@@ -25,6 +25,8 @@ pub struct View<B, C, R> {
     pub share: u64,
     /// The ids that it took over. A clause reads an array as a list, of any length.
     pub taken: [u64; 0],
+    /// Those of them that it had before it last took over another's.
+    pub older: [u64; 0],
     /// How many entries after the 2^62nd it may still make.
     pub room: u64,
     pub stage: Stage,

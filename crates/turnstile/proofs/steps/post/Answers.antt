@@ -11,3 +11,6 @@ fetch_add-requires g c = let said = c.requires.said in (
 
 pub returns-clause-posted : goal.returns-clause-posted
 returns-clause-posted g c = λ e q. let t = c.fetch_add.ensures.2 c.args.ticket e c.requires.turn.0 q in (t.0, (λ i. (t.1 i, t.2 i)), t.3, t.4, t.5)
+
+pub returns-clause-ids : goal.returns-clause-ids
+returns-clause-ids g c = let said = c.requires.said in let t = c.fetch_add.ensures.2 c.args.ticket said.0 c.requires.turn.0 said.1 in t.6
