@@ -1,16 +1,14 @@
 -- A play from its beginning to its end.
-use Rattle.std.proofs.Common.{◌≡◌, ℕ, zero, suc, ◌+◌, ◌*◌, ◌<◌, ◌≤◌, List, [], ◌∷◌, ◌++◌, length, refl, sym, ap, subst, ◌∙◌, arith, Option, Some, None}
-use Rattle.std.specs.Prelude.{IsTrue, slice_index_or}
+use Rattle.std.proofs.Common.{◌≡◌, ℕ, ◌*◌, ◌<◌, List, [], ◌∷◌, length, refl, sym, subst, arith, Option, Some}
+use Rattle.std.specs.Prelude.{slice_index_or}
 use Rattle.std.specs.List.{AllByRecursion, remove}
 use Rattle.berth_face.specs.Berth.{Meaning}
-use Rattle.leaf_model.specs.declared.writes.Write.{Write}
 use Rattle.region_layout.specs.Region.{AreDistinct}
 use Rattle.region_layout.specs.Names.{AreNames, IsName}
 use Rattle.script_text.specs.declared.command.Command.{Command}
 use Rattle.script_text.specs.declared.command.Command.TheVariants as command
 use Rattle.script_text.specs.Fits.{AreTables, IsTableName, IsCommand, AreCommands}
 use Rattle.script_text.specs.Fits as fits
-use Rattle.printed_lines.specs.Lines.{lines_text}
 use Rattle.transcript.specs.Life.{Down}
 use Rattle.transcript.specs.Laws.{IsToldRun}
 use Rattle.transcript.specs.Steps.{MayPlay}
@@ -19,7 +17,7 @@ use Rattle.transcript.specs.Session.{one_leaf, scene_of}
 use Rattle.transcript.proofs.Lists.{All-weaken}
 use Rattle.leaf_opening.proofs.Resting.{backed_rests}
 use Rattle.transcript.proofs.Ended.{ended}
-use Rattle.play.specs.Played.{IsTold, Counted, OverFirst, IsWritten, leaf_count, names_in}
+use Rattle.play.specs.Played.{IsTold, OverFirst, IsWritten, names_in}
 use Rattle.play.specs.Runs.{IsRun}
 use Rattle.play.proofs.Plays.{appends_nothing}
 
@@ -43,7 +41,7 @@ names_are (command.Fleet m p tables ∷ more) c some = tables_are_names tables c
 names_are (command.Add leaf table rows ∷ more) c some = absurd c
 names_are (command.Query q ∷ more) c some = absurd c
 names_are (command.Flush leaf table ∷ more) c some = absurd c
-names_are (command.Drain leaf ∷ more) c some = absurd c
+names_are (command.Drain leaf stop ∷ more) c some = absurd c
 names_are (command.Kill leaf ∷ more) c some = absurd c
 names_are (command.Start leaf ∷ more) c some = absurd c
 
@@ -54,7 +52,7 @@ may_later names (command.Fleet m p ts) h = absurd h
 may_later names (command.Add leaf table rows) h = h
 may_later names (command.Query q) h = h
 may_later names (command.Flush leaf table) h = h
-may_later names (command.Drain leaf) h = h
+may_later names (command.Drain leaf stop) h = h
 may_later names (command.Kill leaf) h = h
 may_later names (command.Start leaf) h = h
 
@@ -64,7 +62,7 @@ all_may_play (command.Fleet m p tables ∷ more) c = (tt, All-weaken (IsCommand 
 all_may_play (command.Add leaf table rows ∷ more) c = absurd c
 all_may_play (command.Query q ∷ more) c = absurd c
 all_may_play (command.Flush leaf table ∷ more) c = absurd c
-all_may_play (command.Drain leaf ∷ more) c = absurd c
+all_may_play (command.Drain leaf stop ∷ more) c = absurd c
 all_may_play (command.Kill leaf ∷ more) c = absurd c
 all_may_play (command.Start leaf ∷ more) c = absurd c
 
@@ -122,7 +120,7 @@ some_commands (command.Fleet m p tables ∷ more) c some = (one_fleet m p tables
 some_commands (command.Add leaf table rows ∷ more) c some = absurd c
 some_commands (command.Query q ∷ more) c some = absurd c
 some_commands (command.Flush leaf table ∷ more) c some = absurd c
-some_commands (command.Drain leaf ∷ more) c some = absurd c
+some_commands (command.Drain leaf stop ∷ more) c some = absurd c
 some_commands (command.Kill leaf ∷ more) c some = absurd c
 some_commands (command.Start leaf ∷ more) c some = absurd c
 

@@ -1,6 +1,6 @@
 -- The faults of a text alone are its own: none of them is that of a caller's limit.
-use Rattle.std.proofs.Common.{◌≡◌, ℕ, zero, suc, ◌+◌, ◌==◌, ◌&&◌, Bool, true, false, List, [], ◌∷◌, ◌++◌, length, refl, sym, ap, subst, ◌∙◌, Option, Some, None, Result, Ok, Err}
-use Rattle.std.specs.Prelude.{if◌then◌else◌, take, nat_lt, nat_le}
+use Rattle.std.proofs.Common.{◌≡◌, ℕ, zero, suc, ◌+◌, Bool, true, false, List, [], ◌∷◌, length, subst, Option, Some, None, Result, Ok, Err}
+use Rattle.std.specs.Prelude.{if◌then◌else◌, take, nat_lt}
 use Rattle.berth_face.specs.Streams.{ReadsAll, TakesAtMost}
 use Rattle.leaf_model.specs.declared.queries.Query.{Query}
 use Rattle.leaf_model.specs.declared.rows.Row.{Row}
@@ -10,14 +10,13 @@ use Rattle.script_text.specs.declared.command.Command.{Command}
 use Rattle.script_text.specs.declared.command.Command.TheVariants as command
 use Rattle.script_text.specs.declared.fault.Why.{Why}
 use Rattle.script_text.specs.declared.fault.Why.TheVariants as why
-use Rattle.script_text.specs.declared.script.Script.{Script}
 use Rattle.script_text.specs.declared.verb.Verb.{Verb}
 use Rattle.script_text.specs.declared.verb.Verb.TheVariants as verb
 use Rattle.script_text.specs.Lines.{lines_of, is_skipped}
 use Rattle.script_text.specs.Words.{words_of, first_word, behind_word, trimmed, place_of}
 use Rattle.query_text.specs.Reading.{query_of}
 use Rattle.query_text.specs.declared.fault.QueryFault.{QueryFault}
-use Rattle.script_text.specs.Commands.{Fault, AddForm, or_words, fleet_of, add_words, one_row, with_first, rows_from, add_rows, add_at, add_of, query_at, one_query, query_command, one_number, leaf_of, flush_at, flush_of, flush_words, kill_of, FlushForm, drain_of, start_of, first_command, later_command, command_of, verb_of, leaves}
+use Rattle.script_text.specs.Commands.{Fault, AddForm, or_words, fleet_of, add_words, one_row, with_first, rows_from, add_rows, add_at, add_of, query_at, one_query, query_command, one_number, leaf_of, flush_at, flush_of, flush_words, kill_of, FlushForm, DrainForm, drain_words, drain_of, start_of, first_command, later_command, command_of, verb_of, leaves}
 use Rattle.script_text.specs.Script.{rows_taken, fleet_after, commands_from, number_in, next_line, script_with, script_of}
 use Rattle.script_text.specs.declared.fault.ScriptFault.{ScriptFault}
 use Rattle.script_text.specs.declared.fault.ScriptFault.TheVariants.{At, NoMemory}
@@ -92,9 +91,9 @@ own_leaf : (n : ℕ) (leaf : Option ℕ) → Own (leaf_of n leaf)
 own_leaf n None = tt
 own_leaf n (Some leaf) = own_if {X = ℕ} (nat_lt leaf leaves) (Ok leaf) (Err (n, why.Leaf)) tt tt
 
-own_drain : (r : Result ℕ Fault) → Own r → Own (drain_of r)
-own_drain (Ok leaf) h = tt
-own_drain (Err found) h = h
+own_drain : (n : ℕ) (drain : Option DrainForm) → Own (drain_of n drain)
+own_drain n None = tt
+own_drain n (Some drain) = own_if {X = Command} (nat_lt drain.leaf leaves) (Ok (command.Drain drain.leaf drain.stop)) (Err (n, why.Leaf)) tt tt
 
 own_flush_at : (n leaf : ℕ) (place : Option ℕ) → Own (flush_at n leaf place)
 own_flush_at n leaf None = tt
@@ -130,7 +129,7 @@ own_later n tables line more (Some verb.Add) = own_add n tables (add_words (word
 own_later n tables line more (Some verb.Query) = own_query n tables (query_of (trimmed (behind_word line)))
 own_later n tables line more (Some verb.Flush) = own_flush n tables (flush_words (words_of (behind_word line)))
 own_later n tables line more (Some verb.Kill) = own_kill (leaf_of n (one_number (words_of (behind_word line)))) (own_leaf n (one_number (words_of (behind_word line))))
-own_later n tables line more (Some verb.Drain) = own_drain (leaf_of n (one_number (words_of (behind_word line)))) (own_leaf n (one_number (words_of (behind_word line))))
+own_later n tables line more (Some verb.Drain) = own_drain n (drain_words (words_of (behind_word line)))
 own_later n tables line more (Some verb.Start) = own_start (leaf_of n (one_number (words_of (behind_word line)))) (own_leaf n (one_number (words_of (behind_word line))))
 
 own_command : (n : ℕ) (fleet : Option (List (List ℕ))) (line : List ℕ) (more : List (List ℕ)) → Own (command_of n fleet line more)

@@ -1,19 +1,17 @@
 -- A play goes on by one command.
-use Rattle.std.proofs.Common.{◌≡◌, ℕ, zero, suc, ◌+◌, ◌-◌, ◌^◌, ◌<◌, ◌≤◌, min, ◌==◌, ◌&&◌, Bool, true, false, List, [], ◌∷◌, ◌++◌, length, refl, sym, ap, subst, ◌∙◌, arith, Option, Some, None}
+use Rattle.std.proofs.Common.{◌≡◌, ℕ, ◌+◌, ◌==◌, ◌&&◌, Bool, List, [], ◌∷◌, ◌++◌, length, refl, sym, ap, subst, ◌∙◌, arith, Option, Some, None}
 use Rattle.std.specs.Prelude.{IsTrue, if◌then◌else◌, replicate}
-use Rattle.std.specs.List.{flat_map, AllByRecursion}
 use Rattle.std.specs.Io.KnownBytes.{Appends}
 use Rattle.std.proofs.lemmas.Grind.{flat_map-append}
 use Rattle.std.proofs.lemmas.List.{append-nil, append_assoc}
 use Rattle.berth_face.specs.Berth.{Meaning, Passes}
-use Rattle.leaf_model.specs.declared.writes.Write.{Write}
 use Rattle.region_layout.specs.Region.{AreDistinct}
 use Rattle.script_text.specs.declared.command.Command.{Command}
 use Rattle.printed_lines.specs.declared.line.Ending.{Ending}
 use Rattle.printed_lines.specs.declared.line.Line.{Line}
 use Rattle.printed_lines.specs.declared.line.Line.TheVariants as line
 use Rattle.printed_lines.specs.Lines.{line_text, lines_text}
-use Rattle.transcript.specs.Steps.{Leaf, IsDown, MayPlay, Plays}
+use Rattle.transcript.specs.Steps.{Leaf, IsDown, MayPlay}
 use Rattle.transcript.specs.Transcript.{is_region_fault, is_disk_fault, endings_in, region_faults_in, disk_faults_in}
 use Rattle.leaf_opening.proofs.Resting.{backed_rests}
 use Rattle.transcript.proofs.Playing.{begins, plays_on}
@@ -90,5 +88,5 @@ run_goes_on names old now new was written after commands leaf leaf' numbers numb
       (endings_append is_disk_fault run.lines step.lines) run.disk_counted step.disk_counted;
   keeps = keeps_on old now new run.keeps passes;
   session = λ told way first rests way_is. plays_on names way first commands run.lines leaf leaf' now new numbers numbers' c step.lines
-      (backed_rests now) (subst IsTrue (sym run.keeps.tells) told) may (run.session told way first rests way_is) step.plays;
+      (backed_rests now) (backed_rests new) (subst IsTrue (sym run.keeps.tells) told) may (run.session told way first rests way_is) step.plays;
 }

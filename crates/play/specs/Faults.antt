@@ -1,5 +1,5 @@
 -- What a status says to the one who ran the program.
-use Rattle.std.specs.Prelude.{ℕ, ◌==◌, List, [], ◌∷◌, ◌++◌, decimal, codes, if◌then◌else◌}
+use Rattle.std.specs.Prelude.{ℕ, ◌==◌, List, [], ◌++◌, decimal, codes, if◌then◌else◌}
 use Rattle.serde_json.specs.Data.{string}
 use Rattle.serde_json.specs.Written.{compact_text}
 use Rattle.row_json.specs.declared.object.RowFault.{RowFault}

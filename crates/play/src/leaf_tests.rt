@@ -105,6 +105,13 @@ fn a_fault_of_the_disk_is_told_and_made_good(rt: HostRuntime) -> Result<(), test
             "fleet 1 1 errors perf\nadd 0 errors 1\n{\"time\":1}\ndrain 0\nadd 0 perf 1\n{\"time\":2}\ndrain 0\n",
             "0 errors #1 opened 0\n0 perf #1 opened 0\nstart 0 disk nohead\n0 errors #2 added 1 late 0\n0 errors #3 closed 1\ndrain 0 fault disk\n0 perf #2 added 1 late 0\n0 errors #4 flushed 1\n0 perf #3 closed 1\n0 perf #4 flushed 1\n0 errors #5 handed\n0 perf #5 handed\ndrain 0 done\n",
         ),
+        // The table that was shut before is flushed by the one step, and the other is closed by the kill.
+        (
+            Method::DiskSync,
+            2,
+            "fleet 1 1 errors perf\nadd 0 errors 1\n{\"time\":1}\ndrain 0\ndrain 0 stop 1\nstart 0\n",
+            "0 errors #1 opened 0\n0 perf #1 opened 0\nstart 0 disk nohead\n0 errors #2 added 1 late 0\n0 errors #3 closed 1\ndrain 0 fault disk\n0 errors #4 flushed 1\n0 perf #2 closed 0\ndrain 0 stopped\n0 errors #5 opened 1\n0 perf #3 opened 0\nstart 0 disk nohead\n",
+        ),
         (
             Method::DiskWrite,
             2,
@@ -128,6 +135,41 @@ fn a_fault_of_the_disk_is_told_and_made_good(rt: HostRuntime) -> Result<(), test
         let (status, sink) = play(alloc, &mut berths, script)?;
         assert!(rt; matches!(status, Status::Done));
         assert_eq!(rt; sink.bytes(), want.as_bytes());
+    }
+    Ok(())
+}
+
+#[test]
+fn a_stopped_drain_leaves_what_its_steps_made(rt: HostRuntime) -> Result<(), test::Fail> {
+    let alloc = rt.alloc();
+    let flushed_before_the_region =
+        "0 errors #3 closed 1\n0 errors #4 flushed 1\ndrain 0 stopped\n0 errors #5 opened 1\nstart 0 disk nohead\n";
+    let flushed_inside_the_region =
+        "0 errors #3 closed 1\n0 errors #4 flushed 1\ndrain 0 stopped\n0 errors #5 opened 1\nstart 0 disk closed 0\n";
+    for (stop, lines) in [
+        (
+            0,
+            "0 errors #3 closed 1\ndrain 0 stopped\n0 errors #4 opened 0\nstart 0 disk nohead\n",
+        ),
+        (1, flushed_before_the_region),
+        (2, flushed_before_the_region),
+        (3, flushed_inside_the_region),
+        (4, flushed_inside_the_region),
+        (
+            5,
+            "0 errors #3 closed 1\n0 errors #4 flushed 1\n0 errors #5 handed\ndrain 0 done\n0 errors #6 opened 1\nstart 0 memory\n",
+        ),
+    ] {
+        let script = format!(in alloc;
+            "fleet 1 1 errors\nadd 0 errors 1\n{{\"time\":1}}\ndrain 0 stop {stop}\nstart 0\n"
+        )?;
+        let want = format!(in alloc;
+            "0 errors #1 opened 0\nstart 0 disk nohead\n0 errors #2 added 1 late 0\n{lines}"
+        )?;
+        let mut berths = berths_over(alloc, b"")?;
+        let (status, sink) = play(alloc, &mut berths, script.as_str())?;
+        assert!(rt; matches!(status, Status::Done));
+        assert_eq!(rt; sink.bytes(), want.as_bytes(), "at stop {stop}");
     }
     Ok(())
 }

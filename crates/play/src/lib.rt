@@ -3,6 +3,8 @@
 
 mod berths;
 mod count;
+#[cfg(test)]
+mod crash_tests;
 mod faults;
 #[cfg(test)]
 mod leaf_tests;

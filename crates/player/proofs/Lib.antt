@@ -3,6 +3,8 @@ pub mod Noted
 pub mod Placed
 pub mod Told
 pub mod Treated
+pub mod Counted
+pub mod Copied
 pub mod Drained
 pub mod Moved
 pub mod Replied

@@ -1,12 +1,8 @@
 -- What the leaf's methods do, by what it is.
-use Rattle.std.proofs.Common.{◌≡◌, ◌≢◌, ℕ, suc, ◌+◌, ◌<◌, ◌≤◌, Bool, true, false, List, [], ◌∷◌, length, slice_get, slice_set, Some, None, Result, Ok, Err, refl, sym, ap, subst, ◌∙◌, arith}
-use Rattle.std.specs.Prelude.{IsTrue, nat_lt}
-use Rattle.leaf_model.specs.declared.rows.Row.{Row}
+use Rattle.std.proofs.Common.{◌≡◌, ◌≢◌, ℕ, ◌<◌, List, [], length, None, refl, sym, ap, subst, ◌∙◌, arith}
+use Rattle.std.specs.Prelude.{IsTrue}
 use Rattle.leaf_model.specs.declared.writes.Write.{Write}
-use Rattle.berth_face.specs.Berth.{Meaning, Passes}
-use Rattle.berth_face.specs.Causes.{Rose}
-use Rattle.table_state.specs.declared.fault.Added.{Added}
-use Rattle.table_state.specs.declared.fault.AddFault.{AddFault}
+use Rattle.berth_face.specs.Berth.{Meaning}
 use Rattle.leaf_opening.specs.declared.ways.Way.{Way}
 use Rattle.leaf_opening.specs.declared.ways.StartFault.{StartFault}
 use Rattle.leaf_opening.specs.declared.ways.StartFault.TheVariants as fault
@@ -15,19 +11,13 @@ use Rattle.leaf_opening.specs.Backed.{Backed, Rests, GoesOn}
 use Rattle.leaf_opening.specs.Starts.{Started, IsWayOf, AreFresh}
 use Rattle.leaf_machine.specs.declared.notes.Note.{Note}
 use Rattle.leaf_machine.specs.declared.up.FlushReply.{FlushReply}
-use Rattle.leaf_machine.specs.declared.up.FlushReply.TheVariants as reply
 use Rattle.leaf_machine.specs.Notes.{opened_notes}
-use Rattle.leaf_machine.specs.Shutting.{Shutting, IsShutting, first_open}
-use Rattle.leaf_machine.specs.Tables.{Adds}
 use Rattle.leaf_machine.specs.Flushes.{Flushes}
-use Rattle.leaf_machine.specs.Steps.{shutting_with}
-use Rattle.printed_lines.specs.declared.line.Said.{Said}
-use Rattle.printed_lines.specs.declared.line.Said.TheVariants as said
 use Rattle.printed_lines.specs.declared.line.Ending.{Ending}
 use Rattle.printed_lines.specs.declared.line.Ending.TheVariants as ending
 use Rattle.transcript.specs.Steps as step
 use Rattle.transcript.specs.Steps.{Leaf, IsDown, IsUp, IsPreparing, AddsOpen, AddsPreparing, Continues, StartMoves, FlushMoves, KillMoves, ending_of, ending_of_flush, is_shut, said_of}
-use Rattle.player.specs.Moves.{ArePlaces, FaultRose}
+use Rattle.player.specs.Moves.{ArePlaces}
 use Rattle.player.proofs.Placed.{opened_places}
 
 -- ---- what a leaf is not

@@ -1,6 +1,6 @@
 -- What a leaf replies to an add and to a query.
-use Rattle.std.proofs.Common.{◌≡◌, ℕ, suc, ◌<◌, Bool, true, false, List, [], ◌∷◌, ◌++◌, length, slice_get, Some, Result, Ok, Err, refl, sym, ap, ap₂, subst, ◌∙◌}
-use Rattle.std.specs.Prelude.{slice_index, slice_index_or, IfOk}
+use Rattle.std.proofs.Common.{◌≡◌, ℕ, ◌<◌, Bool, false, List, length, slice_get, Some, Result, Ok, Err, sym, ap, subst, ◌∙◌}
+use Rattle.std.specs.Prelude.{slice_index_or, IfOk}
 use Rattle.std.proofs.lemmas.Option.{slice_get-get_or}
 use Rattle.std.proofs.lemmas.Result.{IfOk-weaker}
 use Rattle.leaf_model.specs.declared.groups.Group.{Group}
@@ -11,10 +11,6 @@ use Rattle.leaf_opening.specs.Serving.{Serving}
 use Rattle.leaf_machine.specs.Shutting.{Shutting}
 use Rattle.leaf_machine.specs.Tables.{Asks}
 use Rattle.printed_lines.specs.declared.line.Said.{Said}
-use Rattle.printed_lines.specs.declared.line.Said.TheVariants as said
-use Rattle.printed_lines.specs.declared.line.Line.{Line}
-use Rattle.printed_lines.specs.declared.line.Line.TheVariants as line
-use Rattle.transcript.specs.Transcript.{named}
 use Rattle.transcript.specs.Steps as step
 use Rattle.transcript.specs.Steps.{Leaf, IsUp, IsPreparing, AsksOpen, AsksPreparing, QueryStep, is_shut, next_line, raised}
 use Rattle.player.specs.declared.answer.Reply.{Reply}

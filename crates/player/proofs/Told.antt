@@ -1,20 +1,18 @@
 -- A command's lines: what they tell, and of which tables.
-use Rattle.std.proofs.Common.{◌≡◌, ℕ, suc, ◌+◌, ◌-◌, ◌^◌, ◌≤◌, ◌<◌, List, [], ◌∷◌, ◌++◌, length, Result, Ok, Err, Vec, Global, refl, sym, ap, subst, ◌∙◌, arith, rules}
+use Rattle.std.proofs.Common.{◌≡◌, ℕ, ◌+◌, ◌-◌, ◌^◌, ◌≤◌, List, [], ◌∷◌, ◌++◌, length, Result, Ok, Err, Vec, Global, refl, sym, ap, subst, ◌∙◌, arith, rules}
 use Rattle.std.specs.Prelude.{min, IfOk, MatchResult}
 use Rattle.std.specs.List.{AllByRecursion}
 use Rattle.std.proofs.lemmas.Result.{IfOk-weaker}
 use Rattle.berth_face.specs.Berth.{Meaning, Passes}
-use Rattle.berth_face.specs.Causes.{Rose}
 use Rattle.leaf_machine.specs.declared.notes.Note.{Note}
-use Rattle.printed_lines.specs.declared.line.Said.{Said}
 use Rattle.printed_lines.specs.declared.line.Verb.{Verb}
 use Rattle.printed_lines.specs.declared.line.Ending.{Ending}
-use Rattle.printed_lines.specs.declared.line.Ending.TheVariants.{Done, NotUp, NotDown, Started, FaultRegion, FaultDisk, FaultDamaged, FaultMemory, FaultStranger}
+use Rattle.printed_lines.specs.declared.line.Ending.TheVariants.{Done, Stopped, NotUp, NotDown, Started, FaultRegion, FaultDisk, FaultDamaged, FaultMemory, FaultStranger}
 use Rattle.printed_lines.specs.declared.line.Line.{Line}
 use Rattle.printed_lines.specs.declared.line.Line.TheVariants as line
 use Rattle.printed_lines.specs.Lines.{IsOf}
-use Rattle.transcript.specs.Transcript.{endings_in, is_region_fault, is_disk_fault, region_faults_in, disk_faults_in}
-use Rattle.transcript.specs.Steps.{StewardLines, Untouched, note_lines, numbers_after, raised, next_line}
+use Rattle.transcript.specs.Transcript.{region_faults_in, disk_faults_in}
+use Rattle.transcript.specs.Steps.{StewardLines, Untouched, note_lines, raised}
 use Rattle.player.specs.Moves.{ArePlaces, AreTold, AreSound, FaultRose}
 
 -- ---- faults
@@ -43,6 +41,7 @@ region_counted verb FaultDamaged m m' time rose = not_more m.region_faults m'.re
 region_counted verb FaultMemory m m' time rose = not_more m.region_faults m'.region_faults time.region_faults
 region_counted verb (FaultStranger name) m m' time rose = not_more m.region_faults m'.region_faults time.region_faults
 region_counted verb Done m m' time rose = not_more m.region_faults m'.region_faults time.region_faults
+region_counted verb Stopped m m' time rose = not_more m.region_faults m'.region_faults time.region_faults
 region_counted verb NotUp m m' time rose = not_more m.region_faults m'.region_faults time.region_faults
 region_counted verb NotDown m m' time rose = not_more m.region_faults m'.region_faults time.region_faults
 region_counted verb (Started way) m m' time rose = not_more m.region_faults m'.region_faults time.region_faults
@@ -55,6 +54,7 @@ disk_counted verb FaultDamaged m m' time rose = not_more m.disk_faults m'.disk_f
 disk_counted verb FaultMemory m m' time rose = not_more m.disk_faults m'.disk_faults time.disk_faults
 disk_counted verb (FaultStranger name) m m' time rose = not_more m.disk_faults m'.disk_faults time.disk_faults
 disk_counted verb Done m m' time rose = not_more m.disk_faults m'.disk_faults time.disk_faults
+disk_counted verb Stopped m m' time rose = not_more m.disk_faults m'.disk_faults time.disk_faults
 disk_counted verb NotUp m m' time rose = not_more m.disk_faults m'.disk_faults time.disk_faults
 disk_counted verb NotDown m m' time rose = not_more m.disk_faults m'.disk_faults time.disk_faults
 disk_counted verb (Started way) m m' time rose = not_more m.disk_faults m'.disk_faults time.disk_faults

@@ -1,18 +1,17 @@
 -- Steps of a leaf that shuts its tables, one behind another.
-use Rattle.std.proofs.Common.{◌≡◌, ℕ, zero, suc, ◌-◌, ◌<◌, ◌≤◌, Bool, true, false, cond, List, [], ◌∷◌, ◌++◌, length, slice_get, slice_set, Option, Some, None, refl, sym, ap, subst, ◌∙◌, append_assoc, arith}
-use Rattle.std.specs.Prelude.{IsTrue, IsSome}
+use Rattle.std.proofs.Common.{◌≡◌, ℕ, zero, suc, ◌<◌, ◌≤◌, Bool, true, false, cond, List, [], ◌∷◌, ◌++◌, length, slice_get, Option, Some, None, refl, sym, ap, subst, ◌∙◌, append_assoc, arith}
 use Rattle.std.specs.Str.{bytes_eq}
 use Rattle.std.proofs.lemmas.List.{append-nil, length-set}
 use Rattle.std.proofs.lemmas.Option.{slice_get_within}
 use Rattle.leaf_model.specs.declared.writes.Write.{Write}
 use Rattle.row_records.specs.Records.{LogRecord}
-use Rattle.berth_face.specs.Berth.{Meaning, Passes}
+use Rattle.berth_face.specs.Berth.{Meaning}
 use Rattle.table_state.specs.Tables.{Table}
 use Rattle.disk_backup.specs.Settling.{with_writes}
 use Rattle.leaf_opening.specs.Serving.{Serving}
-use Rattle.leaf_opening.specs.Backed.{Backed, GoesOn, untaken, untaken_of, writes_in, all_writes}
+use Rattle.leaf_opening.specs.Backed.{Backed, untaken, untaken_of, writes_in, all_writes}
 use Rattle.leaf_machine.specs.declared.notes.Note.{Note}
-use Rattle.leaf_machine.specs.Shutting.{Shutting, IsShutting, first_open}
+use Rattle.leaf_machine.specs.Shutting.{Shutting, IsShutting}
 use Rattle.leaf_machine.specs.Flushes.{taken}
 use Rattle.leaf_machine.specs.Prepares as prepare
 use Rattle.leaf_machine.specs.Prepares.{Treats, Halts, AllTreated}
@@ -48,14 +47,14 @@ continues_none s a = record { goes_on = λ writes backed. (writes, backed, λ na
 within_whole : (x : Shutting) (t : Table) → slice_get x.serving.tables x.treated ≡ Some t → x.treated < length x.serving.tables
 within_whole x t at = slice_get_within x.serving.tables x.treated t at
 
--- fewer tables are left
-pub fewer : (x y : Shutting) (notes : List Note) → Treats x y notes → length y.serving.tables - y.treated < length x.serving.tables - x.treated
-fewer x y notes (prepare.whole t shut at noted tables owed treated open_) =
-    let size : length y.serving.tables ≡ length x.serving.tables = ap length tables ∙ length-set x.serving.tables x.treated (taken t) in
-    omega (arith, size, treated, within_whole x t at)
-fewer x y notes (prepare.rest t shut at noted tables owed treated open_) =
-    let size : length y.serving.tables ≡ length x.serving.tables = ap length tables in
-    omega (arith, size, treated, within_whole x t at)
+-- it has as many tables, and one more is treated
+pub same_tables : (x y : Shutting) (notes : List Note) → Treats x y notes → length y.serving.tables ≡ length x.serving.tables
+same_tables x y notes (prepare.whole t shut at noted tables owed treated open_) = ap length tables ∙ length-set x.serving.tables x.treated (taken t)
+same_tables x y notes (prepare.rest t shut at noted tables owed treated open_) = ap length tables
+
+pub one_treated : (x y : Shutting) (notes : List Note) → Treats x y notes → y.treated ≡ suc x.treated
+one_treated x y notes (prepare.whole t shut at noted tables owed treated open_) = treated
+one_treated x y notes (prepare.rest t shut at noted tables owed treated open_) = treated
 
 treated_few : (shut : Bool) (treated count : ℕ) → cond shut (suc treated) treated ≤ count → treated ≤ count
 treated_few true treated count le = omega (arith, le)

@@ -43,6 +43,6 @@ IsCall (command.Add leaf table rows) = ⊤
 IsCall (command.Query q) = ⊤
 IsCall (command.Fleet machines per_machine tables) = ⊥
 IsCall (command.Flush leaf table) = ⊥
-IsCall (command.Drain leaf) = ⊥
+IsCall (command.Drain leaf stop) = ⊥
 IsCall (command.Kill leaf) = ⊥
 IsCall (command.Start leaf) = ⊥

@@ -43,7 +43,7 @@ pub fn play_command<B: Berth>(
         } => start(alloc, names, leaf, numbers),
         Command::Start(_leaf) => start(alloc, names, leaf, numbers),
         Command::Kill(_leaf) => kill(alloc, names, leaf, numbers),
-        Command::Drain { leaf: _leaf } => drain(alloc, names, leaf, numbers),
+        Command::Drain { leaf: _leaf, stop } => drain(alloc, names, leaf, stop, numbers),
         Command::Flush { leaf: _leaf, table } => {
             let lines = flush(alloc, names, &mut leaf, numbers, table);
             (leaf, lines)
@@ -121,20 +121,21 @@ fn kill<B: Berth>(
     (leaf, lines)
 }
 
-/// Drains the leaf.
+/// Drains the leaf, and stops that after so many steps where it has not ended by then.
 fn drain<B: Berth>(
     alloc: Global,
     names: &Names,
     leaf: OneLeaf<B>,
+    stop: Option<u32>,
     numbers: &mut Vec<u64>,
 ) -> (OneLeaf<B>, Result<Vec<Line>, AllocError>)
     requires { Fits names.now leaf numbers.old.items }
     ensures fits { Fits names.now result.0 numbers.new.items }
-    ensures drains { IfOk result.1 (λ lines. DrainStep (B.meaning (berth_of leaf)) (B.meaning (berth_of result.0)) (state_of leaf) numbers.old.items lines.items (state_of result.0) numbers.new.items) }
+    ensures drains { IfOk result.1 (λ lines. DrainStep stop (B.meaning (berth_of leaf)) (B.meaning (berth_of result.0)) (state_of leaf) numbers.old.items lines.items (state_of result.0) numbers.new.items) }
     ensures time { Passes (B.meaning (berth_of leaf)) (B.meaning (berth_of result.0)) }
     ensures sound { IfOk result.1 (λ lines. AreSound names.now (B.meaning (berth_of leaf)) (B.meaning (berth_of result.0)) lines.items) }
 {
-    let (leaf, ending, lines) = leaf.drain(alloc, numbers);
+    let (leaf, ending, lines) = leaf.drain(alloc, stop, numbers);
     (leaf, with_ending(lines, Verb::Drain, ending))
 }
 

@@ -93,14 +93,15 @@ impl<B: Berth> OneLeaf<B> {
         }
     }
 
-    /// Drains a leaf that is not down, and gives the lines of its notes.
+    /// Drains a leaf that is not down, and gives the lines of its notes. Where that has not ended after so many steps, it kills the leaf.
     pub fn drain(
         self,
         alloc: Global,
+        stop: Option<u32>,
         numbers: &mut Vec<u64>,
     ) -> (OneLeaf<B>, Ending, Result<Vec<Line>, AllocError>)
         requires { length numbers.old.items ≡ length (names_in self) }
-        ensures drains { Drains (names_in self) (B.meaning (berth_of self)) (B.meaning (berth_of result.0)) (state_of self) numbers.old.items result.1 result.2 (state_of result.0) numbers.new.items }
+        ensures drains { Drains (names_in self) (B.meaning (berth_of self)) (B.meaning (berth_of result.0)) (state_of self) stop numbers.old.items result.1 result.2 (state_of result.0) numbers.new.items }
         ensures others { state_of self ≡ IsDown → berth_of result.0 ≡ berth_of self }
         ensures names { names_in result.0 ≡ names_in self }
         ensures same_length { length numbers.new.items ≡ length numbers.old.items }
@@ -109,8 +110,8 @@ impl<B: Berth> OneLeaf<B> {
     {
         match self {
             OneLeaf::Down(down) => (OneLeaf::Down(down), Ending::NotUp, Ok(Vec::new(alloc))),
-            OneLeaf::Up(up) => drain::drain(alloc, up.prepare(), numbers),
-            OneLeaf::Preparing(leaf) => drain::drain(alloc, leaf, numbers),
+            OneLeaf::Up(up) => drain::drain(alloc, up.prepare(), stop, numbers),
+            OneLeaf::Preparing(leaf) => drain::drain(alloc, leaf, stop, numbers),
         }
     }
 

@@ -7,6 +7,7 @@ mod drain;
 mod entries;
 mod leaf;
 mod player;
+mod steps;
 #[cfg(test)]
 mod tests;
 

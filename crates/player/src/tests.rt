@@ -21,6 +21,7 @@ enum Step {
     Count,
     Flush,
     Drain,
+    DrainStop(u8),
     Kill,
     Start,
 }
@@ -90,7 +91,14 @@ fn command_of(alloc: Global, step: Step) -> Result<Command, AllocError>
         }),
         Step::Count => Ok(Command::Query(count_query(alloc)?)),
         Step::Flush => Ok(Command::Flush { leaf: 0, table: 0 }),
-        Step::Drain => Ok(Command::Drain { leaf: 0 }),
+        Step::Drain => Ok(Command::Drain {
+            leaf: 0,
+            stop: None,
+        }),
+        Step::DrainStop(steps) => Ok(Command::Drain {
+            leaf: 0,
+            stop: Some(u32::from(steps)),
+        }),
         Step::Kill => Ok(Command::Kill(0)),
         Step::Start => Ok(Command::Start(0)),
     }
@@ -223,6 +231,63 @@ fn a_drain_that_the_disk_stopped_goes_on(rt: HostRuntime) -> Result<(), test::Fa
     let out = played(alloc, berth, &steps)?;
     let expected =
         "0 errors #1 opened 0\nstart 0 disk nohead\n0 errors #2 added 1 late 0\n0 errors #3 closed 1\ndrain 0 fault disk\n0 errors #4 refused shut\nflush 0 not up\n0 errors #5 flushed 1\n0 errors #6 handed\ndrain 0 done\n0 errors #7 opened 1\nstart 0 memory\n";
+    assert!(rt; out.as_slice() == expected.as_bytes());
+    Ok(())
+}
+
+#[test]
+fn a_drain_is_stopped_after_each_number_of_steps(rt: HostRuntime) -> Result<(), test::Fail> {
+    let alloc = rt.alloc();
+    let cases = [
+        (
+            0,
+            "0 errors #1 opened 0\nstart 0 disk nohead\n0 errors #2 added 1 late 0\n0 errors #3 closed 1\ndrain 0 stopped\n0 errors #4 opened 0\nstart 0 disk nohead\n",
+        ),
+        (
+            1,
+            "0 errors #1 opened 0\nstart 0 disk nohead\n0 errors #2 added 1 late 0\n0 errors #3 closed 1\n0 errors #4 flushed 1\ndrain 0 stopped\n0 errors #5 opened 1\nstart 0 disk nohead\n",
+        ),
+        (
+            2,
+            "0 errors #1 opened 0\nstart 0 disk nohead\n0 errors #2 added 1 late 0\n0 errors #3 closed 1\n0 errors #4 flushed 1\ndrain 0 stopped\n0 errors #5 opened 1\nstart 0 disk nohead\n",
+        ),
+        (
+            3,
+            "0 errors #1 opened 0\nstart 0 disk nohead\n0 errors #2 added 1 late 0\n0 errors #3 closed 1\n0 errors #4 flushed 1\ndrain 0 stopped\n0 errors #5 opened 1\nstart 0 disk closed 0\n",
+        ),
+        (
+            4,
+            "0 errors #1 opened 0\nstart 0 disk nohead\n0 errors #2 added 1 late 0\n0 errors #3 closed 1\n0 errors #4 flushed 1\ndrain 0 stopped\n0 errors #5 opened 1\nstart 0 disk closed 0\n",
+        ),
+        (
+            5,
+            "0 errors #1 opened 0\nstart 0 disk nohead\n0 errors #2 added 1 late 0\n0 errors #3 closed 1\n0 errors #4 flushed 1\n0 errors #5 handed\ndrain 0 done\n0 errors #6 opened 1\nstart 0 memory\n",
+        ),
+    ];
+    for (stop, expected) in cases {
+        let berth = MemBerth::new(Vec::new(alloc), Vec::new(alloc));
+        let steps = [Step::Fleet, Step::Add, Step::DrainStop(stop), Step::Start];
+        let out = played(alloc, berth, &steps)?;
+        assert!(rt; out.as_slice() == expected.as_bytes());
+    }
+    Ok(())
+}
+
+#[test]
+fn a_stopped_drain_closes_no_table_again(rt: HostRuntime) -> Result<(), test::Fail> {
+    let alloc = rt.alloc();
+    // The start makes the first sync, so this is the drain's second.
+    let berth = failing(alloc, Method::DiskSync, 3)?;
+    let steps = [
+        Step::Fleet,
+        Step::Add,
+        Step::Drain,
+        Step::DrainStop(1),
+        Step::Start,
+    ];
+    let out = played(alloc, berth, &steps)?;
+    let expected =
+        "0 errors #1 opened 0\nstart 0 disk nohead\n0 errors #2 added 1 late 0\n0 errors #3 closed 1\ndrain 0 fault disk\n0 errors #4 flushed 1\ndrain 0 stopped\n0 errors #5 opened 1\nstart 0 disk nohead\n";
     assert!(rt; out.as_slice() == expected.as_bytes());
     Ok(())
 }

@@ -9,7 +9,7 @@ use Rattle.printed_lines.specs.declared.line.Said.TheVariants.{Added, Asked, Ref
 use Rattle.printed_lines.specs.declared.line.Verb.{Verb}
 use Rattle.printed_lines.specs.declared.line.Verb.TheVariants.{Flush, Drain, Kill, Start}
 use Rattle.printed_lines.specs.declared.line.Ending.{Ending}
-use Rattle.printed_lines.specs.declared.line.Ending.TheVariants.{Done, NotUp, NotDown, Started, FaultRegion, FaultDisk, FaultDamaged, FaultMemory, FaultStranger}
+use Rattle.printed_lines.specs.declared.line.Ending.TheVariants.{Done, Stopped, NotUp, NotDown, Started, FaultRegion, FaultDisk, FaultDamaged, FaultMemory, FaultStranger}
 use Rattle.printed_lines.specs.declared.line.Line.{Line}
 use Rattle.printed_lines.specs.declared.line.Line.TheVariants.{Entry, Answer, Ended}
 
@@ -36,6 +36,7 @@ way_text (Disk why.NoImage) = codes "disk noimage"
 
 abbrev pub ending_text : Ending → List ℕ
 ending_text Done = codes "done"
+ending_text Stopped = codes "stopped"
 ending_text NotUp = codes "not up"
 ending_text NotDown = codes "not down"
 ending_text (Started way) = way_text way

@@ -36,6 +36,8 @@ pub enum Verb {
 #[derive(Debug, Drop)]
 pub enum Ending {
     Done,
+    /// A drain made as many steps as it was to make, and the leaf was killed.
+    Stopped,
     NotUp,
     NotDown,
     Started(Way),

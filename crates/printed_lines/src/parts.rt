@@ -30,6 +30,7 @@ pub fn ending_string(alloc: Global, ending: &Ending) -> Result<String, AllocErro
 {
     match ending {
         Ending::Done => String::from_str(alloc, "done"),
+        Ending::Stopped => String::from_str(alloc, "stopped"),
         Ending::NotUp => String::from_str(alloc, "not up"),
         Ending::NotDown => String::from_str(alloc, "not down"),
         Ending::Started(way) => way_string(alloc, *way),

@@ -105,6 +105,7 @@ fn the_end_of_a_command_has_its_line(rt: HostRuntime) -> Result<(), Fail> {
     for (verb, ending, bytes) in [
         (Verb::Drain, Ending::Done, "drain 0 done\n"),
         (Verb::Drain, Ending::FaultRegion, "drain 0 fault region\n"),
+        (Verb::Drain, Ending::Stopped, "drain 0 stopped\n"),
         (Verb::Drain, Ending::NotUp, "drain 0 not up\n"),
         (Verb::Start, Ending::NotDown, "start 0 not down\n"),
         (Verb::Start, Ending::FaultMemory, "start 0 fault memory\n"),

@@ -162,10 +162,32 @@ abbrev pub kill_of : Result ℕ Fault → Result Command Fault
 kill_of (Ok leaf) = Ok (Kill leaf)
 kill_of (Err found) = Err found
 
--- `drain L`
-abbrev pub drain_of : Result ℕ Fault → Result Command Fault
-drain_of (Ok leaf) = Ok (Drain leaf)
-drain_of (Err found) = Err found
+-- the words of a drain: a leaf, and after how many steps it is stopped, if it is
+pub record DrainForm : Type 0 where
+  pub leaf : ℕ
+  pub stop : Option ℕ
+
+abbrev pub whole_drain : Option ℕ → Option DrainForm
+whole_drain (Some leaf) = Some (record { leaf = leaf; stop = None })
+whole_drain None = None
+
+-- at most 1,000,000 steps
+abbrev pub stopped_drain : Option ℕ → Option ℕ → Option DrainForm
+stopped_drain (Some leaf) (Some steps) = if nat_lt 1000000 steps then None else Some (record { leaf = leaf; stop = Some steps })
+stopped_drain (Some leaf) None = None
+stopped_drain None steps = None
+
+-- `drain L` or `drain L stop N`
+abbrev pub drain_words : List (List ℕ) → Option DrainForm
+drain_words [] = None
+drain_words (leaf ∷ []) = whole_drain (number_of leaf)
+drain_words (leaf ∷ word ∷ []) = None
+drain_words (leaf ∷ word ∷ steps ∷ []) = if bytes_eq word (codes "stop") then stopped_drain (number_of leaf) (number_of steps) else None
+drain_words (leaf ∷ word ∷ steps ∷ more ∷ words) = None
+
+abbrev pub drain_of : ℕ → Option DrainForm → Result Command Fault
+drain_of n (Some form) = if nat_lt form.leaf leaves then Ok (Drain form.leaf form.stop) else Err (n, why.Leaf)
+drain_of n None = Err (n, why.Words)
 
 -- `start L`
 abbrev pub start_of : Result ℕ Fault → Result Command Fault
@@ -191,7 +213,7 @@ later_command n tables line more (Some verb.Add) = add_of n tables (add_words (w
 later_command n tables line more (Some verb.Query) = query_command n tables (one_query n (query_of (trimmed (behind_word line))))
 later_command n tables line more (Some verb.Flush) = flush_of n tables (flush_words (words_of (behind_word line)))
 later_command n tables line more (Some verb.Kill) = kill_of (leaf_of n (one_number (words_of (behind_word line))))
-later_command n tables line more (Some verb.Drain) = drain_of (leaf_of n (one_number (words_of (behind_word line))))
+later_command n tables line more (Some verb.Drain) = drain_of n (drain_words (words_of (behind_word line)))
 later_command n tables line more (Some verb.Start) = start_of (leaf_of n (one_number (words_of (behind_word line))))
 
 -- the command of a line, or its first fault

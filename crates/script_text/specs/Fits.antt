@@ -1,5 +1,5 @@
 -- What a caller knows of a script that was read.
-use Rattle.std.specs.Prelude.{◌≡◌, ◌<◌, ◌≤◌, ◌≢◌, ℕ, List, [], ◌∷◌, length, true, IsUtf8}
+use Rattle.std.specs.Prelude.{◌≡◌, ◌<◌, ◌≤◌, ◌≢◌, ℕ, List, [], ◌∷◌, length, true, IsUtf8, IfSome}
 use Rattle.std.specs.List.{AllByRecursion, Contains}
 use Rattle.leaf_model.specs.Values.{IsRow}
 use Rattle.query_text.specs.Grammar.{IsQuery}
@@ -34,7 +34,7 @@ IsCommand tables (Fleet machines per_machine names) = ⊥
 IsCommand tables (Add leaf table rows) = (leaf ≡ 0) × (table < length tables) × (length rows ≤ 100000) × AllByRecursion IsRow rows
 IsCommand tables (command.Query query) = Contains tables query.table × IsQuery query
 IsCommand tables (Flush leaf table) = (leaf ≡ 0) × (table < length tables)
-IsCommand tables (Drain leaf) = leaf ≡ 0
+IsCommand tables (Drain leaf stop) = (leaf ≡ 0) × IfSome stop (λ n. n ≤ 1000000)
 IsCommand tables (Kill leaf) = leaf ≡ 0
 IsCommand tables (Start leaf) = leaf ≡ 0
 
@@ -45,7 +45,7 @@ AreCommands (Fleet machines per_machine tables ∷ commands) = (machines ≡ 1) 
 AreCommands (Add leaf table rows ∷ commands) = ⊥
 AreCommands (command.Query query ∷ commands) = ⊥
 AreCommands (Flush leaf table ∷ commands) = ⊥
-AreCommands (Drain leaf ∷ commands) = ⊥
+AreCommands (Drain leaf stop ∷ commands) = ⊥
 AreCommands (Kill leaf ∷ commands) = ⊥
 AreCommands (Start leaf ∷ commands) = ⊥
 

@@ -15,7 +15,7 @@ row_count (Fleet machines per_machine tables) = 0
 row_count (Add leaf table rows) = length rows
 row_count (Query query) = 0
 row_count (Flush leaf table) = 0
-row_count (Drain leaf) = 0
+row_count (Drain leaf stop) = 0
 row_count (Kill leaf) = 0
 row_count (Start leaf) = 0
 
@@ -29,7 +29,7 @@ tables_in (Fleet machines per_machine tables) = Some tables
 tables_in (Add leaf table rows) = None
 tables_in (Query query) = None
 tables_in (Flush leaf table) = None
-tables_in (Drain leaf) = None
+tables_in (Drain leaf stop) = None
 tables_in (Kill leaf) = None
 tables_in (Start leaf) = None
 

@@ -23,8 +23,10 @@ pub enum Command {
         leaf: u32,
         table: u32,
     },
+    /// A drain of the leaf, which is stopped after so many steps where it has not ended by then.
     Drain {
         leaf: u32,
+        stop: Option<u32>,
     },
     Kill(u32),
     Start(u32),

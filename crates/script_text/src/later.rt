@@ -8,6 +8,7 @@ ghost use Rattle.script_text.specs.Script.{Gives, row_count};
 
 use crate::add::{LEAVES, add};
 use crate::command::Command;
+use crate::drain::drain;
 use crate::fault::{ScriptFault, Why, fault_at};
 use crate::flush::flush;
 use crate::query::query;
@@ -37,10 +38,7 @@ pub fn later_command(
         Some(Verb::Add) => add(alloc, tables, rest, number, after),
         Some(Verb::Query) => query(alloc, tables, trimmed(rest), number),
         Some(Verb::Flush) => flush(tables, rest, number),
-        Some(Verb::Drain) => {
-            let leaf = leaf_of(rest, number)?;
-            Ok(Command::Drain { leaf })
-        }
+        Some(Verb::Drain) => drain(rest, number),
         Some(Verb::Kill) => {
             let leaf = leaf_of(rest, number)?;
             Ok(Command::Kill(leaf))

@@ -3,6 +3,7 @@
 
 mod add;
 mod command;
+mod drain;
 mod fault;
 mod fleet;
 mod flush;

@@ -42,7 +42,11 @@ fn shown_command(alloc: Global, command: &Command) -> Result<String, AllocError>
         }
         Command::Query(query) => format!(in alloc; ", {query:?}"),
         Command::Flush { leaf, table } => format!(in alloc; ", flush {leaf} {table}"),
-        Command::Drain { leaf } => format!(in alloc; ", drain {leaf}"),
+        Command::Drain { leaf, stop: None } => format!(in alloc; ", drain {leaf}"),
+        Command::Drain {
+            leaf,
+            stop: Some(steps),
+        } => format!(in alloc; ", drain {leaf} stop {steps}"),
         Command::Kill(leaf) => format!(in alloc; ", kill {leaf}"),
         Command::Start(leaf) => format!(in alloc; ", start {leaf}"),
     }
@@ -201,7 +205,13 @@ fn tells_queries_flushes_and_leaves(rt: HostRuntime) -> Result<(), test::Fail> {
         ),
         // Leaves.
         ("fleet 1 1 a\ndrain", "2 Words"),
-        ("fleet 1 1 a\ndrain 0 stop 1", "2 Words"),
+        ("fleet 1 1 a\ndrain 0 stop", "2 Words"),
+        ("fleet 1 1 a\ndrain 0 halt 1", "2 Words"),
+        ("fleet 1 1 a\ndrain 0 stop x", "2 Words"),
+        ("fleet 1 1 a\ndrain 0 stop 1 1", "2 Words"),
+        ("fleet 1 1 a\ndrain 0 stop 1000001", "2 Words"),
+        ("fleet 1 1 a\ndrain 1 stop 1000001", "2 Words"),
+        ("fleet 1 1 a\ndrain 1 stop 0", "2 Leaf"),
         ("fleet 1 1 a\nstart 1", "2 Leaf"),
         ("fleet 1 1 a\ndrain 18446744073709551616\n", "2 Leaf"),
         ("fleet 1 1 a\nstart x", "2 Words"),
@@ -212,8 +222,8 @@ fn tells_queries_flushes_and_leaves(rt: HostRuntime) -> Result<(), test::Fail> {
         ("fleet 1 1 a\nstart 1\nadd 0 a 1\n{\nkill", "2 Leaf"),
         ("fleet 1 1 a\nadd 0 a 1\n{\nkill\n", "3 Row(Json)"),
         (
-            "fleet 1 1 a\ndrain 0\n\nstart 0\nkill 0\nstart 0\n",
-            "fleet at 1, 1 of 1 a, drain 0, start 0, kill 0, start 0",
+            "fleet 1 1 a\ndrain 0\n\nstart 0\nkill 0\ndrain 0  stop 1000000\n",
+            "fleet at 1, 1 of 1 a, drain 0, start 0, kill 0, drain 0 stop 1000000",
         ),
     ] {
         let got = shown(alloc, text)?;

@@ -38,7 +38,8 @@ pub fn verb_of(word: &[u8]) -> Option<Verb>
     }
 }
 
-fn is_word(word: &[u8], text: &str) -> bool
+/// Whether a word is this text.
+pub fn is_word(word: &[u8], text: &str) -> bool
     ensures { result ≡ bytes_eq word.now text.now }
 {
     word == text.as_bytes()

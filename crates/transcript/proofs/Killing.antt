@@ -46,7 +46,7 @@ use Rattle.transcript.proofs.Stewarding.{now_at, Steward, steward_goes_on, nothi
 
 -- ---- notes
 
-abbrev closing : Table → What
+abbrev pub closing : Table → What
 closing t = what.Closed t.writes
 
 closed_as : (place : ℕ) (ts : List Table) → closed_notes place ts ≡ notes_from place (map closing ts)
@@ -57,7 +57,7 @@ closed_said : (ts : List Table) → map said_of_note (map closing ts) ≡ map sa
 closed_said [] = refl
 closed_said (t ∷ ts) = ap (λ ss. said.Closed t.writes ∷ ss) (closed_said ts)
 
-closed_lines : (place : ℕ) (ts : List Table) (numbers : List ℕ)
+pub closed_lines : (place : ℕ) (ts : List Table) (numbers : List ℕ)
     → note_lines (closed_notes place ts) numbers ≡ table_lines 0 place (numbers_from place (map closing ts) numbers) (map said.Closed (map (λ (t : Table). t.writes) ts))
 closed_lines place ts numbers =
     ap (λ ns. note_lines ns numbers) (closed_as place ts)
@@ -118,11 +118,11 @@ closes f k tables states ws vs vo t table false e at has rest =
     }
 
 -- the leaf behind it, and what its tables did
-record Killed (names : List (List ℕ)) (first : List ℕ → List Write) (f : Bool) (k : ℕ) (tables : List Table) (m : Meaning) (states : ℕ → TableState) : Type 0 where
-  rests : RestsAs names first f m (behind unopened (closed_notes k (drop k tables)) states)
-  fine : (t : ℕ) → t < length names → Fine (states t) (entries_at unopened t (closed_notes k (drop k tables)))
+pub record Killed (names : List (List ℕ)) (first : List ℕ → List Write) (f : Bool) (k : ℕ) (tables : List Table) (m : Meaning) (states : ℕ → TableState) : Type 0 where
+  pub rests : RestsAs names first f m (behind unopened (closed_notes k (drop k tables)) states)
+  pub fine : (t : ℕ) → t < length names → Fine (states t) (entries_at unopened t (closed_notes k (drop k tables)))
 
-killed : (names : List (List ℕ)) (first : List ℕ → List Write) (f : Bool) (s : Serving) (k : ℕ) (m : Meaning) (states : ℕ → TableState)
+pub killed : (names : List (List ℕ)) (first : List ℕ → List Write) (f : Bool) (s : Serving) (k : ℕ) (m : Meaning) (states : ℕ → TableState)
     → BackedRests m → ServesAs names first f s k m states → Killed names first f k s.tables m states
 killed names first f s k m states law sv =
     let left = left_of names first f s k m states law sv in
@@ -160,7 +160,7 @@ kill_lines k ts notes numbers ends lines e g h =
     h ∙ (ap (λ x. note_lines notes numbers ++ line.Ended Kill 0 x ∷ []) g
     ∙ (ap (λ ns. note_lines ns numbers ++ line.Ended Kill 0 ending.Done ∷ []) e ∙ ap (λ ls. ls ++ line.Ended Kill 0 ending.Done ∷ []) (closed_lines k ts numbers)))
 
-same_open : (p : Progress) (x : Shutting) → p.treated ≡ x.treated → p.shut ≡ x.shut → life.first_open p ≡ shutting.first_open x
+pub same_open : (p : Progress) (x : Shutting) → p.treated ≡ x.treated → p.shut ≡ x.shut → life.first_open p ≡ shutting.first_open x
 same_open p x e g = by p.shut x.shut p.treated x.treated e g
   where
     by : (a b : Bool) (m n : ℕ) → m ≡ n → a ≡ b → (if a then suc m else m) ≡ (if b then suc n else n)

@@ -99,21 +99,21 @@ found_place name (n ∷ ns) (suc k) h e = by (bytes_eq name n) (found_place name
 
 pub plays_on : (names : List (List ℕ)) (way : Way) (first : List ℕ → List Write) (commands : List Command) (out : List Line) (leaf leaf' : Leaf) (m m' : Meaning) (numbers numbers' : List ℕ)
     (c : Command) (lines : List Line)
-    → BackedRests m
+    → BackedRests m → BackedRests m'
     → IsTrue m.tells → MayPlay names c
     → Session names way first commands out leaf m numbers → Plays names m m' c leaf numbers lines leaf' numbers'
     → Session names way first (commands ++ c ∷ []) (out ++ lines) leaf' m' numbers'
-plays_on names way first commands out leaf leaf' m m' numbers numbers' (command.Fleet machines per_machine tables) lines law told may s step =
+plays_on names way first commands out leaf leaf' m m' numbers numbers' (command.Fleet machines per_machine tables) lines law law' told may s step =
     fleet_goes_on names way first commands out leaf m m' numbers machines per_machine tables lines leaf' numbers' told s step
-plays_on names way first commands out leaf leaf' m m' numbers numbers' (command.Add l table rows) lines law told may s step =
+plays_on names way first commands out leaf leaf' m m' numbers numbers' (command.Add l table rows) lines law law' told may s step =
     rw may.0 (add_goes_on names way first commands out leaf m m' numbers table rows lines leaf' numbers' s may.1 step.0 step.1)
-plays_on names way first commands out leaf leaf' m m' numbers numbers' (command.Query q) lines law told may s step =
+plays_on names way first commands out leaf leaf' m m' numbers numbers' (command.Query q) lines law law' told may s step =
     rw step.1 (query_goes_on names way first commands out leaf m m' numbers q lines numbers' s (found_place q.table names may.0.0 may.0.1 may.0.2) step.0 step.2)
-plays_on names way first commands out leaf leaf' m m' numbers numbers' (command.Flush l table) lines law told may s step =
+plays_on names way first commands out leaf leaf' m m' numbers numbers' (command.Flush l table) lines law law' told may s step =
     rw may.0 (flush_goes_on names way first commands out leaf m m' numbers table lines leaf' numbers' told s step)
-plays_on names way first commands out leaf leaf' m m' numbers numbers' (command.Drain l) lines law told may s step =
-    rw may (drain_goes_on names way first commands out leaf m m' numbers lines leaf' numbers' told s step)
-plays_on names way first commands out leaf leaf' m m' numbers numbers' (command.Kill l) lines law told may s step =
+plays_on names way first commands out leaf leaf' m m' numbers numbers' (command.Drain l stop) lines law law' told may s step =
+    rw may.0 (drain_goes_on names way first commands out leaf m m' numbers stop lines leaf' numbers' law' told s step)
+plays_on names way first commands out leaf leaf' m m' numbers numbers' (command.Kill l) lines law law' told may s step =
     rw may (kill_goes_on names way first commands out leaf m m' numbers lines leaf' numbers' law s step)
-plays_on names way first commands out leaf leaf' m m' numbers numbers' (command.Start l) lines law told may s step =
+plays_on names way first commands out leaf leaf' m m' numbers numbers' (command.Start l) lines law law' told may s step =
     rw may (start_goes_on names way first commands out leaf m m' numbers lines leaf' numbers' told s step)

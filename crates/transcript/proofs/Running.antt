@@ -55,7 +55,7 @@ Answered-grows names first hs ess (command.Query q) lines h =
 Answered-grows names first hs ess (command.Fleet m p ts) lines h = h
 Answered-grows names first hs ess (command.Add l t rows) lines h = h
 Answered-grows names first hs ess (command.Flush l t) lines h = h
-Answered-grows names first hs ess (command.Drain l) lines h = h
+Answered-grows names first hs ess (command.Drain l stop) lines h = h
 Answered-grows names first hs ess (command.Kill l) lines h = h
 Answered-grows names first hs ess (command.Start l) lines h = h
 

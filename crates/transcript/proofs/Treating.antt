@@ -151,6 +151,16 @@ treats names f all olds notes ns x y p numbers d c (prepares.rest t shut at ns_a
 
 -- ---- some tables
 
+-- a table that is treated leaves nothing owed
+settles : (x y : Shutting) (ns : List Note) → Treats x y ns → y.serving.log.owed ≡ None
+settles x y ns (prepares.whole t open_ at ns_are tables_are none treated_is shut_is) = none
+settles x y ns (prepares.rest t shut at ns_are tables_are none treated_is shut_is) = none
+
+-- so some that are treated, or none, leave nothing owed where nothing was
+pub settled_on : {x : Shutting} {ns : List Note} {y : Shutting} → TreatsOn x ns y → x.serving.log.owed ≡ None → y.serving.log.owed ≡ None
+settled_on (steps.none x ns y ns_are same) calm = ap (λ (z : Shutting). z.serving.log.owed) same ∙ calm
+settled_on (steps.more x ns y first others between t named rest ns_are) calm = settled_on rest (settles x between first t)
+
 pub record Through (names : List (List ℕ)) (f : Bool) (all : List ℕ → List Write) (olds : ℕ → TableState) (notes ns : List Note) (p : Progress) (y : Shutting) (numbers : List ℕ) : Type 0 where
   pub q : Progress
   pub chain : Chain names f all olds (notes ++ ns) y q

@@ -1,13 +1,14 @@
 -- What one leaf's commands print, but for the numbers of the lines, and what they leave behind.
-use Rattle.std.specs.Prelude.{◌≡◌, ℕ, suc, ◌+◌, ◌<◌, Bool, true, false, List, [], ◌∷◌, ◌++◌, length, map, Option, Some, None, IfSome, if◌then◌else◌, ⊤}
+use Rattle.std.specs.Prelude.{◌≡◌, ℕ, suc, ◌+◌, ◌<◌, ◌≤◌, Bool, true, false, List, [], ◌∷◌, ◌++◌, length, map, Option, Some, None, IfSome, if◌then◌else◌, nat_lt, ⊤}
 use Rattle.leaf_opening.specs.declared.ways.Way.{Way}
-use Rattle.leaf_opening.specs.declared.ways.Way.TheVariants.{Memory}
+use Rattle.leaf_opening.specs.declared.ways.Way.TheVariants.{Memory, Disk}
+use Rattle.adopt.specs.declared.found.WhyDisk.TheVariants as why
 use Rattle.leaf_opening.specs.Starts.{way_after}
 use Rattle.printed_lines.specs.declared.line.Said.{Said}
 use Rattle.printed_lines.specs.declared.line.Said.TheVariants.{Opened, Took, Flushed, Closed, Handed}
 use Rattle.printed_lines.specs.declared.line.Verb.TheVariants.{Flush, Drain, Kill, Start}
 use Rattle.printed_lines.specs.declared.line.Ending.{Ending}
-use Rattle.printed_lines.specs.declared.line.Ending.TheVariants.{Done, NotUp, NotDown, Started, FaultRegion, FaultDisk, FaultDamaged, FaultMemory, FaultStranger}
+use Rattle.printed_lines.specs.declared.line.Ending.TheVariants.{Done, Stopped, NotUp, NotDown, Started, FaultRegion, FaultDisk, FaultDamaged, FaultMemory, FaultStranger}
 use Rattle.printed_lines.specs.declared.line.Line.{Line}
 use Rattle.printed_lines.specs.declared.line.Line.TheVariants.{Entry, Ended}
 
@@ -55,6 +56,7 @@ IsStartRefusal FaultMemory = ⊤
 IsStartRefusal (FaultStranger name) = ⊤
 IsStartRefusal FaultDamaged = ⊥
 IsStartRefusal Done = ⊥
+IsStartRefusal Stopped = ⊥
 IsStartRefusal NotUp = ⊥
 IsStartRefusal NotDown = ⊥
 IsStartRefusal (Started way) = ⊥
@@ -187,40 +189,80 @@ BeginsAt (Down claim) way p = ⊥
 BeginsAt (Up w owed) way p = (w ≡ way) × (p ≡ record { owed = owed; treated = 0; shut = false })
 BeginsAt (Preparing w at) way p = (w ≡ way) × (p ≡ at)
 
+-- A drain is not stopped before it has made so many steps. Its steps are each table that is left, the plan of the copy, the beginning of the region,
+-- the writing of it, and its flag.
+abbrev pub MayMake : Option ℕ → ℕ → Type 0
+MayMake None steps = ⊤
+MayMake (Some stop) steps = steps ≤ stop
+
+-- what the next start prints of a leaf that was killed after so many steps behind its tables': once the region was begun, it is closed
+abbrev pub way_stopped : ℕ → Way → Way
+way_stopped further way = if nat_lt 1 further then Disk (why.Closed 0) else way
+
 -- A drain of a leaf of so many tables: each that is left is closed and flushed, then each is handed over, and the next start finds memory; or the region fails
--- once all are flushed; or there is no memory for the copy, or the disk fails, and the leaf goes on when it is drained again; or the leaf is down.
-pub data Drains (tables leaf : ℕ) (life : Life) (lines : List Line) (next : Life) : Type 0 where
-  drains : (way : Way) (p q : Progress) (treating : List Line) (handings : List ℕ)
+-- once all are flushed; or there is no memory for the copy, or the disk fails, and the leaf goes on when it is drained again; or so many steps were made as it
+-- was to make, and it is killed, so that each open table is closed; or the leaf is down.
+pub data Drains (tables leaf : ℕ) (stop : Option ℕ) (life : Life) (lines : List Line) (next : Life) : Type 0 where
+  drains : (way : Way) (p q : Progress) (treating : List Line) (handings : List ℕ) (left : ℕ)
+      → p.treated + left ≡ tables
+      → MayMake stop (left + 4)
       → BeginsAt life way p
       → TreatsOn tables leaf p treating q
       → q.treated ≡ tables
       → length handings ≡ tables
       → lines ≡ treating ++ (table_lines leaf 0 handings (handed handings) ++ Ended Drain leaf Done ∷ [])
       → next ≡ Down (Some Memory)
-      → Drains tables leaf life lines next
-  region_fails : (way : Way) (p q : Progress) (treating : List Line)
+      → Drains tables leaf stop life lines next
+  region_fails : (way : Way) (p q : Progress) (treating : List Line) (left : ℕ)
+      → p.treated + left ≡ tables
+      → MayMake stop (left + 2)
       → BeginsAt life way p
       → TreatsOn tables leaf p treating q
       → q.treated ≡ tables
       → lines ≡ treating ++ Ended Drain leaf FaultRegion ∷ []
       → next ≡ Down None
-      → Drains tables leaf life lines next
-  no_memory : (way : Way) (p q : Progress) (treating : List Line)
+      → Drains tables leaf stop life lines next
+  no_memory : (way : Way) (p q : Progress) (treating : List Line) (left : ℕ)
+      → p.treated + left ≡ tables
+      → MayMake stop (left + 1)
       → BeginsAt life way p
       → TreatsOn tables leaf p treating q
       → q.treated ≡ tables
       → lines ≡ treating ++ Ended Drain leaf FaultMemory ∷ []
       → next ≡ Preparing way q
-      → Drains tables leaf life lines next
-  disk_fails : (way : Way) (p q r : Progress) (treating halting : List Line)
+      → Drains tables leaf stop life lines next
+  disk_fails : (way : Way) (p q r : Progress) (treating halting : List Line) (made : ℕ)
+      → p.treated + made ≡ q.treated
+      → MayMake stop (suc made)
       → BeginsAt life way p
       → TreatsOn tables leaf p treating q
       → q.treated < tables
       → Halts leaf q halting r
       → lines ≡ treating ++ (halting ++ Ended Drain leaf FaultDisk ∷ [])
       → next ≡ Preparing way r
-      → Drains tables leaf life lines next
+      → Drains tables leaf stop life lines next
+  stops_treating : (way : Way) (p q : Progress) (treating : List Line) (made : ℕ) (numbers writes : List ℕ)
+      → stop ≡ Some made
+      → p.treated + made ≡ q.treated
+      → BeginsAt life way p
+      → TreatsOn tables leaf p treating q
+      → first_open q + length numbers ≡ tables
+      → length writes ≡ length numbers
+      → lines ≡ treating ++ (table_lines leaf (first_open q) numbers (map Closed writes) ++ Ended Drain leaf Stopped ∷ [])
+      → next ≡ Down (Some way)
+      → Drains tables leaf stop life lines next
+  stops_copying : (way : Way) (p q : Progress) (treating : List Line) (left further : ℕ)
+      → stop ≡ Some (left + further)
+      → p.treated + left ≡ tables
+      → 0 < further
+      → further < 4
+      → BeginsAt life way p
+      → TreatsOn tables leaf p treating q
+      → q.treated ≡ tables
+      → lines ≡ treating ++ Ended Drain leaf Stopped ∷ []
+      → next ≡ Down (Some (way_stopped further way))
+      → Drains tables leaf stop life lines next
   not_up : IsDownLife life
       → lines ≡ Ended Drain leaf NotUp ∷ []
       → next ≡ life
-      → Drains tables leaf life lines next
+      → Drains tables leaf stop life lines next

@@ -1,6 +1,6 @@
 -- A run in the middle: what holds of the commands so far, of each table's history, and of the leaf as the program holds it.
 -- The fleet has one leaf.
-use Rattle.std.specs.Prelude.{◌≡◌, ℕ, suc, ◌-◌, ◌<◌, ◌≤◌, Bool, true, false, List, [], ◌∷◌, ◌++◌, length, map, take, nat_lt, not, Option, Some, None, IfSome, slice_get, ⊤}
+use Rattle.std.specs.Prelude.{◌≡◌, ℕ, ◌-◌, ◌<◌, ◌≤◌, Bool, true, false, List, [], ◌∷◌, ◌++◌, length, map, take, nat_lt, not, Option, Some, None, IfSome, slice_get, ⊤}
 use Rattle.std.specs.List.{flat_map, AllByRecursion}
 use Rattle.leaf_model.specs.declared.writes.Write.{Write}
 use Rattle.leaf_model.specs.Content.{nothing}
@@ -21,7 +21,7 @@ use Rattle.leaf_opening.specs.Starts.{IsWayOf}
 use Rattle.printed_lines.specs.declared.line.Line.{Line}
 use Rattle.printed_lines.specs.Lines.{name_at}
 use Rattle.transcript.specs.Base.{base_in}
-use Rattle.transcript.specs.Life.{Life, Down, Up, Preparing, Owed, Progress}
+use Rattle.transcript.specs.Life.{Life, Down, Up, Preparing, Owed}
 use Rattle.transcript.specs.Steps.{Leaf, IsDown, IsUp, IsPreparing}
 use Rattle.transcript.specs.Transcript.{Played, Fleet, Scene, IsHistoryOf, OpensFlushed, PrintsAll, Answers, shown, until_disk_fault, disk_faults_in, named, place_of}
 
@@ -118,7 +118,7 @@ IsMade fleet histories (command.Query q) lines =
 IsMade fleet histories (command.Fleet machines per_machine tables) lines = ⊤
 IsMade fleet histories (command.Add leaf table rows) lines = ⊤
 IsMade fleet histories (command.Flush leaf table) lines = ⊤
-IsMade fleet histories (command.Drain leaf) lines = ⊤
+IsMade fleet histories (command.Drain leaf stop) lines = ⊤
 IsMade fleet histories (command.Kill leaf) lines = ⊤
 IsMade fleet histories (command.Start leaf) lines = ⊤
 

@@ -1,6 +1,6 @@
 -- What each command does to a leaf as the program holds it: the lines that it prints, and what stands behind it.
 -- The leaf is leaf 0, and `numbers` are the lengths of its tables' histories.
-use Rattle.std.specs.Prelude.{◌≡◌, ◌≢◌, ◌↔◌, ℕ, suc, ◌<◌, Bool, true, false, List, [], ◌∷◌, ◌++◌, drop, length, Some, None, slice_get, slice_set, slice_index, nat_lt, Result, Ok, Err, IsTrue, ⊤}
+use Rattle.std.specs.Prelude.{◌≡◌, ◌≢◌, ◌↔◌, ℕ, suc, ◌+◌, ◌<◌, Bool, true, false, List, [], ◌∷◌, ◌++◌, drop, length, Option, Some, None, MatchBool, slice_get, slice_set, slice_index, nat_lt, Result, Ok, Err, IsTrue, ⊤}
 use Rattle.leaf_model.specs.declared.rows.Row.{Row}
 use Rattle.leaf_model.specs.declared.queries.Query.{Query}
 use Rattle.leaf_model.specs.declared.writes.Write.{Write}
@@ -10,7 +10,8 @@ use Rattle.table_state.specs.declared.fault.Added.{Added}
 use Rattle.table_state.specs.declared.fault.AddFault.{AddFault}
 use Rattle.table_state.specs.declared.fault.AddFault.TheVariants.{Full, NoMemory}
 use Rattle.leaf_opening.specs.declared.ways.Way.{Way}
-use Rattle.leaf_opening.specs.declared.ways.Way.TheVariants.{Memory}
+use Rattle.leaf_opening.specs.declared.ways.Way.TheVariants.{Memory, Disk}
+use Rattle.adopt.specs.declared.found.WhyDisk.TheVariants as why
 use Rattle.leaf_opening.specs.declared.ways.StartFault.{StartFault}
 use Rattle.leaf_opening.specs.declared.ways.StartFault.TheVariants as fault
 use Rattle.leaf_machine.specs.declared.up.FlushReply.{FlushReply}
@@ -41,6 +42,7 @@ use Rattle.script_text.specs.declared.command.Command.{Command}
 use Rattle.script_text.specs.declared.command.Command.TheVariants as command
 use Rattle.script_text.specs.Fits.{IsCommand}
 use Rattle.transcript.specs.Transcript.{named, row_lines, place_of}
+use Rattle.transcript.specs.Life.{MayMake}
 
 -- a leaf: down, up, or shutting its tables
 pub data Leaf : Type 0 where
@@ -249,37 +251,49 @@ abbrev pub Leaves : Shutting → Meaning → Meaning → Type 0
 Leaves x m m' = (writes : List ℕ → List Write) → Backed writes x.serving m
     → (later : List ℕ → List Write) × Rests later m' × ((name : List ℕ) → later name ≡ all_writes x.serving writes name)
 
+-- what the region is of a leaf that was killed after so many steps behind its tables': untouched, or begun and closed
+abbrev pub RegionStopped : ℕ → Meaning → Meaning → Type 0
+RegionStopped further m m' = MatchBool (nat_lt 1 further) (IsWayOf m'.held.region (Disk (why.Closed 0))) (m'.held.region ≡ m.held.region)
+
 -- A drain: the tables that are left are treated, and each is handed over; or the region fails, and the leaf is down; or there is no memory for the copy;
--- or the disk fails; or the leaf is down.
-pub data DrainMoves (m m' : Meaning) (leaf : Leaf) (notes : List Note) (ends : Ending) (leaf' : Leaf) : Type 0 where
-  done : (x y : Shutting) (treating : List Note)
+-- or the disk fails; or it has made as many steps as it was to make, while there were tables to treat or behind them, and the leaf is killed; or the leaf is down.
+pub data DrainMoves (m m' : Meaning) (leaf : Leaf) (stop : Option ℕ) (notes : List Note) (ends : Ending) (leaf' : Leaf) : Type 0 where
+  done : (x y : Shutting) (treating : List Note) (left : ℕ)
       → Shuts leaf x
+      → x.treated + left ≡ length x.serving.tables
+      → MayMake stop (left + 4)
       → TreatsOn x treating y
       → AllTreated y
       → notes ≡ treating ++ handed_notes 0 x.serving.names
       → (IsTrue m.tells → Leaves x m m' × IsWayOf m'.held.region Memory)
       → ends ≡ ending.Done
       → leaf' ≡ IsDown
-      → DrainMoves m m' leaf notes ends leaf'
-  failed : (x y : Shutting)
+      → DrainMoves m m' leaf stop notes ends leaf'
+  failed : (x y : Shutting) (left : ℕ)
       → Shuts leaf x
+      → x.treated + left ≡ length x.serving.tables
+      → MayMake stop (left + 2)
       → TreatsOn x notes y
       → AllTreated y
       → (IsTrue m.tells → Leaves x m m')
       → ends ≡ ending.FaultRegion
       → leaf' ≡ IsDown
-      → DrainMoves m m' leaf notes ends leaf'
-  starved : (x y : Shutting)
+      → DrainMoves m m' leaf stop notes ends leaf'
+  starved : (x y : Shutting) (left : ℕ)
       → Shuts leaf x
+      → x.treated + left ≡ length x.serving.tables
+      → MayMake stop (left + 1)
       → TreatsOn x notes y
       → AllTreated y
       → (IsTrue m.tells → Continues x.serving y.serving m m')
       → IsShutting y
       → ends ≡ ending.FaultMemory
       → leaf' ≡ IsPreparing y
-      → DrainMoves m m' leaf notes ends leaf'
-  halted : (x y z : Shutting) (treating halting : List Note)
+      → DrainMoves m m' leaf stop notes ends leaf'
+  halted : (x y z : Shutting) (treating halting : List Note) (made : ℕ)
       → Shuts leaf x
+      → x.treated + made ≡ y.treated
+      → MayMake stop (suc made)
       → TreatsOn x treating y
       → y.treated < length y.serving.tables
       → Halts y z halting
@@ -289,12 +303,35 @@ pub data DrainMoves (m m' : Meaning) (leaf : Leaf) (notes : List Note) (ends : E
       → IsShutting z
       → ends ≡ ending.FaultDisk
       → leaf' ≡ IsPreparing z
-      → DrainMoves m m' leaf notes ends leaf'
+      → DrainMoves m m' leaf stop notes ends leaf'
+  stopped : (x y : Shutting) (treating : List Note) (made : ℕ)
+      → Shuts leaf x
+      → stop ≡ Some made
+      → x.treated + made ≡ y.treated
+      → TreatsOn x treating y
+      → notes ≡ treating ++ closed_notes (shutting.first_open y) (drop (shutting.first_open y) y.serving.tables)
+      → (IsTrue m.tells → Continues x.serving y.serving m m')
+      → IsShutting y
+      → ends ≡ ending.Stopped
+      → leaf' ≡ IsDown
+      → DrainMoves m m' leaf stop notes ends leaf'
+  stopped_copying : (x y : Shutting) (left further : ℕ)
+      → Shuts leaf x
+      → stop ≡ Some (left + further)
+      → x.treated + left ≡ length x.serving.tables
+      → 0 < further
+      → further < 4
+      → TreatsOn x notes y
+      → AllTreated y
+      → (IsTrue m.tells → Leaves x m m' × RegionStopped further m m')
+      → ends ≡ ending.Stopped
+      → leaf' ≡ IsDown
+      → DrainMoves m m' leaf stop notes ends leaf'
   not_up : leaf ≡ IsDown
       → notes ≡ []
       → ends ≡ ending.NotUp
       → leaf' ≡ leaf
-      → DrainMoves m m' leaf notes ends leaf'
+      → DrainMoves m m' leaf stop notes ends leaf'
 
 -- the berth is as it was
 pub record Untouched (m m' : Meaning) : Type 0 where
@@ -325,10 +362,10 @@ pub record KillStep (m m' : Meaning) (leaf : Leaf) (numbers : List ℕ) (lines :
   pub prints : StewardLines Kill notes ends numbers lines numbers'
   pub same : Untouched m m'
 
-pub record DrainStep (m m' : Meaning) (leaf : Leaf) (numbers : List ℕ) (lines : List Line) (leaf' : Leaf) (numbers' : List ℕ) : Type 0 where
+pub record DrainStep (stop : Option ℕ) (m m' : Meaning) (leaf : Leaf) (numbers : List ℕ) (lines : List Line) (leaf' : Leaf) (numbers' : List ℕ) : Type 0 where
   pub notes : List Note
   pub ends : Ending
-  pub moves : DrainMoves m m' leaf notes ends leaf'
+  pub moves : DrainMoves m m' leaf stop notes ends leaf'
   pub prints : StewardLines Drain notes ends numbers lines numbers'
   pub others : leaf ≡ IsDown → Untouched m m'
 
@@ -338,7 +375,7 @@ MayPlay names (command.Fleet machines per_machine tables) = ⊤
 MayPlay names (command.Add leaf table rows) = IsCommand names (command.Add leaf table rows)
 MayPlay names (command.Query q) = IsCommand names (command.Query q)
 MayPlay names (command.Flush leaf table) = IsCommand names (command.Flush leaf table)
-MayPlay names (command.Drain leaf) = IsCommand names (command.Drain leaf)
+MayPlay names (command.Drain leaf stop) = IsCommand names (command.Drain leaf stop)
 MayPlay names (command.Kill leaf) = IsCommand names (command.Kill leaf)
 MayPlay names (command.Start leaf) = IsCommand names (command.Start leaf)
 
@@ -348,6 +385,6 @@ Plays names m m' (command.Fleet machines per_machine tables) leaf numbers lines 
 Plays names m m' (command.Add l table rows) leaf numbers lines leaf' numbers' = AddStep table rows m m' leaf numbers lines leaf' numbers' × Untouched m m'
 Plays names m m' (command.Query q) leaf numbers lines leaf' numbers' = QueryStep (place_of q.table names) q leaf numbers lines numbers' × (leaf' ≡ leaf) × Untouched m m'
 Plays names m m' (command.Flush l table) leaf numbers lines leaf' numbers' = FlushStep table m m' leaf numbers lines leaf' numbers'
-Plays names m m' (command.Drain l) leaf numbers lines leaf' numbers' = DrainStep m m' leaf numbers lines leaf' numbers'
+Plays names m m' (command.Drain l stop) leaf numbers lines leaf' numbers' = DrainStep stop m m' leaf numbers lines leaf' numbers'
 Plays names m m' (command.Kill l) leaf numbers lines leaf' numbers' = KillStep m m' leaf numbers lines leaf' numbers'
 Plays names m m' (command.Start l) leaf numbers lines leaf' numbers' = StartStep names m m' leaf numbers lines leaf' numbers'

@@ -1,5 +1,5 @@
 -- What a script prints: the lines of each command, the one history of each table, and the answers over those.
-use Rattle.std.specs.Prelude.{◌≡◌, ℕ, zero, suc, ◌+◌, ◌-◌, ◌*◌, ◌<◌, ◌≤◌, ◌==◌, Bool, true, false, ◌&&◌, List, [], ◌∷◌, ◌++◌, length, map, take, Option, Some, None, slice_get, slice_set, ⊤, if◌then◌else◌, bytes_eq}
+use Rattle.std.specs.Prelude.{◌≡◌, ℕ, zero, suc, ◌+◌, ◌-◌, ◌*◌, ◌<◌, ◌==◌, Bool, true, false, ◌&&◌, List, [], ◌∷◌, ◌++◌, length, map, take, Option, Some, None, slice_get, slice_set, ⊤, if◌then◌else◌, bytes_eq}
 use Rattle.std.specs.List.{flat_map, AllByRecursion}
 use Rattle.leaf_model.specs.declared.rows.Row.{Row}
 use Rattle.leaf_model.specs.declared.queries.Query.{Query}
@@ -16,7 +16,7 @@ use Rattle.script_text.specs.declared.command.Command.TheVariants as command
 use Rattle.printed_lines.specs.declared.line.Said.{Said}
 use Rattle.printed_lines.specs.declared.line.Said.TheVariants.{Added, Asked, RefusedShut, RefusedFull, RefusedMemory, Opened, Took, Flushed, Closed, Handed}
 use Rattle.printed_lines.specs.declared.line.Ending.{Ending}
-use Rattle.printed_lines.specs.declared.line.Ending.TheVariants.{Done, NotUp, NotDown, Started, FaultRegion, FaultDisk, FaultDamaged, FaultMemory, FaultStranger}
+use Rattle.printed_lines.specs.declared.line.Ending.TheVariants.{Done, Stopped, NotUp, NotDown, Started, FaultRegion, FaultDisk, FaultDamaged, FaultMemory, FaultStranger}
 use Rattle.printed_lines.specs.declared.line.Line.{Line}
 use Rattle.printed_lines.specs.declared.line.Line.TheVariants as line
 use Rattle.printed_lines.specs.Lines.{lines_text}
@@ -127,7 +127,7 @@ Prints fleet scene (command.Add leaf table rows) lines next = EntryLine IsAddSai
 Prints fleet scene (command.Query q) lines next = QueryLines fleet q lines × (next ≡ scene)
 Prints fleet scene (command.Flush leaf table) lines next = OfLeaf leaf scene next (λ life life'. Flushes table leaf life lines life')
 Prints fleet scene (command.Kill leaf) lines next = OfLeaf leaf scene next (λ life life'. Kills (length fleet.names) leaf life lines life')
-Prints fleet scene (command.Drain leaf) lines next = OfLeaf leaf scene next (λ life life'. Drains (length fleet.names) leaf life lines life')
+Prints fleet scene (command.Drain leaf stop) lines next = OfLeaf leaf scene next (λ life life'. Drains (length fleet.names) leaf stop life lines life')
 Prints fleet scene (command.Start leaf) lines next = OfLeaf leaf scene next (λ life life'. Starts (length fleet.names) leaf life lines life')
 
 -- commands one after another
@@ -160,7 +160,7 @@ call_of (command.Add leaf table rows) = Some (call.Add rows)
 call_of (command.Query q) = Some (call.Ask q)
 call_of (command.Fleet machines per_machine tables) = None
 call_of (command.Flush leaf table) = None
-call_of (command.Drain leaf) = None
+call_of (command.Drain leaf stop) = None
 call_of (command.Kill leaf) = None
 call_of (command.Start leaf) = None
 
@@ -229,7 +229,7 @@ Answers fleet bases histories (command.Query q) lines =
 Answers fleet bases histories (command.Fleet machines per_machine tables) lines = ⊤
 Answers fleet bases histories (command.Add leaf table rows) lines = ⊤
 Answers fleet bases histories (command.Flush leaf table) lines = ⊤
-Answers fleet bases histories (command.Drain leaf) lines = ⊤
+Answers fleet bases histories (command.Drain leaf stop) lines = ⊤
 Answers fleet bases histories (command.Kill leaf) lines = ⊤
 Answers fleet bases histories (command.Start leaf) lines = ⊤
 
@@ -242,6 +242,7 @@ is_region_fault FaultDamaged = false
 is_region_fault FaultMemory = false
 is_region_fault (FaultStranger name) = false
 is_region_fault Done = false
+is_region_fault Stopped = false
 is_region_fault NotUp = false
 is_region_fault NotDown = false
 is_region_fault (Started way) = false
@@ -253,6 +254,7 @@ is_disk_fault FaultDamaged = false
 is_disk_fault FaultMemory = false
 is_disk_fault (FaultStranger name) = false
 is_disk_fault Done = false
+is_disk_fault Stopped = false
 is_disk_fault NotUp = false
 is_disk_fault NotDown = false
 is_disk_fault (Started way) = false

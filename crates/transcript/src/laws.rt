@@ -12,5 +12,5 @@ pub fn plays_go_on<B: Berth>(old: &B, new: &B)
     ensures end { SessionsEnd (B.meaning old.now) }
 {
     leaves_rest(old);
-    let _ = new;
+    leaves_rest(new);
 }

@@ -1,6 +1,5 @@
 use Rattle.std.proofs.Common.{rules, sym, subst, length}
 use Rattle.berth_face.specs.Streams.{ReadsAll, TakesAtMost}
-use Rattle.script_text.specs.Script.{IfAt, script_of}
 use Rattle.play.specs.Outcome.{IfScript, IsNoPlay, Takes}
 use Rattle.play.specs.Source.{longest_text}
 use Rattle.play.proofs.Own.{no_play_fault, no_more_fault, Found}

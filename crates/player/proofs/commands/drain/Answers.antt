@@ -1,4 +1,4 @@
-use Rattle.std.proofs.Common.{length, sym, subst}
+use Rattle.std.proofs.Common.{length, subst}
 use Rattle.std.proofs.lemmas.Result.{IfOk-weaker}
 use Rattle.printed_lines.specs.declared.line.Verb.TheVariants as verb
 use Rattle.transcript.specs.Steps.{DrainStep, StewardLines}
@@ -17,7 +17,7 @@ returns-clause-drains g c =
     let numbers = c.args.numbers.now.items in
     let numbers' = c.drain-leaf.new.numbers.items in
     IfOk-weaker c.with_ending.result (λ lines. StewardLines verb.Drain drained.notes ends numbers lines.items numbers')
-    (λ lines. DrainStep (meaning old) (meaning new) (state_of c.args.leaf) numbers lines.items (state_of c.drain-leaf.result.0) numbers')
+    (λ lines. DrainStep c.args.stop (meaning old) (meaning new) (state_of c.args.leaf) numbers lines.items (state_of c.drain-leaf.result.0) numbers')
     (λ lines prints. record {
       notes = drained.notes;
       ends = ends;

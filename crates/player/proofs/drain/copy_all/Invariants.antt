@@ -1,8 +1,10 @@
-use Rattle.player.proofs.Drained.{CopiedSoFar, steps_left}
+use Rattle.std.proofs.Common.{◌-◌}
+use Rattle.player.specs.Steps.{steps_before}
+use Rattle.player.proofs.Copied.{CopiedSoFar}
 use Rattle.player.proofs.drain.copy_all.Given as goal
 
-abbrev pub invariant-loop-more : goal.invariant-loop-more
-invariant-loop-more g l = CopiedSoFar l.fn.leaf.0 (g.B.Berth.meaning l.fn.leaf.1) l.leaf.0 (g.B.Berth.meaning l.leaf.1)
+abbrev pub invariant-loop-leaf : goal.invariant-loop-leaf
+invariant-loop-leaf g l = CopiedSoFar l.fn.leaf.0 (g.B.Berth.meaning l.fn.leaf.1) l.fn.steps.left l.leaf.0 (g.B.Berth.meaning l.leaf.1) l.steps.left l.notes
 
-abbrev pub decreases-loop-more : goal.decreases-loop-more
-decreases-loop-more g l = steps_left l.leaf.0.drain.next
+abbrev pub decreases-loop-leaf : goal.decreases-loop-leaf
+decreases-loop-leaf g l = 3 - steps_before l.leaf.0.drain.next

@@ -1,16 +1,20 @@
-use Rattle.std.proofs.Common.{Ok, Err, ap, subst, ◌∙◌}
-use Rattle.leaf_machine.specs.declared.preparing.Prepared.TheVariants as prepared
-use Rattle.player.proofs.Drained.{Stepped, so_far_none, shut_more, shut_ready, shut_failed}
+use Rattle.std.proofs.Common.{◌≡◌, Ok, true, ap, subst, ◌∙◌, rules}
+use Rattle.player.specs.Steps.{Spends}
+use Rattle.player.proofs.Drained.{Stepped, so_far_none, shut_more, shut_ready, shut_halted, shut_starved}
 use Rattle.player.proofs.drain.shut_all.Goals as goal
 
-pub loop-more-init : goal.loop-more-init
-loop-more-init g c = so_far_none c.args.leaf.0 (g.B.Berth.meaning c.args.leaf.1) c.args.numbers.now.items c.new.result c.new.ensures.items c.requires
+pub loop-alloc-init : goal.loop-alloc-init
+loop-alloc-init g c = so_far_none c.args.leaf.0 (g.B.Berth.meaning c.args.leaf.1) c.args.steps.now.left c.args.numbers.now.items c.new.result c.new.ensures.items c.requires
 
-pub loop-more-preserved : goal.loop-more-preserved
-loop-more-preserved g c =
+pub loop-alloc-preserved : goal.loop-alloc-preserved
+loop-alloc-preserved g c =
     let meaning = g.B.Berth.meaning in
-    let y = c.loop-more.leaf in
+    let y = c.loop-alloc.leaf in
     let notes = c.step-step.new.notes in
+    let left = c.loop-alloc.steps.left in
+    let left' = c.spend.new.self.left in
+    let some : c.spend.result ≡ true = search rules in
+    let spends = subst (λ taken. Spends left taken left') some c.spend.ensures in
     let stepped : Stepped meaning y.0 (meaning y.1) notes c.step-step.result = record {
       one = c.step-step.ensures.step;
       goes_on = c.step-step.ensures.goes_on;
@@ -18,14 +22,18 @@ loop-more-preserved g c =
       time = c.step-step.ensures.time;
     } in
     let here = subst (λ r. Stepped meaning y.0 (meaning y.1) notes r) (c.in-Ok-More.is ∙ ap (λ s. Ok s) c.in-Ok-More.field-0-is) stepped in
-    shut_more meaning c.args.leaf.0 y.0 (meaning c.args.leaf.1) (meaning y.1) c.args.numbers.now.items c.loop-more.lines c.with_notes-lines.result c.loop-more.numbers.items c.with_notes-lines.new.numbers.items
-    notes c.in-Ok-More.more c.loop-more.invariant c.shuts.ensures here c.with_notes-lines.ensures.added c.with_notes-lines.ensures.same_length
+    shut_more meaning c.args.leaf.0 (meaning c.args.leaf.1) c.args.steps.now.left left left' c.args.numbers.now.items y c.loop-alloc.lines c.loop-alloc.numbers.items c.loop-alloc.invariant c.shuts.ensures
+    spends c.with_notes-lines.result c.with_notes-lines.new.numbers.items notes c.with_notes-lines.ensures.added c.in-Ok-More.more here c.with_notes-lines.ensures.same_length
 
 pub returns-in-Ok-Ready-clause-shuts : goal.returns-in-Ok-Ready-clause-shuts
 returns-in-Ok-Ready-clause-shuts g c =
     let meaning = g.B.Berth.meaning in
-    let y = c.loop-more.leaf in
+    let y = c.loop-alloc.leaf in
     let notes = c.step-step.new.notes in
+    let left = c.loop-alloc.steps.left in
+    let left' = c.spend.new.self.left in
+    let some : c.spend.result ≡ true = search rules in
+    let spends = subst (λ taken. Spends left taken left') some c.spend.ensures in
     let stepped : Stepped meaning y.0 (meaning y.1) notes c.step-step.result = record {
       one = c.step-step.ensures.step;
       goes_on = c.step-step.ensures.goes_on;
@@ -33,20 +41,43 @@ returns-in-Ok-Ready-clause-shuts g c =
       time = c.step-step.ensures.time;
     } in
     let here = subst (λ r. Stepped meaning y.0 (meaning y.1) notes r) (c.in-Ok-Ready.is ∙ ap (λ s. Ok s) c.in-Ok-Ready.field-0-is) stepped in
-    shut_ready meaning c.args.leaf.0 y.0 (meaning c.args.leaf.1) (meaning y.1) c.args.numbers.now.items c.loop-more.lines c.with_notes-lines.result c.loop-more.numbers.items c.with_notes-lines.new.numbers.items
-    notes c.in-Ok-Ready.copying c.loop-more.invariant c.shuts.ensures here c.with_notes-lines.ensures.added
+    shut_ready meaning c.args.leaf.0 (meaning c.args.leaf.1) c.args.steps.now.left left left' c.args.numbers.now.items y c.loop-alloc.lines c.loop-alloc.numbers.items c.loop-alloc.invariant c.shuts.ensures
+    spends c.with_notes-lines.result c.with_notes-lines.new.numbers.items notes c.with_notes-lines.ensures.added c.in-Ok-Ready.copying here
 
-pub returns-in-Err-clause-shuts : goal.returns-in-Err-clause-shuts
-returns-in-Err-clause-shuts g c =
+pub returns-in-Err-default-DiskFault-clause-shuts : goal.returns-in-Err-default-DiskFault-clause-shuts
+returns-in-Err-default-DiskFault-clause-shuts g c =
     let meaning = g.B.Berth.meaning in
-    let y = c.loop-more.leaf in
+    let y = c.loop-alloc.leaf in
     let notes = c.step-step.new.notes in
+    let left = c.loop-alloc.steps.left in
+    let left' = c.spend.new.self.left in
+    let some : c.spend.result ≡ true = search rules in
+    let spends = subst (λ taken. Spends left taken left') some c.spend.ensures in
     let stepped : Stepped meaning y.0 (meaning y.1) notes c.step-step.result = record {
       one = c.step-step.ensures.step;
       goes_on = c.step-step.ensures.goes_on;
       region = c.step-step.ensures.region;
       time = c.step-step.ensures.time;
     } in
-    let here = subst (λ r. Stepped meaning y.0 (meaning y.1) notes r) c.in-Err.is stepped in
-    shut_failed meaning c.args.leaf.0 y.0 (meaning c.args.leaf.1) (meaning y.1) c.args.numbers.now.items c.loop-more.lines c.with_notes-lines.result c.loop-more.numbers.items c.with_notes-lines.new.numbers.items
-    notes c.in-Err.left c.in-Err.fault c.loop-more.invariant c.shuts.ensures c.shuts-in-Err.ensures here c.with_notes-lines.ensures.added
+    let here = subst (λ r. Stepped meaning y.0 (meaning y.1) notes r) c.in-Err-default-DiskFault.is stepped in
+    shut_halted meaning c.args.leaf.0 (meaning c.args.leaf.1) c.args.steps.now.left left left' c.args.numbers.now.items y c.loop-alloc.lines c.loop-alloc.numbers.items c.loop-alloc.invariant c.shuts.ensures
+    spends c.with_notes-lines.result c.with_notes-lines.new.numbers.items notes c.with_notes-lines.ensures.added c.in-Err-default-DiskFault.left c.in-Err-default-DiskFault.field-0-1 c.shuts-in-Err-default-DiskFault.ensures here c.in-Err-default-DiskFault.field-0-1-is
+
+pub returns-in-Err-default-NoMemory-clause-shuts : goal.returns-in-Err-default-NoMemory-clause-shuts
+returns-in-Err-default-NoMemory-clause-shuts g c =
+    let meaning = g.B.Berth.meaning in
+    let y = c.loop-alloc.leaf in
+    let notes = c.step-step.new.notes in
+    let left = c.loop-alloc.steps.left in
+    let left' = c.spend.new.self.left in
+    let some : c.spend.result ≡ true = search rules in
+    let spends = subst (λ taken. Spends left taken left') some c.spend.ensures in
+    let stepped : Stepped meaning y.0 (meaning y.1) notes c.step-step.result = record {
+      one = c.step-step.ensures.step;
+      goes_on = c.step-step.ensures.goes_on;
+      region = c.step-step.ensures.region;
+      time = c.step-step.ensures.time;
+    } in
+    let here = subst (λ r. Stepped meaning y.0 (meaning y.1) notes r) c.in-Err-default-NoMemory.is stepped in
+    shut_starved meaning c.args.leaf.0 (meaning c.args.leaf.1) c.args.steps.now.left left left' c.args.numbers.now.items y c.loop-alloc.lines c.loop-alloc.numbers.items c.loop-alloc.invariant c.shuts.ensures
+    spends c.with_notes-lines.result c.with_notes-lines.new.numbers.items notes c.with_notes-lines.ensures.added c.in-Err-default-NoMemory.left c.in-Err-default-NoMemory.field-0-1 c.shuts-in-Err-default-NoMemory.ensures here c.in-Err-default-NoMemory.field-0-1-is

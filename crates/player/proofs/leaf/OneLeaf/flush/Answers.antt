@@ -1,4 +1,4 @@
-use Rattle.std.proofs.Common.{length, sym, subst}
+use Rattle.std.proofs.Common.{sym, subst}
 use Rattle.transcript.specs.Steps.{IsUp, FlushMoves}
 use Rattle.player.specs.Stage.{state_of, berth_of}
 use Rattle.player.proofs.Moved.{flush_moves}

@@ -1,0 +1,66 @@
+// A drain.
+ghost use Rattle.std.specs.Prelude.{◌≡◌, ◌≤◌, ℕ, List, IfOk, IfSome, option_map};
+ghost use Rattle.script_text.specs.Words.{words_of, capped};
+ghost use Rattle.script_text.specs.Commands.{DrainForm, drain_of, drain_words};
+ghost use Rattle.script_text.specs.Fits.{IsCommand};
+ghost use Rattle.script_text.specs.Script.{Gives, row_count};
+
+use crate::add::LEAVES;
+use crate::command::Command;
+use crate::fault::{ScriptFault, Why, fault_at};
+use crate::verb::is_word;
+use crate::words::{next_word, number_of};
+
+/// The most steps after which a drain is stopped.
+const MAX_STEPS: u64 = 1_000_000;
+
+/// The words of a drain. A leaf's number that is greater than a `u64` can hold is the greatest `u64`.
+#[derive(Clone, Copy)]
+struct DrainWords {
+    leaf: u64,
+    stop: Option<u32>,
+}
+
+/// The drain of these words, which stand on the line of this number.
+pub fn drain(words: &[u8], number: u64) -> Result<Command, ScriptFault>
+    ensures exact { Gives (λ c. c) result (drain_of number (drain_words (words_of words.now))) }
+    ensures is_command { (tables : List (List ℕ)) → IfOk result (IsCommand tables) }
+    ensures no_rows { IfOk result (λ c. row_count c ≡ 0) }
+{
+    let Some(drain) = drain_words(words) else {
+        return Err(fault_at(number, Why::Words));
+    };
+    if drain.leaf >= LEAVES {
+        return Err(fault_at(number, Why::Leaf));
+    }
+    Ok(Command::Drain {
+        leaf: drain.leaf as u32,
+        stop: drain.stop,
+    })
+}
+
+/// The words of `drain L` or of `drain L stop N`.
+fn drain_words(words: &[u8]) -> Option<DrainWords>
+    ensures exact { option_map {U = DrainForm} (λ drain. record { leaf = drain.leaf; stop = drain.stop }) result
+        ≡ option_map {U = DrainForm} (λ (drain : DrainForm). record { leaf = capped drain.leaf; stop = drain.stop }) (drain_words (words_of words.now)) }
+    ensures few { IfSome result (λ drain. IfSome drain.stop (λ steps. steps ≤ MAX_STEPS)) }
+{
+    let (leaf, rest) = next_word(words)?;
+    let Some((word, rest)) = next_word(rest) else {
+        let leaf = number_of(leaf)?;
+        return Some(DrainWords { leaf, stop: None });
+    };
+    let (steps, rest) = next_word(rest)?;
+    if !is_word(word, "stop") || next_word(rest).is_some() {
+        return None;
+    }
+    let leaf = number_of(leaf)?;
+    let steps = number_of(steps)?;
+    if steps > MAX_STEPS {
+        return None;
+    }
+    Some(DrainWords {
+        leaf,
+        stop: Some(steps as u32),
+    })
+}
