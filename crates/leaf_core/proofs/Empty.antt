@@ -8,7 +8,7 @@ use Rattle.leaf_model.specs.Content.{content}
 use Rattle.leaf_history.specs.History.{no_base}
 use Rattle.region_layout.proofs.Heads.{closed_head, image_head}
 use Rattle.row_records.specs.Records.{LogRecord}
-use Rattle.leaf_core.specs.Log.{IsLog, is_short, is_gated, writes_of}
+use Rattle.disk_backup.specs.Logs.{IsLog, is_short, is_gated, writes_of}
 use Rattle.leaf_core.specs.Left.{Tables, Left, closed}
 use Rattle.leaf_core.specs.Base.{HasLog, IsReady}
 

@@ -6,7 +6,7 @@ use Rattle.std.proofs.Math.Seq.{take-length}
 use Rattle.berth_face.specs.Berth.{Pair}
 use Rattle.leaf_history.specs.History.{TableState}
 use Rattle.row_records.specs.Records.{LogRecord}
-use Rattle.leaf_core.specs.Log.{writes_of}
+use Rattle.disk_backup.specs.Logs.{writes_of}
 use Rattle.leaf_core.specs.Left.{Tables, Left, RegionLeft, closed, other_version, image}
 use Rattle.leaf_core.specs.Machine.{Machine, Tracked, RegionIs, Whole, Either, Other}
 use Rattle.leaf_core.specs.Events.{IsSettled, MayBe}

@@ -4,7 +4,7 @@ use Rattle.std.specs.Prelude.{◌==◌, ◌≢◌, ◌⊎◌, if◌then◌else�
 use Rattle.std.specs.List.{AllByRecursion}
 use Rattle.std.proofs.lemmas.Bool.{eq-eqb, eqb-true, eqb-false}
 use Rattle.row_records.specs.Records.{LogRecord}
-use Rattle.leaf_core.specs.Log.{writes_of}
+use Rattle.disk_backup.specs.Logs.{writes_of}
 use Rattle.leaf_core.specs.Machine.{Machine, Tracked, Hand, Down, RegionIs}
 use Rattle.leaf_core.specs.Events.{MayBe, gate_begun}
 use Rattle.leaf_core.specs.Kept.{AllPlaces, KeptTable, in_hand, is_frozen}

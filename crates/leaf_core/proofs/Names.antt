@@ -8,7 +8,7 @@ use Rattle.berth_face.specs.Berth.{Pair, Meaning}
 use Rattle.leaf_model.specs.declared.writes.Write.{Write}
 use Rattle.region_layout.specs.Region.{AreDistinct}
 use Rattle.row_records.specs.Records.{LogRecord}
-use Rattle.leaf_core.specs.Log.{writes_of}
+use Rattle.disk_backup.specs.Logs.{writes_of}
 use Rattle.leaf_core.specs.Left.{Tables, Left}
 use Rattle.leaf_core.specs.Base.{IsReady}
 use Rattle.leaf_core.specs.Machine.{Tracked}

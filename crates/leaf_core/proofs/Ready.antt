@@ -13,7 +13,7 @@ use Rattle.region_layout.specs.declared.image.TableImage.{TableImage}
 use Rattle.region_layout.specs.Region.{AreDistinct, IsImage, head_of}
 use Rattle.region_layout.proofs.Heads.{closed_head, image_head}
 use Rattle.row_records.specs.Records.{LogRecord}
-use Rattle.leaf_core.specs.Log.{writes_of}
+use Rattle.disk_backup.specs.Logs.{writes_of}
 use Rattle.leaf_core.specs.Left.{Tables, Left, ImageOf, RegionLeft, closed, other_version, image}
 use Rattle.leaf_core.specs.Base.{HasLog, IsBaseOf, IsFixed, HasTwoLengths, MayBegin, IsReady}
 use Rattle.leaf_core.specs.Machine.{Machine, Tracked, Down, RegionIs, Closed, Whole, Either, Other}

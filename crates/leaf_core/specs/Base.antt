@@ -6,7 +6,7 @@ use Rattle.leaf_history.specs.History.{TableState, base_of}
 use Rattle.region_layout.specs.declared.image.TableImage.{TableImage}
 use Rattle.region_layout.specs.Region.{IsImage}
 use Rattle.row_records.specs.Records.{LogRecord}
-use Rattle.leaf_core.specs.Log.{IsLog, writes_of}
+use Rattle.disk_backup.specs.Logs.{IsLog, writes_of}
 use Rattle.leaf_core.specs.Left.{Tables, Left, HasShutGate}
 
 -- the writes of a name in a disk's log

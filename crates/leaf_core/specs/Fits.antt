@@ -7,7 +7,7 @@ use Rattle.region_layout.specs.declared.head.Head.TheVariants.{Version}
 use Rattle.region_layout.specs.declared.image.TableImage.{TableImage}
 use Rattle.region_layout.specs.Region.{IsClosed, IsImage, head_of}
 use Rattle.row_records.specs.Records.{LogRecord}
-use Rattle.leaf_core.specs.Log.{IsLog, IsBounded, writes_of}
+use Rattle.disk_backup.specs.Logs.{IsLog, IsBounded, writes_of}
 use Rattle.leaf_core.specs.Left.{Tables, ImageOf, HasShutGate}
 use Rattle.leaf_core.specs.Machine.{Machine, Tracked, RegionIs, Whole, Either, Other}
 use Rattle.leaf_core.specs.Events.{MayBe, is_whole}

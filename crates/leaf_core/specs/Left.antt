@@ -8,7 +8,7 @@ use Rattle.region_layout.specs.declared.head.Head.TheVariants.{Version}
 use Rattle.region_layout.specs.declared.image.TableImage.{TableImage}
 use Rattle.region_layout.specs.Region.{IsClosed, IsImage, head_of}
 use Rattle.row_records.specs.Records.{LogRecord}
-use Rattle.leaf_core.specs.Log.{IsLog, IsBounded, writes_of}
+use Rattle.disk_backup.specs.Logs.{IsLog, IsBounded, writes_of}
 
 -- the state of each table, by name: one that is not listed has no writes
 abbrev pub Tables : Type 0

@@ -1,4 +1,3 @@
-pub mod Log
 pub mod Left
 pub mod Base
 pub mod Machine
