@@ -1,0 +1,104 @@
+-- The entries that the steward makes, each with its note.
+use Rattle.std.specs.Prelude.{◌≡◌, ℕ, suc, ◌≤◌, List, [], ◌∷◌, ◌++◌, length, slice_get, Some, Option, ⊤}
+use Rattle.leaf_model.specs.Content.{Contents}
+use Rattle.leaf_history.specs.Calls as call
+use Rattle.leaf_history.specs.Replies as reply
+use Rattle.leaf_history.specs.History.{held}
+use Rattle.table_state.specs.Tables.{Table}
+use Rattle.row_records.specs.Records.{LogRecord}
+use Rattle.leaf_table.specs.declared.base.TableBase.{TableBase}
+use Rattle.leaf_table.specs.Turns.{Shared, untaken_record}
+use Rattle.leaf_table.specs.Calls.{SeatView, Made, base_of, name_of, state_before, IsFresh, IsWorn}
+use Rattle.leaf_steward.specs.declared.notes.Note.{Note}
+use Rattle.leaf_steward.specs.declared.notes.What.{What}
+use Rattle.leaf_steward.specs.declared.notes.What.TheVariants.{Opened, Took, Flushed, Closed, Handed}
+use Rattle.leaf_steward.specs.Seated.{Seated, with_seat}
+
+-- the entry that a note tells of
+abbrev pub MadeAs : Option TableBase → ℕ → SeatView → What → SeatView → Type 0
+MadeAs base clock v (Opened n) w = (contents : Contents) × Made base clock v (call.Open n contents) reply.Noted w
+MadeAs base clock v (Took n) w = Made base clock v call.Take (reply.Counted n) w
+MadeAs base clock v (Flushed n) w = Made base clock v (call.Flushed n) reply.Noted w
+MadeAs base clock v (Closed n) w = Made base clock v call.Shut (reply.Counted n) w
+MadeAs base clock v Handed w = Made base clock v call.Done reply.Noted w
+
+-- one entry was made at that clock of the berth, and this is its note
+pub record OneEntry (clock : ℕ) (x : Seated) (note : Note) (y : Seated) : Type 0 where
+  pub table : Shared
+  pub before : SeatView
+  pub after : SeatView
+  pub at : slice_get x.tables note.table ≡ Some table
+  pub was : slice_get x.seats note.table ≡ Some before
+  pub number : note.number ≡ length after.seen
+  pub made : MadeAs (base_of table) clock before note.what after
+  pub now : y ≡ with_seat x note.table after
+
+-- entries were made one after another, from one clock of the berth to another, and these are their notes
+pub data Makes : ℕ → ℕ → Seated → List Note → Seated → Type 0 where
+  none : (from to : ℕ) (x : Seated) (notes : List Note) (y : Seated) → from ≤ to → notes ≡ [] → y ≡ x → Makes from to x notes y
+  more : (from to : ℕ) (x : Seated) (notes : List Note) (y : Seated) (clock : ℕ) (note : Note) (rest : List Note) (between : Seated)
+      → from ≤ clock → OneEntry clock x note between → Makes clock to between rest y → notes ≡ note ∷ rest → Makes from to x notes y
+
+-- a call notes its entries behind those that were there
+abbrev pub NotesOn : ℕ → ℕ → Seated → List Note → List Note → Seated → Type 0
+NotesOn from to x before after y = (made : List Note) × (after ≡ before ++ made) × Makes from to x made y
+
+-- each of so many tables, from a place on, was noted so
+abbrev pub EachNoted : (What → Type 0) → ℕ → ℕ → List Note → Type 0
+EachNoted P place count [] = count ≡ 0
+EachNoted P place count (note ∷ notes) = (fewer : ℕ) × (count ≡ suc fewer) × (note.table ≡ place) × P note.what × EachNoted P (suc place) fewer notes
+
+abbrev pub IsClosedNote : What → Type 0
+IsClosedNote (Opened n) = ⊥
+IsClosedNote (Took n) = ⊥
+IsClosedNote (Flushed n) = ⊥
+IsClosedNote (Closed n) = ⊤
+IsClosedNote Handed = ⊥
+
+abbrev pub IsHandedNote : What → Type 0
+IsHandedNote (Opened n) = ⊥
+IsHandedNote (Took n) = ⊥
+IsHandedNote (Flushed n) = ⊥
+IsHandedNote (Closed n) = ⊥
+IsHandedNote Handed = ⊤
+
+-- each table was noted as opened with as many writes as it has
+abbrev pub OpenedNotes : ℕ → List Table → List Note → Type 0
+OpenedNotes place [] notes = notes ≡ []
+OpenedNotes place (t ∷ ts) [] = ⊥
+OpenedNotes place (t ∷ ts) (note ∷ notes) = (note.table ≡ place) × (note.what ≡ Opened t.writes) × OpenedNotes (suc place) ts notes
+
+-- the record of what was not taken just before the entry, and what the table held then
+abbrev pub pending_before : {base : Option TableBase} → {clock : ℕ} → {v w : SeatView} → {c : call.Call} → {r : reply.Reply} → List ℕ → Made base clock v c r w → Option LogRecord
+pending_before {base} {clock} {v} {w} {c} {r} name m = untaken_record name (state_before base v m.between)
+
+-- the table in that place was taken: so many writes were accepted, and this is the record of those that were not taken before
+pub record TakesAt (clock : ℕ) (x : Seated) (place number n : ℕ) (pending : Option LogRecord) (y : Seated) : Type 0 where
+  pub table : Shared
+  pub before : SeatView
+  pub after : SeatView
+  pub at : slice_get x.tables place ≡ Some table
+  pub was : slice_get x.seats place ≡ Some before
+  pub fresh : IsFresh before
+  pub counted : number ≡ length after.seen
+  pub made : Made (base_of table) clock before call.Take (reply.Counted n) after
+  pub record_is : pending ≡ untaken_record (name_of table) (state_before (base_of table) before made.between)
+  pub now : y ≡ with_seat x place after
+
+-- it was shut after so many writes, and this is its content, with the record of those that were not taken
+pub record ShutsAt (clock : ℕ) (x : Seated) (place number n : ℕ) (t : Table) (y : Seated) : Type 0 where
+  pub table : Shared
+  pub before : SeatView
+  pub after : SeatView
+  pub at : slice_get x.tables place ≡ Some table
+  pub was : slice_get x.seats place ≡ Some before
+  pub counted : number ≡ length after.seen
+  pub made : Made (base_of table) clock before call.Shut (reply.Counted n) after
+  pub writes : t.writes ≡ n
+  pub contents : t.contents ≡ held (state_before (base_of table) before made.between)
+  pub record_is : t.pending ≡ untaken_record (name_of table) (state_before (base_of table) before made.between)
+  pub now : y ≡ with_seat x place after
+
+-- the seat in that place is worn
+abbrev pub WornAt : Seated → ℕ → Type 0
+WornAt x place = (v : SeatView) × (slice_get x.seats place ≡ Some v) × IsWorn v

@@ -1,0 +1,223 @@
+// The entries of the steward. None of them takes memory, and each carries the berth's clock as it is at the call.
+ghost use Rattle.std.specs.Prelude.{◌≡◌, ◌<◌, ◌≤◌, ◌+◌, ◌++◌, ◌∷◌, ℕ, List, [], length, drop, slice_get, Some, IfSome, IfNone, true};
+ghost use Rattle.std.specs.List.{AllByRecursion};
+ghost use Rattle.table_state.specs.Tables.{Table};
+ghost use Rattle.leaf_history.specs.History as history;
+ghost use Rattle.leaf_table.specs.Turns.{Shared, is_founded, MayHandIn};
+ghost use Rattle.leaf_table.specs.Calls.{SeatView, base_of, state_seen, IsFresh};
+ghost use Rattle.leaf_steward.specs.declared.notes.Note.{Note};
+ghost use Rattle.leaf_steward.specs.declared.notes.What.TheVariants as what;
+ghost use Rattle.leaf_steward.specs.Seated.{AtEach, AtPlace, IsOpen, IsShut, Spares};
+ghost use Rattle.leaf_steward.specs.Making.{EachNoted, IsClosedNote, IsHandedNote, Makes, OneEntry, OpenedNotes, ShutsAt, TakesAt, WornAt};
+
+use crate::notes::{Notes, What};
+use crate::seats::Seats;
+use berth_face::{Berth, Gate};
+use leaf_table::{ClosedTable, Taken};
+use row_records::Pending;
+use std::collections::VecDeque;
+use std::sync::Wait;
+use table_state::TableState;
+
+impl<'t> Seats<'t> {
+    /// Takes the writes of the table in that place that were not taken, and notes that: how many it had accepted, and the record of the new ones.
+    /// None where the seat has seen 2^62 entries: then no entry is made.
+    pub fn take<R: Wait, B: Berth, G: Gate>(
+        &mut self,
+        rt: &R,
+        table: u32,
+        berth: &B,
+        gate: &G,
+        notes: &mut Notes,
+    ) -> Option<(u64, Pending)>
+        requires table { table < length self.old.tables }
+        requires open_ { AtPlace IsOpen self.old table }
+        requires spares { AtPlace (Spares 1) self.old table }
+        requires room { length notes.old < 32 }
+        ensures took { IfSome result (λ r. (number : ℕ) × TakesAt (B.meaning berth.now).clock self.old table number r.0 r.1 self.new
+            × (notes.new ≡ notes.old ++ record { table = table; number = number; what = what.Took r.0 } ∷ [])) }
+        ensures worn { IfNone result (WornAt self.old table × (self.new ≡ self.old) × (notes.new ≡ notes.old)) }
+    {
+        let place = table as usize;
+        let Taken::Took {
+            number,
+            writes,
+            pending,
+        } = self.tables[place].take(rt, &mut self.seats[place], berth, gate)
+        else {
+            return None;
+        };
+        notes.note(table, number, What::Took(writes));
+        Some((writes, pending))
+    }
+
+    /// Notes that the disk holds the first writes of the table in that place. The steward has taken as many.
+    pub fn flushed<R: Wait, B: Berth, G: Gate>(
+        &mut self,
+        rt: &R,
+        table: u32,
+        writes: u64,
+        berth: &B,
+        gate: &G,
+        notes: &mut Notes,
+    )
+        requires table { table < length self.old.tables }
+        requires taken { AtPlace (λ t v. writes ≤ (state_seen (base_of t) v).taken) self.old table }
+        requires spares { AtPlace (Spares 1) self.old table }
+        requires room { length notes.old < 32 }
+        ensures { (number : ℕ) × OneEntry (B.meaning berth.now).clock self.old (record { table = table; number = number; what = what.Flushed writes }) self.new
+            × (notes.new ≡ notes.old ++ record { table = table; number = number; what = what.Flushed writes } ∷ []) }
+    {
+        let place = table as usize;
+        let number = self.tables[place].flushed(rt, &mut self.seats[place], writes, berth, gate);
+        notes.note(table, number, What::Flushed(writes));
+    }
+
+    /// Shuts the table in that place, notes that, and hands out its content with the record of what was not taken, and how many writes it had accepted.
+    pub fn shut<R: Wait, B: Berth, G: Gate>(
+        &mut self,
+        rt: &R,
+        table: u32,
+        berth: &B,
+        gate: &G,
+        notes: &mut Notes,
+    ) -> TableState
+        requires table { table < length self.old.tables }
+        requires open_ { AtPlace IsOpen self.old table }
+        requires spares { AtPlace (Spares 1) self.old table }
+        requires room { length notes.old < 32 }
+        ensures { (number : ℕ) × ShutsAt (B.meaning berth.now).clock self.old table number result.writes result self.new
+            × (notes.new ≡ notes.old ++ record { table = table; number = number; what = what.Closed result.writes } ∷ []) }
+    {
+        let place = table as usize;
+        let ClosedTable {
+            number,
+            writes,
+            table: content,
+        } = self.tables[place].shut(rt, &mut self.seats[place], berth, gate);
+        notes.note(table, number, What::Closed(writes));
+        content
+    }
+
+    /// Shuts each table from that place on, notes each, and drops what they held.
+    pub fn shut_rest<R: Wait, B: Berth, G: Gate>(
+        &mut self,
+        rt: &R,
+        first: u32,
+        berth: &B,
+        gate: &G,
+        notes: &mut Notes,
+    )
+        requires first { first ≤ length self.old.tables }
+        requires none { notes.old ≡ [] }
+        requires open_ { AtEach (λ place t v. first ≤ place → IsOpen t v) self.old }
+        requires spares { AtEach (λ place t v. first ≤ place → Spares 1 t v) self.old }
+        ensures made { Makes (B.meaning berth.now).clock (B.meaning berth.now).clock self.old notes.new self.new }
+        ensures each { (count : ℕ) × (first + count ≡ length self.old.tables) × EachNoted IsClosedNote first count notes.new }
+        ensures shut { AtEach (λ place t v. first ≤ place → IsShut t v) self.new }
+        ensures before { (place : ℕ) → place < first → slice_get self.new.seats place ≡ slice_get self.old.seats place }
+    {
+        for table in first..self.len() {
+            self.shut(rt, table, berth, gate, notes);
+        }
+    }
+
+    /// Notes each table as handed over.
+    pub fn hand_over<R: Wait, B: Berth, G: Gate>(
+        &mut self,
+        rt: &R,
+        berth: &B,
+        gate: &G,
+        notes: &mut Notes,
+    )
+        requires none { notes.old ≡ [] }
+        requires shut { AtEach (λ place t v. IsShut t v) self.old }
+        requires spares { AtEach (λ place t v. Spares 1 t v) self.old }
+        ensures made { Makes (B.meaning berth.now).clock (B.meaning berth.now).clock self.old notes.new self.new }
+        ensures each { EachNoted IsHandedNote 0 (length self.old.tables) notes.new }
+        ensures shut { AtEach (λ place t v. IsShut t v) self.new }
+    {
+        for table in 0..self.len() {
+            self.hand(rt, table, berth, gate, notes);
+        }
+    }
+
+    /// Opens each table with what is handed in, and notes that. No seat has seen 2^62 entries.
+    pub fn open_all<R: Wait, B: Berth, G: Gate>(
+        &mut self,
+        rt: &R,
+        tables: Vec<TableState>,
+        berth: &B,
+        gate: &G,
+        notes: &mut Notes,
+    )
+        requires none { notes.old ≡ [] }
+        requires one { length tables.items ≡ length self.old.tables }
+        requires shut { AtEach (λ place t v. IsShut t v) self.old }
+        requires fresh { AtEach (λ place t v. IsFresh v) self.old }
+        requires content { (place : ℕ) (t : Shared) (v : SeatView) (table : Table) → slice_get self.old.tables place ≡ Some t → slice_get self.old.seats place ≡ Some v
+            → slice_get tables.items place ≡ Some table → MayHandIn (is_founded (base_of t)) (state_seen (base_of t) v) table.writes table }
+        ensures made { Makes (B.meaning berth.now).clock (B.meaning berth.now).clock self.old notes.new self.new }
+        ensures each { OpenedNotes 0 tables.items notes.new }
+        ensures open_ { AtEach (λ place t v. IsOpen t v) self.new }
+        ensures spares { AtEach (λ place t v. Spares 1000 t v) self.new }
+    {
+        self.sits();
+        let mut rest = VecDeque::from_vec(tables);
+        let mut table = 0;
+        while let Some(content) = rest.pop_front() {
+            self.open(rt, table, content, berth, gate, notes);
+            table += 1;
+        }
+    }
+
+    // Notes that the table in that place was drained.
+    fn hand<R: Wait, B: Berth, G: Gate>(
+        &mut self,
+        rt: &R,
+        table: u32,
+        berth: &B,
+        gate: &G,
+        notes: &mut Notes,
+    )
+        requires table { table < length self.old.tables }
+        requires shut { AtPlace IsShut self.old table }
+        requires spares { AtPlace (Spares 1) self.old table }
+        requires room { length notes.old < 32 }
+        ensures entry { (number : ℕ) × OneEntry (B.meaning berth.now).clock self.old (record { table = table; number = number; what = what.Handed }) self.new
+            × (notes.new ≡ notes.old ++ record { table = table; number = number; what = what.Handed } ∷ []) }
+        ensures shut { AtPlace IsShut self.new table }
+    {
+        let place = table as usize;
+        let number = self.tables[place].done(rt, &mut self.seats[place], berth, gate);
+        notes.note(table, number, What::Handed);
+    }
+
+    // Opens the table in that place, and notes that.
+    fn open<R: Wait, B: Berth, G: Gate>(
+        &mut self,
+        rt: &R,
+        table: u32,
+        content: TableState,
+        berth: &B,
+        gate: &G,
+        notes: &mut Notes,
+    )
+        requires table { table < length self.old.tables }
+        requires shut { AtPlace IsShut self.old table }
+        requires fresh { AtPlace (λ t v. IsFresh v) self.old table }
+        requires content { AtPlace (λ t v. MayHandIn (is_founded (base_of t)) (state_seen (base_of t) v) content.writes content) self.old table }
+        requires room { length notes.old < 32 }
+        ensures entry { (number : ℕ) × OneEntry (B.meaning berth.now).clock self.old (record { table = table; number = number; what = what.Opened content.writes }) self.new
+            × (notes.new ≡ notes.old ++ record { table = table; number = number; what = what.Opened content.writes } ∷ []) }
+        ensures open_ { AtPlace IsOpen self.new table }
+        ensures spares { AtPlace (Spares 1000) self.new table }
+    {
+        let place = table as usize;
+        let writes = content.writes();
+        match self.tables[place].reopen(rt, &mut self.seats[place], content, writes, berth, gate) {
+            Ok(number) => notes.note(table, number, What::Opened(writes)),
+            Err(_) => unreachable!(),
+        }
+    }
+}

@@ -1,0 +1,99 @@
+// The entries that a call makes.
+ghost use Rattle.std.specs.Prelude.{◌≡◌, ◌<◌, ◌≤◌, ◌++◌, ◌∷◌, [], length, slice_get, Some};
+
+use std::marker::Model;
+
+/// An entry: the table was opened with so many writes; so many were taken, or were flushed; it was closed after so many; or it was handed over.
+#[derive(Clone, Copy, Debug, PartialEq, Eq)]
+pub enum What {
+    Opened(u64),
+    Took(u64),
+    Flushed(u64),
+    Closed(u64),
+    Handed,
+}
+
+/// An entry of a table. The table is its place in the leaf, and the number is that of the entry in the table's history, from 1.
+#[derive(Clone, Copy, Debug, PartialEq, Eq)]
+pub struct Note {
+    pub table: u32,
+    pub number: u64,
+    pub what: What,
+}
+
+/// At most 32 notes, in the order of their making. Contracts see them as the list.
+#[derive(Drop)]
+pub struct Notes {
+    inner: [Note; 32],
+    len: u32,
+}
+
+impl Model for Notes {
+    ghost use Rattle.std.specs.Prelude.{List, ◌≡◌, ◌≤◌, length, take};
+    ghost use Rattle.leaf_steward.specs.declared.notes.Note.{Note};
+
+    ghost Value = { List Note };
+
+    ghost view = { λ notes. take notes.len notes.inner };
+
+    ghost invariant = { λ notes. (notes.len ≤ 32) × (length notes.inner ≡ 32) };
+}
+
+impl Notes {
+    pub fn new() -> Notes
+        ensures { result ≡ [] }
+    {
+        let none = Note {
+            table: 0,
+            number: 0,
+            what: What::Handed,
+        };
+        Notes {
+            inner: [none; 32],
+            len: 0,
+        }
+    }
+
+    /// How many there are.
+    pub fn len(&self) -> u32
+        ensures { result ≡ length self.now }
+    {
+        self.len
+    }
+
+    /// The note in that place, from 0.
+    pub fn get(&self, i: u32) -> Note
+        requires { i < length self.now }
+        ensures { slice_get self.now i ≡ Some result }
+    {
+        self.inner[i as usize]
+    }
+
+    /// Forgets them all.
+    pub fn clear(&mut self)
+        ensures { self.new ≡ [] }
+    {
+        self.len = 0;
+    }
+
+    /// Puts one behind the others.
+    pub fn push(&mut self, note: Note)
+        requires { length self.old < 32 }
+        ensures { self.new ≡ self.old ++ note ∷ [] }
+    {
+        self.inner[self.len as usize] = note;
+        self.len += 1;
+    }
+
+    // Puts the note of an entry of this number behind the others.
+    pub(crate) fn note(&mut self, table: u32, number: u64, what: What)
+        requires { length self.old < 32 }
+        ensures { self.new ≡ self.old ++ record { table = table; number = number; what = what } ∷ [] }
+    {
+        self.push(Note {
+            table,
+            number,
+            what,
+        });
+    }
+}

@@ -1,0 +1,46 @@
+-- What a step of a leaf that copies its tables does.
+use Rattle.std.specs.Prelude.{◌≡◌, ℕ, List, [], length, Result, Ok, Err}
+use Rattle.leaf_model.specs.declared.writes.Write.{Write}
+use Rattle.berth_face.specs.Berth.{Meaning}
+use Rattle.drain_copy.specs.declared.step.Next.{Next}
+use Rattle.drain_copy.specs.declared.step.Next.TheVariants as next
+use Rattle.drain_copy.specs.declared.step.RegionFault.{RegionFault}
+use Rattle.leaf_standing.specs.Standing.{Copies as Stands}
+use Rattle.leaf_opening.specs.declared.ways.Way.TheVariants.{Memory}
+use Rattle.leaf_opening.specs.Starts.{IsWayOf}
+use Rattle.leaf_steward.specs.declared.notes.Note.{Note}
+use Rattle.leaf_steward.specs.Seated.{Seated, watched_by}
+use Rattle.leaf_steward.specs.Making.{EachNoted, IsHandedNote}
+use Rattle.shared_leaf.specs.declared.copying.Copied.{Copied}
+use Rattle.shared_leaf.specs.declared.copying.Copied.TheVariants as copied
+use Rattle.shared_leaf.specs.States.{Copying, CopiesOn, RestsOn}
+
+abbrev pub berth_of_copy : {B : Type 0} → Result (Copied B) ((Seated × B) × RegionFault) → B
+berth_of_copy (Ok (copied.More leaf)) = leaf.1
+berth_of_copy (Ok (copied.Finished leaf)) = leaf.1
+berth_of_copy (Err x) = x.0.1
+
+abbrev pub seats_of_copy : {B : Type 0} → Result (Copied B) ((Seated × B) × RegionFault) → Seated
+seats_of_copy (Ok (copied.More leaf)) = leaf.0.seated
+seats_of_copy (Ok (copied.Finished leaf)) = leaf.0
+seats_of_copy (Err x) = x.0.0
+
+-- the step that comes after one that is not the last
+abbrev pub IsNext : Next → Next → Type 0
+IsNext next.Begin later = later ≡ next.Write
+IsNext next.Write later = later ≡ next.Flag
+IsNext next.Flag later = ⊥
+IsNext next.Nothing later = ⊥
+
+-- a step that is not the last; the last, which notes each table as handed over; or the region failed
+abbrev pub IsCopyStep : {B : Type 0} → Copying → List Note → Result (Copied B) ((Seated × B) × RegionFault) → Type 0
+IsCopyStep c notes (Ok (copied.More leaf)) = IsNext c.drain.next leaf.0.drain.next × (leaf.0.seated ≡ c.seated) × (leaf.0.drain.image ≡ c.drain.image) × (notes ≡ [])
+IsCopyStep c notes (Ok (copied.Finished leaf)) = (c.drain.next ≡ next.Flag) × EachNoted IsHandedNote 0 (length c.seated.tables) notes
+IsCopyStep c notes (Err (leaf, fault)) = (leaf.0 ≡ c.seated) × (notes ≡ [])
+
+-- the copy goes on; or it is whole, and the next start comes from memory; or the leaf is at rest
+abbrev pub CopyGoesOn : {B : Type 0} → (B → Meaning) → Copying → Meaning → Result (Copied B) ((Seated × B) × RegionFault) → Type 0
+CopyGoesOn meaning c m (Ok (copied.More leaf)) = (writes : List ℕ → List Write) → Stands (watched_by c.seated) c.drain writes m → CopiesOn c.seated leaf.0 m (meaning leaf.1)
+CopyGoesOn meaning c m (Ok (copied.Finished leaf)) = (writes : List ℕ → List Write) → Stands (watched_by c.seated) c.drain writes m
+    → RestsOn c.seated leaf.0 m (meaning leaf.1) × IsWayOf (meaning leaf.1).held.region Memory
+CopyGoesOn meaning c m (Err (leaf, fault)) = (writes : List ℕ → List Write) → Stands (watched_by c.seated) c.drain writes m → RestsOn c.seated leaf.0 m (meaning leaf.1)

@@ -1,0 +1,48 @@
+-- What a flush does.
+use Rattle.std.specs.Prelude.{◌≡◌, ℕ, List, [], ◌∷◌, ◌++◌, Option, Some, None, IsSome}
+use Rattle.row_records.specs.Records.{LogRecord}
+use Rattle.leaf_steward.specs.declared.notes.Note.{Note}
+use Rattle.leaf_steward.specs.declared.notes.What.TheVariants as what
+use Rattle.leaf_steward.specs.Making.{WornAt}
+use Rattle.log_steward.specs.Owing.{Owing, flushed_note}
+use Rattle.shared_leaf.specs.declared.up.FlushReply.{FlushReply}
+use Rattle.shared_leaf.specs.declared.up.FlushReply.TheVariants.{Flushed, DiskFault, Worn}
+use Rattle.shared_leaf.specs.States.{Serving}
+
+-- the note of what was owed, where anything was, once it is settled
+abbrev pub OwedNotes : Option LogRecord → Owing → List Note → Type 0
+OwedNotes None o notes = notes ≡ []
+OwedNotes (Some r) o notes = (number : ℕ) × (notes ≡ flushed_note o number ∷ [])
+
+-- A flush of the table in that place: what was owed is settled and noted; then the table is taken and noted as flushed, with one number of writes;
+-- or the disk fails behind the taking; or the seat is worn, and the table is not taken; or the disk fails at what was owed.
+pub data Flushes (table : ℕ) (old new : Serving) (notes : List Note) (reply : FlushReply) : Type 0 where
+  done : (first : List Note) (taking flushing n : ℕ)
+      → OwedNotes old.owing.log.owed old.owing first
+      → notes ≡ first ++ (record { table = table; number = taking; what = what.Took n } ∷ record { table = table; number = flushing; what = what.Flushed n } ∷ [])
+      → reply ≡ Flushed
+      → new.owing.log.owed ≡ None
+      → Flushes table old new notes reply
+  half : (first : List Note) (taking n : ℕ)
+      → OwedNotes old.owing.log.owed old.owing first
+      → notes ≡ first ++ record { table = table; number = taking; what = what.Took n } ∷ []
+      → reply ≡ DiskFault
+      → IsSome new.owing.log.owed
+      → new.owing.owner ≡ table
+      → new.owing.count ≡ n
+      → Flushes table old new notes reply
+  worn : (first : List Note)
+      → OwedNotes old.owing.log.owed old.owing first
+      → notes ≡ first
+      → reply ≡ Worn
+      → WornAt new.seated table
+      → new.owing.log.owed ≡ None
+      → Flushes table old new notes reply
+  stuck : notes ≡ []
+      → reply ≡ DiskFault
+      → IsSome old.owing.log.owed
+      → new.seated ≡ old.seated
+      → new.owing.log.owed ≡ old.owing.log.owed
+      → new.owing.owner ≡ old.owing.owner
+      → new.owing.count ≡ old.owing.count
+      → Flushes table old new notes reply

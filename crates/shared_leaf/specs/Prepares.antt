@@ -1,0 +1,115 @@
+-- What a step of a leaf that shuts its tables does.
+use Rattle.std.specs.Prelude.{◌≡◌, ℕ, ◌<◌, ◌≤◌, ◌^◌, true, false, List, [], ◌∷◌, ◌++◌, length, slice_get, IsSome, Some, None, Result, Ok, Err, ⊤}
+use Rattle.std.specs.List.{AllByRecursion}
+use Rattle.leaf_model.specs.declared.writes.Write.{Write}
+use Rattle.berth_face.specs.Berth.{Meaning}
+use Rattle.berth_face.specs.Causes.{Rose}
+use Rattle.table_state.specs.Tables.{Table}
+use Rattle.region_layout.specs.Region.{IsImage}
+use Rattle.region_layout.specs.Images.{images_of}
+use Rattle.drain_copy.specs.declared.step.Next.TheVariants as next
+use Rattle.leaf_standing.specs.Standing.{Runs}
+use Rattle.leaf_steward.specs.declared.notes.Note.{Note}
+use Rattle.leaf_steward.specs.declared.notes.What.TheVariants as what
+use Rattle.leaf_steward.specs.Seated.{Seated, watched_by}
+use Rattle.shared_leaf.specs.declared.preparing.Prepared.{Prepared}
+use Rattle.shared_leaf.specs.declared.preparing.Prepared.TheVariants as prepared
+use Rattle.shared_leaf.specs.declared.preparing.PrepareFault.{PrepareFault}
+use Rattle.shared_leaf.specs.declared.preparing.PrepareFault.TheVariants.{DiskFault, NoRoom, NoMemory}
+use Rattle.shared_leaf.specs.States.{Serving, Shutting, Copying, GoesOn, CopiesOn, treated}
+use Rattle.shared_leaf.specs.Flushes.{OwedNotes}
+
+-- a leaf that serves and is told to shut
+abbrev pub begins : Serving → Shutting
+begins x = record { serving = x; closed = []; shut = false }
+
+-- all tables are treated
+abbrev pub AllTreated : Shutting → Type 0
+AllTreated x = treated x ≡ length x.serving.seated.tables
+
+-- One table more is treated. What is owed is settled and noted; then the next table is shut, noted as closed, its writes are settled, and it is noted as flushed,
+-- with one number of writes. A table that was shut before is the one whose record was owed.
+pub data Treats (old new : Shutting) (notes : List Note) : Type 0 where
+  whole : (first : List Note) (closing flushing n : ℕ) (content : Table)
+      → old.shut ≡ false
+      → OwedNotes old.serving.owing.log.owed old.serving.owing first
+      → notes ≡ first ++ (record { table = length old.closed; number = closing; what = what.Closed n } ∷ record { table = length old.closed; number = flushing; what = what.Flushed n } ∷ [])
+      → new.closed ≡ old.closed ++ content ∷ []
+      → new.shut ≡ false
+      → new.serving.owing.log.owed ≡ None
+      → Treats old new notes
+  rest : old.shut ≡ true
+      → OwedNotes old.serving.owing.log.owed old.serving.owing notes
+      → new.closed ≡ old.closed
+      → new.shut ≡ false
+      → new.serving.owing.log.owed ≡ None
+      → Treats old new notes
+
+-- The disk fails: at what was owed, and nothing was noted; or behind the shutting of the next table, whose record is owed.
+pub data Halts (old new : Shutting) (notes : List Note) : Type 0 where
+  half : (first : List Note) (closing n : ℕ) (content : Table)
+      → old.shut ≡ false
+      → OwedNotes old.serving.owing.log.owed old.serving.owing first
+      → notes ≡ first ++ record { table = length old.closed; number = closing; what = what.Closed n } ∷ []
+      → new.closed ≡ old.closed ++ content ∷ []
+      → new.shut ≡ true
+      → new.serving.owing.count ≡ n
+      → Halts old new notes
+  stuck : notes ≡ []
+      → IsSome old.serving.owing.log.owed
+      → new.serving.seated ≡ old.serving.seated
+      → new.serving.owing.log.owed ≡ old.serving.owing.log.owed
+      → new.serving.owing.owner ≡ old.serving.owing.owner
+      → new.serving.owing.count ≡ old.serving.owing.count
+      → new.closed ≡ old.closed
+      → new.shut ≡ old.shut
+      → Halts old new notes
+
+-- There was no memory: for the next table's content or for the copy. What was owed is settled and noted, and nothing is owed.
+pub record Starves (old new : Shutting) (notes : List Note) : Type 0 where
+  pub noted : OwedNotes old.serving.owing.log.owed old.serving.owing notes
+  pub closed : new.closed ≡ old.closed
+  pub shut : new.shut ≡ false
+  pub owed : new.serving.owing.log.owed ≡ None
+
+-- a table has too many writes for an image
+abbrev pub IsTooMany : Shutting → Type 0
+IsTooMany x = (t : Table) × ((place : ℕ) × (slice_get x.closed place ≡ Some t)) × (2 ^ 63 ≤ t.writes)
+
+-- the copy of a leaf all of whose tables are treated: it is an image of them, and nothing of it is in the region yet
+pub record IsCopyOf (x : Shutting) (c : Copying) : Type 0 where
+  pub seated : c.seated ≡ x.serving.seated
+  pub image : IsImage 1 c.drain.image (images_of x.serving.seated.names x.closed) x.serving.owing.log.end
+  pub next : c.drain.next ≡ next.Begin
+  pub room : AllByRecursion (λ (t : Table). t.writes < 2 ^ 63) x.closed
+
+abbrev pub berth_of_step : {B : Type 0} → Result (Prepared B) ((Shutting × B) × PrepareFault) → B
+berth_of_step (Ok (prepared.More leaf)) = leaf.1
+berth_of_step (Ok (prepared.Ready leaf)) = leaf.1
+berth_of_step (Err x) = x.0.1
+
+abbrev pub seats_of_step : {B : Type 0} → Result (Prepared B) ((Shutting × B) × PrepareFault) → Seated
+seats_of_step (Ok (prepared.More leaf)) = leaf.0.serving.seated
+seats_of_step (Ok (prepared.Ready leaf)) = leaf.0.seated
+seats_of_step (Err x) = x.0.0.serving.seated
+
+-- Where a table is left to treat, one is treated, or the disk fails, or there is no memory for its content. Where none is, the copy is made, or has no room, or there is no memory.
+abbrev pub IsStep : {B : Type 0} → Shutting → List Note → Result (Prepared B) ((Shutting × B) × PrepareFault) → Type 0
+IsStep x notes (Ok (prepared.More leaf)) = (treated x < length x.serving.seated.tables) × Treats x leaf.0 notes
+IsStep x notes (Ok (prepared.Ready leaf)) = AllTreated x × (notes ≡ []) × IsCopyOf x leaf.0
+IsStep x notes (Err ((y, b), DiskFault)) = (treated x < length x.serving.seated.tables) × Halts x y notes
+IsStep x notes (Err ((y, b), NoRoom)) = AllTreated x × IsTooMany x × (notes ≡ []) × (y ≡ x)
+IsStep x notes (Err ((y, b), NoMemory)) = Starves x y notes
+
+abbrev pub StepGoesOn : {B : Type 0} → (B → Meaning) → Shutting → Meaning → Result (Prepared B) ((Shutting × B) × PrepareFault) → Type 0
+StepGoesOn meaning x m (Ok (prepared.More leaf)) = GoesOn x.serving leaf.0.serving m (meaning leaf.1)
+StepGoesOn meaning x m (Ok (prepared.Ready leaf)) = (writes : List ℕ → List Write) → Runs (watched_by x.serving.seated) x.serving.owing.owner x.serving.owing.log writes m
+    → CopiesOn x.serving.seated leaf.0 m (meaning leaf.1)
+StepGoesOn meaning x m (Err ((y, b), fault)) = GoesOn x.serving y.serving m (meaning b)
+
+-- a fault of the disk is told only where the count of its faults rose
+abbrev pub RoseStep : {B : Type 0} → ℕ → ℕ → Result (Prepared B) ((Shutting × B) × PrepareFault) → Type 0
+RoseStep before now (Ok step) = ⊤
+RoseStep before now (Err (leaf, DiskFault)) = Rose before now
+RoseStep before now (Err (leaf, NoRoom)) = ⊤
+RoseStep before now (Err (leaf, NoMemory)) = ⊤

@@ -1,0 +1,17 @@
+//! A leaf over tables that callers share: at rest, serving them, shutting them, or copying them into its region.
+#![tactic(auto)]
+
+mod copying;
+mod down;
+mod faults;
+mod preparing;
+mod start;
+mod up;
+
+pub use copying::{Copied, Copying, RegionFault};
+pub use down::Down;
+pub use faults::StartFault;
+pub use leaf_opening::{Way, WhyDisk};
+pub use leaf_steward::{Note, Notes, What};
+pub use preparing::{PrepareFault, Prepared, Preparing};
+pub use up::{FlushReply, Up};

@@ -1,0 +1,74 @@
+// How a leaf at rest comes to serve its tables.
+ghost use Rattle.std.specs.Prelude.{◌≡◌, ◌≢◌, ℕ, List, Option, IfOk, IfErr, IsTrue};
+ghost use Rattle.leaf_model.specs.declared.writes.Write.{Write};
+ghost use Rattle.row_records.specs.Records.{LogRecord};
+ghost use Rattle.berth_face.specs.Causes.{Rose};
+ghost use Rattle.berth_face.specs.Berth.{Passes};
+ghost use Rattle.leaf_opening.specs.declared.ways.Way.TheVariants as way;
+ghost use Rattle.leaf_opening.specs.Starts.{IsWayOf};
+ghost use Rattle.leaf_core.specs.Left.{Tables};
+ghost use Rattle.leaf_standing.specs.Standing.{Rests};
+ghost use Rattle.leaf_steward.specs.Seated.{AreFounded, watched_by};
+ghost use Rattle.leaf_steward.specs.Making.{Makes};
+ghost use Rattle.shared_leaf.specs.declared.faults.StartFault.TheVariants as fault;
+ghost use Rattle.shared_leaf.specs.Starts.{Came, IsRefused, IsStart, StartGoesOn, berth_after, seats_after};
+
+use crate::down::Down;
+use crate::faults::{StartFault, told};
+use crate::up::Up;
+use berth_face::{Berth, Gate};
+use leaf_opening::{Opened, Way, open_tables};
+use leaf_steward::Notes;
+use log_steward::StewardLog;
+use std::alloc::Global;
+use std::sync::Wait;
+
+impl<'t, B: Berth> Down<'t, B> {
+    /// Adopts the tables of the region's image; where the region is none, it reads the log to its end and applies each record to its table. An open flag is
+    /// closed before anything else. A table that neither names is empty. Then each table is opened and noted. Where a seat is worn nothing is touched.
+    pub fn start<R: Wait, G: Gate>(
+        self,
+        rt: &R,
+        alloc: Global,
+        gate: &G,
+        notes: &mut Notes,
+    ) -> Result<(Up<'t, B>, Way), (Down<'t, B>, StartFault)>
+        ensures start { IsStart self.entry.0 self.entry.1 notes.new result }
+        ensures made { Makes (B.meaning self.entry.1).clock (B.meaning (berth_after result)).clock self.entry.0 notes.new (seats_after result) }
+        // Where the berth tells its contents: on any bytes, and where they are what a leaf left.
+        ensures came { IsTrue (B.meaning self.entry.1).tells → IfOk result (λ x. Came self.entry.0.names (B.meaning self.entry.1) (B.meaning x.0.1) notes.new x.0.0 x.1) }
+        ensures way { IsTrue (B.meaning self.entry.1).tells → IfOk result (λ x. IsWayOf (B.meaning self.entry.1).held.region x.1) }
+        ensures refused { IsTrue (B.meaning self.entry.1).tells → IfErr result (λ x. IsRefused self.entry.0.names (B.meaning self.entry.1) (B.meaning x.0.1) x.1) }
+        // At every moment since the call began a crash leaves what belongs to the tables as they stood then.
+        ensures crash { (others : Tables) (least : List ℕ → List Write) (next : Option LogRecord) → IsTrue (B.meaning self.entry.1).tells → AreFounded self.entry.0
+            → Rests (watched_by self.entry.0) others least next (B.meaning self.entry.1) → StartGoesOn B.meaning self.entry.0 (B.meaning self.entry.1) others least next result }
+        // On every berth.
+        ensures time { Passes (B.meaning self.entry.1) (B.meaning (berth_after result)) }
+        ensures region_cause { IfErr result (λ x. x.1 ≡ fault.RegionFault → Rose (B.meaning self.entry.1).region_faults (B.meaning x.0.1).region_faults) }
+        ensures disk_cause { IfErr result (λ x. x.1 ≡ fault.DiskFault → Rose (B.meaning self.entry.1).disk_faults (B.meaning x.0.1).disk_faults) }
+        ensures reads { IfOk result (λ x. x.1 ≡ way.Memory → (B.meaning x.0.1).disk_reads ≡ (B.meaning self.entry.1).disk_reads) }
+    {
+        notes.clear();
+        self.seats.sits();
+        if let Some(table) = self.seats.worn() {
+            return Err((self, StartFault::Worn(table)));
+        }
+        let Down {
+            mut seats,
+            mut berth,
+        } = self;
+        match open_tables(alloc, seats.names(), &mut berth) {
+            Ok(opened) => {
+                let Opened { tables, log, way } = opened;
+                seats.open_all(rt, tables, &berth, gate, notes);
+                let up = Up {
+                    seats,
+                    log: StewardLog::of(log),
+                    berth,
+                };
+                Ok((up, way))
+            }
+            Err(fault) => Err((Down { seats, berth }, told(fault))),
+        }
+    }
+}
