@@ -5,3 +5,4 @@ pub mod UpFlush
 pub mod Prepares
 pub mod Copies
 pub mod PrepParts
+pub mod Trying

@@ -6,6 +6,8 @@ mod down;
 mod faults;
 mod preparing;
 mod start;
+#[cfg(test)]
+mod tests;
 mod up;
 
 pub use copying::{Copied, Copying, RegionFault};
