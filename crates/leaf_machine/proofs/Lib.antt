@@ -1,9 +1,28 @@
-mod Places
-mod Owing
-mod Adding
-mod Going
-mod Noting
-mod Flushing
-mod Treating
-mod Handing
-mod Opening
+pub mod StartAlike
+pub mod StartMakes
+pub mod StartFaults
+pub mod StartOpening
+pub mod StartRefusing
+pub mod StartUp
+pub mod CopyWatching
+pub mod CopyStepping
+pub mod UpSeats
+pub mod UpOwing
+pub mod UpMaking
+pub mod UpFlushing
+pub mod UpMeeting
+pub mod UpKilling
+pub mod DownBegins
+pub mod DownMaking
+pub mod LeaveRests
+pub mod LeaveRuns
+pub mod PrepEntries
+pub mod PrepPlaces
+pub mod PrepHolds
+pub mod PrepJoins
+pub mod PrepSettles
+pub mod PrepMeets
+pub mod PrepShuts
+pub mod PrepTreats
+pub mod PrepKills
+pub mod PrepCopies

@@ -1,28 +1,46 @@
--- A leaf that copies its tables into the region.
-use Rattle.std.specs.Prelude.{◌≡◌, ℕ, List}
+-- What a step of a leaf that copies its tables does.
+use Rattle.std.specs.Prelude.{◌≡◌, ℕ, List, [], length, Result, Ok, Err}
 use Rattle.leaf_model.specs.declared.writes.Write.{Write}
 use Rattle.berth_face.specs.Berth.{Meaning}
-use Rattle.berth_face.specs.Moments.{EachNow}
-use Rattle.region_layout.specs.declared.image.TableImage.{TableImage}
-use Rattle.region_layout.specs.Region.{IsClosed, IsImage}
-use Rattle.disk_backup.specs.Settling.{HasLog}
 use Rattle.drain_copy.specs.declared.step.Next.{Next}
-use Rattle.drain_copy.specs.Draining.{DrainState, Draining}
-use Rattle.leaf_opening.specs.Backed.{AreImagesOf, HasSoundLog}
+use Rattle.drain_copy.specs.declared.step.Next.TheVariants as next
+use Rattle.drain_copy.specs.declared.step.RegionFault.{RegionFault}
+use Rattle.leaf_standing.specs.Standing.{Copies as Stands}
+use Rattle.leaf_opening.specs.declared.ways.Way.TheVariants.{Memory}
+use Rattle.leaf_opening.specs.Starts.{IsWayOf}
+use Rattle.leaf_steward.specs.declared.notes.Note.{Note}
+use Rattle.leaf_steward.specs.Seated.{Seated, watched_by}
+use Rattle.leaf_steward.specs.Making.{EachNoted, IsHandedNote}
+use Rattle.leaf_machine.specs.declared.copying.Copied.{Copied}
+use Rattle.leaf_machine.specs.declared.copying.Copied.TheVariants as copied
+use Rattle.leaf_machine.specs.States.{Copying, CopiesOn, RestsOn}
 
--- the names of its tables, and how far the copy has come
-pub record CopyState : Type 0 where
-  pub names : List (List ℕ)
-  pub drain : DrainState
+abbrev pub berth_of_copy : {B : Type 0} → Result (Copied B) ((Seated × B) × RegionFault) → B
+berth_of_copy (Ok (copied.More leaf)) = leaf.1
+berth_of_copy (Ok (copied.Finished leaf)) = leaf.1
+berth_of_copy (Err x) = x.0.1
 
--- The image that is copied has these writes of each name, and so has the log of each disk that a crash may leave, which ends where the image says,
--- at a gate that is not open; and the region is closed.
-pub record Copies (writes : List ℕ → List Write) (c : CopyState) (m : Meaning) : Type 0 where
-  pub images : List TableImage
-  pub log_end : ℕ
-  pub image : IsImage 1 c.drain.image images log_end
-  pub same : AreImagesOf writes images
-  pub each : EachNow (λ p. HasLog writes log_end p.disk) m
-  pub log : HasSoundLog writes m.held.disk
-  pub draining : Draining c.drain m.held.region
-  pub closed : IsClosed m.held.region
+abbrev pub seats_of_copy : {B : Type 0} → Result (Copied B) ((Seated × B) × RegionFault) → Seated
+seats_of_copy (Ok (copied.More leaf)) = leaf.0.seated
+seats_of_copy (Ok (copied.Finished leaf)) = leaf.0
+seats_of_copy (Err x) = x.0.0
+
+-- the step that comes after one that is not the last
+abbrev pub IsNext : Next → Next → Type 0
+IsNext next.Begin later = later ≡ next.Write
+IsNext next.Write later = later ≡ next.Flag
+IsNext next.Flag later = ⊥
+IsNext next.Nothing later = ⊥
+
+-- a step that is not the last; the last, which notes each table as handed over; or the region failed
+abbrev pub IsCopyStep : {B : Type 0} → Copying → List Note → Result (Copied B) ((Seated × B) × RegionFault) → Type 0
+IsCopyStep c notes (Ok (copied.More leaf)) = IsNext c.drain.next leaf.0.drain.next × (leaf.0.seated ≡ c.seated) × (leaf.0.drain.image ≡ c.drain.image) × (notes ≡ [])
+IsCopyStep c notes (Ok (copied.Finished leaf)) = (c.drain.next ≡ next.Flag) × EachNoted IsHandedNote 0 (length c.seated.tables) notes
+IsCopyStep c notes (Err (leaf, fault)) = (leaf.0 ≡ c.seated) × (notes ≡ [])
+
+-- the copy goes on; or it is whole, and the next start comes from memory; or the leaf is at rest
+abbrev pub CopyGoesOn : {B : Type 0} → (B → Meaning) → Copying → Meaning → Result (Copied B) ((Seated × B) × RegionFault) → Type 0
+CopyGoesOn meaning c m (Ok (copied.More leaf)) = (writes : List ℕ → List Write) → Stands (watched_by c.seated) c.drain writes m → CopiesOn c.seated leaf.0 m (meaning leaf.1)
+CopyGoesOn meaning c m (Ok (copied.Finished leaf)) = (writes : List ℕ → List Write) → Stands (watched_by c.seated) c.drain writes m
+    → RestsOn c.seated leaf.0 m (meaning leaf.1) × IsWayOf (meaning leaf.1).held.region Memory
+CopyGoesOn meaning c m (Err (leaf, fault)) = (writes : List ℕ → List Write) → Stands (watched_by c.seated) c.drain writes m → RestsOn c.seated leaf.0 m (meaning leaf.1)

@@ -1,44 +1,48 @@
--- What a flush of a table does.
-use Rattle.std.specs.Prelude.{◌≡◌, ℕ, List, [], ◌∷◌, ◌++◌, slice_get, slice_set, Some, None}
+-- What a flush does.
+use Rattle.std.specs.Prelude.{◌≡◌, ℕ, List, [], ◌∷◌, ◌++◌, Option, Some, None, IsSome}
 use Rattle.row_records.specs.Records.{LogRecord}
-use Rattle.table_state.specs.Tables.{Table}
-use Rattle.leaf_machine.specs.declared.notes.Note.{Note}
-use Rattle.leaf_machine.specs.declared.notes.What.TheVariants as what
+use Rattle.leaf_steward.specs.declared.notes.Note.{Note}
+use Rattle.leaf_steward.specs.declared.notes.What.TheVariants as what
+use Rattle.leaf_steward.specs.Making.{WornAt}
+use Rattle.log_steward.specs.Owing.{Owing, flushed_note}
 use Rattle.leaf_machine.specs.declared.up.FlushReply.{FlushReply}
-use Rattle.leaf_machine.specs.declared.up.FlushReply.TheVariants.{Flushed, DiskFault}
-use Rattle.leaf_opening.specs.Serving.{Serving}
-use Rattle.leaf_machine.specs.Notes.{note, settled_notes}
+use Rattle.leaf_machine.specs.declared.up.FlushReply.TheVariants.{Flushed, DiskFault, Worn}
+use Rattle.leaf_machine.specs.States.{Serving}
 
--- the table once its writes were taken
-abbrev pub taken : Table → Table
-taken t = record { contents = t.contents; writes = t.writes; pending = None }
+-- the note of what was owed, where anything was, once it is settled
+abbrev pub OwedNotes : Option LogRecord → Owing → List Note → Type 0
+OwedNotes None o notes = notes ≡ []
+OwedNotes (Some r) o notes = (number : ℕ) × (notes ≡ flushed_note o number ∷ [])
 
--- What is owed is settled and noted; then the table's writes are taken, noted, settled, and noted. Or the disk fails: before anything was noted,
--- with the same record owed; or when the writes were taken, with their record owed.
+-- A flush of the table in that place: what was owed is settled and noted; then the table is taken and noted as flushed, with one number of writes;
+-- or the disk fails behind the taking; or the seat is worn, and the table is not taken; or the disk fails at what was owed.
 pub data Flushes (table : ℕ) (old new : Serving) (notes : List Note) (reply : FlushReply) : Type 0 where
-  done : (t : Table)
-      → slice_get old.tables table ≡ Some t
-      → notes ≡ settled_notes old ++ (note table (what.Took t.writes) ∷ note table (what.Flushed t.writes) ∷ [])
+  done : (first : List Note) (taking flushing n : ℕ)
+      → OwedNotes old.owing.log.owed old.owing first
+      → notes ≡ first ++ (record { table = table; number = taking; what = what.Took n } ∷ record { table = table; number = flushing; what = what.Flushed n } ∷ [])
       → reply ≡ Flushed
-      → new.tables ≡ slice_set old.tables table (taken t)
-      → new.log.owed ≡ None
+      → new.owing.log.owed ≡ None
       → Flushes table old new notes reply
-  half : (t : Table) (r : LogRecord)
-      → slice_get old.tables table ≡ Some t
-      → t.pending ≡ Some r
-      → notes ≡ settled_notes old ++ note table (what.Took t.writes) ∷ []
+  half : (first : List Note) (taking n : ℕ)
+      → OwedNotes old.owing.log.owed old.owing first
+      → notes ≡ first ++ record { table = table; number = taking; what = what.Took n } ∷ []
       → reply ≡ DiskFault
-      → new.tables ≡ slice_set old.tables table (taken t)
-      → new.log.owed ≡ Some r
-      → new.owner ≡ table
-      → new.count ≡ t.writes
+      → IsSome new.owing.log.owed
+      → new.owing.owner ≡ table
+      → new.owing.count ≡ n
       → Flushes table old new notes reply
-  stuck : (r : LogRecord)
-      → old.log.owed ≡ Some r
-      → notes ≡ []
+  worn : (first : List Note)
+      → OwedNotes old.owing.log.owed old.owing first
+      → notes ≡ first
+      → reply ≡ Worn
+      → WornAt new.seated table
+      → new.owing.log.owed ≡ None
+      → Flushes table old new notes reply
+  stuck : notes ≡ []
       → reply ≡ DiskFault
-      → new.tables ≡ old.tables
-      → new.log.owed ≡ old.log.owed
-      → new.owner ≡ old.owner
-      → new.count ≡ old.count
+      → IsSome old.owing.log.owed
+      → new.seated ≡ old.seated
+      → new.owing.log.owed ≡ old.owing.log.owed
+      → new.owing.owner ≡ old.owing.owner
+      → new.owing.count ≡ old.owing.count
       → Flushes table old new notes reply

@@ -1,8 +1,9 @@
-pub mod Shutting
-pub mod Notes
-pub mod Tables
+pub mod States
+pub mod Starts
 pub mod Flushes
-pub mod Bringing
+pub mod UpFlush
 pub mod Prepares
 pub mod Copies
-pub mod Steps
+pub mod PrepParts
+pub mod Leaving
+pub mod Trying

@@ -1,65 +1,117 @@
--- How a leaf that is about to hand its tables over shuts them, one step for each.
-use Rattle.std.specs.Prelude.{◌≡◌, ℕ, suc, Bool, true, false, List, [], ◌∷◌, ◌++◌, length, slice_get, slice_set, Option, Some, None, Result, Ok, Err, ⊤}
-use Rattle.row_records.specs.Records.{LogRecord}
+-- What a step of a leaf that shuts its tables does.
+use Rattle.std.specs.Prelude.{◌≡◌, ℕ, ◌<◌, ◌≤◌, ◌^◌, true, false, List, [], ◌∷◌, ◌++◌, length, slice_get, IsSome, Some, None, Result, Ok, Err, ⊤}
+use Rattle.std.specs.List.{AllByRecursion}
+use Rattle.leaf_model.specs.declared.writes.Write.{Write}
+use Rattle.berth_face.specs.Berth.{Meaning}
+use Rattle.berth_face.specs.Causes.{Rose}
 use Rattle.table_state.specs.Tables.{Table}
-use Rattle.leaf_machine.specs.declared.notes.Note.{Note}
-use Rattle.leaf_machine.specs.declared.notes.What.TheVariants as what
-use Rattle.leaf_opening.specs.Serving.{Serving}
-use Rattle.leaf_machine.specs.Shutting.{Shutting}
-use Rattle.leaf_machine.specs.Notes.{note, settled_notes}
-use Rattle.leaf_machine.specs.Flushes.{taken}
+use Rattle.region_layout.specs.Region.{IsImage}
+use Rattle.region_layout.specs.Images.{images_of}
+use Rattle.drain_copy.specs.declared.step.Next.TheVariants as next
+use Rattle.leaf_standing.specs.Standing.{Runs}
+use Rattle.leaf_steward.specs.declared.notes.Note.{Note}
+use Rattle.leaf_steward.specs.declared.notes.What.TheVariants as what
+use Rattle.leaf_steward.specs.Seated.{Seated, watched_by}
+use Rattle.leaf_machine.specs.declared.preparing.Prepared.{Prepared}
+use Rattle.leaf_machine.specs.declared.preparing.Prepared.TheVariants as prepared
+use Rattle.leaf_machine.specs.declared.preparing.PrepareFault.{PrepareFault}
+use Rattle.leaf_machine.specs.declared.preparing.PrepareFault.TheVariants.{DiskFault, NoRoom, NoMemory}
+use Rattle.leaf_machine.specs.States.{Serving, Shutting, Copying, GoesOn, CopiesOn, treated}
+use Rattle.leaf_machine.specs.Flushes.{OwedNotes}
 
 -- a leaf that serves and is told to shut
-abbrev pub prepared : Serving → Shutting
-prepared s = record { serving = s; treated = 0; shut = false }
-
--- One table more is treated. What is owed is settled and noted; then the table is shut, noted, its writes settled, and that noted. A table that was shut
--- before is the one whose record was owed.
-pub data Treats (old new : Shutting) (notes : List Note) : Type 0 where
-  whole : (t : Table)
-      → old.shut ≡ false
-      → slice_get old.serving.tables old.treated ≡ Some t
-      → notes ≡ settled_notes old.serving ++ (note old.treated (what.Closed t.writes) ∷ note old.treated (what.Flushed t.writes) ∷ [])
-      → new.serving.tables ≡ slice_set old.serving.tables old.treated (taken t)
-      → new.serving.log.owed ≡ None
-      → new.treated ≡ suc old.treated
-      → new.shut ≡ false
-      → Treats old new notes
-  rest : (t : Table)
-      → old.shut ≡ true
-      → slice_get old.serving.tables old.treated ≡ Some t
-      → notes ≡ settled_notes old.serving
-      → new.serving.tables ≡ old.serving.tables
-      → new.serving.log.owed ≡ None
-      → new.treated ≡ suc old.treated
-      → new.shut ≡ false
-      → Treats old new notes
-
--- The disk fails: before anything was noted, with the same record owed; or when the next table was shut, with its record owed.
-pub data Halts (old new : Shutting) (notes : List Note) : Type 0 where
-  half : (t : Table) (r : LogRecord)
-      → old.shut ≡ false
-      → slice_get old.serving.tables old.treated ≡ Some t
-      → t.pending ≡ Some r
-      → notes ≡ settled_notes old.serving ++ note old.treated (what.Closed t.writes) ∷ []
-      → new.serving.tables ≡ slice_set old.serving.tables old.treated (taken t)
-      → new.serving.log.owed ≡ Some r
-      → new.serving.owner ≡ old.treated
-      → new.serving.count ≡ t.writes
-      → new.treated ≡ old.treated
-      → new.shut ≡ true
-      → Halts old new notes
-  stuck : (r : LogRecord)
-      → old.serving.log.owed ≡ Some r
-      → notes ≡ []
-      → new.serving.tables ≡ old.serving.tables
-      → new.serving.log.owed ≡ old.serving.log.owed
-      → new.serving.owner ≡ old.serving.owner
-      → new.serving.count ≡ old.serving.count
-      → new.treated ≡ old.treated
-      → new.shut ≡ old.shut
-      → Halts old new notes
+abbrev pub begins : Serving → Shutting
+begins x = record { serving = x; closed = []; shut = false }
 
 -- all tables are treated
 abbrev pub AllTreated : Shutting → Type 0
-AllTreated x = x.treated ≡ length x.serving.tables
+AllTreated x = treated x ≡ length x.serving.seated.tables
+
+-- One table more is treated. What is owed is settled and noted; then the next table is shut, noted as closed, its writes are settled, and it is noted as flushed,
+-- with one number of writes. A table that was shut before is the one whose record was owed.
+pub data Treats (old new : Shutting) (notes : List Note) : Type 0 where
+  whole : (first : List Note) (closing flushing n : ℕ) (content : Table)
+      → old.shut ≡ false
+      → OwedNotes old.serving.owing.log.owed old.serving.owing first
+      → notes ≡ first ++ (record { table = length old.closed; number = closing; what = what.Closed n } ∷ record { table = length old.closed; number = flushing; what = what.Flushed n } ∷ [])
+      → new.closed ≡ old.closed ++ content ∷ []
+      → new.shut ≡ false
+      → new.serving.owing.log.owed ≡ None
+      → Treats old new notes
+  rest : old.shut ≡ true
+      → OwedNotes old.serving.owing.log.owed old.serving.owing notes
+      → new.closed ≡ old.closed
+      → new.shut ≡ false
+      → new.serving.owing.log.owed ≡ None
+      → Treats old new notes
+
+-- The disk fails: at what was owed, and nothing was noted; or behind the shutting of the next table, whose record is owed.
+pub data Halts (old new : Shutting) (notes : List Note) : Type 0 where
+  half : (first : List Note) (closing n : ℕ) (content : Table)
+      → old.shut ≡ false
+      → OwedNotes old.serving.owing.log.owed old.serving.owing first
+      → notes ≡ first ++ record { table = length old.closed; number = closing; what = what.Closed n } ∷ []
+      → new.closed ≡ old.closed ++ content ∷ []
+      → new.shut ≡ true
+      → IsSome new.serving.owing.log.owed
+      → new.serving.owing.owner ≡ length old.closed
+      → new.serving.owing.count ≡ n
+      → Halts old new notes
+  stuck : notes ≡ []
+      → IsSome old.serving.owing.log.owed
+      → new.serving.seated ≡ old.serving.seated
+      → new.serving.owing.log.owed ≡ old.serving.owing.log.owed
+      → new.serving.owing.owner ≡ old.serving.owing.owner
+      → new.serving.owing.count ≡ old.serving.owing.count
+      → new.closed ≡ old.closed
+      → new.shut ≡ old.shut
+      → Halts old new notes
+
+-- There was no memory: for the next table's content or for the copy. What was owed is settled and noted, and nothing is owed.
+pub record Starves (old new : Shutting) (notes : List Note) : Type 0 where
+  pub noted : OwedNotes old.serving.owing.log.owed old.serving.owing notes
+  pub closed : new.closed ≡ old.closed
+  pub shut : new.shut ≡ false
+  pub owed : new.serving.owing.log.owed ≡ None
+
+-- a table has too many writes for an image
+abbrev pub IsTooMany : Shutting → Type 0
+IsTooMany x = (t : Table) × ((place : ℕ) × (slice_get x.closed place ≡ Some t)) × (2 ^ 63 ≤ t.writes)
+
+-- the copy of a leaf all of whose tables are treated: it is an image of them, and nothing of it is in the region yet
+pub record IsCopyOf (x : Shutting) (c : Copying) : Type 0 where
+  pub seated : c.seated ≡ x.serving.seated
+  pub image : IsImage 1 c.drain.image (images_of x.serving.seated.names x.closed) x.serving.owing.log.end
+  pub next : c.drain.next ≡ next.Begin
+  pub room : AllByRecursion (λ (t : Table). t.writes < 2 ^ 63) x.closed
+
+abbrev pub berth_of_step : {B : Type 0} → Result (Prepared B) ((Shutting × B) × PrepareFault) → B
+berth_of_step (Ok (prepared.More leaf)) = leaf.1
+berth_of_step (Ok (prepared.Ready leaf)) = leaf.1
+berth_of_step (Err x) = x.0.1
+
+abbrev pub seats_of_step : {B : Type 0} → Result (Prepared B) ((Shutting × B) × PrepareFault) → Seated
+seats_of_step (Ok (prepared.More leaf)) = leaf.0.serving.seated
+seats_of_step (Ok (prepared.Ready leaf)) = leaf.0.seated
+seats_of_step (Err x) = x.0.0.serving.seated
+
+-- Where a table is left to treat, one is treated, or the disk fails, or there is no memory for its content. Where none is, the copy is made, or has no room, or there is no memory.
+abbrev pub IsStep : {B : Type 0} → Shutting → List Note → Result (Prepared B) ((Shutting × B) × PrepareFault) → Type 0
+IsStep x notes (Ok (prepared.More leaf)) = (treated x < length x.serving.seated.tables) × Treats x leaf.0 notes
+IsStep x notes (Ok (prepared.Ready leaf)) = AllTreated x × (notes ≡ []) × IsCopyOf x leaf.0
+IsStep x notes (Err ((y, b), DiskFault)) = (treated x < length x.serving.seated.tables) × Halts x y notes
+IsStep x notes (Err ((y, b), NoRoom)) = AllTreated x × IsTooMany x × (notes ≡ []) × (y ≡ x)
+IsStep x notes (Err ((y, b), NoMemory)) = Starves x y notes
+
+abbrev pub StepGoesOn : {B : Type 0} → (B → Meaning) → Shutting → Meaning → Result (Prepared B) ((Shutting × B) × PrepareFault) → Type 0
+StepGoesOn meaning x m (Ok (prepared.More leaf)) = GoesOn x.serving leaf.0.serving m (meaning leaf.1)
+StepGoesOn meaning x m (Ok (prepared.Ready leaf)) = (writes : List ℕ → List Write) → Runs (watched_by x.serving.seated) x.serving.owing.owner x.serving.owing.log writes m
+    → CopiesOn x.serving.seated leaf.0 m (meaning leaf.1)
+StepGoesOn meaning x m (Err ((y, b), fault)) = GoesOn x.serving y.serving m (meaning b)
+
+-- a fault of the disk is told only where the count of its faults rose
+abbrev pub RoseStep : {B : Type 0} → ℕ → ℕ → Result (Prepared B) ((Shutting × B) × PrepareFault) → Type 0
+RoseStep before now (Ok step) = ⊤
+RoseStep before now (Err (leaf, DiskFault)) = Rose before now
+RoseStep before now (Err (leaf, NoRoom)) = ⊤
+RoseStep before now (Err (leaf, NoMemory)) = ⊤

@@ -1,89 +1,100 @@
 // A leaf that copies its tables into the region.
-ghost use Rattle.std.specs.Prelude.{◌≡◌, IsTrue, IsErr};
+ghost use Rattle.std.specs.Prelude.{◌≡◌, ℕ, List, IsTrue};
+ghost use Rattle.leaf_model.specs.declared.writes.Write.{Write};
 ghost use Rattle.berth_face.specs.Causes.{HasCause};
 ghost use Rattle.berth_face.specs.Berth.{Passes};
-ghost use Rattle.leaf_machine.specs.Steps.{IsCopyStep, CopyGoesOn, CopyStands, berth_of_copy};
+ghost use Rattle.leaf_standing.specs.Standing.{Copies};
+ghost use Rattle.leaf_steward.specs.Seated.{AreFounded, watched_by};
+ghost use Rattle.leaf_steward.specs.Making.{Makes};
+ghost use Rattle.leaf_machine.specs.States.{RestsOn};
+ghost use Rattle.leaf_machine.specs.Copies.{CopyGoesOn, IsCopyStep, berth_of_copy, seats_of_copy};
 
 use crate::down::Down;
-use crate::notes::{Notes, note_handed};
-use berth_face::Berth;
+use berth_face::{Berth, Gate};
 pub use drain_copy::RegionFault;
 use drain_copy::{Drain, DrainStep};
-use leaf_model::Names;
+use leaf_steward::{Notes, Seats};
 use std::marker::Model;
+use std::sync::Wait;
 
-/// A leaf that copies its tables into the region, and owns its berth. Contracts see both.
+/// A leaf that copies its tables into the region. It borrows them, all of which are shut, and owns its steward's seats and its berth. Contracts see them.
 #[derive(Drop)]
-pub struct Copying<B: Berth> {
-    pub(crate) names: Names,
+pub struct Copying<'t, B: Berth> {
+    pub(crate) seats: Seats<'t>,
     pub(crate) drain: Drain,
     pub(crate) berth: B,
 }
 
-impl<B: Berth> Model for Copying<B> {
-    ghost use Rattle.std.specs.Prelude.{◌≢◌};
-    ghost use Rattle.region_layout.specs.Names.{AreNames};
-    ghost use Rattle.drain_copy.specs.declared.step.Next.TheVariants.{Nothing};
-    ghost use Rattle.leaf_machine.specs.Copies.{CopyState};
+impl<'t, B: Berth> Model for Copying<'t, B> {
+    ghost use Rattle.leaf_machine.specs.States as state;
 
-    ghost Value = { CopyState × B };
+    ghost Value = { state.Copying × B };
 
-    ghost view = { λ leaf. (record { names = leaf.names; drain = leaf.drain }, leaf.berth) };
+    ghost view = { λ leaf. (record { seated = leaf.seats; drain = leaf.drain }, leaf.berth) };
 
-    ghost invariant = { λ leaf. AreNames leaf.names × (leaf.drain.next ≢ Nothing) };
+    ghost invariant = { λ leaf. state.IsCopying (record { seated = leaf.seats; drain = leaf.drain }) (B.meaning leaf.berth) };
 }
 
 /// A leaf with more to be copied, or at rest with all of it handed over.
 #[derive(Drop)]
-pub enum Copied<B: Berth> {
-    More(Copying<B>),
-    Finished(Down<B>),
+pub enum Copied<'t, B: Berth> {
+    More(Copying<'t, B>),
+    Finished(Down<'t, B>),
 }
 
-impl<B: Berth> Copying<B> {
+impl<'t, B: Berth> Copying<'t, B> {
     /// Makes one step of the copy: the region is begun; all is written but the flag; the flag is written, and each table is noted as handed over.
     /// A fault leaves the leaf at rest. It takes no memory.
-    pub fn step(self, notes: &mut Notes) -> Result<Copied<B>, (Down<B>, RegionFault)>
-        ensures step { IsCopyStep self.0 notes.new result }
-        ensures goes_on { IsTrue (B.meaning self.1).tells → CopyGoesOn B.meaning self.0 (B.meaning self.1) result }
-        ensures stands { IsTrue (B.meaning self.1).tells → CopyStands B.meaning self.0 (B.meaning self.1) result }
-        ensures time { Passes (B.meaning self.1) (B.meaning (berth_of_copy result)) }
-        ensures cause { HasCause (B.meaning self.1).region_faults (B.meaning (berth_of_copy result)).region_faults result }
-        ensures reads { (B.meaning (berth_of_copy result)).disk_reads ≡ (B.meaning self.1).disk_reads }
+    pub fn step<R: Wait, G: Gate>(
+        self,
+        rt: &R,
+        gate: &G,
+        notes: &mut Notes,
+    ) -> Result<Copied<'t, B>, (Down<'t, B>, RegionFault)>
+        ensures step { IsCopyStep self.entry.0 notes.new result }
+        ensures made { Makes (B.meaning self.entry.1).clock (B.meaning (berth_of_copy result)).clock self.entry.0.seated notes.new (seats_of_copy result) }
+        // At every moment since the call began a crash leaves what belongs to the tables as they stood then.
+        ensures crash { IsTrue (B.meaning self.entry.1).tells → AreFounded self.entry.0.seated → CopyGoesOn B.meaning self.entry.0 (B.meaning self.entry.1) result }
+        ensures time { Passes (B.meaning self.entry.1) (B.meaning (berth_of_copy result)) }
+        ensures cause { HasCause (B.meaning self.entry.1).region_faults (B.meaning (berth_of_copy result)).region_faults result }
+        ensures reads { (B.meaning (berth_of_copy result)).disk_reads ≡ (B.meaning self.entry.1).disk_reads }
     {
         notes.clear();
+        self.seats.sits();
         let Copying {
-            names,
+            mut seats,
             mut drain,
             mut berth,
         } = self;
         match drain.step(&mut berth) {
             Ok(DrainStep::Finished) => {
-                note_handed(notes, names.as_slice());
-                Ok(Copied::Finished(Down { names, berth }))
+                seats.hand_over(rt, &berth, gate, notes);
+                Ok(Copied::Finished(Down { seats, berth }))
             }
             Ok(DrainStep::Begun | DrainStep::Written) => Ok(Copied::More(Copying {
-                names,
+                seats,
                 drain,
                 berth,
             })),
-            Err(fault) => Err((Down { names, berth }, fault)),
+            Err(fault) => Err((Down { seats, berth }, fault)),
         }
     }
 
-    /// Gives the leaf up. What is left of the region is closed.
-    pub fn kill(self) -> Down<B>
-        ensures { result ≡ (self.0.names, self.1) }
+    /// Gives the copy up. What is left of the region is closed. No entry is made: each table is shut.
+    pub fn kill(self) -> Down<'t, B>
+        ensures leaf { result ≡ (self.entry.0.seated, self.entry.1) }
+        ensures crash { (writes : List ℕ → List Write) → AreFounded self.entry.0.seated → Copies (watched_by self.entry.0.seated) self.entry.0.drain writes (B.meaning self.entry.1)
+            → RestsOn self.entry.0.seated result.0 (B.meaning self.entry.1) (B.meaning result.1) }
     {
         Down {
-            names: self.names,
+            seats: self.seats,
             berth: self.berth,
         }
     }
 
-    /// Gives the berth back as it is.
+    /// Gives the berth back as it is. No entry is made.
     pub fn abandon(self) -> B
-        ensures { result ≡ self.1 }
+        ensures { result ≡ self.entry.1 }
     {
         self.berth
     }

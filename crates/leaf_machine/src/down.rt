@@ -1,42 +1,86 @@
 // A leaf at rest.
-ghost use Rattle.std.specs.Prelude.{◌≡◌, Ok};
+ghost use Rattle.std.specs.Prelude.{◌≡◌, ◌<◌, ℕ, List, length, map, Option, IsOk, IsTrue};
+ghost use Rattle.leaf_model.specs.declared.writes.Write.{Write};
+ghost use Rattle.row_records.specs.Records.{LogRecord};
+ghost use Rattle.leaf_history.specs.History.{LegalFrom};
 ghost use Rattle.region_layout.specs.Names.{AreNames};
+ghost use Rattle.turnstile.specs.Seats.{IsSeatOf, LearnsOthers, Told};
+ghost use Rattle.leaf_table.specs.Turns.{is_founded, start_of};
+ghost use Rattle.leaf_table.specs.Calls.{base_of, name_of, seen_of};
+ghost use Rattle.leaf_core.specs.Left.{Tables};
+ghost use Rattle.leaf_standing.specs.Standing.{Rests};
+ghost use Rattle.leaf_steward.specs.Seated.{AreAlike, AreFounded, AtEach, AtPlace, IsUnused, watched_by, with_seat};
+ghost use Rattle.leaf_machine.specs.States.{MayBegin};
 
 use berth_face::Berth;
 use leaf_model::Names;
-use std::alloc::{AllocError, Global};
+use leaf_steward::Seats;
+use leaf_table::{Seat, SharedTable};
+use std::alloc::AllocError;
 use std::marker::Model;
 
-/// A leaf at rest, which has the names of its tables and owns its berth. Contracts see both.
+/// A leaf at rest. It borrows its tables, all of which are shut, and owns its steward's seats and its berth. Contracts see the seats and the berth.
 #[derive(Drop)]
-pub struct Down<B: Berth> {
-    pub(crate) names: Names,
+pub struct Down<'t, B: Berth> {
+    pub(crate) seats: Seats<'t>,
     pub(crate) berth: B,
 }
 
-impl<B: Berth> Model for Down<B> {
-    ghost use Rattle.std.specs.Prelude.{List, ℕ};
-    ghost use Rattle.region_layout.specs.Names.{AreNames};
+impl<'t, B: Berth> Model for Down<'t, B> {
+    ghost use Rattle.leaf_steward.specs.Seated.{Seated};
+    ghost use Rattle.leaf_machine.specs.States.{IsDown};
 
-    ghost Value = { List (List ℕ) × B };
+    ghost Value = { Seated × B };
 
-    ghost view = { λ leaf. (leaf.names, leaf.berth) };
+    ghost view = { λ leaf. (leaf.seats, leaf.berth) };
 
-    ghost invariant = { λ leaf. AreNames leaf.names };
+    ghost invariant = { λ leaf. IsDown leaf.seats (B.meaning leaf.berth) };
 }
 
-impl<B: Berth> Down<B> {
-    /// A leaf with tables of these names. It takes no memory and calls nothing of the berth.
-    pub fn new(_alloc: Global, names: Names, berth: B) -> Result<Down<B>, AllocError>
-        requires { AreNames names }
-        ensures { result ≡ Ok (names, berth) }
+impl<'t, B: Berth> Down<'t, B> {
+    /// A leaf with these tables, all shut, and the seats of their steward, which has made no entry yet. Where the tables are founded, a leaf with their base
+    /// may begin over the berth.
+    pub fn new(
+        names: Names,
+        tables: &'t [SharedTable],
+        stewards: Vec<Seat>,
+        berth: B,
+    ) -> Down<'t, B>
+        requires named { AreNames names }
+        requires names { map name_of tables.now ≡ names }
+        requires count { length stewards.items ≡ length tables.now }
+        requires unused { AtEach (λ place t v. IsUnused t v) (record { names = names; tables = tables.now; seats = stewards.items }) }
+        requires alike { AreAlike (record { names = names; tables = tables.now; seats = stewards.items }) }
+        requires ready { AreFounded (record { names = names; tables = tables.now; seats = stewards.items })
+            → (base : Tables) × MayBegin base (B.meaning berth) × AtEach (λ place t v. start_of (base_of t) ≡ base (name_of t)) (record { names = names; tables = tables.now; seats = stewards.items }) }
+        ensures leaf { result ≡ (record { names = names; tables = tables.now; seats = stewards.items }, berth) }
+        ensures rests { (base : Tables) → AreFounded result.0 → MayBegin base (B.meaning berth) → AtEach (λ place t v. start_of (base_of t) ≡ base (name_of t)) result.0
+            → (least : List ℕ → List Write) × (next : Option LogRecord) × Rests (watched_by result.0) base least next (B.meaning result.1) }
     {
-        Ok(Down { names, berth })
+        let seats = Seats::new(names, tables, stewards);
+        seats.sits();
+        Down { seats, berth }
     }
 
-    /// Gives the berth back as it is.
+    /// Lets the steward's seat of that table and a caller's see what the other has seen. It makes no entry and takes no memory.
+    pub fn meet(&mut self, table: u32, seat: &mut Seat) -> Result<(), AllocError>
+        requires table { table < length self.old.0.tables }
+        requires seat { AtPlace (λ t v. IsSeatOf seat.old t.site × LegalFrom (is_founded (base_of t)) (start_of (base_of t)) (seen_of seat.old)) self.old.0 table }
+        ensures learns { AtPlace (λ t v. (w : _) × (self.new ≡ (with_seat self.old.0 table w, self.old.1)) × Told v seat.old w × LearnsOthers v w
+            × LegalFrom (is_founded (base_of t)) (start_of (base_of t)) (seen_of w)) self.old.0 table }
+        ensures seat { AtPlace (λ t v. IsSeatOf seat.new t.site × Told seat.old v seat.new × LearnsOthers seat.old seat.new
+            × LegalFrom (is_founded (base_of t)) (start_of (base_of t)) (seen_of seat.new)) self.old.0 table }
+        ensures rests { (others : Tables) (least : List ℕ → List Write) (next : Option LogRecord) → AreFounded self.old.0
+            → Rests (watched_by self.old.0) others least next (B.meaning self.old.1) → Rests (watched_by self.new.0) others least next (B.meaning self.new.1) }
+        ensures done { IsOk result }
+    {
+        self.seats.sits();
+        self.seats.meet(table, seat)
+    }
+
+    /// Gives the berth back as it is. No entry is made.
     pub fn abandon(self) -> B
-        ensures { result ≡ self.1 }
+        ensures { result ≡ self.entry.1 }
     {
         self.berth
     }

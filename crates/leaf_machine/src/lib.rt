@@ -1,11 +1,11 @@
-//! A leaf: at rest, serving its tables, shutting them, or copying them into its region.
+//! A leaf over tables that callers share: at rest, serving them, shutting them, or copying them into its region.
 #![tactic(auto)]
 
 mod copying;
 mod down;
-mod notes;
+mod faults;
+mod laws;
 mod preparing;
-mod served;
 mod start;
 #[cfg(test)]
 mod tests;
@@ -13,7 +13,9 @@ mod up;
 
 pub use copying::{Copied, Copying, RegionFault};
 pub use down::Down;
-pub use leaf_opening::{StartFault, Way, WhyDisk};
-pub use notes::{Note, Notes, What};
+pub use faults::StartFault;
+pub use laws::{begins_where_ready, leaves_begin};
+pub use leaf_opening::{Way, WhyDisk};
+pub use leaf_steward::{Note, Notes, What};
 pub use preparing::{PrepareFault, Prepared, Preparing};
 pub use up::{FlushReply, Up};

@@ -1,173 +1,199 @@
 // A leaf that shuts its tables.
-ghost use Rattle.std.specs.Prelude.{◌≡◌, ◌<◌, ℕ, List, [], drop, length, IfOk, OnOk, OnErr, IsTrue, false, nat_lt};
-ghost use Rattle.std.specs.List.{AllByRecursion};
-ghost use Rattle.leaf_model.specs.Values.{IsRow};
+ghost use Rattle.std.specs.Prelude.{◌≡◌, ◌<◌, ◌≤◌, ◌+◌, ◌++◌, ◌∷◌, ℕ, List, [], length, None, true, false, IsOk, IsTrue, OnOk, OnErr, vec_len, vec_capacity};
+ghost use Rattle.std.specs.List.{list_any};
 ghost use Rattle.leaf_model.specs.declared.writes.Write.{Write};
-ghost use Rattle.berth_face.specs.Causes.{HasCause, Rose};
 ghost use Rattle.berth_face.specs.Berth.{Passes};
-ghost use Rattle.leaf_opening.specs.Serving.{Serving};
-ghost use Rattle.leaf_machine.specs.Shutting.{IsShutting, first_open};
-ghost use Rattle.leaf_machine.specs.Notes.{closed_notes};
-ghost use Rattle.leaf_machine.specs.Tables.{Adds, Asks};
-ghost use Rattle.leaf_opening.specs.Backed.{Backed, GoesOn};
-ghost use Rattle.leaf_machine.specs.Prepares.{AllTreated, Treats, Halts};
-ghost use Rattle.leaf_machine.specs.Steps.{IsPreparingStep, PreparingGoesOn, shutting_with, berth_of_step, RosePrepare};
+ghost use Rattle.berth_face.specs.Causes.{HasCause};
+ghost use Rattle.leaf_history.specs.History.{LegalFrom};
+ghost use Rattle.turnstile.specs.Seats.{IsSeatOf, LearnsOthers, Told};
+ghost use Rattle.leaf_table.specs.Turns.{is_founded, start_of};
+ghost use Rattle.leaf_table.specs.Calls.{base_of, seen_of};
+ghost use Rattle.leaf_standing.specs.Standing.{Runs};
+ghost use Rattle.leaf_steward.specs.declared.notes.Note.{Note};
+ghost use Rattle.leaf_steward.specs.Seated.{AreFounded, AreSeated, AtPlace, watched_by, with_seat};
+ghost use Rattle.leaf_steward.specs.Making.{EachNoted, IsClosedNote, Makes};
+ghost use Rattle.leaf_machine.specs.States.{RestsOn, treated};
+ghost use Rattle.leaf_machine.specs.Prepares.{Halts, IsStep, RoseStep, Starves, StepGoesOn, berth_of_step, seats_of_step};
+ghost use Rattle.leaf_machine.specs.PrepParts.{IsAllTreated, IsNext, IsPart, RoseNext, is_too_many};
 
 use crate::copying::Copying;
 use crate::down::Down;
-use crate::notes::{Notes, What, note_closed};
-use crate::served::Served;
-use berth_face::Berth;
+use berth_face::{Berth, Gate};
 use disk_backup::DiskFault;
-use leaf_model::{Groups, Query, Rows};
+use drain_copy::Drain;
+use leaf_steward::{Notes, Seats};
+use leaf_table::Seat;
+use log_steward::StewardLog;
 use std::alloc::{AllocError, Global};
 use std::marker::Model;
-use table_state::{AddFault, Added};
+use std::sync::Wait;
+use table_state::TableState;
 
 /// Why a step did not end. It may be made again.
 #[derive(Clone, Copy, Debug, PartialEq, Eq)]
 pub enum PrepareFault {
     /// A call on the disk failed. What was taken stays owed to the log.
     DiskFault,
-    /// There was no memory for the copy.
+    /// A table has at least 2^63 writes, for which the image has no room.
+    NoRoom,
+    /// There was no memory for a table's content or for the copy.
     NoMemory,
 }
 
 /// A leaf with tables still to be treated, or ready to be copied.
 #[derive(Drop)]
-pub enum Prepared<B: Berth> {
-    More(Preparing<B>),
-    Ready(Copying<B>),
+pub enum Prepared<'t, B: Berth> {
+    More(Preparing<'t, B>),
+    Ready(Copying<'t, B>),
 }
 
-/// A leaf that shuts its tables one by one, and owns its berth. Contracts see both.
+/// A leaf that shuts its tables one by one. It borrows them, and owns its steward's seats, what the shut ones held, its log and its berth. Contracts see them.
 #[derive(Drop)]
-pub struct Preparing<B: Berth> {
-    pub(crate) served: Served,
-    /// How many tables, from the first on, are shut and are whole in the log.
-    pub(crate) treated: u32,
-    /// Whether the next table is shut, and its record is owed.
+pub struct Preparing<'t, B: Berth> {
+    pub(crate) seats: Seats<'t>,
+    pub(crate) log: StewardLog,
+    /// The contents of the tables that are shut, from the first on.
+    pub(crate) closed: Vec<TableState>,
+    /// Whether the record of the last of those is owed.
     pub(crate) shut: bool,
     pub(crate) berth: B,
 }
 
-impl<B: Berth> Model for Preparing<B> {
-    ghost use Rattle.leaf_opening.specs.Serving.{Serving};
-    ghost use Rattle.leaf_machine.specs.Shutting.{Shutting, IsShutting};
+impl<'t, B: Berth> Model for Preparing<'t, B> {
+    ghost use Rattle.leaf_machine.specs.States.{Shutting, IsShutting};
 
     ghost Value = { Shutting × B };
 
-    ghost view = { λ leaf. (
-      record {
-        serving = leaf.served;
-        treated = leaf.treated;
-        shut = leaf.shut;
-      },
-      leaf.berth,
-    ) };
+    ghost view = { λ leaf. (record { serving = record { seated = leaf.seats; owing = leaf.log }; closed = leaf.closed.items; shut = leaf.shut }, leaf.berth) };
 
-    ghost invariant = { λ leaf. IsShutting (record {
-      serving = leaf.served;
-      treated = leaf.treated;
-      shut = leaf.shut;
-    }) };
+    ghost invariant = { λ leaf. IsShutting (record { serving = record { seated = leaf.seats; owing = leaf.log }; closed = leaf.closed.items; shut = leaf.shut }) (B.meaning leaf.berth) };
 }
 
-impl<B: Berth> Preparing<B> {
-    /// Does nothing. It says what every leaf that shuts its tables is.
+impl<'t, B: Berth> Preparing<'t, B> {
+    /// Does nothing. It says that a leaf whose last shut table's record is owed has shut one.
     pub fn shuts(&self)
-        ensures { IsShutting self.now.0 }
+        ensures { IsTrue self.now.0.shut → 0 < length self.now.0.closed }
     {
-        let _served = &self.served;
+        let _closed = &self.closed;
     }
 
-    /// Whether the table in that place is shut.
-    pub fn is_shut(&self, table: u32) -> bool
-        ensures { result ≡ nat_lt table (first_open self.now.0) }
+    /// Lets the steward's seat of that table and a caller's see what the other has seen. It makes no entry and takes no memory.
+    pub fn meet(&mut self, table: u32, seat: &mut Seat) -> Result<(), AllocError>
+        requires table { table < length self.old.0.serving.seated.tables }
+        requires seat { AtPlace (λ t v. IsSeatOf seat.old t.site × LegalFrom (is_founded (base_of t)) (start_of (base_of t)) (seen_of seat.old)) self.old.0.serving.seated table }
+        ensures learns { AtPlace (λ t v. (w : _) × (self.new ≡ (
+          record {
+            serving = record { seated = with_seat self.old.0.serving.seated table w; owing = self.old.0.serving.owing };
+            closed = self.old.0.closed;
+            shut = self.old.0.shut;
+          },
+          self.old.1,
+        )) × Told v seat.old w × LearnsOthers v w × LegalFrom (is_founded (base_of t)) (start_of (base_of t)) (seen_of w)) self.old.0.serving.seated table }
+        ensures seat { AtPlace (λ t v. IsSeatOf seat.new t.site × Told seat.old v seat.new × LearnsOthers seat.old seat.new
+            × LegalFrom (is_founded (base_of t)) (start_of (base_of t)) (seen_of seat.new)) self.old.0.serving.seated table }
+        ensures runs { (writes : List ℕ → List Write) → AreFounded self.old.0.serving.seated
+            → Runs (watched_by self.old.0.serving.seated) self.old.0.serving.owing.owner self.old.0.serving.owing.log writes (B.meaning self.old.1)
+            → Runs (watched_by self.new.0.serving.seated) self.new.0.serving.owing.owner self.new.0.serving.owing.log writes (B.meaning self.new.1) }
+        ensures done { IsOk result }
     {
-        table < self.treated + u32::from(self.shut)
-    }
-
-    /// As that of a leaf that is up, of a table that is not shut.
-    pub fn add(&mut self, table: u32, rows: Rows) -> Result<Added, AddFault>
-        requires table { table < length self.old.0.serving.tables }
-        requires open_ { nat_lt table (first_open self.old.0) ≡ false }
-        requires rows { AllByRecursion IsRow rows }
-        ensures added { Adds self.old.0.serving table rows result self.new.0.serving }
-        ensures same { self.new.0 ≡ shutting_with self.old.0 self.new.0.serving }
-        ensures berth { self.new.1 ≡ self.old.1 }
-        ensures backed { (writes : List ℕ → List Write) → Backed writes self.old.0.serving (B.meaning self.old.1) → Backed writes self.new.0.serving (B.meaning self.new.1) }
-    {
-        self.served.add(table, rows)
-    }
-
-    /// As that of a leaf that is up, of a table that is not shut.
-    pub fn ask(&self, table: u32, query: &Query) -> Result<Groups, AllocError>
-        requires table { table < length self.now.0.serving.tables }
-        ensures { IfOk result (Asks self.now.0.serving.tables table query.now) }
-    {
-        self.served.ask(table, query)
+        self.seats.sits();
+        self.seats.meet(table, seat)
     }
 
     /// Settles what the log is owed and notes its table as flushed. Then it treats the next table: it shuts it, settles what it accepted since the last
-    /// taking, and notes it as closed and as flushed. Where all tables are treated it makes the copy of them that is to go into the region.
-    pub fn step(
+    /// taking, and notes it as closed and as flushed. Where all tables are treated it plans the copy of them into the region.
+    pub fn step<R: Wait, G: Gate>(
         self,
+        rt: &R,
         alloc: Global,
+        gate: &G,
         notes: &mut Notes,
-    ) -> Result<Prepared<B>, (Preparing<B>, PrepareFault)>
-        ensures step { IsPreparingStep self.0 notes.new result }
-        ensures goes_on { IsTrue (B.meaning self.1).tells → PreparingGoesOn B.meaning self.0 (B.meaning self.1) result }
-        ensures region { IsTrue (B.meaning self.1).tells → (B.meaning (berth_of_step result)).held.region ≡ (B.meaning self.1).held.region }
-        ensures time { Passes (B.meaning self.1) (B.meaning (berth_of_step result)) }
-        ensures cause { RosePrepare (B.meaning self.1).disk_faults (B.meaning (berth_of_step result)).disk_faults result }
-        ensures reads { (B.meaning (berth_of_step result)).disk_reads ≡ (B.meaning self.1).disk_reads }
+    ) -> Result<Prepared<'t, B>, (Preparing<'t, B>, PrepareFault)>
+        ensures step { IsStep self.entry.0 notes.new result }
+        ensures made { Makes (B.meaning self.entry.1).clock (B.meaning (berth_of_step result)).clock self.entry.0.serving.seated notes.new (seats_of_step result) }
+        // At every moment since the call began a crash leaves what belongs to the tables as they stood then.
+        ensures crash { IsTrue (B.meaning self.entry.1).tells → AreFounded self.entry.0.serving.seated → StepGoesOn B.meaning self.entry.0 (B.meaning self.entry.1) result }
+        ensures region { IsTrue (B.meaning self.entry.1).tells → (B.meaning (berth_of_step result)).held.region ≡ (B.meaning self.entry.1).held.region }
+        ensures time { Passes (B.meaning self.entry.1) (B.meaning (berth_of_step result)) }
+        ensures cause { RoseStep (B.meaning self.entry.1).disk_faults (B.meaning (berth_of_step result)).disk_faults result }
+        ensures reads { (B.meaning (berth_of_step result)).disk_reads ≡ (B.meaning self.entry.1).disk_reads }
     {
         notes.clear();
-        if self.treated as usize == self.served.tables.len() {
+        if self.is_treated() {
             return self.copied(alloc);
         }
         let mut leaf = self;
-        match leaf.treat_next(notes) {
+        match leaf.treat_next(rt, gate, notes) {
             Ok(()) => Ok(Prepared::More(leaf)),
-            Err(_) => Err((leaf, PrepareFault::DiskFault)),
+            Err(fault) => Err((leaf, fault)),
         }
     }
 
-    /// Notes each open table as closed, and drops them all. It calls nothing of the berth and takes no memory.
-    pub fn kill(self, notes: &mut Notes) -> Down<B>
-        ensures leaf { result ≡ (self.0.serving.names, self.1) }
-        ensures notes { notes.new ≡ closed_notes (first_open self.0) (drop (first_open self.0) self.0.serving.tables) }
+    /// Shuts each open table and notes it as closed, and drops what they all held. It calls nothing of the berth and takes no memory.
+    pub fn kill<R: Wait, G: Gate>(self, rt: &R, gate: &G, notes: &mut Notes) -> Down<'t, B>
+        ensures berth { result.1 ≡ self.entry.1 }
+        ensures made { Makes (B.meaning self.entry.1).clock (B.meaning self.entry.1).clock self.entry.0.serving.seated notes.new result.0 }
+        ensures each { (count : ℕ) × (length self.entry.0.closed + count ≡ length self.entry.0.serving.seated.tables) × EachNoted IsClosedNote (length self.entry.0.closed) count notes.new }
+        ensures crash { (writes : List ℕ → List Write) → AreFounded self.entry.0.serving.seated
+            → Runs (watched_by self.entry.0.serving.seated) self.entry.0.serving.owing.owner self.entry.0.serving.owing.log writes (B.meaning self.entry.1)
+            → RestsOn self.entry.0.serving.seated result.0 (B.meaning self.entry.1) (B.meaning result.1) }
     {
         notes.clear();
-        let open = self.treated + u32::from(self.shut);
-        let Preparing { served, berth, .. } = self;
-        note_closed(notes, open, &served.tables[open as usize..]);
-        Down {
-            names: served.names,
+        let first = self.first_open();
+        let Preparing {
+            mut seats,
             berth,
-        }
+            ..
+        } = self;
+        seats.shut_rest(rt, first, &berth, gate, notes);
+        Down { seats, berth }
     }
 
-    /// Gives the berth back as it is, and drops the tables.
+    /// Gives the berth back as it is. No entry is made.
     pub fn abandon(self) -> B
-        ensures { result ≡ self.1 }
+        ensures { result ≡ self.entry.1 }
     {
         self.berth
     }
-    // Makes the copy of tables that are all treated.
-    fn copied(self, alloc: Global) -> Result<Prepared<B>, (Preparing<B>, PrepareFault)>
-        requires { AllTreated self.0 }
-        ensures step { IsPreparingStep self.0 [] result }
-        ensures goes_on { IsTrue (B.meaning self.1).tells → PreparingGoesOn B.meaning self.0 (B.meaning self.1) result }
-        ensures berth { berth_of_step result ≡ self.1 }
-        ensures cause { RosePrepare (B.meaning self.1).disk_faults (B.meaning (berth_of_step result)).disk_faults result }
+
+    // The place of the first table that is open.
+    fn first_open(&self) -> u32
+        ensures place { result ≡ length self.now.0.closed }
+        ensures few { result ≤ length self.now.0.serving.seated.tables }
+        ensures seated { AreSeated self.now.0.serving.seated }
     {
-        match self.served.drain(alloc) {
+        self.seats.sits();
+        self.closed.len() as u32
+    }
+
+    // Whether all tables are treated.
+    fn is_treated(&self) -> bool
+        ensures all { result ≡ true → IsAllTreated self.now.0 }
+        ensures more { result ≡ false → treated self.now.0 < length self.now.0.serving.seated.tables }
+    {
+        let count = self.seats.len();
+        self.seats.sits();
+        !self.shut && self.closed.len() == count as usize
+    }
+
+    // Plans the copy of tables that are all treated.
+    fn copied(self, alloc: Global) -> Result<Prepared<'t, B>, (Preparing<'t, B>, PrepareFault)>
+        requires all { IsAllTreated self.0 }
+        ensures step { IsStep self.entry.0 [] result }
+        ensures crash { AreFounded self.entry.0.serving.seated → StepGoesOn B.meaning self.entry.0 (B.meaning self.entry.1) result }
+        ensures berth { berth_of_step result ≡ self.entry.1 }
+        ensures seats { seats_of_step result ≡ self.entry.0.serving.seated }
+        ensures cause { RoseStep (B.meaning self.entry.1).disk_faults (B.meaning self.entry.1).disk_faults result }
+    {
+        self.seats.sits();
+        if has_too_many(&self.closed) {
+            return Err((self, PrepareFault::NoRoom));
+        }
+        match Drain::plan(alloc, self.seats.names(), &self.closed, self.log.end()) {
             Ok(drain) => {
-                let Preparing { served, berth, .. } = self;
+                let Preparing { seats, berth, .. } = self;
                 Ok(Prepared::Ready(Copying {
-                    names: served.names,
+                    seats,
                     drain,
                     berth,
                 }))
@@ -177,33 +203,103 @@ impl<B: Berth> Preparing<B> {
     }
 
     // Treats one table more.
-    fn treat_next(&mut self, notes: &mut Notes) -> Result<(), DiskFault>
-        requires more { self.old.0.treated < length self.old.0.serving.tables }
+    fn treat_next<R: Wait, G: Gate>(
+        &mut self,
+        rt: &R,
+        gate: &G,
+        notes: &mut Notes,
+    ) -> Result<(), PrepareFault>
+        requires more { treated self.old.0 < length self.old.0.serving.seated.tables }
         requires none { notes.old ≡ [] }
-        ensures treats { OnOk result (Treats self.old.0 self.new.0 notes.new) }
-        ensures halts { OnErr result (Halts self.old.0 self.new.0 notes.new) }
-        ensures names { self.new.0.serving.names ≡ self.old.0.serving.names }
-        ensures goes_on { IsTrue (B.meaning self.old.1).tells → GoesOn self.old.0.serving self.new.0.serving (B.meaning self.old.1) (B.meaning self.new.1) }
-        ensures region { IsTrue (B.meaning self.old.1).tells → (B.meaning self.new.1).held.region ≡ (B.meaning self.old.1).held.region }
-        ensures time { Passes (B.meaning self.old.1) (B.meaning self.new.1) }
-        ensures cause { HasCause (B.meaning self.old.1).disk_faults (B.meaning self.new.1).disk_faults result }
-        ensures reads { (B.meaning self.new.1).disk_reads ≡ (B.meaning self.old.1).disk_reads }
+        ensures next { IsNext self.old.0 self.new.0 notes.new result }
+        ensures part { IsPart self.old.0.serving self.new.0.serving notes.old notes.new (B.meaning self.old.1) (B.meaning self.new.1) }
+        ensures cause { RoseNext (B.meaning self.old.1).disk_faults (B.meaning self.new.1).disk_faults result }
     {
-        self.served.settle_owed(&mut self.berth, notes)?;
-        if self.shut {
-            self.shut = false;
-            self.treated += 1;
+        let shut = self.shut;
+        if self.settle(rt, gate, notes).is_err() {
+            return Err(PrepareFault::DiskFault);
+        }
+        if shut {
             return Ok(());
         }
-        let taking = What::Closed(self.served.writes(self.treated));
-        if let Err(fault) = self
-            .served
-            .bring(self.treated, taking, &mut self.berth, notes)
-        {
-            self.shut = true;
-            return Err(fault);
-        }
-        self.treated += 1;
+        self.shut_next(rt, gate, notes)
+    }
+
+    // Settles what the log is owed, and notes its table as flushed.
+    fn settle<R: Wait, G: Gate>(
+        &mut self,
+        rt: &R,
+        gate: &G,
+        notes: &mut Notes,
+    ) -> Result<(), DiskFault>
+        requires none { notes.old ≡ [] }
+        ensures settled { OnOk result (Starves self.old.0 self.new.0 notes.new) }
+        ensures halts { OnErr result (Halts self.old.0 self.new.0 notes.new) }
+        ensures part { IsPart self.old.0.serving self.new.0.serving notes.old notes.new (B.meaning self.old.1) (B.meaning self.new.1) }
+        ensures cause { HasCause (B.meaning self.old.1).disk_faults (B.meaning self.new.1).disk_faults result }
+    {
+        self.seats.sits();
+        self.log
+            .settle_owed(rt, &mut self.seats, &mut self.berth, gate, notes)?;
+        self.shut = false;
         Ok(())
     }
+
+    // Shuts the next table and brings its record onto the disk, where nothing is owed.
+    fn shut_next<R: Wait, G: Gate>(
+        &mut self,
+        rt: &R,
+        gate: &G,
+        notes: &mut Notes,
+    ) -> Result<(), PrepareFault>
+        requires more { length self.old.0.closed < length self.old.0.serving.seated.tables }
+        requires rests { self.old.0.shut ≡ false }
+        requires none { self.old.0.serving.owing.log.owed ≡ None }
+        requires room { length notes.old ≤ 1 }
+        ensures next { (made : List Note) × (notes.new ≡ notes.old ++ made) × IsNext self.old.0 self.new.0 made result }
+        ensures part { IsPart self.old.0.serving self.new.0.serving notes.old notes.new (B.meaning self.old.1) (B.meaning self.new.1) }
+        ensures cause { RoseNext (B.meaning self.old.1).disk_faults (B.meaning self.new.1).disk_faults result }
+    {
+        let place = self.first_open();
+        if self.closed.reserve(1).is_err() {
+            return Err(PrepareFault::NoMemory);
+        }
+        let mut table = self.seats.shut(rt, place, &self.berth, gate, notes);
+        let writes = table.writes();
+        let pending = table.take_pending();
+        keep(&mut self.closed, table);
+        let brought = self.log.bring(
+            rt,
+            &mut self.seats,
+            place,
+            writes,
+            pending,
+            &mut self.berth,
+            gate,
+            notes,
+        );
+        if brought.is_err() {
+            self.shut = true;
+            return Err(PrepareFault::DiskFault);
+        }
+        Ok(())
+    }
+}
+
+// Puts a content behind the others, for which there is room.
+fn keep(closed: &mut Vec<TableState>, table: TableState)
+    requires room { vec_len closed.old < vec_capacity closed.old }
+    ensures closed { closed.new.items ≡ closed.old.items ++ table ∷ [] }
+{
+    match closed.push(table) {
+        Ok(()) => {}
+        Err(_) => unreachable!(),
+    }
+}
+
+// Whether one of them has too many writes for an image.
+fn has_too_many(tables: &[TableState]) -> bool
+    ensures { result ≡ list_any is_too_many tables.now }
+{
+    tables.iter().any(|table| table.writes() >= 1 << 63)
 }

@@ -1,66 +1,78 @@
 // How a leaf at rest comes to serve its tables.
-ghost use Rattle.std.specs.Prelude.{◌≡◌, ◌≢◌, ℕ, List, [], None, IfOk, IfErr, OnErr, IsTrue};
+ghost use Rattle.std.specs.Prelude.{◌≡◌, ◌≢◌, ℕ, List, Option, IfOk, IfErr, IsTrue, length};
 ghost use Rattle.leaf_model.specs.declared.writes.Write.{Write};
+ghost use Rattle.row_records.specs.Records.{LogRecord};
 ghost use Rattle.berth_face.specs.Causes.{Rose};
 ghost use Rattle.berth_face.specs.Berth.{Passes};
+ghost use Rattle.disk_backup.specs.Scanning.{Begins};
 ghost use Rattle.leaf_opening.specs.declared.ways.Way.TheVariants as way;
-ghost use Rattle.leaf_opening.specs.declared.ways.StartFault.TheVariants as fault;
-ghost use Rattle.leaf_machine.specs.Notes.{opened_notes};
-ghost use Rattle.leaf_opening.specs.Backed.{Backed, Rests};
-ghost use Rattle.leaf_machine.specs.Steps.{berth_after};
-ghost use Rattle.leaf_opening.specs.Starts.{Started, IsRefusal, IsWayOf, AreFresh};
+ghost use Rattle.leaf_opening.specs.Starts.{IsWayOf};
+ghost use Rattle.leaf_core.specs.Left.{Tables};
+ghost use Rattle.leaf_standing.specs.Standing.{Rests};
+ghost use Rattle.leaf_steward.specs.Seated.{AreFounded, watched_by};
+ghost use Rattle.leaf_steward.specs.Making.{Makes};
+ghost use Rattle.leaf_machine.specs.declared.faults.StartFault.TheVariants as fault;
+ghost use Rattle.leaf_machine.specs.Starts.{Came, IsRefused, IsStart, StartGoesOn, berth_after, seats_after};
 
 use crate::down::Down;
-use crate::notes::{Notes, note_opened};
-use crate::served::Served;
+use crate::faults::{StartFault, told};
 use crate::up::Up;
-use berth_face::Berth;
-use leaf_opening::{Opened, StartFault, Way, open_tables};
+use berth_face::{Berth, Gate};
+use leaf_opening::{Opened, Way, open_tables};
+use leaf_steward::Notes;
+use log_steward::StewardLog;
 use std::alloc::Global;
+use std::sync::Wait;
 
-impl<B: Berth> Down<B> {
-    /// Adopts the tables of the region's image; where the region is none, it reads the log to its end and applies each record to its table.
-    /// An open flag is closed before anything else. A table that neither names is empty. Each table is noted as opened.
-    pub fn start(
+impl<'t, B: Berth> Down<'t, B> {
+    /// Adopts the tables of the region's image; where the region is none, it reads the log to its end and applies each record to its table. An open flag is
+    /// closed before anything else. A table that neither names is empty. Then each table is opened and noted. Where a seat is worn nothing is touched.
+    /// The disk then reads as it did, but for the first byte of one that had at most one.
+    pub fn start<R: Wait, G: Gate>(
         self,
+        rt: &R,
         alloc: Global,
+        gate: &G,
         notes: &mut Notes,
-    ) -> Result<(Up<B>, Way), (Down<B>, StartFault)>
-        ensures names { IfOk result (λ x. x.0.0.names ≡ self.0) }
-        ensures same_names { IfErr result (λ x. x.0.0 ≡ self.0) }
-        ensures fresh { IfOk result (λ x. AreFresh x.0.0.tables × (x.0.0.log.owed ≡ None)) }
-        ensures notes { IfOk result (λ x. notes.new ≡ opened_notes 0 x.0.0.tables) }
-        ensures no_notes { OnErr result (notes.new ≡ []) }
+    ) -> Result<(Up<'t, B>, Way), (Down<'t, B>, StartFault)>
+        ensures start { IsStart self.entry.0 self.entry.1 notes.new result }
+        ensures made { Makes (B.meaning self.entry.1).clock (B.meaning (berth_after result)).clock self.entry.0 notes.new (seats_after result) }
         // Where the berth tells its contents: on any bytes, and where they are what a leaf left.
-        ensures told { IsTrue (B.meaning self.1).tells → IfOk result (λ x. Started self.0 (B.meaning self.1) (B.meaning x.0.1) x.0.0 x.1) }
-        ensures way { IsTrue (B.meaning self.1).tells → IfOk result (λ x. IsWayOf (B.meaning self.1).held.region x.1) }
-        ensures refused { IsTrue (B.meaning self.1).tells → IfErr result (λ x. IsRefusal self.0 (B.meaning self.1) (B.meaning x.0.1) x.1) }
-        ensures backed { (writes : List ℕ → List Write) → IsTrue (B.meaning self.1).tells → Rests writes (B.meaning self.1)
-            → IfOk result (λ x. Backed writes x.0.0 (B.meaning x.0.1)) }
-        ensures rests { (writes : List ℕ → List Write) → IsTrue (B.meaning self.1).tells → Rests writes (B.meaning self.1)
-            → IfErr result (λ x. Rests writes (B.meaning x.0.1) × (x.1 ≢ fault.DiskDamaged)) }
+        ensures came { IsTrue (B.meaning self.entry.1).tells → IfOk result (λ x. Came self.entry.0.names (B.meaning self.entry.1) (B.meaning x.0.1) notes.new x.0.0 x.1) }
+        ensures way { IsTrue (B.meaning self.entry.1).tells → IfOk result (λ x. IsWayOf (B.meaning self.entry.1).held.region x.1) }
+        ensures refused { IsTrue (B.meaning self.entry.1).tells → IfErr result (λ x. IsRefused self.entry.0.names (B.meaning self.entry.1) (B.meaning x.0.1) x.1) }
+        // The disk reads as it did, or its first byte was written where it had at most one.
+        ensures disk { IsTrue (B.meaning self.entry.1).tells → Begins (length (B.meaning self.entry.1).held.disk) (B.meaning self.entry.1).held.disk (B.meaning (berth_after result)).held.disk }
+        // At every moment since the call began a crash leaves what belongs to the tables as they stood then.
+        ensures crash { (others : Tables) (least : List ℕ → List Write) (next : Option LogRecord) → IsTrue (B.meaning self.entry.1).tells → AreFounded self.entry.0
+            → Rests (watched_by self.entry.0) others least next (B.meaning self.entry.1) → StartGoesOn B.meaning self.entry.0 (B.meaning self.entry.1) others least next result }
         // On every berth.
-        ensures time { Passes (B.meaning self.1) (B.meaning (berth_after result)) }
-        ensures region_cause { IfErr result (λ x. x.1 ≡ fault.RegionFault → Rose (B.meaning self.1).region_faults (B.meaning x.0.1).region_faults) }
-        ensures disk_cause { IfErr result (λ x. x.1 ≡ fault.DiskFault → Rose (B.meaning self.1).disk_faults (B.meaning x.0.1).disk_faults) }
-        ensures reads { IfOk result (λ x. x.1 ≡ way.Memory → (B.meaning x.0.1).disk_reads ≡ (B.meaning self.1).disk_reads) }
+        ensures time { Passes (B.meaning self.entry.1) (B.meaning (berth_after result)) }
+        ensures region_cause { IfErr result (λ x. x.1 ≡ fault.RegionFault → Rose (B.meaning self.entry.1).region_faults (B.meaning x.0.1).region_faults) }
+        ensures disk_cause { IfErr result (λ x. x.1 ≡ fault.DiskFault → Rose (B.meaning self.entry.1).disk_faults (B.meaning x.0.1).disk_faults) }
+        ensures reads { IfOk result (λ x. x.1 ≡ way.Memory → (B.meaning x.0.1).disk_reads ≡ (B.meaning self.entry.1).disk_reads) }
     {
         notes.clear();
-        let Down { names, mut berth } = self;
-        match open_tables(alloc, &names, &mut berth) {
+        self.seats.sits();
+        if let Some(table) = self.seats.worn() {
+            return Err((self, StartFault::Worn(table)));
+        }
+        let Down {
+            mut seats,
+            mut berth,
+        } = self;
+        match open_tables(alloc, seats.names(), &mut berth) {
             Ok(opened) => {
                 let Opened { tables, log, way } = opened;
-                note_opened(notes, &tables);
-                let served = Served {
-                    names,
-                    tables,
-                    log,
-                    owner: 0,
-                    count: 0,
+                seats.open_all(rt, tables, &berth, gate, notes);
+                let up = Up {
+                    seats,
+                    log: StewardLog::of(log),
+                    berth,
                 };
-                Ok((Up { served, berth }, way))
+                Ok((up, way))
             }
-            Err(fault) => Err((Down { names, berth }, fault)),
+            Err(fault) => Err((Down { seats, berth }, told(fault))),
         }
     }
 }

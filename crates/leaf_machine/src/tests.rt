@@ -1,296 +1,341 @@
-// Leaves over berths in memory, with ample memory.
-ghost use Rattle.std.specs.Prelude.{◌≡◌, ◌≤◌, length, IfOk};
+// The whole life of a leaf with one table that a caller shares, with ample memory.
+ghost use Rattle.std.specs.Prelude.{◌≡◌, false, ◌∷◌, [], length, map, slice_get, Some, IfOk, IfSome};
 ghost use Rattle.std.specs.List.{AllByRecursion};
 ghost use Rattle.leaf_model.specs.Values.{IsRow};
+ghost use Rattle.region_layout.specs.Names.{AreNames};
+ghost use Rattle.leaf_table.specs.Turns.{Shared, is_founded};
+ghost use Rattle.leaf_table.specs.Calls.{base_of, name_of};
+ghost use Rattle.leaf_steward.specs.Seated.{AtEach, IsUnused};
+ghost use Rattle.leaf_machine.specs.Trying.{Calls};
 
-use super::*;
-use berth_mem::{Fail, Fails, MemBerth, Method};
-use leaf_model::{Agg, Aggs, Conds, Names, Query, Rows, Text};
+use crate::{
+    Copied, Copying, Down, FlushReply, Note, Notes, Prepared, Preparing, Up, Way, What, WhyDisk,
+};
+use berth_face::OpenGate;
+use berth_mem::MemBerth;
+use leaf_model::{Names, Rows, Text};
+use leaf_table::{Reply, Seat, SharedTable};
 use row_records::read_rows;
 use std::alloc::{AllocError, Global};
-use std::test;
-use table_state::Added;
+use std::marker::Brand;
+use std::sync::Wait;
+use std::test::*;
 
-/// A row without cells, with the time 5, and one with the time 6.
-const AT_5: &[u8] = b"\x05\0\0\0\0\0\0\0\0\0";
-
-const AT_6: &[u8] = b"\x06\0\0\0\0\0\0\0\0\0";
-
-/// The image of the table `t` with one write and one row, whose time is 5. The log ends at 35.
-const ONE_ROW: &[u8; 61] =
-    b"\x01SCB\x01\0\0\0\x10\0\0\0\0\0\0\0\x23\0\0\0\0\0\0\0\x01\x01t\0\0\0\0\0\0\0\0\x01\0\0\0\0\0\0\0\x01\0\0\0\0\0\0\0\x05\0\0\0\0\0\0\0\0\0";
-
-/// A leaf with one table.
-fn leaf(alloc: Global, berth: MemBerth) -> Result<Down<MemBerth>, AllocError>
-    ensures { IfOk result (λ leaf. length leaf.0 ≡ 1) }
+/// One row with the time 5 and no cells.
+fn one_row(alloc: Global) -> Result<Rows, AllocError>
+    ensures { IfOk result (λ rows. AllByRecursion IsRow rows) }
 {
-    let mut names = Vec::new(alloc);
-    names.push(Text::of(String::from_str(alloc, "t")?))?;
-    Down::new(alloc, Names::of(names), berth)
-}
-
-/// An empty berth of which that call fails.
-fn failing(alloc: Global, method: Method, count: u64) -> Result<MemBerth, AllocError> {
-    let fails = Fails::of(vec![in alloc; Fail { method, count }]?);
-    Ok(MemBerth::failing(Vec::new(alloc), Vec::new(alloc), fails))
-}
-
-/// One row, from its bytes.
-fn row_of(alloc: Global, bytes: &[u8]) -> Result<Rows, AllocError>
-    ensures rows { IfOk result (λ rows. AllByRecursion IsRow rows) }
-    ensures few { IfOk result (λ rows. length rows ≤ 1) }
-{
-    match read_rows(alloc, bytes, 1)? {
+    match read_rows(alloc, b"\x05\0\0\0\0\0\0\0\0\0", 1)? {
         Some((rows, _taken)) => Ok(Rows::of(rows)),
         None => Ok(Rows::of(Vec::new(alloc))),
     }
 }
 
-/// Starts a leaf that is not refused.
-fn start(
-    alloc: Global,
-    berth: MemBerth,
-    notes: &mut Notes,
-) -> Result<(Up<MemBerth>, Way), AllocError>
-    ensures { IfOk result (λ x. length x.0.0.tables ≡ 1) }
+/// The name `t`.
+fn one_name(alloc: Global) -> Result<Names, AllocError>
+    ensures are { IfOk result AreNames }
+    ensures names { IfOk result (λ names. names ≡ (116 ∷ []) ∷ []) }
 {
-    match leaf(alloc, berth)?.start(alloc, notes) {
-        Ok((up, way)) => {
-            up.serves();
-            Ok((up, way))
-        }
-        Err(_) => Err(AllocError),
+    let mut names = Vec::new(alloc);
+    names.push(Text::of(String::from_str(alloc, "t")?))?;
+    Ok(Names::of(names))
+}
+
+/// A table, its steward's seat, and a caller's.
+type Shut = (Vec<SharedTable>, Vec<Seat>, Seat);
+
+/// A shut table of that name, which is not founded.
+fn one_table(alloc: Global, names: &Names) -> Result<Shut, AllocError>
+    requires { names.now ≡ (116 ∷ []) ∷ [] }
+    ensures named { IfOk result (λ r. map name_of r.0.items ≡ names.now) }
+    ensures one { IfOk result (λ r. (length r.0.items ≡ 1) × (length r.1.items ≡ 1)) }
+    ensures unused { IfOk result (λ r. AtEach (λ place t v. IsUnused t v) (record { names = names.now; tables = r.0.items; seats = r.1.items })) }
+    ensures plain { IfOk result (λ r. AllByRecursion (λ (t : Shared). is_founded (base_of t) ≡ false) r.0.items) }
+    ensures caller { IfOk result (λ r. (t : Shared) → slice_get r.0.items 0 ≡ Some t → Calls r.2 t) }
+{
+    let names = names.as_slice();
+    let (table, steward, caller) = SharedTable::new::<Brand>(alloc, 0, 0, &names[0], 1)?;
+    let mut tables = Vec::new(alloc);
+    tables.push(table)?;
+    let mut stewards = Vec::new(alloc);
+    stewards.push(steward)?;
+    Ok((tables, stewards, caller))
+}
+
+/// A leaf at rest with a table that is not founded.
+fn at_rest<'t>(
+    names: Names,
+    tables: &'t [SharedTable],
+    stewards: Vec<Seat>,
+    berth: MemBerth,
+) -> Down<'t, MemBerth>
+    requires named { AreNames names }
+    requires names { map name_of tables.now ≡ names }
+    requires one { (length tables.now ≡ 1) × (length stewards.items ≡ 1) }
+    requires unused { AtEach (λ place t v. IsUnused t v) (record { names = names; tables = tables.now; seats = stewards.items }) }
+    requires plain { AllByRecursion (λ (t : Shared). is_founded (base_of t) ≡ false) tables.now }
+    ensures { length result.0.tables ≡ 1 }
+{
+    Down::new(names, tables, stewards, berth)
+}
+
+/// A caller adds one row. Whether its entry has that number.
+fn is_added<R: Wait>(
+    rt: &R,
+    alloc: Global,
+    table: &SharedTable,
+    caller: &mut Seat,
+    expected: u64,
+) -> Result<bool, AllocError>
+    requires { Calls caller.old table.now }
+    ensures { Calls caller.new table.now }
+{
+    let rows = one_row(alloc)?;
+    match table.add(rt, caller, rows, &OpenGate) {
+        Reply::Added { number, kept, late } => Ok(number == expected && kept == 1 && late == 0),
+        Reply::Removed { .. }
+        | Reply::Groups { .. }
+        | Reply::Shut { .. }
+        | Reply::Full { .. }
+        | Reply::NoMemory { .. }
+        | Reply::Worn => Ok(false),
     }
 }
 
-/// Adds one row to the one table.
-fn add(alloc: Global, up: &mut Up<MemBerth>, row: &[u8]) -> Result<bool, AllocError>
-    requires { length up.old.0.tables ≡ 1 }
-    ensures { length up.new.0.tables ≡ 1 }
+/// A leaf at rest starts, where it comes that way and notes its table as opened with that number and so many writes.
+fn started<'t, R: Wait>(
+    rt: &R,
+    alloc: Global,
+    leaf: Down<'t, MemBerth>,
+    expected: Way,
+    number: u64,
+    writes: u64,
+) -> Option<Up<'t, MemBerth>>
+    ensures { IfSome result (λ up. up.0.seated.tables ≡ leaf.entry.0.tables) }
 {
-    let rows = row_of(alloc, row)?;
-    Ok(up.add(0, rows) == Ok(Added { kept: 1, late: 0 }))
+    let mut notes = Notes::new();
+    match leaf.start(rt, alloc, &OpenGate, &mut notes) {
+        Ok((up, way)) => {
+            if way == expected && are(&notes, &[note(number, What::Opened(writes))]) {
+                Some(up)
+            } else {
+                None
+            }
+        }
+        Err(_) => None,
+    }
 }
 
-/// Flushes the one table.
-fn flush(up: &mut Up<MemBerth>, notes: &mut Notes) -> FlushReply
-    requires { length up.old.0.tables ≡ 1 }
-    ensures { length up.new.0.tables ≡ 1 }
+/// A new leaf starts; a caller adds; the leaf flushes; and the caller adds once more.
+fn serves<'t, R: Wait>(
+    rt: &R,
+    alloc: Global,
+    leaf: Down<'t, MemBerth>,
+    table: &SharedTable,
+    caller: &mut Seat,
+) -> Result<Option<Up<'t, MemBerth>>, AllocError>
+    requires one { length leaf.0.tables ≡ 1 }
+    requires caller { Calls caller.old table.now }
 {
-    up.flush(0, notes)
+    let Some(mut up) = started(rt, alloc, leaf, Way::Disk(WhyDisk::NoHead), 1, 0) else {
+        return Ok(None);
+    };
+    if !is_added(rt, alloc, table, caller, 2)? {
+        return Ok(None);
+    }
+    let mut notes = Notes::new();
+    if up.flush(rt, 0, &OpenGate, &mut notes) != FlushReply::Flushed {
+        return Ok(None);
+    }
+    if !are(&notes, &[note(3, What::Took(1)), note(4, What::Flushed(1))]) {
+        return Ok(None);
+    }
+    if !is_added(rt, alloc, table, caller, 5)? {
+        return Ok(None);
+    }
+    Ok(Some(up))
 }
 
-/// Whether these are the notes, all of the first table.
-fn are(notes: &Notes, told: &[What]) -> bool {
-    if notes.len() as usize != told.len() {
+/// A step of the shutting, after which there is more.
+fn treated<'t, R: Wait>(
+    rt: &R,
+    alloc: Global,
+    leaf: Preparing<'t, MemBerth>,
+    notes: &mut Notes,
+) -> Option<Preparing<'t, MemBerth>> {
+    match leaf.step(rt, alloc, &OpenGate, notes) {
+        Ok(Prepared::More(leaf)) => Some(leaf),
+        Ok(Prepared::Ready(_)) => None,
+        Err(_) => None,
+    }
+}
+
+/// The step of the shutting after which all is to be copied.
+fn ready<'t, R: Wait>(
+    rt: &R,
+    alloc: Global,
+    leaf: Preparing<'t, MemBerth>,
+    notes: &mut Notes,
+) -> Option<Copying<'t, MemBerth>> {
+    match leaf.step(rt, alloc, &OpenGate, notes) {
+        Ok(Prepared::More(_)) => None,
+        Ok(Prepared::Ready(leaf)) => Some(leaf),
+        Err(_) => None,
+    }
+}
+
+/// The leaf shuts its table, and then has it ready to be copied.
+fn shuts<'t, R: Wait>(
+    rt: &R,
+    alloc: Global,
+    up: Up<'t, MemBerth>,
+) -> Option<Copying<'t, MemBerth>> {
+    let mut notes = Notes::new();
+    let leaf = treated(rt, alloc, up.prepare(alloc), &mut notes)?;
+    if !are(
+        &notes,
+        &[note(6, What::Closed(2)), note(7, What::Flushed(2))],
+    ) {
+        return None;
+    }
+    let leaf = ready(rt, alloc, leaf, &mut notes)?;
+    if notes.len() > 0 {
+        return None;
+    }
+    Some(leaf)
+}
+
+/// A step of the copy, after which there is more, and which notes nothing.
+fn copied<'t, R: Wait>(rt: &R, leaf: Copying<'t, MemBerth>) -> Option<Copying<'t, MemBerth>> {
+    let mut notes = Notes::new();
+    match leaf.step(rt, &OpenGate, &mut notes) {
+        Ok(Copied::More(leaf)) => { if notes.len() == 0 { Some(leaf) } else { None } }
+        Ok(Copied::Finished(_)) => None,
+        Err(_) => None,
+    }
+}
+
+/// The last step of the copy, which notes the table as handed over.
+fn handed<'t, R: Wait>(rt: &R, leaf: Copying<'t, MemBerth>) -> Option<Down<'t, MemBerth>> {
+    let mut notes = Notes::new();
+    match leaf.step(rt, &OpenGate, &mut notes) {
+        Ok(Copied::More(_)) => None,
+        Ok(Copied::Finished(leaf)) => {
+            if are(&notes, &[note(8, What::Handed)]) {
+                Some(leaf)
+            } else {
+                None
+            }
+        }
+        Err(_) => None,
+    }
+}
+
+/// The leaf shuts its table and copies it in three steps.
+fn hands_over<'t, R: Wait>(
+    rt: &R,
+    alloc: Global,
+    up: Up<'t, MemBerth>,
+) -> Option<Down<'t, MemBerth>> {
+    let begun = copied(rt, shuts(rt, alloc, up)?)?;
+    handed(rt, copied(rt, begun)?)
+}
+
+/// The leaf starts from memory, is killed, starts from the disk, and is given up.
+fn starts_twice<'t, R: Wait>(rt: &R, alloc: Global, leaf: Down<'t, MemBerth>) -> Option<MemBerth> {
+    let up = started(rt, alloc, leaf, Way::Memory, 9, 2)?;
+    let mut notes = Notes::new();
+    let leaf = up.kill(rt, &OpenGate, &mut notes);
+    if !are(&notes, &[note(10, What::Closed(2))]) {
+        return None;
+    }
+    let up = started(rt, alloc, leaf, Way::Disk(WhyDisk::Closed(0)), 11, 2)?;
+    Some(up.abandon())
+}
+
+/// The berth that the whole life leaves, where each note and each way is as it must be.
+fn lived<R: Wait>(rt: &R, alloc: Global) -> Result<Option<MemBerth>, AllocError> {
+    let berth = MemBerth::new(Vec::new(alloc), Vec::new(alloc));
+    let names = one_name(alloc)?;
+    let (tables, stewards, mut caller) = one_table(alloc, &names)?;
+    let leaf = at_rest(names, &tables, stewards, berth);
+    let Some(up) = serves(rt, alloc, leaf, &tables[0], &mut caller)? else {
+        return Ok(None);
+    };
+    let Some(leaf) = hands_over(rt, alloc, up) else {
+        return Ok(None);
+    };
+    Ok(starts_twice(rt, alloc, leaf))
+}
+
+/// Whether a new leaf starts on that berth, and opens its table with at most two writes.
+fn is_started_anew<R: Wait>(rt: &R, alloc: Global, berth: MemBerth) -> Result<bool, AllocError> {
+    let names = one_name(alloc)?;
+    let (tables, stewards, _caller) = one_table(alloc, &names)?;
+    let leaf = at_rest(names, &tables, stewards, berth);
+    let mut notes = Notes::new();
+    let is_up = leaf.start(rt, alloc, &OpenGate, &mut notes).is_ok();
+    Ok(is_up && is_opened(&notes))
+}
+
+/// Whether the one note is that of the first entry, which opens the table with at most two writes.
+fn is_opened(notes: &Notes) -> bool {
+    if notes.len() != 1 {
         return false;
     }
-    for (place, what) in told.iter().enumerate() {
-        if !is_note(notes, place as u32, *what) {
+    let Note {
+        table,
+        number,
+        what,
+    } = notes.get(0);
+    match what {
+        What::Opened(writes) => table == 0 && number == 1 && writes <= 2,
+        What::Took(_) | What::Flushed(_) | What::Closed(_) | What::Handed => false,
+    }
+}
+
+/// A note of the one table.
+fn note(number: u64, what: What) -> Note {
+    Note {
+        table: 0,
+        number,
+        what,
+    }
+}
+
+/// These are the notes.
+fn are(notes: &Notes, told: &[Note]) -> bool {
+    for place in 0..notes.len() {
+        let Some(note) = told.get(place as usize) else {
+            return false;
+        };
+        if notes.get(place) != *note {
             return false;
         }
     }
-    true
-}
-
-fn is_note(notes: &Notes, place: u32, what: What) -> bool {
-    if place >= notes.len() {
-        return false;
-    }
-    notes.get(place)
-        == Note {
-            table: 0,
-            number: 0,
-            what,
-        }
-}
-
-/// A count of all rows with that time.
-fn at(alloc: Global, time: i64) -> Result<Query, AllocError> {
-    let mut aggs = Vec::new(alloc);
-    aggs.push(Agg::Count)?;
-    Ok(Query {
-        table: Text::of(String::from_str(alloc, "t")?),
-        from: time,
-        to: time,
-        conds: Conds::of(Vec::new(alloc)),
-        keys: Names::of(Vec::new(alloc)),
-        aggs: Aggs::of(aggs),
-        order: None,
-        limit: 100_000,
-    })
-}
-
-/// How many rows of the one table have that time.
-fn counted(alloc: Global, up: &Up<MemBerth>, time: i64) -> Result<u64, AllocError>
-    requires { length up.now.0.tables ≡ 1 }
-{
-    let groups = up.ask(0, &at(alloc, time)?)?;
-    Ok(groups.as_slice().first().map_or(0, |group| group.count))
+    notes.len() as usize == told.len()
 }
 
 #[test]
-fn what_was_flushed_is_read_back(rt: HostRuntime) -> Result<(), test::Fail> {
+fn one_table_lives(rt: HostRuntime) -> Result<(), Fail> {
     let alloc = rt.alloc();
-    let mut notes = Notes::new();
-    let empty = MemBerth::new(Vec::new(alloc), Vec::new(alloc));
-    let (mut up, way) = start(alloc, empty, &mut notes)?;
-    assert!(rt; way == Way::Disk(WhyDisk::NoHead) && are(&notes, &[What::Opened(0)]));
-    assert!(rt; add(alloc, &mut up, AT_5)?);
-    assert!(rt; flush(&mut up, &mut notes) == FlushReply::Flushed);
-    assert!(rt; are(&notes, &[What::Took(1), What::Flushed(1)]));
-    assert!(rt; flush(&mut up, &mut notes) == FlushReply::Flushed);
-    assert!(rt; are(&notes, &[What::Took(1), What::Flushed(1)]));
-    assert!(rt; add(alloc, &mut up, AT_6)?);
-    assert!(rt; counted(alloc, &up, 5)? == 1 && counted(alloc, &up, 6)? == 1);
-    let berth = up.kill(&mut notes).abandon();
-    assert!(rt; are(&notes, &[What::Closed(2)]));
-    let (up, _way) = start(alloc, berth, &mut notes)?;
-    assert!(rt; are(&notes, &[What::Opened(1)]));
-    assert!(rt; counted(alloc, &up, 5)? == 1 && counted(alloc, &up, 6)? == 0);
-    assert!(rt; up.abandon().region().is_empty());
+    let left = lived(&rt, alloc)?;
+    assert!(rt; left.is_some());
     Ok(())
 }
 
 #[test]
-fn a_flush_goes_on_with_what_is_owed(rt: HostRuntime) -> Result<(), test::Fail> {
+fn what_each_crash_leaves_starts_anew(rt: HostRuntime) -> Result<(), Fail> {
     let alloc = rt.alloc();
-    let mut notes = Notes::new();
-    // The start syncs once, so that this is the flush's first sync, or its second.
-    for count in [2u64, 3] {
-        let (mut up, _way) = start(alloc, failing(alloc, Method::DiskSync, count)?, &mut notes)?;
-        assert!(rt; add(alloc, &mut up, AT_5)?);
-        assert!(rt; flush(&mut up, &mut notes) == FlushReply::DiskFault);
-        assert!(rt; are(&notes, &[What::Took(1)]));
-        assert!(rt; add(alloc, &mut up, AT_6)?);
-        assert!(rt; flush(&mut up, &mut notes) == FlushReply::Flushed);
-        assert!(rt; are(&notes, &[What::Flushed(1), What::Took(2), What::Flushed(2)]));
-        let (up, _way) = start(alloc, up.abandon(), &mut notes)?;
-        assert!(rt; are(&notes, &[What::Opened(2)]));
-        assert!(rt; counted(alloc, &up, 5)? == 1 && counted(alloc, &up, 6)? == 1);
-    }
-    Ok(())
-}
-
-/// Asks for steps until the tables are copied; a step that fails is asked again.
-fn prepared(
-    alloc: Global,
-    up: Up<MemBerth>,
-    notes: &mut Notes,
-) -> Result<Copying<MemBerth>, AllocError> {
-    let mut leaf = up.prepare();
-    for _ in 0..5u32 {
-        match leaf.step(alloc, notes) {
-            Ok(Prepared::More(next)) => leaf = next,
-            Ok(Prepared::Ready(copying)) => return Ok(copying),
-            Err((next, _fault)) => leaf = next,
+    let left = lived(&rt, alloc)?;
+    assert!(rt; left.is_some());
+    if let Some(berth) = left {
+        for moment in 0..berth.moments() {
+            for image in 0..berth.images(moment) {
+                let picked = berth.pick(moment, image)?;
+                assert!(rt; is_started_anew(&rt, alloc, picked)?);
+            }
         }
     }
-    Err(AllocError)
-}
-
-#[test]
-fn what_is_drained_is_adopted(rt: HostRuntime) -> Result<(), test::Fail> {
-    let alloc = rt.alloc();
-    let mut notes = Notes::new();
-    let empty = MemBerth::new(Vec::new(alloc), Vec::new(alloc));
-    let (mut up, _way) = start(alloc, empty, &mut notes)?;
-    assert!(rt; add(alloc, &mut up, AT_5)?);
-    let Ok(Prepared::More(leaf)) = up.prepare().step(alloc, &mut notes) else {
-        return Ok(assert!(rt; false, "no table was treated"));
-    };
-    assert!(rt; are(&notes, &[What::Closed(1), What::Flushed(1)]) && leaf.is_shut(0));
-    let Ok(Prepared::Ready(copying)) = leaf.step(alloc, &mut notes) else {
-        return Ok(assert!(rt; false, "no copy was made"));
-    };
-    let Ok(Copied::More(copying)) = copying.step(&mut notes) else {
-        return Ok(assert!(rt; false, "the region was not begun"));
-    };
-    let Ok(Copied::More(copying)) = copying.step(&mut notes) else {
-        return Ok(assert!(rt; false, "the image was not written"));
-    };
-    assert!(rt; notes.len() == 0);
-    let Ok(Copied::Finished(down)) = copying.step(&mut notes) else {
-        return Ok(assert!(rt; false, "the flag was not written"));
-    };
-    assert!(rt; are(&notes, &[What::Handed]));
-    let berth = down.abandon();
-    assert!(rt; berth.region() == ONE_ROW.as_slice() && berth.disk().len() == 36);
-    let (up, way) = start(alloc, berth, &mut notes)?;
-    assert!(rt; way == Way::Memory && are(&notes, &[What::Opened(1)]));
-    assert!(rt; counted(alloc, &up, 5)? == 1);
-    Ok(())
-}
-
-#[test]
-fn a_drain_goes_on_after_a_fault_of_the_disk(rt: HostRuntime) -> Result<(), test::Fail> {
-    let alloc = rt.alloc();
-    let mut notes = Notes::new();
-    let (mut up, _way) = start(alloc, failing(alloc, Method::DiskSync, 3)?, &mut notes)?;
-    assert!(rt; add(alloc, &mut up, AT_5)?);
-    let Err((leaf, fault)) = up.prepare().step(alloc, &mut notes) else {
-        return Ok(assert!(rt; false, "a fault of the disk went unseen"));
-    };
-    assert!(rt; fault == PrepareFault::DiskFault && leaf.is_shut(0));
-    assert!(rt; are(&notes, &[What::Closed(1)]));
-    let Ok(Prepared::More(leaf)) = leaf.step(alloc, &mut notes) else {
-        return Ok(assert!(rt; false, "what was owed was not settled"));
-    };
-    assert!(rt; are(&notes, &[What::Flushed(1)]));
-    let down = leaf.kill(&mut notes);
-    assert!(rt; notes.len() == 0);
-    let (up, _way) = start(alloc, down.abandon(), &mut notes)?;
-    assert!(rt; counted(alloc, &up, 5)? == 1);
-    Ok(())
-}
-
-#[test]
-fn a_failing_flag_leaves_the_leaf_at_rest(rt: HostRuntime) -> Result<(), test::Fail> {
-    let alloc = rt.alloc();
-    let mut notes = Notes::new();
-    let (mut up, _way) = start(alloc, failing(alloc, Method::RegionWrite, 4)?, &mut notes)?;
-    assert!(rt; add(alloc, &mut up, AT_5)?);
-    let Ok(Copied::More(begun)) = prepared(alloc, up, &mut notes)?.step(&mut notes) else {
-        return Ok(assert!(rt; false, "the region was not begun"));
-    };
-    let Ok(Copied::More(written)) = begun.step(&mut notes) else {
-        return Ok(assert!(rt; false, "the image was not written"));
-    };
-    let Err((down, _fault)) = written.step(&mut notes) else {
-        return Ok(assert!(rt; false, "a fault of the region went unseen"));
-    };
-    assert!(rt; notes.len() == 0);
-    let (up, way) = start(alloc, down.abandon(), &mut notes)?;
-    assert!(rt; way == Way::Disk(WhyDisk::Closed(0)) && counted(alloc, &up, 5)? == 1);
-    Ok(())
-}
-
-#[test]
-fn an_open_table_is_served_until_it_is_shut(rt: HostRuntime) -> Result<(), test::Fail> {
-    let alloc = rt.alloc();
-    let mut notes = Notes::new();
-    let empty = MemBerth::new(Vec::new(alloc), Vec::new(alloc));
-    let (up, _way) = start(alloc, empty, &mut notes)?;
-    let mut leaf = up.prepare();
-    if leaf.is_shut(0) {
-        return Ok(assert!(rt; false, "a table is shut that was not treated"));
-    }
-    let added = leaf.add(0, row_of(alloc, AT_5)?);
-    assert!(rt; added == Ok(Added { kept: 1, late: 0 }));
-    let down = leaf.kill(&mut notes);
-    assert!(rt; are(&notes, &[What::Closed(1)]));
-    let (up, _way) = start(alloc, down.abandon(), &mut notes)?;
-    let leaf = up.prepare();
-    let groups = leaf.ask(0, &at(alloc, 5)?)?;
-    assert!(rt; groups.as_slice().is_empty());
-    let copying = match prepared(
-        alloc,
-        start(alloc, leaf.abandon(), &mut notes)?.0,
-        &mut notes,
-    ) {
-        Ok(copying) => copying,
-        Err(e) => return Err(e.into()),
-    };
-    assert!(rt; copying.kill().abandon().region().is_empty());
     Ok(())
 }

@@ -1,27 +1,30 @@
 // A leaf that serves its tables.
-ghost use Rattle.std.specs.Prelude.{◌≡◌, ◌<◌, ℕ, List, length, IfOk, IsTrue};
-ghost use Rattle.std.specs.List.{AllByRecursion};
-ghost use Rattle.leaf_model.specs.Values.{IsRow};
+ghost use Rattle.std.specs.Prelude.{◌≡◌, ◌<◌, ◌+◌, ℕ, List, length, IsOk, IsTrue};
 ghost use Rattle.leaf_model.specs.declared.writes.Write.{Write};
 ghost use Rattle.berth_face.specs.Causes.{Rose};
-ghost use Rattle.berth_face.specs.Berth.{Meaning, Passes};
+ghost use Rattle.berth_face.specs.Berth.{Passes};
+ghost use Rattle.leaf_history.specs.History.{LegalFrom};
+ghost use Rattle.turnstile.specs.Seats.{IsSeatOf, LearnsOthers, Told};
+ghost use Rattle.leaf_table.specs.Turns.{is_founded, start_of};
+ghost use Rattle.leaf_table.specs.Calls.{base_of, seen_of};
+ghost use Rattle.leaf_standing.specs.Standing.{Runs};
+ghost use Rattle.leaf_steward.specs.Seated.{AreFounded, AtPlace, watched_by, with_seat};
+ghost use Rattle.leaf_steward.specs.Making.{EachNoted, IsClosedNote, Makes};
 ghost use Rattle.leaf_machine.specs.declared.up.FlushReply.TheVariants as reply;
-ghost use Rattle.leaf_opening.specs.Serving.{IsServing};
-ghost use Rattle.leaf_machine.specs.Notes.{closed_notes};
-ghost use Rattle.leaf_machine.specs.Tables.{Adds, Asks};
-ghost use Rattle.leaf_opening.specs.Backed.{Backed, GoesOn};
+ghost use Rattle.leaf_machine.specs.States.{GoesOn, IsUp, RestsOn};
 ghost use Rattle.leaf_machine.specs.Flushes.{Flushes};
-ghost use Rattle.leaf_machine.specs.Prepares.{prepared};
+ghost use Rattle.leaf_machine.specs.UpFlush.{FlushGoes};
+ghost use Rattle.leaf_machine.specs.Prepares.{begins};
 
 use crate::down::Down;
-use crate::notes::{Notes, What, note_closed};
 use crate::preparing::Preparing;
-use crate::served::Served;
-use berth_face::Berth;
-use leaf_model::{Groups, Query, Rows};
-use std::alloc::AllocError;
+use berth_face::{Berth, Gate};
+use leaf_steward::{Notes, Seats};
+use leaf_table::Seat;
+use log_steward::StewardLog;
+use std::alloc::{AllocError, Global};
 use std::marker::Model;
-use table_state::{AddFault, Added};
+use std::sync::Wait;
 
 /// What became of a flush.
 #[derive(Clone, Copy, Debug, PartialEq, Eq)]
@@ -30,110 +33,143 @@ pub enum FlushReply {
     Flushed,
     /// A call on the disk failed. What was taken of the table stays owed to the log.
     DiskFault,
+    /// The steward's seat of the table has seen 2^62 entries. The table is not taken.
+    Worn,
 }
 
-/// A leaf that serves its tables, and owns its berth. Contracts see both.
+/// A leaf that serves its tables, all of which are open. It borrows them, and owns its steward's seats, its log and its berth. Contracts see them.
 #[derive(Drop)]
-pub struct Up<B: Berth> {
-    pub(crate) served: Served,
+pub struct Up<'t, B: Berth> {
+    pub(crate) seats: Seats<'t>,
+    pub(crate) log: StewardLog,
     pub(crate) berth: B,
 }
 
-impl<B: Berth> Model for Up<B> {
-    ghost use Rattle.leaf_opening.specs.Serving.{Serving, IsServing};
+impl<'t, B: Berth> Model for Up<'t, B> {
+    ghost use Rattle.leaf_machine.specs.States.{Serving, IsUp};
 
     ghost Value = { Serving × B };
 
-    ghost view = { λ leaf. (leaf.served, leaf.berth) };
+    ghost view = { λ leaf. (record { seated = leaf.seats; owing = leaf.log }, leaf.berth) };
 
-    ghost invariant = { λ leaf. IsServing leaf.served };
+    ghost invariant = { λ leaf. IsUp (record { seated = leaf.seats; owing = leaf.log }) (B.meaning leaf.berth) };
 }
 
-impl<B: Berth> Up<B> {
-    /// Does nothing. It says what every leaf that serves is.
-    pub fn serves(&self)
-        ensures { IsServing self.now.0 }
+impl<'t, B: Berth> Up<'t, B> {
+    /// Lets the steward's seat of that table and a caller's see what the other has seen. It makes no entry and takes no memory.
+    pub fn meet(&mut self, table: u32, seat: &mut Seat) -> Result<(), AllocError>
+        requires table { table < length self.old.0.seated.tables }
+        requires seat { AtPlace (λ t v. IsSeatOf seat.old t.site × LegalFrom (is_founded (base_of t)) (start_of (base_of t)) (seen_of seat.old)) self.old.0.seated table }
+        ensures learns { AtPlace (λ t v. (w : _) × (self.new ≡ (record { seated = with_seat self.old.0.seated table w; owing = self.old.0.owing }, self.old.1)) × Told v seat.old w × LearnsOthers v w
+            × LegalFrom (is_founded (base_of t)) (start_of (base_of t)) (seen_of w)) self.old.0.seated table }
+        ensures seat { AtPlace (λ t v. IsSeatOf seat.new t.site × Told seat.old v seat.new × LearnsOthers seat.old seat.new
+            × LegalFrom (is_founded (base_of t)) (start_of (base_of t)) (seen_of seat.new)) self.old.0.seated table }
+        ensures runs { (writes : List ℕ → List Write) → AreFounded self.old.0.seated
+            → Runs (watched_by self.old.0.seated) self.old.0.owing.owner self.old.0.owing.log writes (B.meaning self.old.1)
+            → Runs (watched_by self.new.0.seated) self.new.0.owing.owner self.new.0.owing.log writes (B.meaning self.new.1) }
+        ensures done { IsOk result }
     {
-        let _served = &self.served;
-    }
-
-    /// Adds rows to the table in that place, and keeps those that are not late.
-    /// A table that accepted 2^63 - 1 writes, which no run reaches, answers NoMemory.
-    pub fn add(&mut self, table: u32, rows: Rows) -> Result<Added, AddFault>
-        requires table { table < length self.old.0.tables }
-        requires rows { AllByRecursion IsRow rows }
-        ensures added { Adds self.old.0 table rows result self.new.0 }
-        ensures berth { self.new.1 ≡ self.old.1 }
-        ensures backed { (writes : List ℕ → List Write) → Backed writes self.old.0 (B.meaning self.old.1) → Backed writes self.new.0 (B.meaning self.new.1) }
-    {
-        self.served.add(table, rows)
-    }
-
-    /// The groups of the rows of the table in that place that pass the query, by key. Fails only for want of memory.
-    pub fn ask(&self, table: u32, query: &Query) -> Result<Groups, AllocError>
-        requires table { table < length self.now.0.tables }
-        ensures { IfOk result (Asks self.now.0.tables table query.now) }
-    {
-        self.served.ask(table, query)
+        self.seats.sits();
+        self.seats.meet(table, seat)
     }
 
     /// Settles what the log is owed and notes its table as flushed; then takes what the table accepted since the last taking, settles that,
     /// and notes the table as flushed. A DiskFault leaves the record owed, and the next flush or drain goes on with it. It takes no memory.
-    pub fn flush(&mut self, table: u32, notes: &mut Notes) -> FlushReply
-        requires table { table < length self.old.0.tables }
+    pub fn flush<R: Wait, G: Gate>(
+        &mut self,
+        rt: &R,
+        table: u32,
+        gate: &G,
+        notes: &mut Notes,
+    ) -> FlushReply
+        requires table { table < length self.old.0.seated.tables }
         ensures flushes { Flushes table self.old.0 self.new.0 notes.new result }
-        ensures names { self.new.0.names ≡ self.old.0.names }
-        ensures goes_on { IsTrue (B.meaning self.old.1).tells → GoesOn self.old.0 self.new.0 (B.meaning self.old.1) (B.meaning self.new.1) }
+        ensures made { Makes (B.meaning self.old.1).clock (B.meaning self.new.1).clock self.old.0.seated notes.new self.new.0.seated }
+        // At every moment since the call began a crash leaves what belongs to the tables as they stood then.
+        ensures crash { IsTrue (B.meaning self.old.1).tells → AreFounded self.old.0.seated → GoesOn self.old.0 self.new.0 (B.meaning self.old.1) (B.meaning self.new.1) }
         ensures region { IsTrue (B.meaning self.old.1).tells → (B.meaning self.new.1).held.region ≡ (B.meaning self.old.1).held.region }
         ensures time { Passes (B.meaning self.old.1) (B.meaning self.new.1) }
         ensures cause { result ≡ reply.DiskFault → Rose (B.meaning self.old.1).disk_faults (B.meaning self.new.1).disk_faults }
         ensures reads { (B.meaning self.new.1).disk_reads ≡ (B.meaning self.old.1).disk_reads }
     {
-        notes.clear();
-        if self.served.settle_owed(&mut self.berth, notes).is_err() {
-            return FlushReply::DiskFault;
-        }
-        let taking = What::Took(self.served.writes(table));
-        if self
-            .served
-            .bring(table, taking, &mut self.berth, notes)
-            .is_err()
-        {
-            return FlushReply::DiskFault;
-        }
-        FlushReply::Flushed
+        flush_table(
+            rt,
+            &mut self.seats,
+            &mut self.log,
+            table,
+            &mut self.berth,
+            gate,
+            notes,
+        )
     }
 
-    /// Begins to hand the tables over. Nothing is shut yet.
-    pub fn prepare(self) -> Preparing<B>
-        ensures { result ≡ (prepared self.0, self.1) }
+    /// Begins to hand the tables over. Nothing is shut yet, and no entry is made. It takes no memory.
+    pub fn prepare(self, alloc: Global) -> Preparing<'t, B>
+        ensures { result ≡ (begins self.entry.0, self.entry.1) }
     {
         Preparing {
-            served: self.served,
-            treated: 0,
+            seats: self.seats,
+            log: self.log,
+            closed: Vec::new(alloc),
             shut: false,
             berth: self.berth,
         }
     }
 
-    /// Notes each table as closed, and drops them all. It calls nothing of the berth and takes no memory.
-    pub fn kill(self, notes: &mut Notes) -> Down<B>
-        ensures leaf { result ≡ (self.0.names, self.1) }
-        ensures notes { notes.new ≡ closed_notes 0 self.0.tables }
+    /// Shuts each table and notes it as closed, and drops what they held. It calls nothing of the berth and takes no memory.
+    pub fn kill<R: Wait, G: Gate>(self, rt: &R, gate: &G, notes: &mut Notes) -> Down<'t, B>
+        ensures berth { result.1 ≡ self.entry.1 }
+        ensures made { Makes (B.meaning self.entry.1).clock (B.meaning self.entry.1).clock self.entry.0.seated notes.new result.0 }
+        ensures each { EachNoted IsClosedNote 0 (length self.entry.0.seated.tables) notes.new }
+        ensures crash { (writes : List ℕ → List Write) → AreFounded self.entry.0.seated → Runs (watched_by self.entry.0.seated) self.entry.0.owing.owner self.entry.0.owing.log writes (B.meaning self.entry.1)
+            → RestsOn self.entry.0.seated result.0 (B.meaning self.entry.1) (B.meaning result.1) }
     {
         notes.clear();
-        let Up { served, berth } = self;
-        note_closed(notes, 0, &served.tables);
-        Down {
-            names: served.names,
+        let Up {
+            mut seats,
+            log: _,
             berth,
-        }
+        } = self;
+        seats.sits();
+        seats.shut_rest(rt, 0, &berth, gate, notes);
+        Down { seats, berth }
     }
 
-    /// Gives the berth back as it is, and drops the tables.
+    /// Gives the berth back as it is. No entry is made.
     pub fn abandon(self) -> B
-        ensures { result ≡ self.1 }
+        ensures { result ≡ self.entry.1 }
     {
         self.berth
     }
+}
+
+/// The steps of a flush, over the parts of a leaf.
+fn flush_table<R: Wait, B: Berth, G: Gate>(
+    rt: &R,
+    seats: &mut Seats,
+    log: &mut StewardLog,
+    table: u32,
+    berth: &mut B,
+    gate: &G,
+    notes: &mut Notes,
+) -> FlushReply
+    requires table { table < length seats.old.tables }
+    requires up { IsUp (record { seated = seats.old; owing = log.old }) (B.meaning berth.old) }
+    ensures { FlushGoes table (record { seated = seats.old; owing = log.old }) (record { seated = seats.new; owing = log.new }) notes.new result (B.meaning berth.old) (B.meaning berth.new) }
+{
+    notes.clear();
+    seats.sits();
+    if log.settle_owed(rt, seats, berth, gate, notes).is_err() {
+        return FlushReply::DiskFault;
+    }
+    let Some((writes, pending)) = seats.take(rt, table, berth, gate, notes) else {
+        return FlushReply::Worn;
+    };
+    if log
+        .bring(rt, seats, table, writes, pending, berth, gate, notes)
+        .is_err()
+    {
+        return FlushReply::DiskFault;
+    }
+    FlushReply::Flushed
 }

@@ -1,23 +1,26 @@
 -- A play from its beginning to its end.
-use Rattle.std.proofs.Common.{◌≡◌, ℕ, ◌*◌, ◌<◌, List, [], ◌∷◌, length, refl, sym, subst, arith, Option, Some}
-use Rattle.std.specs.Prelude.{slice_index_or}
+use Rattle.std.proofs.Common.{◌≡◌, ℕ, ◌*◌, ◌<◌, List, [], ◌∷◌, length, refl, sym, subst, arith, Option, Some, None}
+use Rattle.std.specs.Prelude.{IfSome, slice_index_or}
 use Rattle.std.specs.List.{AllByRecursion, remove}
+use Rattle.std.proofs.lemmas.List.{take_all}
+use Rattle.std.proofs.lemmas.Option.{slice_get_read}
 use Rattle.berth_face.specs.Berth.{Meaning}
 use Rattle.region_layout.specs.Region.{AreDistinct}
 use Rattle.region_layout.specs.Names.{AreNames, IsName}
+use Rattle.leaf_core.specs.Left.{Tables}
+use Rattle.leaf_standing.proofs.Lefts.{rests_told}
+use Rattle.leaf_machine.specs.States.{MayBegin}
 use Rattle.script_text.specs.declared.command.Command.{Command}
 use Rattle.script_text.specs.declared.command.Command.TheVariants as command
 use Rattle.script_text.specs.Fits.{AreTables, IsTableName, IsCommand, AreCommands}
 use Rattle.script_text.specs.Fits as fits
 use Rattle.transcript.specs.Life.{Down}
-use Rattle.transcript.specs.Laws.{IsToldRun}
+use Rattle.transcript.specs.Laws.{IsToldRun, LeavesBerth}
 use Rattle.transcript.specs.Steps.{MayPlay}
-use Rattle.transcript.specs.Transcript.{fleet_of}
+use Rattle.transcript.specs.Transcript.{Fleet, fleet_of}
 use Rattle.transcript.specs.Session.{one_leaf, scene_of}
 use Rattle.transcript.proofs.Lists.{All-weaken}
-use Rattle.leaf_opening.proofs.Resting.{backed_rests}
-use Rattle.transcript.proofs.Ended.{ended}
-use Rattle.play.specs.Played.{IsTold, OverFirst, IsWritten, names_in}
+use Rattle.play.specs.Played.{AreBases, IsBase, IsTold, OverFirst, IsWritten, names_in}
 use Rattle.play.specs.Runs.{IsRun}
 use Rattle.play.proofs.Plays.{appends_nothing}
 
@@ -68,8 +71,21 @@ all_may_play (command.Start leaf ∷ more) c = absurd c
 
 -- ---- no command
 
-nothing_told : (m : Meaning) → IsTold m m [] []
-nothing_told m told way first rests way_is = record {
+-- nothing was done to the berth
+nothing_left : (b : Tables) (m : Meaning) → IsBase b m → LeavesBerth [] b (λ table. []) m m
+nothing_left b m based = record {
+  crash = rests_told [] [] b based.begins.1.0 based.begins.1.1 m based.begins.1.2 tt;
+  begins = record {
+    base = b;
+    is = based.is;
+    begins = based.begins;
+    front = λ name. record { front = sym (take_all (length (b name).writes) (b name).writes (omega arith)); flushed = omega arith };
+  };
+}
+
+nothing_told : (base : Option Tables) (m : Meaning) → IfSome base (λ b. IsBase b m) → IsTold base m m [] []
+nothing_told None m is = tt
+nothing_told (Some b) m is = λ way read way_is has. record {
   transcript = record {
     played = [];
     histories = λ leaf table. [];
@@ -80,25 +96,22 @@ nothing_told m told way first rests way_is = record {
     one_history = λ leaf table l t. absurd (omega (arith, l));
     answers = tt;
     opened = λ leaf table l t. absurd (omega (arith, l));
+    worn = tt;
   };
   lines_are = refl;
-  leaves = record {
-    writes = first;
-    rests = rests;
-    each = λ table t. absurd (omega (arith, t));
-    others = λ name other. refl;
-  };
+  leaves = nothing_left b m is;
 }
 
-nothing_over : {B : Type 0} (meaning : B → Meaning) (berths : List B) → OverFirst meaning [] [] berths berths
-nothing_over meaning [] = tt
-nothing_over meaning (b ∷ bs) = (nothing_told (meaning b), omega arith, omega arith)
+nothing_over : {B : Type 0} (base : ℕ → Option Tables) (meaning : B → Meaning) (berths : List B) → AreBases base meaning berths → OverFirst (base 0) meaning [] [] berths berths
+nothing_over base meaning [] are = tt
+nothing_over base meaning (b ∷ bs) are = (nothing_told (base 0) (meaning b) (are 0 b refl), omega arith, omega arith)
 
-pub nothing_written : {B : Type 0} (meaning : B → Meaning) (commands : List Command) (was : Option (List ℕ)) (berths : List B) → commands ≡ [] → IsWritten meaning commands was was berths berths
-nothing_written meaning commands was berths e = rw e (record {
+pub nothing_written : {B : Type 0} (base : ℕ → Option Tables) (meaning : B → Meaning) (commands : List Command) (was : Option (List ℕ)) (berths : List B) → AreBases base meaning berths → commands ≡ []
+    → IsWritten (base 0) meaning commands was was berths berths
+nothing_written base meaning commands was berths are e = rw e (record {
   lines = [];
   written = appends_nothing was;
-  transcript = nothing_over meaning berths;
+  transcript = nothing_over base meaning berths are;
   empty = λ none. refl;
 })
 
@@ -124,29 +137,34 @@ some_commands (command.Drain leaf stop ∷ more) c some = absurd c
 some_commands (command.Kill leaf ∷ more) c some = absurd c
 some_commands (command.Start leaf ∷ more) c some = absurd c
 
-run_written : {B : Type 0} (meaning : B → Meaning) (commands : List Command) (was now : Option (List ℕ)) (old new : B) (rest : List B)
+-- a base of the first berth
+pub first_base : {B : Type 0} (base : ℕ → Option Tables) (meaning : B → Meaning) (olds : List B) (b : B) → AreBases base meaning olds → 0 < length olds → b ≡ slice_index_or olds 0 b
+    → IfSome (base 0) (λ t. IsBase t (meaning b))
+first_base base meaning olds b are some first = are 0 b (slice_get_read olds (length olds) 0 b refl some first)
+
+fleet_told : (base : Option Tables) (names : List (List ℕ)) (old new : Meaning) (commands : List Command) (was now : Option (List ℕ)) → fleet_of commands ≡ one_leaf names
+    → (run : IsRun base names old new was now commands) → IsTold base old new commands run.lines
+fleet_told None names old new commands was now is run = tt
+fleet_told (Some b) names old new commands was now is run = λ way read way_is has.
+    subst (λ (f : Fleet). IsToldRun f way b read commands run.lines old new) (sym is) (run.told way read way_is has)
+
+run_written : {B : Type 0} (base : Option Tables) (meaning : B → Meaning) (commands : List Command) (was now : Option (List ℕ)) (old new : B) (rest : List B)
     → AreCommands commands → 0 < length (names_in commands)
-    → IsRun (names_in commands) (meaning old) (meaning new) was now commands
-    → IsWritten meaning commands was now (old ∷ rest) (new ∷ rest)
-run_written meaning commands was now old new rest are some run =
+    → IsRun base (names_in commands) (meaning old) (meaning new) was now commands
+    → IsWritten base meaning commands was now (old ∷ rest) (new ∷ rest)
+run_written base meaning commands was now old new rest are some run =
     let fleet = some_commands commands are some in record {
-      lines = run.2.lines;
-      written = run.2.text;
-      transcript = (
-        λ told way first rests way_is.
-            subst (λ f. IsToldRun f way first commands run.2.lines (meaning new)) (sym fleet.0)
-            (ended (names_in commands) way first commands run.2.lines run.0 (meaning new) run.1 (backed_rests (meaning new)) (run.2.session told way first rests way_is)),
-        run.2.region_counted,
-        run.2.disk_counted,
-      );
+      lines = run.lines;
+      written = run.text;
+      transcript = (fleet_told base (names_in commands) (meaning old) (meaning new) commands was now fleet.0 run, run.region_counted, run.disk_counted);
       empty = λ none. absurd (fleet.1 none);
     }
 
-pub first_written : {B : Type 0} (meaning : B → Meaning) (commands : List Command) (names : List (List ℕ)) (was now : Option (List ℕ)) (olds rest news : List B) (old new : B)
+pub first_written : {B : Type 0} (base : Option Tables) (meaning : B → Meaning) (commands : List Command) (names : List (List ℕ)) (was now : Option (List ℕ)) (olds rest news : List B) (old new : B)
     → AreCommands commands → names ≡ names_in commands → 0 < length names
     → 0 < length olds → old ≡ slice_index_or olds 0 old → rest ≡ remove olds 0 → news ≡ new ∷ rest
-    → IsRun names (meaning old) (meaning new) was now commands
-    → IsWritten meaning commands was now olds news
-first_written meaning commands names was now olds rest news old new are named some enough first others put run =
+    → IsRun base names (meaning old) (meaning new) was now commands
+    → IsWritten base meaning commands was now olds news
+first_written base meaning commands names was now olds rest news old new are named some enough first others put run =
     rw (first_and_rest olds rest old enough first others, put)
-    (run_written meaning commands was now old new rest are (subst (λ ns. 0 < length ns) named some) (subst (λ ns. IsRun ns (meaning old) (meaning new) was now commands) named run))
+    (run_written base meaning commands was now old new rest are (subst (λ ns. 0 < length ns) named some) (subst (λ ns. IsRun base ns (meaning old) (meaning new) was now commands) named run))

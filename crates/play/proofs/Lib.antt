@@ -1,5 +1,7 @@
 pub mod Numbers
 pub mod Counts
 pub mod Plays
+pub mod Fleets
+pub mod Beginning
 pub mod Own
 pub mod Ends

@@ -3,6 +3,7 @@ use Rattle.std.specs.Prelude.{◌≡◌, ℕ, List, [], ◌∷◌, ◌++◌, len
 use Rattle.std.specs.Io.KnownBytes.{Appends}
 use Rattle.berth_face.specs.Berth.{Meaning}
 use Rattle.berth_face.specs.Streams.{ReadsAll, TakesAtMost, TakesCount, WritesFront}
+use Rattle.leaf_core.specs.Left.{Tables}
 use Rattle.script_text.specs.declared.fault.Why.{Why}
 use Rattle.script_text.specs.declared.fault.Why.TheVariants as why
 use Rattle.script_text.specs.declared.fault.ScriptFault.{ScriptFault}
@@ -40,10 +41,10 @@ IsCutShort range before after was now = (count : ℕ) × IsCountOf range before 
 -- ---- what was done
 
 -- all was done that the request asks for
-abbrev pub IsDone : {B : Type 0} → (B → Meaning) → Option Request → Option (List ℕ) → Option (List ℕ) → Option (List ℕ) → Option (List ℕ) → List B → List B → Type 0
-IsDone meaning None before after was now old new = ⊥
-IsDone meaning (Some (Count range)) before after was now old new = IsCounted range before after was now
-IsDone meaning (Some Play) before after was now old new = IsPlayed meaning before after was now old new
+abbrev pub IsDone : {B : Type 0} → Option Tables → (B → Meaning) → Option Request → Option (List ℕ) → Option (List ℕ) → Option (List ℕ) → Option (List ℕ) → List B → List B → Type 0
+IsDone base meaning None before after was now old new = ⊥
+IsDone base meaning (Some (Count range)) before after was now old new = IsCounted range before after was now
+IsDone base meaning (Some Play) before after was now old new = IsPlayed base meaning before after was now old new
 
 -- ---- why a source is refused
 

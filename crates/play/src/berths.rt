@@ -1,5 +1,5 @@
 // A script's play over the berths.
-ghost use Rattle.std.specs.Prelude.{◌≡◌, ◌<◌, ◌≤◌, ◌∷◌, [], vec_len, vec_capacity, length, replicate, OnOk, IfOk, IfSome, None, IsErrOf, IsOk};
+ghost use Rattle.std.specs.Prelude.{◌≡◌, ◌<◌, ◌≤◌, ◌∷◌, [], vec_len, vec_capacity, length, OnOk, IfOk, IfSome, None, IsErrOf, IsOk};
 ghost use Rattle.std.specs.List.{AllByRecursion};
 ghost use Rattle.std.specs.Io.KnownBytes.{Appends};
 ghost use Rattle.berth_face.specs.Berth.{Passes};
@@ -7,19 +7,22 @@ ghost use Rattle.berth_face.specs.Causes.{Rose};
 ghost use Rattle.region_layout.specs.Names.{AreNames};
 ghost use Rattle.script_text.specs.Fits.{AreCommands};
 ghost use Rattle.printed_lines.specs.Lines.{lines_text, IsOf};
-ghost use Rattle.transcript.specs.Steps.{IsDown, MayPlay};
-ghost use Rattle.play.specs.Played.{IsWritten, LeavesBerths, Keeps, leaf_count, names_in};
-ghost use Rattle.play.specs.Runs.{Advances, IsRun, IsEnd};
+ghost use Rattle.transcript.specs.Steps.{MayPlay};
+ghost use Rattle.play.specs.Played.{AreBases, IsBase, IsWritten, LeavesBerths, Keeps, leaf_count, names_in};
+ghost use Rattle.play.specs.Runs.{Advances, IsRun, IsEnd, RunSoFar};
 
+use crate::bases::Bases;
 use crate::status::Status;
 use crate::stream::write_all;
-use berth_face::{Berth, Sink};
+use crate::tables::{LeafTables, leaf_tables};
+use berth_face::{Berth, Gate, Sink};
 use leaf_model::Names;
 use player::Player;
 use printed_lines::{Line, put_lines};
 use script_text::{Command, Commands};
 use std::alloc::{AllocError, Global};
 use std::collections::VecDeque;
+use std::sync::Wait;
 
 /// Why a command's lines were not written whole.
 #[derive(Clone, Copy, Debug, PartialEq, Eq)]
@@ -60,15 +63,18 @@ fn names_of(commands: &Commands) -> Result<Option<Names>, AllocError>
 }
 
 /// Plays a script's commands over the first berth, and puts that back in its place.
-pub fn play_commands<K: Sink, B: Berth>(
+pub fn play_commands<N: Bases, R: Wait, K: Sink, B: Berth, G: Gate>(
+    rt: &R,
     alloc: Global,
     commands: Commands,
     sink: &mut K,
     berths: &mut Vec<B>,
+    gate: &G,
 ) -> Status
     requires commands { AreCommands commands }
     requires enough { leaf_count commands ≤ length berths.old.items }
-    ensures done { result ≡ Status.Done → IsWritten B.meaning commands (K.written sink.old) (K.written sink.new) berths.old.items berths.new.items }
+    requires bases { AreBases N.base B.meaning berths.old.items }
+    ensures done { result ≡ Status.Done → IsWritten (N.base 0) B.meaning commands (K.written sink.old) (K.written sink.new) berths.old.items berths.new.items }
     ensures ends { IsEnd result }
     ensures write_fault { result ≡ Status.WriteFault → Rose (K.faults sink.old) (K.faults sink.new) }
     ensures berths { LeavesBerths B.meaning berths.old.items berths.new.items }
@@ -79,7 +85,7 @@ pub fn play_commands<K: Sink, B: Berth>(
         Err(_) => return Status::NoMemory,
     };
     let berth = berths.remove(0);
-    let (berth, status) = play_over(alloc, names, commands, sink, berth);
+    let (berth, status) = play_over::<N, R, K, B, G>(rt, alloc, names, commands, sink, berth, gate);
     put_first(berths, berth);
     status
 }
@@ -96,16 +102,19 @@ fn put_first<B>(berths: &mut Vec<B>, berth: B)
 }
 
 /// Plays commands over a berth, and gives that back.
-fn play_over<K: Sink, B: Berth>(
+fn play_over<N: Bases, R: Wait, K: Sink, B: Berth, G: Gate>(
+    rt: &R,
     alloc: Global,
     names: Names,
     commands: Commands,
     sink: &mut K,
     berth: B,
+    gate: &G,
 ) -> (B, Status)
     requires names { AreNames names }
     requires may_play { AllByRecursion (MayPlay names) commands }
-    ensures done { result.1 ≡ Status.Done → IsRun names (B.meaning berth) (B.meaning result.0) (K.written sink.old) (K.written sink.new) commands }
+    requires base { IfSome (N.base 0) (λ tables. IsBase tables (B.meaning berth)) }
+    ensures done { result.1 ≡ Status.Done → IsRun (N.base 0) names (B.meaning berth) (B.meaning result.0) (K.written sink.old) (K.written sink.new) commands }
     ensures ends { IsEnd result.1 }
     ensures write_fault { result.1 ≡ Status.WriteFault → Rose (K.faults sink.old) (K.faults sink.new) }
     ensures keeps { Keeps (B.meaning berth) (B.meaning result.0) }
@@ -113,34 +122,50 @@ fn play_over<K: Sink, B: Berth>(
     let Ok(copy) = names.copy() else {
         return (berth, Status::NoMemory);
     };
-    match Player::new(alloc, copy, berth) {
-        Ok(player) => play_all(alloc, &names, player, commands.into_inner(), sink),
+    let Ok(leaf) = leaf_tables::<N>(alloc, &names) else {
+        return (berth, Status::NoMemory);
+    };
+    let LeafTables {
+        tables,
+        stewards,
+        callers,
+    } = leaf;
+    match Player::new(copy, tables.leaf(0), stewards, callers, berth) {
+        Ok(player) => play_all::<N, R, K, B, G>(
+            rt,
+            alloc,
+            &names,
+            player,
+            commands.into_inner(),
+            sink,
+            gate,
+        ),
         Err(berth) => (berth, Status::NoMemory),
     }
 }
 
 /// Plays commands one after another, writes the lines of each, and gives the berth back.
-fn play_all<K: Sink, B: Berth>(
+fn play_all<'t, N: Bases, R: Wait, K: Sink, B: Berth, G: Gate>(
+    rt: &R,
     alloc: Global,
     names: &Names,
-    player: Player<B>,
+    player: Player<'t, B>,
     commands: Vec<Command>,
     sink: &mut K,
+    gate: &G,
 ) -> (B, Status)
     requires names { player.names ≡ names.now }
-    requires are_names { AreNames names.now }
-    requires down { player.leaf ≡ IsDown }
-    requires numbers { player.numbers ≡ replicate (length names.now) 0 }
     requires may_play { AllByRecursion (MayPlay names.now) commands.items }
-    ensures done { result.1 ≡ Status.Done → IsRun names.now (B.meaning player.berth) (B.meaning result.0) (K.written sink.old) (K.written sink.new) commands.items }
+    requires begun { RunSoFar (N.base 0) names.now (B.meaning player.berth) (B.meaning player.berth) (K.written sink.old) (K.written sink.old) [] player.leaf player.callers }
+    ensures done { result.1 ≡ Status.Done → IsRun (N.base 0) names.now (B.meaning player.entry.berth) (B.meaning result.0) (K.written sink.old) (K.written sink.new) commands.items }
     ensures ends { IsEnd result.1 }
     ensures write_fault { result.1 ≡ Status.WriteFault → Rose (K.faults sink.old) (K.faults sink.new) }
-    ensures keeps { Keeps (B.meaning player.berth) (B.meaning result.0) }
+    ensures keeps { Keeps (B.meaning player.entry.berth) (B.meaning result.0) }
 {
     let mut rest = VecDeque::from_vec(commands);
     let mut player = player;
     while let Some(command) = rest.pop_front() {
-        let (next, played) = play_next(alloc, names, player, command, sink);
+        let (next, played) = play_next(rt, alloc, names, player, command, sink, gate);
         player = next;
         match played {
             Ok(()) => {}
@@ -152,22 +177,24 @@ fn play_all<K: Sink, B: Berth>(
 }
 
 /// Plays a command, and writes its lines.
-fn play_next<K: Sink, B: Berth>(
+fn play_next<'t, R: Wait, K: Sink, B: Berth, G: Gate>(
+    rt: &R,
     alloc: Global,
     names: &Names,
-    player: Player<B>,
+    player: Player<'t, B>,
     command: Command,
     sink: &mut K,
-) -> (Player<B>, Result<(), WriteError>)
+    gate: &G,
+) -> (Player<'t, B>, Result<(), WriteError>)
     requires names { player.names ≡ names.now }
     requires may_play { MayPlay names.now command }
     ensures names { result.0.names ≡ names.now }
-    ensures played { OnOk result.1 (Advances names.now (B.meaning player.berth) (B.meaning result.0.berth) (K.written sink.old) (K.written sink.new) command player.leaf player.numbers result.0.leaf result.0.numbers) }
-    ensures time { Passes (B.meaning player.berth) (B.meaning result.0.berth) }
+    ensures played { OnOk result.1 (Advances B.meaning names.now player.entry.berth result.0.berth (K.written sink.old) (K.written sink.new) command player.entry.leaf player.entry.callers result.0.leaf result.0.callers) }
+    ensures time { Passes (B.meaning player.entry.berth) (B.meaning result.0.berth) }
     ensures failed { IsErrOf result.1 WriteError.Failed → Rose (K.faults sink.old) (K.faults sink.new) }
     ensures later { K.faults sink.old ≤ K.faults sink.new }
 {
-    let (next, lines) = player.play(alloc, command);
+    let (next, lines) = player.play(rt, alloc, gate, command);
     let written = write_lines(alloc, names, lines, sink);
     (next, written)
 }

@@ -3,6 +3,7 @@ use crate::Status;
 use crate::script_tests::{berths_of, play};
 use berth_mem::MemBerth;
 use std::alloc::{AllocError, Global};
+use std::sync::Wait;
 use std::test;
 
 /// The commands of a leaf's life, each with the fewest and the most writes that a crash leaves from the end of the command
@@ -21,9 +22,9 @@ const LIFE: [(&str, u8, u8); 10] = [
 ];
 
 /// The berth that a play of the script over an empty one leaves.
-fn berth_after(alloc: Global, script: &str) -> Result<MemBerth, AllocError> {
+fn berth_after<R: Wait>(rt: &R, alloc: Global, script: &str) -> Result<MemBerth, AllocError> {
     let mut berths = berths_of(alloc, b"")?;
-    let (status, _sink) = play(alloc, &mut berths, script)?;
+    let (status, _sink) = play(rt, alloc, &mut berths, script)?;
     match (status, berths.pop()) {
         (Status::Done, Some(berth)) => Ok(berth),
         _ => Err(AllocError),
@@ -31,10 +32,10 @@ fn berth_after(alloc: Global, script: &str) -> Result<MemBerth, AllocError> {
 }
 
 /// What the start of a new leaf over this berth prints, and nothing where the play is not done.
-fn started(alloc: Global, berth: MemBerth) -> Result<Vec<u8>, AllocError> {
+fn started<R: Wait>(rt: &R, alloc: Global, berth: MemBerth) -> Result<Vec<u8>, AllocError> {
     let mut berths = Vec::new(alloc);
     berths.push(berth)?;
-    let (status, sink) = play(alloc, &mut berths, "fleet 1 1 errors\n")?;
+    let (status, sink) = play(rt, alloc, &mut berths, "fleet 1 1 errors\n")?;
     match status {
         Status::Done => sink.bytes().to_vec(alloc),
         _ => Ok(Vec::new(alloc)),
@@ -59,12 +60,12 @@ fn a_crash_at_any_moment_leaves_what_was_flushed(rt: HostRuntime) -> Result<(), 
     let mut ended = 0;
     for (command, least, most) in LIFE {
         script.push_str(command)?;
-        let berth = berth_after(alloc, script.as_str())?;
+        let berth = berth_after(&rt, alloc, script.as_str())?;
         let mut fewest = u8::MAX;
         let mut greatest = 0;
         for moment in ended..berth.moments() {
             for image in 0..berth.images(moment) {
-                let lines = started(alloc, berth.pick(moment, image)?)?;
+                let lines = started(&rt, alloc, berth.pick(moment, image)?)?;
                 let writes = opened(lines.as_slice()).expect(&rt, "a start without a fault");
                 fewest = fewest.min(writes);
                 greatest = greatest.max(writes);
@@ -81,7 +82,7 @@ fn a_drained_leaf_is_in_the_region_and_in_the_log(rt: HostRuntime) -> Result<(),
     let alloc = rt.alloc();
     let script =
         "fleet 1 1 errors\nadd 0 errors 1\n{\"time\":1}\nflush 0 errors\nadd 0 errors 1\n{\"time\":2}\ndrain 0\n";
-    let berth = berth_after(alloc, script)?;
+    let berth = berth_after(&rt, alloc, script)?;
     let last = berth.moments() - 1;
     for image in 0..berth.images(last) {
         let picked = berth.pick(last, image)?;
@@ -90,7 +91,7 @@ fn a_drained_leaf_is_in_the_region_and_in_the_log(rt: HostRuntime) -> Result<(),
         } else {
             "0 errors #1 opened 2\nstart 0 memory\n"
         };
-        let lines = started(alloc, picked)?;
+        let lines = started(&rt, alloc, picked)?;
         assert_eq!(rt; lines.as_slice(), want.as_bytes(), "image {image}");
     }
     Ok(())

@@ -38,6 +38,7 @@ fn what_was_flushed_outlives_a_kill(rt: HostRuntime) -> Result<(), test::Fail> {
     let alloc = rt.alloc();
     let mut berths = berths_over(alloc, b"")?;
     let (status, sink) = play(
+        &rt,
         alloc,
         &mut berths,
         "fleet 1 1 errors\nadd 0 errors 1\n{\"time\":1}\nflush 0 errors\nadd 0 errors 1\n{\"time\":2}\nkill 0\nkill 0\nflush 0 errors\nstart 0\nquery SELECT COUNT(*) FROM errors WHERE time >= 0 AND time <= 9",
@@ -81,7 +82,7 @@ fn a_disk_decides_what_is_opened(rt: HostRuntime) -> Result<(), test::Fail> {
         ),
     ] {
         let mut berths = berths_over(alloc, disk)?;
-        let (status, sink) = play(alloc, &mut berths, script)?;
+        let (status, sink) = play(&rt, alloc, &mut berths, script)?;
         assert!(rt; matches!(status, Status::Done));
         assert_eq!(rt; sink.bytes(), want.as_bytes());
         assert_eq!(rt; berths.first().expect(&rt, "a berth").disk(), after);
@@ -132,7 +133,7 @@ fn a_fault_of_the_disk_is_told_and_made_good(rt: HostRuntime) -> Result<(), test
         ),
     ] {
         let mut berths = failing(alloc, method, count)?;
-        let (status, sink) = play(alloc, &mut berths, script)?;
+        let (status, sink) = play(&rt, alloc, &mut berths, script)?;
         assert!(rt; matches!(status, Status::Done));
         assert_eq!(rt; sink.bytes(), want.as_bytes());
     }
@@ -167,7 +168,7 @@ fn a_stopped_drain_leaves_what_its_steps_made(rt: HostRuntime) -> Result<(), tes
             "0 errors #1 opened 0\nstart 0 disk nohead\n0 errors #2 added 1 late 0\n{lines}"
         )?;
         let mut berths = berths_over(alloc, b"")?;
-        let (status, sink) = play(alloc, &mut berths, script.as_str())?;
+        let (status, sink) = play(&rt, alloc, &mut berths, script.as_str())?;
         assert!(rt; matches!(status, Status::Done));
         assert_eq!(rt; sink.bytes(), want.as_bytes(), "at stop {stop}");
     }
@@ -178,7 +179,7 @@ fn a_stopped_drain_leaves_what_its_steps_made(rt: HostRuntime) -> Result<(), tes
 fn what_holds_of_every_run_is_said_of_a_berth(rt: HostRuntime) -> Result<(), test::Fail> {
     let berths = berths_over(rt.alloc(), b"")?;
     let berth = berths.first().expect(&rt, "a berth");
-    plays_go_on(berth, berth);
+    plays_go_on(berth, berth, berth);
     assert_eq!(rt; berth.disk().len(), 0);
     Ok(())
 }

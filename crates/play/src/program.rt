@@ -3,28 +3,31 @@ ghost use Rattle.std.specs.Prelude.{◌≡◌, ◌↔◌, None, IfSome, length, 
 ghost use Rattle.berth_face.specs.Causes.{Rose};
 ghost use Rattle.berth_face.specs.Streams.{TakesAtMost};
 ghost use Rattle.play.specs.Outcome.{IsDone, IsCutShort, IfScript, IsRefused, IfCount, UnlessCutOff, UnlessPlayed, UnlessWritten, Takes, verdict};
-ghost use Rattle.play.specs.Played.{LeavesBerths};
+ghost use Rattle.play.specs.Played.{AreBases, LeavesBerths};
 ghost use Rattle.play.specs.Source.{most_taken};
 ghost use Rattle.play.specs.Words.{request_of};
 
+use crate::bases::Bases;
 use crate::count::count_source;
 use crate::script::play_source;
 use crate::status::Status;
 use crate::words::{Request, request_of};
 use berth_face::{Berth, Gate, Sink, Source};
 use std::alloc::Global;
+use std::sync::Wait;
 
-/// Does all that the program does, over what is handed in. Leaf L uses berth L.
-/// So far no table is shared by threads, and the gate is not called.
-pub fn run<S: Source, K: Sink, B: Berth, G: Gate>(
+/// Does all that the program does, over what is handed in. Leaf L uses berth L, whose base N names where it is known.
+pub fn run<N: Bases, R: Wait, S: Source, K: Sink, B: Berth, G: Gate>(
+    rt: &R,
     alloc: Global,
     words: &[String],
     source: &mut S,
     sink: &mut K,
     berths: &mut Vec<B>,
-    _gate: &G,
+    gate: &G,
 ) -> Status
-    ensures done { result ≡ Status.Done → IsDone B.meaning (request_of (map string_bytes words.now))
+    requires bases { AreBases N.base B.meaning berths.old.items }
+    ensures done { result ≡ Status.Done → IsDone (N.base 0) B.meaning (request_of (map string_bytes words.now))
         (S.left source.old) (S.left source.new) (K.written sink.old) (K.written sink.new) berths.old.items berths.new.items }
 
     // Each other status has its cause, but for want of memory.
@@ -58,6 +61,8 @@ pub fn run<S: Source, K: Sink, B: Berth, G: Gate>(
     match request_of(words) {
         None => Status::Words,
         Some(Request::Count(range)) => count_source(alloc, range, source, sink),
-        Some(Request::Play) => play_source(alloc, source, sink, berths),
+        Some(Request::Play) => {
+            play_source::<N, R, S, K, B, G>(rt, alloc, source, sink, berths, gate)
+        },
     }
 }

@@ -2,12 +2,13 @@
 use crate::Status;
 use crate::script_tests::{berths_of, play, refusal_text};
 use std::alloc::{AllocError, Global};
+use std::sync::Wait;
 use std::test;
 
 /// What a play of the script over a fresh berth wrote, where it was done.
-fn printed(alloc: Global, script: &str) -> Result<Vec<u8>, AllocError> {
+fn printed<R: Wait>(rt: &R, alloc: Global, script: &str) -> Result<Vec<u8>, AllocError> {
     let mut berths = berths_of(alloc, b"")?;
-    let (status, sink) = play(alloc, &mut berths, script)?;
+    let (status, sink) = play(rt, alloc, &mut berths, script)?;
     match status {
         Status::Done => sink.bytes().to_vec(alloc),
         _ => Err(AllocError),
@@ -39,7 +40,7 @@ fn queries_are_answered_in_lines(rt: HostRuntime) -> Result<(), test::Fail> {
             "0 t #1 opened 0\nstart 0 disk nohead\n0 t #2 added 2 late 0\n0 t #3 closed 1\n0 t #4 flushed 1\n0 t #5 handed\ndrain 0 done\n0 t #6 refused shut\nanswer named 0 of 1 lines 0\n0 t #7 opened 1\nstart 0 memory\n0 t #8 asked\nanswer named 1 of 1 lines 2\n\"\" -\n\"é\" -\n",
         ),
     ] {
-        let out = printed(alloc, script)?;
+        let out = printed(&rt, alloc, script)?;
         assert_eq!(rt; out.as_slice(), want.as_bytes());
     }
     Ok(())
@@ -59,7 +60,7 @@ fn large_sum(alloc: Global) -> Result<String, AllocError> {
 fn a_sum_may_pass_64_bits(rt: HostRuntime) -> Result<(), test::Fail> {
     let alloc = rt.alloc();
     let script = large_sum(alloc)?;
-    let out = printed(alloc, script.as_str())?;
+    let out = printed(&rt, alloc, script.as_str())?;
     let want =
         "0 errors #1 opened 0\nstart 0 disk nohead\n0 errors #2 added 70000 late 0\n0 errors #3 asked\nanswer named 1 of 1 lines 1\n645636042579834306490000 645636042579834306490000/70000\n";
     assert_eq!(rt; out.as_slice(), want.as_bytes());
@@ -98,7 +99,7 @@ fn a_text_that_is_no_query_plays_nothing(rt: HostRuntime) -> Result<(), test::Fa
     ] {
         let script = format!(in alloc; "fleet 1 1 errors\n{query}\n")?;
         let mut berths = berths_of(alloc, b"")?;
-        let (status, sink) = play(alloc, &mut berths, script.as_str())?;
+        let (status, sink) = play(&rt, alloc, &mut berths, script.as_str())?;
         let said = refusal_text(alloc, &status)?;
         assert_eq!(rt; said.as_str(), text);
         let status = format!(in alloc; "{status:?}")?;

@@ -5,6 +5,8 @@ use berth_face::OpenGate;
 use berth_mem::{MemBerth, MemSink, MemSource, Method};
 use leaf_model::Text;
 use std::alloc::{AllocError, Global};
+use std::marker::Brand;
+use std::sync::Wait;
 use std::test;
 
 /// One leaf with the table t, an add of the time 5, and a drain.
@@ -33,7 +35,8 @@ pub fn berths_of(alloc: Global, region: &[u8]) -> Result<Vec<MemBerth>, AllocErr
 }
 
 /// The status of a play of the script, and what it wrote.
-pub fn play(
+pub fn play<R: Wait>(
+    rt: &R,
     alloc: Global,
     berths: &mut Vec<MemBerth>,
     script: &str,
@@ -41,7 +44,8 @@ pub fn play(
     let words = words_of(alloc, "play")?;
     let mut source = MemSource::new(script.as_bytes().to_vec(alloc)?);
     let mut sink = MemSink::new(alloc);
-    let status = run(
+    let status = run::<Brand, R, MemSource, MemSink, MemBerth, OpenGate>(
+        rt,
         alloc,
         words.as_slice(),
         &mut source,
@@ -90,7 +94,7 @@ fn prints_each_command(rt: HostRuntime) -> Result<(), test::Fail> {
         ),
     ] {
         let mut berths = berths_of(alloc, b"")?;
-        let (status, sink) = play(alloc, &mut berths, script)?;
+        let (status, sink) = play(&rt, alloc, &mut berths, script)?;
         assert!(rt; matches!(status, Status::Done));
         assert_eq!(rt; sink.bytes(), want.as_bytes());
     }
@@ -133,7 +137,7 @@ fn a_region_decides_how_a_leaf_starts(rt: HostRuntime) -> Result<(), test::Fail>
         ),
     ] {
         let mut berths = berths_of(alloc, region)?;
-        let (status, sink) = play(alloc, &mut berths, script)?;
+        let (status, sink) = play(&rt, alloc, &mut berths, script)?;
         assert!(rt; matches!(status, Status::Done));
         assert_eq!(rt; sink.bytes(), want.as_bytes());
         let after = berths.first().expect(&rt, "a berth").region();
@@ -148,9 +152,10 @@ fn a_region_decides_how_a_leaf_starts(rt: HostRuntime) -> Result<(), test::Fail>
 fn what_one_run_drains_the_next_adopts(rt: HostRuntime) -> Result<(), test::Fail> {
     let alloc = rt.alloc();
     let mut berths = berths_of(alloc, b"")?;
-    play(alloc, &mut berths, DRAINED)?;
+    play(&rt, alloc, &mut berths, DRAINED)?;
     assert_eq!(rt; berths.first().expect(&rt, "a berth").region(), &IMAGE[..]);
     let (status, sink) = play(
+        &rt,
         alloc,
         &mut berths,
         "fleet 1 1 t\nquery SELECT COUNT(*) FROM t WHERE time >= 0 AND time <= 9",
@@ -170,7 +175,7 @@ fn a_failed_closing_may_be_tried_again(rt: HostRuntime) -> Result<(), test::Fail
     let berth = MemBerth::failing(IMAGE.to_vec(alloc)?, Vec::new(alloc), fails);
     let mut berths = Vec::new(alloc);
     berths.push(berth)?;
-    let (status, sink) = play(alloc, &mut berths, "fleet 1 1 t\nstart 0\n")?;
+    let (status, sink) = play(&rt, alloc, &mut berths, "fleet 1 1 t\nstart 0\n")?;
     assert!(rt; matches!(status, Status::Done));
     assert_eq!(rt;
         sink.bytes(),
@@ -195,7 +200,7 @@ fn a_refused_script_plays_nothing(rt: HostRuntime) -> Result<(), test::Fail> {
         ),
     ] {
         let mut berths = berths_of(alloc, b"")?;
-        let (status, sink) = play(alloc, &mut berths, script)?;
+        let (status, sink) = play(&rt, alloc, &mut berths, script)?;
         let said = refusal_text(alloc, &status)?;
         assert_eq!(rt; said.as_str(), text);
         let status = format!(in alloc; "{status:?}")?;
@@ -204,7 +209,7 @@ fn a_refused_script_plays_nothing(rt: HostRuntime) -> Result<(), test::Fail> {
         assert_eq!(rt; berths.first().expect(&rt, "a berth").region().len(), 0);
     }
     let mut none: Vec<MemBerth> = Vec::new(alloc);
-    let (status, sink) = play(alloc, &mut none, "fleet 1 1 errors")?;
+    let (status, sink) = play(&rt, alloc, &mut none, "fleet 1 1 errors")?;
     let status = format!(in alloc; "{status:?}")?;
     assert_eq!(rt; status.as_str(), "Script { line: 1, why: NoBerth }");
     assert_eq!(rt; sink.bytes().len(), 0);

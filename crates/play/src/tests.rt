@@ -3,6 +3,8 @@ use crate::{Status, run};
 use berth_face::{Failed, OpenGate, Sink, Source};
 use berth_mem::{Fail, Fails, MemBerth, MemSink, MemSource, Method};
 use std::alloc::{AllocError, Global};
+use std::marker::Brand;
+use std::sync::Wait;
 use std::test;
 
 /// A sink that takes one byte at a call.
@@ -30,14 +32,23 @@ pub(crate) fn words_of(alloc: Global, line: &str) -> Result<Vec<String>, AllocEr
 }
 
 /// Runs over no berth.
-fn run_over<S: Source, K: Sink>(
+fn run_over<R: Wait, S: Source, K: Sink>(
+    rt: &R,
     alloc: Global,
     words: &[String],
     source: &mut S,
     sink: &mut K,
 ) -> Status {
     let mut berths: Vec<MemBerth> = Vec::new(alloc);
-    run(alloc, words, source, sink, &mut berths, &OpenGate)
+    run::<Brand, R, S, K, MemBerth, OpenGate>(
+        rt,
+        alloc,
+        words,
+        source,
+        sink,
+        &mut berths,
+        &OpenGate,
+    )
 }
 
 fn spaces(alloc: Global, count: usize) -> Result<Vec<u8>, AllocError> {
@@ -128,7 +139,7 @@ fn answers_each_text(rt: HostRuntime) -> Result<(), test::Fail> {
         let words = words_of(alloc, line)?;
         let mut source = MemSource::new(text.as_bytes().to_vec(alloc)?);
         let mut sink = MemSink::new(alloc);
-        let got = run_over(alloc, words.as_slice(), &mut source, &mut sink);
+        let got = run_over(&rt, alloc, words.as_slice(), &mut source, &mut sink);
         let got = format!(in alloc; "{got:?}")?;
         assert_eq!(rt; got.as_str(), status, "at {line}");
         assert_eq!(rt; sink.bytes(), want.as_bytes(), "at {line}");
@@ -146,7 +157,7 @@ fn the_longest_text_is_read(rt: HostRuntime) -> Result<(), test::Fail> {
     ] {
         let mut source = MemSource::new(spaces(alloc, length)?);
         let mut sink = MemSink::new(alloc);
-        let got = run_over(alloc, words.as_slice(), &mut source, &mut sink);
+        let got = run_over(&rt, alloc, words.as_slice(), &mut source, &mut sink);
         let got = format!(in alloc; "{got:?}")?;
         assert_eq!(rt; got.as_str(), status);
         assert_eq!(rt; sink.bytes(), want.as_bytes());
@@ -167,7 +178,7 @@ fn faults_have_their_status(rt: HostRuntime) -> Result<(), test::Fail> {
             fails_at(alloc, Method::Take, count)?,
         );
         let mut sink = MemSink::new(alloc);
-        let got = run_over(alloc, words.as_slice(), &mut source, &mut sink);
+        let got = run_over(&rt, alloc, words.as_slice(), &mut source, &mut sink);
         assert!(rt; matches!(got, Status::ReadFault));
         assert_eq!(rt; sink.bytes().len(), 0);
     }
@@ -175,7 +186,7 @@ fn faults_have_their_status(rt: HostRuntime) -> Result<(), test::Fail> {
         let mut source = MemSource::new(text.to_vec(alloc)?);
         let inner = MemSink::failing(fails_at(alloc, Method::Put, count)?);
         let mut sink = NarrowSink { inner };
-        let got = run_over(alloc, words.as_slice(), &mut source, &mut sink);
+        let got = run_over(&rt, alloc, words.as_slice(), &mut source, &mut sink);
         assert!(rt; matches!(got, Status::WriteFault));
         assert_eq!(rt; sink.inner.bytes(), want.as_bytes());
     }

@@ -1,81 +1,167 @@
 -- The copy of a leaf's tables, step by step.
-use Rattle.std.proofs.Common.{◌≡◌, ℕ, suc, ◌<◌, ◌≤◌, false, ltb, List, [], ◌∷◌, length, drop, Option, Ok, refl, sym, subst, arith}
+use Rattle.std.proofs.Common.{◌≡◌, ℕ, suc, ◌<◌, ◌≤◌, true, false, ltb, List, [], ◌∷◌, length, drop, Option, Result, Ok, Err, refl, sym, ap, subst, ◌∙◌, le_refl, arith}
 use Rattle.std.specs.Prelude.{IsTrue, MatchBool, nat_lt}
 use Rattle.std.proofs.lemmas.Bool.{le-ltb}
 use Rattle.std.proofs.lemmas.List.{length-drop}
 use Rattle.leaf_model.specs.declared.writes.Write.{Write}
 use Rattle.berth_face.specs.Berth.{Meaning, Passes}
-use Rattle.berth_face.proofs.Moments.{passes_none}
+use Rattle.berth_face.proofs.Moments.{passes_none, passes_on}
 use Rattle.region_layout.specs.declared.head.Head.TheVariants as head
 use Rattle.region_layout.specs.declared.image.TableImage.{TableImage}
 use Rattle.region_layout.specs.Region.{IsImage, head_of}
 use Rattle.adopt.specs.declared.found.WhyDisk.TheVariants as why
 use Rattle.drain_copy.specs.declared.step.Next.{Next}
 use Rattle.drain_copy.specs.declared.step.Next.TheVariants as next
-use Rattle.drain_copy.specs.Draining.{Draining, StandsAt}
+use Rattle.drain_copy.specs.declared.step.RegionFault.{RegionFault}
+use Rattle.drain_copy.specs.Draining.{StandsAt}
 use Rattle.leaf_opening.specs.declared.ways.Way.TheVariants.{Disk}
-use Rattle.leaf_opening.specs.Backed.{Rests}
 use Rattle.leaf_opening.specs.Starts.{IsWayOf}
-use Rattle.leaf_opening.proofs.Refusing.{rests_shut}
-use Rattle.leaf_machine.specs.declared.notes.Note.{Note}
+use Rattle.leaf_core.specs.Left.{Tables}
+use Rattle.leaf_moments.specs.Told as moments
+use Rattle.leaf_moments.proofs.Telling.{none_more, told_join}
+use Rattle.leaf_standing.specs.Standing.{Copies}
+use Rattle.leaf_standing.proofs.Lefts.{copies_told}
+use Rattle.leaf_steward.specs.declared.notes.Note.{Note}
+use Rattle.leaf_steward.specs.Seated.{Seated, AreFounded, watched_by}
+use Rattle.leaf_steward.specs.Making.{Makes, EachNoted, IsHandedNote}
 use Rattle.leaf_machine.specs.declared.copying.Copied.{Copied}
 use Rattle.leaf_machine.specs.declared.copying.Copied.TheVariants as copied
-use Rattle.leaf_machine.specs.Copies.{CopyState, Copies}
-use Rattle.leaf_machine.specs.Steps.{CopyGoesOn}
-use Rattle.printed_lines.specs.declared.line.Ending.{Ending}
+use Rattle.leaf_machine.specs.States.{Copying, CopiesOn, RestsOn}
+use Rattle.leaf_machine.specs.Copies.{CopyGoesOn, IsCopyStep, IsNext, berth_of_copy, seats_of_copy}
+use Rattle.leaf_machine.proofs.UpMaking.{makes_since}
 use Rattle.printed_lines.specs.declared.line.Ending.TheVariants as ending
 use Rattle.player.specs.Steps.{AreLeft, Spends, steps_before}
 use Rattle.player.specs.Moves as move
-use Rattle.player.specs.Moves.{CopyEnds}
-use Rattle.player.proofs.Counted.{none_made, all_made}
+use Rattle.player.specs.Moves.{CopyEnds, CopyRests, CopyStands}
+use Rattle.player.proofs.Counted.{none_made, spent, may_make, all_made}
 
 -- ---- the copy so far
 
+-- a copy that stood stands on, and at each moment a crash left what belongs to its tables
+abbrev pub CopyTold : Copying → Copying → Meaning → Meaning → Type 0
+CopyTold c d m n = CopyStands d n × ((base : Tables) → moments.Told base (watched_by c.seated) (watched_by d.seated) m n)
+
 -- As many steps were made as come before the next, none of them the last, and nothing was noted.
-pub record CopiedSoFar (c : CopyState) (m : Meaning) (stop : Option ℕ) (d : CopyState) (n : Meaning) (left : Option ℕ) (notes : List Note) : Type 0 where
-  pub names : d.names ≡ c.names
+pub record CopiedSoFar (c : Copying) (m : Meaning) (stop : Option ℕ) (d : Copying) (n : Meaning) (left : Option ℕ) (notes : List Note) : Type 0 where
+  pub seated : d.seated ≡ c.seated
   pub image : d.drain.image ≡ c.drain.image
   pub steps : AreLeft stop (steps_before d.drain.next) left
   pub more : steps_before d.drain.next < 3
   pub none : notes ≡ []
-  pub stands : IsTrue m.tells → Draining d.drain n.held.region
   pub untouched : d.drain.next ≡ next.Begin → n.held.region ≡ m.held.region
-  pub copies : (writes : List ℕ → List Write) → IsTrue m.tells → Copies writes c m → Copies writes d n
+  pub copies : IsTrue m.tells → AreFounded c.seated → CopyStands c m → CopyTold c d m n
   pub passes : Passes m n
 
-pub copied_none : (c : CopyState) (m : Meaning) (stop : Option ℕ) (notes : List Note) → c.drain.next ≡ next.Begin → notes ≡ [] → CopiedSoFar c m stop c m stop notes
+copy_told : (base : Tables) (c : Copying) (m : Meaning) → CopyStands c m → moments.Told base (watched_by c.seated) (watched_by c.seated) m m
+copy_told base c m stands = copies_told (watched_by c.seated) (watched_by c.seated) base c.drain stands.0 m stands.1 (none_more m.clock m.clock (watched_by c.seated))
+
+pub copied_none : (c : Copying) (m : Meaning) (stop : Option ℕ) (notes : List Note) → c.drain.next ≡ next.Begin → notes ≡ [] → CopiedSoFar c m stop c m stop notes
 copied_none c m stop notes first empty = record {
-  names = refl;
+  seated = refl;
   image = refl;
   steps = subst (λ (a : Next). AreLeft stop (steps_before a) stop) (sym first) (none_made stop);
   more = subst (λ (a : Next). steps_before a < 3) (sym first) (omega arith);
   none = empty;
-  stands = λ tells. subst (λ (a : Next). StandsAt a c.drain.image m.held.region) (sym first) tt;
   untouched = λ e. refl;
-  copies = λ writes tells copies. copies;
+  copies = λ tells founded stands. (stands, λ base. copy_told base c m stands);
   passes = passes_none m;
 }
 
-pub finished_rests : {B : Type 0} (meaning : B → Meaning) (d : CopyState) (n : Meaning) (down : List (List ℕ) × B) (s : Copied B) → s ≡ copied.Finished down
-    → CopyGoesOn meaning d n (Ok s) → (writes : List ℕ → List Write) → Copies writes d n → Rests writes (meaning down.1)
-finished_rests {B} meaning d n down s e goes_on writes copies =
-    let at : CopyGoesOn meaning d n (Ok (copied.Finished down)) = subst (λ (t : Copied B). CopyGoesOn meaning d n (Ok t)) e goes_on in
-    (at writes copies).0
+-- what a step does
+pub record CopySteps {B : Type 0} (meaning : B → Meaning) (d : Copying) (n : Meaning) (notes : List Note) (r : Result (Copied B) ((Seated × B) × RegionFault)) : Type 0 where
+  pub one : IsCopyStep d notes r
+  pub made : Makes n.clock (meaning (berth_of_copy r)).clock d.seated notes (seats_of_copy r)
+  pub crash : IsTrue n.tells → AreFounded d.seated → CopyGoesOn meaning d n r
+  pub time : Passes n (meaning (berth_of_copy r))
 
--- no step is left
-pub copied_stopped : (c : CopyState) (m : Meaning) (stop : Option ℕ) (d : CopyState) (n : Meaning) (left left' : Option ℕ) (notes : List Note) (ends : Ending)
-    → CopiedSoFar c m stop d n left notes → Spends left false left' → ends ≡ ending.Stopped → CopyEnds c stop m n notes ends
-copied_stopped c m stop d n left left' notes ends so_far spends ended =
-    move.stopped d.drain.next (all_made stop left (steps_before d.drain.next) 0 (steps_before d.drain.next) so_far.steps spends (omega arith)) so_far.more so_far.none
-    (λ tells. subst (λ (image : List ℕ). StandsAt d.drain.next image n.held.region) so_far.image (so_far.stands tells))
-    so_far.untouched ended
+abbrev pub more_copy : {B : Type 0} → Copying × B → Result (Copied B) ((Seated × B) × RegionFault)
+more_copy leaf = Ok (copied.More leaf)
 
--- the log has what it had, and the region is closed
-pub stopped_rests : (c : CopyState) (m : Meaning) (stop : Option ℕ) (d : CopyState) (n : Meaning) (left : Option ℕ) (notes : List Note)
-    → CopiedSoFar c m stop d n left notes → (writes : List ℕ → List Write) → IsTrue m.tells → Copies writes c m → Rests writes n
-stopped_rests c m stop d n left notes so_far writes tells copies =
-    let now = so_far.copies writes tells copies in
-    rests_shut writes n now.log now.closed
+abbrev pub last_copy : {B : Type 0} → Seated × B → Result (Copied B) ((Seated × B) × RegionFault)
+last_copy leaf = Ok (copied.Finished leaf)
+
+abbrev pub failed_copy : {B : Type 0} → Seated × B → RegionFault → Result (Copied B) ((Seated × B) × RegionFault)
+failed_copy leaf fault = Err (leaf, fault)
+
+next_steps : (a b : Next) → IsNext a b → (steps_before b ≡ suc (steps_before a)) × (steps_before b < 3) × (b ≡ next.Begin → ⊥)
+next_steps next.Begin b is = (ap steps_before is, subst (λ (n : Next). steps_before n < 3) (sym is) (omega arith), λ e. absurd cc)
+next_steps next.Write b is = (ap steps_before is, subst (λ (n : Next). steps_before n < 3) (sym is) (omega arith), λ e. absurd cc)
+next_steps next.Flag b is = absurd is
+next_steps next.Nothing b is = absurd is
+
+module _ (c : Copying) (m : Meaning) (stop left left' : Option ℕ) (d : Copying) (n : Meaning) (before : List Note) (so_far : CopiedSoFar c m stop d n left before) where
+  founded_still : AreFounded c.seated → AreFounded d.seated
+  founded_still founded = subst AreFounded (sym so_far.seated) founded
+
+  tells_still : IsTrue m.tells → IsTrue n.tells
+  tells_still tells = so_far.passes.tells ∙ tells
+
+  -- no step is left
+  pub copied_stopped : Spends left false left' → CopyEnds c stop m n before ending.Stopped d.seated
+  copied_stopped spends =
+      move.stopped d.drain.next (all_made stop left (steps_before d.drain.next) 0 (steps_before d.drain.next) so_far.steps spends (omega arith)) so_far.more so_far.none so_far.seated
+      (λ tells founded stands.
+      let now : CopyTold c d m n = so_far.copies tells founded stands in
+      subst (λ (image : List ℕ). StandsAt d.drain.next image n.held.region) so_far.image now.0.1.draining)
+      so_far.untouched refl
+
+  -- a leaf that the copy left at rest
+  rests_then : (y : Seated) (notes : List Note) (o : Meaning) → Passes n o → Makes n.clock o.clock d.seated notes y
+      → (IsTrue n.tells → AreFounded d.seated → (writes : List ℕ → List Write) → Copies (watched_by d.seated) d.drain writes n → RestsOn d.seated y n o) → CopyRests c y notes m o
+  rests_then y notes o time made rests = record {
+    made = makes_since m.clock n.clock o.clock c.seated notes y so_far.passes.later (subst (λ (s : Seated). Makes n.clock o.clock s notes y) so_far.seated made);
+    stands = λ base tells founded sound stands.
+        let now : CopyTold c d m n = so_far.copies tells founded stands in
+        let on : RestsOn d.seated y n o = rests (tells_still tells) (founded_still founded) now.0.0 now.0.1 in
+        ((on.least, on.next, on.rests base sound), told_join base (watched_by c.seated) (watched_by d.seated) (watched_by y) m n o (now.1 base) (on.told base));
+  }
+
+  -- it is given up
+  pub stopped_rests : ((writes : List ℕ → List Write) → AreFounded d.seated → Copies (watched_by d.seated) d.drain writes n → RestsOn d.seated d.seated n n) → CopyRests c d.seated before m n
+  stopped_rests rests =
+      rests_then d.seated before n (passes_none n) (Makes.none n.clock n.clock d.seated before d.seated (le_refl n.clock) so_far.none refl) (λ tells founded writes copies. rests writes founded copies)
+
+  -- all is copied
+  pub done_rests : {B : Type 0} (meaning : B → Meaning) (notes : List Note) (down : Seated × B) → CopySteps meaning d n notes (last_copy down) → CopyRests c down.0 notes m (meaning down.1)
+  done_rests meaning notes down steps = rests_then down.0 notes (meaning down.1) steps.time steps.made (λ tells founded writes copies. (steps.crash tells founded writes copies).0)
+
+  -- the region failed
+  pub failed_rests : {B : Type 0} (meaning : B → Meaning) (notes : List Note) (down : Seated × B) (fault : RegionFault) → CopySteps meaning d n notes (failed_copy down fault)
+      → CopyRests c down.0 notes m (meaning down.1)
+  failed_rests meaning notes down fault steps = rests_then down.0 notes (meaning down.1) steps.time steps.made steps.crash
+
+  module _ {B : Type 0} (meaning : B → Meaning) (notes : List Note) (spends : Spends left true left') where
+    made_now : AreLeft stop (suc (steps_before d.drain.next)) left'
+    made_now = spent stop left left' (steps_before d.drain.next) so_far.steps spends
+
+    -- one step more
+    pub copied_more : (later : Copying × B) → CopySteps meaning d n notes (more_copy later) → CopiedSoFar c m stop later.0 (meaning later.1) left' notes
+    copied_more later steps = record {
+      seated = steps.one.1 ∙ so_far.seated;
+      image = steps.one.2 ∙ so_far.image;
+      steps = subst (λ (k : ℕ). AreLeft stop k left') (sym goes.0) made_now;
+      more = goes.1;
+      none = steps.one.3;
+      untouched = λ e. absurd (goes.2 e);
+      copies = λ tells founded stands.
+          let now : CopyTold c d m n = so_far.copies tells founded stands in
+          let on : CopiesOn d.seated later.0 n (meaning later.1) = steps.crash (tells_still tells) (founded_still founded) now.0.0 now.0.1 in
+          ((on.writes, on.copies), λ base. told_join base (watched_by c.seated) (watched_by d.seated) (watched_by later.0.seated) m n (meaning later.1) (now.1 base) (on.told base));
+      passes = passes_on m n (meaning later.1) so_far.passes steps.time;
+    }
+      where
+        goes : (steps_before later.0.drain.next ≡ suc (steps_before d.drain.next)) × (steps_before later.0.drain.next < 3) × (later.0.drain.next ≡ next.Begin → ⊥)
+        goes = next_steps d.drain.next later.0.drain.next steps.one.0
+
+    -- the last step
+    pub copied_done : (down : Seated × B) → CopySteps meaning d n notes (last_copy down) → CopyEnds c stop m (meaning down.1) notes ending.Done down.0
+    copied_done down steps =
+        move.done (may_make stop left' 3 3 (subst (λ (k : ℕ). AreLeft stop k left') (ap (λ (a : Next). suc (steps_before a)) steps.one.0) made_now) (omega arith))
+        (subst (λ (s : Seated). EachNoted IsHandedNote 0 (length s.tables) notes) so_far.seated steps.one.1)
+        (λ tells founded stands.
+        let now : CopyTold c d m n = so_far.copies tells founded stands in
+        (steps.crash (tells_still tells) (founded_still founded) now.0.0 now.0.1).1)
+        refl
 
 -- ---- the region of a copy that is stopped
 

@@ -1,60 +1,199 @@
--- What the leaf's methods do, by what it is.
-use Rattle.std.proofs.Common.{◌≡◌, ◌≢◌, ℕ, ◌<◌, List, [], length, None, refl, sym, ap, subst, ◌∙◌, arith}
-use Rattle.std.specs.Prelude.{IsTrue}
+-- What a start, a flush and a kill make of one leaf.
+use Rattle.std.proofs.Common.{◌≡◌, ℕ, ◌+◌, List, [], length, Option, Ok, Err, refl, sym, ap, subst}
+use Rattle.std.specs.Prelude.{IsTrue, Vec}
+use Rattle.std.specs.Global.{Global}
 use Rattle.leaf_model.specs.declared.writes.Write.{Write}
+use Rattle.row_records.specs.Records.{LogRecord}
 use Rattle.berth_face.specs.Berth.{Meaning}
+use Rattle.disk_backup.specs.Scanning.{Begins}
 use Rattle.leaf_opening.specs.declared.ways.Way.{Way}
-use Rattle.leaf_opening.specs.declared.ways.StartFault.{StartFault}
-use Rattle.leaf_opening.specs.declared.ways.StartFault.TheVariants as fault
-use Rattle.leaf_opening.specs.Serving.{Serving, IsServing}
-use Rattle.leaf_opening.specs.Backed.{Backed, Rests, GoesOn}
-use Rattle.leaf_opening.specs.Starts.{Started, IsWayOf, AreFresh}
-use Rattle.leaf_machine.specs.declared.notes.Note.{Note}
+use Rattle.leaf_opening.specs.Starts.{IsWayOf}
+use Rattle.leaf_core.specs.Left.{Tables}
+use Rattle.leaf_standing.specs.Standing.{Rests, Runs}
+use Rattle.leaf_steward.specs.declared.notes.Note.{Note}
+use Rattle.leaf_steward.specs.Seated.{Seated, AreFounded, watched_by}
+use Rattle.leaf_steward.specs.Making.{Makes, EachNoted, IsClosedNote}
+use Rattle.leaf_machine.specs.declared.faults.StartFault.{StartFault}
+use Rattle.leaf_machine.specs.declared.faults.StartFault.TheVariants as fault
 use Rattle.leaf_machine.specs.declared.up.FlushReply.{FlushReply}
-use Rattle.leaf_machine.specs.Notes.{opened_notes}
+use Rattle.leaf_machine.specs.States.{Serving, Shutting, GoesOn, RestsOn, RunsOn}
+use Rattle.leaf_machine.specs.Starts.{Came, IsStart, StartGoesOn}
 use Rattle.leaf_machine.specs.Flushes.{Flushes}
-use Rattle.printed_lines.specs.declared.line.Ending.{Ending}
 use Rattle.printed_lines.specs.declared.line.Ending.TheVariants as ending
-use Rattle.transcript.specs.Steps as step
-use Rattle.transcript.specs.Steps.{Leaf, IsDown, IsUp, IsPreparing, AddsOpen, AddsPreparing, Continues, StartMoves, FlushMoves, KillMoves, ending_of, ending_of_flush, is_shut, said_of}
-use Rattle.player.specs.Moves.{ArePlaces}
-use Rattle.player.proofs.Placed.{opened_places}
+use Rattle.printed_lines.specs.declared.line.Line.{Line}
+use Rattle.transcript.specs.Stage.{Leaf, IsDown, IsUp, IsPreparing, Stands, Carries, seated_of}
+use Rattle.transcript.specs.Steps.{StartMoves, FlushMoves, KillMoves, DrainMoves, IsWornFor, ending_of, ending_of_flush}
+use Rattle.player.specs.declared.leaf.OneLeaf.{OneLeaf}
+use Rattle.player.specs.declared.leaf.OneLeaf.TheVariants as one
+use Rattle.player.specs.Stage.{Keeps, state_of, berth_of, seats_of}
+use Rattle.player.specs.Moves.{Drains}
+use Rattle.player.proofs.Carrying.{carries_none, makes_keeps}
 
--- ---- what a leaf is not
+-- ---- what stands behind the entries
 
--- ---- starts
+-- a leaf that serves goes on
+pub runs_carried : (x y : Serving) (notes : List Note) (m m' : Meaning) → Makes m.clock m'.clock x.seated notes y.seated
+    → (IsTrue m.tells → AreFounded x.seated → GoesOn x y m m') → Carries (IsUp x) (IsUp y) notes m m'
+runs_carried x y notes m m' made crash = record {
+  made = made;
+  stands = λ base tells founded sound stands.
+      let on : RunsOn x y m m' = crash tells founded stands.0 stands.1 in
+      record { stands = (on.later, on.runs); told = on.told base };
+}
 
-pub start_opens : (names : List (List ℕ)) (m m' : Meaning) (s : Serving) (way : Way) (notes : List Note)
-    → s.names ≡ names → IsServing s → AreFresh s.tables → s.log.owed ≡ None
-    → (IsTrue m.tells → Started names m m' s way) → (IsTrue m.tells → IsWayOf m.held.region way)
-    → ((writes : List ℕ → List Write) → IsTrue m.tells → Rests writes m → Backed writes s m')
-    → notes ≡ opened_notes 0 s.tables
-    → StartMoves names m m' IsDown notes (ending.Started way) (IsUp s)
-start_opens names m m' s way notes named is fresh owed told way_is backed noted =
-    step.opened s way refl named (is.count ∙ ap length named) fresh owed
-    (λ t. record { way_is = way_is t; region = (told t).region; backed = λ writes rests. backed writes t rests })
-    noted refl refl
+-- a leaf comes to rest
+pub rests_carried : (leaf : Leaf) (y : Seated) (notes : List Note) (m m' : Meaning) → Makes m.clock m'.clock (seated_of leaf) notes y
+    → ((base : Tables) → AreFounded (seated_of leaf) → Stands base leaf m → RestsOn (seated_of leaf) y m m') → Carries leaf (IsDown y) notes m m'
+rests_carried leaf y notes m m' made crash = record {
+  made = made;
+  stands = λ base tells founded sound stands.
+      let on : RestsOn (seated_of leaf) y m m' = crash base founded stands in
+      record { stands = (on.least, on.next, on.rests base sound); told = on.told base };
+}
 
-pub start_refused : (names : List (List ℕ)) (m m' : Meaning) (f : StartFault) (notes : List Note) (ends : Ending)
-    → ((writes : List ℕ → List Write) → IsTrue m.tells → Rests writes m → Rests writes m' × (f ≢ fault.DiskDamaged))
-    → notes ≡ [] → ends ≡ ending_of f
-    → StartMoves names m m' IsDown notes ends IsDown
-start_refused names m m' f notes ends rests noted ended = step.refused f refl (λ t writes r. rests writes t r) noted ended refl
+-- a start that is refused, by its fault
+pub record Refused (x : Seated) (notes : List Note) (y : Seated) (f : StartFault) : Type 0 where
+  pub worn : IsWornFor x f
+  pub same : y ≡ x
+  pub none : notes ≡ []
 
-pub start_places : (names : List (List ℕ)) (s : Serving) (notes : List Note) → s.names ≡ names → IsServing s → notes ≡ opened_notes 0 s.tables → ArePlaces (length names) notes
-start_places names s notes named is noted = subst (ArePlaces (length names)) (sym noted) (opened_places 0 s.tables (length names) (omega (arith, is.count, ap length named)))
+pub refused : {B : Type 0} (x : Seated) (b : B) (notes : List Note) (y : Seated × B) (f : StartFault) → IsStart x b notes (Err (y, f)) → Refused x notes y.0 f
+refused x b notes y fault.RegionFault start = record { worn = tt; same = start.1; none = start.2 }
+refused x b notes y fault.DiskFault start = record { worn = tt; same = start.1; none = start.2 }
+refused x b notes y fault.DiskDamaged start = record { worn = tt; same = start.1; none = start.2 }
+refused x b notes y (fault.Stranger name) start = record { worn = tt; same = start.1; none = start.2 }
+refused x b notes y fault.NoMemory start = record { worn = tt; same = start.1; none = start.2 }
+refused x b notes y (fault.Worn table) start = record { worn = start.0.worn; same = start.1; none = start.3 }
 
--- ---- flushes
+module _ {B : Type 0} (meaning : B → Meaning) where
+  -- ---- nothing is done
 
-pub flush_moves : (table : ℕ) (m m' : Meaning) (s s' : Serving) (notes : List Note) (r : FlushReply) (ends : Ending)
-    → Flushes table s s' notes r → s'.names ≡ s.names → (IsTrue m.tells → GoesOn s s' m m') → (IsTrue m.tells → m'.held.region ≡ m.held.region)
-    → ends ≡ ending_of_flush r
-    → FlushMoves table m m' (IsUp s) notes ends (IsUp s')
-flush_moves table m m' s s' notes r ends flushes named goes_on region ended =
-    step.flushed s s' r refl flushes named (λ t. record { goes_on = goes_on t; region = region t }) ended refl
+  pub still_carries : (self other : OneLeaf B) (notes : List Note) → self ≡ other → notes ≡ [] → Carries (state_of self) (state_of other) notes (meaning (berth_of self)) (meaning (berth_of other))
+  still_carries self other notes same none =
+      subst (λ (l : OneLeaf B). Carries (state_of self) (state_of l) notes (meaning (berth_of self)) (meaning (berth_of l))) same
+      (subst (λ (ns : List Note). Carries (state_of self) (state_of self) ns (meaning (berth_of self)) (meaning (berth_of self))) (sym none)
+      (carries_none (state_of self) (meaning (berth_of self))))
 
--- ---- adds to a leaf that shuts its tables
+  -- ---- a start
 
--- a table among the names is one of the leaf's
-pub table_below : (s : Serving) (table : ℕ) → IsServing s → table < length s.names → table < length s.tables
-table_below s table is below = omega (arith, below, is.count)
+  pub start_opens : (self : OneLeaf B) (x : Seated × B) (s : Serving × B) (way : Way) (notes : List Note) → self ≡ one.Down x
+      → IsStart x.0 x.1 notes (Ok (s, way))
+      → (IsTrue (meaning x.1).tells → Came x.0.names (meaning x.1) (meaning s.1) notes s.0 way)
+      → (IsTrue (meaning x.1).tells → IsWayOf (meaning x.1).held.region way)
+      → StartMoves (meaning (berth_of self)) (meaning s.1) (state_of self) notes (ending.Started way) (IsUp s.0)
+  start_opens self x s way notes is start came found =
+      subst (λ (l : OneLeaf B). StartMoves (meaning (berth_of l)) (meaning s.1) (state_of l) notes (ending.Started way) (IsUp s.0)) (sym is)
+      (StartMoves.opened x.0 s.0 way refl start.3 (λ tells. record { came = came tells; way_is = found tells }) refl refl)
+
+  pub start_carries : (self : OneLeaf B) (x : Seated × B) (s : Serving × B) (way : Way) (notes : List Note) → self ≡ one.Down x
+      → Makes (meaning x.1).clock (meaning s.1).clock x.0 notes s.0.seated
+      → ((others : Tables) (least : List ℕ → List Write) (next : Option LogRecord) → IsTrue (meaning x.1).tells → AreFounded x.0 → Rests (watched_by x.0) others least next (meaning x.1)
+      → StartGoesOn meaning x.0 (meaning x.1) others least next (Ok (s, way)))
+      → Carries (state_of self) (IsUp s.0) notes (meaning (berth_of self)) (meaning s.1)
+  start_carries self x s way notes is made crash =
+      subst (λ (l : OneLeaf B). Carries (state_of l) (IsUp s.0) notes (meaning (berth_of l)) (meaning s.1)) (sym is) (record {
+        made = made;
+        stands = λ base tells founded sound stands.
+            let on = crash base stands.0 stands.1 tells founded stands.2 in
+            record { stands = on.0; told = on.1 };
+      })
+
+  pub start_refused : (self : OneLeaf B) (x y : Seated × B) (f : StartFault) (notes : List Note) (ends : ending.the_data) → self ≡ one.Down x
+      → IsStart x.0 x.1 notes (Err (y, f))
+      → (IsTrue (meaning x.1).tells → Begins (length (meaning x.1).held.disk) (meaning x.1).held.disk (meaning y.1).held.disk)
+      → ((others : Tables) (least : List ℕ → List Write) (next : Option LogRecord) → IsTrue (meaning x.1).tells → AreFounded x.0 → Rests (watched_by x.0) others least next (meaning x.1)
+      → StartGoesOn meaning x.0 (meaning x.1) others least next (Err (y, f)))
+      → ends ≡ ending_of f
+      → StartMoves (meaning (berth_of self)) (meaning y.1) (state_of self) notes ends (IsDown y.0)
+  start_refused self x y f notes ends is start disk crash told =
+      let was : Refused x.0 notes y.0 f = refused x.0 x.1 notes y f start in
+      subst (λ (l : OneLeaf B). StartMoves (meaning (berth_of l)) (meaning y.1) (state_of l) notes ends (IsDown y.0)) (sym is)
+      (StartMoves.refused x.0 f refl was.worn (λ base tells founded stands. (crash base stands.0 stands.1 tells founded stands.2).2) disk was.none told (ap IsDown was.same))
+
+  pub refusal_carries : (self : OneLeaf B) (x y : Seated × B) (f : StartFault) (notes : List Note) → self ≡ one.Down x
+      → Makes (meaning x.1).clock (meaning y.1).clock x.0 notes y.0
+      → ((others : Tables) (least : List ℕ → List Write) (next : Option LogRecord) → IsTrue (meaning x.1).tells → AreFounded x.0 → Rests (watched_by x.0) others least next (meaning x.1)
+      → StartGoesOn meaning x.0 (meaning x.1) others least next (Err (y, f)))
+      → Carries (state_of self) (IsDown y.0) notes (meaning (berth_of self)) (meaning y.1)
+  refusal_carries self x y f notes is made crash =
+      subst (λ (l : OneLeaf B). Carries (state_of l) (IsDown y.0) notes (meaning (berth_of l)) (meaning y.1)) (sym is) (record {
+        made = made;
+        stands = λ base tells founded sound stands.
+            let on = crash base stands.0 stands.1 tells founded stands.2 in
+            record { stands = (stands.0, stands.1, on.0); told = on.1 };
+      })
+
+  -- ---- a flush
+
+  pub flush_moves : (self : OneLeaf B) (x y : Serving × B) (table : ℕ) (notes : List Note) (reply : FlushReply) (ends : ending.the_data) → self ≡ one.Up x
+      → Flushes table x.0 y.0 notes reply
+      → (IsTrue (meaning x.1).tells → (meaning y.1).held.region ≡ (meaning x.1).held.region)
+      → ends ≡ ending_of_flush reply
+      → FlushMoves table (meaning (berth_of self)) (meaning y.1) (state_of self) notes ends (IsUp y.0)
+  flush_moves self x y table notes reply ends is flushes region told =
+      subst (λ (l : OneLeaf B). FlushMoves table (meaning (berth_of l)) (meaning y.1) (state_of l) notes ends (IsUp y.0)) (sym is)
+      (FlushMoves.flushed x.0 y.0 reply refl flushes region told refl)
+
+  pub flush_carries : (self : OneLeaf B) (x y : Serving × B) (notes : List Note) → self ≡ one.Up x
+      → Makes (meaning x.1).clock (meaning y.1).clock x.0.seated notes y.0.seated
+      → (IsTrue (meaning x.1).tells → AreFounded x.0.seated → GoesOn x.0 y.0 (meaning x.1) (meaning y.1))
+      → Carries (state_of self) (IsUp y.0) notes (meaning (berth_of self)) (meaning y.1)
+  flush_carries self x y notes is made crash =
+      subst (λ (l : OneLeaf B). Carries (state_of l) (IsUp y.0) notes (meaning (berth_of l)) (meaning y.1)) (sym is)
+      (runs_carried x.0 y.0 notes (meaning x.1) (meaning y.1) made crash)
+
+  -- ---- a kill
+
+  pub kill_moves : (self : OneLeaf B) (x : Serving × B) (y : Seated × B) (notes : List Note) → self ≡ one.Up x → y.1 ≡ x.1
+      → EachNoted IsClosedNote 0 (length x.0.seated.tables) notes
+      → KillMoves (meaning (berth_of self)) (meaning y.1) (state_of self) notes ending.Done (IsDown y.0)
+  kill_moves self x y notes is berth each =
+      subst (λ (l : OneLeaf B). KillMoves (meaning (berth_of l)) (meaning y.1) (state_of l) notes ending.Done (IsDown y.0)) (sym is)
+      (KillMoves.up x.0 y.0 refl each (ap (λ (b : B). (meaning b).held) berth) refl refl)
+
+  pub kill_carries : (self : OneLeaf B) (x : Serving × B) (y : Seated × B) (notes : List Note) → self ≡ one.Up x → y.1 ≡ x.1
+      → Makes (meaning x.1).clock (meaning x.1).clock x.0.seated notes y.0
+      → ((writes : List ℕ → List Write) → AreFounded x.0.seated → Runs (watched_by x.0.seated) x.0.owing.owner x.0.owing.log writes (meaning x.1)
+      → RestsOn x.0.seated y.0 (meaning x.1) (meaning y.1))
+      → Carries (state_of self) (IsDown y.0) notes (meaning (berth_of self)) (meaning y.1)
+  kill_carries self x y notes is berth made crash =
+      let later : Makes (meaning x.1).clock (meaning y.1).clock x.0.seated notes y.0 =
+      subst (λ (b : B). Makes (meaning x.1).clock (meaning b).clock x.0.seated notes y.0) (sym berth) made in
+      subst (λ (l : OneLeaf B). Carries (state_of l) (IsDown y.0) notes (meaning (berth_of l)) (meaning y.1)) (sym is)
+      (rests_carried (IsUp x.0) y.0 notes (meaning x.1) (meaning y.1) later (λ base founded stands. crash stands.0 founded stands.1))
+
+  pub shutting_kill_moves : (self : OneLeaf B) (x : Shutting × B) (y : Seated × B) (notes : List Note) → self ≡ one.Preparing x → y.1 ≡ x.1
+      → (count : ℕ) × (length x.0.closed + count ≡ length x.0.serving.seated.tables) × EachNoted IsClosedNote (length x.0.closed) count notes
+      → KillMoves (meaning (berth_of self)) (meaning y.1) (state_of self) notes ending.Done (IsDown y.0)
+  shutting_kill_moves self x y notes is berth each =
+      subst (λ (l : OneLeaf B). KillMoves (meaning (berth_of l)) (meaning y.1) (state_of l) notes ending.Done (IsDown y.0)) (sym is)
+      (KillMoves.preparing x.0 y.0 each.0 refl each.1 each.2 (ap (λ (b : B). (meaning b).held) berth) refl refl)
+
+  pub shutting_kill_carries : (self : OneLeaf B) (x : Shutting × B) (y : Seated × B) (notes : List Note) → self ≡ one.Preparing x → y.1 ≡ x.1
+      → Makes (meaning x.1).clock (meaning x.1).clock x.0.serving.seated notes y.0
+      → ((writes : List ℕ → List Write) → AreFounded x.0.serving.seated
+      → Runs (watched_by x.0.serving.seated) x.0.serving.owing.owner x.0.serving.owing.log writes (meaning x.1)
+      → RestsOn x.0.serving.seated y.0 (meaning x.1) (meaning y.1))
+      → Carries (state_of self) (IsDown y.0) notes (meaning (berth_of self)) (meaning y.1)
+  shutting_kill_carries self x y notes is berth made crash =
+      let later : Makes (meaning x.1).clock (meaning y.1).clock x.0.serving.seated notes y.0 =
+      subst (λ (b : B). Makes (meaning x.1).clock (meaning b).clock x.0.serving.seated notes y.0) (sym berth) made in
+      subst (λ (l : OneLeaf B). Carries (state_of l) (IsDown y.0) notes (meaning (berth_of l)) (meaning y.1)) (sym is)
+      (rests_carried (IsPreparing x.0) y.0 notes (meaning x.1) (meaning y.1) later (λ base founded stands. crash stands.0 founded stands.1))
+
+  -- ---- a drain of a leaf that is down
+
+  pub drain_not_up : {E : Type 0} (self : OneLeaf B) (x : Seated × B) (stop : Option ℕ) (lines : Vec Line Global) → self ≡ one.Down x → lines.items ≡ []
+      → Drains {E = E} (meaning (berth_of self)) (meaning x.1) (state_of self) stop ending.NotUp (Ok lines) (IsDown x.0)
+  drain_not_up {E} self x stop lines is none =
+      subst (λ (l : OneLeaf B). Drains {E = E} (meaning (berth_of l)) (meaning x.1) (state_of l) stop ending.NotUp (Ok lines) (IsDown x.0)) (sym is) (record {
+        notes = [];
+        moves = DrainMoves.not_up tt refl refl refl refl;
+        carries = carries_none (IsDown x.0) (meaning x.1);
+        told = none;
+      })
+
+-- ---- its tables stay
+
+pub leaf_keeps : {B : Type 0} (self other : OneLeaf B) (from to : ℕ) (notes : List Note) (y : Seated) → self ≡ other → Makes from to (seats_of other) notes y → Keeps (seats_of self) y
+leaf_keeps self other from to notes y is made = subst (λ (l : OneLeaf _). Keeps (seats_of l) y) (sym is) (makes_keeps from to (seats_of other) notes y made)

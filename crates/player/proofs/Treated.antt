@@ -1,106 +1,110 @@
 -- Steps of a leaf that shuts its tables, one behind another.
-use Rattle.std.proofs.Common.{◌≡◌, ℕ, zero, suc, ◌<◌, ◌≤◌, Bool, true, false, cond, List, [], ◌∷◌, ◌++◌, length, slice_get, Option, Some, None, refl, sym, ap, subst, ◌∙◌, append_assoc, arith}
-use Rattle.std.specs.Str.{bytes_eq}
-use Rattle.std.proofs.lemmas.List.{append-nil, length-set}
-use Rattle.std.proofs.lemmas.Option.{slice_get_within}
-use Rattle.leaf_model.specs.declared.writes.Write.{Write}
-use Rattle.row_records.specs.Records.{LogRecord}
-use Rattle.berth_face.specs.Berth.{Meaning}
+use Rattle.std.proofs.Common.{◌≡◌, suc, ◌-◌, ◌<◌, Bool, true, false, List, [], ◌∷◌, ◌++◌, length, refl, sym, ap, subst, ◌∙◌, le_refl, append_assoc, append-nil, arith}
+use Rattle.std.specs.Prelude.{IsTrue, if◌then◌else◌}
+use Rattle.std.proofs.lemmas.List.{length-append}
+use Rattle.berth_face.specs.Berth.{Meaning, Passes}
+use Rattle.berth_face.proofs.Moments.{passes_none, passes_on}
 use Rattle.table_state.specs.Tables.{Table}
-use Rattle.disk_backup.specs.Settling.{with_writes}
-use Rattle.leaf_opening.specs.Serving.{Serving}
-use Rattle.leaf_opening.specs.Backed.{Backed, untaken, untaken_of, writes_in, all_writes}
-use Rattle.leaf_machine.specs.declared.notes.Note.{Note}
-use Rattle.leaf_machine.specs.Shutting.{Shutting, IsShutting}
-use Rattle.leaf_machine.specs.Flushes.{taken}
+use Rattle.leaf_moments.proofs.Telling.{told_join}
+use Rattle.leaf_steward.specs.declared.notes.Note.{Note}
+use Rattle.leaf_steward.specs.Seated.{AreFounded, watched_by}
+use Rattle.leaf_steward.specs.Making.{Makes}
+use Rattle.leaf_steward.proofs.WatchMakes.{makes_tables}
+use Rattle.leaf_machine.specs.States.{Serving, Shutting, GoesOn, RunsOn, treated}
 use Rattle.leaf_machine.specs.Prepares as prepare
-use Rattle.leaf_machine.specs.Prepares.{Treats, Halts, AllTreated}
-use Rattle.leaf_machine.specs.Copies.{CopyState, Copies}
+use Rattle.leaf_machine.specs.Prepares.{Treats}
+use Rattle.leaf_machine.proofs.UpMaking.{makes_join}
+use Rattle.leaf_machine.proofs.PrepCopies.{goes_none}
+use Rattle.transcript.specs.Stage.{IsPreparing, Carries}
 use Rattle.transcript.specs.Steps as step
-use Rattle.transcript.specs.Steps.{Continues, TreatsOn}
-use Rattle.player.specs.Moves.{HandsOver}
+use Rattle.transcript.specs.Steps.{Part, TreatsOn}
+use Rattle.player.specs.Moves.{SameRegion}
+use Rattle.player.proofs.Carrying.{founded_on}
+
+-- ---- the tables that are treated
+
+-- a leaf with tables left treats one
+pub record TreatsNext (x y : Shutting) (notes : List Note) : Type 0 where
+  pub few : treated x < length x.serving.seated.tables
+  pub one : Treats x y notes
+  pub part : Part x.serving.seated notes y.serving.seated
 
 -- one table more
-pub treats_more : {x : Shutting} {a : List Note} {y : Shutting} → TreatsOn x a y → (z : Shutting) (b : List Note) → Treats y z b → z.serving.names ≡ y.serving.names → TreatsOn x (a ++ b) z
-treats_more (step.none x a y empty same) z b one names =
-    step.more x (a ++ b) z b [] z (subst (λ (w : Shutting). Treats w z b) same one) (names ∙ ap (λ (w : Shutting). w.serving.names) same) (step.none z [] z refl refl)
-    (ap (λ (ns : List Note). ns ++ b) empty ∙ sym (append-nil b))
-treats_more (step.more x a y first others between head named tail split) z b one names =
-    step.more x (a ++ b) z first (others ++ b) between head named (treats_more tail z b one names)
-    (ap (λ (ns : List Note). ns ++ b) split ∙ append_assoc first others b)
+pub treats_more : {x : Shutting} {a : List Note} {y : Shutting} → TreatsOn x a y → (z : Shutting) (b : List Note) → TreatsNext y z b → TreatsOn x (a ++ b) z
+treats_more (step.none x a y empty same) z b next =
+    let here : TreatsNext x z b = subst (λ (w : Shutting). TreatsNext w z b) same next in
+    step.more x (a ++ b) z b [] z here.few here.one here.part (step.none z [] z refl refl) (ap (λ (ns : List Note). ns ++ b) empty ∙ sym (append-nil b))
+treats_more (step.more x a y first others between few one part tail split) z b next =
+    step.more x (a ++ b) z first (others ++ b) between few one part (treats_more tail z b next) (ap (λ (ns : List Note). ns ++ b) split ∙ append_assoc first others b)
 
--- the leaf goes on, and then goes on
-pub continues_on : (s t u : Serving) (a b c : Meaning) → Continues s t a b → Continues t u b c → Continues s u a c
-continues_on s t u a b c one two = record {
-  goes_on = λ writes backed.
-      let first = one.goes_on writes backed in
-      let second = two.goes_on first.0 first.1 in
-      (second.0, second.1, λ name. second.2 name ∙ first.2 name);
-  region = two.region ∙ one.region;
+-- none more
+pub treats_still : (x : Shutting) (a b : List Note) (y : Shutting) → b ≡ [] → TreatsOn x a y → TreatsOn x (a ++ b) y
+treats_still x a b y none treats = subst (λ (ns : List Note). TreatsOn x ns y) (sym (append-nil a) ∙ ap (λ (ns : List Note). a ++ ns) (sym none)) treats
+
+by_shut : (x : Shutting) (b : Bool) → x.shut ≡ b → treated x ≡ (if b then length x.closed - 1 else length x.closed)
+by_shut x b e = ap (λ (s : Bool). if s then length x.closed - 1 else length x.closed) e
+
+-- one more is treated; a table that was shut before is among those that are
+pub one_treated : (x y : Shutting) (notes : List Note) → (IsTrue x.shut → 0 < length x.closed) → Treats x y notes → treated y ≡ suc (treated x)
+one_treated x y notes some (prepare.whole first closing flushing n content open_ noted all closed shut none) =
+    let count : length y.closed ≡ length (x.closed ++ content ∷ []) = ap (λ (ts : List Table). length ts) closed in
+    let sum = length-append x.closed (content ∷ []) in
+    omega (arith, by_shut y false shut, by_shut x false open_, count, sum)
+one_treated x y notes some (prepare.rest half noted closed shut none) =
+    let count : length y.closed ≡ length x.closed = ap (λ (ts : List Table). length ts) closed in
+    omega (arith, by_shut y false shut, by_shut x true half, count, some half)
+
+-- ---- the leaf goes on
+
+pub goes_join : (s t u : Serving) (a b c : Meaning) → GoesOn s t a b → GoesOn t u b c → GoesOn s u a c
+goes_join s t u a b c first second writes runs =
+    let one : RunsOn s t a b = first writes runs in
+    let two : RunsOn t u b c = second one.later one.runs in
+    record {
+      later = two.later;
+      runs = two.runs;
+      told = λ others. told_join others (watched_by s.seated) (watched_by t.seated) (watched_by u.seated) a b c (one.told others) (two.told others);
+    }
+
+-- the steward made entries with these notes, the leaf went on, and the region is as it was
+pub record GoesFar (x y : Shutting) (notes : List Note) (m n : Meaning) : Type 0 where
+  pub made : Makes m.clock n.clock x.serving.seated notes y.serving.seated
+  pub goes : IsTrue m.tells → AreFounded x.serving.seated → GoesOn x.serving y.serving m n
+  pub region : SameRegion m n
+  pub passes : Passes m n
+
+pub far_none : (x : Shutting) (m : Meaning) → GoesFar x x [] m m
+far_none x m = record {
+  made = Makes.none m.clock m.clock x.serving.seated [] x.serving.seated (le_refl m.clock) refl refl;
+  goes = λ tells founded. goes_none x.serving m;
+  region = λ tells. refl;
+  passes = passes_none m;
 }
 
-pub continues_none : (s : Serving) (a : Meaning) → Continues s s a a
-continues_none s a = record { goes_on = λ writes backed. (writes, backed, λ name. refl); region = refl }
+module _ (x y : Shutting) (first : List Note) (a b : Meaning) (far : GoesFar x y first a b) where
+  -- it has as many tables, and they are founded still
+  pub far_tables : length y.serving.seated.tables ≡ length x.serving.seated.tables
+  far_tables = ap (λ ts. length ts) (makes_tables a.clock b.clock x.serving.seated first y.serving.seated far.made)
 
--- ---- the table that is treated
+  pub far_founded : AreFounded x.serving.seated → AreFounded y.serving.seated
+  far_founded = founded_on x.serving.seated y.serving.seated (makes_tables a.clock b.clock x.serving.seated first y.serving.seated far.made)
 
-within_whole : (x : Shutting) (t : Table) → slice_get x.serving.tables x.treated ≡ Some t → x.treated < length x.serving.tables
-within_whole x t at = slice_get_within x.serving.tables x.treated t at
+  pub far_tells : IsTrue a.tells → IsTrue b.tells
+  far_tells tells = far.passes.tells ∙ tells
 
--- it has as many tables, and one more is treated
-pub same_tables : (x y : Shutting) (notes : List Note) → Treats x y notes → length y.serving.tables ≡ length x.serving.tables
-same_tables x y notes (prepare.whole t shut at noted tables owed treated open_) = ap length tables ∙ length-set x.serving.tables x.treated (taken t)
-same_tables x y notes (prepare.rest t shut at noted tables owed treated open_) = ap length tables
+  pub far_on : (z : Shutting) (second : List Note) (c : Meaning) → GoesFar y z second b c → GoesFar x z (first ++ second) a c
+  far_on z second c later = record {
+    made = makes_join a.clock b.clock c.clock x.serving.seated y.serving.seated z.serving.seated first second far.made later.made;
+    goes = λ tells founded. goes_join x.serving y.serving z.serving a b c (far.goes tells founded) (later.goes (far_tells tells) (far_founded founded));
+    region = λ tells. later.region (far_tells tells) ∙ far.region tells;
+    passes = passes_on a b c far.passes later.passes;
+  }
 
-pub one_treated : (x y : Shutting) (notes : List Note) → Treats x y notes → y.treated ≡ suc x.treated
-one_treated x y notes (prepare.whole t shut at noted tables owed treated open_) = treated
-one_treated x y notes (prepare.rest t shut at noted tables owed treated open_) = treated
-
-treated_few : (shut : Bool) (treated count : ℕ) → cond shut (suc treated) treated ≤ count → treated ≤ count
-treated_few true treated count le = omega (arith, le)
-treated_few false treated count le = le
-
--- where the disk fails, a table is left
-pub one_left : (x z : Shutting) (notes : List Note) → IsShutting x → Halts x z notes → x.treated < length x.serving.tables
-one_left x z notes is (prepare.half t r shut at pending noted tables owed owner count treated now) = within_whole x t at
-one_left x z notes is (prepare.stuck r owed noted tables same owner count treated now) =
-    by (x.treated) (length x.serving.tables) (treated_few x.shut x.treated (length x.serving.tables) is.few) (λ at_end. none r (sym owed ∙ is.settled at_end))
-  where
-    none : (r : LogRecord) → Some r ≡ None → ⊥
-    none r e = absurd cc
-
-    by : (n count : ℕ) → n ≤ count → (n ≡ count → ⊥) → n < count
-    by n count le not_end = omega (arith, le, not_end)
-
--- ---- a leaf all of whose tables are treated
-
-none_untaken : (names : List (List ℕ)) (tables : List Table) (name : List ℕ) → ((place : ℕ) (t : Table) → slice_get tables place ≡ Some t → t.pending ≡ None) → untaken_of names tables name ≡ []
-none_untaken [] tables name none = refl
-none_untaken (n ∷ names) [] name none = refl
-none_untaken (n ∷ names) (t ∷ tables) name none =
-    either (bytes_eq name n) (untaken t) (untaken_of names tables name) (ap writes_in (none zero t refl)) (none_untaken names tables name (λ place u at. none (suc place) u at))
-  where
-    either : (b : Bool) (these others : List Write) → these ≡ [] → others ≡ [] → cond b these others ≡ []
-    either true these others t o = t
-    either false these others t o = o
-
-open_is : (shut : Bool) (treated : ℕ) → treated ≤ cond shut (suc treated) treated
-open_is true treated = omega arith
-open_is false treated = omega arith
-
--- the log has all that it accepted
-pub all_settled : (x : Shutting) (writes : List ℕ → List Write) (name : List ℕ) → IsShutting x → AllTreated x → all_writes x.serving writes name ≡ writes name
-all_settled x writes name is treated =
-    ap (λ (owed : Option LogRecord). with_writes owed writes name ++ untaken_of x.serving.names x.serving.tables name) (is.settled treated)
-    ∙ ap (λ (ws : List Write). writes name ++ ws) (none_untaken x.serving.names x.serving.tables name each)
-    ∙ append-nil (writes name)
-  where
-    each : (place : ℕ) (t : Table) → slice_get x.serving.tables place ≡ Some t → t.pending ≡ None
-    each place t at = is.taken place t (omega (arith, slice_get_within x.serving.tables place t at, treated, open_is x.shut x.treated)) at
-
--- what goes on and is copied is handed over
-pub hands_over : (x y : Shutting) (m n o : Meaning) (c : CopyState) → IsShutting y → AllTreated y → Continues x.serving y.serving m n
-    → ((writes : List ℕ → List Write) → Backed writes y.serving n → Copies writes c o) → HandsOver x m c o
-hands_over x y m n o c is treated so_far copies = λ writes backed.
-    let later = so_far.goes_on writes backed in
-    (later.0, copies later.0 later.1, λ name. sym (all_settled y later.0 name is treated) ∙ later.2 name)
+  -- so what stood of it stands
+  pub far_carries : Carries (IsPreparing x) (IsPreparing y) first a b
+  far_carries = record {
+    made = far.made;
+    stands = λ base tells founded sound stands.
+        let on : RunsOn x.serving y.serving a b = far.goes tells founded stands.0 stands.1 in
+        record { stands = (on.later, on.runs); told = on.told base };
+  }

@@ -1,24 +1,15 @@
 // A query's table, and its answer.
-ghost use Rattle.std.specs.Prelude.{◌≡◌, ◌<◌, ◌≤◌, ◌^◌, [], length, IfOk};
+ghost use Rattle.std.specs.Prelude.{◌≡◌, ◌<◌, ◌^◌, length, IfOk};
 ghost use Rattle.std.specs.List.{position};
 ghost use Rattle.std.specs.Str.{bytes_eq};
-ghost use Rattle.answer_text.specs.Answer.{answer_lines};
-ghost use Rattle.printed_lines.specs.declared.line.Said.TheVariants.{Asked};
+ghost use Rattle.transcript.specs.Steps.{AnswersWith};
 ghost use Rattle.transcript.specs.Transcript.{place_of};
+ghost use Rattle.player.specs.Stage.{IsAnswer, named_by_reply};
 
 use answer_text::lines;
-use leaf_model::{Groups, Names, Query, Text, Texts};
-use printed_lines::Said;
+use leaf_model::{Names, Query, Text, Texts};
+use leaf_table::Reply;
 use std::alloc::{AllocError, Global};
-
-/// What a leaf replied to a query.
-#[derive(Drop)]
-pub struct Reply {
-    pub said: Said,
-    /// 1 where it answered, else 0.
-    pub named: u64,
-    pub rows: Texts,
-}
 
 /// The place of the first table of that name, or the number of tables.
 pub fn place_of(names: &Names, name: &str) -> u32
@@ -38,24 +29,24 @@ fn position_of(names: &[Text], name: &str) -> Option<usize>
     names.iter().position(|other| name == other.as_str())
 }
 
-/// The reply of a table whose rows have these groups.
-pub fn answered(alloc: Global, query: &Query, groups: &Groups) -> Result<Reply, AllocError>
-    ensures { IfOk result (λ reply. (reply.said ≡ Asked) × (reply.named ≡ 1) × (reply.rows ≡ answer_lines query.now groups.now)) }
+/// The lines of the answer to a query that had this reply: none where the table did not answer.
+pub fn answer_rows(alloc: Global, query: &Query, reply: &Reply) -> Result<Texts, AllocError>
+    requires { IsAnswer reply.now }
+    ensures { IfOk result (AnswersWith query.now reply.now) }
 {
-    Ok(Reply {
-        said: Said::Asked,
-        named: 1,
-        rows: Texts::of(lines(alloc, query, groups)?.into_inner()),
-    })
+    match reply {
+        Reply::Groups { groups, .. } => Ok(Texts::of(lines(alloc, query, groups)?.into_inner())),
+        Reply::Shut { .. } | Reply::NoMemory { .. } | Reply::Worn => Ok(Texts::of(Vec::new(alloc))),
+        Reply::Added { .. } | Reply::Removed { .. } | Reply::Full { .. } => unreachable!(),
+    }
 }
 
-/// The reply of a table that does not answer, for this reason.
-pub fn refused(alloc: Global, said: Said) -> Reply
-    ensures { (result.said ≡ said) × (result.named ≡ 0) × (result.rows ≡ []) }
+/// How many leaves answered with this reply.
+pub fn named(reply: &Reply) -> u64
+    ensures { result ≡ named_by_reply reply.now }
 {
-    Reply {
-        said,
-        named: 0,
-        rows: Texts::of(Vec::new(alloc)),
+    match reply {
+        Reply::Groups { .. } => 1,
+        _ => 0,
     }
 }

@@ -1,189 +1,215 @@
-// What each command does to a leaf, and the lines that it prints.
-ghost use Rattle.std.specs.Prelude.{◌≡◌, ◌<◌, length, IfOk};
+// What each command does to a leaf and its callers' seats, and the lines that it prints.
+ghost use Rattle.std.specs.Prelude.{◌≡◌, ◌<◌, ◌≤◌, length, IfOk};
 ghost use Rattle.std.specs.List.{AllByRecursion};
 ghost use Rattle.berth_face.specs.Berth.{Passes};
 ghost use Rattle.leaf_model.specs.Values.{IsRow};
 ghost use Rattle.transcript.specs.Steps.{StartStep, FlushStep, KillStep, DrainStep, AddStep, QueryStep, MayPlay, Plays};
 ghost use Rattle.transcript.specs.Transcript.{place_of};
-ghost use Rattle.player.specs.Stage.{Fits, IsCall, state_of, berth_of};
-ghost use Rattle.player.specs.Moves.{AreSound};
+ghost use Rattle.player.specs.Stage.{Fits, IsCall, berth_of, seats_of, state_of};
+ghost use Rattle.player.specs.Moves.{AreSound, IsCalm};
 
-use crate::answer::place_of;
-use crate::entries::{next_entry, steward_lines, with_ending};
+use crate::answer::{answer_rows, named, place_of};
+use crate::callers::Callers;
+use crate::entries::{call_line, steward_lines, with_ending};
 use crate::leaf::OneLeaf;
-use berth_face::Berth;
+use berth_face::{Berth, Gate};
 use leaf_machine::Notes;
 use leaf_model::{Names, Query, Rows};
 use printed_lines::{Line, Verb};
 use script_text::Command;
 use std::alloc::{AllocError, Global};
+use std::sync::Wait;
 
-/// Does what the command says.
-pub fn play_command<B: Berth>(
+/// Does what the command says. A steward's command lets all seats meet before it and behind it.
+pub fn play_command<'t, R: Wait, B: Berth, G: Gate>(
+    rt: &R,
     alloc: Global,
+    gate: &G,
     names: &Names,
-    leaf: OneLeaf<B>,
-    numbers: &mut Vec<u64>,
+    leaf: OneLeaf<'t, B>,
+    callers: &mut Callers<'t>,
     command: Command,
-) -> (OneLeaf<B>, Result<Vec<Line>, AllocError>)
-    requires fit { Fits names.now leaf numbers.old.items }
+) -> (OneLeaf<'t, B>, Result<Vec<Line>, AllocError>)
+    requires fit { Fits names.now (seats_of leaf) callers.old }
     requires may { MayPlay names.now command }
-    ensures fits { Fits names.now result.0 numbers.new.items }
-    ensures plays { IfOk result.1 (λ lines. Plays names.now (B.meaning (berth_of leaf)) (B.meaning (berth_of result.0)) command (state_of leaf) numbers.old.items lines.items (state_of result.0) numbers.new.items) }
-    ensures time { Passes (B.meaning (berth_of leaf)) (B.meaning (berth_of result.0)) }
-    ensures kept { IsCall command → berth_of result.0 ≡ berth_of leaf }
-    ensures sound { IfOk result.1 (λ lines. AreSound names.now (B.meaning (berth_of leaf)) (B.meaning (berth_of result.0)) lines.items) }
+    ensures fits { Fits names.now (seats_of result.0) callers.new }
+    ensures plays { IfOk result.1 (λ lines. Plays B.meaning names.now command (state_of leaf.entry) callers.old.seats (berth_of leaf.entry) lines.items (state_of result.0) callers.new.seats (berth_of result.0)) }
+    ensures time { Passes (B.meaning (berth_of leaf.entry)) (B.meaning (berth_of result.0)) }
+    ensures kept { IsCall command → berth_of result.0 ≡ berth_of leaf.entry }
+    ensures sound { IfOk result.1 (λ lines. AreSound names.now (B.meaning (berth_of leaf.entry)) (B.meaning (berth_of result.0)) lines.items) }
 {
-    let mut leaf = leaf;
     match command {
         Command::Fleet {
             machines: _machines,
             per_machine: _per_machine,
             tables: _tables,
-        } => start(alloc, names, leaf, numbers),
-        Command::Start(_leaf) => start(alloc, names, leaf, numbers),
-        Command::Kill(_leaf) => kill(alloc, names, leaf, numbers),
-        Command::Drain { leaf: _leaf, stop } => drain(alloc, names, leaf, stop, numbers),
-        Command::Flush { leaf: _leaf, table } => {
-            let lines = flush(alloc, names, &mut leaf, numbers, table);
-            (leaf, lines)
-        }
+        } => start(rt, alloc, gate, names, leaf, callers),
+        Command::Start(_leaf) => start(rt, alloc, gate, names, leaf, callers),
+        Command::Kill(_leaf) => kill(rt, alloc, gate, names, leaf, callers),
+        Command::Drain { leaf: _leaf, stop } => drain(rt, alloc, gate, names, leaf, callers, stop),
+        Command::Flush { leaf: _leaf, table } => flush(
+            rt, alloc, gate, names, leaf, callers, table,
+        ),
         Command::Add {
             leaf: _leaf,
             table,
             rows,
         } => {
-            let lines = add(alloc, names, &mut leaf, numbers, table, rows);
+            let lines = add(rt, alloc, gate, names, callers, table, rows);
             (leaf, lines)
         }
         Command::Query(query) => {
-            let lines = ask(alloc, names, &leaf, numbers, &query);
+            let lines = ask(rt, alloc, gate, names, callers, &query);
             (leaf, lines)
         }
     }
 }
 
 /// Starts the leaf.
-fn start<B: Berth>(
+fn start<'t, R: Wait, B: Berth, G: Gate>(
+    rt: &R,
     alloc: Global,
+    gate: &G,
     names: &Names,
-    leaf: OneLeaf<B>,
-    numbers: &mut Vec<u64>,
-) -> (OneLeaf<B>, Result<Vec<Line>, AllocError>)
-    requires { Fits names.now leaf numbers.old.items }
-    ensures fits { Fits names.now result.0 numbers.new.items }
-    ensures starts { IfOk result.1 (λ lines. StartStep names.now (B.meaning (berth_of leaf)) (B.meaning (berth_of result.0)) (state_of leaf) numbers.old.items lines.items (state_of result.0) numbers.new.items) }
-    ensures time { Passes (B.meaning (berth_of leaf)) (B.meaning (berth_of result.0)) }
-    ensures sound { IfOk result.1 (λ lines. AreSound names.now (B.meaning (berth_of leaf)) (B.meaning (berth_of result.0)) lines.items) }
+    leaf: OneLeaf<'t, B>,
+    callers: &mut Callers<'t>,
+) -> (OneLeaf<'t, B>, Result<Vec<Line>, AllocError>)
+    requires { Fits names.now (seats_of leaf) callers.old }
+    ensures fits { Fits names.now (seats_of result.0) callers.new }
+    ensures starts { IfOk result.1 (λ lines. StartStep (B.meaning (berth_of leaf.entry)) (B.meaning (berth_of result.0)) (state_of leaf.entry) callers.old.seats lines.items (state_of result.0) callers.new.seats) }
+    ensures time { Passes (B.meaning (berth_of leaf.entry)) (B.meaning (berth_of result.0)) }
+    ensures sound { IfOk result.1 (λ lines. AreSound names.now (B.meaning (berth_of leaf.entry)) (B.meaning (berth_of result.0)) lines.items) }
 {
+    let mut leaf = leaf;
+    callers.meet(&mut leaf);
     let mut notes = Notes::new();
-    let (leaf, ending) = leaf.start(alloc, &mut notes);
-    let lines = steward_lines(alloc, numbers, &notes, Verb::Start, ending);
-    (leaf, lines)
+    let (mut started, ending) = leaf.start(rt, alloc, gate, &mut notes);
+    callers.meet(&mut started);
+    let lines = steward_lines(alloc, &notes, Verb::Start, ending);
+    (started, lines)
 }
 
 /// Flushes the table in that place.
-fn flush<B: Berth>(
+fn flush<'t, R: Wait, B: Berth, G: Gate>(
+    rt: &R,
     alloc: Global,
+    gate: &G,
     names: &Names,
-    leaf: &mut OneLeaf<B>,
-    numbers: &mut Vec<u64>,
+    leaf: OneLeaf<'t, B>,
+    callers: &mut Callers<'t>,
     table: u32,
-) -> Result<Vec<Line>, AllocError>
-    requires fit { Fits names.now leaf.old numbers.old.items }
+) -> (OneLeaf<'t, B>, Result<Vec<Line>, AllocError>)
+    requires fit { Fits names.now (seats_of leaf) callers.old }
     requires table { table < length names.now }
-    ensures fits { Fits names.now leaf.new numbers.new.items }
-    ensures flushes { IfOk result (λ lines. FlushStep table (B.meaning (berth_of leaf.old)) (B.meaning (berth_of leaf.new)) (state_of leaf.old) numbers.old.items lines.items (state_of leaf.new) numbers.new.items) }
-    ensures time { Passes (B.meaning (berth_of leaf.old)) (B.meaning (berth_of leaf.new)) }
-    ensures sound { IfOk result (λ lines. AreSound names.now (B.meaning (berth_of leaf.old)) (B.meaning (berth_of leaf.new)) lines.items) }
+    ensures fits { Fits names.now (seats_of result.0) callers.new }
+    ensures flushes { IfOk result.1 (λ lines. FlushStep table (B.meaning (berth_of leaf.entry)) (B.meaning (berth_of result.0)) (state_of leaf.entry) callers.old.seats lines.items (state_of result.0) callers.new.seats) }
+    ensures time { Passes (B.meaning (berth_of leaf.entry)) (B.meaning (berth_of result.0)) }
+    ensures sound { IfOk result.1 (λ lines. AreSound names.now (B.meaning (berth_of leaf.entry)) (B.meaning (berth_of result.0)) lines.items) }
 {
+    let mut leaf = leaf;
+    callers.meet(&mut leaf);
     let mut notes = Notes::new();
-    let ending = leaf.flush(table, &mut notes);
-    steward_lines(alloc, numbers, &notes, Verb::Flush, ending)
-}
-
-/// Kills the leaf.
-fn kill<B: Berth>(
-    alloc: Global,
-    names: &Names,
-    leaf: OneLeaf<B>,
-    numbers: &mut Vec<u64>,
-) -> (OneLeaf<B>, Result<Vec<Line>, AllocError>)
-    requires { Fits names.now leaf numbers.old.items }
-    ensures fits { Fits names.now result.0 numbers.new.items }
-    ensures kills { IfOk result.1 (λ lines. KillStep (B.meaning (berth_of leaf)) (B.meaning (berth_of result.0)) (state_of leaf) numbers.old.items lines.items (state_of result.0) numbers.new.items) }
-    ensures time { Passes (B.meaning (berth_of leaf)) (B.meaning (berth_of result.0)) }
-    ensures sound { IfOk result.1 (λ lines. AreSound names.now (B.meaning (berth_of leaf)) (B.meaning (berth_of result.0)) lines.items) }
-{
-    let mut notes = Notes::new();
-    let (leaf, ending) = leaf.kill(&mut notes);
-    let lines = steward_lines(alloc, numbers, &notes, Verb::Kill, ending);
+    let ending = leaf.flush(rt, table, gate, &mut notes);
+    callers.meet(&mut leaf);
+    let lines = steward_lines(alloc, &notes, Verb::Flush, ending);
     (leaf, lines)
 }
 
-/// Drains the leaf, and stops that after so many steps where it has not ended by then.
-fn drain<B: Berth>(
+/// Kills the leaf.
+fn kill<'t, R: Wait, B: Berth, G: Gate>(
+    rt: &R,
     alloc: Global,
+    gate: &G,
     names: &Names,
-    leaf: OneLeaf<B>,
-    stop: Option<u32>,
-    numbers: &mut Vec<u64>,
-) -> (OneLeaf<B>, Result<Vec<Line>, AllocError>)
-    requires { Fits names.now leaf numbers.old.items }
-    ensures fits { Fits names.now result.0 numbers.new.items }
-    ensures drains { IfOk result.1 (λ lines. DrainStep stop (B.meaning (berth_of leaf)) (B.meaning (berth_of result.0)) (state_of leaf) numbers.old.items lines.items (state_of result.0) numbers.new.items) }
-    ensures time { Passes (B.meaning (berth_of leaf)) (B.meaning (berth_of result.0)) }
-    ensures sound { IfOk result.1 (λ lines. AreSound names.now (B.meaning (berth_of leaf)) (B.meaning (berth_of result.0)) lines.items) }
+    leaf: OneLeaf<'t, B>,
+    callers: &mut Callers<'t>,
+) -> (OneLeaf<'t, B>, Result<Vec<Line>, AllocError>)
+    requires { Fits names.now (seats_of leaf) callers.old }
+    ensures fits { Fits names.now (seats_of result.0) callers.new }
+    ensures kills { IfOk result.1 (λ lines. KillStep (B.meaning (berth_of leaf.entry)) (B.meaning (berth_of result.0)) (state_of leaf.entry) callers.old.seats lines.items (state_of result.0) callers.new.seats) }
+    ensures time { Passes (B.meaning (berth_of leaf.entry)) (B.meaning (berth_of result.0)) }
+    ensures sound { IfOk result.1 (λ lines. AreSound names.now (B.meaning (berth_of leaf.entry)) (B.meaning (berth_of result.0)) lines.items) }
 {
-    let (leaf, ending, lines) = leaf.drain(alloc, stop, numbers);
-    (leaf, with_ending(lines, Verb::Drain, ending))
+    let mut leaf = leaf;
+    callers.meet(&mut leaf);
+    let mut notes = Notes::new();
+    let (mut killed, ending) = leaf.kill(rt, gate, &mut notes);
+    callers.meet(&mut killed);
+    let lines = steward_lines(alloc, &notes, Verb::Kill, ending);
+    (killed, lines)
+}
+
+/// Drains the leaf, and stops that after so many steps where it has not ended by then.
+fn drain<'t, R: Wait, B: Berth, G: Gate>(
+    rt: &R,
+    alloc: Global,
+    gate: &G,
+    names: &Names,
+    leaf: OneLeaf<'t, B>,
+    callers: &mut Callers<'t>,
+    stop: Option<u32>,
+) -> (OneLeaf<'t, B>, Result<Vec<Line>, AllocError>)
+    requires { Fits names.now (seats_of leaf) callers.old }
+    ensures fits { Fits names.now (seats_of result.0) callers.new }
+    ensures drains { IfOk result.1 (λ lines. DrainStep stop (B.meaning (berth_of leaf.entry)) (B.meaning (berth_of result.0)) (state_of leaf.entry) callers.old.seats lines.items (state_of result.0) callers.new.seats) }
+    ensures time { Passes (B.meaning (berth_of leaf.entry)) (B.meaning (berth_of result.0)) }
+    ensures sound { IfOk result.1 (λ lines. AreSound names.now (B.meaning (berth_of leaf.entry)) (B.meaning (berth_of result.0)) lines.items) }
+{
+    let mut leaf = leaf;
+    callers.meet(&mut leaf);
+    let (mut drained, ending, lines) = leaf.drain(rt, alloc, gate, stop);
+    callers.meet(&mut drained);
+    (drained, with_ending(lines, Verb::Drain, ending))
 }
 
 /// Adds rows to the table in that place.
-fn add<B: Berth>(
+fn add<'t, R: Wait, G: Gate>(
+    rt: &R,
     alloc: Global,
+    gate: &G,
     names: &Names,
-    leaf: &mut OneLeaf<B>,
-    numbers: &mut Vec<u64>,
+    callers: &mut Callers<'t>,
     table: u32,
     rows: Rows,
 ) -> Result<Vec<Line>, AllocError>
-    requires fit { Fits names.now leaf.old numbers.old.items }
-    requires table { table < length names.now }
+    requires table { table < length callers.old.tables }
+    requires names { length names.now ≡ length callers.old.tables }
     requires rows { AllByRecursion IsRow rows }
-    ensures fits { Fits names.now leaf.new numbers.new.items }
-    ensures adds { IfOk result (λ lines. AddStep table rows (B.meaning (berth_of leaf.old)) (B.meaning (berth_of leaf.new)) (state_of leaf.old) numbers.old.items lines.items (state_of leaf.new) numbers.new.items) }
-    ensures berth { berth_of leaf.new ≡ berth_of leaf.old }
-    ensures sound { IfOk result (λ lines. AreSound names.now (B.meaning (berth_of leaf.old)) (B.meaning (berth_of leaf.new)) lines.items) }
+    ensures adds { IfOk result (λ lines. AddStep table rows callers.old.tables callers.old.seats lines.items callers.new.seats) }
+    ensures same { callers.new.tables ≡ callers.old.tables }
+    ensures calm { IfOk result (λ lines. IsCalm names.now lines.items) }
 {
-    let said = leaf.add(table, rows);
+    let reply = callers.add(rt, table, rows, gate);
     let mut lines = Vec::new(alloc);
-    lines.push(next_entry(numbers, table, said)?)?;
+    lines.push(call_line(table, &reply))?;
     Ok(lines)
 }
 
 /// Asks the query's table.
-fn ask<B: Berth>(
+fn ask<'t, R: Wait, G: Gate>(
+    rt: &R,
     alloc: Global,
+    gate: &G,
     names: &Names,
-    leaf: &OneLeaf<B>,
-    numbers: &mut Vec<u64>,
+    callers: &mut Callers<'t>,
     query: &Query,
 ) -> Result<Vec<Line>, AllocError>
-    requires fit { Fits names.now leaf.now numbers.old.items }
-    requires table { place_of query.now.table names.now < length names.now }
-    ensures fits { Fits names.now leaf.now numbers.new.items }
-    ensures asks { IfOk result (λ lines. QueryStep (place_of query.now.table names.now) query.now (state_of leaf.now) numbers.old.items lines.items numbers.new.items) }
-    ensures sound { IfOk result (λ lines. AreSound names.now (B.meaning (berth_of leaf.now)) (B.meaning (berth_of leaf.now)) lines.items) }
+    requires table { place_of query.now.table names.now < length callers.old.tables }
+    requires names { length names.now ≡ length callers.old.tables }
+    requires few { length names.now ≤ 16 }
+    ensures asks { IfOk result (λ lines. QueryStep (place_of query.now.table names.now) query.now callers.old.tables callers.old.seats lines.items callers.new.seats) }
+    ensures same { callers.new.tables ≡ callers.old.tables }
+    ensures calm { IfOk result (λ lines. IsCalm names.now lines.items) }
 {
     let table = place_of(names, query.table.as_str());
-    let reply = leaf.ask(alloc, table, query)?;
+    let reply = callers.ask(rt, table, query, gate);
+    let rows = answer_rows(alloc, query, &reply)?;
     let mut lines = Vec::new(alloc);
-    lines.push(next_entry(numbers, table, reply.said)?)?;
+    lines.push(call_line(table, &reply))?;
     lines.push(Line::Answer {
-        named: reply.named,
+        named: named(&reply),
         leaves: 1,
-        rows: reply.rows,
+        rows,
     })?;
     Ok(lines)
 }

@@ -1,61 +1,71 @@
-// The lines of entries, and of what a steward's command did.
-ghost use Rattle.std.specs.Prelude.{◌≡◌, ◌<◌, ◌∷◌, ◌++◌, [], length, IfOk, OnOk, MatchResult};
-ghost use Rattle.printed_lines.specs.declared.line.Line.TheVariants.{Ended};
-ghost use Rattle.transcript.specs.Steps.{StewardLines, next_line, note_lines, numbers_after, raised, said_of_note};
-ghost use Rattle.player.specs.Moves.{AreAdded, ArePlaces};
+// The lines of calls and of what a steward's command did.
+ghost use Rattle.std.specs.Prelude.{◌≡◌, ◌∷◌, ◌++◌, [], IfOk, OnOk, MatchResult};
+ghost use Rattle.printed_lines.specs.declared.line.Line.TheVariants.{Ended, Entry};
+ghost use Rattle.transcript.specs.Steps.{Says, note_line, note_lines, said_of_note};
+ghost use Rattle.player.specs.Stage.{IsKnown};
+ghost use Rattle.player.specs.Moves.{AreAdded};
 
-use leaf_machine::{Notes, What};
+use leaf_machine::{Note, Notes, What};
+use leaf_table::Reply;
 use printed_lines::{Ending, Line, Said, Verb};
 use std::alloc::{AllocError, Global};
 
-/// The line of a table's next entry, which takes the table's next number.
-/// A table with 2^64 - 1 entries, which no run reaches, answers want of memory.
-pub fn next_entry(numbers: &mut Vec<u64>, table: u32, said: Said) -> Result<Line, AllocError>
-    requires { table < length numbers.old.items }
-    ensures line { IfOk result (λ line. line ≡ next_line numbers.old.items table said) }
-    ensures raised { OnOk result (numbers.new.items ≡ raised numbers.old.items table) }
-    ensures same_length { length numbers.new.items ≡ length numbers.old.items }
+/// The line of a reply to an add or a query of that table.
+pub fn call_line(table: u32, reply: &Reply) -> Line
+    requires { IsKnown reply.now }
+    ensures { Says table reply.now result }
 {
-    let Some(number) = numbers[table as usize].checked_add(1) else {
-        return Err(AllocError);
-    };
-    numbers[table as usize] = number;
-    Ok(Line::Entry {
+    match reply {
+        Reply::Added { number, kept, late } => entry(
+            table,
+            *number,
+            Said::Added {
+                kept: *kept,
+                late: *late,
+            },
+        ),
+        Reply::Groups { number, .. } => entry(table, *number, Said::Asked),
+        Reply::Shut { number } => entry(table, *number, Said::RefusedShut),
+        Reply::Full { number } => entry(table, *number, Said::RefusedFull),
+        Reply::NoMemory { number } => entry(table, *number, Said::RefusedMemory),
+        Reply::Worn => Line::Worn { leaf: 0, table },
+        Reply::Removed { .. } => unreachable!(),
+    }
+}
+
+fn entry(table: u32, number: u64, said: Said) -> Line
+    ensures { result ≡ Entry 0 table number said }
+{
+    Line::Entry {
         leaf: 0,
         table,
         number,
         said,
-    })
+    }
 }
 
 /// The lines of a command that made these notes: one for each, and how it ended.
 pub fn steward_lines(
     alloc: Global,
-    numbers: &mut Vec<u64>,
     notes: &Notes,
     verb: Verb,
     ending: Ending,
 ) -> Result<Vec<Line>, AllocError>
-    requires { ArePlaces (length numbers.old.items) notes.now }
-    ensures prints { IfOk result (λ lines. StewardLines verb notes.now ending numbers.old.items lines.items numbers.new.items) }
-    ensures same_length { length numbers.new.items ≡ length numbers.old.items }
+    ensures { IfOk result (λ lines. lines.items ≡ note_lines notes.now ++ Ended verb 0 ending ∷ []) }
 {
-    let lines = with_notes(Ok(Vec::new(alloc)), numbers, notes);
+    let lines = with_notes(Ok(Vec::new(alloc)), notes);
     with_ending(lines, verb, ending)
 }
 
 /// The lines with those of these notes behind them. Where the lines were refused for want of memory, so are these.
 pub fn with_notes(
     lines: Result<Vec<Line>, AllocError>,
-    numbers: &mut Vec<u64>,
     notes: &Notes,
 ) -> Result<Vec<Line>, AllocError>
-    requires { ArePlaces (length numbers.old.items) notes.now }
-    ensures added { IfOk result (λ after. AreAdded lines notes.now numbers.old.items after.items numbers.new.items) }
-    ensures same_length { length numbers.new.items ≡ length numbers.old.items }
+    ensures { IfOk result (λ after. AreAdded lines notes.now after.items) }
 {
     let mut lines = lines?;
-    put_notes(&mut lines, numbers, notes)?;
+    put_notes(&mut lines, notes)?;
     Ok(lines)
 }
 
@@ -77,18 +87,19 @@ pub fn with_ending(
 }
 
 /// Puts one line for each note behind the others.
-fn put_notes(lines: &mut Vec<Line>, numbers: &mut Vec<u64>, notes: &Notes) -> Result<(), AllocError>
-    requires { ArePlaces (length numbers.old.items) notes.now }
-    ensures lines { OnOk result (lines.new.items ≡ lines.old.items ++ note_lines notes.now numbers.old.items) }
-    ensures numbers { OnOk result (numbers.new.items ≡ numbers_after notes.now numbers.old.items) }
-    ensures same_length { length numbers.new.items ≡ length numbers.old.items }
+fn put_notes(lines: &mut Vec<Line>, notes: &Notes) -> Result<(), AllocError>
+    ensures { OnOk result (lines.new.items ≡ lines.old.items ++ note_lines notes.now) }
 {
     for i in 0..notes.len() {
-        let note = notes.get(i);
-        let line = next_entry(numbers, note.table, said_of_note(note.what))?;
-        lines.push(line)?;
+        lines.push(note_line(notes.get(i)))?;
     }
     Ok(())
+}
+
+fn note_line(note: Note) -> Line
+    ensures { result ≡ note_line note }
+{
+    entry(note.table, note.number, said_of_note(note.what))
 }
 
 fn said_of_note(what: What) -> Said

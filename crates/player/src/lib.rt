@@ -2,6 +2,7 @@
 #![tactic(auto)]
 
 mod answer;
+mod callers;
 mod commands;
 mod drain;
 mod entries;

@@ -1,109 +1,137 @@
 // One leaf, and what each command of a script does to it.
-ghost use Rattle.std.specs.Prelude.{◌≡◌, ◌≤◌, ◌+◌, ◌-◌, ◌^◌, min, length, replicate, IfOk, IfErr};
+ghost use Rattle.std.specs.Prelude.{◌≡◌, ◌≤◌, ◌+◌, ◌-◌, ◌^◌, ℕ, min, length, map, slice_get, Some, IfErr, IfOk};
 ghost use Rattle.std.specs.List.{AllByRecursion};
 ghost use Rattle.berth_face.specs.Berth.{Passes};
 ghost use Rattle.region_layout.specs.Names.{AreNames};
+ghost use Rattle.leaf_core.specs.Left.{Tables};
+ghost use Rattle.leaf_table.specs.Turns.{Shared, start_of};
+ghost use Rattle.leaf_table.specs.Calls.{SeatView, base_of, name_of};
+ghost use Rattle.leaf_steward.specs.Seated.{AreAlike, AreFounded, AtEach, IsUnused};
+ghost use Rattle.leaf_machine.specs.States.{MayBegin};
 ghost use Rattle.printed_lines.specs.Lines.{IsOf};
-ghost use Rattle.transcript.specs.Steps.{IsDown, MayPlay, Plays};
+ghost use Rattle.transcript.specs.Stage.{IsDown, Stands};
+ghost use Rattle.transcript.specs.Steps.{MayPlay, Plays};
 ghost use Rattle.transcript.specs.Transcript.{region_faults_in, disk_faults_in};
-ghost use Rattle.player.specs.Stage.{IsCall};
+ghost use Rattle.player.specs.Stage.{HasMet, IsCall, IsUnusedCaller};
 
+use crate::callers::Callers;
 use crate::commands::play_command;
 use crate::leaf::OneLeaf;
-use berth_face::Berth;
+use berth_face::{Berth, Gate};
 use leaf_machine::Down;
 use leaf_model::Names;
+use leaf_table::{Seat, SharedTable};
 use printed_lines::Line;
 use script_text::Command;
 use std::alloc::{AllocError, Global};
 use std::marker::Model;
+use std::sync::Wait;
 
-/// One leaf with the lengths of its tables' histories, which owns its berth.
+/// One leaf, which owns its berth, with the callers' seats at its tables. It borrows the tables.
 #[derive(Drop)]
-pub struct Player<B: Berth> {
+pub struct Player<'t, B: Berth> {
     names: Names,
-    leaf: OneLeaf<B>,
-    numbers: Vec<u64>,
+    leaf: OneLeaf<'t, B>,
+    callers: Callers<'t>,
 }
 
-impl<B: Berth> Model for Player<B> {
-    ghost use Rattle.player.specs.Stage.{Stage, Fits, state_of, berth_of};
+impl<'t, B: Berth> Model for Player<'t, B> {
+    ghost use Rattle.player.specs.Stage.{Stage, Fits, berth_of, seats_of, state_of};
 
     ghost Value = { Stage B };
 
     ghost view = { λ player. record {
       names = player.names;
       leaf = state_of player.leaf;
-      numbers = player.numbers.items;
+      callers = player.callers.seats;
       berth = berth_of player.leaf;
     } };
 
-    ghost invariant = { λ player. Fits player.names player.leaf player.numbers.items };
+    ghost invariant = { λ player. Fits player.names (seats_of player.leaf) player.callers };
 }
 
-impl<B: Berth> Player<B> {
-    /// A leaf that is down, with tables of these names that have no history.
+impl<'t, B: Berth> Player<'t, B> {
+    /// A leaf that is down, with these tables of these names, whose seats have made no entry yet: the steward's, and one of callers with all other ids.
+    /// Where the tables are founded, a leaf with their base may begin over the berth.
     /// For want of memory it gives the berth back as it was.
-    pub fn new(alloc: Global, names: Names, berth: B) -> Result<Player<B>, B>
-        requires { AreNames names }
+    pub fn new(
+        names: Names,
+        tables: &'t [SharedTable],
+        stewards: Vec<Seat>,
+        callers: Vec<Seat>,
+        berth: B,
+    ) -> Result<Player<'t, B>, B>
+        requires named { AreNames names }
+        requires names { map name_of tables.now ≡ names }
+        requires stewards { length stewards.items ≡ length tables.now }
+        requires callers { length callers.items ≡ length tables.now }
+        requires unused { AtEach (λ place t v. IsUnused t v) (record { names = names; tables = tables.now; seats = stewards.items }) }
+        requires unused_callers { (place : ℕ) (t : Shared) (c : SeatView) → slice_get tables.now place ≡ Some t → slice_get callers.items place ≡ Some c → IsUnusedCaller t c }
+        requires alike { AreAlike (record { names = names; tables = tables.now; seats = stewards.items }) }
+        requires ready { AreFounded (record { names = names; tables = tables.now; seats = stewards.items })
+            → (base : Tables) × MayBegin base (B.meaning berth) × AtEach (λ place t v. start_of (base_of t) ≡ base (name_of t)) (record { names = names; tables = tables.now; seats = stewards.items }) }
         ensures names { IfOk result (λ player. player.names ≡ names) }
-        ensures down { IfOk result (λ player. player.leaf ≡ IsDown) }
-        ensures numbers { IfOk result (λ player. player.numbers ≡ replicate (length names) 0) }
+        ensures down { IfOk result (λ player. player.leaf ≡ IsDown (record { names = names; tables = tables.now; seats = stewards.items })) }
+        ensures callers { IfOk result (λ player. player.callers ≡ callers.items) }
         ensures berth { IfOk result (λ player. player.berth ≡ berth) }
+        ensures stands { IfOk result (λ player. (base : Tables) → AreFounded (record { names = names; tables = tables.now; seats = stewards.items }) → MayBegin base (B.meaning berth)
+            → AtEach (λ place t v. start_of (base_of t) ≡ base (name_of t)) (record { names = names; tables = tables.now; seats = stewards.items }) → Stands base player.leaf (B.meaning player.berth)) }
         ensures no_memory { IfErr result (λ given. given ≡ berth) }
     {
-        let Ok((copy, numbers)) = copy_and_numbers(alloc, &names) else {
+        let Ok(copy) = names.copy() else {
             return Err(berth);
         };
-        match Down::new(alloc, copy, berth) {
-            Ok(down) => Ok(Player {
-                names,
-                leaf: OneLeaf::Down(down),
-                numbers,
-            }),
-            Err(_) => unreachable!(),
-        }
+        let leaf = OneLeaf::Down(Down::new(copy, tables, stewards, berth));
+        Ok(Player {
+            names,
+            leaf,
+            callers: Callers::new(tables, callers),
+        })
     }
 
     /// Plays a command, and gives the lines that it prints.
-    /// Want of memory for the lines loses none of what the command did to the leaf, and the numbers may have grown.
-    pub fn play(self, alloc: Global, command: Command) -> (Player<B>, Result<Vec<Line>, AllocError>)
+    /// Want of memory for the lines loses none of what the command did to the leaf.
+    pub fn play<R: Wait, G: Gate>(
+        self,
+        rt: &R,
+        alloc: Global,
+        gate: &G,
+        command: Command,
+    ) -> (Player<'t, B>, Result<Vec<Line>, AllocError>)
         requires { MayPlay self.names command }
-        ensures plays { IfOk result.1 (λ lines. Plays self.names (B.meaning self.berth) (B.meaning result.0.berth) command self.leaf self.numbers lines.items result.0.leaf result.0.numbers) }
-        ensures names { result.0.names ≡ self.names }
-        ensures time { Passes (B.meaning self.berth) (B.meaning result.0.berth) }
-        ensures kept { IsCall command → result.0.berth ≡ self.berth }
-        ensures region_faults { IfOk result.1 (λ lines. min ((B.meaning self.berth).region_faults + region_faults_in 0 lines.items) (2 ^ 64 - 1) ≤ (B.meaning result.0.berth).region_faults) }
-        ensures disk_faults { IfOk result.1 (λ lines. min ((B.meaning self.berth).disk_faults + disk_faults_in 0 lines.items) (2 ^ 64 - 1) ≤ (B.meaning result.0.berth).disk_faults) }
-        ensures lines_fit { IfOk result.1 (λ lines. AllByRecursion (IsOf self.names) lines.items) }
+        ensures plays { IfOk result.1 (λ lines. Plays B.meaning self.entry.names command self.entry.leaf self.entry.callers self.entry.berth lines.items result.0.leaf result.0.callers result.0.berth) }
+        ensures names { result.0.names ≡ self.entry.names }
+        ensures time { Passes (B.meaning self.entry.berth) (B.meaning result.0.berth) }
+        ensures kept { IsCall command → result.0.berth ≡ self.entry.berth }
+        ensures region_faults { IfOk result.1 (λ lines. min ((B.meaning self.entry.berth).region_faults + region_faults_in 0 lines.items) (2 ^ 64 - 1) ≤ (B.meaning result.0.berth).region_faults) }
+        ensures disk_faults { IfOk result.1 (λ lines. min ((B.meaning self.entry.berth).disk_faults + disk_faults_in 0 lines.items) (2 ^ 64 - 1) ≤ (B.meaning result.0.berth).disk_faults) }
+        ensures lines_fit { IfOk result.1 (λ lines. AllByRecursion (IsOf self.entry.names) lines.items) }
     {
         let Player {
             names,
             leaf,
-            mut numbers,
+            mut callers,
         } = self;
-        let (leaf, lines) = play_command(alloc, &names, leaf, &mut numbers, command);
+        let (leaf, lines) = play_command(rt, alloc, gate, &names, leaf, &mut callers, command);
         let player = Player {
             names,
             leaf,
-            numbers,
+            callers,
         };
         (player, lines)
     }
 
-    /// Gives the berth back as it is.
+    /// Lets all seats meet a last time, and gives the berth back as it is.
     pub fn abandon(self) -> B
-        ensures { result ≡ self.berth }
+        ensures met { HasMet self.entry.leaf self.entry.callers (B.meaning self.entry.berth) }
+        ensures berth { result ≡ self.entry.berth }
     {
-        self.leaf.abandon()
+        let Player {
+            names: _,
+            mut leaf,
+            mut callers,
+        } = self;
+        callers.meet(&mut leaf);
+        leaf.abandon()
     }
-}
-
-/// A copy of the names, and for each of them the length of an empty history.
-fn copy_and_numbers(alloc: Global, names: &Names) -> Result<(Names, Vec<u64>), AllocError>
-    ensures names { IfOk result (λ x. x.0 ≡ names.now) }
-    ensures numbers { IfOk result (λ x. x.1.items ≡ replicate (length names.now) 0) }
-{
-    let numbers = vec![in alloc; 0u64; names.as_slice().len()]?;
-    Ok((names.copy()?, numbers))
 }

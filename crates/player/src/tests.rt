@@ -1,16 +1,22 @@
-// A leaf over a berth in memory, with ample memory.
-ghost use Rattle.std.specs.Prelude.{◌≡◌, ◌∷◌, [], codes, length, IfOk};
+// A leaf over a berth in memory and a table that is not founded, with ample memory.
+ghost use Rattle.std.specs.Prelude.{◌≡◌, ◌<◌, ◌∷◌, [], codes, length, IfOk};
 ghost use Rattle.std.specs.List.{AllByRecursion};
 ghost use Rattle.leaf_model.specs.Values.{IsRow};
+ghost use Rattle.leaf_table.specs.Lists.{lists_in, row};
 ghost use Rattle.script_text.specs.declared.command.Command.TheVariants as command;
 ghost use Rattle.transcript.specs.Steps.{MayPlay};
+ghost use Rattle.player.specs.Trying.{AreNew};
 
 use super::*;
+use berth_face::OpenGate;
 use berth_mem::{Fail, Fails, MemBerth, Method};
 use leaf_model::{Agg, Aggs, Cells, Conds, Names, Query, Row, Rows, Text};
+use leaf_table::{FleetTables, Seat, SharedTable};
 use printed_lines::put_lines;
 use script_text::Command;
 use std::alloc::{AllocError, Global};
+use std::marker::Brand;
+use std::sync::Wait;
 use std::test;
 
 /// The commands of the cases: an add of one row with the time 5, and a count from 0 to 9.
@@ -104,42 +110,89 @@ fn command_of(alloc: Global, step: Step) -> Result<Command, AllocError>
     }
 }
 
-fn player(alloc: Global, berth: MemBerth) -> Result<Player<MemBerth>, AllocError>
+// The first of the lists.
+fn first_of(lists: Vec<Vec<Seat>>) -> Vec<Seat>
+    requires { 0 < length (lists_in lists.items) }
+    ensures { result.items ≡ row (lists_in lists.items) 0 }
+{
+    let mut lists = lists;
+    lists.swap_remove(0)
+}
+
+/// A fleet of one leaf with one table, the seat of its steward, and one of callers with all other ids.
+type Fleet = (FleetTables, Vec<Seat>, Vec<Seat>);
+
+fn fleet(alloc: Global, names: &Names) -> Result<Fleet, AllocError>
+    requires { names.now ≡ codes "errors" ∷ [] }
+    ensures one { IfOk result (λ fleet. length fleet.0 ≡ 1) }
+    ensures new { IfOk result (λ fleet. AreNew names.now (row fleet.0 0) fleet.1.items fleet.2.items) }
+{
+    let (fleet, stewards, callers) = FleetTables::new::<Brand>(alloc, 1, names, 65536)?;
+    Ok((
+        fleet,
+        first_of(stewards.into_inner()),
+        first_of(callers.into_inner()),
+    ))
+}
+
+fn player<'t>(
+    alloc: Global,
+    tables: &'t [SharedTable],
+    stewards: Vec<Seat>,
+    callers: Vec<Seat>,
+    berth: MemBerth,
+) -> Result<Player<'t, MemBerth>, AllocError>
+    requires { AreNew (codes "errors" ∷ []) tables.now stewards.items callers.items }
     ensures named { IfOk result (λ player. player.names ≡ codes "errors" ∷ []) }
     ensures berth { IfOk result (λ player. player.berth ≡ berth) }
 {
-    match Player::new(alloc, names(alloc)?, berth) {
+    match Player::new(names(alloc)?, tables, stewards, callers, berth) {
         Ok(player) => Ok(player),
         Err(_) => Err(AllocError),
     }
 }
 
 /// Plays one step, and puts the text of its lines behind the others.
-fn play_step(
+fn play_step<'t, R: Wait>(
+    rt: &R,
     alloc: Global,
-    player: Player<MemBerth>,
+    player: Player<'t, MemBerth>,
     names: &Names,
     step: Step,
     out: &mut Vec<u8>,
-) -> Result<Player<MemBerth>, AllocError>
+) -> Result<Player<'t, MemBerth>, AllocError>
     requires player { player.names ≡ codes "errors" ∷ [] }
     requires names { names.now ≡ codes "errors" ∷ [] }
     ensures { IfOk result (λ player. player.names ≡ codes "errors" ∷ []) }
 {
-    let (player, lines) = player.play(alloc, command_of(alloc, step)?);
+    let (player, lines) = player.play(rt, alloc, &OpenGate, command_of(alloc, step)?);
     put_lines(out, names, lines?.as_slice())?;
     Ok(player)
 }
 
 /// The text of all lines that these steps print over this berth.
-fn played(alloc: Global, berth: MemBerth, steps: &[Step]) -> Result<Vec<u8>, AllocError> {
+fn played<R: Wait>(
+    rt: &R,
+    alloc: Global,
+    berth: MemBerth,
+    steps: &[Step],
+) -> Result<Vec<u8>, AllocError> {
     let names = names(alloc)?;
-    let mut player = player(alloc, berth)?;
+    let (fleet, stewards, callers) = fleet(alloc, &names)?;
+    let mut player = player(alloc, fleet.leaf(0), stewards, callers, berth)?;
     let mut out = Vec::new(alloc);
     for step in steps {
-        player = play_step(alloc, player, &names, *step, &mut out)?;
+        player = play_step(rt, alloc, player, &names, *step, &mut out)?;
     }
     Ok(out)
+}
+
+/// The berth that a player over it gives back.
+fn given_back(alloc: Global, berth: MemBerth) -> Result<MemBerth, AllocError> {
+    let names = names(alloc)?;
+    let (fleet, stewards, callers) = fleet(alloc, &names)?;
+    let player = player(alloc, fleet.leaf(0), stewards, callers, berth)?;
+    Ok(player.abandon())
 }
 
 /// A berth in memory with nothing on it, of which this call fails.
@@ -188,7 +241,7 @@ fn each_command_prints_its_lines(rt: HostRuntime) -> Result<(), test::Fail> {
     ];
     for (steps, expected) in cases {
         let berth = MemBerth::new(Vec::new(alloc), Vec::new(alloc));
-        let out = played(alloc, berth, &steps)?;
+        let out = played(&rt, alloc, berth, &steps)?;
         assert!(rt; out.as_slice() == expected.as_bytes());
     }
     Ok(())
@@ -207,7 +260,7 @@ fn a_killed_leaf_is_opened_with_what_was_flushed(rt: HostRuntime) -> Result<(), 
         Step::Start,
         Step::Count,
     ];
-    let out = played(alloc, berth, &steps)?;
+    let out = played(&rt, alloc, berth, &steps)?;
     let expected =
         "0 errors #1 opened 0\nstart 0 disk nohead\n0 errors #2 added 1 late 0\n0 errors #3 took 1\n0 errors #4 flushed 1\nflush 0 done\n0 errors #5 added 1 late 0\n0 errors #6 closed 2\nkill 0 done\n0 errors #7 opened 1\nstart 0 disk nohead\n0 errors #8 asked\nanswer named 1 of 1 lines 1\n1\n";
     assert!(rt; out.as_slice() == expected.as_bytes());
@@ -228,7 +281,7 @@ fn a_drain_that_the_disk_stopped_goes_on(rt: HostRuntime) -> Result<(), test::Fa
         Step::Drain,
         Step::Start,
     ];
-    let out = played(alloc, berth, &steps)?;
+    let out = played(&rt, alloc, berth, &steps)?;
     let expected =
         "0 errors #1 opened 0\nstart 0 disk nohead\n0 errors #2 added 1 late 0\n0 errors #3 closed 1\ndrain 0 fault disk\n0 errors #4 refused shut\nflush 0 not up\n0 errors #5 flushed 1\n0 errors #6 handed\ndrain 0 done\n0 errors #7 opened 1\nstart 0 memory\n";
     assert!(rt; out.as_slice() == expected.as_bytes());
@@ -267,7 +320,7 @@ fn a_drain_is_stopped_after_each_number_of_steps(rt: HostRuntime) -> Result<(), 
     for (stop, expected) in cases {
         let berth = MemBerth::new(Vec::new(alloc), Vec::new(alloc));
         let steps = [Step::Fleet, Step::Add, Step::DrainStop(stop), Step::Start];
-        let out = played(alloc, berth, &steps)?;
+        let out = played(&rt, alloc, berth, &steps)?;
         assert!(rt; out.as_slice() == expected.as_bytes());
     }
     Ok(())
@@ -285,7 +338,7 @@ fn a_stopped_drain_closes_no_table_again(rt: HostRuntime) -> Result<(), test::Fa
         Step::DrainStop(1),
         Step::Start,
     ];
-    let out = played(alloc, berth, &steps)?;
+    let out = played(&rt, alloc, berth, &steps)?;
     let expected =
         "0 errors #1 opened 0\nstart 0 disk nohead\n0 errors #2 added 1 late 0\n0 errors #3 closed 1\ndrain 0 fault disk\n0 errors #4 flushed 1\ndrain 0 stopped\n0 errors #5 opened 1\nstart 0 disk nohead\n";
     assert!(rt; out.as_slice() == expected.as_bytes());
@@ -296,11 +349,11 @@ fn a_stopped_drain_closes_no_table_again(rt: HostRuntime) -> Result<(), test::Fa
 fn a_region_that_fails_is_told_after_the_flushed_tables(rt: HostRuntime) -> Result<(), test::Fail> {
     let alloc = rt.alloc();
     let berth = failing(alloc, Method::RegionWrite, 1)?;
-    let out = played(alloc, berth, &[Step::Fleet, Step::Drain])?;
+    let out = played(&rt, alloc, berth, &[Step::Fleet, Step::Drain])?;
     let expected =
         "0 errors #1 opened 0\nstart 0 disk nohead\n0 errors #2 closed 0\n0 errors #3 flushed 0\ndrain 0 fault region\n";
     assert!(rt; out.as_slice() == expected.as_bytes());
-    let player = player(alloc, MemBerth::new(Vec::new(alloc), out))?;
-    assert!(rt; player.abandon().disk() == expected.as_bytes());
+    let left = given_back(alloc, MemBerth::new(Vec::new(alloc), out))?;
+    assert!(rt; left.disk() == expected.as_bytes());
     Ok(())
 }

@@ -9,9 +9,10 @@ use Rattle.printed_lines.specs.declared.line.Said.TheVariants.{Added, Asked, Ref
 use Rattle.printed_lines.specs.declared.line.Verb.{Verb}
 use Rattle.printed_lines.specs.declared.line.Verb.TheVariants.{Flush, Drain, Kill, Start}
 use Rattle.printed_lines.specs.declared.line.Ending.{Ending}
-use Rattle.printed_lines.specs.declared.line.Ending.TheVariants.{Done, Stopped, NotUp, NotDown, Started, FaultRegion, FaultDisk, FaultDamaged, FaultMemory, FaultStranger}
+use Rattle.printed_lines.specs.declared.line.Ending.TheVariants.{Done, Stopped, NotUp, NotDown, Started, FaultRegion, FaultRoom, FaultDisk, FaultDamaged, FaultMemory, FaultStranger, FaultWorn}
+use Rattle.printed_lines.specs.declared.line.Ending.TheVariants as ends
 use Rattle.printed_lines.specs.declared.line.Line.{Line}
-use Rattle.printed_lines.specs.declared.line.Line.TheVariants.{Entry, Answer, Ended}
+use Rattle.printed_lines.specs.declared.line.Line.TheVariants.{Entry, Worn, Answer, Ended}
 
 -- what an entry's line says
 abbrev pub said_text : Said → List ℕ
@@ -34,18 +35,6 @@ way_text (Disk (why.Closed byte)) = codes "disk closed " ++ decimal byte
 way_text (Disk (why.OtherVersion version)) = codes "disk version " ++ decimal version
 way_text (Disk why.NoImage) = codes "disk noimage"
 
-abbrev pub ending_text : Ending → List ℕ
-ending_text Done = codes "done"
-ending_text Stopped = codes "stopped"
-ending_text NotUp = codes "not up"
-ending_text NotDown = codes "not down"
-ending_text (Started way) = way_text way
-ending_text FaultRegion = codes "fault region"
-ending_text FaultDisk = codes "fault disk"
-ending_text FaultDamaged = codes "fault damaged"
-ending_text FaultMemory = codes "fault memory"
-ending_text (FaultStranger name) = codes "fault stranger " ++ name
-
 abbrev pub verb_text : Verb → List ℕ
 verb_text Flush = codes "flush"
 verb_text Drain = codes "drain"
@@ -58,9 +47,29 @@ name_at [] place = []
 name_at (name ∷ names) zero = name
 name_at (name ∷ names) (suc place) = name_at names place
 
+-- how a command ended, of a fleet whose tables have these names
+abbrev pub ending_text : List (List ℕ) → Ending → List ℕ
+ending_text names Done = codes "done"
+ending_text names Stopped = codes "stopped"
+ending_text names NotUp = codes "not up"
+ending_text names NotDown = codes "not down"
+ending_text names ends.Worn = codes "worn"
+ending_text names (Started way) = way_text way
+ending_text names FaultRegion = codes "fault region"
+ending_text names FaultRoom = codes "fault room"
+ending_text names FaultDisk = codes "fault disk"
+ending_text names FaultDamaged = codes "fault damaged"
+ending_text names FaultMemory = codes "fault memory"
+ending_text names (FaultStranger name) = codes "fault stranger " ++ name
+ending_text names (FaultWorn table) = codes "fault worn " ++ name_at names table
+
 -- the line of an entry, of the table of this name
 abbrev pub entry_text : ℕ → List ℕ → ℕ → Said → List ℕ
 entry_text leaf name number said = decimal leaf ++ (32 ∷ (name ++ (codes " #" ++ (decimal number ++ (32 ∷ (said_text said ++ 10 ∷ []))))))
+
+-- the line of a call of a worn seat, of the table of this name
+abbrev pub worn_text : ℕ → List ℕ → List ℕ
+worn_text leaf name = decimal leaf ++ (32 ∷ (name ++ (codes " refused worn" ++ 10 ∷ [])))
 
 -- a line of an answer
 abbrev pub row_line : List ℕ → List ℕ
@@ -76,20 +85,38 @@ abbrev pub answer_text : ℕ → ℕ → List (List ℕ) → List ℕ
 answer_text named leaves rows = answer_head named leaves (length rows) ++ flat_map row_line rows
 
 -- the line of a command of a leaf's steward
-abbrev pub ended_text : Verb → ℕ → Ending → List ℕ
-ended_text verb leaf ending = verb_text verb ++ (32 ∷ (decimal leaf ++ (32 ∷ (ending_text ending ++ 10 ∷ []))))
+abbrev pub ended_text : List (List ℕ) → Verb → ℕ → Ending → List ℕ
+ended_text names verb leaf ending = verb_text verb ++ (32 ∷ (decimal leaf ++ (32 ∷ (ending_text names ending ++ 10 ∷ []))))
 
 -- the text of a line, of a fleet whose tables have these names
 abbrev pub line_text : List (List ℕ) → Line → List ℕ
 line_text names (Entry leaf table number said) = entry_text leaf (name_at names table) number said
+line_text names (Worn leaf table) = worn_text leaf (name_at names table)
 line_text names (Answer named leaves rows) = answer_text named leaves rows
-line_text names (Ended verb leaf ending) = ended_text verb leaf ending
+line_text names (Ended verb leaf ending) = ended_text names verb leaf ending
 
 abbrev pub lines_text : List (List ℕ) → List Line → List ℕ
 lines_text names lines = flat_map (line_text names) lines
 
+-- the table that an ending names by its place is one of the fleet's
+abbrev pub EndsOf : List (List ℕ) → Ending → Type 0
+EndsOf names Done = ⊤
+EndsOf names Stopped = ⊤
+EndsOf names NotUp = ⊤
+EndsOf names NotDown = ⊤
+EndsOf names ends.Worn = ⊤
+EndsOf names (Started way) = ⊤
+EndsOf names FaultRegion = ⊤
+EndsOf names FaultRoom = ⊤
+EndsOf names FaultDisk = ⊤
+EndsOf names FaultDamaged = ⊤
+EndsOf names FaultMemory = ⊤
+EndsOf names (FaultStranger name) = ⊤
+EndsOf names (FaultWorn table) = table < length names
+
 -- a line's table is one of the fleet's
 abbrev pub IsOf : List (List ℕ) → Line → Type 0
 IsOf names (Entry leaf table number said) = table < length names
+IsOf names (Worn leaf table) = table < length names
 IsOf names (Answer named leaves rows) = ⊤
-IsOf names (Ended verb leaf ending) = ⊤
+IsOf names (Ended verb leaf ending) = EndsOf names ending

@@ -40,13 +40,19 @@ pub enum Ending {
     Stopped,
     NotUp,
     NotDown,
+    /// The seat of a table that was to be taken has seen 2^62 entries, so the table isn't taken.
+    Worn,
     Started(Way),
     FaultRegion,
+    /// A table has more writes than the image of the tables has room for.
+    FaultRoom,
     FaultDisk,
     /// The log of the disk is damaged.
     FaultDamaged,
     FaultMemory,
     FaultStranger(Text),
+    /// The seat of the table in this place among the fleet's has seen 2^62 entries, so nothing is started.
+    FaultWorn(u32),
 }
 
 /// A printed line, and behind an answer the answer's own lines.
@@ -58,6 +64,11 @@ pub enum Line {
         table: u32,
         number: u64,
         said: Said,
+    },
+    /// A call whose seat has seen 2^62 entries of its table: it is refused, and makes no entry.
+    Worn {
+        leaf: u32,
+        table: u32,
     },
     Answer {
         named: u64,

@@ -1,6 +1,6 @@
 // The texts that lines are made of.
 ghost use Rattle.std.specs.Prelude.{◌≡◌, ◌<◌, length, IfOk, string_bytes};
-ghost use Rattle.printed_lines.specs.Lines.{said_text, way_text, ending_text, verb_text, name_at};
+ghost use Rattle.printed_lines.specs.Lines.{EndsOf, said_text, way_text, ending_text, verb_text, name_at};
 
 use crate::line::{Ending, Said, Verb};
 use adopt::WhyDisk;
@@ -25,22 +25,29 @@ pub fn said_string(alloc: Global, said: Said) -> Result<String, AllocError>
     }
 }
 
-pub fn ending_string(alloc: Global, ending: &Ending) -> Result<String, AllocError>
-    ensures { IfOk result (λ text. string_bytes text ≡ ending_text ending.now) }
+pub fn ending_string(alloc: Global, names: &Names, ending: &Ending) -> Result<String, AllocError>
+    requires { EndsOf names.now ending.now }
+    ensures { IfOk result (λ text. string_bytes text ≡ ending_text names.now ending.now) }
 {
     match ending {
         Ending::Done => String::from_str(alloc, "done"),
         Ending::Stopped => String::from_str(alloc, "stopped"),
         Ending::NotUp => String::from_str(alloc, "not up"),
         Ending::NotDown => String::from_str(alloc, "not down"),
+        Ending::Worn => String::from_str(alloc, "worn"),
         Ending::Started(way) => way_string(alloc, *way),
         Ending::FaultRegion => String::from_str(alloc, "fault region"),
+        Ending::FaultRoom => String::from_str(alloc, "fault room"),
         Ending::FaultDisk => String::from_str(alloc, "fault disk"),
         Ending::FaultDamaged => String::from_str(alloc, "fault damaged"),
         Ending::FaultMemory => String::from_str(alloc, "fault memory"),
         Ending::FaultStranger(table) => {
             let name = table.as_str();
             format!(in alloc; "fault stranger {name}")
+        }
+        Ending::FaultWorn(table) => {
+            let name = name_of(names, *table);
+            format!(in alloc; "fault worn {name}")
         }
     }
 }

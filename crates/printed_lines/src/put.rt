@@ -1,7 +1,7 @@
 // Lines behind what was printed before.
 ghost use Rattle.std.specs.Prelude.{◌≡◌, ◌<◌, ◌++◌, length, IfOk, OnOk, OnErr, string_bytes};
 ghost use Rattle.std.specs.List.{flat_map, AllByRecursion};
-ghost use Rattle.printed_lines.specs.Lines.{IsOf, row_line, entry_text, answer_head, answer_text, ended_text, line_text, lines_text};
+ghost use Rattle.printed_lines.specs.Lines.{EndsOf, IsOf, row_line, entry_text, worn_text, answer_head, answer_text, ended_text, line_text, lines_text};
 
 use crate::line::{Ending, Line, Said, Verb};
 use crate::parts::{ending_string, name_of, said_string, verb_str};
@@ -50,12 +50,13 @@ fn line_bytes(alloc: Global, names: &Names, line: &Line) -> Result<Vec<u8>, Allo
             number,
             said,
         } => entry_bytes(alloc, *leaf, name_of(names, *table), *number, *said),
+        Line::Worn { leaf, table } => worn_bytes(alloc, *leaf, name_of(names, *table)),
         Line::Answer {
             named,
             leaves,
             rows,
         } => answer_bytes(alloc, *named, *leaves, rows.as_slice()),
-        Line::Ended { verb, leaf, ending } => ended_bytes(alloc, *verb, *leaf, ending),
+        Line::Ended { verb, leaf, ending } => ended_bytes(alloc, names, *verb, *leaf, ending),
     }
 }
 
@@ -70,6 +71,13 @@ fn entry_bytes(
 {
     let said = said_string(alloc, said)?;
     let text = format!(in alloc; "{leaf} {name} #{number} {said}\n")?;
+    Ok(text.into_bytes())
+}
+
+fn worn_bytes(alloc: Global, leaf: u32, name: &str) -> Result<Vec<u8>, AllocError>
+    ensures { IfOk result (λ bytes. bytes.items ≡ worn_text leaf name.now) }
+{
+    let text = format!(in alloc; "{leaf} {name} refused worn\n")?;
     Ok(text.into_bytes())
 }
 
@@ -93,11 +101,18 @@ fn head_bytes(alloc: Global, named: u64, leaves: u32, count: usize) -> Result<Ve
     Ok(text.into_bytes())
 }
 
-fn ended_bytes(alloc: Global, verb: Verb, leaf: u32, ending: &Ending) -> Result<Vec<u8>, AllocError>
-    ensures { IfOk result (λ bytes. bytes.items ≡ ended_text verb leaf ending.now) }
+fn ended_bytes(
+    alloc: Global,
+    names: &Names,
+    verb: Verb,
+    leaf: u32,
+    ending: &Ending,
+) -> Result<Vec<u8>, AllocError>
+    requires { EndsOf names.now ending.now }
+    ensures { IfOk result (λ bytes. bytes.items ≡ ended_text names.now verb leaf ending.now) }
 {
     let verb = verb_str(verb);
-    let ending = ending_string(alloc, ending)?;
+    let ending = ending_string(alloc, names, ending)?;
     let text = format!(in alloc; "{verb} {leaf} {ending}\n")?;
     Ok(text.into_bytes())
 }

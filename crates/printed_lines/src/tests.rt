@@ -1,5 +1,6 @@
 // Each kind of line against its bytes.
-ghost use Rattle.std.specs.Prelude.{◌≡◌, ◌<◌, length, IfOk};
+ghost use Rattle.std.specs.Prelude.{◌≡◌, ◌<◌, length, IfOk, IsTrue};
+ghost use Rattle.printed_lines.specs.Lines.{EndsOf};
 
 use crate::{Ending, Line, Said, Verb, put_line, put_lines};
 use adopt::WhyDisk;
@@ -37,15 +38,46 @@ fn entry(alloc: Global, table: u32, number: u64, said: Said) -> Result<Vec<u8>, 
     Ok(out)
 }
 
-fn ended(alloc: Global, verb: Verb, ending: Ending) -> Result<Vec<u8>, AllocError> {
+fn worn(alloc: Global, leaf: u32, table: u32) -> Result<Vec<u8>, AllocError>
+    requires { table < 2 }
+{
     let names = fleet(alloc)?;
+    let mut out = Vec::new(alloc);
+    put_line(&mut out, &names, &Line::Worn { leaf, table })?;
+    Ok(out)
+}
+
+/// Whether the fleet has the table that an ending names by its place.
+fn is_known(names: &Names, ending: &Ending) -> bool
+    ensures { IsTrue result → EndsOf names.now ending.now }
+{
+    match ending {
+        Ending::FaultWorn(table) => (*table as usize) < names.as_slice().len(),
+        Ending::Done
+        | Ending::Stopped
+        | Ending::NotUp
+        | Ending::NotDown
+        | Ending::Worn
+        | Ending::Started(_)
+        | Ending::FaultRegion
+        | Ending::FaultRoom
+        | Ending::FaultDisk
+        | Ending::FaultDamaged
+        | Ending::FaultMemory
+        | Ending::FaultStranger(_) => true,
+    }
+}
+
+fn ended(alloc: Global, names: &Names, verb: Verb, ending: Ending) -> Result<Vec<u8>, AllocError>
+    requires { EndsOf names.now ending }
+{
     let line = Line::Ended {
         verb,
         leaf: 0,
         ending,
     };
     let mut out = Vec::new(alloc);
-    put_line(&mut out, &names, &line)?;
+    put_line(&mut out, names, &line)?;
     Ok(out)
 }
 
@@ -87,8 +119,19 @@ fn an_entry_has_its_line(rt: HostRuntime) -> Result<(), Fail> {
 }
 
 #[test]
+fn a_worn_seat_has_its_line(rt: HostRuntime) -> Result<(), Fail> {
+    let alloc = rt.alloc();
+    let first = worn(alloc, 0, 0)?;
+    assert_eq!(rt; first.as_slice(), b"0 errors refused worn\n".as_slice());
+    let second = worn(alloc, 7, 1)?;
+    assert_eq!(rt; second.as_slice(), b"7 t refused worn\n".as_slice());
+    Ok(())
+}
+
+#[test]
 fn the_end_of_a_command_has_its_line(rt: HostRuntime) -> Result<(), Fail> {
     let alloc = rt.alloc();
+    let names = fleet(alloc)?;
     for (way, bytes) in [
         (Way::Memory, "start 0 memory\n"),
         (Way::Disk(WhyDisk::NoHead), "start 0 disk nohead\n"),
@@ -99,24 +142,29 @@ fn the_end_of_a_command_has_its_line(rt: HostRuntime) -> Result<(), Fail> {
         ),
         (Way::Disk(WhyDisk::NoImage), "start 0 disk noimage\n"),
     ] {
-        let line = ended(alloc, Verb::Start, Ending::Started(way))?;
+        let line = ended(alloc, &names, Verb::Start, Ending::Started(way))?;
         assert_eq!(rt; line.as_slice(), bytes.as_bytes());
     }
     for (verb, ending, bytes) in [
         (Verb::Drain, Ending::Done, "drain 0 done\n"),
         (Verb::Drain, Ending::FaultRegion, "drain 0 fault region\n"),
+        (Verb::Drain, Ending::FaultRoom, "drain 0 fault room\n"),
         (Verb::Drain, Ending::Stopped, "drain 0 stopped\n"),
         (Verb::Drain, Ending::NotUp, "drain 0 not up\n"),
         (Verb::Start, Ending::NotDown, "start 0 not down\n"),
         (Verb::Start, Ending::FaultMemory, "start 0 fault memory\n"),
         (Verb::Start, Ending::FaultDamaged, "start 0 fault damaged\n"),
+        (Verb::Start, Ending::FaultWorn(1), "start 0 fault worn t\n"),
         (Verb::Flush, Ending::FaultDisk, "flush 0 fault disk\n"),
+        (Verb::Flush, Ending::Worn, "flush 0 worn\n"),
         (Verb::Kill, Ending::Done, "kill 0 done\n"),
     ] {
-        assert_eq!(rt; ended(alloc, verb, ending)?.as_slice(), bytes.as_bytes());
+        assert!(rt; is_known(&names, &ending));
+        let line = ended(alloc, &names, verb, ending)?;
+        assert_eq!(rt; line.as_slice(), bytes.as_bytes());
     }
     let stranger = Ending::FaultStranger(text(alloc, "errors")?);
-    let line = ended(alloc, Verb::Start, stranger)?;
+    let line = ended(alloc, &names, Verb::Start, stranger)?;
     assert_eq!(rt;
         line.as_slice(),
         b"start 0 fault stranger errors\n".as_slice()

@@ -9,7 +9,9 @@ use berth_files::{FileBerth, StdSink, StdSource};
 use berth_mem::MemBerth;
 use play::{Status, fault_text, run};
 use std::alloc::{AllocError, Global};
+use std::marker::Brand;
 use std::process::ExitCode;
+use std::sync::Wait;
 use std::{env, io};
 
 /// How many leaves may have a berth.
@@ -30,14 +32,14 @@ fn main(rt: HostRuntime) -> ExitCode {
         return ExitCode::from(WORDS);
     };
     match folder.as_str() {
-        "mem" => serve(rt, words, fresh_berths(rt.alloc())),
-        folder => serve(rt, words, file_berths(rt, folder)),
+        "mem" => serve(&rt, words, fresh_berths(rt.alloc())),
+        folder => serve(&rt, words, file_berths(rt, folder)),
     }
 }
 
 /// Does what the words say over these berths, and says why where it was not done.
-fn serve<B: Berth + Drop>(
-    rt: HostRuntime,
+fn serve<R: AllocGlobal + Input + Print + Eprint + Wait, B: Berth + Drop>(
+    rt: &R,
     words: &[String],
     berths: Result<Vec<B>, AllocError>,
 ) -> ExitCode {
@@ -45,8 +47,9 @@ fn serve<B: Berth + Drop>(
         return ExitCode::from(NO_MEMORY);
     };
     let mut source = StdSource::new(rt.reader());
-    let mut sink = StdSink::new(io::writer(&rt));
-    let status = run(
+    let mut sink = StdSink::new(io::writer(rt));
+    let status = run::<Brand, R, _, _, B, OpenGate>(
+        rt,
         rt.alloc(),
         words,
         &mut source,
@@ -54,7 +57,7 @@ fn serve<B: Berth + Drop>(
         &mut berths,
         &OpenGate,
     );
-    tell(&rt, &status);
+    tell(rt, &status);
     ExitCode::from(status_number(&status))
 }
 
@@ -77,7 +80,7 @@ fn file_berths(rt: HostRuntime, folder: &str) -> Result<Vec<FileBerth>, AllocErr
 }
 
 /// Says on standard error why the run was not done. Where there is no memory for that, nothing is said.
-fn tell(rt: &HostRuntime, status: &Status) {
+fn tell<R: AllocGlobal + Eprint>(rt: &R, status: &Status) {
     if matches!(status, Status::Done) {
         return;
     }

@@ -1,346 +1,211 @@
--- A drain.
-use Rattle.std.proofs.Common.{◌≡◌, ℕ, suc, ◌+◌, ◌<◌, ◌||◌, Bool, true, false, List, [], ◌∷◌, ◌++◌, length, map, drop, refl, sym, ap, subst, ◌∙◌, arith, Option, Some, None}
+-- The lines of a drain, by what it does to a leaf.
+use Rattle.std.proofs.Common.{◌≡◌, ℕ, suc, ◌+◌, ◌<◌, Bool, true, false, List, [], ◌∷◌, ◌++◌, length, map, refl, sym, ap, subst, ◌∙◌, arith, Option, Some, None}
 use Rattle.std.specs.Prelude.{IsTrue, MatchBool, nat_lt, if◌then◌else◌}
-use Rattle.std.proofs.lemmas.List.{length-drop}
-use Rattle.leaf_model.specs.declared.writes.Write.{Write}
+use Rattle.std.proofs.lemmas.List.{append_assoc}
 use Rattle.berth_face.specs.Berth.{Meaning}
-use Rattle.leaf_history.specs.History.{TableState}
-use Rattle.region_layout.specs.Region.{AreDistinct}
-use Rattle.table_state.specs.Tables.{Table}
 use Rattle.adopt.specs.declared.found.WhyDisk.TheVariants as why
 use Rattle.leaf_opening.specs.declared.ways.Way.{Way}
 use Rattle.leaf_opening.specs.declared.ways.Way.TheVariants.{Memory, Disk}
-use Rattle.leaf_opening.specs.Laws.{BackedRests}
 use Rattle.leaf_opening.specs.Starts.{IsWayOf}
-use Rattle.leaf_machine.specs.Shutting.{Shutting, IsShutting}
-use Rattle.leaf_machine.specs.Shutting as shutting
-use Rattle.leaf_machine.specs.declared.notes.Note.{Note}
-use Rattle.leaf_machine.specs.Notes.{closed_notes, handed_notes}
-use Rattle.leaf_machine.specs.Prepares.{Halts, AllTreated}
-use Rattle.script_text.specs.declared.command.Command.{Command}
-use Rattle.script_text.specs.declared.command.Command.TheVariants as command
 use Rattle.printed_lines.specs.declared.line.Said.TheVariants as said
 use Rattle.printed_lines.specs.declared.line.Verb.TheVariants.{Drain}
 use Rattle.printed_lines.specs.declared.line.Ending.{Ending}
 use Rattle.printed_lines.specs.declared.line.Ending.TheVariants as ending
 use Rattle.printed_lines.specs.declared.line.Line.{Line}
 use Rattle.printed_lines.specs.declared.line.Line.TheVariants as line
-use Rattle.printed_lines.specs.Lines.{name_at}
-use Rattle.transcript.specs.Life.{Life, Down, Preparing, Progress, MayMake, table_lines, way_stopped}
+use Rattle.leaf_core.specs.Left.{Tables}
+use Rattle.leaf_steward.specs.declared.notes.Note.{Note}
+use Rattle.leaf_steward.specs.Seated.{Seated, AreFounded}
+use Rattle.leaf_steward.specs.Making.{EachNoted, IsClosedNote, IsHandedNote}
+use Rattle.leaf_machine.specs.States.{Shutting, treated}
+use Rattle.leaf_machine.specs.Prepares.{Halts, Starves, AllTreated}
+use Rattle.transcript.specs.Life.{Life, Down, Up, Preparing, Progress, Drains, MayMake, first_open, table_lines, way_stopped}
 use Rattle.transcript.specs.Life as life
-use Rattle.transcript.specs.Steps.{Leaf, IsDown, IsPreparing, TreatsOn, Leaves, RegionStopped, Continues, note_lines, numbers_after, DrainMoves, DrainStep, StewardLines, Untouched}
+use Rattle.transcript.specs.Stage.{Leaf, IsDown, IsUp, IsPreparing, Stands, seated_of}
+use Rattle.transcript.specs.Steps.{DrainMoves, TreatsOn, RegionStopped, IsDownLeaf, note_lines}
 use Rattle.transcript.specs.Steps as steps
-use Rattle.transcript.specs.Session.{Session, Stands, ServesAs, RestsAs}
-use Rattle.transcript.proofs.Lists.{length_mapped, or_nothing, neither}
-use Rattle.transcript.proofs.Noting.{behind, unopened, numbers_from, numbers_from-length}
-use Rattle.transcript.proofs.Standing.{RestsAs-same}
-use Rattle.transcript.proofs.Owing.{all_of}
-use Rattle.transcript.proofs.Moving.{behind_more, fine_more}
-use Rattle.transcript.proofs.Serving.{all_named, moved_ends, moved_treated}
-use Rattle.transcript.proofs.Settled.{lines_split, some_fault, again_of}
-use Rattle.transcript.proofs.Starting.{down_life}
-use Rattle.transcript.proofs.Killing.{closing, closed_lines, killed, same_open}
-use Rattle.transcript.proofs.Treating.{Through, treats_on, settled_on, halts}
-use Rattle.transcript.proofs.Handing.{Begins, begins_with, Treated, treated_at, left_whole, handing, handed_lines, handed_at, handed_fine}
-use Rattle.transcript.proofs.Stewarding.{now_at, Steward, steward_goes_on, nothing_done, unopening}
+use Rattle.transcript.specs.Session.{FitsLife}
+use Rattle.transcript.proofs.Rows.{lines_append, lines_closed, lines_handed}
+use Rattle.transcript.proofs.DrainParts.{Begun, Through, begun, treats_on, halts, starves}
+
+-- a drain's lines are what they may be by its life, and its life goes on as the leaf does
+abbrev Shaped : Option ℕ → Life → Leaf → List Note → Ending → Leaf → Meaning → Type 0
+Shaped stop old leaf notes ends leaf' m' =
+    (next : Life) × Drains (length (seated_of leaf).tables) 0 stop old (note_lines notes ++ line.Ended Drain 0 ends ∷ []) next × FitsLife next leaf' m'
+
+-- the lines of two parts' notes, before an ending
+lines_split : (xs ys : List Note) (zs : List Note) (ended : List Line) → zs ≡ xs ++ ys → note_lines zs ++ ended ≡ note_lines xs ++ (note_lines ys ++ ended)
+lines_split xs ys zs ended e =
+    ap (λ ns. note_lines ns ++ ended) e ∙ (ap (λ ls. ls ++ ended) (lines_append xs ys) ∙ append_assoc (note_lines xs) (note_lines ys) ended)
+
+same_region : (m m' : Meaning) (way : Way) → m'.held.region ≡ m.held.region → IsWayOf m.held.region way → IsWayOf m'.held.region way
+same_region m m' way same is = subst (λ (region : List ℕ). IsWayOf region way) (sym same) is
 
 -- from where a drain begins its tables are treated
-through : (names : List (List ℕ)) (first : List ℕ → List Write) (f : Bool) (old : Life) (x y : Shutting) (m : Meaning) (states : ℕ → TableState) (treating : List Note) (numbers : List ℕ)
-    → AreDistinct names → (b : Begins names first f old x m states) → TreatsOn x treating y
-    → Through names f (all_of names x.serving.tables x.serving.log.owed b.serves.writes) states [] treating b.at y numbers
-through names first f old x y m states treating numbers d b t =
-    treats_on names f (all_of names x.serving.tables x.serving.log.owed b.serves.writes) states d t [] b.at numbers b.chain
+through : (old : Life) (leaf : Leaf) (m : Meaning) (x y : Shutting) (treating : List Note) → (b : Begun old leaf m x) → TreatsOn x treating y
+    → Through (length (seated_of leaf).tables) treating b.at y
+through old leaf m x y treating b t = treats_on (length (seated_of leaf).tables) t b.tables b.at b.progress
 
-all_named_in : (names : List (List ℕ)) (y : Shutting) (q : Progress) (count : ℕ) → q.treated ≡ y.treated → AllTreated y → length y.serving.tables ≡ count → q.treated ≡ count
-all_named_in names y q count e done size = e ∙ (done ∙ size)
+-- so many tables were left
+left_then : (old : Life) (leaf : Leaf) (m : Meaning) (x : Shutting) (left : ℕ) → (b : Begun old leaf m x) → treated x + left ≡ length x.serving.seated.tables
+    → b.at.treated + left ≡ length (seated_of leaf).tables
+left_then old leaf m x left b e = omega (arith, e, b.progress.treated_are, b.tables)
 
--- so many tables are left, as its life says
-remaining_in : (names : List (List ℕ)) (first : List ℕ → List Write) (f : Bool) (old : Life) (x : Shutting) (m : Meaning) (states : ℕ → TableState) (remaining : ℕ)
-    → (b : Begins names first f old x m states) → x.treated + remaining ≡ length x.serving.tables → b.at.treated + remaining ≡ length names
-remaining_in names first f old x m states remaining b e = omega (arith, e, b.chain.treated, b.chain.moved.size)
+-- and none is
+none_left : (tables : ℕ) (ns : List Note) (p : Progress) (y : Shutting) → (th : Through tables ns p y) → AllTreated y → th.q.treated ≡ tables
+none_left tables ns p y th all = th.progress.treated_are ∙ (all ∙ th.size)
 
--- behind the treating the leaf serves as before
-serves_on : (names : List (List ℕ)) (first : List ℕ → List Write) (f : Bool) (old : Life) (x y : Shutting) (m m' : Meaning) (states : ℕ → TableState) (treating : List Note) (numbers : List ℕ)
-    → (b : Begins names first f old x m states) → TreatsOn x treating y → Continues x.serving y.serving m m'
-    → Through names f (all_of names x.serving.tables x.serving.log.owed b.serves.writes) states [] treating b.at y numbers
-    → ServesAs names first f y.serving (shutting.first_open y) m' (behind unopened treating states)
-serves_on names first f old x y m m' states treating numbers b t on th =
-    moved_ends names first f f (all_of names x.serving.tables x.serving.log.owed b.serves.writes) states treating (shutting.first_open y) y.treated y.serving y.serving.owner y.serving.count m'
-    (λ e. e) th.chain.moved
-    (again_of names first f f x.serving y.serving (shutting.first_open x) m m' states b.serves on.goes_on (th.chain.named ∙ sym b.chain.named) (λ calm. settled_on t (b.serves.none_owed calm)))
+-- so many were treated
+made_then : (old : Life) (leaf : Leaf) (m : Meaning) (x y : Shutting) (ns : List Note) (made : ℕ) → (b : Begun old leaf m x) → (th : Through (length (seated_of leaf).tables) ns b.at y)
+    → treated x + made ≡ treated y → b.at.treated + made ≡ th.q.treated
+made_then old leaf m x y ns made b th e = omega (arith, e, b.progress.treated_are, th.progress.treated_are)
 
 -- ---- each table is treated, and the leaf is down
 
-treated_each : (names : List (List ℕ)) (first : List ℕ → List Write) (f : Bool) (old : Life) (x y : Shutting) (m m' : Meaning) (states : ℕ → TableState) (treating : List Note) (numbers : List ℕ)
-    → AreDistinct names → (b : Begins names first f old x m states) → (t : TreatsOn x treating y) → AllTreated y → (left : Leaves x m m')
-    → (th : Through names f (all_of names x.serving.tables x.serving.log.owed b.serves.writes) states [] treating b.at y numbers)
-    → (i : ℕ) → i < length names → Treated f (th.chain.moved.states i) ((left b.serves.writes b.serves.backed).0 (name_at names i))
-treated_each names first f old x y m m' states treating numbers d b t done left th =
-    let on = left b.serves.writes b.serves.backed in
-    treated_at names f (all_of names x.serving.tables x.serving.log.owed b.serves.writes) states treating y th.q on.0 d th.chain done
-    (λ name. on.2 name ∙ sym (all_named names x.serving b.serves.writes name b.serves.named))
-
-treated_rests : (names : List (List ℕ)) (first : List ℕ → List Write) (f : Bool) (old : Life) (x y : Shutting) (m m' : Meaning) (states : ℕ → TableState) (notes : List Note) (numbers : List ℕ)
-    → AreDistinct names → (b : Begins names first f old x m states) → TreatsOn x notes y → AllTreated y → Leaves x m m'
-    → Through names f (all_of names x.serving.tables x.serving.log.owed b.serves.writes) states [] notes b.at y numbers
-    → RestsAs names first f m' (behind unopened notes states)
-treated_rests names first f old x y m m' states notes numbers d b t done left th =
-    let treated = treated_each names first f old x y m m' states notes numbers d b t done left th in
-    left_whole names first f x m m' states (behind unopened notes states) b.serves left
-    (λ i below. subst (λ s. Treated f s ((left b.serves.writes b.serves.backed).0 (name_at names i))) (sym (th.chain.moved.states_are i)) (treated i below))
-
-drained : (names : List (List ℕ)) (first : List ℕ → List Write) (f : Bool) (old : Life) (x y : Shutting) (m m' : Meaning) (states : ℕ → TableState) (treating notes : List Note) (numbers : List ℕ) (lines : List Line)
-    (stop : Option ℕ) (remaining : ℕ)
-    → AreDistinct names → Begins names first f old x m states → x.treated + remaining ≡ length x.serving.tables → MayMake stop (remaining + 4) → TreatsOn x treating y → AllTreated y
-    → notes ≡ treating ++ handed_notes 0 x.serving.names
-    → Leaves x m m' × IsWayOf m'.held.region Memory
-    → lines ≡ note_lines notes numbers ++ line.Ended Drain 0 ending.Done ∷ []
-    → Steward names first f old states (command.Drain 0 stop) lines notes ending.Done IsDown m'
-drained names first f old x y m m' states treating notes numbers lines stop remaining d b left_is may t done notes_are left lines_are =
-    let th = through names first f old x y m states treating numbers d b t in
-    let treated = treated_each names first f old x y m m' states treating numbers d b t done left.0 th in
-    let named : notes ≡ treating ++ handed_notes 0 names = notes_are ∙ ap (λ ns. treating ++ handed_notes 0 ns) b.chain.named in
-    let ended : List Line = line.Ended Drain 0 ending.Done ∷ [] in
-    let later = numbers_after treating numbers in
-    let handings = numbers_from 0 (map handing names) later in
-    let size : length handings ≡ length names = numbers_from-length 0 (map handing names) later ∙ length_mapped handing names in
-    rw named
-    (unopening names first f old states (command.Drain 0 stop) lines (treating ++ handed_notes 0 names) ending.Done (Down (Some Memory)) IsDown m' (
-      old,
+drained : (stop : Option ℕ) (old : Life) (m m' : Meaning) (leaf : Leaf) (x y : Shutting) (z : Seated) (treating handing notes : List Note) (left : ℕ)
+    → Begun old leaf m x → treated x + left ≡ length x.serving.seated.tables → MayMake stop (left + 4) → TreatsOn x treating y → AllTreated y
+    → EachNoted IsHandedNote 0 (length x.serving.seated.tables) handing → notes ≡ treating ++ handing → IsWayOf m'.held.region Memory
+    → Shaped stop old leaf notes ending.Done (IsDown z) m'
+drained stop old m m' leaf x y z treating handing notes left b left_is may t all noted notes_are is =
+    let th = through old leaf m x y treating b t in
+    let hand = lines_handed 0 (length x.serving.seated.tables) handing noted in
+    let ended : List Line = line.Ended Drain 0 ending.Done ∷ [] in (
       Down (Some Memory),
-      refl,
-      life.drains b.way b.at th.q (note_lines treating numbers) handings remaining (remaining_in names first f old x m states remaining b left_is) may b.begins th.life
-          (all_named_in names y th.q (length names) th.chain.treated done th.chain.moved.size) size
-          (lines_are ∙ (ap (λ ns. note_lines ns numbers ++ ended) named ∙ (lines_split treating (handed_notes 0 names) numbers ended
-          ∙ ap (λ ls. note_lines treating numbers ++ (ls ++ ended)) (handed_lines names later)))) refl,
-      refl,
+      life.drains b.way b.at th.q (note_lines treating) hand.0 left (left_then old leaf m x left b left_is) may b.begins th.treats
+          (none_left (length (seated_of leaf).tables) treating b.at y th all) (hand.1 ∙ b.tables)
+          (lines_split treating handing notes ended notes_are ∙ ap (λ ls. note_lines treating ++ (ls ++ ended)) hand.2) refl,
+      is,
     )
-    (λ i below. handed_fine names f treating states th.chain.moved.states _ i below (th.chain.moved.states_are i) (treated i below) (th.chain.moved.fine i below))
-    (subst (λ g. Stands names first g (Down (Some Memory)) IsDown m' (behind unopened (treating ++ handed_notes 0 names) states)) (sym (or_nothing f)) (
-      left_whole names first f x m m' states (behind unopened (treating ++ handed_notes 0 names) states) b.serves left.0
-          (λ i below. handed_at names f treating states th.chain.moved.states ((left.0 b.serves.writes b.serves.backed).0 (name_at names i)) i below (th.chain.moved.states_are i) (treated i below)),
-      left.1,
-    )))
 
 -- the region failed
-lost : (names : List (List ℕ)) (first : List ℕ → List Write) (f : Bool) (old : Life) (x y : Shutting) (m m' : Meaning) (states : ℕ → TableState) (notes : List Note) (numbers : List ℕ) (lines : List Line)
-    (stop : Option ℕ) (remaining : ℕ)
-    → AreDistinct names → Begins names first f old x m states → x.treated + remaining ≡ length x.serving.tables → MayMake stop (remaining + 2) → TreatsOn x notes y → AllTreated y
-    → Leaves x m m'
-    → lines ≡ note_lines notes numbers ++ line.Ended Drain 0 ending.FaultRegion ∷ []
-    → Steward names first f old states (command.Drain 0 stop) lines notes ending.FaultRegion IsDown m'
-lost names first f old x y m m' states notes numbers lines stop remaining d b left_is may t done left lines_are =
-    let th = through names first f old x y m states notes numbers d b t in
-    unopening names first f old states (command.Drain 0 stop) lines notes ending.FaultRegion (Down None) IsDown m' (
-      old,
+failed : (stop : Option ℕ) (old : Life) (m m' : Meaning) (leaf : Leaf) (x y : Shutting) (notes : List Note) (left : ℕ)
+    → Begun old leaf m x → treated x + left ≡ length x.serving.seated.tables → MayMake stop (left + 2) → TreatsOn x notes y → AllTreated y
+    → Shaped stop old leaf notes ending.FaultRegion (IsDown y.serving.seated) m'
+failed stop old m m' leaf x y notes left b left_is may t all =
+    let th = through old leaf m x y notes b t in (
       Down None,
-      refl,
-      life.region_fails b.way b.at th.q (note_lines notes numbers) remaining (remaining_in names first f old x m states remaining b left_is) may b.begins th.life
-          (all_named_in names y th.q (length names) th.chain.treated done th.chain.moved.size) lines_are refl,
-      refl,
-    )
-    th.chain.moved.fine
-    (subst (λ g. Stands names first g (Down None) IsDown m' (behind unopened notes states)) (sym (or_nothing f)) (
-      treated_rests names first f old x y m m' states notes numbers d b t done left th,
+      life.region_fails b.way b.at th.q (note_lines notes) left (left_then old leaf m x left b left_is) may b.begins th.treats
+          (none_left (length (seated_of leaf).tables) notes b.at y th all) refl refl,
       tt,
-    ))
+    )
 
 -- ---- the leaf goes on shutting its tables
 
-starved : (names : List (List ℕ)) (first : List ℕ → List Write) (f : Bool) (old : Life) (x y : Shutting) (m m' : Meaning) (states : ℕ → TableState) (notes : List Note) (numbers : List ℕ) (lines : List Line)
-    (stop : Option ℕ) (remaining : ℕ)
-    → AreDistinct names → Begins names first f old x m states → x.treated + remaining ≡ length x.serving.tables → MayMake stop (remaining + 1) → TreatsOn x notes y → AllTreated y
-    → Continues x.serving y.serving m m' → IsShutting y
-    → lines ≡ note_lines notes numbers ++ line.Ended Drain 0 ending.FaultMemory ∷ []
-    → Steward names first f old states (command.Drain 0 stop) lines notes ending.FaultMemory (IsPreparing y) m'
-starved names first f old x y m m' states notes numbers lines stop remaining d b left_is may t done on is lines_are =
-    let th = through names first f old x y m states notes numbers d b t in
-    let all = all_of names x.serving.tables x.serving.log.owed b.serves.writes in
-    let mv = th.chain.moved in
-    unopening names first f old states (command.Drain 0 stop) lines notes ending.FaultMemory (Preparing b.way th.q) (IsPreparing y) m' (
-      old,
+-- the copy has no room
+roomless : (stop : Option ℕ) (old : Life) (m m' : Meaning) (leaf : Leaf) (x y : Shutting) (notes : List Note) (left : ℕ)
+    → Begun old leaf m x → treated x + left ≡ length x.serving.seated.tables → MayMake stop (left + 1) → TreatsOn x notes y → AllTreated y
+    → m'.held.region ≡ m.held.region
+    → Shaped stop old leaf notes ending.FaultRoom (IsPreparing y) m'
+roomless stop old m m' leaf x y notes left b left_is may t all same =
+    let th = through old leaf m x y notes b t in (
       Preparing b.way th.q,
-      refl,
-      life.no_memory b.way b.at th.q (note_lines notes numbers) remaining (remaining_in names first f old x m states remaining b left_is) may b.begins th.life
-          (all_named_in names y th.q (length names) th.chain.treated done mv.size) lines_are refl,
-      refl,
+      life.no_room b.way b.at th.q (note_lines notes) left (left_then old leaf m x left b left_is) may b.begins th.treats
+          (none_left (length (seated_of leaf).tables) notes b.at y th all) refl refl,
+      (same_region m m' b.way same b.way_is, th.progress),
     )
-    mv.fine
-    (subst (λ g. Stands names first g (Preparing b.way th.q) (IsPreparing y) m' (behind unopened notes states)) (sym (or_nothing f)) (
-      serves_on names first f old x y m m' states notes numbers b t on th,
-      subst (λ region. IsWayOf region b.way) (sym on.region) b.way_is,
-      th.chain.owed,
-      th.chain.treated,
-      th.chain.shut,
-      moved_treated names f all states notes (shutting.first_open y) y.treated y.serving.tables y.serving.log.owed y.serving.owner y.serving.count mv,
-      is,
-    ))
 
-halted : (names : List (List ℕ)) (first : List ℕ → List Write) (f : Bool) (old : Life) (x y z : Shutting) (m m' : Meaning) (states : ℕ → TableState) (treating halting notes : List Note) (numbers : List ℕ) (lines : List Line)
-    (stop : Option ℕ) (made : ℕ)
-    → AreDistinct names → Begins names first f old x m states → x.treated + made ≡ y.treated → MayMake stop (suc made) → TreatsOn x treating y → y.treated < length y.serving.tables
-    → Halts y z halting → z.serving.names ≡ y.serving.names → notes ≡ treating ++ halting
-    → Continues x.serving z.serving m m' → IsShutting z
-    → lines ≡ note_lines notes numbers ++ line.Ended Drain 0 ending.FaultDisk ∷ []
-    → Steward names first f old states (command.Drain 0 stop) lines notes ending.FaultDisk (IsPreparing z) m'
-halted names first f old x y z m m' states treating halting notes numbers lines stop made d b made_is may t few h named notes_are on is lines_are =
-    let th = through names first f old x y m states treating numbers d b t in
-    let all = all_of names x.serving.tables x.serving.log.owed b.serves.writes in
-    let back = on.goes_on b.serves.writes b.serves.backed in
-    let ended : List Line = line.Ended Drain 0 ending.FaultDisk ∷ [] in
-    let hl = halts names f all states treating halting y z th.q (numbers_after treating numbers) back.0 m' d th.chain h named back.1 in
-    rw notes_are
-    (unopening names first f old states (command.Drain 0 stop) lines (treating ++ halting) ending.FaultDisk (Preparing b.way hl.r) (IsPreparing z) m' (
-      old,
-      Preparing b.way hl.r,
-      refl,
-      life.disk_fails b.way b.at th.q hl.r (note_lines treating numbers) (note_lines halting (numbers_after treating numbers)) made
-          (omega (arith, made_is, b.chain.treated, th.chain.treated)) may b.begins th.life
-          (omega (arith, few, th.chain.treated, th.chain.moved.size)) hl.life
-          (lines_are ∙ (ap (λ ns. note_lines ns numbers ++ ended) notes_are ∙ lines_split treating halting numbers ended)) refl,
-      refl,
+-- there is no memory
+starved : (stop : Option ℕ) (old : Life) (m m' : Meaning) (leaf : Leaf) (x y z : Shutting) (treating starving notes : List Note) (made : ℕ)
+    → Begun old leaf m x → treated x + made ≡ treated y → MayMake stop (suc made) → TreatsOn x treating y → Starves y z starving
+    → notes ≡ treating ++ starving → m'.held.region ≡ m.held.region
+    → Shaped stop old leaf notes ending.FaultMemory (IsPreparing z) m'
+starved stop old m m' leaf x y z treating starving notes made b made_is may t s notes_are same =
+    let th = through old leaf m x y treating b t in
+    let st = starves y z starving th.q th.progress s in (
+      Preparing b.way st.0,
+      life.no_memory b.way b.at th.q st.0 (note_lines treating) (note_lines starving) made (made_then old leaf m x y treating made b th made_is) may b.begins th.treats st.1
+          (lines_split treating starving notes (line.Ended Drain 0 ending.FaultMemory ∷ []) notes_are) refl,
+      (same_region m m' b.way same b.way_is, st.2),
     )
-    hl.moved.fine (
-      moved_ends names first f (f || true) all states (treating ++ halting) (shutting.first_open z) z.treated z.serving hl.owner hl.count m' (neither f true) hl.moved
-          (again_of names first f (f || true) x.serving z.serving (shutting.first_open x) m m' states b.serves on.goes_on (named ∙ (th.chain.named ∙ sym b.chain.named)) (λ e. absurd (some_fault f e))),
-      subst (λ region. IsWayOf region b.way) (sym on.region) b.way_is,
-      hl.owed,
-      hl.treated,
-      hl.shut,
-      moved_treated names f all states (treating ++ halting) (shutting.first_open z) z.treated z.serving.tables z.serving.log.owed hl.owner hl.count hl.moved,
-      is,
-    ))
 
--- ---- it is stopped, and the leaf is given up
+-- the disk fails
+halted : (stop : Option ℕ) (old : Life) (m m' : Meaning) (leaf : Leaf) (x y z : Shutting) (treating halting notes : List Note) (made : ℕ)
+    → Begun old leaf m x → treated x + made ≡ treated y → MayMake stop (suc made) → TreatsOn x treating y → treated y < length y.serving.seated.tables → Halts y z halting
+    → notes ≡ treating ++ halting → m'.held.region ≡ m.held.region
+    → Shaped stop old leaf notes ending.FaultDisk (IsPreparing z) m'
+halted stop old m m' leaf x y z treating halting notes made b made_is may t few h notes_are same =
+    let th = through old leaf m x y treating b t in
+    let hl = halts y z halting th.q th.progress h in (
+      Preparing b.way hl.0,
+      life.disk_fails b.way b.at th.q hl.0 (note_lines treating) (note_lines halting) made (made_then old leaf m x y treating made b th made_is) may b.begins th.treats
+          (omega (arith, few, th.progress.treated_are, th.size)) hl.1
+          (lines_split treating halting notes (line.Ended Drain 0 ending.FaultDisk ∷ []) notes_are) refl,
+      (same_region m m' b.way same b.way_is, hl.2),
+    )
+
+-- ---- it is stopped, and the leaf is killed
 
 -- while there were tables to treat, or at their end: each that is still open is closed
-stopped : (names : List (List ℕ)) (first : List ℕ → List Write) (f : Bool) (old : Life) (x y : Shutting) (m m' : Meaning) (states : ℕ → TableState) (treating notes : List Note) (numbers : List ℕ) (lines : List Line)
-    (stop : Option ℕ) (made : ℕ)
-    → BackedRests m' → AreDistinct names → Begins names first f old x m states → stop ≡ Some made → x.treated + made ≡ y.treated → TreatsOn x treating y
-    → notes ≡ treating ++ closed_notes (shutting.first_open y) (drop (shutting.first_open y) y.serving.tables)
-    → Continues x.serving y.serving m m' → IsShutting y
-    → lines ≡ note_lines notes numbers ++ line.Ended Drain 0 ending.Stopped ∷ []
-    → Steward names first f old states (command.Drain 0 stop) lines notes ending.Stopped IsDown m'
-stopped names first f old x y m m' states treating notes numbers lines stop made law d b stop_is made_is t notes_are on is lines_are =
-    let th = through names first f old x y m states treating numbers d b t in
-    let k = shutting.first_open y in
-    let ts = drop k y.serving.tables in
-    let closed = closed_notes k ts in
-    let between = behind unopened treating states in
-    let kl = killed names first f y.serving k m' between law (serves_on names first f old x y m m' states treating numbers b t on th) in
+stopped : (stop : Option ℕ) (old : Life) (m m' : Meaning) (leaf : Leaf) (x y : Shutting) (z : Seated) (treating closing notes : List Note) (made count : ℕ)
+    → Begun old leaf m x → stop ≡ Some made → treated x + made ≡ treated y → TreatsOn x treating y
+    → length y.closed + count ≡ length y.serving.seated.tables → EachNoted IsClosedNote (length y.closed) count closing
+    → notes ≡ treating ++ closing → m'.held.region ≡ m.held.region
+    → Shaped stop old leaf notes ending.Stopped (IsDown z) m'
+stopped stop old m m' leaf x y z treating closing notes made count b stop_is made_is t count_is noted notes_are same =
+    let th = through old leaf m x y treating b t in
+    let shut = lines_closed (length y.closed) count closing noted in
     let ended : List Line = line.Ended Drain 0 ending.Stopped ∷ [] in
-    let later = numbers_after treating numbers in
-    let closings = numbers_from k (map closing ts) later in
-    let writes = map (λ (t : Table). t.writes) ts in
-    let size : length closings ≡ length ts = numbers_from-length k (map closing ts) later ∙ length_mapped closing ts in
-    let rest : k + length ts ≡ length names = omega (arith, th.chain.moved.size, is.few, length-drop k y.serving.tables) in
-    let same : life.first_open th.q ≡ k = same_open th.q y th.chain.treated th.chain.shut in
-    rw notes_are
-    (unopening names first f old states (command.Drain 0 stop) lines (treating ++ closed) ending.Stopped (Down (Some b.way)) IsDown m' (
-      old,
+    let place : length y.closed ≡ first_open th.q = th.progress.closed in (
       Down (Some b.way),
-      refl,
-      life.stops_treating b.way b.at th.q (note_lines treating numbers) made closings writes stop_is
-          (omega (arith, made_is, b.chain.treated, th.chain.treated)) b.begins th.life
-          (ap (λ n. n + length closings) same ∙ (ap (λ n. k + n) size ∙ rest))
-          (length_mapped (λ (t : Table). t.writes) ts ∙ sym size)
-          (lines_are ∙ (ap (λ ns. note_lines ns numbers ++ ended) notes_are ∙ (lines_split treating closed numbers ended
-          ∙ ap (λ ls. note_lines treating numbers ++ (ls ++ ended)) (closed_lines k ts later ∙ ap (λ n. table_lines 0 n closings (map said.Closed writes)) (sym same))))) refl,
-      refl,
+      life.stops_treating b.way b.at th.q (note_lines treating) made shut.0 shut.1 stop_is (made_then old leaf m x y treating made b th made_is) b.begins th.treats
+          (ap (λ n. n + length shut.0) (sym place) ∙ (ap (λ n. length y.closed + n) shut.2 ∙ (count_is ∙ th.size)))
+          (shut.3 ∙ sym shut.2)
+          (lines_split treating closing notes ended notes_are
+          ∙ ap (λ ls. note_lines treating ++ (ls ++ ended)) (shut.4 ∙ ap (λ n. table_lines 0 n shut.0 (map said.Closed shut.1)) place)) refl,
+      same_region m m' b.way same b.way_is,
     )
-    (λ i below. fine_more treating closed states between i refl (th.chain.moved.fine i below) (kl.fine i below))
-    (subst (λ g. Stands names first g (Down (Some b.way)) IsDown m' (behind unopened (treating ++ closed) states)) (sym (or_nothing f)) (
-      RestsAs-same names first f m' (behind unopened closed between) (behind unopened (treating ++ closed) states) (λ i. behind_more treating closed states between i refl) kl.rests,
-      subst (λ region. IsWayOf region b.way) (sym on.region) b.way_is,
-    )))
 
 -- the way of the next start is as before, or its region is closed
 way_behind : (further : ℕ) (way : Way) (m m' : Meaning) → IsWayOf m.held.region way → RegionStopped further m m' → IsWayOf m'.held.region (way_stopped further way)
 way_behind further way m m' was now = by (nat_lt 1 further) now
   where
     by : (b : Bool) → MatchBool b (IsWayOf m'.held.region (Disk (why.Closed 0))) (m'.held.region ≡ m.held.region) → IsWayOf m'.held.region (if b then Disk (why.Closed 0) else way)
-    by true begun = begun
-    by false same = subst (λ region. IsWayOf region way) (sym same) was
+    by true begun_then = begun_then
+    by false same = same_region m m' way same was
 
 -- in the steps behind the tables'
-stopped_copying : (names : List (List ℕ)) (first : List ℕ → List Write) (f : Bool) (old : Life) (x y : Shutting) (m m' : Meaning) (states : ℕ → TableState) (notes : List Note) (numbers : List ℕ) (lines : List Line)
-    (stop : Option ℕ) (remaining further : ℕ)
-    → AreDistinct names → Begins names first f old x m states → stop ≡ Some (remaining + further) → x.treated + remaining ≡ length x.serving.tables → 0 < further → further < 4
-    → TreatsOn x notes y → AllTreated y
-    → Leaves x m m' × RegionStopped further m m'
-    → lines ≡ note_lines notes numbers ++ line.Ended Drain 0 ending.Stopped ∷ []
-    → Steward names first f old states (command.Drain 0 stop) lines notes ending.Stopped IsDown m'
-stopped_copying names first f old x y m m' states notes numbers lines stop remaining further d b stop_is left_is some few t done left lines_are =
-    let th = through names first f old x y m states notes numbers d b t in
-    let claim : Life = Down (Some (way_stopped further b.way)) in
-    unopening names first f old states (command.Drain 0 stop) lines notes ending.Stopped claim IsDown m' (
-      old,
-      claim,
-      refl,
-      life.stops_copying b.way b.at th.q (note_lines notes numbers) remaining further stop_is (remaining_in names first f old x m states remaining b left_is) some few b.begins th.life
-          (all_named_in names y th.q (length names) th.chain.treated done th.chain.moved.size) lines_are refl,
-      refl,
+stopped_copying : (stop : Option ℕ) (old : Life) (m m' : Meaning) (leaf : Leaf) (x y : Shutting) (notes : List Note) (left further : ℕ)
+    → Begun old leaf m x → stop ≡ Some (left + further) → treated x + left ≡ length x.serving.seated.tables → 0 < further → further < 4
+    → TreatsOn x notes y → AllTreated y → RegionStopped further m m'
+    → Shaped stop old leaf notes ending.Stopped (IsDown y.serving.seated) m'
+stopped_copying stop old m m' leaf x y notes left further b stop_is left_is some few t all region =
+    let th = through old leaf m x y notes b t in (
+      Down (Some (way_stopped further b.way)),
+      life.stops_copying b.way b.at th.q (note_lines notes) left further stop_is (left_then old leaf m x left b left_is) some few b.begins th.treats
+          (none_left (length (seated_of leaf).tables) notes b.at y th all) refl refl,
+      way_behind further b.way m m' b.way_is region,
     )
-    th.chain.moved.fine
-    (subst (λ g. Stands names first g claim IsDown m' (behind unopened notes states)) (sym (or_nothing f)) (
-      treated_rests names first f old x y m m' states notes numbers d b t done left.0 th,
-      way_behind further b.way m m' b.way_is left.1,
-    ))
+
+-- ---- the leaf is down
+
+not_up : (stop : Option ℕ) (old : Life) (m m' : Meaning) (leaf : Leaf) → FitsLife old leaf m → IsDownLeaf leaf → m'.held ≡ m.held → Shaped stop old leaf [] ending.NotUp leaf m'
+not_up stop (Down None) m m' (IsDown x) fits down same = (Down None, life.not_up tt refl refl, tt)
+not_up stop (Down (Some way)) m m' (IsDown x) fits down same = (Down (Some way), life.not_up tt refl refl, same_region m m' way (ap (λ (h : _). h.region) same) fits)
+not_up stop (Up way owed) m m' (IsDown x) fits down same = absurd fits
+not_up stop (Preparing way p) m m' (IsDown x) fits down same = absurd fits
+not_up stop old m m' (IsUp s) fits down same = absurd down
+not_up stop old m m' (IsPreparing x) fits down same = absurd down
 
 -- ---- any drain
 
-told_lines : (notes : List Note) (numbers : List ℕ) (ends e : Ending) (lines : List Line) → ends ≡ e → lines ≡ note_lines notes numbers ++ line.Ended Drain 0 ends ∷ []
-    → lines ≡ note_lines notes numbers ++ line.Ended Drain 0 e ∷ []
-told_lines notes numbers ends e lines is h = subst (λ x. lines ≡ note_lines notes numbers ++ line.Ended Drain 0 x ∷ []) is h
-
-draining : (names : List (List ℕ)) (first : List ℕ → List Write) (f : Bool) (old : Life) (m m' : Meaning) (states : ℕ → TableState) (leaf leaf' : Leaf) (numbers numbers' : List ℕ) (lines : List Line)
-    (stop : Option ℕ) (notes : List Note) (ends : Ending)
-    → BackedRests m' → IsTrue m.tells → AreDistinct names
-    → Stands names first f old leaf m states
-    → DrainMoves m m' leaf stop notes ends leaf' → StewardLines Drain notes ends numbers lines numbers' → (leaf ≡ IsDown → Untouched m m')
-    → Steward names first f old states (command.Drain 0 stop) lines notes ends leaf' m'
-draining names first f old m m' states leaf leaf' numbers numbers' lines stop notes ends law tells d h (steps.done x y treating remaining shuts left_is may t done notes_are left ends_are leaf_is) prints others =
+pub drain_shape : (base : Tables) (stop : Option ℕ) (life : Life) (m m' : Meaning) (leaf : Leaf) (notes : List Note) (ends : Ending) (leaf' : Leaf)
+    → IsTrue m.tells → AreFounded (seated_of leaf) → Stands base leaf m
+    → FitsLife life leaf m → DrainMoves m m' leaf stop notes ends leaf'
+    → (life' : Life) × Drains (length (seated_of leaf).tables) 0 stop life (note_lines notes ++ line.Ended Drain 0 ends ∷ []) life' × FitsLife life' leaf' m'
+drain_shape base stop old m m' leaf notes ends leaf' tells founded stands fits (steps.done x y z treating handing left shuts left_is may t all part noted notes_are region ends_are leaf_is) =
+    rw (ends_are, leaf_is) (drained stop old m m' leaf x y z treating handing notes left (begun old leaf m x fits shuts) left_is may t all noted notes_are (region base tells founded stands))
+drain_shape base stop old m m' leaf notes ends leaf' tells founded stands fits (steps.failed x y left shuts left_is may t all ends_are leaf_is) =
+    rw (ends_are, leaf_is) (failed stop old m m' leaf x y notes left (begun old leaf m x fits shuts) left_is may t all)
+drain_shape base stop old m m' leaf notes ends leaf' tells founded stands fits (steps.roomless x y left shuts left_is may t all region ends_are leaf_is) =
+    rw (ends_are, leaf_is) (roomless stop old m m' leaf x y notes left (begun old leaf m x fits shuts) left_is may t all (region tells))
+drain_shape base stop old m m' leaf notes ends leaf' tells founded stands fits (steps.starved x y z treating starving made shuts made_is may t s part notes_are region ends_are leaf_is) =
+    rw (ends_are, leaf_is) (starved stop old m m' leaf x y z treating starving notes made (begun old leaf m x fits shuts) made_is may t s notes_are (region tells))
+drain_shape base stop old m m' leaf notes ends leaf' tells founded stands fits (steps.halted x y z treating halting made shuts made_is may t few h notes_are region ends_are leaf_is) =
+    rw (ends_are, leaf_is) (halted stop old m m' leaf x y z treating halting notes made (begun old leaf m x fits shuts) made_is may t few h notes_are (region tells))
+drain_shape base stop old m m' leaf notes ends leaf' tells founded stands fits (steps.stopped x y z treating closing made count shuts stop_is made_is t count_is noted part notes_are region serves ends_are leaf_is) =
     rw (ends_are, leaf_is)
-    (drained names first f old x y m m' states treating notes numbers lines stop remaining d (begins_with names first f old leaf x m states h shuts) left_is may t done notes_are (left tells)
-    (told_lines notes numbers ends ending.Done lines ends_are prints.lines_are))
-draining names first f old m m' states leaf leaf' numbers numbers' lines stop notes ends law tells d h (steps.failed x y remaining shuts left_is may t done left ends_are leaf_is) prints others =
-    rw (ends_are, leaf_is)
-    (lost names first f old x y m m' states notes numbers lines stop remaining d (begins_with names first f old leaf x m states h shuts) left_is may t done (left tells)
-    (told_lines notes numbers ends ending.FaultRegion lines ends_are prints.lines_are))
-draining names first f old m m' states leaf leaf' numbers numbers' lines stop notes ends law tells d h (steps.starved x y remaining shuts left_is may t done on is ends_are leaf_is) prints others =
-    rw (ends_are, leaf_is)
-    (starved names first f old x y m m' states notes numbers lines stop remaining d (begins_with names first f old leaf x m states h shuts) left_is may t done (on tells) is
-    (told_lines notes numbers ends ending.FaultMemory lines ends_are prints.lines_are))
-draining names first f old m m' states leaf leaf' numbers numbers' lines stop notes ends law tells d h (steps.halted x y z treating halting made shuts made_is may t few hl named notes_are on is ends_are leaf_is) prints others =
-    rw (ends_are, leaf_is)
-    (halted names first f old x y z m m' states treating halting notes numbers lines stop made d (begins_with names first f old leaf x m states h shuts) made_is may t few hl named notes_are (on tells) is
-    (told_lines notes numbers ends ending.FaultDisk lines ends_are prints.lines_are))
-draining names first f old m m' states leaf leaf' numbers numbers' lines stop notes ends law tells d h (steps.stopped x y treating made shuts stop_is made_is t notes_are on is ends_are leaf_is) prints others =
-    rw (ends_are, leaf_is)
-    (stopped names first f old x y m m' states treating notes numbers lines stop made law d (begins_with names first f old leaf x m states h shuts) stop_is made_is t notes_are (on tells) is
-    (told_lines notes numbers ends ending.Stopped lines ends_are prints.lines_are))
-draining names first f old m m' states leaf leaf' numbers numbers' lines stop notes ends law tells d h (steps.stopped_copying x y remaining further shuts stop_is left_is some few t done left ends_are leaf_is) prints others =
-    rw (ends_are, leaf_is)
-    (stopped_copying names first f old x y m m' states notes numbers lines stop remaining further d (begins_with names first f old leaf x m states h shuts) stop_is left_is some few t done (left tells)
-    (told_lines notes numbers ends ending.Stopped lines ends_are prints.lines_are))
-draining names first f old m m' states leaf leaf' numbers numbers' lines stop notes ends law tells d h (steps.not_up down notes_are ends_are leaf_is) prints others =
-    let l = down_life names first f old leaf m states h down in
-    rw (notes_are, ends_are, leaf_is)
-    (nothing_done names first f old leaf m m' states (command.Drain 0 stop) lines ending.NotUp (
-      old,
-      old,
-      refl,
-      life.not_up (subst life.IsDownLife (sym l.is) tt)
-          (told_lines [] numbers ends ending.NotUp lines ends_are (subst (λ ns. lines ≡ note_lines ns numbers ++ line.Ended Drain 0 ends ∷ []) notes_are prints.lines_are)) refl,
-      refl,
-    )
-    refl (others down) h)
-
-pub drain_goes_on : (names : List (List ℕ)) (way : Way) (first : List ℕ → List Write) (commands : List Command) (out : List Line) (leaf : Leaf) (m m' : Meaning) (numbers : List ℕ)
-    (stop : Option ℕ) (lines : List Line) (leaf' : Leaf) (numbers' : List ℕ)
-    → BackedRests m' → IsTrue m.tells
-    → Session names way first commands out leaf m numbers → DrainStep stop m m' leaf numbers lines leaf' numbers'
-    → Session names way first (commands ++ command.Drain 0 stop ∷ []) (out ++ lines) leaf' m' numbers'
-drain_goes_on names way first commands out leaf m m' numbers stop lines leaf' numbers' law tells s step =
-    steward_goes_on names way first commands out leaf m numbers (command.Drain 0 stop) Drain step.notes step.ends lines leaf' m' numbers' s step.prints (λ hs. (tt, tt))
-    (draining names first s.faulted s.life m m' (now_at names first s.histories) leaf leaf' numbers numbers' lines stop step.notes step.ends law tells s.distinct s.stands step.moves step.prints step.others)
+    (stopped stop old m m' leaf x y z treating closing notes made count (begun old leaf m x fits shuts) stop_is made_is t count_is noted notes_are (region tells))
+drain_shape base stop old m m' leaf notes ends leaf' tells founded stands fits (steps.stopped_copying x y left further shuts stop_is left_is some few t all region ends_are leaf_is) =
+    rw (ends_are, leaf_is) (stopped_copying stop old m m' leaf x y notes left further (begun old leaf m x fits shuts) stop_is left_is some few t all (region base tells founded stands))
+drain_shape base stop old m m' leaf notes ends leaf' tells founded stands fits (steps.not_up down notes_are held ends_are leaf_is) =
+    rw (notes_are, ends_are, leaf_is) (not_up stop old m m' leaf fits down held)

@@ -1,17 +1,15 @@
 -- A table's history goes on by some entries.
-use Rattle.std.proofs.Common.{◌≡◌, ℕ, suc, ◌+◌, ◌-◌, ◌≤◌, ◌||◌, ◌==◌, not, Bool, true, false, List, [], ◌∷◌, ◌++◌, length, take, refl, sym, ap, subst, ◌∙◌, arith, Some}
-use Rattle.std.specs.Prelude.{slice_get, if◌then◌else◌}
+use Rattle.std.proofs.Common.{◌≡◌, ℕ, suc, ◌-◌, ◌≤◌, ◌||◌, ◌==◌, not, Bool, true, false, List, [], ◌∷◌, ◌++◌, length, take, refl, sym, ap, subst, ◌∙◌, arith}
+use Rattle.std.specs.Prelude.{if◌then◌else◌}
 use Rattle.std.specs.List.{AllByRecursion}
 use Rattle.std.proofs.lemmas.Bool.{eqb-true}
 use Rattle.std.proofs.lemmas.List.{append_assoc, length-append, take-append-le, take_all}
-use Rattle.leaf_history.specs.History.{Entry, TableState, LegalFrom, after, held}
-use Rattle.leaf_history.proofs.Histories.{LegalFrom-append}
-use Rattle.script_text.specs.declared.command.Command.{Command}
+use Rattle.leaf_history.specs.History.{Entry, TableState, after, held}
 use Rattle.printed_lines.specs.declared.line.Line.{Line}
-use Rattle.transcript.specs.Transcript.{Played, shown, shown_in, Tells, OpensFlushed, disk_faults_in, until_disk_fault, rows_before}
-use Rattle.transcript.specs.Session.{Faults, TableNow}
+use Rattle.transcript.specs.Transcript.{Played, shown, shown_in, OpensFlushed, disk_faults_in, until_disk_fault, rows_before}
+use Rattle.transcript.specs.Session.{Faults}
 use Rattle.transcript.proofs.Lists.{All-append}
-use Rattle.transcript.proofs.Telling.{Tells-append, Tells-length, shown-snoc, Opens-append}
+use Rattle.transcript.proofs.Telling.{Opens-append}
 
 -- ---- faults of the disk
 
@@ -58,17 +56,10 @@ fewer_before table (p ∷ ps) = by (disk_faults_in 0 p.lines == 0) (fewer_before
 
 -- ---- one table
 
--- what one command adds to a table, that stands so and has so many entries
-pub record TableStep (table : ℕ) (c : Command) (lines : List Line) (faulted : Bool) (s : TableState) (n : ℕ) (numbers : List ℕ) (es : List Entry) : Type 0 where
-  pub tells : Tells (suc n) (shown_in 0 table c lines) es
-  pub legal : LegalFrom true s es
-  pub number : slice_get numbers table ≡ Some (n + length es)
-  pub opened : faulted ≡ false → has_fault lines ≡ false → OpensFlushed s es
-
-abbrev Opened : TableState → ℕ → List Played → List Entry → Type 0
+abbrev pub Opened : TableState → ℕ → List Played → List Entry → Type 0
 Opened base table ps es = OpensFlushed base (take (length (shown 0 table (until_disk_fault 0 ps))) es)
 
-opened_on : (base : TableState) (table : ℕ) (ps : List Played) (p : Played) (faulted : Bool) (entries es : List Entry)
+pub opened_on : (base : TableState) (table : ℕ) (ps : List Played) (p : Played) (faulted : Bool) (entries es : List Entry)
     → Faults faulted ps
     → length (shown 0 table ps) ≡ length entries
     → length (shown 0 table (ps ++ p ∷ [])) ≡ length (entries ++ es)
@@ -87,24 +78,6 @@ opened_on base table ps p false entries es faults count count' h more = by (disk
     by true e = rw (no_fault_until (ps ++ p ∷ []) (no_more ps p faults e), take_all (length (shown 0 table (ps ++ p ∷ []))) (entries ++ es) (omega (arith, count')))
         (Opens-append base entries es old (more refl (ap not e)))
     by false e = rw (first_fault ps [] p faults e, take-append-le (length (shown 0 table ps)) entries es (omega (arith, count)), take_all (length (shown 0 table ps)) entries (omega (arith, count))) old
-
-pub table_goes_on : (base : TableState) (table : ℕ) (ps : List Played) (p : Played) (faulted : Bool) (entries : List Entry) (numbers numbers' : List ℕ) (es : List Entry)
-    → Faults faulted ps
-    → TableNow base table ps entries numbers
-    → TableStep table p.command p.lines faulted (after true base entries) (length entries) numbers' es
-    → TableNow base table (ps ++ p ∷ []) (entries ++ es) numbers'
-table_goes_on base table ps p faulted entries numbers numbers' es faults t step =
-    let next : suc (length entries) ≡ 1 + length entries = omega arith in
-    let tells : Tells 1 (shown 0 table (ps ++ p ∷ [])) (entries ++ es) =
-    rw (shown-snoc 0 table ps p)
-    (Tells-append 1 (shown 0 table ps) (shown_in 0 table p.command p.lines) entries es t.history.tells
-    (subst (λ k. Tells k (shown_in 0 table p.command p.lines) es) next step.tells)) in
-    record {
-      history = record { legal = LegalFrom-append true base entries es t.history.legal step.legal; tells = tells };
-      opened = opened_on base table ps p faulted entries es faults (Tells-length 1 (shown 0 table ps) entries t.history.tells)
-          (Tells-length 1 (shown 0 table (ps ++ p ∷ [])) (entries ++ es) tells) t.opened step.opened;
-      number = step.number ∙ ap Some (sym (length-append entries es));
-    }
 
 -- ---- rows before an entry
 

@@ -1,194 +1,297 @@
--- The notes of a steward's command: the entries that they are, and the lines that tell them.
-use Rattle.std.proofs.Common.{◌≡◌, ℕ, zero, suc, ◌+◌, ◌<◌, ◌==◌, not, Bool, true, false, List, [], ◌∷◌, ◌++◌, length, map, refl, sym, ap, subst, ◌∙◌, arith, Some}
-use Rattle.std.specs.Prelude.{slice_get, slice_index, if◌then◌else◌}
-use Rattle.std.proofs.lemmas.Bool.{eq-eqb, ne_eqb, eqb-true, eqb-false}
-use Rattle.leaf_model.specs.Content.{Contents, nothing}
+-- The notes of a steward's command: the entries that they are at each table, and the lines that tell them.
+use Rattle.std.proofs.Common.{◌≡◌, ◌⊎◌, inl, ⊎_elim, ℕ, suc, ◌+◌, ◌≤◌, ◌==◌, Bool, true, false, List, [], ◌∷◌, ◌++◌, length, take, refl, sym, ap, subst, ◌∙◌, arith, Option, Some}
+use Rattle.std.specs.Prelude.{slice_get, slice_set}
+use Rattle.std.specs.List.{AllByRecursion}
+use Rattle.std.proofs.lemmas.Bool.{eqb-true, eqb-false}
+use Rattle.std.proofs.lemmas.List.{append-nil, append_assoc, append_cancel_left, length-append, length-map, map-append}
+use Rattle.turnstile.specs.Ids.{OwnsId, LongerOf}
+use Rattle.turnstile.specs.Seats.{Owns, Others, Told}
+use Rattle.turnstile.proofs.Prefixes.{prefix_whole}
 use Rattle.leaf_history.specs.Calls.{Call}
 use Rattle.leaf_history.specs.Calls as call
 use Rattle.leaf_history.specs.Replies.{Reply}
 use Rattle.leaf_history.specs.Replies as reply
-use Rattle.leaf_history.specs.History.{Entry, TableState, after}
-use Rattle.leaf_machine.specs.declared.notes.Note.{Note}
-use Rattle.leaf_machine.specs.declared.notes.What.{What}
-use Rattle.leaf_machine.specs.declared.notes.What.TheVariants as what
-use Rattle.leaf_machine.specs.Notes.{note}
+use Rattle.leaf_history.specs.History.{TableState, Entry, LegalFrom, after}
 use Rattle.script_text.specs.declared.command.Command.{Command}
-use Rattle.printed_lines.specs.declared.line.Verb.{Verb}
-use Rattle.printed_lines.specs.declared.line.Ending.{Ending}
 use Rattle.printed_lines.specs.declared.line.Line.{Line}
-use Rattle.printed_lines.specs.declared.line.Line.TheVariants as line
-use Rattle.transcript.specs.Life.{table_lines}
-use Rattle.transcript.specs.Steps.{said_of_note, raised, next_line, note_lines, numbers_after}
-use Rattle.transcript.specs.Transcript.{Shows, shown_in, Tells, is_disk_fault, disk_faults_in}
-use Rattle.transcript.proofs.Lists.{get_set_same, get_set_other, length_set, index_found}
-use Rattle.transcript.proofs.Growing.{has_fault}
+use Rattle.leaf_table.specs.declared.base.TableBase.{TableBase}
+use Rattle.leaf_table.specs.Turns.{Shared, Turns, told, history, is_founded, start_of}
+use Rattle.leaf_table.specs.Calls.{SeatView, AreOthers, AreOwnOrStewards, OwnsTheRest, Made, base_of, entry_of, seen_of}
+use Rattle.leaf_table.proofs.Knowing.{makers_known}
+use Rattle.leaf_steward.specs.declared.notes.Note.{Note}
+use Rattle.leaf_steward.specs.declared.notes.What.{What}
+use Rattle.leaf_steward.specs.declared.notes.What.TheVariants as what
+use Rattle.leaf_steward.specs.Seated.{Seated}
+use Rattle.leaf_steward.specs.Making.{Makes, MadeAs, OneEntry}
+use Rattle.transcript.specs.Transcript.{Played, Shows, Tells, OpensFlushed, as_read, shown, shown_in, until_disk_fault}
+use Rattle.transcript.specs.Stage.{Meets}
+use Rattle.transcript.specs.Steps.{said_of_note, note_lines}
+use Rattle.transcript.specs.Session.{Faults, IsStewards, IsCallers, TableMet, TellsOwn}
+use Rattle.transcript.proofs.Lists.{same_some, get_set_same, get_set_other}
+use Rattle.transcript.proofs.Telling.{Tells-append, Tells-length, shown-snoc}
+use Rattle.transcript.proofs.Growing.{has_fault, opened_on}
+use Rattle.transcript.proofs.Terms.{Notes, SameIds}
+use Rattle.transcript.proofs.Gaps.{own_tells, own_same}
 
--- ---- entries
+-- ---- the ids of a seat
 
-abbrev pub steward : Call → Reply → Entry
-steward c r = record { caller = 0; call = c; reply = r; clock = 0 }
+same_here : (v w : SeatView) → w ≡ v → SameIds v w
+same_here v w e = record { id = ap (λ (u : SeatView). u.id) e; share = ap (λ (u : SeatView). u.share) e; taken = ap (λ (u : SeatView). u.taken) e }
 
--- the entry of a note; what a table was opened with is known of its place
-abbrev pub entry_of : (ℕ → Contents) → ℕ → What → Entry
-entry_of contents place (what.Opened n) = steward (call.Open n (contents place)) reply.Noted
-entry_of contents place (what.Took n) = steward call.Take (reply.Counted n)
-entry_of contents place (what.Flushed n) = steward (call.Flushed n) reply.Noted
-entry_of contents place (what.Closed n) = steward call.Shut (reply.Counted n)
-entry_of contents place what.Handed = steward call.Done reply.Noted
+same_back : (v w : SeatView) → SameIds v w → SameIds w v
+same_back v w same = record { id = sym same.id; share = sym same.share; taken = sym same.taken }
 
--- those of one table
-abbrev pub entries_at : (ℕ → Contents) → ℕ → List Note → List Entry
-entries_at contents t [] = []
-entries_at contents t (n ∷ ns) = if n.table == t then entry_of contents n.table n.what ∷ entries_at contents t ns else entries_at contents t ns
+same_on : (u v w : SeatView) → SameIds u v → SameIds v w → SameIds u w
+same_on u v w old new = record { id = new.id ∙ old.id; share = new.share ∙ old.share; taken = new.taken ∙ old.taken }
 
--- where none is opened
-abbrev pub unopened : ℕ → Contents
-unopened place = nothing
+-- an entry leaves them
+same_made : (base : Option TableBase) (clock : ℕ) (v w : SeatView) (c : Call) (r : Reply) → Made base clock v c r w → SameIds v w
+same_made base clock v w c r m = record {
+  id = ap (λ (u : SeatView). u.id) m.place;
+  share = ap (λ (u : SeatView). u.share) m.place;
+  taken = ap (λ (u : SeatView). u.taken) m.place;
+}
 
--- the states behind the notes
-abbrev pub behind : (ℕ → Contents) → List Note → (ℕ → TableState) → ℕ → TableState
-behind contents notes states t = after true (states t) (entries_at contents t notes)
+-- and so does a meeting
+same_told : (v u w : SeatView) → Told v u w → SameIds v w
+same_told v u w t = record {
+  id = ap (λ (x : SeatView). x.id) t.view;
+  share = ap (λ (x : SeatView). x.share) t.view;
+  taken = ap (λ (x : SeatView). x.taken) t.view;
+}
 
-pub entries_here : (contents : ℕ → Contents) (t : ℕ) (w : What) (ns : List Note) → entries_at contents t (note t w ∷ ns) ≡ entry_of contents t w ∷ entries_at contents t ns
-entries_here contents t w ns = rw (eq-eqb t t refl) refl
+owns_back : (v w : SeatView) (x : ℕ) → SameIds v w → Owns w x → Owns v x
+owns_back v w x same owns =
+    subst (λ k. OwnsId k v.share v.taken x) same.id (subst (λ k. OwnsId w.id k v.taken x) same.share (subst (λ ids. OwnsId w.id w.share ids x) same.taken owns))
 
-pub entries_elsewhere : (contents : ℕ → Contents) (place t : ℕ) (w : What) (ns : List Note) → (t ≡ place → ⊥) → entries_at contents t (note place w ∷ ns) ≡ entries_at contents t ns
-entries_elsewhere contents place t w ns other = rw (ne_eqb place t (λ e. other (sym e))) refl
+-- ---- one note
 
-chosen : (b : Bool) (e : Entry) (xs ys : List Entry) → (if b then e ∷ (xs ++ ys) else (xs ++ ys)) ≡ (if b then e ∷ xs else xs) ++ ys
-chosen true e xs ys = refl
-chosen false e xs ys = refl
+-- whatever a note tells of is one entry, which its line shows
+one_made : (base : Option TableBase) (clock : ℕ) (command : Command) (v w : SeatView) (what : What) → MadeAs base clock v what w
+    → (c : Call) × (r : Reply) × Made base clock v c r w × Shows command (said_of_note what) (entry_of v.id clock c r)
+one_made base clock command v w (what.Opened n) m = (call.Open n m.0, reply.Noted, m.1, (m.0, refl))
+one_made base clock command v w (what.Took n) m = (call.Take, reply.Counted n, m, (refl, refl))
+one_made base clock command v w (what.Flushed n) m = (call.Flushed n, reply.Noted, m, refl)
+one_made base clock command v w (what.Closed n) m = (call.Shut, reply.Counted n, m, (refl, refl))
+one_made base clock command v w what.Handed m = (call.Done, reply.Noted, m, refl)
 
-pub entries-append : (contents : ℕ → Contents) (t : ℕ) (xs ys : List Note) → entries_at contents t (xs ++ ys) ≡ entries_at contents t xs ++ entries_at contents t ys
-entries-append contents t [] ys = refl
-entries-append contents t (x ∷ xs) ys =
-    ap (λ es. if x.table == t then entry_of contents x.table x.what ∷ es else es) (entries-append contents t xs ys)
-    ∙ chosen (x.table == t) (entry_of contents x.table x.what) (entries_at contents t xs) (entries_at contents t ys)
+made_legal : (base : Option TableBase) (clock : ℕ) (v w : SeatView) (what : What) → MadeAs base clock v what w → LegalFrom (is_founded base) (start_of base) (seen_of w)
+made_legal base clock v w (what.Opened n) m = m.1.legal
+made_legal base clock v w (what.Took n) m = m.legal
+made_legal base clock v w (what.Flushed n) m = m.legal
+made_legal base clock v w (what.Closed n) m = m.legal
+made_legal base clock v w what.Handed m = m.legal
 
--- ---- lines
+no_notes : (place : ℕ) (c : Command) (rest : List Line) (v w : SeatView) → w ≡ v → shown_in 0 place c rest ≡ [] → Notes place c rest [] v w
+no_notes place c rest v w same none = record {
+  entries = [];
+  seen = ap (λ (u : SeatView). seen_of u) same ∙ sym (append-nil (seen_of v));
+  tells = rw none refl;
+  ids = same_here v w same;
+}
 
-pub lines-append : (xs ys : List Note) (numbers : List ℕ) → note_lines (xs ++ ys) numbers ≡ note_lines xs numbers ++ note_lines ys (numbers_after xs numbers)
-lines-append [] ys numbers = refl
-lines-append (x ∷ xs) ys numbers = ap (λ ls. next_line numbers x.table (said_of_note x.what) ∷ ls) (lines-append xs ys (raised numbers x.table))
-
-pub numbers-length : (notes : List Note) (numbers : List ℕ) → length (numbers_after notes numbers) ≡ length numbers
-numbers-length [] numbers = refl
-numbers-length (n ∷ ns) numbers = numbers-length ns (raised numbers n.table) ∙ length_set numbers n.table (suc (slice_index numbers n.table))
-
--- a note tells of no fault
-pub no_fault_in : (notes : List Note) (numbers : List ℕ) (rest : List Line) → disk_faults_in 0 (note_lines notes numbers ++ rest) ≡ disk_faults_in 0 rest
-no_fault_in [] numbers rest = refl
-no_fault_in (n ∷ ns) numbers rest = no_fault_in ns (raised numbers n.table) rest
-
-pub fault_of : (notes : List Note) (numbers : List ℕ) (verb : Verb) (ends : Ending) → has_fault (note_lines notes numbers ++ line.Ended verb 0 ends ∷ []) ≡ is_disk_fault ends
-fault_of notes numbers verb ends = ap (λ n. not (n == 0)) (no_fault_in notes numbers (line.Ended verb 0 ends ∷ [])) ∙ by (is_disk_fault ends)
-  where
-    by : (b : Bool) → not ((if b then 1 else 0) + 0 == 0) ≡ b
-    by true = refl
-    by false = refl
-
-shows_what : (c : Command) (contents : ℕ → Contents) (place : ℕ) (w : What) → Shows c (said_of_note w) (entry_of contents place w)
-shows_what c contents place (what.Opened n) = (contents place, refl)
-shows_what c contents place (what.Took n) = (refl, refl)
-shows_what c contents place (what.Flushed n) = refl
-shows_what c contents place (what.Closed n) = (refl, refl)
-shows_what c contents place what.Handed = refl
-
--- ---- the lines of notes tell their entries
-
-pub record AreTold (t : ℕ) (c : Command) (rest : List Line) (contents : ℕ → Contents) (notes : List Note) (numbers : List ℕ) (n : ℕ) : Type 0 where
-  pub tells : Tells (suc n) (shown_in 0 t c (note_lines notes numbers ++ rest)) (entries_at contents t notes)
-  pub number : slice_get (numbers_after notes numbers) t ≡ Some (n + length (entries_at contents t notes))
-
-told_here : (t : ℕ) (c : Command) (rest : List Line) (contents : ℕ → Contents) (x : Note) (xs : List Note) (numbers : List ℕ) (n : ℕ)
-    → (x.table == t) ≡ true → slice_get numbers t ≡ Some n
-    → ((numbers' : List ℕ) → slice_get numbers' t ≡ Some (suc n) → AreTold t c rest contents xs numbers' (suc n))
-    → AreTold t c rest contents (x ∷ xs) numbers n
-told_here t c rest contents x xs numbers n e at more =
-    let place : x.table ≡ t = eqb-true x.table t e in
-    let now : slice_index numbers x.table ≡ n = ap (slice_index numbers) place ∙ index_found numbers t n at in
-    let next : slice_get (raised numbers x.table) t ≡ Some (suc n) =
-    rw (place, index_found numbers t n at) (get_set_same numbers t n (suc n) at) in
-    let told = more (raised numbers x.table) next in
+-- the note of an entry at this table
+note_here : (place : ℕ) (c : Command) (rest : List Line) (note : Note) (notes : List Note) (base : Option TableBase) (clock : ℕ) (v u w : SeatView)
+    → (note.table == place) ≡ true → note.number ≡ length u.seen → MadeAs base clock v note.what u → Notes place c rest notes u w
+    → Notes place c rest (note ∷ notes) v w
+note_here place c rest note notes base clock v u w here number made more =
+    let one = one_made base clock c v u note.what made in
+    let m : Made base clock v one.0 one.1 u = one.2 in
+    let e : Entry = entry_of v.id clock one.0 one.1 in
+    let same : SameIds v u = same_made base clock v u one.0 one.1 m in
+    let size : length (seen_of u) ≡ length u.seen = length-map u.seen told in
+    let count : length (seen_of u) ≡ length (seen_of v) + length m.between + 1 = ap (λ (es : List Entry). length es) m.seen
+    ∙ (length-append (seen_of v ++ m.between) (e ∷ []) ∙ ap (λ k. k + 1) (length-append (seen_of v) m.between)) in
+    let numbered : note.number ≡ suc (length (seen_of v)) + length m.between = omega (arith, number, size, count) in
+    let next : suc (length (seen_of u)) ≡ suc (length (seen_of v)) + suc (length m.between) = omega (arith, count) in
+    let tail : TellsOwn v (suc (length (seen_of v)) + suc (length m.between)) (shown_in 0 place c (note_lines notes ++ rest)) more.entries =
+    own_same u v (suc (length (seen_of v)) + suc (length m.between)) (shown_in 0 place c (note_lines notes ++ rest)) more.entries (same_back v u same)
+    (subst (λ k. TellsOwn u k (shown_in 0 place c (note_lines notes ++ rest)) more.entries) next more.tells) in
     record {
-      tells = rw e (ap suc now, shows_what c contents x.table x.what, told.tells);
-      number = rw e (told.number ∙ ap Some (plus n (length (entries_at contents t xs))));
+      entries = m.between ++ e ∷ more.entries;
+      seen = more.seen ∙ (ap (λ (es : List Entry). es ++ more.entries) m.seen
+          ∙ (append_assoc (seen_of v ++ m.between) (e ∷ []) more.entries ∙ append_assoc (seen_of v) m.between (e ∷ more.entries)));
+      tells = rw here (m.between, more.entries, e, m.others, refl, numbered, one.3, tail);
+      ids = same_on v u w same more.ids;
+    }
+
+-- of another table it tells nothing here
+note_elsewhere : (place : ℕ) (c : Command) (rest : List Line) (note : Note) (notes : List Note) (v w : SeatView)
+    → (note.table == place) ≡ false → Notes place c rest notes v w → Notes place c rest (note ∷ notes) v w
+note_elsewhere place c rest note notes v w apart more = record { entries = more.entries; seen = more.seen; tells = rw apart more.tells; ids = more.ids }
+
+module _ (clock : ℕ) (x : Seated) (note : Note) (y : Seated) (place : ℕ) (one : OneEntry clock x note y) where
+  -- the seat at its table
+  was_here : (v : SeatView) → (note.table == place) ≡ true → slice_get x.seats place ≡ Some v → one.before ≡ v
+  was_here v here was = same_some one.before v (sym one.was ∙ (ap (slice_get x.seats) (eqb-true note.table place here) ∙ was))
+
+  now_here : (note.table == place) ≡ true → slice_get y.seats place ≡ Some one.after
+  now_here here = ap (λ (s : Seated). slice_get s.seats place) one.now
+      ∙ subst (λ k. slice_get (slice_set x.seats note.table one.after) k ≡ Some one.after) (eqb-true note.table place here) (get_set_same x.seats note.table one.before one.after one.was)
+
+  -- and at another
+  now_elsewhere : (v : SeatView) → (note.table == place) ≡ false → slice_get x.seats place ≡ Some v → slice_get y.seats place ≡ Some v
+  now_elsewhere v apart was = ap (λ (s : Seated). slice_get s.seats place) one.now ∙ (get_set_other x.seats note.table place one.after (eqb-false note.table place apart) ∙ was)
+
+  more_notes : (c : Command) (rest : List Line) (notes : List Note) (v w : SeatView) → slice_get x.seats place ≡ Some v
+      → ((u : SeatView) → slice_get y.seats place ≡ Some u → Notes place c rest notes u w) → Notes place c rest (note ∷ notes) v w
+  more_notes c rest notes v w was more = by (note.table == place) refl
+    where
+      by : (b : Bool) → (note.table == place) ≡ b → Notes place c rest (note ∷ notes) v w
+      by true e = subst (λ (u : SeatView). Notes place c rest (note ∷ notes) u w) (was_here v e was)
+          (note_here place c rest note notes (base_of one.table) clock one.before one.after w e one.number one.made (more one.after (now_here e)))
+      by false e = note_elsewhere place c rest note notes v w e (more v (now_elsewhere v e was))
+
+  -- the seat has seen a legal history still
+  more_legal : (t : Shared) (v : SeatView) → slice_get x.tables place ≡ Some t → slice_get x.seats place ≡ Some v → LegalFrom (is_founded (base_of t)) (start_of (base_of t)) (seen_of v)
+      → (u : SeatView) × (slice_get y.seats place ≡ Some u) × LegalFrom (is_founded (base_of t)) (start_of (base_of t)) (seen_of u)
+  more_legal t v at was legal = by (note.table == place) refl
+    where
+      by : (b : Bool) → (note.table == place) ≡ b → (u : SeatView) × (slice_get y.seats place ≡ Some u) × LegalFrom (is_founded (base_of t)) (start_of (base_of t)) (seen_of u)
+      by true e =
+          let table : one.table ≡ t = same_some one.table t (sym one.at ∙ (ap (slice_get x.tables) (eqb-true note.table place e) ∙ at)) in
+          (one.after, now_here e, subst (λ (s : Shared). LegalFrom (is_founded (base_of s)) (start_of (base_of s)) (seen_of one.after)) table (made_legal (base_of one.table) clock one.before one.after note.what one.made))
+      by false e = (v, now_elsewhere v e was, legal)
+
+-- ---- all notes of a command
+
+-- the entries of a command at one table
+pub notes_at : (from to : ℕ) (x : Seated) (notes : List Note) (y : Seated) (place : ℕ) (c : Command) (rest : List Line) (v w : SeatView)
+    → Makes from to x notes y → slice_get x.seats place ≡ Some v → slice_get y.seats place ≡ Some w
+    → shown_in 0 place c rest ≡ []
+    → Notes place c rest notes v w
+notes_at from to x notes y place c rest v w (Makes.none f u a ns b low no_note same) was now none =
+    subst (λ (xs : List Note). Notes place c rest xs v w) (sym no_note)
+    (no_notes place c rest v w (same_some w v (sym now ∙ (ap (λ (s : Seated). slice_get s.seats place) same ∙ was))) none)
+notes_at from to x notes y place c rest v w (Makes.more f u a ns b clock note others between low one makes all) was now none =
+    subst (λ (xs : List Note). Notes place c rest xs v w) (sym all)
+    (more_notes clock x note between place one c rest others v w was (λ s there. notes_at clock to between others y place c rest s w makes there now none))
+
+-- and the history is legal still
+pub legal_at : (from to : ℕ) (x : Seated) (notes : List Note) (y : Seated) (place : ℕ) (t : Shared) (v w : SeatView)
+    → Makes from to x notes y → slice_get x.tables place ≡ Some t → slice_get x.seats place ≡ Some v → slice_get y.seats place ≡ Some w
+    → LegalFrom (is_founded (base_of t)) (start_of (base_of t)) (seen_of v)
+    → LegalFrom (is_founded (base_of t)) (start_of (base_of t)) (seen_of w)
+legal_at from to x notes y place t v w (Makes.none f u a ns b low no_note same) at was now legal =
+    let stays : v ≡ w = same_some v w (sym was ∙ (ap (λ (s : Seated). slice_get s.seats place) (sym same) ∙ now)) in
+    subst (λ (s : SeatView). LegalFrom (is_founded (base_of t)) (start_of (base_of t)) (seen_of s)) stays legal
+legal_at from to x notes y place t v w (Makes.more f u a ns b clock note others between low one makes all) at was now legal =
+    let next = more_legal clock x note between place one t v at was legal in
+    let tables : slice_get between.tables place ≡ Some t = ap (λ (s : Seated). slice_get s.tables place) one.now ∙ at in
+    legal_at clock to between others y place t next.0 w makes tables next.1 now next.2
+
+-- ---- the second meeting
+
+-- who has seen no less than the other has seen all that either had
+longest : {A : Type 0} (xs ys zs : List A) → length ys ≤ length xs → LongerOf xs ys zs → zs ≡ xs
+longest xs ys zs few longer = ⊎_elim
+    (λ own. own)
+    (λ theirs. let size : length zs ≡ length ys = ap length theirs in sym (prefix_whole xs zs longer.own (omega (arith, size, few))))
+    longer.one
+
+-- and the other too
+longest_theirs : {A : Type 0} (xs ys zs : List A) → length xs ≤ length ys → LongerOf xs ys zs → zs ≡ ys
+longest_theirs xs ys zs few longer = ⊎_elim
+    (λ own. let size : length zs ≡ length xs = ap length own in sym (prefix_whole ys zs longer.theirs (omega (arith, size, few))))
+    (λ theirs. theirs)
+    longer.one
+
+-- behind it the steward's seat has seen no more than its entries
+pub steward_seen : (v w c v' c' : SeatView) (es : List Entry) → seen_of v ≡ seen_of c → seen_of w ≡ seen_of v ++ es → Meets w c v' c' → (seen_of v' ≡ seen_of w) × (seen_of c' ≡ seen_of w)
+steward_seen v w c v' c' es same more meets =
+    let steward = meets.steward in
+    let caller = meets.caller in
+    let old : length (seen_of v) ≡ length (seen_of c) = ap (λ (xs : List Entry). length xs) same in
+    let new : length (seen_of w) ≡ length (seen_of v) + length es = ap (λ (xs : List Entry). length xs) more ∙ length-append (seen_of v) es in
+    let few : length c.seen ≤ length w.seen = omega (arith, old, new, length-map c.seen told, length-map w.seen told) in
+    let first : v'.seen ≡ w.seen = ap (λ (u : SeatView). u.seen) steward.view ∙ longest w.seen c.seen steward.seen few steward.longer in
+    let second : c'.seen ≡ w.seen = ap (λ (u : SeatView). u.seen) caller.view ∙ longest_theirs c.seen w.seen caller.seen few caller.longer in
+    (ap history first, ap history second)
+
+others_told : (v : SeatView) (es : Turns) → Others v es → AreOthers v (history es)
+others_told v [] o = tt
+others_told v (e ∷ es) o = (o.0, others_told v es o.1)
+
+-- what the caller's seat learned at a meeting is none of its own
+learned : (w c v' c' : SeatView) (es : List Entry) → Meets w c v' c' → seen_of c' ≡ seen_of c ++ es → AreOthers c es
+learned w c v' c' es meets now =
+    let met = meets.caller in
+    let more : Turns = met.longer.own.0 in
+    let seen : c'.seen ≡ c.seen ++ more = ap (λ (u : SeatView). u.seen) met.view ∙ sym met.longer.own.1 in
+    let same : history more ≡ es = append_cancel_left (seen_of c) (history more) es (sym (map-append told c.seen more) ∙ (sym (ap history seen) ∙ now)) in
+    subst (AreOthers c) same (others_told c more (meets.caller_learns more seen))
+
+all_back : (P : Entry → Type 0) (xs ys : List Entry) → AllByRecursion P (xs ++ ys) → AllByRecursion P ys
+all_back P [] ys h = h
+all_back P (x ∷ xs) ys h = all_back P xs ys h.1
+
+-- the callers' seat owns every id but the steward's, so these are the steward's
+owns_rest : (c : SeatView) → IsCallers c → OwnsTheRest c
+owns_rest c is = λ x low high. inl (omega (arith, is.id, low), omega (arith, is.id, is.share, high))
+
+stewards_own : (v c c' : SeatView) (es : List Entry) → IsStewards v → SameIds c c' → AreOthers c es → AreOwnOrStewards c' es → AllByRecursion (λ (e : Entry). Owns v e.caller) es
+stewards_own v c c' [] is same others whose = tt
+stewards_own v c c' (e ∷ es) is same others whose = (mine, stewards_own v c c' es is same others.1 whose.1)
+  where
+    mine : Owns v e.caller
+    mine = ⊎_elim
+        (λ theirs. absurd (others.0 (owns_back c c' e.caller same theirs)))
+        (λ none. inl (omega (arith, is.id, none), omega (arith, is.id, is.share, none)))
+        whose.0
+
+callers_still : (c c' : SeatView) → SameIds c c' → IsCallers c → IsCallers c'
+callers_still c c' same is = record { id = same.id ∙ is.id; share = same.share ∙ is.share; taken = same.taken ∙ is.taken }
+
+pub stewards_still : (v v' : SeatView) → SameIds v v' → IsStewards v → IsStewards v'
+stewards_still v v' same is = record { id = same.id ∙ is.id; share = same.share ∙ is.share; taken = same.taken ∙ is.taken }
+
+-- so the lines tell all that the caller's seat learned
+tells_made : (table : ℕ) (p : Played) (rest : List Line) (notes : List Note) (v w c v' c' : SeatView)
+    → IsStewards v → IsCallers c → seen_of v ≡ seen_of c
+    → p.lines ≡ note_lines notes ++ rest
+    → (made : Notes table p.command rest notes v w)
+    → Meets w c v' c' → seen_of c' ≡ seen_of c ++ made.entries
+    → Tells (suc (length (seen_of c))) (shown_in 0 table p.command p.lines) made.entries
+tells_made table p rest notes v w c v' c' stewards callers same lines made meets now =
+    let ids : SameIds c c' = same_told c w c' meets.caller in
+    let whose : AreOwnOrStewards c' (seen_of c ++ made.entries) = subst (AreOwnOrStewards c') now ((makers_known c' meets.ids).own (owns_rest c' (callers_still c c' ids callers))) in
+    let own : AllByRecursion (λ (e : Entry). Owns v e.caller) made.entries = stewards_own v c c' made.entries stewards ids (learned w c v' c' made.entries meets now)
+    (all_back (λ (e : Entry). Owns c' e.caller ⊎ (e.caller ≡ 0)) (seen_of c) made.entries whose) in
+    subst (λ (xs : List Entry). Tells (suc (length xs)) (shown_in 0 table p.command p.lines) made.entries) same
+    (subst (λ (ls : List Line). Tells (suc (length (seen_of v))) (shown_in 0 table p.command ls) made.entries) (sym lines)
+    (own_tells v (suc (length (seen_of v))) (shown_in 0 table p.command (note_lines notes ++ rest)) made.entries own made.tells))
+
+-- Behind the second meeting the lines tell all that was made: what came between the steward's entries were entries of nobody.
+pub steward_table : (base : TableState) (read table : ℕ) (faulted : Bool) (played : List Played) (p : Played) (rest : List Line) (notes : List Note) (v w c v' c' : SeatView)
+    → Faults faulted played
+    → TableMet base read table played v c
+    → p.lines ≡ note_lines notes ++ rest
+    → Notes table p.command rest notes v w
+    → LegalFrom true base (seen_of w)
+    → Meets w c v' c'
+    → (faulted ≡ false → has_fault p.lines ≡ false → (es : List Entry) → seen_of w ≡ seen_of v ++ es → OpensFlushed (after true (as_read base read) (seen_of v)) es)
+    → TableMet base read table (played ++ p ∷ []) v' c'
+steward_table base read table faulted played p rest notes v w c v' c' faults met lines notes_are legal meets opens =
+    let es : List Entry = notes_are.entries in
+    let seen = steward_seen v w c v' c' es met.same notes_are.seen meets in
+    let now : seen_of c' ≡ seen_of c ++ es = seen.1 ∙ (notes_are.seen ∙ ap (λ (xs : List Entry). xs ++ es) met.same) in
+    let made : Tells (suc (length (seen_of c))) (shown_in 0 table p.command p.lines) es = tells_made table p rest notes v w c v' c' met.stewards met.callers met.same lines notes_are meets now in
+    let all : Tells 1 (shown 0 table (played ++ p ∷ [])) (seen_of c ++ es) = subst (λ ss. Tells 1 ss (seen_of c ++ es)) (sym (shown-snoc 0 table played p))
+    (Tells-append 1 (shown 0 table played) (shown_in 0 table p.command p.lines) (seen_of c) es met.tells
+    (subst (λ k. Tells k (shown_in 0 table p.command p.lines) es) (one_more (length (seen_of c))) made)) in
+    record {
+      stewards = stewards_still v v' (same_on v w v' notes_are.ids (same_told w c v' meets.steward)) met.stewards;
+      callers = callers_still c c' (same_told c w c' meets.caller) met.callers;
+      same = seen.0 ∙ sym seen.1;
+      tells = subst (Tells 1 (shown 0 table (played ++ p ∷ []))) (sym now) all;
+      opened = subst (λ (xs : List Entry). OpensFlushed (as_read base read) (take (length (shown 0 table (until_disk_fault 0 (played ++ p ∷ [])))) xs)) (sym now)
+          (opened_on (as_read base read) table played p faulted (seen_of c) es faults
+          (Tells-length 1 (shown 0 table played) (seen_of c) met.tells)
+          (Tells-length 1 (shown 0 table (played ++ p ∷ [])) (seen_of c ++ es) all)
+          met.opened
+          (λ none calm. subst (λ (xs : List Entry). OpensFlushed (after true (as_read base read) xs) es) met.same (opens none calm es notes_are.seen)));
+      legal = subst (LegalFrom true base) (sym seen.1) legal;
     }
   where
-    plus : (a b : ℕ) → suc a + b ≡ a + suc b
-    plus a b = omega arith
-
-told_elsewhere : (t : ℕ) (c : Command) (rest : List Line) (contents : ℕ → Contents) (x : Note) (xs : List Note) (numbers : List ℕ) (n : ℕ)
-    → (x.table == t) ≡ false → slice_get numbers t ≡ Some n
-    → ((numbers' : List ℕ) → slice_get numbers' t ≡ Some n → AreTold t c rest contents xs numbers' n)
-    → AreTold t c rest contents (x ∷ xs) numbers n
-told_elsewhere t c rest contents x xs numbers n e at more =
-    let told = more (raised numbers x.table) (get_set_other numbers x.table t (suc (slice_index numbers x.table)) (eqb-false x.table t e) ∙ at) in
-    record { tells = rw e told.tells; number = rw e told.number }
-
-pub are_told : (t : ℕ) (c : Command) (rest : List Line) (contents : ℕ → Contents) (notes : List Note) (numbers : List ℕ) (n : ℕ)
-    → shown_in 0 t c rest ≡ [] → slice_get numbers t ≡ Some n → AreTold t c rest contents notes numbers n
-are_told t c rest contents [] numbers n none at = record { tells = rw none tt; number = at ∙ ap Some (plus n) }
-  where
-    plus : (a : ℕ) → a ≡ a + 0
-    plus a = omega arith
-are_told t c rest contents (x ∷ xs) numbers n none at =
-    by (x.table == t) refl (λ numbers' k there. are_told t c rest contents xs numbers' k none there)
-  where
-    by : (b : Bool) → (x.table == t) ≡ b → ((numbers' : List ℕ) (k : ℕ) → slice_get numbers' t ≡ Some k → AreTold t c rest contents xs numbers' k)
-        → AreTold t c rest contents (x ∷ xs) numbers n
-    by true e more = told_here t c rest contents x xs numbers n e at (λ numbers'. more numbers' (suc n))
-    by false e more = told_elsewhere t c rest contents x xs numbers n e at (λ numbers'. more numbers' n)
-
--- ---- one note for each table in order
-
-abbrev pub notes_from : ℕ → List What → List Note
-notes_from place [] = []
-notes_from place (w ∷ ws) = note place w ∷ notes_from (suc place) ws
-
--- the numbers of their lines
-abbrev pub numbers_from : ℕ → List What → List ℕ → List ℕ
-numbers_from place [] numbers = []
-numbers_from place (w ∷ ws) numbers = suc (slice_index numbers place) ∷ numbers_from (suc place) ws (raised numbers place)
-
-pub numbers_from-length : (place : ℕ) (ws : List What) (numbers : List ℕ) → length (numbers_from place ws numbers) ≡ length ws
-numbers_from-length place [] numbers = refl
-numbers_from-length place (w ∷ ws) numbers = ap suc (numbers_from-length (suc place) ws (raised numbers place))
-
-pub lines_from : (place : ℕ) (ws : List What) (numbers : List ℕ) → note_lines (notes_from place ws) numbers ≡ table_lines 0 place (numbers_from place ws numbers) (map said_of_note ws)
-lines_from place [] numbers = refl
-lines_from place (w ∷ ws) numbers = ap (λ ls. next_line numbers place (said_of_note w) ∷ ls) (lines_from (suc place) ws (raised numbers place))
-
--- a table before them has none
-pub entries_before : (contents : ℕ → Contents) (place t : ℕ) (ws : List What) → t < place → entries_at contents t (notes_from place ws) ≡ []
-entries_before contents place t [] below = refl
-entries_before contents place t (w ∷ ws) below =
-    entries_elsewhere contents place t w (notes_from (suc place) ws) (λ e. omega (arith, below, e)) ∙ entries_before contents (suc place) t ws (omega (arith, below))
-
--- and each of them has its own
-pub entries_from : (contents : ℕ → Contents) (place i : ℕ) (ws : List What) (w : What) → slice_get ws i ≡ Some w
-    → entries_at contents (place + i) (notes_from place ws) ≡ entry_of contents (place + i) w ∷ []
-entries_from contents place i [] w h = cc
-entries_from contents place zero (v ∷ ws) w h =
-    subst (λ k. entries_at contents k (note place v ∷ notes_from (suc place) ws) ≡ entry_of contents k w ∷ []) (plus_zero place)
-    (entries_here contents place v (notes_from (suc place) ws)
-    ∙ (ap (λ es. entry_of contents place v ∷ es) (entries_before contents (suc place) place ws (omega arith)) ∙ ap (λ u. entry_of contents place u ∷ []) (same v w h)))
-  where
-    plus_zero : (n : ℕ) → n ≡ n + 0
-    plus_zero n = omega arith
-
-    same : (a b : What) → Some a ≡ Some b → a ≡ b
-    same a b e = cc
-entries_from contents place (suc i) (v ∷ ws) w h =
-    entries_elsewhere contents place (place + suc i) v (notes_from (suc place) ws) (λ e. omega (arith, e))
-    ∙ subst (λ k. entries_at contents k (notes_from (suc place) ws) ≡ entry_of contents k w ∷ []) (suc_plus place i) (entries_from contents (suc place) i ws w h)
-  where
-    suc_plus : (a b : ℕ) → suc a + b ≡ a + suc b
-    suc_plus a b = omega arith
-
-pub entries_placed : (contents : ℕ → Contents) (t : ℕ) (ws : List What) (w : What) → slice_get ws t ≡ Some w → entries_at contents t (notes_from 0 ws) ≡ entry_of contents t w ∷ []
-entries_placed contents t ws w h =
-    subst (λ k. entries_at contents k (notes_from 0 ws) ≡ entry_of contents k w ∷ []) (zero_plus t) (entries_from contents 0 t ws w h)
-  where
-    zero_plus : (n : ℕ) → 0 + n ≡ n
-    zero_plus n = omega arith
+    one_more : (n : ℕ) → suc n ≡ 1 + n
+    one_more n = omega arith

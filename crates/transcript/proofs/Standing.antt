@@ -1,134 +1,225 @@
--- The leaf behind a command, where nothing is changed of it: by states that are the same, and by a berth that is.
-use Rattle.std.proofs.Common.{◌≡◌, ℕ, Bool, List, length, sym, ap, subst, ◌∙◌, Option, Some, None}
-use Rattle.std.specs.Prelude.{IfSome}
-use Rattle.leaf_model.specs.declared.writes.Write.{Write}
-use Rattle.berth_face.specs.Berth.{Meaning, Pair}
-use Rattle.berth_face.specs.Moments.{EachNow}
-use Rattle.row_records.specs.Records.{LogRecord}
-use Rattle.region_layout.specs.Region.{IsClosed, IsImage}
-use Rattle.disk_backup.specs.Logs.{writes_of}
-use Rattle.leaf_history.specs.History.{TableState}
-use Rattle.disk_backup.specs.Settling.{HasLog, HoldsLog, with_writes}
-use Rattle.leaf_opening.specs.declared.ways.Way.{Way}
-use Rattle.leaf_opening.specs.Serving.{Serving}
-use Rattle.leaf_opening.specs.Backed.{Backed, Rests, HasSoundLog}
-use Rattle.leaf_opening.specs.Starts.{IsWayOf}
-use Rattle.leaf_machine.specs.Shutting as shutting
-use Rattle.printed_lines.specs.Lines.{name_at}
-use Rattle.transcript.specs.Life.{Life, Down, Up, Preparing}
-use Rattle.transcript.specs.Steps.{Leaf, IsDown, IsUp, IsPreparing, Untouched}
-use Rattle.transcript.specs.Session.{Stands, RestsAs, ServesAs, IsRestOf, IsServed, AreTreated}
+-- What stands of a leaf at a meeting, when a run begins, and when it has ended.
+use Rattle.std.proofs.Common.{◌≡◌, ℕ, zero, suc, ◌+◌, ◌<◌, true, List, [], ◌∷◌, ◌++◌, length, map, Some, refl, sym, ap, ap₂, subst, ◌∙◌, arith}
+use Rattle.std.specs.Prelude.{IsTrue, slice_get}
+use Rattle.std.specs.List.{AllByRecursion}
+use Rattle.std.proofs.lemmas.List.{map-append}
+use Rattle.berth_face.specs.Berth.{Meaning}
+use Rattle.leaf_history.specs.History.{Entry, TableState}
+use Rattle.leaf_history.specs.Laws.{AreCallers}
+use Rattle.region_layout.specs.Names.{AreNames}
+use Rattle.turnstile.specs.Seats.{Others}
+use Rattle.leaf_core.specs.Left.{Tables}
+use Rattle.leaf_moments.specs.Told as moments
+use Rattle.leaf_moments.specs.Told.{SeenMore}
+use Rattle.leaf_moments.specs.Watched.{Watched}
+use Rattle.leaf_moments.proofs.Telling.{none_more, told_join}
+use Rattle.leaf_standing.proofs.Lefts.{runs_told, rests_told}
+use Rattle.leaf_standing.proofs.Meeting.{callers_between}
+use Rattle.leaf_standing.specs.Standing.{tables_of}
+use Rattle.leaf_table.specs.Turns.{Shared, Turns, history, is_founded, start_of, told}
+use Rattle.leaf_table.specs.Calls.{SeatView, AreOthers, base_of, name_of, seen_of}
+use Rattle.leaf_table.proofs.Knowing.{callers_of}
+use Rattle.leaf_steward.specs.declared.notes.Note.{Note}
+use Rattle.leaf_steward.specs.Seated.{Seated, AreFounded, watch, watched_by}
+use Rattle.leaf_machine.specs.Leaving.{BeginsAgain, LeavesBegin}
+use Rattle.transcript.specs.Base.{unseen, watched_from, watched_with}
+use Rattle.transcript.specs.Stage.{Leaf, IsDown, IsUp, IsPreparing, Stands, StandsOn, AreSound, Carries, Meets, MeetAll, seated_of, seated_with, with_seats}
+use Rattle.transcript.specs.Session.{AreFoundedWith, AreInPlace, AtTables, IsStewards, history_at}
+use Rattle.transcript.specs.Laws.{IsNewStage, LeavesBerth}
+use Rattle.transcript.proofs.Lists.{element_at, length_mapped, same_some, within}
 
--- ---- states that are the same place by place
+-- ---- the tables of a leaf, place by place
 
-pub RestsAs-same : (names : List (List ℕ)) (first : List ℕ → List Write) (faulted : Bool) (m : Meaning) (xs ys : ℕ → TableState) → ((t : ℕ) → ys t ≡ xs t)
-    → RestsAs names first faulted m xs → RestsAs names first faulted m ys
-RestsAs-same names first faulted m xs ys e h = record {
-  writes = h.writes;
-  rests = h.rests;
-  shut = λ t below. ap (λ (s : TableState). s.live) (e t) ∙ h.shut t below;
-  each = λ t below. subst (λ s. IsRestOf faulted s (h.writes (name_at names t))) (sym (e t)) (h.each t below);
-  others = h.others;
-}
+all_each : {X : Type 0} (P : X → Type 0) (xs : List X) → ((place : ℕ) (x : X) → slice_get xs place ≡ Some x → P x) → AllByRecursion P xs
+all_each P [] each = tt
+all_each P (x ∷ xs) each = (each zero x refl, all_each P xs (λ place y at. each (suc place) y at))
 
-pub ServesAs-same : (names : List (List ℕ)) (first : List ℕ → List Write) (faulted : Bool) (s : Serving) (shut : ℕ) (m : Meaning) (xs ys : ℕ → TableState) → ((t : ℕ) → ys t ≡ xs t)
-    → ServesAs names first faulted s shut m xs → ServesAs names first faulted s shut m ys
-ServesAs-same names first faulted s shut m xs ys e h = record {
-  writes = h.writes;
-  backed = h.backed;
-  named = h.named;
-  open_ = λ t below. ap (λ (x : TableState). x.live) (e t) ∙ h.open_ t below;
-  each = λ t table at. subst (λ x. IsServed faulted x (h.writes (name_at names t)) (with_writes s.log.owed h.writes (name_at names t)) table) (sym (e t)) (h.each t table at);
-  others = h.others;
-  none_owed = h.none_owed;
-}
+module _ (names : List (List ℕ)) (x : Seated) (callers : List SeatView) (in_place : AreInPlace names x callers) where
+  pub as_many : length x.tables ≡ length names
+  as_many = sym (length_mapped name_of x.tables) ∙ ap (λ (ns : List (List ℕ)). length ns) in_place.named
 
-pub AreTreated-same : (count treated : ℕ) (xs ys : ℕ → TableState) → ((t : ℕ) → ys t ≡ xs t) → AreTreated count treated xs → AreTreated count treated ys
-AreTreated-same count treated xs ys e h t below done =
-    subst (λ (s : TableState). s.flushed ≡ length s.writes) (sym (e t)) (h t below done)
+  -- where there is a table there is a seat of the steward and one of callers
+  pub seat_there : (place : ℕ) (t : Shared) → slice_get x.tables place ≡ Some t → (v : SeatView) × (slice_get x.seats place ≡ Some v)
+  seat_there place t at = element_at x.seats place (omega (arith, within x.tables place t at, as_many, in_place.seats))
 
-pub Stands-same : (names : List (List ℕ)) (first : List ℕ → List Write) (faulted : Bool) (life : Life) (leaf : Leaf) (m : Meaning) (xs ys : ℕ → TableState) → ((t : ℕ) → ys t ≡ xs t)
-    → Stands names first faulted life leaf m xs → Stands names first faulted life leaf m ys
-Stands-same names first faulted (Down claim) IsDown m xs ys e h = (RestsAs-same names first faulted m xs ys e h.0, h.1)
-Stands-same names first faulted (Down claim) (IsUp s) m xs ys e h = absurd h
-Stands-same names first faulted (Down claim) (IsPreparing x) m xs ys e h = absurd h
-Stands-same names first faulted (Up way owed) IsDown m xs ys e h = absurd h
-Stands-same names first faulted (Up way owed) (IsUp s) m xs ys e h = (ServesAs-same names first faulted s 0 m xs ys e h.0, h.1, h.2)
-Stands-same names first faulted (Up way owed) (IsPreparing x) m xs ys e h = absurd h
-Stands-same names first faulted (Preparing way p) IsDown m xs ys e h = absurd h
-Stands-same names first faulted (Preparing way p) (IsUp s) m xs ys e h = absurd h
-Stands-same names first faulted (Preparing way p) (IsPreparing x) m xs ys e h = (
-  ServesAs-same names first faulted x.serving (shutting.first_open x) m xs ys e h.0,
-  h.1,
-  h.2,
-  h.3,
-  h.4,
-  AreTreated-same (length names) x.treated xs ys e h.5,
-  h.6,
-)
+  pub caller_there : (place : ℕ) (t : Shared) → slice_get x.tables place ≡ Some t → (c : SeatView) × (slice_get callers place ≡ Some c)
+  caller_there place t at = element_at callers place (omega (arith, within x.tables place t at, as_many, in_place.callers_are))
 
--- ---- a berth that is as it was
+  pub founded_all : (base : Tables) → AreFoundedWith base x → AreFounded x
+  founded_all base founded = all_each (λ (t : Shared). is_founded (base_of t) ≡ true) x.tables (λ place t at.
+      let seat = seat_there place t at in
+      (founded place t seat.0 at seat.1).0)
 
-each_now : (P : Pair → Type 0) (m m' : Meaning) → Untouched m m' → EachNow P m → EachNow P m'
-each_now P m m' u h p now = h p (subst (λ t. m.leaves t p) u.clock ((u.same m'.clock p).0 now))
+-- ---- the tables of a leaf as they are watched
 
-pub rests_untouched : (writes : List ℕ → List Write) (m m' : Meaning) → Untouched m m' → Rests writes m → Rests writes m'
-rests_untouched writes m m' u h = record {
-  log = subst (λ (p : Pair). HasSoundLog writes p.disk) (sym u.held) h.log;
-  image = λ images log_end is.
-      let old = h.image images log_end (subst (λ (p : Pair). IsImage 1 p.region images log_end) u.held is) in
-      (old.0, each_now (λ p. HasLog writes log_end p.disk) m m' u old.1);
-}
+-- by their names, and what is known of each seat's history
+watch_with : (base : Tables) (histories : ℕ → List Entry) (first : ℕ) (ts : List Shared) (vs : List SeatView) → length vs ≡ length ts
+    → ((place : ℕ) (t : Shared) (v : SeatView) → slice_get ts place ≡ Some t → slice_get vs place ≡ Some v → (start_of (base_of t) ≡ base (name_of t)) × (seen_of v ≡ histories (first + place)))
+    → watch ts vs ≡ watched_from first (map name_of ts) base histories
+watch_with base histories first [] vs count each = refl
+watch_with base histories first (t ∷ ts) [] count each = absurd (omega (arith, count))
+watch_with base histories first (t ∷ ts) (v ∷ vs) count each =
+    let here = each zero t v refl refl in
+    let seen : seen_of v ≡ histories first = here.1 ∙ ap histories (no_more first) in
+    ap₂ (λ (w : Watched) (ws : List Watched). w ∷ ws)
+    (ap₂ (λ (b : TableState) (es : List Entry). record { name = name_of t; base = b; seen = es }) here.0 seen)
+    (watch_with base histories (suc first) ts vs (omega (arith, count)) (λ place u w at sat.
+    let later = each (suc place) u w at sat in
+    (later.0, later.1 ∙ ap histories (one_more first place))))
+  where
+    no_more : (n : ℕ) → n + 0 ≡ n
+    no_more n = omega arith
 
-pub backed_untouched : (writes : List ℕ → List Write) (s : Serving) (m m' : Meaning) → Untouched m m' → Backed writes s m → Backed writes s m'
-backed_untouched writes s m m' u h = record {
-  count = h.count;
-  log = each_now (λ p. (records : List LogRecord) × HoldsLog s.log records p.disk × ((name : List ℕ) → writes_of name records ≡ writes name)) m m' u h.log;
-  reads = (u.same m'.clock m'.held).1 (subst (λ t. m.leaves t m'.held) (sym u.clock) (subst (λ p. m.leaves m.clock p) (sym u.held) h.reads));
-  each = h.each;
-  owed = h.owed;
-  others = h.others;
-  region = subst (λ (p : Pair). IsClosed p.region) (sym u.held) h.region;
-}
+    one_more : (n place : ℕ) → n + suc place ≡ suc n + place
+    one_more n place = omega arith
 
-pub way_untouched : (way : Way) (m m' : Meaning) → Untouched m m' → IsWayOf m.held.region way → IsWayOf m'.held.region way
-way_untouched way m m' u h = subst (λ (p : Pair). IsWayOf p.region way) (sym u.held) h
+watched_as : (names : List (List ℕ)) (base : Tables) (histories : ℕ → List Entry) (x : Seated) (callers : List SeatView) → AreInPlace names x callers → AreFoundedWith base x
+    → AtTables (λ t place v c. seen_of v ≡ histories place) x callers → watched_by x ≡ watched_with names base histories
+watched_as names base histories x callers in_place founded seen =
+    watch_with base histories 0 x.tables x.seats (in_place.seats ∙ sym (as_many names x callers in_place)) each
+    ∙ ap (λ (ns : List (List ℕ)). watched_from 0 ns base histories) in_place.named
+  where
+    none_before : (place : ℕ) → place ≡ 0 + place
+    none_before place = omega arith
 
-pub claim_untouched : (claim : Option Way) (m m' : Meaning) → Untouched m m' → IfSome claim (IsWayOf m.held.region) → IfSome claim (IsWayOf m'.held.region)
-claim_untouched None m m' u h = tt
-claim_untouched (Some way) m m' u h = way_untouched way m m' u h
+    each : (place : ℕ) (t : Shared) (v : SeatView) → slice_get x.tables place ≡ Some t → slice_get x.seats place ≡ Some v → (start_of (base_of t) ≡ base (name_of t)) × (seen_of v ≡ histories (0 + place))
+    each place t v at sat =
+        let caller = caller_there names x callers in_place place t at in
+        ((founded place t v at sat).1, seen place t v caller.0 at sat caller.1 ∙ ap histories (none_before place))
 
-rests_as_untouched : (names : List (List ℕ)) (first : List ℕ → List Write) (faulted : Bool) (m m' : Meaning) (states : ℕ → TableState) → Untouched m m'
-    → RestsAs names first faulted m states → RestsAs names first faulted m' states
-rests_as_untouched names first faulted m m' states u h = record {
-  writes = h.writes;
-  rests = rests_untouched h.writes m m' u h.rests;
-  shut = h.shut;
-  each = h.each;
-  others = h.others;
-}
+-- what the caller's seat in that place has seen
+history_there : (callers : List SeatView) (place : ℕ) (c : SeatView) → slice_get callers place ≡ Some c → history_at callers place ≡ seen_of c
+history_there [] place c at = cc
+history_there (d ∷ callers) zero c at = ap (λ (s : SeatView). seen_of s) (same_some d c at)
+history_there (d ∷ callers) (suc place) c at = history_there callers place c at
 
-serves_untouched : (names : List (List ℕ)) (first : List ℕ → List Write) (faulted : Bool) (s : Serving) (shut : ℕ) (m m' : Meaning) (states : ℕ → TableState) → Untouched m m'
-    → ServesAs names first faulted s shut m states → ServesAs names first faulted s shut m' states
-serves_untouched names first faulted s shut m m' states u h = record {
-  writes = h.writes;
-  backed = backed_untouched h.writes s m m' u h.backed;
-  named = h.named;
-  open_ = h.open_;
-  each = h.each;
-  others = h.others;
-  none_owed = h.none_owed;
-}
+-- ---- what stands is told
 
-pub stands_untouched : (names : List (List ℕ)) (first : List ℕ → List Write) (faulted : Bool) (life : Life) (leaf : Leaf) (m m' : Meaning) (states : ℕ → TableState) → Untouched m m'
-    → Stands names first faulted life leaf m states → Stands names first faulted life leaf m' states
-stands_untouched names first faulted (Down claim) IsDown m m' states u h = (rests_as_untouched names first faulted m m' states u h.0, claim_untouched claim m m' u h.1)
-stands_untouched names first faulted (Down claim) (IsUp s) m m' states u h = absurd h
-stands_untouched names first faulted (Down claim) (IsPreparing x) m m' states u h = absurd h
-stands_untouched names first faulted (Up way owed) IsDown m m' states u h = absurd h
-stands_untouched names first faulted (Up way owed) (IsUp s) m m' states u h = (serves_untouched names first faulted s 0 m m' states u h.0, way_untouched way m m' u h.1, h.2)
-stands_untouched names first faulted (Up way owed) (IsPreparing x) m m' states u h = absurd h
-stands_untouched names first faulted (Preparing way p) IsDown m m' states u h = absurd h
-stands_untouched names first faulted (Preparing way p) (IsUp s) m m' states u h = absurd h
-stands_untouched names first faulted (Preparing way p) (IsPreparing x) m m' states u h =
-    (serves_untouched names first faulted x.serving (shutting.first_open x) m m' states u h.0, way_untouched way m m' u h.1, h.2, h.3, h.4, h.5, h.6)
+stands_told : (base : Tables) (leaf : Leaf) (before : List Watched) (m : Meaning) → Stands base leaf m → SeenMore m.clock m.clock before (watched_by (seated_of leaf))
+    → moments.Told base before (watched_by (seated_of leaf)) m m
+stands_told base (IsDown x) before m stands more = rests_told before (watched_by x) base stands.0 stands.1 m stands.2 more
+stands_told base (IsUp x) before m stands more = runs_told before (watched_by x.seated) base x.owing.owner x.owing.log stands.0 m stands.1 more
+stands_told base (IsPreparing x) before m stands more =
+    runs_told before (watched_by x.serving.seated) base x.serving.owing.owner x.serving.owing.log stands.0 m stands.1 more
+
+-- ---- a meeting
+
+-- the seat has seen callers' entries more
+record HasLearned (v w : SeatView) : Type 0 where
+  pub more : List Entry
+  pub callers : AreCallers more
+  pub seen : seen_of w ≡ seen_of v ++ more
+
+others_seen : (v : SeatView) (es : Turns) → Others v es → AreOthers v (history es)
+others_seen v [] others = tt
+others_seen v (e ∷ es) others = (others.0, others_seen v es others.1)
+
+steward_learned : (v c v' c' : SeatView) → IsStewards v → Meets v c v' c' → HasLearned v v'
+steward_learned v c v' c' is meets =
+    let more : Turns = meets.steward.longer.own.0 in
+    let seen : v'.seen ≡ v.seen ++ more = ap (λ (s : SeatView). s.seen) meets.steward.view ∙ sym meets.steward.longer.own.1 in
+    record {
+      more = history more;
+      callers = callers_of v (history more) is.id (omega (arith, is.share)) (others_seen v more (meets.steward_learns more seen));
+      seen = ap (λ (es : Turns). history es) seen ∙ map-append told v.seen more;
+    }
+
+watch_learned : (from to : ℕ) (ts : List Shared) (vs ws : List SeatView) → length ws ≡ length vs
+    → ((place : ℕ) (v w : SeatView) → slice_get vs place ≡ Some v → slice_get ws place ≡ Some w → HasLearned v w) → SeenMore from to (watch ts vs) (watch ts ws)
+watch_learned from to [] vs ws count each = tt
+watch_learned from to (t ∷ ts) [] [] count each = tt
+watch_learned from to (t ∷ ts) [] (w ∷ ws) count each = absurd (omega (arith, count))
+watch_learned from to (t ∷ ts) (v ∷ vs) [] count each = absurd (omega (arith, count))
+watch_learned from to (t ∷ ts) (v ∷ vs) (w ∷ ws) count each =
+    let here = each zero v w refl refl in (
+      refl,
+      refl,
+      (here.more, here.seen, callers_between from to here.more here.callers),
+      watch_learned from to ts vs ws (omega (arith, count)) (λ place a b at sat. each (suc place) a b at sat),
+    )
+
+-- the leaf is the same but for its seats
+pub seats_become : (leaf : Leaf) (seats : List SeatView) → seated_of (with_seats leaf seats) ≡ seated_with (seated_of leaf) seats
+seats_become (IsDown x) seats = refl
+seats_become (IsUp x) seats = refl
+seats_become (IsPreparing x) seats = refl
+
+-- at each table, at one moment
+met_more : (names : List (List ℕ)) (leaf : Leaf) (callers : List SeatView) (leaf' : Leaf) (callers' : List SeatView) (m : Meaning) → AreInPlace names (seated_of leaf) callers
+    → ((place : ℕ) (v : SeatView) → slice_get (seated_of leaf).seats place ≡ Some v → IsStewards v)
+    → MeetAll leaf callers leaf' callers' m → SeenMore m.clock m.clock (watched_by (seated_of leaf)) (watched_by (seated_of leaf'))
+met_more names leaf callers leaf' callers' m in_place stewards met =
+    subst (λ (ws : List Watched). SeenMore m.clock m.clock (watched_by (seated_of leaf)) ws) (sym now)
+    (watch_learned m.clock m.clock (seated_of leaf).tables (seated_of leaf).seats met.seats met.count.0 learned)
+  where
+    now : watched_by (seated_of leaf') ≡ watch (seated_of leaf).tables met.seats
+    now = ap (λ (l : Leaf). watched_by (seated_of l)) met.leaf_is ∙ ap (λ (s : Seated). watched_by s) (seats_become leaf met.seats)
+
+    learned : (place : ℕ) (v w : SeatView) → slice_get (seated_of leaf).seats place ≡ Some v → slice_get met.seats place ≡ Some w → HasLearned v w
+    learned place v w was is =
+        let there : place < length (seated_of leaf).seats = within (seated_of leaf).seats place v was in
+        let c = element_at callers place (omega (arith, there, in_place.seats, in_place.callers_are)) in
+        let c' = element_at callers' place (omega (arith, there, in_place.seats, in_place.callers_are, met.count.1)) in
+        steward_learned v c.0 w c'.0 (stewards place v was) (met.each place v c.0 w c'.0 was c.1 is c'.1)
+
+-- at a meeting no time passes, and the steward's seats learn callers' entries alone
+pub stands_met : (names : List (List ℕ)) (base : Tables) (leaf : Leaf) (callers : List SeatView) (leaf' : Leaf) (callers' : List SeatView) (m : Meaning)
+    → IsTrue m.tells → AreInPlace names (seated_of leaf) callers → AreFoundedWith base (seated_of leaf)
+    → ((place : ℕ) (v : SeatView) → slice_get (seated_of leaf).seats place ≡ Some v → IsStewards v)
+    → Stands base leaf m → MeetAll leaf callers leaf' callers' m
+    → StandsOn base leaf leaf' m m
+stands_met names base leaf callers leaf' callers' m tells in_place founded stewards stands met =
+    let still : Stands base leaf' m = met.stands base tells (founded_all names (seated_of leaf) callers in_place base founded) stands in
+    record {
+      stands = still;
+      told = stands_told base leaf' (watched_by (seated_of leaf)) m still (met_more names leaf callers leaf' callers' m in_place stewards met);
+    }
+
+-- what was told up to a call and what it tells
+pub told_on : (base : Tables) (names : List (List ℕ)) (leaf leaf' : Leaf) (old m m' : Meaning)
+    → moments.Told base (watched_with names base unseen) (watched_by (seated_of leaf)) old m → StandsOn base leaf leaf' m m'
+    → moments.Told base (watched_with names base unseen) (watched_by (seated_of leaf')) old m'
+told_on base names leaf leaf' old m m' so_far on =
+    told_join base (watched_with names base unseen) (watched_by (seated_of leaf)) (watched_by (seated_of leaf')) old m m' so_far on.told
+
+-- where the tables are founded with the base, they are founded
+pub stands_carried : (names : List (List ℕ)) (base : Tables) (leaf leaf' : Leaf) (callers : List SeatView) (notes : List Note) (m m' : Meaning)
+    → IsTrue m.tells → AreInPlace names (seated_of leaf) callers → AreFoundedWith base (seated_of leaf) → AreSound base
+    → Stands base leaf m → Carries leaf leaf' notes m m' → StandsOn base leaf leaf' m m'
+stands_carried names base leaf leaf' callers notes m m' tells in_place founded sound stands carries =
+    carries.stands base tells (founded_all names (seated_of leaf) callers in_place base founded) sound stands
+
+-- ---- the first moment and the last
+
+-- a run begins
+pub told_first : (names : List (List ℕ)) (base : Tables) (x : Seated) (callers : List SeatView) (m : Meaning)
+    → AreNames names → IsNewStage names base x callers → Stands base (IsDown x) m
+    → moments.Told base (watched_with names base unseen) (watched_by x) m m
+told_first names base x callers m are_names new stands =
+    let none : AtTables (λ t place v c. seen_of v ≡ unseen place) x callers =
+    λ place t v c at sat called. ap (λ (s : SeatView). seen_of s) (new.unused place t v c at sat called).0 in
+    let first : watched_by x ≡ watched_with names base unseen = watched_as names base unseen x callers new.in_place new.founded none in
+    stands_told base (IsDown x) (watched_with names base unseen) m stands
+    (subst (λ (ws : List Watched). SeenMore m.clock m.clock ws (watched_by x)) first (none_more m.clock m.clock (watched_by x)))
+
+-- a leaf may begin again over what stands of one
+stands_begin : (base : Tables) (leaf : Leaf) (m : Meaning) → LeavesBegin m → IsTrue m.tells → AreSound base → Stands base leaf m → BeginsAgain (tables_of base (watched_by (seated_of leaf)) m) m
+stands_begin base (IsDown x) m law tells sound stands = law.rests (watched_by x) base stands.0 stands.1 tells stands.2
+stands_begin base (IsUp x) m law tells sound stands = law.runs (watched_by x.seated) base x.owing.owner x.owing.log stands.0 tells sound stands.1
+stands_begin base (IsPreparing x) m law tells sound stands =
+    law.runs (watched_by x.serving.seated) base x.serving.owing.owner x.serving.owing.log stands.0 tells sound stands.1
+
+-- it has ended, and all seats have met
+pub leaves_met : (names : List (List ℕ)) (base : Tables) (leaf : Leaf) (callers : List SeatView) (old m : Meaning)
+    → LeavesBegin m → IsTrue m.tells → AreSound base → AreInPlace names (seated_of leaf) callers → AreFoundedWith base (seated_of leaf)
+    → AtTables (λ t place v c. seen_of v ≡ seen_of c) (seated_of leaf) callers
+    → Stands base leaf m → moments.Told base (watched_with names base unseen) (watched_by (seated_of leaf)) old m
+    → LeavesBerth names base (history_at callers) old m
+leaves_met names base leaf callers old m law tells sound in_place founded same stands so_far =
+    let last : watched_by (seated_of leaf) ≡ watched_with names base (history_at callers) =
+    watched_as names base (history_at callers) (seated_of leaf) callers in_place founded
+    (λ place t v c at sat called. same place t v c at sat called ∙ sym (history_there callers place c called)) in
+    record {
+      crash = subst (λ (ws : List Watched). moments.Told base (watched_with names base unseen) ws old m) last so_far;
+      begins = subst (λ (ws : List Watched). BeginsAgain (tables_of base ws m) m) last (stands_begin base leaf m law tells sound stands);
+    }

@@ -1,8 +1,28 @@
 -- The histories' beginnings.
-use Rattle.std.specs.Prelude.{ℕ, List, length}
-use Rattle.leaf_model.specs.declared.writes.Write.{Write}
-use Rattle.leaf_history.specs.History.{TableState, base_of}
+use Rattle.std.specs.Prelude.{◌≡◌, ℕ, suc, List, [], ◌∷◌, length}
+use Rattle.leaf_history.specs.History.{TableState, Entry}
+use Rattle.row_records.specs.Records.{LogRecord}
+use Rattle.disk_backup.specs.Logs.{IsLog, writes_of}
+use Rattle.leaf_core.specs.Left.{Tables}
+use Rattle.leaf_moments.specs.Watched.{Watched}
+use Rattle.printed_lines.specs.Lines.{name_at}
 
--- a table of this name before a run over a berth whose log has these writes of each name: shut, and with those writes, all of which are on the disk
-abbrev pub base_in : (List ℕ → List Write) → List ℕ → TableState
-base_in writes name = base_of (writes name) (length (writes name))
+-- the base of a table by its place
+abbrev pub base_at : List (List ℕ) → Tables → ℕ → TableState
+base_at names base table = base (name_at names table)
+
+-- the log of a disk has so many writes of this name
+abbrev pub LogHas : List ℕ → List ℕ → ℕ → Type 0
+LogHas disk name count = (records : List LogRecord) × (log_end : ℕ) × IsLog disk records log_end × (count ≡ length (writes_of name records))
+
+-- tables of these names, from a place on, with their histories
+abbrev pub watched_from : ℕ → List (List ℕ) → Tables → (ℕ → List Entry) → List Watched
+watched_from place [] base histories = []
+watched_from place (n ∷ ns) base histories = record { name = n; base = base n; seen = histories place } ∷ watched_from (suc place) ns base histories
+
+abbrev pub watched_with : List (List ℕ) → Tables → (ℕ → List Entry) → List Watched
+watched_with names base histories = watched_from 0 names base histories
+
+-- before the first entry
+abbrev pub unseen : ℕ → List Entry
+unseen table = []

@@ -1,56 +1,64 @@
 -- Laws of runs, as statements.
-use Rattle.std.specs.Prelude.{◌≡◌, ℕ, ◌<◌, ◌≤◌, true, false, List, [], ◌∷◌, ◌++◌, length, take, replicate, Some, IsTrue}
+use Rattle.std.specs.Prelude.{◌≡◌, ℕ, List, [], ◌∷◌, ◌++◌, Some}
 use Rattle.std.specs.List.{flat_map}
-use Rattle.leaf_model.specs.declared.writes.Write.{Write}
 use Rattle.berth_face.specs.Berth.{Meaning}
-use Rattle.leaf_history.specs.History.{TableState, after}
-use Rattle.region_layout.specs.Region.{AreDistinct}
+use Rattle.leaf_history.specs.History.{Entry}
+use Rattle.region_layout.specs.Names.{AreNames}
 use Rattle.leaf_opening.specs.declared.ways.Way.{Way}
-use Rattle.leaf_opening.specs.Backed.{Rests, is_one_of}
 use Rattle.leaf_opening.specs.Starts.{IsWayOf}
+use Rattle.turnstile.specs.Seats.{unused_seat}
+use Rattle.leaf_table.specs.Calls.{SeatView}
+use Rattle.leaf_core.specs.Left.{Tables}
+use Rattle.leaf_moments.specs.Told as moments
+use Rattle.leaf_steward.specs.Seated.{Seated}
+use Rattle.leaf_machine.specs.States.{MayBegin}
+use Rattle.leaf_machine.specs.Leaving.{BeginsAgain}
+use Rattle.leaf_standing.specs.Standing.{tables_of}
 use Rattle.script_text.specs.declared.command.Command.{Command}
 use Rattle.printed_lines.specs.declared.line.Line.{Line}
 use Rattle.printed_lines.specs.Lines.{lines_text, name_at}
+use Rattle.transcript.specs.Base.{LogHas, base_at, unseen, watched_with}
 use Rattle.transcript.specs.Life.{Down}
-use Rattle.transcript.specs.Steps.{Leaf, IsDown, MayPlay, Plays}
+use Rattle.transcript.specs.Stage.{Leaf, IsDown, Stands, MeetAll}
+use Rattle.transcript.specs.Steps.{MayPlay, Plays}
 use Rattle.transcript.specs.Transcript.{Transcript, Played, Fleet}
-use Rattle.transcript.specs.Session.{Session, one_leaf, scene_of, base_at}
+use Rattle.transcript.specs.Session.{Session, AreFoundedWith, AreInPlace, AtTables, one_leaf, scene_of}
 
--- a run begins over what a leaf left, with the way of its region
+-- a leaf at rest whose seats have made no entry yet
+pub record IsNewStage (names : List (List ℕ)) (base : Tables) (x : Seated) (callers : List SeatView) : Type 0 where
+  pub in_place : AreInPlace names x callers
+  pub founded : AreFoundedWith base x
+  pub unused : AtTables (λ t place v c. (v ≡ unused_seat t.site 0 1 1024) × (c ≡ unused_seat t.site 1 65536 65536)) x callers
+
+-- a run begins over a berth that a leaf may begin over, with the way of its region
 abbrev pub SessionsBegin : Meaning → Type 0
-SessionsBegin m = (names : List (List ℕ)) (way : Way) (first : List ℕ → List Write)
-    → AreDistinct names → Rests first m → IsWayOf m.held.region way
-    → Session names way first [] [] IsDown m (replicate (length names) 0)
+SessionsBegin m = (names : List (List ℕ)) (way : Way) (base : Tables) (read : List ℕ → ℕ) (x : Seated) (callers : List SeatView)
+    → AreNames names → MayBegin base m → IsWayOf m.held.region way → ((name : List ℕ) → LogHas m.held.disk name (read name))
+    → IsNewStage names base x callers → Stands base (IsDown x) m
+    → Session names way base read m [] [] (IsDown x) callers m
 
 -- it goes on by what one command does
-abbrev pub SessionsGoOn : Meaning → Meaning → Type 0
-SessionsGoOn m m' = (names : List (List ℕ)) (way : Way) (first : List ℕ → List Write) (commands : List Command) (out : List Line) (leaf leaf' : Leaf)
-    (numbers numbers' : List ℕ) (c : Command) (lines : List Line)
-    → IsTrue m.tells → MayPlay names c
-    → Session names way first commands out leaf m numbers → Plays names m m' c leaf numbers lines leaf' numbers'
-    → Session names way first (commands ++ c ∷ []) (out ++ lines) leaf' m' numbers'
+abbrev pub SessionsGoOn : {B : Type 0} → (B → Meaning) → Meaning → B → B → Type 0
+SessionsGoOn meaning old b b' = (names : List (List ℕ)) (way : Way) (base : Tables) (read : List ℕ → ℕ) (commands : List Command) (out : List Line)
+    (leaf leaf' : Leaf) (callers callers' : List SeatView) (c : Command) (lines : List Line)
+    → MayPlay names c
+    → Session names way base read old commands out leaf callers (meaning b) → Plays meaning names c leaf callers b lines leaf' callers' b'
+    → Session names way base read old (commands ++ c ∷ []) (out ++ lines) leaf' callers' (meaning b')
 
--- the log of a table has a front of the writes that it accepted, which has each flushed one
-pub record IsFrontOf (s : TableState) (writes : List Write) : Type 0 where
-  pub front : writes ≡ take (length writes) s.writes
-  pub flushed : s.flushed ≤ length writes
+-- What a run did to the berth and left of it, by the histories of the leaf's tables: at every moment since it began, each region and disk that a crash may leave belong to the tables as they
+-- stood then, each cut behind the last entry that the steward had made; and a run may begin over the berth again.
+pub record LeavesBerth (names : List (List ℕ)) (base : Tables) (histories : ℕ → List Entry) (old new : Meaning) : Type 0 where
+  pub crash : moments.Told base (watched_with names base unseen) (watched_with names base histories) old new
+  pub begins : BeginsAgain (tables_of base (watched_with names base histories) new) new
 
--- What a run leaves of the berth is what a run may begin over: of each table a front of the writes that it accepted, which has each flushed one, and of each name
--- that the leaf does not have what there was before.
-pub record LeavesBerth (names : List (List ℕ)) (first : List ℕ → List Write) (states : ℕ → TableState) (m : Meaning) : Type 0 where
-  pub writes : List ℕ → List Write
-  pub rests : Rests writes m
-  pub each : (table : ℕ) → table < length names → IsFrontOf (states table) (writes (name_at names table))
-  pub others : (name : List ℕ) → is_one_of names name ≡ false → writes name ≡ first name
-
--- the text of these lines is a transcript of the commands, and the berth is left so
-pub record IsToldRun (fleet : Fleet) (way : Way) (first : List ℕ → List Write) (commands : List Command) (out : List Line) (m : Meaning) : Type 0 where
-  pub transcript : Transcript fleet (scene_of (Down (Some way))) (λ leaf. base_at fleet.names first) commands (lines_text fleet.names out)
+-- The text of these lines is a transcript of the commands, and the berth is left so. `read` are the numbers of writes that the log as it reads has of each name.
+pub record IsToldRun (fleet : Fleet) (way : Way) (base : Tables) (read : List ℕ → ℕ) (commands : List Command) (out : List Line) (old new : Meaning) : Type 0 where
+  pub transcript : Transcript fleet (scene_of (Down (Some way))) (λ leaf. base_at fleet.names base) (λ leaf table. read (name_at fleet.names table)) commands (lines_text fleet.names out)
   pub lines_are : flat_map (λ (p : Played). p.lines) transcript.played ≡ out
-  pub leaves : LeavesBerth fleet.names first (λ table. after true (base_at fleet.names first table) (transcript.histories 0 table)) m
+  pub leaves : LeavesBerth fleet.names base (transcript.histories 0) old new
 
--- what was written of a run at any time is a transcript
-abbrev pub SessionsEnd : Meaning → Type 0
-SessionsEnd m = (names : List (List ℕ)) (way : Way) (first : List ℕ → List Write) (commands : List Command) (out : List Line) (leaf : Leaf) (numbers : List ℕ)
-    → Session names way first commands out leaf m numbers
-    → IsToldRun (one_leaf names) way first commands out m
+-- what was written of a run is a transcript, once all its seats have met again
+abbrev pub SessionsEnd : Meaning → Meaning → Type 0
+SessionsEnd old m = (names : List (List ℕ)) (way : Way) (base : Tables) (read : List ℕ → ℕ) (commands : List Command) (out : List Line) (leaf leaf' : Leaf) (callers callers' : List SeatView)
+    → Session names way base read old commands out leaf callers m → MeetAll leaf callers leaf' callers' m
+    → IsToldRun (one_leaf names) way base read commands out old m

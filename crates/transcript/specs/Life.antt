@@ -8,7 +8,7 @@ use Rattle.printed_lines.specs.declared.line.Said.{Said}
 use Rattle.printed_lines.specs.declared.line.Said.TheVariants.{Opened, Took, Flushed, Closed, Handed}
 use Rattle.printed_lines.specs.declared.line.Verb.TheVariants.{Flush, Drain, Kill, Start}
 use Rattle.printed_lines.specs.declared.line.Ending.{Ending}
-use Rattle.printed_lines.specs.declared.line.Ending.TheVariants.{Done, Stopped, NotUp, NotDown, Started, FaultRegion, FaultDisk, FaultDamaged, FaultMemory, FaultStranger}
+use Rattle.printed_lines.specs.declared.line.Ending.TheVariants.{Done, Stopped, NotUp, NotDown, Worn, Started, FaultRegion, FaultRoom, FaultDisk, FaultDamaged, FaultMemory, FaultStranger, FaultWorn}
 use Rattle.printed_lines.specs.declared.line.Line.{Line}
 use Rattle.printed_lines.specs.declared.line.Line.TheVariants.{Entry, Ended}
 
@@ -54,6 +54,9 @@ IsStartRefusal FaultRegion = ⊤
 IsStartRefusal FaultDisk = ⊤
 IsStartRefusal FaultMemory = ⊤
 IsStartRefusal (FaultStranger name) = ⊤
+IsStartRefusal (FaultWorn table) = ⊤
+IsStartRefusal Worn = ⊥
+IsStartRefusal FaultRoom = ⊥
 IsStartRefusal FaultDamaged = ⊥
 IsStartRefusal Done = ⊥
 IsStartRefusal Stopped = ⊥
@@ -96,7 +99,7 @@ pub data Starts (tables leaf : ℕ) (life : Life) (lines : List Line) (next : Li
 -- ---- flushes
 
 -- A flush of a table: what was owed is flushed, and then the table is taken and flushed with the same number of writes; or the disk fails, before anything
--- was flushed or when the table was taken; or the leaf is not up.
+-- was flushed or when the table was taken; or the table's seat is worn, and it is not taken; or the leaf is not up.
 pub data Flushes (table leaf : ℕ) (life : Life) (lines : List Line) (next : Life) : Type 0 where
   done : (way : Way) (owed : Option Owed) (first taking flushing count : ℕ)
       → life ≡ Up way owed
@@ -112,6 +115,11 @@ pub data Flushes (table leaf : ℕ) (life : Life) (lines : List Line) (next : Li
       → life ≡ Up way (Some o)
       → lines ≡ Ended Flush leaf FaultDisk ∷ []
       → next ≡ life
+      → Flushes table leaf life lines next
+  worn : (way : Way) (owed : Option Owed) (first : ℕ)
+      → life ≡ Up way owed
+      → lines ≡ owed_line leaf first owed ++ Ended Flush leaf Worn ∷ []
+      → next ≡ Up way None
       → Flushes table leaf life lines next
   not_up : (IsUpLife life → ⊥)
       → lines ≡ Ended Flush leaf NotUp ∷ []
@@ -183,6 +191,12 @@ pub data Halts (leaf : ℕ) (p : Progress) (lines : List Line) (q : Progress) : 
       → q ≡ p
       → Halts leaf p lines q
 
+-- there is no memory for the next table's content: what was owed is flushed
+pub record Starves (leaf : ℕ) (p : Progress) (lines : List Line) (q : Progress) : Type 0 where
+  pub first : ℕ
+  pub lines_are : lines ≡ owed_line leaf first p.owed
+  pub is : q ≡ record { owed = None; treated = first_open p; shut = false }
+
 -- where a drain of such a leaf begins
 abbrev pub BeginsAt : Life → Way → Progress → Type 0
 BeginsAt (Down claim) way p = ⊥
@@ -200,7 +214,7 @@ abbrev pub way_stopped : ℕ → Way → Way
 way_stopped further way = if nat_lt 1 further then Disk (why.Closed 0) else way
 
 -- A drain of a leaf of so many tables: each that is left is closed and flushed, then each is handed over, and the next start finds memory; or the region fails
--- once all are flushed; or there is no memory for the copy, or the disk fails, and the leaf goes on when it is drained again; or so many steps were made as it
+-- once all are flushed; or the copy has no room, or there is no memory, or the disk fails, and the leaf goes on when it is drained again; or so many steps were made as it
 -- was to make, and it is killed, so that each open table is closed; or the leaf is down.
 pub data Drains (tables leaf : ℕ) (stop : Option ℕ) (life : Life) (lines : List Line) (next : Life) : Type 0 where
   drains : (way : Way) (p q : Progress) (treating : List Line) (handings : List ℕ) (left : ℕ)
@@ -222,14 +236,23 @@ pub data Drains (tables leaf : ℕ) (stop : Option ℕ) (life : Life) (lines : L
       → lines ≡ treating ++ Ended Drain leaf FaultRegion ∷ []
       → next ≡ Down None
       → Drains tables leaf stop life lines next
-  no_memory : (way : Way) (p q : Progress) (treating : List Line) (left : ℕ)
+  no_room : (way : Way) (p q : Progress) (treating : List Line) (left : ℕ)
       → p.treated + left ≡ tables
       → MayMake stop (left + 1)
       → BeginsAt life way p
       → TreatsOn tables leaf p treating q
       → q.treated ≡ tables
-      → lines ≡ treating ++ Ended Drain leaf FaultMemory ∷ []
+      → lines ≡ treating ++ Ended Drain leaf FaultRoom ∷ []
       → next ≡ Preparing way q
+      → Drains tables leaf stop life lines next
+  no_memory : (way : Way) (p q r : Progress) (treating starving : List Line) (made : ℕ)
+      → p.treated + made ≡ q.treated
+      → MayMake stop (suc made)
+      → BeginsAt life way p
+      → TreatsOn tables leaf p treating q
+      → Starves leaf q starving r
+      → lines ≡ treating ++ (starving ++ Ended Drain leaf FaultMemory ∷ [])
+      → next ≡ Preparing way r
       → Drains tables leaf stop life lines next
   disk_fails : (way : Way) (p q r : Progress) (treating halting : List Line) (made : ℕ)
       → p.treated + made ≡ q.treated

@@ -1,29 +1,27 @@
 -- A run in the middle: what holds of the commands so far, of each table's history, and of the leaf as the program holds it.
--- The fleet has one leaf.
-use Rattle.std.specs.Prelude.{◌≡◌, ℕ, ◌-◌, ◌<◌, ◌≤◌, Bool, true, false, List, [], ◌∷◌, ◌++◌, length, map, take, nat_lt, not, Option, Some, None, IfSome, slice_get, ⊤}
+-- The fleet has one leaf. Histories are what the callers' seats have seen.
+use Rattle.std.specs.Prelude.{◌≡◌, ℕ, zero, suc, ◌+◌, ◌-◌, ◌<◌, ◌≤◌, Bool, true, false, List, [], ◌∷◌, ◌++◌, length, map, take, Option, Some, None, IfSome, slice_get, IsTrue, ⊤}
 use Rattle.std.specs.List.{flat_map, AllByRecursion}
-use Rattle.leaf_model.specs.declared.writes.Write.{Write}
-use Rattle.leaf_model.specs.Content.{nothing}
 use Rattle.row_records.specs.Records.{LogRecord}
 use Rattle.berth_face.specs.Berth.{Meaning}
-use Rattle.leaf_history.specs.History.{TableState, Entry, after}
-use Rattle.table_state.specs.Tables.{Table}
+use Rattle.leaf_history.specs.History.{TableState, Entry, LegalFrom, after}
 use Rattle.region_layout.specs.Region.{AreDistinct}
-use Rattle.disk_backup.specs.Settling.{with_writes}
 use Rattle.script_text.specs.declared.command.Command.{Command}
 use Rattle.script_text.specs.declared.command.Command.TheVariants as command
 use Rattle.leaf_opening.specs.declared.ways.Way.{Way}
-use Rattle.leaf_opening.specs.Serving.{Serving}
-use Rattle.leaf_machine.specs.Shutting.{Shutting, IsShutting}
-use Rattle.leaf_machine.specs.Shutting as shutting
-use Rattle.leaf_opening.specs.Backed.{Backed, Rests, untaken, is_one_of}
 use Rattle.leaf_opening.specs.Starts.{IsWayOf}
+use Rattle.leaf_core.specs.Left.{Tables}
+use Rattle.leaf_moments.specs.Told as moments
+use Rattle.leaf_table.specs.Turns.{Shared, is_founded, start_of}
+use Rattle.leaf_table.specs.Calls.{SeatView, AreOthers, base_of, name_of, seen_of}
+use Rattle.log_steward.specs.Owing.{Owing}
+use Rattle.leaf_steward.specs.Seated.{Seated, AtEach, watched_by}
+use Rattle.leaf_machine.specs.States.{Shutting, IsClosed, treated}
 use Rattle.printed_lines.specs.declared.line.Line.{Line}
-use Rattle.printed_lines.specs.Lines.{name_at}
-use Rattle.transcript.specs.Base.{base_in}
-use Rattle.transcript.specs.Life.{Life, Down, Up, Preparing, Owed}
-use Rattle.transcript.specs.Steps.{Leaf, IsDown, IsUp, IsPreparing}
-use Rattle.transcript.specs.Transcript.{Played, Fleet, Scene, IsHistoryOf, OpensFlushed, PrintsAll, Answers, shown, until_disk_fault, disk_faults_in, named, place_of}
+use Rattle.transcript.specs.Base.{LogHas, base_at, unseen, watched_with}
+use Rattle.transcript.specs.Life.{Life, Down, Up, Preparing, Owed, Progress, first_open}
+use Rattle.transcript.specs.Stage.{Leaf, IsDown, IsUp, IsPreparing, seated_of, Stands, AreSound}
+use Rattle.transcript.specs.Transcript.{Played, Shown, Fleet, Scene, Shows, Tells, OpensFlushed, PrintsAll, Answers, WornIsLong, shown, until_disk_fault, disk_faults_in, named, place_of, as_read}
 
 -- one leaf with tables of these names
 abbrev pub one_leaf : List (List ℕ) → Fleet
@@ -32,71 +30,106 @@ one_leaf names = record { leaves = 1; names = names }
 abbrev pub scene_of : Life → Scene
 scene_of life = record { lives = life ∷ [] }
 
--- ---- what the histories say of the leaf
+-- ---- one table
 
--- a table of a founded history: all its accepted writes are known
-pub record IsFounded (s : TableState) : Type 0 where
-  pub before : s.before ≡ nothing
-  pub handed_in : s.handed_in ≡ 0
+-- the steward's seat owns the id 0 alone
+pub record IsStewards (v : SeatView) : Type 0 where
+  pub id : v.id ≡ 0
+  pub share : v.share ≡ 1
+  pub taken : v.taken ≡ []
 
--- A table of a leaf at rest, of whose accepted writes the log has these: a front of them, which has each flushed one, and is all of them where
--- the table was handed over. Unless the disk has failed they are just the flushed ones.
-pub record IsRestOf (faulted : Bool) (s : TableState) (writes : List Write) : Type 0 where
-  pub founded : IsFounded s
-  pub front : writes ≡ take (length writes) s.writes
-  pub flushed : s.flushed ≤ length writes
-  pub handed : s.handed ≡ true → writes ≡ s.writes
-  pub exact : faulted ≡ false → s.flushed ≡ length writes
+-- the one seat of callers owns every other id
+pub record IsCallers (c : SeatView) : Type 0 where
+  pub id : c.id ≡ 1
+  pub share : c.share ≡ 65536
+  pub taken : c.taken ≡ []
 
--- A table of a leaf that serves: its accepted writes are those that were taken and those that were not, and the flushed ones are in the log.
-pub record IsServed (faulted : Bool) (s : TableState) (writes taken : List Write) (t : Table) : Type 0 where
-  pub founded : IsFounded s
-  pub all : s.writes ≡ taken ++ untaken t
-  pub taken_is : s.taken ≡ length taken
-  pub flushed : s.flushed ≤ length writes
-  pub handed : s.handed ≡ false
-  pub exact : faulted ≡ false → s.flushed ≡ length writes
+-- Lines with numbers from n on tell entries of the seat's own, in their order and each once; between them others may have made entries, which have no line.
+abbrev pub TellsOwn : SeatView → ℕ → List Shown → List Entry → Type 0
+TellsOwn v n [] es = es ≡ []
+TellsOwn v n (s ∷ ss) es = (between rest : List Entry) × (e : Entry) × AreOthers v between × (es ≡ between ++ e ∷ rest)
+    × (s.number ≡ n + length between) × Shows s.command s.said e × TellsOwn v (n + suc (length between)) ss rest
+
+-- What is known of the table in that place, of whose log as it reads so many writes stood when the run began. The steward's seat v has seen what the lines tell up to the
+-- last meeting; since then the caller's seat c has made entries, and others may have.
+pub record TableNow (base : TableState) (read table : ℕ) (played : List Played) (v c : SeatView) : Type 0 where
+  pub stewards : IsStewards v
+  pub callers : IsCallers c
+  pub since : List Entry
+  pub seen : seen_of c ≡ seen_of v ++ since
+  pub told : List Shown
+  pub later : List Shown
+  pub lines : shown 0 table played ≡ told ++ later
+  pub tells : Tells 1 told (seen_of v)
+  pub tells_later : TellsOwn c (suc (length (seen_of v))) later since
+  pub opened : OpensFlushed (as_read base read) (take (length (shown 0 table (until_disk_fault 0 played))) (seen_of v))
+  pub legal : LegalFrom true base (seen_of c)
+
+-- The same just behind a meeting: both have seen one history, and the lines tell all of it.
+pub record TableMet (base : TableState) (read table : ℕ) (played : List Played) (v c : SeatView) : Type 0 where
+  pub stewards : IsStewards v
+  pub callers : IsCallers c
+  pub same : seen_of v ≡ seen_of c
+  pub tells : Tells 1 (shown 0 table played) (seen_of c)
+  pub opened : OpensFlushed (as_read base read) (take (length (shown 0 table (until_disk_fault 0 played))) (seen_of c))
+  pub legal : LegalFrom true base (seen_of c)
+
+-- the histories as the callers' seats have seen them
+abbrev pub history_at : List SeatView → ℕ → List Entry
+history_at [] table = []
+history_at (c ∷ cs) zero = seen_of c
+history_at (c ∷ cs) (suc table) = history_at cs table
+
+-- ---- the leaf, and what is printed of it
 
 -- what the log is owed is what the lines say
-abbrev pub IsOwedAs : Option Owed → Serving → Type 0
-IsOwedAs None s = s.log.owed ≡ None
-IsOwedAs (Some o) s = (r : LogRecord) × (s.log.owed ≡ Some r) × (s.owner ≡ o.table) × (s.count ≡ o.count)
+abbrev pub IsOwedAs : Option Owed → Owing → Type 0
+IsOwedAs None o = o.log.owed ≡ None
+IsOwedAs (Some told) o = (r : LogRecord) × (o.log.owed ≡ Some r) × (o.owner ≡ told.table) × (o.count ≡ told.count)
 
--- the tables of a leaf at rest, over what its berth holds; a name that the leaf does not have has what it had first
-pub record RestsAs (names : List (List ℕ)) (first : List ℕ → List Write) (faulted : Bool) (m : Meaning) (states : ℕ → TableState) : Type 0 where
-  pub writes : List ℕ → List Write
-  pub rests : Rests writes m
-  pub shut : (table : ℕ) → table < length names → (states table).live ≡ false
-  pub each : (table : ℕ) → table < length names → IsRestOf faulted (states table) (writes (name_at names table))
-  pub others : (name : List ℕ) → is_one_of names name ≡ false → writes name ≡ first name
+-- how far a leaf has come that shuts its tables
+pub record IsProgressOf (x : Shutting) (p : Progress) : Type 0 where
+  pub owed : IsOwedAs p.owed x.serving.owing
+  pub treated_are : p.treated ≡ treated x
+  pub shut : p.shut ≡ x.shut
+  pub closed : length x.closed ≡ first_open p
 
--- the tables of a leaf that serves, of which so many from the first on are shut
-pub record ServesAs (names : List (List ℕ)) (first : List ℕ → List Write) (faulted : Bool) (s : Serving) (shut : ℕ) (m : Meaning) (states : ℕ → TableState) : Type 0 where
-  pub writes : List ℕ → List Write
-  pub backed : Backed writes s m
-  pub named : s.names ≡ names
-  pub open_ : (table : ℕ) → table < length names → (states table).live ≡ not (nat_lt table shut)
-  pub each : (table : ℕ) (t : Table) → slice_get s.tables table ≡ Some t
-      → IsServed faulted (states table) (writes (name_at names table)) (with_writes s.log.owed writes (name_at names table)) t
-  pub others : (name : List ℕ) → is_one_of names name ≡ false → writes name ≡ first name
-  pub none_owed : faulted ≡ false → s.log.owed ≡ None
+-- the leaf is as the lines say, and so will its next start be
+abbrev pub FitsLife : Life → Leaf → Meaning → Type 0
+FitsLife (Down claim) (IsDown x) m = IfSome claim (IsWayOf m.held.region)
+FitsLife (Down claim) (IsUp x) m = ⊥
+FitsLife (Down claim) (IsPreparing x) m = ⊥
+FitsLife (Up way owed) (IsDown x) m = ⊥
+FitsLife (Up way owed) (IsUp x) m = IsWayOf m.held.region way × IsOwedAs owed x.owing
+FitsLife (Up way owed) (IsPreparing x) m = ⊥
+FitsLife (Preparing way p) (IsDown x) m = ⊥
+FitsLife (Preparing way p) (IsUp x) m = ⊥
+FitsLife (Preparing way p) (IsPreparing x) m = IsWayOf m.held.region way × IsProgressOf x p
 
--- of the tables that are treated each accepted write is flushed
-abbrev pub AreTreated : ℕ → ℕ → (ℕ → TableState) → Type 0
-AreTreated count treated states = (table : ℕ) → table < count → table < treated → (states table).flushed ≡ length (states table).writes
+-- ---- what the disk has, where it never failed
 
--- the leaf as the program holds it is what its life and the histories say
-abbrev pub Stands : List (List ℕ) → (List ℕ → List Write) → Bool → Life → Leaf → Meaning → (ℕ → TableState) → Type 0
-Stands names first faulted (Down claim) IsDown m states = RestsAs names first faulted m states × IfSome claim (IsWayOf m.held.region)
-Stands names first faulted (Down claim) (IsUp s) m states = ⊥
-Stands names first faulted (Down claim) (IsPreparing x) m states = ⊥
-Stands names first faulted (Up way owed) IsDown m states = ⊥
-Stands names first faulted (Up way owed) (IsUp s) m states = ServesAs names first faulted s 0 m states × IsWayOf m.held.region way × IsOwedAs owed s
-Stands names first faulted (Up way owed) (IsPreparing x) m states = ⊥
-Stands names first faulted (Preparing way p) IsDown m states = ⊥
-Stands names first faulted (Preparing way p) (IsUp s) m states = ⊥
-Stands names first faulted (Preparing way p) (IsPreparing x) m states = ServesAs names first faulted x.serving (shutting.first_open x) m states × IsWayOf m.held.region way
-    × IsOwedAs p.owed x.serving × (p.treated ≡ x.treated) × (p.shut ≡ x.shut) × AreTreated (length names) x.treated states × IsShutting x
+-- the table's state as far as the seat has seen it
+abbrev pub state_with : Tables → Shared → SeatView → TableState
+state_with base t v = after true (base (name_of t)) (seen_of v)
+
+-- the same, by what the log as it read had first
+abbrev pub state_read : Tables → (List ℕ → ℕ) → Shared → SeatView → TableState
+state_read base read t v = after true (as_read (base (name_of t)) (read (name_of t))) (seen_of v)
+
+-- each write that was taken is flushed, and known to be
+pub record IsAllFlushed (s known : TableState) : Type 0 where
+  pub flushed : s.flushed ≡ s.taken
+  pub known_is : known.flushed ≡ s.taken
+
+abbrev pub AreAllFlushed : Tables → (List ℕ → ℕ) → Seated → Type 0
+AreAllFlushed base read x = AtEach (λ place t v. IsAllFlushed (state_with base t v) (state_read base read t v)) x
+
+-- the log of a leaf at rest has just the writes that are known to be flushed; one that serves owes it nothing
+abbrev pub IsExact : Tables → (List ℕ → ℕ) → Leaf → Meaning → Type 0
+IsExact base read (IsDown x) m = AtEach (λ place t v. LogHas m.held.disk (name_of t) (state_read base read t v).flushed) x
+IsExact base read (IsUp x) m = (x.owing.log.owed ≡ None) × AreAllFlushed base read x.seated
+IsExact base read (IsPreparing x) m = (x.serving.owing.log.owed ≡ None) × (x.shut ≡ false) × AreAllFlushed base read x.serving.seated
+    × AtEach (λ place t v. place < length x.closed → IsClosed (state_with base t v)) x.serving.seated
 
 -- ---- the run so far
 
@@ -104,12 +137,6 @@ Stands names first faulted (Preparing way p) (IsPreparing x) m states = ServesAs
 abbrev pub Faults : Bool → List Played → Type 0
 Faults false played = AllByRecursion (λ (p : Played). disk_faults_in 0 p.lines ≡ 0) played
 Faults true played = (more : List Played) → until_disk_fault 0 (played ++ more) ≡ until_disk_fault 0 played
-
--- what is known of one table
-pub record TableNow (base : TableState) (table : ℕ) (played : List Played) (entries : List Entry) (numbers : List ℕ) : Type 0 where
-  pub history : IsHistoryOf base (shown 0 table played) entries
-  pub opened : OpensFlushed base (take (length (shown 0 table (until_disk_fault 0 played))) entries)
-  pub number : slice_get numbers table ≡ Some (length entries)
 
 -- each entry that an answer names was made
 abbrev pub IsMade : Fleet → (ℕ → List Entry) → Command → List Line → Type 0
@@ -122,27 +149,56 @@ IsMade fleet histories (command.Drain leaf stop) lines = ⊤
 IsMade fleet histories (command.Kill leaf) lines = ⊤
 IsMade fleet histories (command.Start leaf) lines = ⊤
 
--- the base of a table by its place
-abbrev pub base_at : List (List ℕ) → (List ℕ → List Write) → ℕ → TableState
-base_at names first table = base_in first (name_at names table)
+abbrev pub Answered : List (List ℕ) → Tables → (ℕ → List Entry) → Played → Type 0
+Answered names base histories p =
+    Answers (one_leaf names) (λ leaf. base_at names base) (λ leaf. histories) p.command p.lines × IsMade (one_leaf names) histories p.command p.lines
 
-abbrev pub Answered : List (List ℕ) → (List ℕ → List Write) → (ℕ → List Entry) → Played → Type 0
-Answered names first histories p =
-    Answers (one_leaf names) (λ leaf. base_at names first) (λ leaf. histories) p.command p.lines × IsMade (one_leaf names) histories p.command p.lines
+abbrev pub WornAreLong : (ℕ → List Entry) → Played → Type 0
+WornAreLong histories p = AllByRecursion (WornIsLong (λ leaf. histories) p.command) p.lines
 
--- What is known after these commands, which printed these lines, over a berth whose log had `first` of each name when the run began, and whose first start
--- prints `way`.
-pub record Session (names : List (List ℕ)) (way : Way) (first : List ℕ → List Write) (commands : List Command) (out : List Line) (leaf : Leaf) (m : Meaning) (numbers : List ℕ) : Type 0 where
+-- the tables are founded with this base
+abbrev pub AreFoundedWith : Tables → Seated → Type 0
+AreFoundedWith base x = AtEach (λ place t v. (is_founded (base_of t) ≡ true) × (start_of (base_of t) ≡ base (name_of t))) x
+
+-- the leaf has tables of these names, and a seat of its steward and one of callers at each
+pub record AreInPlace (names : List (List ℕ)) (x : Seated) (callers : List SeatView) : Type 0 where
+  pub named : map name_of x.tables ≡ names
+  pub same_names : x.names ≡ names
+  pub seats : length x.seats ≡ length names
+  pub callers_are : length callers ≡ length names
+  pub distinct : AreDistinct names
+
+-- what is known of each table in its place
+abbrev pub AtTables : (Shared → ℕ → SeatView → SeatView → Type 0) → Seated → List SeatView → Type 0
+AtTables P x callers = (place : ℕ) (t : Shared) (v c : SeatView) → slice_get x.tables place ≡ Some t → slice_get x.seats place ≡ Some v → slice_get callers place ≡ Some c → P t place v c
+
+-- What is known after these commands, which printed these lines, by what is known of each table (Q). The run began over a berth that meant `old`, with this base of each name, in whose log as
+-- it read so many writes of each stood, and its first start prints `way`.
+pub record SessionWith (Q : TableState → ℕ → ℕ → List Played → SeatView → SeatView → Type 0)
+    (names : List (List ℕ)) (way : Way) (base : Tables) (read : List ℕ → ℕ) (old : Meaning) (commands : List Command) (out : List Line) (leaf : Leaf) (callers : List SeatView) (m : Meaning) : Type 0 where
   pub played : List Played
-  pub histories : ℕ → List Entry
   pub life : Life
   pub faulted : Bool
   pub commands_are : map (λ (p : Played). p.command) played ≡ commands
   pub all : flat_map (λ (p : Played). p.lines) played ≡ out
   pub prints : PrintsAll (one_leaf names) (scene_of (Down (Some way))) played (scene_of life)
   pub faults : Faults faulted played
-  pub tables : (table : ℕ) → table < length names → TableNow (base_at names first table) table played (histories table) numbers
-  pub answered : AllByRecursion (Answered names first histories) played
-  pub stands : Stands names first faulted life leaf m (λ table. after true (base_at names first table) (histories table))
-  pub count : length numbers ≡ length names
-  pub distinct : AreDistinct names
+  pub in_place : AreInPlace names (seated_of leaf) callers
+  pub tables : AtTables (λ t place v c. Q (base (name_of t)) (read (name_of t)) place played v c) (seated_of leaf) callers
+  pub answered : AllByRecursion (Answered names base (history_at callers)) played
+  pub worn : AllByRecursion (WornAreLong (history_at callers)) played
+  pub fits : FitsLife life leaf m
+  pub exact : faulted ≡ false → IsExact base read leaf m
+  pub tells : IsTrue m.tells
+  pub sound : AreSound base
+  pub founded : AreFoundedWith base (seated_of leaf)
+  pub stands : Stands base leaf m
+  pub told : moments.Told base (watched_with names base unseen) (watched_by (seated_of leaf)) old m
+
+-- the run between two commands
+abbrev pub Session : List (List ℕ) → Way → Tables → (List ℕ → ℕ) → Meaning → List Command → List Line → Leaf → List SeatView → Meaning → Type 0
+Session names way base read old commands out leaf callers m = SessionWith TableNow names way base read old commands out leaf callers m
+
+-- just behind a meeting of all seats
+abbrev pub MetSession : List (List ℕ) → Way → Tables → (List ℕ → ℕ) → Meaning → List Command → List Line → Leaf → List SeatView → Meaning → Type 0
+MetSession names way base read old commands out leaf callers m = SessionWith TableMet names way base read old commands out leaf callers m

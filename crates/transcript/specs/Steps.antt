@@ -1,35 +1,33 @@
--- What each command does to a leaf as the program holds it: the lines that it prints, and what stands behind it.
--- The leaf is leaf 0, and `numbers` are the lengths of its tables' histories.
-use Rattle.std.specs.Prelude.{◌≡◌, ◌≢◌, ◌↔◌, ℕ, suc, ◌+◌, ◌<◌, Bool, true, false, List, [], ◌∷◌, ◌++◌, drop, length, Option, Some, None, MatchBool, slice_get, slice_set, slice_index, nat_lt, Result, Ok, Err, IsTrue, ⊤}
+-- What each command does to a leaf and its callers' seats as the program holds them: the lines that it prints, and what stands behind it.
+use Rattle.std.specs.Prelude.{◌≡◌, ◌≢◌, ℕ, suc, ◌+◌, ◌<◌, List, [], ◌∷◌, ◌++◌, length, map, Option, Some, None, MatchBool, slice_get, slice_set, nat_lt, IsTrue, ⊤}
 use Rattle.leaf_model.specs.declared.rows.Row.{Row}
 use Rattle.leaf_model.specs.declared.queries.Query.{Query}
-use Rattle.leaf_model.specs.declared.writes.Write.{Write}
-use Rattle.berth_face.specs.Berth.{Meaning, Pair}
-use Rattle.table_state.specs.Tables.{Table}
-use Rattle.table_state.specs.declared.fault.Added.{Added}
-use Rattle.table_state.specs.declared.fault.AddFault.{AddFault}
-use Rattle.table_state.specs.declared.fault.AddFault.TheVariants.{Full, NoMemory}
+use Rattle.berth_face.specs.Berth.{Meaning}
+use Rattle.answer_text.specs.Answer.{answer_lines}
+use Rattle.leaf_history.specs.Calls as call
+use Rattle.adopt.specs.declared.found.WhyDisk.TheVariants as why
+use Rattle.disk_backup.specs.Scanning.{Begins}
 use Rattle.leaf_opening.specs.declared.ways.Way.{Way}
 use Rattle.leaf_opening.specs.declared.ways.Way.TheVariants.{Memory, Disk}
-use Rattle.adopt.specs.declared.found.WhyDisk.TheVariants as why
-use Rattle.leaf_opening.specs.declared.ways.StartFault.{StartFault}
-use Rattle.leaf_opening.specs.declared.ways.StartFault.TheVariants as fault
+use Rattle.leaf_opening.specs.Starts.{IsWayOf}
+use Rattle.leaf_core.specs.Left.{Tables}
+use Rattle.leaf_table.specs.declared.replies.Reply.{Reply}
+use Rattle.leaf_table.specs.declared.replies.Reply.TheVariants as told
+use Rattle.leaf_table.specs.Turns.{Shared}
+use Rattle.leaf_table.specs.Calls.{SeatView, base_of, Answered}
+use Rattle.leaf_steward.specs.declared.notes.Note.{Note}
+use Rattle.leaf_steward.specs.declared.notes.What.{What}
+use Rattle.leaf_steward.specs.declared.notes.What.TheVariants as what
+use Rattle.leaf_steward.specs.Seated.{Seated, AreFounded}
+use Rattle.leaf_steward.specs.Making.{Makes, EachNoted, IsClosedNote, IsHandedNote, WornAt}
+use Rattle.leaf_machine.specs.declared.faults.StartFault.{StartFault}
+use Rattle.leaf_machine.specs.declared.faults.StartFault.TheVariants as fault
 use Rattle.leaf_machine.specs.declared.up.FlushReply.{FlushReply}
 use Rattle.leaf_machine.specs.declared.up.FlushReply.TheVariants as reply
-use Rattle.leaf_machine.specs.declared.notes.Note.{Note}
-use Rattle.leaf_machine.specs.declared.notes.What.{What}
-use Rattle.leaf_machine.specs.declared.notes.What.TheVariants as what
-use Rattle.leaf_opening.specs.Serving.{Serving}
-use Rattle.leaf_machine.specs.Shutting.{Shutting, IsShutting}
-use Rattle.leaf_machine.specs.Shutting as shutting
-use Rattle.leaf_machine.specs.Notes.{opened_notes, closed_notes, handed_notes}
-use Rattle.leaf_machine.specs.Tables.{Adds}
-use Rattle.leaf_opening.specs.Backed.{Backed, Rests, GoesOn, all_writes}
-use Rattle.adopt.specs.Found.{left_behind}
-use Rattle.leaf_opening.specs.Starts.{IsWayOf, AreFresh}
+use Rattle.leaf_machine.specs.States.{Serving, Shutting, treated}
+use Rattle.leaf_machine.specs.Starts.{Came}
 use Rattle.leaf_machine.specs.Flushes.{Flushes}
-use Rattle.leaf_machine.specs.Prepares.{Treats, Halts, AllTreated, prepared}
-use Rattle.leaf_machine.specs.Steps.{shutting_with}
+use Rattle.leaf_machine.specs.Prepares.{Treats, Halts, Starves, AllTreated, begins}
 use Rattle.printed_lines.specs.declared.line.Said.{Said}
 use Rattle.printed_lines.specs.declared.line.Said.TheVariants as said
 use Rattle.printed_lines.specs.declared.line.Verb.{Verb}
@@ -41,14 +39,55 @@ use Rattle.printed_lines.specs.declared.line.Line.TheVariants as line
 use Rattle.script_text.specs.declared.command.Command.{Command}
 use Rattle.script_text.specs.declared.command.Command.TheVariants as command
 use Rattle.script_text.specs.Fits.{IsCommand}
-use Rattle.transcript.specs.Transcript.{named, row_lines, place_of}
+use Rattle.transcript.specs.Transcript.{named, place_of}
 use Rattle.transcript.specs.Life.{MayMake}
+use Rattle.transcript.specs.Stage.{Leaf, IsDown, IsUp, IsPreparing, seated_of, Stands, ServingStands, AreSound, Carries, MeetAll}
 
--- a leaf: down, up, or shutting its tables
-pub data Leaf : Type 0 where
-  IsDown : Leaf
-  IsUp : (leaf : Serving) → Leaf
-  IsPreparing : (leaf : Shutting) → Leaf
+-- ---- the calls of callers
+
+-- the line of a reply to an add or a query
+abbrev pub Says : ℕ → Reply → Line → Type 0
+Says table (told.Added number kept late) l = l ≡ line.Entry 0 table number (said.Added kept late)
+Says table (told.Removed number rows) l = ⊥
+Says table (told.Groups number gs) l = l ≡ line.Entry 0 table number said.Asked
+Says table (told.Shut number) l = l ≡ line.Entry 0 table number said.RefusedShut
+Says table (told.Full number) l = l ≡ line.Entry 0 table number said.RefusedFull
+Says table (told.NoMemory number) l = l ≡ line.Entry 0 table number said.RefusedMemory
+Says table told.Worn l = l ≡ line.Worn 0 table
+
+-- the lines of the answer to a query: those of the groups, or none where the table did not answer
+abbrev pub AnswersWith : Query → Reply → List (List ℕ) → Type 0
+AnswersWith q (told.Groups number gs) rows = rows ≡ answer_lines q gs
+AnswersWith q (told.Added number kept late) rows = ⊥
+AnswersWith q (told.Removed number k) rows = ⊥
+AnswersWith q (told.Shut number) rows = rows ≡ []
+AnswersWith q (told.Full number) rows = ⊥
+AnswersWith q (told.NoMemory number) rows = rows ≡ []
+AnswersWith q told.Worn rows = rows ≡ []
+
+-- a caller's call of the table in that place, and its line
+pub record CallStep (table : ℕ) (c : call.Call) (tables : List Shared) (callers : List SeatView) (l : Line) (callers' : List SeatView) : Type 0 where
+  pub shared : Shared
+  pub before : SeatView
+  pub after : SeatView
+  pub reply : Reply
+  pub at : slice_get tables table ≡ Some shared
+  pub was : slice_get callers table ≡ Some before
+  pub answered : Answered (base_of shared) before c reply after
+  pub now : callers' ≡ slice_set callers table after
+  pub says : Says table reply l
+
+pub record AddStep (table : ℕ) (rows : List Row) (tables : List Shared) (callers : List SeatView) (lines : List Line) (callers' : List SeatView) : Type 0 where
+  pub printed : Line
+  pub calls : CallStep table (call.Add rows) tables callers printed callers'
+  pub lines_are : lines ≡ printed ∷ []
+
+pub record QueryStep (table : ℕ) (q : Query) (tables : List Shared) (callers : List SeatView) (lines : List Line) (callers' : List SeatView) : Type 0 where
+  pub printed : Line
+  pub rows : List (List ℕ)
+  pub calls : CallStep table (call.Ask q) tables callers printed callers'
+  pub answers : AnswersWith q calls.reply rows
+  pub lines_are : lines ≡ printed ∷ line.Answer (length (named (printed ∷ []))) 1 rows ∷ []
 
 -- ---- the lines of notes
 
@@ -60,90 +99,30 @@ said_of_note (what.Flushed writes) = said.Flushed writes
 said_of_note (what.Closed writes) = said.Closed writes
 said_of_note what.Handed = said.Handed
 
--- the table's next number is taken
-abbrev pub raised : List ℕ → ℕ → List ℕ
-raised numbers table = slice_set numbers table (suc (slice_index numbers table))
+abbrev pub note_line : Note → Line
+note_line n = line.Entry 0 n.table n.number (said_of_note n.what)
 
--- the line of a table's next entry
-abbrev pub next_line : List ℕ → ℕ → Said → Line
-next_line numbers table s = line.Entry 0 table (suc (slice_index numbers table)) s
+-- one line for each note, in order
+abbrev pub note_lines : List Note → List Line
+note_lines notes = map note_line notes
 
--- one line for each note in order
-abbrev pub note_lines : List Note → List ℕ → List Line
-note_lines [] numbers = []
-note_lines (n ∷ ns) numbers = next_line numbers n.table (said_of_note n.what) ∷ note_lines ns (raised numbers n.table)
+-- ---- the steward's part of a command, by its notes and its ending
 
-abbrev pub numbers_after : List Note → List ℕ → List ℕ
-numbers_after [] numbers = numbers
-numbers_after (n ∷ ns) numbers = numbers_after ns (raised numbers n.table)
+-- the steward makes entries one after another, with these notes
+pub record Part (x : Seated) (notes : List Note) (y : Seated) : Type 0 where
+  pub from : ℕ
+  pub to : ℕ
+  pub made : Makes from to x notes y
 
--- ---- adds and queries
+abbrev pub IsDownLeaf : Leaf → Type 0
+IsDownLeaf (IsDown x) = ⊤
+IsDownLeaf (IsUp x) = ⊥
+IsDownLeaf (IsPreparing x) = ⊥
 
--- what an add's line says
-abbrev pub said_of : Result Added AddFault → Said
-said_of (Ok a) = said.Added a.kept a.late
-said_of (Err Full) = said.RefusedFull
-said_of (Err NoMemory) = said.RefusedMemory
-
--- an add to a table that is open: it changes nothing of what the berth holds
-pub record AddsOpen (s : Serving) (m : Meaning) (table : ℕ) (rows : List Row) (what : Said) (s' : Serving) (m' : Meaning) : Type 0 where
-  pub result : Result Added AddFault
-  pub adds : Adds s table rows result s'
-  pub backed : (writes : List ℕ → List Write) → Backed writes s m → Backed writes s' m'
-  pub said_is : what ≡ said_of result
-
--- an add to a table of a leaf that shuts its tables
-abbrev pub AddsPreparing : Bool → Shutting → Meaning → ℕ → List Row → Said → Leaf → Meaning → Type 0
-AddsPreparing true x m table rows what leaf m' = (what ≡ said.RefusedShut) × (leaf ≡ IsPreparing x)
-AddsPreparing false x m table rows what leaf m' = (s : Serving) × AddsOpen x.serving m table rows what s m' × IsShutting (shutting_with x s) × (leaf ≡ IsPreparing (shutting_with x s))
-
--- the table is shut
-abbrev pub is_shut : Shutting → ℕ → Bool
-is_shut x table = nat_lt table (shutting.first_open x)
-
--- an add to a table
-abbrev pub AddsRows : Leaf → Meaning → ℕ → List Row → Said → Leaf → Meaning → Type 0
-AddsRows IsDown m table rows what leaf m' = (what ≡ said.RefusedShut) × (leaf ≡ IsDown)
-AddsRows (IsUp s) m table rows what leaf m' = (s' : Serving) × AddsOpen s m table rows what s' m' × (leaf ≡ IsUp s')
-AddsRows (IsPreparing x) m table rows what leaf m' = AddsPreparing (is_shut x table) x m table rows what leaf m'
-
-pub record AddStep (table : ℕ) (rows : List Row) (m m' : Meaning) (leaf : Leaf) (numbers : List ℕ) (lines : List Line) (leaf' : Leaf) (numbers' : List ℕ) : Type 0 where
-  pub said : Said
-  pub adds : AddsRows leaf m table rows said leaf' m'
-  pub lines_are : lines ≡ next_line numbers table said ∷ []
-  pub numbers_are : numbers' ≡ raised numbers table
-
--- what a query says of a table, and the lines of its answer: those of the table's rows, or none where there was no memory to find them
-pub data AsksTable (t : Table) (q : Query) (s : Said) (rows : List (List ℕ)) : Type 0 where
-  answered : s ≡ said.Asked → rows ≡ row_lines q t.contents.rows → AsksTable t q s rows
-  starved : s ≡ said.RefusedMemory → rows ≡ [] → AsksTable t q s rows
-
-abbrev pub AsksOpen : List Table → ℕ → Query → Said → List (List ℕ) → Type 0
-AsksOpen tables table q s rows = (t : Table) × (slice_get tables table ≡ Some t) × AsksTable t q s rows
-
-abbrev pub AsksPreparing : Bool → List Table → ℕ → Query → Said → List (List ℕ) → Type 0
-AsksPreparing true tables table q s rows = (s ≡ said.RefusedShut) × (rows ≡ [])
-AsksPreparing false tables table q s rows = AsksOpen tables table q s rows
-
--- a query of a leaf's table
-abbrev pub AsksRows : Leaf → ℕ → Query → Said → List (List ℕ) → Type 0
-AsksRows IsDown table q s rows = (s ≡ said.RefusedShut) × (rows ≡ [])
-AsksRows (IsUp leaf) table q s rows = AsksOpen leaf.tables table q s rows
-AsksRows (IsPreparing x) table q s rows = AsksPreparing (is_shut x table) x.serving.tables table q s rows
-
-pub record QueryStep (table : ℕ) (q : Query) (leaf : Leaf) (numbers : List ℕ) (lines : List Line) (numbers' : List ℕ) : Type 0 where
-  pub said : Said
-  pub rows : List (List ℕ)
-  pub asks : AsksRows leaf table q said rows
-  pub lines_are : lines ≡ next_line numbers table said ∷ line.Answer (length (named (next_line numbers table said ∷ []))) 1 rows ∷ []
-  pub numbers_are : numbers' ≡ raised numbers table
-
--- ---- the steward's commands, each by its notes and its ending
-
--- the lines of a steward's command: one for each note, and its ending
-pub record StewardLines (verb : Verb) (notes : List Note) (ends : Ending) (numbers : List ℕ) (lines : List Line) (numbers' : List ℕ) : Type 0 where
-  pub lines_are : lines ≡ note_lines notes numbers ++ line.Ended verb 0 ends ∷ []
-  pub numbers_are : numbers' ≡ numbers_after notes numbers
+abbrev pub IsUpLeaf : Leaf → Type 0
+IsUpLeaf (IsDown x) = ⊥
+IsUpLeaf (IsUp x) = ⊤
+IsUpLeaf (IsPreparing x) = ⊥
 
 -- how a refused start is told
 abbrev pub ending_of : StartFault → Ending
@@ -152,222 +131,238 @@ ending_of fault.DiskFault = ending.FaultDisk
 ending_of fault.DiskDamaged = ending.FaultDamaged
 ending_of (fault.Stranger name) = ending.FaultStranger name
 ending_of fault.NoMemory = ending.FaultMemory
+ending_of (fault.Worn table) = ending.FaultWorn table
+
+-- a start is refused for a worn seat only where that seat is worn
+abbrev pub IsWornFor : Seated → StartFault → Type 0
+IsWornFor x (fault.Worn table) = WornAt x table
+IsWornFor x fault.RegionFault = ⊤
+IsWornFor x fault.DiskFault = ⊤
+IsWornFor x fault.DiskDamaged = ⊤
+IsWornFor x (fault.Stranger name) = ⊤
+IsWornFor x fault.NoMemory = ⊤
 
 -- a start that is not refused, over a berth that tells its contents
-pub record StartsTold (m m' : Meaning) (s : Serving) (way : Way) : Type 0 where
+pub record StartsTold (x : Seated) (m m' : Meaning) (s : Serving) (notes : List Note) (way : Way) : Type 0 where
+  pub came : Came x.names m m' notes s way
   pub way_is : IsWayOf m.held.region way
-  pub region : m'.held.region ≡ left_behind m.held.region
-  pub backed : (writes : List ℕ → List Write) → Rests writes m → Backed writes s m'
 
 -- a start: each table is opened, or it is refused, or the leaf is not down
-pub data StartMoves (names : List (List ℕ)) (m m' : Meaning) (leaf : Leaf) (notes : List Note) (ends : Ending) (leaf' : Leaf) : Type 0 where
-  opened : (s : Serving) (way : Way)
-      → leaf ≡ IsDown
-      → s.names ≡ names
-      → length s.tables ≡ length names
-      → AreFresh s.tables
-      → s.log.owed ≡ None
-      → (IsTrue m.tells → StartsTold m m' s way)
-      → notes ≡ opened_notes 0 s.tables
+pub data StartMoves (m m' : Meaning) (leaf : Leaf) (notes : List Note) (ends : Ending) (leaf' : Leaf) : Type 0 where
+  opened : (x : Seated) (s : Serving) (way : Way)
+      → leaf ≡ IsDown x
+      → s.owing.log.owed ≡ None
+      → (IsTrue m.tells → StartsTold x m m' s notes way)
       → ends ≡ ending.Started way
       → leaf' ≡ IsUp s
-      → StartMoves names m m' leaf notes ends leaf'
-  refused : (f : StartFault)
-      → leaf ≡ IsDown
-      → (IsTrue m.tells → (writes : List ℕ → List Write) → Rests writes m → Rests writes m' × (f ≢ fault.DiskDamaged))
+      → StartMoves m m' leaf notes ends leaf'
+  refused : (x : Seated) (f : StartFault)
+      → leaf ≡ IsDown x
+      → IsWornFor x f
+      → ((base : Tables) → IsTrue m.tells → AreFounded x → Stands base leaf m → f ≢ fault.DiskDamaged)
+      → (IsTrue m.tells → Begins (length m.held.disk) m.held.disk m'.held.disk)
       → notes ≡ []
       → ends ≡ ending_of f
-      → leaf' ≡ IsDown
-      → StartMoves names m m' leaf notes ends leaf'
-  not_down : (leaf ≢ IsDown)
+      → leaf' ≡ leaf
+      → StartMoves m m' leaf notes ends leaf'
+  not_down : (IsDownLeaf leaf → ⊥)
       → notes ≡ []
+      → m'.held ≡ m.held
       → ends ≡ ending.NotDown
       → leaf' ≡ leaf
-      → StartMoves names m m' leaf notes ends leaf'
+      → StartMoves m m' leaf notes ends leaf'
 
 abbrev pub ending_of_flush : FlushReply → Ending
 ending_of_flush reply.Flushed = ending.Done
 ending_of_flush reply.DiskFault = ending.FaultDisk
-
--- the leaf goes on, with all that it accepted, and the region stays
-pub record Continues (s s' : Serving) (m m' : Meaning) : Type 0 where
-  pub goes_on : GoesOn s s' m m'
-  pub region : m'.held.region ≡ m.held.region
+ending_of_flush reply.Worn = ending.Worn
 
 -- a flush of a leaf that is up, or of another
 pub data FlushMoves (table : ℕ) (m m' : Meaning) (leaf : Leaf) (notes : List Note) (ends : Ending) (leaf' : Leaf) : Type 0 where
   flushed : (s s' : Serving) (r : FlushReply)
       → leaf ≡ IsUp s
       → Flushes table s s' notes r
-      → s'.names ≡ s.names
-      → (IsTrue m.tells → Continues s s' m m')
+      → (IsTrue m.tells → m'.held.region ≡ m.held.region)
       → ends ≡ ending_of_flush r
       → leaf' ≡ IsUp s'
       → FlushMoves table m m' leaf notes ends leaf'
-  not_up : ((s : Serving) → leaf ≡ IsUp s → ⊥)
+  not_up : (IsUpLeaf leaf → ⊥)
       → notes ≡ []
+      → m'.held ≡ m.held
       → ends ≡ ending.NotUp
       → leaf' ≡ leaf
       → FlushMoves table m m' leaf notes ends leaf'
 
 -- a kill closes each open table
-pub data KillMoves (leaf : Leaf) (notes : List Note) (ends : Ending) (leaf' : Leaf) : Type 0 where
-  up : (s : Serving)
+pub data KillMoves (m m' : Meaning) (leaf : Leaf) (notes : List Note) (ends : Ending) (leaf' : Leaf) : Type 0 where
+  up : (s : Serving) (y : Seated)
       → leaf ≡ IsUp s
-      → notes ≡ closed_notes 0 s.tables
+      → EachNoted IsClosedNote 0 (length s.seated.tables) notes
+      → m'.held ≡ m.held
       → ends ≡ ending.Done
-      → leaf' ≡ IsDown
-      → KillMoves leaf notes ends leaf'
-  preparing : (x : Shutting)
+      → leaf' ≡ IsDown y
+      → KillMoves m m' leaf notes ends leaf'
+  preparing : (x : Shutting) (y : Seated) (count : ℕ)
       → leaf ≡ IsPreparing x
-      → notes ≡ closed_notes (shutting.first_open x) (drop (shutting.first_open x) x.serving.tables)
+      → length x.closed + count ≡ length x.serving.seated.tables
+      → EachNoted IsClosedNote (length x.closed) count notes
+      → m'.held ≡ m.held
       → ends ≡ ending.Done
-      → leaf' ≡ IsDown
-      → KillMoves leaf notes ends leaf'
-  not_up : leaf ≡ IsDown
+      → leaf' ≡ IsDown y
+      → KillMoves m m' leaf notes ends leaf'
+  not_up : IsDownLeaf leaf
       → notes ≡ []
+      → m'.held ≡ m.held
       → ends ≡ ending.NotUp
       → leaf' ≡ leaf
-      → KillMoves leaf notes ends leaf'
+      → KillMoves m m' leaf notes ends leaf'
 
 -- some tables more are treated
 pub data TreatsOn : Shutting → List Note → Shutting → Type 0 where
   none : (x : Shutting) (notes : List Note) (y : Shutting) → notes ≡ [] → y ≡ x → TreatsOn x notes y
   more : (x : Shutting) (notes : List Note) (y : Shutting) (first others : List Note) (between : Shutting)
+      → treated x < length x.serving.seated.tables
       → Treats x between first
-      → between.serving.names ≡ x.serving.names
+      → Part x.serving.seated first between.serving.seated
       → TreatsOn between others y
       → notes ≡ first ++ others
       → TreatsOn x notes y
 
 -- a leaf that begins to shut its tables, or goes on
 abbrev pub Shuts : Leaf → Shutting → Type 0
-Shuts IsDown x = ⊥
-Shuts (IsUp s) x = x ≡ prepared s
-Shuts (IsPreparing y) x = x ≡ y
-
--- what a leaf leaves that has copied its tables, or has failed to: just what it accepted
-abbrev pub Leaves : Shutting → Meaning → Meaning → Type 0
-Leaves x m m' = (writes : List ℕ → List Write) → Backed writes x.serving m
-    → (later : List ℕ → List Write) × Rests later m' × ((name : List ℕ) → later name ≡ all_writes x.serving writes name)
+Shuts (IsDown x) y = ⊥
+Shuts (IsUp s) y = y ≡ begins s
+Shuts (IsPreparing x) y = y ≡ x
 
 -- what the region is of a leaf that was killed after so many steps behind its tables': untouched, or begun and closed
 abbrev pub RegionStopped : ℕ → Meaning → Meaning → Type 0
 RegionStopped further m m' = MatchBool (nat_lt 1 further) (IsWayOf m'.held.region (Disk (why.Closed 0))) (m'.held.region ≡ m.held.region)
 
--- A drain: the tables that are left are treated, and each is handed over; or the region fails, and the leaf is down; or there is no memory for the copy;
+-- A drain: the tables that are left are treated, and each is handed over; or the region fails, and the leaf is down; or the copy has no room; or there is no memory;
 -- or the disk fails; or it has made as many steps as it was to make, while there were tables to treat or behind them, and the leaf is killed; or the leaf is down.
 pub data DrainMoves (m m' : Meaning) (leaf : Leaf) (stop : Option ℕ) (notes : List Note) (ends : Ending) (leaf' : Leaf) : Type 0 where
-  done : (x y : Shutting) (treating : List Note) (left : ℕ)
+  done : (x y : Shutting) (z : Seated) (treating handing : List Note) (left : ℕ)
       → Shuts leaf x
-      → x.treated + left ≡ length x.serving.tables
+      → treated x + left ≡ length x.serving.seated.tables
       → MayMake stop (left + 4)
       → TreatsOn x treating y
       → AllTreated y
-      → notes ≡ treating ++ handed_notes 0 x.serving.names
-      → (IsTrue m.tells → Leaves x m m' × IsWayOf m'.held.region Memory)
+      → Part y.serving.seated handing z
+      → EachNoted IsHandedNote 0 (length x.serving.seated.tables) handing
+      → notes ≡ treating ++ handing
+      → ((base : Tables) → IsTrue m.tells → AreFounded (seated_of leaf) → Stands base leaf m → IsWayOf m'.held.region Memory)
       → ends ≡ ending.Done
-      → leaf' ≡ IsDown
+      → leaf' ≡ IsDown z
       → DrainMoves m m' leaf stop notes ends leaf'
   failed : (x y : Shutting) (left : ℕ)
       → Shuts leaf x
-      → x.treated + left ≡ length x.serving.tables
+      → treated x + left ≡ length x.serving.seated.tables
       → MayMake stop (left + 2)
       → TreatsOn x notes y
       → AllTreated y
-      → (IsTrue m.tells → Leaves x m m')
       → ends ≡ ending.FaultRegion
-      → leaf' ≡ IsDown
+      → leaf' ≡ IsDown y.serving.seated
       → DrainMoves m m' leaf stop notes ends leaf'
-  starved : (x y : Shutting) (left : ℕ)
+  roomless : (x y : Shutting) (left : ℕ)
       → Shuts leaf x
-      → x.treated + left ≡ length x.serving.tables
+      → treated x + left ≡ length x.serving.seated.tables
       → MayMake stop (left + 1)
       → TreatsOn x notes y
       → AllTreated y
-      → (IsTrue m.tells → Continues x.serving y.serving m m')
-      → IsShutting y
-      → ends ≡ ending.FaultMemory
+      → (IsTrue m.tells → m'.held.region ≡ m.held.region)
+      → ends ≡ ending.FaultRoom
       → leaf' ≡ IsPreparing y
+      → DrainMoves m m' leaf stop notes ends leaf'
+  starved : (x y z : Shutting) (treating starving : List Note) (made : ℕ)
+      → Shuts leaf x
+      → treated x + made ≡ treated y
+      → MayMake stop (suc made)
+      → TreatsOn x treating y
+      → Starves y z starving
+      → Part y.serving.seated starving z.serving.seated
+      → notes ≡ treating ++ starving
+      → (IsTrue m.tells → m'.held.region ≡ m.held.region)
+      → ends ≡ ending.FaultMemory
+      → leaf' ≡ IsPreparing z
       → DrainMoves m m' leaf stop notes ends leaf'
   halted : (x y z : Shutting) (treating halting : List Note) (made : ℕ)
       → Shuts leaf x
-      → x.treated + made ≡ y.treated
+      → treated x + made ≡ treated y
       → MayMake stop (suc made)
       → TreatsOn x treating y
-      → y.treated < length y.serving.tables
+      → treated y < length y.serving.seated.tables
       → Halts y z halting
-      → z.serving.names ≡ y.serving.names
       → notes ≡ treating ++ halting
-      → (IsTrue m.tells → Continues x.serving z.serving m m')
-      → IsShutting z
+      → (IsTrue m.tells → m'.held.region ≡ m.held.region)
       → ends ≡ ending.FaultDisk
       → leaf' ≡ IsPreparing z
       → DrainMoves m m' leaf stop notes ends leaf'
-  stopped : (x y : Shutting) (treating : List Note) (made : ℕ)
+  stopped : (x y : Shutting) (z : Seated) (treating closing : List Note) (made count : ℕ)
       → Shuts leaf x
       → stop ≡ Some made
-      → x.treated + made ≡ y.treated
+      → treated x + made ≡ treated y
       → TreatsOn x treating y
-      → notes ≡ treating ++ closed_notes (shutting.first_open y) (drop (shutting.first_open y) y.serving.tables)
-      → (IsTrue m.tells → Continues x.serving y.serving m m')
-      → IsShutting y
+      → length y.closed + count ≡ length y.serving.seated.tables
+      → EachNoted IsClosedNote (length y.closed) count closing
+      → Part y.serving.seated closing z
+      → notes ≡ treating ++ closing
+      → (IsTrue m.tells → m'.held.region ≡ m.held.region)
+      → ((base : Tables) → IsTrue m.tells → AreFounded (seated_of leaf) → AreSound base → Stands base leaf m → ServingStands y.serving m')
       → ends ≡ ending.Stopped
-      → leaf' ≡ IsDown
+      → leaf' ≡ IsDown z
       → DrainMoves m m' leaf stop notes ends leaf'
   stopped_copying : (x y : Shutting) (left further : ℕ)
       → Shuts leaf x
       → stop ≡ Some (left + further)
-      → x.treated + left ≡ length x.serving.tables
+      → treated x + left ≡ length x.serving.seated.tables
       → 0 < further
       → further < 4
       → TreatsOn x notes y
       → AllTreated y
-      → (IsTrue m.tells → Leaves x m m' × RegionStopped further m m')
+      → ((base : Tables) → IsTrue m.tells → AreFounded (seated_of leaf) → Stands base leaf m → RegionStopped further m m')
       → ends ≡ ending.Stopped
-      → leaf' ≡ IsDown
+      → leaf' ≡ IsDown y.serving.seated
       → DrainMoves m m' leaf stop notes ends leaf'
-  not_up : leaf ≡ IsDown
+  not_up : IsDownLeaf leaf
       → notes ≡ []
+      → m'.held ≡ m.held
       → ends ≡ ending.NotUp
       → leaf' ≡ leaf
       → DrainMoves m m' leaf stop notes ends leaf'
 
--- the berth is as it was
-pub record Untouched (m m' : Meaning) : Type 0 where
-  pub clock : m'.clock ≡ m.clock
-  pub held : m'.held ≡ m.held
-  pub tells : m'.tells ≡ m.tells
-  pub same : (t : ℕ) (p : Pair) → m'.leaves t p ↔ m.leaves t p
+-- ---- whole commands
 
--- a steward's command of the leaf
-pub record StartStep (names : List (List ℕ)) (m m' : Meaning) (leaf : Leaf) (numbers : List ℕ) (lines : List Line) (leaf' : Leaf) (numbers' : List ℕ) : Type 0 where
+-- what a steward's command is before its second meeting: the first one, the entries, and its lines
+pub record StewardPart (verb : Verb) (leaf : Leaf) (callers : List SeatView) (m m' : Meaning) (lines : List Line) : Type 0 where
+  pub met : Leaf
+  pub met_callers : List SeatView
+  pub moved : Leaf
   pub notes : List Note
   pub ends : Ending
-  pub moves : StartMoves names m m' leaf notes ends leaf'
-  pub prints : StewardLines Start notes ends numbers lines numbers'
-  pub others : leaf ≢ IsDown → Untouched m m'
+  pub first : MeetAll leaf callers met met_callers m
+  pub carries : Carries met moved notes m m'
+  pub lines_are : lines ≡ note_lines notes ++ line.Ended verb 0 ends ∷ []
 
-pub record FlushStep (table : ℕ) (m m' : Meaning) (leaf : Leaf) (numbers : List ℕ) (lines : List Line) (leaf' : Leaf) (numbers' : List ℕ) : Type 0 where
-  pub notes : List Note
-  pub ends : Ending
-  pub moves : FlushMoves table m m' leaf notes ends leaf'
-  pub prints : StewardLines Flush notes ends numbers lines numbers'
-  pub others : ends ≡ ending.NotUp → Untouched m m'
+-- a steward's command of the leaf, between two meetings
+pub record StartStep (m m' : Meaning) (leaf : Leaf) (callers : List SeatView) (lines : List Line) (leaf' : Leaf) (callers' : List SeatView) : Type 0 where
+  pub part : StewardPart Start leaf callers m m' lines
+  pub moves : StartMoves m m' part.met part.notes part.ends part.moved
+  pub second : MeetAll part.moved part.met_callers leaf' callers' m'
 
-pub record KillStep (m m' : Meaning) (leaf : Leaf) (numbers : List ℕ) (lines : List Line) (leaf' : Leaf) (numbers' : List ℕ) : Type 0 where
-  pub notes : List Note
-  pub ends : Ending
-  pub moves : KillMoves leaf notes ends leaf'
-  pub prints : StewardLines Kill notes ends numbers lines numbers'
-  pub same : Untouched m m'
+pub record FlushStep (table : ℕ) (m m' : Meaning) (leaf : Leaf) (callers : List SeatView) (lines : List Line) (leaf' : Leaf) (callers' : List SeatView) : Type 0 where
+  pub part : StewardPart Flush leaf callers m m' lines
+  pub moves : FlushMoves table m m' part.met part.notes part.ends part.moved
+  pub second : MeetAll part.moved part.met_callers leaf' callers' m'
 
-pub record DrainStep (stop : Option ℕ) (m m' : Meaning) (leaf : Leaf) (numbers : List ℕ) (lines : List Line) (leaf' : Leaf) (numbers' : List ℕ) : Type 0 where
-  pub notes : List Note
-  pub ends : Ending
-  pub moves : DrainMoves m m' leaf stop notes ends leaf'
-  pub prints : StewardLines Drain notes ends numbers lines numbers'
-  pub others : leaf ≡ IsDown → Untouched m m'
+pub record KillStep (m m' : Meaning) (leaf : Leaf) (callers : List SeatView) (lines : List Line) (leaf' : Leaf) (callers' : List SeatView) : Type 0 where
+  pub part : StewardPart Kill leaf callers m m' lines
+  pub moves : KillMoves m m' part.met part.notes part.ends part.moved
+  pub second : MeetAll part.moved part.met_callers leaf' callers' m'
+
+pub record DrainStep (stop : Option ℕ) (m m' : Meaning) (leaf : Leaf) (callers : List SeatView) (lines : List Line) (leaf' : Leaf) (callers' : List SeatView) : Type 0 where
+  pub part : StewardPart Drain leaf callers m m' lines
+  pub moves : DrainMoves m m' part.met stop part.notes part.ends part.moved
+  pub second : MeetAll part.moved part.met_callers leaf' callers' m'
 
 -- a command that such a leaf may play
 abbrev pub MayPlay : List (List ℕ) → Command → Type 0
@@ -379,12 +374,14 @@ MayPlay names (command.Drain leaf stop) = IsCommand names (command.Drain leaf st
 MayPlay names (command.Kill leaf) = IsCommand names (command.Kill leaf)
 MayPlay names (command.Start leaf) = IsCommand names (command.Start leaf)
 
--- what a command does, by what the berth means before it and behind it
-abbrev pub Plays : List (List ℕ) → Meaning → Meaning → Command → Leaf → List ℕ → List Line → Leaf → List ℕ → Type 0
-Plays names m m' (command.Fleet machines per_machine tables) leaf numbers lines leaf' numbers' = StartStep names m m' leaf numbers lines leaf' numbers'
-Plays names m m' (command.Add l table rows) leaf numbers lines leaf' numbers' = AddStep table rows m m' leaf numbers lines leaf' numbers' × Untouched m m'
-Plays names m m' (command.Query q) leaf numbers lines leaf' numbers' = QueryStep (place_of q.table names) q leaf numbers lines numbers' × (leaf' ≡ leaf) × Untouched m m'
-Plays names m m' (command.Flush l table) leaf numbers lines leaf' numbers' = FlushStep table m m' leaf numbers lines leaf' numbers'
-Plays names m m' (command.Drain l stop) leaf numbers lines leaf' numbers' = DrainStep stop m m' leaf numbers lines leaf' numbers'
-Plays names m m' (command.Kill l) leaf numbers lines leaf' numbers' = KillStep m m' leaf numbers lines leaf' numbers'
-Plays names m m' (command.Start l) leaf numbers lines leaf' numbers' = StartStep names m m' leaf numbers lines leaf' numbers'
+-- What a command does, by the berth before it and behind it. A caller's command does not touch the leaf: neither its berth nor its steward's seats.
+abbrev pub Plays : {B : Type 0} → (B → Meaning) → List (List ℕ) → Command → Leaf → List SeatView → B → List Line → Leaf → List SeatView → B → Type 0
+Plays meaning names (command.Fleet machines per_machine tables) leaf callers b lines leaf' callers' b' = StartStep (meaning b) (meaning b') leaf callers lines leaf' callers'
+Plays meaning names (command.Add l table rows) leaf callers b lines leaf' callers' b' =
+    AddStep table rows (seated_of leaf).tables callers lines callers' × (leaf' ≡ leaf) × (b' ≡ b)
+Plays meaning names (command.Query q) leaf callers b lines leaf' callers' b' =
+    QueryStep (place_of q.table names) q (seated_of leaf).tables callers lines callers' × (leaf' ≡ leaf) × (b' ≡ b)
+Plays meaning names (command.Flush l table) leaf callers b lines leaf' callers' b' = FlushStep table (meaning b) (meaning b') leaf callers lines leaf' callers'
+Plays meaning names (command.Drain l stop) leaf callers b lines leaf' callers' b' = DrainStep stop (meaning b) (meaning b') leaf callers lines leaf' callers'
+Plays meaning names (command.Kill l) leaf callers b lines leaf' callers' b' = KillStep (meaning b) (meaning b') leaf callers lines leaf' callers'
+Plays meaning names (command.Start l) leaf callers b lines leaf' callers' b' = StartStep (meaning b) (meaning b') leaf callers lines leaf' callers'

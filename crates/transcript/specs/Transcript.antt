@@ -1,5 +1,5 @@
 -- What a script prints: the lines of each command, the one history of each table, and the answers over those.
-use Rattle.std.specs.Prelude.{◌≡◌, ℕ, zero, suc, ◌+◌, ◌-◌, ◌*◌, ◌<◌, ◌==◌, Bool, true, false, ◌&&◌, List, [], ◌∷◌, ◌++◌, length, map, take, Option, Some, None, slice_get, slice_set, ⊤, if◌then◌else◌, bytes_eq}
+use Rattle.std.specs.Prelude.{◌≡◌, ◌⊎◌, ℕ, zero, suc, ◌+◌, ◌-◌, ◌*◌, ◌<◌, ◌≤◌, ◌^◌, ◌==◌, Bool, true, false, ◌&&◌, List, [], ◌∷◌, ◌++◌, length, map, take, Option, Some, None, IfSome, slice_get, slice_set, ⊤, if◌then◌else◌, bytes_eq}
 use Rattle.std.specs.List.{flat_map, AllByRecursion}
 use Rattle.leaf_model.specs.declared.rows.Row.{Row}
 use Rattle.leaf_model.specs.declared.queries.Query.{Query}
@@ -16,7 +16,7 @@ use Rattle.script_text.specs.declared.command.Command.TheVariants as command
 use Rattle.printed_lines.specs.declared.line.Said.{Said}
 use Rattle.printed_lines.specs.declared.line.Said.TheVariants.{Added, Asked, RefusedShut, RefusedFull, RefusedMemory, Opened, Took, Flushed, Closed, Handed}
 use Rattle.printed_lines.specs.declared.line.Ending.{Ending}
-use Rattle.printed_lines.specs.declared.line.Ending.TheVariants.{Done, Stopped, NotUp, NotDown, Started, FaultRegion, FaultDisk, FaultDamaged, FaultMemory, FaultStranger}
+use Rattle.printed_lines.specs.declared.line.Ending.TheVariants.{Done, Stopped, NotUp, NotDown, Worn, Started, FaultRegion, FaultRoom, FaultDisk, FaultDamaged, FaultMemory, FaultStranger, FaultWorn}
 use Rattle.printed_lines.specs.declared.line.Line.{Line}
 use Rattle.printed_lines.specs.declared.line.Line.TheVariants as line
 use Rattle.printed_lines.specs.Lines.{lines_text}
@@ -77,10 +77,14 @@ IsAskSaid (Flushed writes) = ⊥
 IsAskSaid (Closed writes) = ⊥
 IsAskSaid Handed = ⊥
 
+-- one line of this table: of its entry, or that the seat is worn, which makes none
+abbrev pub CallLine : (Said → Type 0) → ℕ → ℕ → List Line → Type 0
+CallLine P leaf table lines = EntryLine P leaf table lines ⊎ (lines ≡ line.Worn leaf table ∷ [])
+
 -- one line for each leaf from `leaf` on, in their order
 abbrev pub AskLines : ℕ → ℕ → ℕ → List Line → Type 0
 AskLines leaf zero table lines = lines ≡ []
-AskLines leaf (suc count) table lines = (first rest : List Line) × EntryLine IsAskSaid leaf table first × AskLines (suc leaf) count table rest × (lines ≡ first ++ rest)
+AskLines leaf (suc count) table lines = (first rest : List Line) × CallLine IsAskSaid leaf table first × AskLines (suc leaf) count table rest × (lines ≡ first ++ rest)
 
 -- the leaves that the lines name, each with the number of its entry
 abbrev pub named_by : ℕ → ℕ → Said → List (ℕ × ℕ)
@@ -97,6 +101,7 @@ named_by leaf number Handed = []
 
 abbrev pub named_in : Line → List (ℕ × ℕ)
 named_in (line.Entry leaf table number said) = named_by leaf number said
+named_in (line.Worn leaf table) = []
 named_in (line.Answer named leaves rows) = []
 named_in (line.Ended verb leaf ending) = []
 
@@ -123,7 +128,7 @@ StartsAll tables leaf (life ∷ lives) lines next =
 -- The lines that a command may print, but for their numbers. A new command adds a case.
 abbrev pub Prints : Fleet → Scene → Command → List Line → Scene → Type 0
 Prints fleet scene (command.Fleet machines per_machine tables) lines next = StartsAll (length fleet.names) 0 scene.lives lines next.lives
-Prints fleet scene (command.Add leaf table rows) lines next = EntryLine IsAddSaid leaf table lines × (next ≡ scene)
+Prints fleet scene (command.Add leaf table rows) lines next = CallLine IsAddSaid leaf table lines × (next ≡ scene)
 Prints fleet scene (command.Query q) lines next = QueryLines fleet q lines × (next ≡ scene)
 Prints fleet scene (command.Flush leaf table) lines next = OfLeaf leaf scene next (λ life life'. Flushes table leaf life lines life')
 Prints fleet scene (command.Kill leaf) lines next = OfLeaf leaf scene next (λ life life'. Kills (length fleet.names) leaf life lines life')
@@ -147,6 +152,7 @@ abbrev pub shown_in : ℕ → ℕ → Command → List Line → List Shown
 shown_in leaf table c [] = []
 shown_in leaf table c (line.Entry l t number said ∷ lines) =
     if (l == leaf) && (t == table) then record { number = number; said = said; command = c } ∷ shown_in leaf table c lines else shown_in leaf table c lines
+shown_in leaf table c (line.Worn l t ∷ lines) = shown_in leaf table c lines
 shown_in leaf table c (line.Answer n leaves rows ∷ lines) = shown_in leaf table c lines
 shown_in leaf table c (line.Ended verb l ending ∷ lines) = shown_in leaf table c lines
 
@@ -189,6 +195,10 @@ pub record IsHistoryOf (base : TableState) (lines : List Shown) (entries : List 
   pub legal : Legal base entries
   pub tells : Tells 1 lines entries
 
+-- The state of which a table's log was read to have so many writes: just those are known to be on the disk.
+abbrev pub as_read : TableState → ℕ → TableState
+as_read s count = record s { flushed = count }
+
 -- a table is opened with just the writes that are known to be on the disk
 abbrev pub OpenIs : TableState → Call → Type 0
 OpenIs s (call.Open n contents) = n ≡ s.flushed
@@ -220,6 +230,7 @@ abbrev pub AnswersLine : (ℕ → TableState) → (ℕ → List Entry) → Query
 AnswersLine bases histories q leaves (line.Answer count of rows) =
     rows ≡ row_lines q (flat_map (λ l. rows_before (bases l.0) (histories l.0) l.1) leaves)
 AnswersLine bases histories q leaves (line.Entry l t number said) = ⊤
+AnswersLine bases histories q leaves (line.Worn l t) = ⊤
 AnswersLine bases histories q leaves (line.Ended verb l ending) = ⊤
 
 abbrev pub Answers : Fleet → (ℕ → ℕ → TableState) → (ℕ → ℕ → List Entry) → Command → List Line → Type 0
@@ -245,6 +256,9 @@ is_region_fault Done = false
 is_region_fault Stopped = false
 is_region_fault NotUp = false
 is_region_fault NotDown = false
+is_region_fault Worn = false
+is_region_fault FaultRoom = false
+is_region_fault (FaultWorn table) = false
 is_region_fault (Started way) = false
 
 abbrev pub is_disk_fault : Ending → Bool
@@ -257,6 +271,9 @@ is_disk_fault Done = false
 is_disk_fault Stopped = false
 is_disk_fault NotUp = false
 is_disk_fault NotDown = false
+is_disk_fault Worn = false
+is_disk_fault FaultRoom = false
+is_disk_fault (FaultWorn table) = false
 is_disk_fault (Started way) = false
 
 -- how many lines of a leaf tell of such an ending
@@ -264,6 +281,7 @@ abbrev pub endings_in : (Ending → Bool) → ℕ → List Line → ℕ
 endings_in test leaf [] = 0
 endings_in test leaf (line.Ended verb l ending ∷ lines) = (if (l == leaf) && test ending then 1 else 0) + endings_in test leaf lines
 endings_in test leaf (line.Entry l t number said ∷ lines) = endings_in test leaf lines
+endings_in test leaf (line.Worn l t ∷ lines) = endings_in test leaf lines
 endings_in test leaf (line.Answer n leaves rows ∷ lines) = endings_in test leaf lines
 
 -- how many lines of a leaf tell of a fault of its region
@@ -279,10 +297,48 @@ abbrev pub until_disk_fault : ℕ → List Played → List Played
 until_disk_fault leaf [] = []
 until_disk_fault leaf (p ∷ ps) = if disk_faults_in leaf p.lines == 0 then p ∷ until_disk_fault leaf ps else []
 
+-- ---- worn seats
+
+-- the table of a flush
+abbrev pub flushed_table : Command → ℕ → Option (ℕ × ℕ)
+flushed_table (command.Flush l table) leaf = Some (leaf, table)
+flushed_table (command.Fleet machines per_machine tables) leaf = None
+flushed_table (command.Add l table rows) leaf = None
+flushed_table (command.Query q) leaf = None
+flushed_table (command.Drain l stop) leaf = None
+flushed_table (command.Kill l) leaf = None
+flushed_table (command.Start l) leaf = None
+
+-- the table of whose worn seat an ending tells
+abbrev pub worn_ending : Command → ℕ → Ending → Option (ℕ × ℕ)
+worn_ending c leaf Worn = flushed_table c leaf
+worn_ending c leaf (FaultWorn table) = Some (leaf, table)
+worn_ending c leaf Done = None
+worn_ending c leaf Stopped = None
+worn_ending c leaf NotUp = None
+worn_ending c leaf NotDown = None
+worn_ending c leaf (Started way) = None
+worn_ending c leaf FaultRegion = None
+worn_ending c leaf FaultRoom = None
+worn_ending c leaf FaultDisk = None
+worn_ending c leaf FaultDamaged = None
+worn_ending c leaf FaultMemory = None
+worn_ending c leaf (FaultStranger name) = None
+
+abbrev pub worn_in : Command → Line → Option (ℕ × ℕ)
+worn_in c (line.Worn leaf table) = Some (leaf, table)
+worn_in c (line.Ended verb leaf ending) = worn_ending c leaf ending
+worn_in c (line.Entry l t number said) = None
+worn_in c (line.Answer n leaves rows) = None
+
+-- a seat is told as worn only of a table with 2^62 entries
+abbrev pub WornIsLong : (ℕ → ℕ → List Entry) → Command → Line → Type 0
+WornIsLong histories c l = IfSome (worn_in c l) (λ x. 2 ^ 62 ≤ length (histories x.0 x.1))
+
 -- ---- all of it
 
--- The text is what these commands print over leaves and tables that begin so.
-pub record Transcript (fleet : Fleet) (scene : Scene) (bases : ℕ → ℕ → TableState) (commands : List Command) (out : List ℕ) : Type 0 where
+-- The text is what these commands print over leaves and tables that begin so, of whose logs as they read so many writes of each table stand.
+pub record Transcript (fleet : Fleet) (scene : Scene) (bases : ℕ → ℕ → TableState) (read : ℕ → ℕ → ℕ) (commands : List Command) (out : List ℕ) : Type 0 where
   pub played : List Played
   pub histories : ℕ → ℕ → List Entry
   pub scene_after : Scene
@@ -293,4 +349,5 @@ pub record Transcript (fleet : Fleet) (scene : Scene) (bases : ℕ → ℕ → T
       IsHistoryOf (bases leaf table) (shown leaf table played) (histories leaf table)
   pub answers : AllByRecursion (λ (p : Played). Answers fleet bases histories p.command p.lines) played
   pub opened : (leaf table : ℕ) → leaf < fleet.leaves → table < length fleet.names →
-      OpensFlushed (bases leaf table) (take (length (shown leaf table (until_disk_fault leaf played))) (histories leaf table))
+      OpensFlushed (as_read (bases leaf table) (read leaf table)) (take (length (shown leaf table (until_disk_fault leaf played))) (histories leaf table))
+  pub worn : AllByRecursion (λ (p : Played). AllByRecursion (WornIsLong histories p.command) p.lines) played

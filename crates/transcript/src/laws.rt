@@ -2,15 +2,14 @@
 ghost use Rattle.transcript.specs.Laws.{SessionsBegin, SessionsGoOn, SessionsEnd};
 
 use berth_face::Berth;
-use leaf_opening::leaves_rest;
+use leaf_machine::leaves_begin;
 
-/// A run begins over what a leaf left, goes on by what each command does, and what it wrote at any time is a transcript. What it leaves is what a run may begin over.
-/// Each is said of a berth as it means, before a command and behind it.
-pub fn plays_go_on<B: Berth>(old: &B, new: &B)
-    ensures begin { SessionsBegin (B.meaning old.now) }
-    ensures on { SessionsGoOn (B.meaning old.now) (B.meaning new.now) }
-    ensures end { SessionsEnd (B.meaning old.now) }
+/// A run begins over what a leaf may begin over, and goes on by what each command does. Once its seats have met again, what it wrote is a transcript, at every moment since it began
+/// a crash left what belonged to the tables then, and a leaf may begin over the berth again. Each is said of a berth as it means: when the run began, before a command and behind it.
+pub fn plays_go_on<B: Berth>(first: &B, old: &B, new: &B)
+    ensures begin { SessionsBegin (B.meaning first.now) }
+    ensures on { SessionsGoOn B.meaning (B.meaning first.now) old.now new.now }
+    ensures end { SessionsEnd (B.meaning first.now) (B.meaning new.now) }
 {
-    leaves_rest(old);
-    leaves_rest(new);
+    leaves_begin(new);
 }

@@ -1,6 +1,6 @@
 use Rattle.std.proofs.Common.{◌≡◌, rules, position, Some, None, ap, ◌∙◌, length}
 use Rattle.std.specs.Str.{bytes_eq}
-use Rattle.player.proofs.Places.{found_place, no_place}
+use Rattle.player.proofs.NamePlaces.{found_place, no_place}
 use Rattle.player.proofs.answer.place_of.Goals as goal
 
 pub returns-in-Some : goal.returns-in-Some

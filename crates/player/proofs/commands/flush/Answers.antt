@@ -1,38 +1,20 @@
-use Rattle.std.proofs.Common.{length, sym, subst}
-use Rattle.std.proofs.lemmas.Result.{IfOk-weaker}
+use Rattle.std.proofs.Common.{rules}
 use Rattle.printed_lines.specs.declared.line.Verb.TheVariants as verb
-use Rattle.transcript.specs.Steps.{FlushStep, StewardLines}
-use Rattle.player.specs.Stage.{state_of, berth_of}
-use Rattle.player.specs.Moves.{ArePlaces}
-use Rattle.player.proofs.Told.{sound_result, untouched_berth}
+use Rattle.player.specs.Stage.{berth_of, state_of}
+use Rattle.player.proofs.CommandSteps.{acts, sound_result, flush_ends, flush_result}
 use Rattle.player.proofs.commands.flush.Goals as goal
-
-pub steward_lines-requires : goal.steward_lines-requires
-steward_lines-requires g c =
-    subst (λ n. ArePlaces n c.flush-ending.new.notes) (sym c.requires.fit.each) (subst (λ names. ArePlaces (length names) c.flush-ending.new.notes) c.requires.fit.same c.flush-ending.ensures.places)
 
 pub returns-clause-flushes : goal.returns-clause-flushes
 returns-clause-flushes g c =
-    let meaning = g.B.Berth.meaning in
-    let old = berth_of c.args.leaf.now in
-    let new = berth_of c.flush-ending.new.self in
-    let notes = c.flush-ending.new.notes in
-    let ends = c.flush-ending.result in
-    let numbers = c.args.numbers.now.items in
-    let numbers' = c.steward_lines.new.numbers.items in
-    IfOk-weaker c.steward_lines.result (λ lines. StewardLines verb.Flush notes ends numbers lines.items numbers')
-    (λ lines. FlushStep c.args.table (meaning old) (meaning new) (state_of c.args.leaf.now) numbers lines.items (state_of c.flush-ending.new.self) numbers')
-    (λ lines prints. record {
-      notes = notes;
-      ends = ends;
-      moves = c.flush-ending.ensures.moves;
-      prints = prints;
-      others = λ down. untouched_berth meaning old new (c.flush-ending.ensures.others down);
-    })
-    c.steward_lines.ensures.prints
+    flush_result g.B.Berth.meaning (berth_of c.args.leaf) (berth_of c.meet.new.leaf) (berth_of c.flush-ending.new.self) _
+    (state_of c.args.leaf) (state_of c.meet.new.leaf) (state_of c.flush-ending.new.self) _ c.args.callers.now.seats c.meet.new.self.seats _ c.flush-ending.new.notes c.flush-ending.result
+    (acts c.meet.ensures.met c.meet.ensures.berth c.flush-ending.ensures.carries (search rules) (search rules))
+    c.steward_lines-lines.result c.args.table c.flush-ending.ensures.moves c.steward_lines-lines.ensures
 
 pub returns-clause-sound : goal.returns-clause-sound
 returns-clause-sound g c =
-    sound_result c.args.names.now (g.B.Berth.meaning (berth_of c.args.leaf.now)) (g.B.Berth.meaning (berth_of c.flush-ending.new.self)) verb.Flush c.flush-ending.new.notes c.flush-ending.result
-    c.args.numbers.now.items c.steward_lines.result c.steward_lines.new.numbers.items c.flush-ending.ensures.time c.flush-ending.ensures.cause
-    (subst (λ names. ArePlaces (length names) c.flush-ending.new.notes) c.requires.fit.same c.flush-ending.ensures.places) c.steward_lines.ensures.prints
+    let ended = flush_ends c.args.names.now c.args.table (g.B.Berth.meaning (berth_of c.meet.new.leaf)) (g.B.Berth.meaning (berth_of c.flush-ending.new.self)) (state_of c.meet.new.leaf)
+    c.flush-ending.new.notes c.flush-ending.result (state_of c.flush-ending.new.self) c.flush-ending.ensures.moves in
+    sound_result g.B.Berth.meaning (berth_of c.args.leaf) (berth_of c.meet.new.leaf) (berth_of c.flush-ending.new.self) _ c.args.names.now c.args.callers.now
+    (state_of c.args.leaf) (state_of c.meet.new.leaf) (state_of c.flush-ending.new.self) verb.Flush c.flush-ending.new.notes c.flush-ending.result c.steward_lines-lines.result
+    c.meet.ensures.berth (search rules) c.requires.fit c.meet.ensures.keeps c.flush-ending.ensures.carries c.flush-ending.ensures.time c.flush-ending.ensures.cause ended c.steward_lines-lines.ensures

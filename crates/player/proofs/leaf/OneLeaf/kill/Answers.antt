@@ -1,28 +1,33 @@
-use Rattle.std.proofs.Common.{length, refl, sym, subst, arith}
-use Rattle.printed_lines.specs.declared.line.Ending.TheVariants as ending
-use Rattle.transcript.specs.Steps as step
-use Rattle.transcript.specs.Steps.{IsDown, KillMoves}
-use Rattle.player.specs.Stage.{state_of, names_in}
-use Rattle.player.specs.Moves.{ArePlaces}
-use Rattle.player.proofs.Placed.{closed_places, open_places}
+use Rattle.player.specs.declared.leaf.OneLeaf.TheVariants as one
+use Rattle.player.proofs.Moved.{still_carries, kill_moves, kill_carries, shutting_kill_moves, shutting_kill_carries, leaf_keeps}
 use Rattle.player.proofs.leaf.OneLeaf.kill.Goals as goal
 
-pub returns-in-Up-clause-moves : goal.returns-in-Up-clause-moves
-returns-in-Up-clause-moves g c =
-    subst (λ leaf. KillMoves (state_of leaf) c.kill.new.notes ending.Done IsDown) (sym c.in-Up.is) (step.up c.in-Up.up.0 refl c.kill.ensures.notes refl refl)
+pub returns-in-Down-clause-carries : goal.returns-in-Down-clause-carries
+returns-in-Down-clause-carries g c = still_carries g.B.Berth.meaning c.args.self (one.Down c.in-Down.down) c.args.notes.now c.in-Down.is c.requires
 
-pub returns-in-Up-clause-places : goal.returns-in-Up-clause-places
-returns-in-Up-clause-places g c =
-    subst (λ leaf. ArePlaces (length (names_in leaf)) c.kill.new.notes) (sym c.in-Up.is)
-    (subst (ArePlaces (length c.in-Up.up.0.names)) (sym c.kill.ensures.notes)
-    (closed_places 0 c.in-Up.up.0.tables (length c.in-Up.up.0.names) (omega (arith, c.serves.ensures.count))))
+pub returns-in-Up-clause-moves : goal.returns-in-Up-clause-moves
+returns-in-Up-clause-moves g c = kill_moves g.B.Berth.meaning c.args.self c.in-Up.up c.kill.result c.kill.new.notes c.in-Up.is c.kill.ensures.berth c.kill.ensures.each
+
+pub returns-in-Up-clause-carries : goal.returns-in-Up-clause-carries
+returns-in-Up-clause-carries g c =
+    kill_carries g.B.Berth.meaning c.args.self c.in-Up.up c.kill.result c.kill.new.notes c.in-Up.is c.kill.ensures.berth c.kill.ensures.made c.kill.ensures.crash
+
+pub returns-in-Up-clause-keeps : goal.returns-in-Up-clause-keeps
+returns-in-Up-clause-keeps g c =
+    leaf_keeps c.args.self (one.Up c.in-Up.up) (g.B.Berth.meaning c.in-Up.up.1).clock (g.B.Berth.meaning c.in-Up.up.1).clock c.kill.new.notes c.kill.result.0 c.in-Up.is c.kill.ensures.made
 
 pub returns-in-Preparing-clause-moves : goal.returns-in-Preparing-clause-moves
 returns-in-Preparing-clause-moves g c =
-    subst (λ leaf. KillMoves (state_of leaf) c.kill-in-Preparing.new.notes ending.Done IsDown) (sym c.in-Preparing.is)
-    (step.preparing c.in-Preparing.leaf.0 refl c.kill-in-Preparing.ensures.notes refl refl)
+    let killed = c.kill-in-Preparing in
+    shutting_kill_moves g.B.Berth.meaning c.args.self c.in-Preparing.leaf killed.result killed.new.notes c.in-Preparing.is killed.ensures.berth killed.ensures.each
 
-pub returns-in-Preparing-clause-places : goal.returns-in-Preparing-clause-places
-returns-in-Preparing-clause-places g c =
-    subst (λ leaf. ArePlaces (length (names_in leaf)) c.kill-in-Preparing.new.notes) (sym c.in-Preparing.is)
-    (subst (ArePlaces (length c.in-Preparing.leaf.0.serving.names)) (sym c.kill-in-Preparing.ensures.notes) (open_places c.in-Preparing.leaf.0 c.shuts.ensures))
+pub returns-in-Preparing-clause-carries : goal.returns-in-Preparing-clause-carries
+returns-in-Preparing-clause-carries g c =
+    let killed = c.kill-in-Preparing in
+    shutting_kill_carries g.B.Berth.meaning c.args.self c.in-Preparing.leaf killed.result killed.new.notes c.in-Preparing.is killed.ensures.berth killed.ensures.made killed.ensures.crash
+
+pub returns-in-Preparing-clause-keeps : goal.returns-in-Preparing-clause-keeps
+returns-in-Preparing-clause-keeps g c =
+    let was = c.in-Preparing.leaf in
+    leaf_keeps c.args.self (one.Preparing was) (g.B.Berth.meaning was.1).clock (g.B.Berth.meaning was.1).clock c.kill-in-Preparing.new.notes c.kill-in-Preparing.result.0
+    c.in-Preparing.is c.kill-in-Preparing.ensures.made

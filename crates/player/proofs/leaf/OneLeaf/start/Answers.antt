@@ -1,24 +1,26 @@
-use Rattle.std.proofs.Common.{length, sym, subst}
-use Rattle.printed_lines.specs.declared.line.Ending.TheVariants as ending
-use Rattle.transcript.specs.Steps.{IsDown, IsUp, StartMoves}
-use Rattle.player.specs.Stage.{state_of, berth_of, names_in}
-use Rattle.player.specs.Moves.{ArePlaces}
-use Rattle.player.proofs.Moved.{start_opens, start_refused, start_places}
+use Rattle.player.specs.declared.leaf.OneLeaf.TheVariants as one
+use Rattle.player.proofs.Moved.{still_carries, start_opens, start_carries, start_refused, refusal_carries}
 use Rattle.player.proofs.leaf.OneLeaf.start.Goals as goal
+
+pub returns-in-Up-clause-carries : goal.returns-in-Up-clause-carries
+returns-in-Up-clause-carries g c = still_carries g.B.Berth.meaning c.args.self (one.Up c.in-Up.up) c.args.notes.now c.in-Up.is c.requires
+
+pub returns-in-Preparing-clause-carries : goal.returns-in-Preparing-clause-carries
+returns-in-Preparing-clause-carries g c = still_carries g.B.Berth.meaning c.args.self (one.Preparing c.in-Preparing.leaf) c.args.notes.now c.in-Preparing.is c.requires
 
 pub returns-in-Ok-clause-moves : goal.returns-in-Ok-clause-moves
 returns-in-Ok-clause-moves g c =
-    subst (λ leaf. StartMoves (names_in leaf) (g.B.Berth.meaning (berth_of leaf)) (g.B.Berth.meaning c.in-Ok.up.1) (state_of leaf) c.start.new.notes (ending.Started c.in-Ok.way) (IsUp c.in-Ok.up.0)) (sym c.in-Down.is)
-    (start_opens c.in-Down.down.0 (g.B.Berth.meaning c.in-Down.down.1) (g.B.Berth.meaning c.in-Ok.up.1) c.in-Ok.up.0 c.in-Ok.way c.start.new.notes
-    c.in-Ok.ensures.names c.serves.ensures c.in-Ok.ensures.fresh.0 c.in-Ok.ensures.fresh.1 c.in-Ok.ensures.told c.in-Ok.ensures.way c.in-Ok.ensures.backed c.in-Ok.ensures.notes)
+    start_opens g.B.Berth.meaning c.args.self c.in-Down.down c.in-Ok.up c.in-Ok.way c.start.new.notes c.in-Down.is c.in-Ok.ensures.start c.in-Ok.ensures.came c.in-Ok.ensures.way
 
-pub returns-in-Ok-clause-places : goal.returns-in-Ok-clause-places
-returns-in-Ok-clause-places g c =
-    subst (λ leaf. ArePlaces (length (names_in leaf)) c.start.new.notes) (sym c.in-Down.is)
-    (start_places c.in-Down.down.0 c.in-Ok.up.0 c.start.new.notes c.in-Ok.ensures.names c.serves.ensures c.in-Ok.ensures.notes)
+pub returns-in-Ok-clause-carries : goal.returns-in-Ok-clause-carries
+returns-in-Ok-clause-carries g c =
+    start_carries g.B.Berth.meaning c.args.self c.in-Down.down c.in-Ok.up c.in-Ok.way c.start.new.notes c.in-Down.is c.in-Ok.ensures.made c.in-Ok.ensures.crash
 
 pub returns-in-Err-clause-moves : goal.returns-in-Err-clause-moves
 returns-in-Err-clause-moves g c =
-    subst (λ leaf. StartMoves (names_in leaf) (g.B.Berth.meaning (berth_of leaf)) (g.B.Berth.meaning c.in-Err.down.1) (state_of leaf) c.start.new.notes c.ending_of.result IsDown) (sym c.in-Down.is)
-    (start_refused c.in-Down.down.0 (g.B.Berth.meaning c.in-Down.down.1) (g.B.Berth.meaning c.in-Err.down.1) c.in-Err.fault c.start.new.notes c.ending_of.result
-    c.in-Err.ensures.rests c.in-Err.ensures.no_notes c.ending_of.ensures)
+    let was = c.in-Err.ensures in
+    start_refused g.B.Berth.meaning c.args.self c.in-Down.down c.in-Err.down c.in-Err.fault c.start.new.notes c.ending_of.result c.in-Down.is was.start was.disk was.crash c.ending_of.ensures
+
+pub returns-in-Err-clause-carries : goal.returns-in-Err-clause-carries
+returns-in-Err-clause-carries g c =
+    refusal_carries g.B.Berth.meaning c.args.self c.in-Down.down c.in-Err.down c.in-Err.fault c.start.new.notes c.in-Down.is c.in-Err.ensures.made c.in-Err.ensures.crash

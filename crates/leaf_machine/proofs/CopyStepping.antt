@@ -1,0 +1,161 @@
+-- What a leaf is after a step of its copy.
+use Rattle.std.proofs.Common.{◌≡◌, ◌⊎◌, ◌∙◌, ℕ, true, List, length, None, refl, sym, subst, arith}
+use Rattle.std.specs.Prelude.{◌≢◌, IsTrue}
+use Rattle.leaf_model.specs.declared.writes.Write.{Write}
+use Rattle.berth_face.specs.Berth.{Meaning, Passes}
+use Rattle.berth_face.specs.Moments.{Throughout}
+use Rattle.region_layout.specs.Region.{IsClosed, IsImage}
+use Rattle.drain_copy.specs.declared.step.Next.{Next}
+use Rattle.drain_copy.specs.declared.step.Next.TheVariants as next
+use Rattle.drain_copy.specs.declared.step.DrainStep.{DrainStep}
+use Rattle.drain_copy.specs.declared.step.DrainStep.TheVariants.{Finished}
+use Rattle.drain_copy.specs.Draining.{DrainState, Draining, DrainsFrom, StandsAt, AllClosed, IsStep}
+use Rattle.leaf_opening.specs.declared.ways.Way.TheVariants.{Memory}
+use Rattle.leaf_opening.specs.Starts.{IsWayOf}
+use Rattle.leaf_moments.specs.Watched.{Watched, was_opened}
+use Rattle.leaf_moments.proofs.Telling.{none_more, told_join, opened_more}
+use Rattle.leaf_standing.specs.Standing.{StandsNow, Copies, Holds, Rests}
+use Rattle.leaf_standing.specs.Entries.{HandsAll}
+use Rattle.leaf_standing.proofs.Lefts.{copies_told, rests_left, told_now}
+use Rattle.leaf_copying.specs.Laws.{DrainStepped, HandsOver}
+use Rattle.leaf_copying.proofs.Copying.{step_told, step_more, step_last, step_failed, given_up, handed}
+use Rattle.leaf_steward.specs.declared.notes.Note.{Note}
+use Rattle.leaf_steward.specs.Seated.{Seated, AreSeated, AreFounded, AtEach, IsShut, watched_by}
+use Rattle.leaf_steward.specs.Making.{Makes, EachNoted, IsHandedNote}
+use Rattle.leaf_steward.proofs.Watching.{makes_hands}
+use Rattle.leaf_machine.specs.States.{IsDown, IsCopying, RestsOn, CopiesOn}
+use Rattle.leaf_machine.specs.Copies.{IsNext}
+use Rattle.leaf_machine.proofs.StartAlike.{founded_same}
+use Rattle.leaf_machine.proofs.CopyWatching.{no_others, nothing_sound, left_others}
+
+-- ---- which step it was
+
+pub more_next : (n : Next) (s : DrainStep) (later : Next) → s ≢ Finished → IsStep n s later → IsNext n later
+more_next next.Begin s later more is = is.1
+more_next next.Write s later more is = is.1
+more_next next.Flag s later more is = absurd (more is.0)
+more_next next.Nothing s later more is = absurd is
+
+pub more_before : (n : Next) (s : DrainStep) (later : Next) → s ≢ Finished → IsStep n s later → n ≢ next.Flag
+more_before next.Begin s later more is = λ same. absurd cc
+more_before next.Write s later more is = λ same. absurd cc
+more_before next.Flag s later more is = absurd (more is.0)
+more_before next.Nothing s later more is = absurd is
+
+pub more_after : (n : Next) (s : DrainStep) (later : Next) → s ≢ Finished → IsStep n s later → later ≢ next.Nothing
+more_after next.Begin s later more is = λ none. absurd cc
+more_after next.Write s later more is = λ none. absurd cc
+more_after next.Flag s later more is = absurd (more is.0)
+more_after next.Nothing s later more is = absurd is
+
+pub last_before : (n later : Next) → IsStep n Finished later → n ≡ next.Flag
+last_before next.Begin later is = absurd cc
+last_before next.Write later is = absurd cc
+last_before next.Flag later is = refl
+last_before next.Nothing later is = absurd is
+
+last_after : (n later : Next) → IsStep n Finished later → later ≡ next.Nothing
+last_after next.Begin later is = absurd cc
+last_after next.Write later is = absurd cc
+last_after next.Flag later is = is.1
+last_after next.Nothing later is = absurd is
+
+-- behind the last the region is the image
+pub last_region : (d later : DrainState) (region : List ℕ) → IsStep d.next Finished later.next → Draining later region → later.image ≡ d.image → region ≡ d.image
+last_region d later region is stands image = subst (λ (n : Next). StandsAt n later.image region) (last_after d.next later.next is) stands ∙ image
+
+-- ---- what is left
+
+-- what a step of the drain did, where the berth tells its contents
+pub record DrainMade (drain : DrainState) (a b : Meaning) : Type 0 where
+  pub passes : Passes a b
+  pub stands : StandsNow b
+  pub moments : Draining drain a.held.region → AllClosed a → Throughout (DrainsFrom drain a) a b
+
+module _ (x : Seated) (drain : DrainState) (a b : Meaning) where
+  abbrev ws : List Watched
+  ws = watched_by x
+
+  stepped : (writes : List ℕ → List Write) → Copies ws drain writes a → DrainMade drain a b → DrainStepped drain a b
+  stepped writes copies made = record { passes = made.passes; stands = made.stands; moments = made.moments copies.draining copies.closed }
+
+  -- the copy goes on
+  pub copy_more : (later : DrainState) → DrainMade drain a b → drain.next ≢ next.Flag → later.image ≡ drain.image → (Draining drain a.held.region → Draining later b.held.region)
+      → (writes : List ℕ → List Write) → Copies ws drain writes a → CopiesOn x (record { seated = x; drain = later }) a b
+  copy_more later made before image draining writes copies = record {
+    writes = writes;
+    copies = step_more ws drain later writes a b copies (stepped writes copies made) before image (draining copies.draining);
+    told = λ others. step_told ws others drain writes a b copies (stepped writes copies made);
+  }
+
+  -- it failed
+  pub copy_failed : DrainMade drain a b → (Draining drain a.held.region → IsClosed a.held.region → IsClosed b.held.region ⊎ (b.held.region ≡ drain.image))
+      → (writes : List ℕ → List Write) → Copies ws drain writes a → RestsOn x x a b
+  copy_failed made left writes copies = record {
+    least = writes;
+    next = None;
+    rests = step_failed ws drain writes a b copies (stepped writes copies made) (left copies.draining (copies.closed a.held copies.stands.reads));
+    told = λ others. step_told ws others drain writes a b copies (stepped writes copies made);
+  }
+
+  -- it is whole, and each table is handed over
+  module _ (y : Seated) (notes : List Note) (seated : AreSeated x) (founded : AreFounded x) (makes : Makes b.clock b.clock x notes y) (each : EachNoted IsHandedNote 0 (length x.tables) notes) where
+    hands : HandsAll b.clock ws (watched_by y)
+    hands = makes_hands b.clock x notes y seated founded makes each
+
+    handed_rests : (writes : List ℕ → List Write) → Copies ws drain writes a → DrainMade drain a b → Holds ws drain.image writes b → RestsOn x y a b
+    handed_rests writes copies made holds =
+        let over : HandsOver ws (watched_by y) writes b = handed ws (watched_by y) drain.image writes b holds hands in
+        let opened : was_opened b.clock (watched_by y) ≡ true = opened_more b.clock b.clock b.clock b.clock ws (watched_by y) (omega arith) over.more holds.opened in
+        let rests : Rests (watched_by y) no_others writes None b = over.rests no_others nothing_sound in
+        record {
+          least = writes;
+          next = None;
+          rests = over.rests;
+          told = λ others.
+              told_join others ws ws (watched_by y) a b b (step_told ws others drain writes a b copies (stepped writes copies made))
+              (told_now ws (watched_by y) others b (left_others (watched_by y) others b opened (rests_left (watched_by y) no_others writes None b rests)) over.more);
+        }
+
+    pub copy_last : DrainMade drain a b → (Draining drain a.held.region → b.held.region ≡ drain.image) → (writes : List ℕ → List Write) → Copies ws drain writes a → RestsOn x y a b × IsWayOf b.held.region Memory
+    copy_last made whole writes copies =
+        let region : b.held.region ≡ drain.image = whole copies.draining in
+        let holds : Holds ws drain.image writes b = step_last ws drain writes a b copies (stepped writes copies made) region in
+        (handed_rests writes copies made holds, (copies.images, copies.log_end, subst (λ (bytes : List ℕ). IsImage 1 bytes copies.images copies.log_end) (sym region) copies.image))
+
+-- the copy is given up
+pub copy_left : (x : Seated) (drain : DrainState) (m : Meaning) (writes : List ℕ → List Write) → Copies (watched_by x) drain writes m → RestsOn x x m m
+copy_left x drain m writes copies = record {
+  least = writes;
+  next = None;
+  rests = given_up (watched_by x) drain writes m copies;
+  told = λ others. copies_told (watched_by x) (watched_by x) others drain writes m copies (none_more m.clock m.clock (watched_by x));
+}
+
+-- ---- what the leaf then is
+
+-- a copy that stood goes on
+pub copying_on : (x : Seated) (drain later : DrainState) (a b : Meaning) → IsCopying (record { seated = x; drain = drain }) a → Passes a b → later.next ≢ next.Nothing
+    → (IsTrue a.tells → AreFounded x → (writes : List ℕ → List Write) → Copies (watched_by x) drain writes a → CopiesOn x (record { seated = x; drain = later }) a b)
+    → IsCopying (record { seated = x; drain = later }) b
+copying_on x drain later a b is passes more on = record {
+  shut = is.shut;
+  spares = is.spares;
+  more = more;
+  stands = λ founded.
+      let stood = is.stands founded in
+      let now : CopiesOn x (record { seated = x; drain = later }) a b = on stood.0 founded stood.1.0 stood.1.1 in
+      (subst IsTrue (sym passes.tells) stood.0, (now.writes, now.copies));
+}
+
+-- one that is over leaves a leaf at rest
+pub copied_down : (x : Seated) (drain : DrainState) (a b : Meaning) (y : Seated) → IsCopying (record { seated = x; drain = drain }) a → Passes a b → y.tables ≡ x.tables → AtEach (λ place t v. IsShut t v) y
+    → (IsTrue a.tells → AreFounded x → (writes : List ℕ → List Write) → Copies (watched_by x) drain writes a → RestsOn x y a b) → IsDown y b
+copied_down x drain a b y is passes same shut on = record {
+  shut = shut;
+  stands = λ founded_now.
+      let founded : AreFounded x = founded_same y x (sym same) founded_now in
+      let stood = is.stands founded in
+      let now : RestsOn x y a b = on stood.0 founded stood.1.0 stood.1.1 in
+      (subst IsTrue (sym passes.tells) stood.0, (no_others, now.least, now.next, now.rests no_others nothing_sound));
+}

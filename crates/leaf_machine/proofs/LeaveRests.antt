@@ -1,0 +1,117 @@
+-- Another leaf may begin where one rests: its base has the writes of the longest log, and those of the shortest are flushed.
+use Rattle.std.proofs.Common.{◌≡◌, ◌⊎◌, inl, inr, ◌∙◌, ℕ, ◌≤◌, Bool, true, false, List, [], length, Option, refl, sym, ap, subst, arith}
+use Rattle.std.specs.Prelude.{IsTrue}
+use Rattle.std.proofs.lemmas.Bool.{false≢true}
+use Rattle.std.proofs.lemmas.List.{take_all}
+use Rattle.leaf_model.specs.declared.writes.Write.{Write}
+use Rattle.row_records.specs.Records.{LogRecord}
+use Rattle.berth_face.specs.Berth.{Meaning}
+use Rattle.region_layout.specs.declared.image.TableImage.{TableImage}
+use Rattle.disk_backup.specs.Logs.{writes_of}
+use Rattle.disk_backup.specs.Settling.{HasLog, with_writes}
+use Rattle.leaf_history.specs.History.{base_of}
+use Rattle.leaf_opening.specs.Backed.{HasSoundLog, IsShort}
+use Rattle.leaf_core.specs.Left.{Tables}
+use Rattle.leaf_moments.specs.Watched.{Watched, IsFoundation, IsWatched, now_of, others_then, was_opened}
+use Rattle.leaf_standing.specs.Standing.{IsKept, IsWhole, RegionRests, is_closed, is_other, is_image, Rests, tables_of}
+use Rattle.leaf_standing.proofs.Names.{IsOwn, IsForeign, find_name, each_at, others_at}
+use Rattle.leaf_standing.proofs.States.{front_short, kept_most, now_sound, with_owed, without_owed}
+use Rattle.leaf_standing.proofs.Disks.{same_log}
+use Rattle.leaf_machine.specs.Leaving.{BeginsAgain}
+use Rattle.leaf_machine.proofs.CopyWatching.{nothing_sound}
+use Rattle.leaf_machine.proofs.DownBegins.{whole_alike}
+
+-- names that the leaf does not have are sound, whether it has opened a table or not
+others_sound : (opened : Bool) (others : Tables) (name : List ℕ) → IsFoundation (others name) → IsFoundation (others_then opened others name)
+others_sound true others name sound = nothing_sound name
+others_sound false others name sound = sound
+
+module _ (ws : List Watched) (others : Tables) (least : List ℕ → List Write) (next : Option LogRecord) (m : Meaning) (rests : Rests ws others least next m) where
+  abbrev tables : Tables
+  tables = tables_of others ws m
+
+  abbrev most : List ℕ → List Write
+  most = with_writes next least
+
+  -- ---- the base
+
+  abbrev base : Tables
+  base name = base_of (most name) (length (least name))
+
+  table_sound : (name : List ℕ) → IsFoundation (tables name)
+  table_sound name = by (find_name ws name)
+    where
+      by : IsOwn ws name ⊎ IsForeign ws name → IsFoundation (tables name)
+      by (inl own) =
+          subst IsFoundation (sym (own.stands now_of (others_at others m.clock ws))) (now_sound m.clock own.table (each_at (IsWatched m.clock) ws rests.watched.each own.place own.table own.at))
+      by (inr foreign) =
+          subst IsFoundation (sym (foreign.stands now_of (others_at others m.clock ws))) (others_sound (was_opened m.clock ws) others name (rests.sound name))
+
+  most_short : (name : List ℕ) → IsShort (most name)
+  most_short name =
+      front_short (most name) (tables name) (kept_most (least name) (most name) (tables name) (rests.each name) (with_owed next least name).no_less) (table_sound name).short
+
+  base_sound : (name : List ℕ) → IsFoundation (base name)
+  base_sound name = record { before = refl; handed_in = refl; counted = record { taken = omega arith; handed_in = omega arith }; short = most_short name }
+
+  base_kept : (name : List ℕ) → IsKept (least name) (most name) (base name)
+  base_kept name = record {
+    shut = refl;
+    flushed = omega arith;
+    shortest = (without_owed next least name).front;
+    longest = (with_owed next least name).front;
+    handed = λ done. absurd (false≢true done);
+  }
+
+  -- ---- the region
+
+  -- where each log has all of the tables, they have just what the longest has
+  module _ (images : List TableImage) (log_end : ℕ) (whole : IsWhole tables images log_end m) (name : List ℕ) where
+    had : HasLog (λ n. (tables n).writes) log_end m.held.disk
+    had = whole.logs m.held rests.stands.reads
+
+    of_log : (held : List ℕ → List Write) → HasSoundLog held m.held.disk → (tables name).writes ≡ held name
+    of_log held log =
+        sym (had.2 name) ∙ ap (λ (records : List LogRecord). writes_of name records) (sym (same_log (λ n. (tables n).writes) held log_end m.held.disk had log).0) ∙ log.each name
+
+    whole_most : (tables name).writes ≡ most name
+    whole_most = by (rests.logs m.held rests.stands.reads)
+      where
+        by : HasSoundLog least m.held.disk ⊎ HasSoundLog most m.held.disk → (tables name).writes ≡ most name
+        by (inl log) =
+            let few : length (tables name).writes ≤ length (most name) = omega (arith, ap (λ (l : List Write). length l) (of_log least log), (with_owed next least name).no_less) in
+            sym ((rests.each name).longest ∙ take_all (length (most name)) (tables name).writes few)
+        by (inr log) = of_log most log
+
+  base_region : RegionRests (tables_of base [] m) m
+  base_region = by rests.region
+    where
+      by : RegionRests tables m → RegionRests (tables_of base [] m) m
+      by (is_closed shut) = is_closed shut
+      by (is_other version head not_one) = is_other version head not_one
+      by (is_image images log_end is whole) = is_image images log_end is (whole_alike tables (tables_of base [] m) images log_end m (whole_most images log_end whole) whole)
+
+  -- ---- the leaf
+
+  pub rests_begin : IsTrue m.tells → BeginsAgain tables m
+  rests_begin tells = record {
+    base = base;
+    is = λ name. refl;
+    begins = (
+      tells,
+      (
+        least,
+        next,
+        record {
+          watched = record { each = tt; apart = tt };
+          stands = rests.stands;
+          logs = rests.logs;
+          each = base_kept;
+          sound = base_sound;
+          empty = rests.empty;
+          region = base_region;
+        },
+      ),
+    );
+    front = λ name. record { front = (rests.each name).longest; flushed = (rests.each name).flushed };
+  }

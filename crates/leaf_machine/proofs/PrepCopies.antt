@@ -1,0 +1,161 @@
+-- All tables are treated, and the copy of them is planned.
+use Rattle.std.proofs.Common.{◌≡◌, ℕ, suc, ◌<◌, ◌≤◌, Bool, true, false, List, [], ◌∷◌, length, Some, None, refl, sym, ap, subst, ◌∙◌, arith}
+use Rattle.std.specs.Prelude.{◌≢◌, ◌^◌, ◌-◌, ◌||◌, if◌then◌else◌, slice_get, Err}
+use Rattle.std.specs.List.{AllByRecursion, list_any}
+use Rattle.std.proofs.lemmas.Bool.{false≢true, leb-false, leb-true}
+use Rattle.std.proofs.lemmas.Option.{slice_get_within}
+use Rattle.leaf_model.specs.declared.writes.Write.{Write}
+use Rattle.leaf_model.specs.Content.{Contents, content_from}
+use Rattle.berth_face.specs.Berth.{Meaning}
+use Rattle.leaf_history.specs.History.{TableState, write_count}
+use Rattle.table_state.specs.Tables.{Table}
+use Rattle.region_layout.specs.Region.{IsImage}
+use Rattle.region_layout.specs.Images.{images_of}
+use Rattle.drain_copy.specs.declared.step.Next.TheVariants as next
+use Rattle.drain_copy.specs.Draining.{DrainState}
+use Rattle.leaf_table.specs.Turns.{Shared, is_founded}
+use Rattle.leaf_table.specs.Calls.{SeatView, base_of, state_seen}
+use Rattle.leaf_moments.specs.Watched.{Watched, IsFoundation, IsWatched, now_of}
+use Rattle.leaf_moments.proofs.Telling.{none_more}
+use Rattle.leaf_standing.specs.Standing.{Copies, IsContentOf, Runs}
+use Rattle.leaf_standing.proofs.Lefts.{copies_told, runs_told}
+use Rattle.leaf_standing.proofs.Names.{each_at}
+use Rattle.leaf_standing.proofs.States.{now_sound}
+use Rattle.leaf_copying.specs.Laws.{AreTaken}
+use Rattle.leaf_copying.proofs.Copying.{planned}
+use Rattle.leaf_steward.specs.declared.notes.Note.{Note}
+use Rattle.leaf_steward.specs.Seated.{AreFounded, AreSeated, watched_by}
+use Rattle.leaf_steward.proofs.WatchPlaces.{watch_all}
+use Rattle.leaf_steward.proofs.Watching.{now_seen, watch_at, watch_length, watch_names}
+use Rattle.leaf_machine.specs.declared.preparing.PrepareFault.{PrepareFault}
+use Rattle.leaf_machine.specs.declared.preparing.PrepareFault.TheVariants.{DiskFault, NoRoom, NoMemory}
+use Rattle.leaf_machine.specs.States.{Serving, Shutting, CopiesOn, GoesOn, IsClosed, IsCopying, IsShutting, treated}
+use Rattle.leaf_machine.specs.Prepares.{AllTreated, IsCopyOf, IsStep, IsTooMany}
+use Rattle.leaf_machine.specs.PrepParts.{IsAllTreated, IsNext, is_too_many}
+
+-- ---- tables that have too many writes for an image
+
+pub none_many : (tables : List Table) → list_any is_too_many tables ≡ false → AllByRecursion (λ (t : Table). t.writes < 2 ^ 63) tables
+none_many [] none = tt
+none_many (t ∷ tables) none = by (is_too_many t) refl none (none_many tables)
+  where
+    by : (b : Bool) → is_too_many t ≡ b → (b || list_any is_too_many tables) ≡ false → (list_any is_too_many tables ≡ false → AllByRecursion (λ (u : Table). u.writes < 2 ^ 63) tables)
+        → AllByRecursion (λ (u : Table). u.writes < 2 ^ 63) (t ∷ tables)
+    by true many is others = absurd (false≢true (sym is))
+    by false few is others = (leb-false (2 ^ 63) t.writes few, others is)
+
+abbrev ManyIn : List Table → Type 0
+ManyIn tables = (t : Table) × ((place : ℕ) × (slice_get tables place ≡ Some t)) × (2 ^ 63 ≤ t.writes)
+
+many_in : (tables : List Table) → list_any is_too_many tables ≡ true → ManyIn tables
+many_in [] some = absurd (false≢true some)
+many_in (t ∷ tables) some = by (is_too_many t) refl some (many_in tables)
+  where
+    by : (b : Bool) → is_too_many t ≡ b → (b || list_any is_too_many tables) ≡ true → (list_any is_too_many tables ≡ true → ManyIn tables) → ManyIn (t ∷ tables)
+    by true many is others = (t, (0, refl), leb-true (2 ^ 63) t.writes many)
+    by false few is others = let there = others is in (there.0, (suc there.1.0, there.1.1), there.2)
+
+pub too_many : (x : Shutting) → list_any is_too_many x.closed ≡ true → IsTooMany x
+too_many x some = many_in x.closed some
+
+-- ---- nothing happens
+
+pub all_treated : (x : Shutting) → IsAllTreated x → AllTreated x
+all_treated x whole = ap (λ (b : Bool). if b then length x.closed - 1 else length x.closed) whole.shut ∙ whole.all
+
+pub goes_none : (x : Serving) (m : Meaning) → GoesOn x x m m
+goes_none x m writes runs = record {
+  later = writes;
+  runs = runs;
+  told = λ others. runs_told (watched_by x.seated) (watched_by x.seated) others x.owing.owner x.owing.log writes m runs (none_more m.clock m.clock (watched_by x.seated));
+}
+
+-- ---- the copy
+
+begins : next.Begin ≢ next.Nothing
+begins = λ same. cc
+
+-- a table that was handed in nothing
+content_is : (s : TableState) (t : Table) → IsFoundation s → t.contents ≡ content_from s.before s.writes → t.writes ≡ write_count s → IsContentOf s t
+content_is s t sound contents writes = record {
+  contents = contents ∙ ap (λ (c : Contents). content_from c s.writes) sound.before;
+  writes = omega (arith, writes, sound.handed_in);
+}
+
+all_taken : (s : TableState) → IsFoundation s → s.taken ≡ write_count s → s.taken ≡ length s.writes
+all_taken s sound taken = omega (arith, taken, sound.handed_in)
+
+module _ (x : Shutting) (m : Meaning) (is : IsShutting x m) (sits : AreSeated x.serving.seated) (all : length x.closed ≡ length x.serving.seated.tables) (none : x.serving.owing.log.owed ≡ None)
+    (drain : DrainState) (image : IsImage 1 drain.image (images_of x.serving.seated.names x.closed) x.serving.owing.log.end) (begin : drain.next ≡ next.Begin) where
+  abbrev ws : List Watched
+  ws = watched_by x.serving.seated
+
+  closed_at : (place : ℕ) (t : Shared) (v : SeatView) → slice_get x.serving.seated.tables place ≡ Some t → slice_get x.serving.seated.seats place ≡ Some v → IsClosed (state_seen (base_of t) v)
+  closed_at place t v at was = is.closed_are place t v at was (omega (arith, slice_get_within x.serving.seated.tables place t at, all))
+
+  -- what the watched table in a place is
+  record IsTakenAt (place : ℕ) (w : Watched) : Type 0 where
+    pub closed : IsClosed (now_of w)
+    pub contents : (c : Table) → slice_get x.closed place ≡ Some c → (c.contents ≡ content_from (now_of w).before (now_of w).writes) × (c.writes ≡ write_count (now_of w))
+
+  taken_at : AreFounded x.serving.seated → (place : ℕ) (w : Watched) → slice_get ws place ≡ Some w → IsTakenAt place w
+  taken_at founded place w found =
+      let a = watch_at x.serving.seated place w found in
+      let base : is_founded (base_of a.0) ≡ true = watch_all (λ (s : Shared). is_founded (base_of s) ≡ true) x.serving.seated.tables place a.0 founded a.2 in
+      let same : state_seen (base_of a.0) a.1 ≡ now_of w = sym (ap now_of a.4 ∙ now_seen a.0 a.1 base) in
+      record {
+        closed = subst IsClosed same (closed_at place a.0 a.1 a.2 a.3);
+        contents = λ c at.
+            let had = is.contents place a.0 a.1 a.2 a.3 c at in
+            subst (λ (s : TableState). (c.contents ≡ content_from s.before s.writes) × (c.writes ≡ write_count s)) same (had.contents, had.writes);
+      }
+
+  taken : AreFounded x.serving.seated → (writes : List ℕ → List Write) → Runs ws x.serving.owing.owner x.serving.owing.log writes m → AreTaken ws x.closed
+  taken founded writes runs = record {
+    count = all ∙ sym (watch_length x.serving.seated sits);
+    shut = λ place w found.
+        let had : IsTakenAt place w = taken_at founded place w found in
+        (had.closed.shut, all_taken (now_of w) (sound place w found) had.closed.taken);
+    contents = λ place w c found at.
+        let had = (taken_at founded place w found).contents c at in
+        content_is (now_of w) c (sound place w found) had.0 had.1;
+  }
+    where
+      sound : (place : ℕ) (w : Watched) → slice_get ws place ≡ Some w → IsFoundation (now_of w)
+      sound place w found = now_sound m.clock w (each_at (IsWatched m.clock) ws runs.watched.each place w found)
+
+  copies : AreFounded x.serving.seated → (writes : List ℕ → List Write) → Runs ws x.serving.owing.owner x.serving.owing.log writes m → Copies ws drain writes m
+  copies founded writes runs =
+      planned ws x.serving.owing.owner x.closed x.serving.owing.log drain writes m runs none (taken founded writes runs)
+      (record {
+        image = subst (λ (names : List (List ℕ)). IsImage 1 drain.image (images_of names x.closed) x.serving.owing.log.end) (sym (watch_names x.serving.seated sits)) image;
+        begins = begin;
+      })
+
+  pub copied_goes : AreFounded x.serving.seated → (writes : List ℕ → List Write) → Runs ws x.serving.owing.owner x.serving.owing.log writes m
+      → CopiesOn x.serving.seated (record { seated = x.serving.seated; drain = drain }) m m
+  copied_goes founded writes runs = record {
+    writes = writes;
+    copies = copies founded writes runs;
+    told = λ others. copies_told ws ws others drain writes m (copies founded writes runs) (none_more m.clock m.clock ws);
+  }
+
+  pub copied_is : IsCopying (record { seated = x.serving.seated; drain = drain }) m
+  copied_is = record {
+    shut = λ place t v at was. (closed_at place t v at was).shut;
+    spares = λ place t v at was. is.spares_closed place t v at was (omega (arith, slice_get_within x.serving.seated.tables place t at, all));
+    more = λ same. begins (sym begin ∙ same);
+    stands = λ founded. let old = is.stands founded in (old.0, (old.1.0, copies founded old.1.0 old.1.1));
+  }
+
+  pub is_copy : list_any is_too_many x.closed ≡ false → IsCopyOf x (record { seated = x.serving.seated; drain = drain })
+  is_copy few = record { seated = refl; image = image; next = begin; room = none_many x.closed few }
+
+-- ---- a step
+
+-- one that did not end
+pub err_step : {B : Type 0} (x y : Shutting) (b : B) (notes : List Note) (fault : PrepareFault) → treated x < length x.serving.seated.tables → IsNext {T = Unit {0}} x y notes (Err fault)
+    → IsStep {B = B} x notes (Err ((y, b), fault))
+err_step x y b notes DiskFault more next = (more, next)
+err_step x y b notes NoRoom more next = absurd next
+err_step x y b notes NoMemory more next = next

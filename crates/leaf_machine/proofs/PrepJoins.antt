@@ -1,0 +1,113 @@
+-- The parts of a step, one after another.
+use Rattle.std.proofs.Common.{◌≡◌, ℕ, ◌≤◌, true, List, [], ◌∷◌, ◌++◌, refl, sym, ap, subst, ◌∙◌, le_trans, le_refl, append_assoc, append-nil}
+use Rattle.std.specs.Prelude.{IsTrue}
+use Rattle.std.specs.List.{AllByRecursion}
+use Rattle.leaf_model.specs.declared.writes.Write.{Write}
+use Rattle.berth_face.specs.Berth.{Meaning}
+use Rattle.berth_face.proofs.Moments.{passes_none, passes_on}
+use Rattle.leaf_table.specs.Turns.{Shared, is_founded}
+use Rattle.leaf_table.specs.Calls.{base_of}
+use Rattle.leaf_moments.proofs.Telling.{none_more, told_join}
+use Rattle.leaf_standing.specs.Standing.{Runs}
+use Rattle.leaf_standing.proofs.Lefts.{runs_told}
+use Rattle.leaf_steward.specs.declared.notes.Note.{Note}
+use Rattle.leaf_steward.specs.Seated.{Seated, AreFounded, watched_by}
+use Rattle.leaf_steward.specs.Making.{Makes, NotesOn, OneEntry}
+use Rattle.leaf_steward.proofs.WatchMakes.{makes_tables}
+use Rattle.log_steward.specs.Owing.{RunsTo}
+use Rattle.leaf_machine.specs.States.{Serving, GoesOn, RunsOn, UpStands}
+use Rattle.leaf_machine.specs.PrepParts.{IsPart}
+
+-- ---- entries, one after another
+
+makes_earlier : (from later to : ℕ) (x : Seated) (notes : List Note) (y : Seated) → from ≤ later → Makes later to x notes y → Makes from to x notes y
+makes_earlier from later to x notes y low (Makes.none f u a ns b on no_note same) = Makes.none from to x notes y (le_trans low on) no_note same
+makes_earlier from later to x notes y low (Makes.more f u a ns b clock note rest between on one makes all) = Makes.more from to x notes y clock note rest between (le_trans low on) one makes all
+
+makes_join : (a b c : ℕ) (x : Seated) (first : List Note) (y : Seated) (second : List Note) (z : Seated) → Makes a b x first y → Makes b c y second z → Makes a c x (first ++ second) z
+makes_join a b c x first y second z (Makes.none f u s ns e low no_note same) then =
+    subst (λ (notes : List Note). Makes a c x (notes ++ second) z) (sym no_note) (subst (λ (s : Seated). Makes a c s second z) same (makes_earlier a b c y second z low then))
+makes_join a b c x first y second z (Makes.more f u s ns e clock note rest between low one makes all) then =
+    Makes.more a c x (first ++ second) z clock note (rest ++ second) between low one (makes_join clock b c between rest y second z makes then) (ap (λ (notes : List Note). notes ++ second) all)
+
+notes_join : (a b c : ℕ) (x y z : Seated) (old mid new : List Note) → NotesOn a b x old mid y → NotesOn b c y mid new z → NotesOn a c x old new z
+notes_join a b c x y z old mid new first second =
+    (first.0 ++ second.0, second.1 ∙ ap (λ (notes : List Note). notes ++ second.0) first.1 ∙ append_assoc old first.0 second.0, makes_join a b c x first.0 y second.0 z first.2 second.2)
+
+-- none is made
+pub no_notes : (a b : ℕ) (x y : Seated) (notes after : List Note) → a ≤ b → after ≡ notes → y ≡ x → NotesOn a b x notes after y
+no_notes a b x y notes after low none same = ([], none ∙ sym (append-nil notes), Makes.none a b x [] y low refl same)
+
+-- one is made
+pub makes_one : (a b clock : ℕ) (x : Seated) (note : Note) (y : Seated) → a ≤ clock → clock ≤ b → OneEntry clock x note y → Makes a b x (note ∷ []) y
+makes_one a b clock x note y low high one = Makes.more a b x (note ∷ []) y clock note [] y low one (Makes.none clock b y [] y high refl refl) refl
+
+pub makes_two : (a b : ℕ) (x : Seated) (first : Note) (y : Seated) (second : Note) (z : Seated) → a ≤ b → OneEntry a x first y → OneEntry b y second z → Makes a b x (first ∷ second ∷ []) z
+makes_two a b x first y second z later one two = Makes.more a b x (first ∷ second ∷ []) z a first (second ∷ []) y (le_refl a) one (makes_one a b b y second z later (le_refl b) two) refl
+
+-- all notes are of this call
+pub notes_are : (a b : ℕ) (x y : Seated) (old new : List Note) → old ≡ [] → NotesOn a b x old new y → Makes a b x new y
+notes_are a b x y old new none on = subst (λ (notes : List Note). Makes a b x notes y) (sym (on.1 ∙ ap (λ (notes : List Note). notes ++ on.0) none)) on.2
+
+-- ---- the tables stay
+
+pub founded_on : (x y : Seated) → y.tables ≡ x.tables → AreFounded x → AreFounded y
+founded_on x y same founded = subst (λ (ts : List Shared). AllByRecursion (λ (t : Shared). is_founded (base_of t) ≡ true) ts) (sym same) founded
+
+pub tables_on : (a b : ℕ) (x y : Seated) (old new : List Note) → NotesOn a b x old new y → y.tables ≡ x.tables
+tables_on a b x y old new on = makes_tables a b x on.0 y on.2
+
+-- ---- what stands
+
+-- a leaf that goes on stands
+pub stands_on : (x y : Serving) (m m' : Meaning) → UpStands x m → (IsTrue m.tells → AreFounded x.seated → GoesOn x y m m') → y.seated.tables ≡ x.seated.tables → m'.tells ≡ m.tells → UpStands y m'
+stands_on x y m m' stands goes same tells founded =
+    let was = stands (founded_on y.seated x.seated (sym same) founded) in
+    let on : RunsOn x y m m' = goes was.0 (founded_on y.seated x.seated (sym same) founded) was.1.0 was.1.1 in
+    (tells ∙ was.0, (on.later, on.runs))
+
+-- as the log's own steps tell it
+pub goes_to : (x y : Serving) (m m' : Meaning)
+    → ((writes : List ℕ → List Write) → IsTrue m.tells → AreFounded x.seated → Runs (watched_by x.seated) x.owing.owner x.owing.log writes m → RunsTo x.seated y.seated y.owing m m')
+    → IsTrue m.tells → AreFounded x.seated → GoesOn x y m m'
+goes_to x y m m' runs tells founded writes was =
+    let on : RunsTo x.seated y.seated y.owing m m' = runs writes tells founded was in
+    record { later = on.later; runs = on.runs; told = on.told }
+
+-- ---- parts
+
+pub part_none : (x : Serving) (notes : List Note) (m : Meaning) → IsPart x x notes notes m m
+part_none x notes m = record {
+  made = no_notes m.clock m.clock x.seated x.seated notes notes (le_refl m.clock) refl refl;
+  crash = λ tells founded writes runs. record {
+    later = writes;
+    runs = runs;
+    told = λ others. runs_told (watched_by x.seated) (watched_by x.seated) others x.owing.owner x.owing.log writes m runs (none_more m.clock m.clock (watched_by x.seated));
+  };
+  region = λ tells. refl;
+  time = passes_none m;
+  reads = refl;
+}
+
+module _ (x y z : Serving) (old mid new : List Note) (m m' m'' : Meaning) (first : IsPart x y old mid m m') (second : IsPart y z mid new m' m'') where
+  tells_still : IsTrue m.tells → IsTrue m'.tells
+  tells_still tells = first.time.tells ∙ tells
+
+  both_go : IsTrue m.tells → AreFounded x.seated → GoesOn x z m m''
+  both_go tells founded writes runs =
+      let one : RunsOn x y m m' = first.crash tells founded writes runs in
+      let two : RunsOn y z m' m'' = second.crash (tells_still tells) (founded_on x.seated y.seated (tables_on m.clock m'.clock x.seated y.seated old mid first.made) founded) one.later one.runs in
+      record {
+        later = two.later;
+        runs = two.runs;
+        told = λ others. told_join others (watched_by x.seated) (watched_by y.seated) (watched_by z.seated) m m' m'' (one.told others) (two.told others);
+      }
+
+  pub part_join : IsPart x z old new m m''
+  part_join = record {
+    made = notes_join m.clock m'.clock m''.clock x.seated y.seated z.seated old mid new first.made second.made;
+    crash = both_go;
+    region = λ tells. second.region (tells_still tells) ∙ first.region tells;
+    time = passes_on m m' m'' first.time second.time;
+    reads = second.reads ∙ first.reads;
+  }

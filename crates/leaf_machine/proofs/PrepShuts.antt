@@ -1,0 +1,241 @@
+-- The next table is shut, and its record is brought onto the disk, or is owed.
+use Rattle.std.proofs.Common.{◌≡◌, ℕ, ◌+◌, ◌<◌, ◌≤◌, Bool, true, false, List, [], ◌∷◌, ◌++◌, length, Option, Some, None, refl, sym, ap, ap₂, subst, ◌∙◌, arith, inl, le_refl, append_assoc}
+use Rattle.std.specs.Prelude.{slice_set, IfSome, IsSome, IsTrue, IsOk, IsErr, Result}
+use Rattle.std.proofs.lemmas.List.{length-append}
+use Rattle.std.proofs.lemmas.Option.{slice_get_within}
+use Rattle.leaf_model.specs.declared.writes.Write.{Write}
+use Rattle.row_records.specs.Records.{LogRecord}
+use Rattle.berth_face.specs.Berth.{Meaning, Passes}
+use Rattle.leaf_history.specs.Calls as call
+use Rattle.leaf_history.specs.Replies as reply
+use Rattle.leaf_history.specs.History.{TableState, after, held, untaken}
+use Rattle.table_state.specs.Tables.{Table, Takes}
+use Rattle.leaf_table.specs.Turns.{Shared, is_founded, start_of}
+use Rattle.leaf_table.specs.Turns as turns
+use Rattle.leaf_table.specs.Calls.{base_of, name_of, seen_of, state_before, state_seen}
+use Rattle.leaf_core.specs.Left.{Tables}
+use Rattle.leaf_moments.specs.Watched.{Watched}
+use Rattle.leaf_moments.specs.Told.{SeenMore, Told}
+use Rattle.leaf_moments.proofs.Telling.{more_on}
+use Rattle.leaf_standing.specs.Standing.{Runs}
+use Rattle.leaf_standing.specs.Entries.{Enters}
+use Rattle.leaf_running.specs.Laws as law
+use Rattle.leaf_running.proofs.Running.{shuts}
+use Rattle.leaf_steward.specs.declared.notes.Note.{Note}
+use Rattle.leaf_steward.specs.declared.notes.What.TheVariants as what
+use Rattle.leaf_steward.specs.Seated.{Seated, AreFounded, AreSeated, AtPlace, Spares, watched, watched_by}
+use Rattle.leaf_steward.specs.Making.{Makes, NotesOn, OneEntry, ShutsAt}
+use Rattle.leaf_steward.proofs.WatchMakes.{makes_seated, makes_tables}
+use Rattle.leaf_steward.proofs.WatchPlaces.{watch_all}
+use Rattle.leaf_steward.proofs.Watching.{made_enters, makes_more, watch_get, watch_set}
+use Rattle.log_steward.specs.Owing.{Owing, Brings, HasTaken, RunsTo, done, failed}
+use Rattle.leaf_machine.specs.States.{Shutting, GoesOn, IsShutting, UpStands}
+use Rattle.leaf_machine.specs.Flushes.{OwedNotes}
+use Rattle.leaf_machine.specs.Prepares.{Halts, Treats, half, whole}
+use Rattle.leaf_machine.specs.PrepParts.{IsPart}
+use Rattle.leaf_machine.proofs.PrepHolds.{Holds, flushed_holds, holds_of, shut_count, shut_holds, shut_named, shut_room}
+use Rattle.leaf_machine.proofs.PrepJoins.{founded_on, makes_one, makes_two, stands_on, tables_on}
+use Rattle.leaf_machine.proofs.PrepSettles.{not_both, quiet_is}
+
+-- ---- the record of what was not taken
+
+same_record : (name : List ℕ) (writes : List Write) → turns.record_for name writes ≡ law.record_for name writes
+same_record name [] = refl
+same_record name (w ∷ writes) = refl
+
+-- nothing was owed, and nothing was noted of it
+pub none_noted : (o : Option LogRecord) (by : Owing) → o ≡ None → OwedNotes o by []
+none_noted o by none = subst (λ (p : Option LogRecord). OwedNotes p by []) (sym none) refl
+
+module _ (x : Shutting) (m : Meaning) (is : IsShutting x m) (sits : AreSeated x.serving.seated) (none : x.serving.owing.log.owed ≡ None) (place number : ℕ) (next : place ≡ length x.closed)
+    (t t' : Table) (pending : Option LogRecord) (y : Seated) (shut : ShutsAt m.clock x.serving.seated place number t.writes t y) (takes : Takes t pending t') where
+  abbrev closed : List Table
+  closed = x.closed ++ t' ∷ []
+
+  abbrev closing : ℕ → Note
+  closing k = record { table = k; number = number; what = what.Closed t.writes }
+
+  size : length closed ≡ length x.closed + 1
+  size = length-append x.closed (t' ∷ [])
+
+  one : OneEntry m.clock x.serving.seated (closing place) y
+  one = record { table = shut.table; before = shut.before; after = shut.after; at = shut.at; was = shut.was; number = shut.counted; made = shut.made; now = shut.now }
+
+  makes : Makes m.clock m.clock x.serving.seated (closing place ∷ []) y
+  makes = makes_one m.clock m.clock m.clock x.serving.seated (closing place) y (le_refl m.clock) (le_refl m.clock) one
+
+  pub sits_then : AreSeated y
+  sits_then = makes_seated m.clock m.clock x.serving.seated (closing place ∷ []) y makes sits
+
+  pub tables_then : y.tables ≡ x.serving.seated.tables
+  tables_then = makes_tables m.clock m.clock x.serving.seated (closing place ∷ []) y makes
+
+  contents : t'.contents ≡ held (state_before (base_of shut.table) shut.before shut.made.between)
+  contents = ap (λ (c : Table). c.contents) takes.1 ∙ shut.contents
+
+  pub holds_then : Holds closed y
+  holds_then =
+      subst (Holds closed) (sym shut.now)
+      (shut_holds x.closed x.serving.seated (holds_of x m is) place shut.table shut.before shut.after m.clock t.writes t' next shut.at shut.was shut.made contents (ap (λ (c : Table). c.writes) takes.1))
+
+  pub room_then : AtPlace (Spares 2) y place
+  room_then =
+      subst (λ (s : Seated). AtPlace (Spares 2) s place) (sym shut.now)
+      (shut_room x.closed x.serving.seated (holds_of x m is) place shut.table shut.before shut.after m.clock t.writes t' next shut.at shut.was shut.made contents (ap (λ (c : Table). c.writes) takes.1))
+
+  pub one_spare : AtPlace (Spares 1) y place
+  one_spare = λ u s here there. omega (arith, room_then u s here there)
+
+  pub count_then : AtPlace (λ u s. t.writes ≤ (state_seen (base_of u) s).taken) y place
+  count_then =
+      subst (λ (z : Seated). AtPlace (λ u s. t.writes ≤ (state_seen (base_of u) s).taken) z place) (sym shut.now)
+      (shut_count x.closed x.serving.seated (holds_of x m is) place shut.table shut.before shut.after m.clock t.writes t' next shut.at shut.was shut.made contents (ap (λ (c : Table). c.writes) takes.1))
+
+  record_is : pending ≡ turns.record_for (name_of shut.table) (untaken (state_before (base_of shut.table) shut.before shut.made.between))
+  record_is = takes.0 ∙ shut.record_is
+
+  pub named_then : IfSome pending (λ (r : LogRecord). AtPlace (λ u s. name_of u ≡ r.name) y place)
+  named_then =
+      subst (λ (z : Seated). IfSome pending (λ (r : LogRecord). AtPlace (λ u s. name_of u ≡ r.name) z place)) (sym shut.now)
+      (shut_named x.serving.seated place shut.table shut.before shut.after pending (state_before (base_of shut.table) shut.before shut.made.between) shut.at shut.was record_is)
+
+  -- ---- what its record is, where the tables are founded
+
+  module _ (founded : AreFounded x.serving.seated) where
+    is_base : is_founded (base_of shut.table) ≡ true
+    is_base = watch_all (λ (s : Shared). is_founded (base_of s) ≡ true) x.serving.seated.tables place shut.table founded shut.at
+
+    enters : (e : Enters m.clock call.Shut (reply.Counted t.writes) (watched shut.table shut.before) (watched shut.table shut.after)) × (e.between ≡ shut.made.between)
+    enters = made_enters shut.table shut.before shut.after m.clock call.Shut (reply.Counted t.writes) is_base (sits.each place shut.table shut.before shut.at shut.was) shut.made
+
+    same_state : after true (start_of (base_of shut.table)) (seen_of shut.before ++ enters.0.between) ≡ state_before (base_of shut.table) shut.before shut.made.between
+    same_state = ap₂ (λ (b : Bool) (es : _). after b (start_of (base_of shut.table)) (seen_of shut.before ++ es)) (sym is_base) enters.1
+
+    same_pending : pending ≡ law.record_for (name_of shut.table) (law.untaken_before enters.0)
+    same_pending =
+        record_is ∙ same_record (name_of shut.table) (untaken (state_before (base_of shut.table) shut.before shut.made.between))
+        ∙ ap (λ (s : TableState). law.record_for (name_of shut.table) (untaken s)) (sym same_state)
+
+    has_taken : (writes : List ℕ → List Write) → Runs (watched_by x.serving.seated) x.serving.owing.owner x.serving.owing.log writes m → HasTaken y x.serving.owing place pending writes m
+    has_taken writes runs log owes =
+        let ws : List Watched = watched_by x.serving.seated in
+        let takes_in = shuts ws place x.serving.owing.owner t.writes (watched shut.table shut.before) (watched shut.table shut.after) x.serving.owing.log log writes m runs none
+        (watch_get x.serving.seated place shut.table shut.before shut.at shut.was) enters.0 (subst (λ (o : Option LogRecord). law.Owes o x.serving.owing.log log) same_pending owes) in
+        let now : watched_by y ≡ slice_set ws place (watched shut.table shut.after) =
+        ap (λ (s : Seated). watched_by s) shut.now ∙ watch_set x.serving.seated place shut.table shut.after shut.at in
+        subst (λ (now_seen : List Watched). Runs now_seen place log writes m) (sym now) takes_in.runs
+
+    -- what is told of the bringing is told of both
+    told_both : (others : Tables) (z : Seated) (m' : Meaning) → Told others (watched_by y) (watched_by z) m m' → Told others (watched_by x.serving.seated) (watched_by z) m m'
+    told_both others z m' told =
+        let first : SeenMore m.clock m.clock (watched_by x.serving.seated) (watched_by y) = makes_more m.clock m.clock x.serving.seated (closing place ∷ []) y sits founded makes in
+        record {
+          passes = told.passes;
+          more = more_on m.clock m.clock m'.clock (watched_by x.serving.seated) (watched_by y) (watched_by z) (le_refl m.clock) told.passes.later first told.more;
+          left = told.left;
+        }
+
+  shut_goes : (z : Seated) (o : Owing) (m' : Meaning)
+      → ((taken : List ℕ → List Write) → IsTrue m.tells → AreFounded y → HasTaken y x.serving.owing place pending taken m → RunsTo y z o m m')
+      → IsTrue m.tells → AreFounded x.serving.seated → GoesOn x.serving (record { seated = z; owing = o }) m m'
+  shut_goes z o m' brings tells founded writes runs =
+      let on : RunsTo y z o m m' = brings writes tells (founded_on x.serving.seated y tables_then founded) (has_taken founded writes runs) in
+      record { later = on.later; runs = on.runs; told = λ others. told_both founded others z m' (on.told others) }
+
+  -- ---- the record is brought onto the disk
+
+  module _ {T E : Type 0} (m' : Meaning) (z : Seated) (o : Owing) (result : Result T E) (old mid new : List Note) (noted : mid ≡ old ++ closing place ∷ [])
+      (brings : Brings m'.clock y x.serving.owing place t.writes pending mid result z o new) (time : Passes m m')
+      (runs : (taken : List ℕ → List Write) → IsTrue m.tells → AreFounded y → HasTaken y x.serving.owing place pending taken m → RunsTo y z o m m') where
+    abbrev flushing : ℕ → Note
+    flushing n = record { table = place; number = n; what = what.Flushed t.writes }
+
+    all_notes : (n : ℕ) → new ≡ mid ++ flushing n ∷ [] → new ≡ old ++ (closing place ∷ flushing n ∷ [])
+    all_notes n notes = notes ∙ ap (λ (l : List Note). l ++ flushing n ∷ []) noted ∙ append_assoc old (closing place ∷ []) (flushing n ∷ [])
+
+    brought_notes : Brings m'.clock y x.serving.owing place t.writes pending mid result z o new → NotesOn m.clock m'.clock x.serving.seated old new z
+    brought_notes (done n good then notes owed) =
+        (closing place ∷ flushing n ∷ [], all_notes n notes, makes_two m.clock m'.clock x.serving.seated (closing place) y (flushing n) z time.later one then)
+    brought_notes (failed r owes bad same notes owed owner count) =
+        (closing place ∷ [], notes ∙ noted, subst (λ (s : Seated). Makes m.clock m'.clock x.serving.seated (closing place ∷ []) s) (sym same) (makes_one m.clock m'.clock m.clock x.serving.seated (closing place) y (le_refl m.clock) time.later one))
+
+    pub brought_part : (IsTrue m.tells → m'.held.region ≡ m.held.region) → m'.disk_reads ≡ m.disk_reads → IsPart x.serving (record { seated = z; owing = o }) old new m m'
+    brought_part region reads = record {
+      made = brought_notes brings;
+      crash = shut_goes z o m' runs;
+      region = region;
+      time = time;
+      reads = reads;
+    }
+
+    stands : UpStands (record { seated = z; owing = o }) m'
+    stands = stands_on x.serving (record { seated = z; owing = o }) m m' is.stands (shut_goes z o m' runs) (tables_on m.clock m'.clock x.serving.seated z old new (brought_notes brings)) time.tells
+
+    brought : Brings m'.clock y x.serving.owing place t.writes pending mid result z o new → IsOk result → IsShutting (record { serving = record { seated = z; owing = o }; closed = closed; shut = false }) m'
+    brought (done n good then notes owed) ok =
+        quiet_is closed z o m'
+        (subst (Holds closed) (sym then.now)
+        (flushed_holds closed y holds_then sits_then place then.table then.before then.after m'.clock t.writes then.at then.was then.made
+        (λ past. absurd (omega (arith, past, size, next))) (λ before. room_then then.table then.before then.at then.was)))
+        owed stands
+    brought (failed r owes bad same notes owed owner count) ok = not_both result ok bad
+
+    pub brought_is : IsOk result → IsShutting (record { serving = record { seated = z; owing = o }; closed = closed; shut = false }) m'
+    brought_is ok = brought brings ok
+
+    treats : Brings m'.clock y x.serving.owing place t.writes pending mid result z o new → IsOk result → (open_ : x.shut ≡ false)
+        → (made : List Note) × (new ≡ old ++ made) × Treats x (record { serving = record { seated = z; owing = o }; closed = closed; shut = false }) made
+    treats (done n good then notes owed) ok open_ = (
+      closing place ∷ flushing n ∷ [],
+      all_notes n notes,
+      whole [] number n t.writes t' open_ (none_noted x.serving.owing.log.owed x.serving.owing none)
+          (ap (λ (k : ℕ). closing k ∷ record { table = k; number = n; what = what.Flushed t.writes } ∷ []) next) refl refl owed,
+    )
+    treats (failed r owes bad same notes owed owner count) ok open_ = not_both result ok bad
+
+    pub brought_treats : IsOk result → x.shut ≡ false → (made : List Note) × (new ≡ old ++ made) × Treats x (record { serving = record { seated = z; owing = o }; closed = closed; shut = false }) made
+    brought_treats ok open_ = treats brings ok open_
+
+    halted : (r : LogRecord) → pending ≡ Some r → o.log.owed ≡ Some r → o.owner ≡ place → o.count ≡ t.writes → UpStands (record { seated = y; owing = o }) m'
+        → IsShutting (record { serving = record { seated = y; owing = o }; closed = closed; shut = true }) m'
+    halted r is_pending owed owner count stands_there = record {
+      few = holds_then.few;
+      opened = holds_then.opened;
+      closed_are = holds_then.closed_are;
+      contents = holds_then.contents;
+      spares = holds_then.spares;
+      spares_closed = holds_then.spares_closed;
+      spares_owed = λ empty. absurd (omega (arith, size, ap (λ (l : List Table). length l) empty));
+      spares_shut = λ last.
+          subst (λ (p : Option LogRecord). IfSome p (λ q. AtPlace (Spares 2) y o.owner)) (sym owed) (subst (λ (k : ℕ). AtPlace (Spares 2) y k) (sym owner) room_then);
+      owed = subst (λ (p : Option LogRecord). IfSome p (λ q. (o.owner < length y.tables) × AtPlace (λ u s. (o.count ≤ (state_seen (base_of u) s).taken) × (name_of u ≡ q.name)) y o.owner)) (sym owed)
+          (subst (λ (k : ℕ). (k < length y.tables) × AtPlace (λ u s. (o.count ≤ (state_seen (base_of u) s).taken) × (name_of u ≡ r.name)) y k) (sym owner) (
+            omega (arith, slice_get_within x.serving.seated.tables place shut.table shut.at, ap (λ (l : List Shared). length l) tables_then),
+            λ u s here there. (omega (arith, count, count_then u s here there), subst (λ (p : Option LogRecord). IfSome p (λ q. AtPlace (λ u s. name_of u ≡ q.name) y place)) is_pending named_then u s here there),
+          ));
+      last = λ last. (subst (λ (p : Option LogRecord). IsSome p) (sym owed) refl, omega (arith, owner, next, size));
+      owes = λ some. inl refl;
+      stands = stands_there;
+    }
+
+    halts_is : Brings m'.clock y x.serving.owing place t.writes pending mid result z o new → IsErr result → IsShutting (record { serving = record { seated = z; owing = o }; closed = closed; shut = true }) m'
+    halts_is (done n good then notes owed) err = not_both result good err
+    halts_is (failed r owes bad same notes owed owner count) err =
+        subst (λ (s : Seated). UpStands (record { seated = s; owing = o }) m' → IsShutting (record { serving = record { seated = s; owing = o }; closed = closed; shut = true }) m') (sym same)
+        (halted r owes owed owner count) stands
+
+    pub halted_is : IsErr result → IsShutting (record { serving = record { seated = z; owing = o }; closed = closed; shut = true }) m'
+    halted_is err = halts_is brings err
+
+    halts : Brings m'.clock y x.serving.owing place t.writes pending mid result z o new → IsErr result → (open_ : x.shut ≡ false)
+        → (made : List Note) × (new ≡ old ++ made) × Halts x (record { serving = record { seated = z; owing = o }; closed = closed; shut = true }) made
+    halts (done n good then notes owed) err open_ = not_both result good err
+    halts (failed r owes bad same notes owed owner count) err open_ = (
+      closing place ∷ [],
+      notes ∙ noted,
+      half [] number t.writes t' open_ (none_noted x.serving.owing.log.owed x.serving.owing none) (ap (λ (k : ℕ). closing k ∷ []) next) refl refl
+          (subst (λ (p : Option LogRecord). IsSome p) (sym owed) refl) (owner ∙ next) count,
+    )
+
+    pub halted_halts : IsErr result → x.shut ≡ false → (made : List Note) × (new ≡ old ++ made) × Halts x (record { serving = record { seated = z; owing = o }; closed = closed; shut = true }) made
+    halted_halts err open_ = halts brings err open_

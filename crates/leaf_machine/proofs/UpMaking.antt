@@ -1,0 +1,97 @@
+-- Entries that were made one after another, and what is told of them.
+use Rattle.std.proofs.Common.{◌≡◌, ℕ, ◌≤◌, true, Bool, List, [], ◌∷◌, ◌++◌, Option, Some, None, refl, sym, ap, subst, ◌∙◌, le_refl, le_trans}
+use Rattle.std.specs.Prelude.{slice_get, slice_set}
+use Rattle.leaf_model.specs.declared.writes.Write.{Write}
+use Rattle.row_records.specs.Records.{LogRecord}
+use Rattle.berth_face.specs.Berth.{Meaning}
+use Rattle.leaf_history.specs.Calls as call
+use Rattle.leaf_history.specs.Replies as reply
+use Rattle.leaf_history.specs.History.{Entry, TableState, after, untaken}
+use Rattle.leaf_core.specs.Left.{Tables}
+use Rattle.leaf_table.specs.Turns.{Shared, is_founded, start_of}
+use Rattle.leaf_table.specs.Turns as table
+use Rattle.leaf_table.specs.Calls.{base_of, name_of, seen_of, state_before}
+use Rattle.leaf_moments.specs.Watched.{Watched}
+use Rattle.leaf_moments.specs.Told.{SeenMore, Told}
+use Rattle.leaf_moments.proofs.Telling.{more_on}
+use Rattle.leaf_standing.specs.Standing.{Runs}
+use Rattle.leaf_standing.specs.Entries.{Enters}
+use Rattle.leaf_running.specs.Laws.{Owes, record_for, untaken_before}
+use Rattle.leaf_running.proofs.Running.{takes}
+use Rattle.leaf_steward.specs.declared.notes.Note.{Note}
+use Rattle.leaf_steward.specs.declared.notes.What.TheVariants as what
+use Rattle.leaf_steward.specs.Seated.{Seated, AreSeated, AreFounded, watched, watched_by}
+use Rattle.leaf_steward.specs.Making.{Makes, OneEntry, TakesAt}
+use Rattle.leaf_steward.proofs.WatchPlaces.{watch_all}
+use Rattle.leaf_steward.proofs.Watching.{made_enters, makes_more, watch_get, watch_set}
+use Rattle.log_steward.specs.Owing.{Owing, HasTaken}
+use Rattle.leaf_machine.proofs.UpSeats.{takes_entry}
+
+-- ---- entries, one after another
+
+pub makes_one : (from clock to : ℕ) (x : Seated) (note : Note) (y : Seated) → from ≤ clock → clock ≤ to → OneEntry clock x note y → Makes from to x (note ∷ []) y
+makes_one from clock to x note y low high one = Makes.more from to x (note ∷ []) y clock note [] y low one (Makes.none clock to y [] y high refl refl) refl
+
+-- they were made since an earlier clock too
+pub makes_since : (a b c : ℕ) (x : Seated) (notes : List Note) (y : Seated) → a ≤ b → Makes b c x notes y → Makes a c x notes y
+makes_since a b c x notes y low (Makes.none f u i ns o high no_note same) = Makes.none a c x notes y (le_trans low high) no_note same
+makes_since a b c x notes y low (Makes.more f u i ns o clock note rest between from one makes all) = Makes.more a c x notes y clock note rest between (le_trans low from) one makes all
+
+pub makes_join : (a b c : ℕ) (x y z : Seated) (first second : List Note) → Makes a b x first y → Makes b c y second z → Makes a c x (first ++ second) z
+makes_join a b c x y z first second (Makes.none f u i ns o low no_note same) later =
+    let since : Makes a c y second z = makes_since a b c y second z low later in
+    let begun : Makes a c x second z = subst (λ (s : Seated). Makes a c s second z) same since in
+    subst (λ (l : List Note). Makes a c x (l ++ second) z) (sym no_note) begun
+makes_join a b c x y z first second (Makes.more f u i ns o clock note rest between low one makes all) later =
+    Makes.more a c x (first ++ second) z clock note (rest ++ second) between low one (makes_join clock b c between y z rest second makes later) (ap (λ (l : List Note). l ++ second) all)
+
+-- ---- what is told
+
+-- entries were made while no call on the berth went on, and then what is told
+pub told_behind : (others : Tables) (xs ys zs : List Watched) (a b : Meaning) → SeenMore a.clock a.clock xs ys → Told others ys zs a b → Told others xs zs a b
+told_behind others xs ys zs a b more told =
+    record { passes = told.passes; more = more_on a.clock a.clock b.clock xs ys zs (le_refl a.clock) told.passes.later more told.more; left = told.left }
+
+-- ---- a table was taken
+
+same_record : (name : List ℕ) (ws : List Write) → record_for name ws ≡ table.record_for name ws
+same_record name [] = refl
+same_record name (w ∷ ws) = refl
+
+module _ (m : Meaning) (place number n : ℕ) (pending : Option LogRecord) (x y : Seated) (taken : TakesAt m.clock x place number n pending y) (seated : AreSeated x) (founded : AreFounded x) where
+  is_base : is_founded (base_of taken.table) ≡ true
+  is_base = watch_all (λ (t : Shared). is_founded (base_of t) ≡ true) x.tables place taken.table founded taken.at
+
+  abbrev old : Watched
+  old = watched taken.table taken.before
+
+  abbrev new : Watched
+  new = watched taken.table taken.after
+
+  enters : (e : Enters m.clock call.Take (reply.Counted n) old new) × (e.between ≡ taken.made.between)
+  enters = made_enters taken.table taken.before taken.after m.clock call.Take (reply.Counted n) is_base (seated.each place taken.table taken.before taken.at taken.was) taken.made
+
+  -- what is owed of it is what its steward had not taken
+  record_is : pending ≡ record_for (name_of taken.table) (untaken_before enters.0)
+  record_is =
+      let base = base_of taken.table in
+      let start : TableState = start_of base in
+      let seen : List Entry = seen_of taken.before in
+      let state : state_before base taken.before taken.made.between ≡ after true start (seen ++ enters.0.between) =
+      ap (λ (b : Bool). after b start (seen ++ taken.made.between)) is_base ∙ ap (λ (es : List Entry). after true start (seen ++ es)) (sym enters.1) in
+      taken.record_is ∙ ap (λ (s : TableState). table.record_for (name_of taken.table) (untaken s)) state ∙ sym (same_record (name_of taken.table) (untaken_before enters.0))
+
+  watched_now : watched_by y ≡ slice_set (watched_by x) place new
+  watched_now = ap (λ (s : Seated). watched_by s) taken.now ∙ watch_set x place taken.table taken.after taken.at
+
+  -- whatever its log then is, the leaf runs
+  pub has_taken : (o : Owing) (writes : List ℕ → List Write) → o.log.owed ≡ None → Runs (watched_by x) o.owner o.log writes m → HasTaken y o place pending writes m
+  has_taken o writes none runs = λ log' owes.
+      let here : slice_get (watched_by x) place ≡ Some old = watch_get x place taken.table taken.before taken.at taken.was in
+      let of_it : Owes (record_for old.name (untaken_before enters.0)) o.log log' = subst (λ (q : Option LogRecord). Owes q o.log log') record_is owes in
+      subst (λ (ws : List Watched). Runs ws place log' writes m) (sym watched_now) (takes (watched_by x) place o.owner n old new o.log log' writes m runs none here enters.0 of_it).runs
+
+  -- its steward has seen more
+  pub taken_more : SeenMore m.clock m.clock (watched_by x) (watched_by y)
+  taken_more = makes_more m.clock m.clock x (record { table = place; number = number; what = what.Took n } ∷ []) y seated founded
+      (makes_one m.clock m.clock m.clock x (record { table = place; number = number; what = what.Took n }) y (le_refl m.clock) (le_refl m.clock) (takes_entry m.clock place number n pending x y taken seated))

@@ -1,0 +1,44 @@
+-- What each part of a step of a leaf that shuts its tables does.
+use Rattle.std.specs.Prelude.{◌≡◌, ℕ, ◌^◌, nat_le, Bool, false, List, length, None, Result, Ok, Err, IsTrue, ⊤}
+use Rattle.berth_face.specs.Berth.{Meaning, Passes}
+use Rattle.berth_face.specs.Causes.{Rose}
+use Rattle.table_state.specs.Tables.{Table}
+use Rattle.leaf_steward.specs.declared.notes.Note.{Note}
+use Rattle.leaf_steward.specs.Seated.{AreFounded}
+use Rattle.leaf_steward.specs.Making.{NotesOn}
+use Rattle.leaf_machine.specs.declared.preparing.PrepareFault.{PrepareFault}
+use Rattle.leaf_machine.specs.declared.preparing.PrepareFault.TheVariants.{DiskFault, NoRoom, NoMemory}
+use Rattle.leaf_machine.specs.States.{Serving, Shutting, GoesOn}
+use Rattle.leaf_machine.specs.Prepares.{Treats, Halts, Starves}
+
+-- a part of a step: its entries stand behind the notes that were there, and the leaf goes on over its berth
+pub record IsPart (x y : Serving) (before after : List Note) (m m' : Meaning) : Type 0 where
+  pub made : NotesOn m.clock m'.clock x.seated before after y.seated
+  pub crash : IsTrue m.tells → AreFounded x.seated → GoesOn x y m m'
+  pub region : IsTrue m.tells → m'.held.region ≡ m.held.region
+  pub time : Passes m m'
+  pub reads : m'.disk_reads ≡ m.disk_reads
+
+-- a table more is treated, or the disk fails, or there is no memory
+abbrev pub IsNext : {T : Type 0} → Shutting → Shutting → List Note → Result T PrepareFault → Type 0
+IsNext x y notes (Ok done) = Treats x y notes
+IsNext x y notes (Err DiskFault) = Halts x y notes
+IsNext x y notes (Err NoRoom) = ⊥
+IsNext x y notes (Err NoMemory) = Starves x y notes
+
+-- a fault of the disk is told only where the count of its faults rose
+abbrev pub RoseNext : {T : Type 0} → ℕ → ℕ → Result T PrepareFault → Type 0
+RoseNext before now (Ok done) = ⊤
+RoseNext before now (Err DiskFault) = Rose before now
+RoseNext before now (Err NoRoom) = ⊤
+RoseNext before now (Err NoMemory) = ⊤
+
+-- no table is left to be treated, and nothing is owed
+pub record IsAllTreated (x : Shutting) : Type 0 where
+  pub shut : x.shut ≡ false
+  pub all : length x.closed ≡ length x.serving.seated.tables
+  pub none : x.serving.owing.log.owed ≡ None
+
+-- a table has too many writes for an image
+abbrev pub is_too_many : Table → Bool
+is_too_many t = nat_le (2 ^ 63) t.writes

@@ -1,0 +1,66 @@
+-- What a start finds, which entries it makes, and what it leaves.
+use Rattle.std.specs.Prelude.{◌≡◌, ◌≢◌, ℕ, ◌<◌, List, [], slice_get, Option, Some, None, Result, Ok, Err, ⊤}
+use Rattle.leaf_model.specs.declared.writes.Write.{Write}
+use Rattle.row_records.specs.Records.{LogRecord}
+use Rattle.berth_face.specs.Berth.{Meaning}
+use Rattle.leaf_opening.specs.declared.ways.Way.{Way}
+use Rattle.leaf_opening.specs.declared.ways.StartFault as opening
+use Rattle.leaf_opening.specs.declared.ways.StartFault.TheVariants as found
+use Rattle.leaf_opening.specs.Serving as plain
+use Rattle.leaf_opening.specs.Starts.{Started, IsRefusal}
+use Rattle.leaf_table.specs.Calls.{SeatView, IsFresh}
+use Rattle.leaf_core.specs.Left.{Tables}
+use Rattle.leaf_standing.specs.Standing.{Runs, Rests}
+use Rattle.leaf_steward.specs.declared.notes.Note.{Note}
+use Rattle.leaf_steward.specs.Seated.{Seated, AtEach, watched_by}
+use Rattle.leaf_steward.specs.Making.{OpenedNotes, WornAt}
+use Rattle.leaf_machine.specs.declared.faults.StartFault.{StartFault}
+use Rattle.leaf_machine.specs.declared.faults.StartFault.TheVariants.{RegionFault, DiskFault, DiskDamaged, Stranger, NoMemory, Worn}
+use Rattle.leaf_machine.specs.States.{Serving, IsTold}
+
+-- how a refusal of the opening is told
+abbrev pub told_of : opening.StartFault → StartFault
+told_of found.RegionFault = RegionFault
+told_of found.DiskFault = DiskFault
+told_of found.DiskDamaged = DiskDamaged
+told_of (found.Stranger name) = Stranger name
+told_of found.NoMemory = NoMemory
+
+-- the berth that a start hands back
+abbrev pub berth_after : {B X Y V W : Type 0} → Result ((X × B) × V) ((Y × B) × W) → B
+berth_after (Ok x) = x.0.1
+berth_after (Err x) = x.0.1
+
+-- the seats that it hands back
+abbrev pub seats_after : {B V W : Type 0} → Result ((Serving × B) × V) ((Seated × B) × W) → Seated
+seats_after (Ok x) = x.0.0.seated
+seats_after (Err x) = x.0.0
+
+-- the first table whose seat has seen 2^62 entries
+pub record IsFirstWorn (x : Seated) (table : ℕ) : Type 0 where
+  pub worn : WornAt x table
+  pub first : (place : ℕ) (v : SeatView) → place < table → slice_get x.seats place ≡ Some v → IsFresh v
+
+-- A start opens each table with what it finds; or it is refused, before anything is touched since a seat is worn, or for what it finds, and makes no entry.
+abbrev pub IsStart : {B : Type 0} → Seated → B → List Note → Result ((Serving × B) × Way) ((Seated × B) × StartFault) → Type 0
+IsStart x berth notes (Ok ((up, b), way)) = AtEach (λ place t v. IsFresh v) x × (up.seated.names ≡ x.names) × (up.seated.tables ≡ x.tables) × (up.owing.log.owed ≡ None)
+IsStart x berth notes (Err ((y, b), Worn table)) = IsFirstWorn x table × (y ≡ x) × (b ≡ berth) × (notes ≡ [])
+IsStart x berth notes (Err ((y, b), fault)) = AtEach (λ place t v. IsFresh v) x × (y ≡ x) × (notes ≡ [])
+
+-- where the berth tells its contents: what was found, or why it was refused
+pub record Came (names : List (List ℕ)) (old new : Meaning) (notes : List Note) (up : Serving) (way : Way) : Type 0 where
+  pub served : plain.Serving
+  pub started : Started names old new served way
+  pub log : up.owing.log ≡ served.log
+  pub noted : OpenedNotes 0 served.tables notes
+
+abbrev pub IsRefused : List (List ℕ) → Meaning → Meaning → StartFault → Type 0
+IsRefused names old new (Worn table) = ⊤
+IsRefused names old new fault = (f : opening.StartFault) × (fault ≡ told_of f) × IsRefusal names old new f
+
+-- what becomes of a leaf at rest that starts
+abbrev pub StartGoesOn : {B : Type 0} → (B → Meaning) → Seated → Meaning → Tables → (List ℕ → List Write) → Option LogRecord
+    → Result ((Serving × B) × Way) ((Seated × B) × StartFault) → Type 0
+StartGoesOn meaning x m others least next (Ok ((up, b), way)) =
+    ((writes : List ℕ → List Write) × Runs (watched_by up.seated) up.owing.owner up.owing.log writes (meaning b)) × IsTold others x up.seated m (meaning b)
+StartGoesOn meaning x m others least next (Err ((y, b), fault)) = Rests (watched_by y) others least next (meaning b) × IsTold others x y m (meaning b) × (fault ≢ DiskDamaged)

@@ -1,0 +1,130 @@
+-- What holds of a leaf in each of its states.
+use Rattle.std.specs.Prelude.{◌≡◌, ◌≢◌, ◌⊎◌, ℕ, suc, ◌-◌, ◌<◌, ◌≤◌, Bool, false, List, [], length, slice_get, Option, Some, IfSome, IsSome, IsTrue, if◌then◌else◌}
+use Rattle.leaf_model.specs.declared.writes.Write.{Write}
+use Rattle.row_records.specs.Records.{LogRecord}
+use Rattle.berth_face.specs.Berth.{Meaning}
+use Rattle.leaf_history.specs.History.{TableState, held, write_count}
+use Rattle.table_state.specs.Tables.{Table}
+use Rattle.drain_copy.specs.declared.step.Next.TheVariants.{Nothing}
+use Rattle.drain_copy.specs.Draining.{DrainState}
+use Rattle.leaf_table.specs.Calls.{base_of, state_seen}
+use Rattle.leaf_core.specs.Left.{Tables}
+use Rattle.leaf_moments.specs.Told.{Told}
+use Rattle.leaf_moments.specs.Watched.{IsFoundation}
+use Rattle.leaf_standing.specs.Standing.{Runs, Rests, Copies}
+use Rattle.leaf_steward.specs.Seated.{Seated, AtEach, AtPlace, AreFounded, IsOpen, IsShut, Spares, watched_by}
+use Rattle.log_steward.specs.Owing.{Owing, IsOwed}
+
+-- a leaf that serves its tables
+pub record Serving : Type 0 where
+  pub seated : Seated
+  pub owing : Owing
+
+-- A leaf that shuts its tables. So many of them, from the first on, are shut, with this content; where `shut`, the record of the last of those is still owed.
+pub record Shutting : Type 0 where
+  pub serving : Serving
+  pub closed : List Table
+  pub shut : Bool
+
+-- a leaf that copies its tables
+pub record Copying : Type 0 where
+  pub seated : Seated
+  pub drain : DrainState
+
+-- how many tables are shut and whole in the log
+abbrev pub treated : Shutting → ℕ
+treated x = if x.shut then length x.closed - 1 else length x.closed
+
+-- ---- what region and disk hold, where the tables are founded
+
+abbrev pub DownStands : Seated → Meaning → Type 0
+DownStands x m = AreFounded x → IsTrue m.tells × ((others : Tables) × (least : List ℕ → List Write) × (next : Option LogRecord) × Rests (watched_by x) others least next m)
+
+abbrev pub UpStands : Serving → Meaning → Type 0
+UpStands x m = AreFounded x.seated → IsTrue m.tells × ((writes : List ℕ → List Write) × Runs (watched_by x.seated) x.owing.owner x.owing.log writes m)
+
+abbrev pub CopyStands : Copying → Meaning → Type 0
+CopyStands x m = AreFounded x.seated → IsTrue m.tells × ((writes : List ℕ → List Write) × Copies (watched_by x.seated) x.drain writes m)
+
+-- A leaf with this base may begin over the berth: each log that a crash may leave has the least writes of each name, or those of one record more, and the base has the longest.
+abbrev pub MayBegin : Tables → Meaning → Type 0
+MayBegin base m = IsTrue m.tells × ((least : List ℕ → List Write) × (next : Option LogRecord) × Rests [] base least next m)
+
+-- ---- what every leaf is
+
+-- each table is shut
+pub record IsDown (x : Seated) (m : Meaning) : Type 0 where
+  pub shut : AtEach (λ place t v. IsShut t v) x
+  pub stands : DownStands x m
+
+-- the table whose record is owed has room for one entry more
+abbrev pub SparesOwed : Seated → Owing → ℕ → Type 0
+SparesOwed x o n = IfSome o.log.owed (λ r. AtPlace (Spares n) x o.owner)
+
+-- each table is open
+pub record IsUp (x : Serving) (m : Meaning) : Type 0 where
+  pub opened : AtEach (λ place t v. IsOpen t v) x.seated
+  pub spares : AtEach (λ place t v. Spares 3 t v) x.seated
+  pub spares_owed : SparesOwed x.seated x.owing 4
+  pub owed : IsOwed x.seated x.owing
+  pub stands : UpStands x m
+
+-- a content that was handed out when its table was shut
+pub record IsContent (s : TableState) (t : Table) : Type 0 where
+  pub contents : t.contents ≡ held s
+  pub writes : t.writes ≡ write_count s
+
+-- a table that is shut, and all of which was taken
+pub record IsClosed (s : TableState) : Type 0 where
+  pub shut : s.live ≡ false
+  pub taken : s.taken ≡ write_count s
+
+-- The first tables are shut, and their content is at hand; the others are open. What is owed is of the last that was shut, or is owed since before the first was.
+pub record IsShutting (x : Shutting) (m : Meaning) : Type 0 where
+  pub few : length x.closed ≤ length x.serving.seated.tables
+  pub opened : AtEach (λ place t v. length x.closed ≤ place → IsOpen t v) x.serving.seated
+  pub closed_are : AtEach (λ place t v. place < length x.closed → IsClosed (state_seen (base_of t) v)) x.serving.seated
+  pub contents : AtEach (λ place t v. (c : Table) → slice_get x.closed place ≡ Some c → IsContent (state_seen (base_of t) v) c) x.serving.seated
+  pub spares : AtEach (λ place t v. length x.closed ≤ place → Spares 3 t v) x.serving.seated
+  pub spares_closed : AtEach (λ place t v. place < length x.closed → Spares 1 t v) x.serving.seated
+  pub spares_owed : x.closed ≡ [] → SparesOwed x.serving.seated x.serving.owing 4
+  pub spares_shut : IsTrue x.shut → SparesOwed x.serving.seated x.serving.owing 2
+  pub owed : IsOwed x.serving.seated x.serving.owing
+  pub last : IsTrue x.shut → IsSome x.serving.owing.log.owed × (suc x.serving.owing.owner ≡ length x.closed)
+  pub owes : IsSome x.serving.owing.log.owed → IsTrue x.shut ⊎ (x.closed ≡ [])
+  pub stands : UpStands x.serving m
+
+-- each table is shut
+pub record IsCopying (x : Copying) (m : Meaning) : Type 0 where
+  pub shut : AtEach (λ place t v. IsShut t v) x.seated
+  pub spares : AtEach (λ place t v. Spares 1 t v) x.seated
+  pub more : x.drain.next ≢ Nothing
+  pub stands : CopyStands x m
+
+-- ---- what a crash may leave at each moment of a call
+
+-- the seats before and behind, and the berth
+abbrev pub IsTold : Tables → Seated → Seated → Meaning → Meaning → Type 0
+IsTold others x y m m' = Told others (watched_by x) (watched_by y) m m'
+
+-- The leaf runs on: whatever its log had, it has a log again, and at each moment a crash leaves what belongs to its tables.
+pub record RunsOn (x y : Serving) (m m' : Meaning) : Type 0 where
+  pub later : List ℕ → List Write
+  pub runs : Runs (watched_by y.seated) y.owing.owner y.owing.log later m'
+  pub told : (others : Tables) → IsTold others x.seated y.seated m m'
+
+abbrev pub GoesOn : Serving → Serving → Meaning → Meaning → Type 0
+GoesOn x y m m' = (writes : List ℕ → List Write) → Runs (watched_by x.seated) x.owing.owner x.owing.log writes m → RunsOn x y m m'
+
+-- it rests, whatever stands of names that it does not have, and at each moment a crash leaves what belongs to its tables
+pub record RestsOn (x y : Seated) (m m' : Meaning) : Type 0 where
+  pub least : List ℕ → List Write
+  pub next : Option LogRecord
+  pub rests : (others : Tables) → ((name : List ℕ) → IsFoundation (others name)) → Rests (watched_by y) others least next m'
+  pub told : (others : Tables) → IsTold others x y m m'
+
+-- it copies on
+pub record CopiesOn (x : Seated) (y : Copying) (m m' : Meaning) : Type 0 where
+  pub writes : List ℕ → List Write
+  pub copies : Copies (watched_by y.seated) y.drain writes m'
+  pub told : (others : Tables) → IsTold others x y.seated m m'

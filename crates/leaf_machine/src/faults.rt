@@ -1,0 +1,34 @@
+// Why a leaf does not start.
+ghost use Rattle.std.specs.Prelude.{◌≡◌};
+ghost use Rattle.leaf_machine.specs.Starts.{told_of};
+
+use leaf_model::Text;
+
+/// Why a start was refused.
+#[derive(Debug, Drop)]
+pub enum StartFault {
+    /// A call on the region failed.
+    RegionFault,
+    /// A call on the disk failed.
+    DiskFault,
+    /// An open gate of the log is followed by no record with a gate after it, or by one that takes a table past 2^40 rows.
+    DiskDamaged,
+    /// The image, or the log, names a table that the leaf does not have.
+    Stranger(Text),
+    NoMemory,
+    /// The steward's seat of this table has seen 2^62 entries.
+    Worn(u32),
+}
+
+/// A refusal of the opening, as one of the start.
+pub(crate) fn told(fault: leaf_opening::StartFault) -> StartFault
+    ensures { result ≡ told_of fault }
+{
+    match fault {
+        leaf_opening::StartFault::RegionFault => StartFault::RegionFault,
+        leaf_opening::StartFault::DiskFault => StartFault::DiskFault,
+        leaf_opening::StartFault::DiskDamaged => StartFault::DiskDamaged,
+        leaf_opening::StartFault::Stranger(name) => StartFault::Stranger(name),
+        leaf_opening::StartFault::NoMemory => StartFault::NoMemory,
+    }
+}

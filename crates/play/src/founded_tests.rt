@@ -1,0 +1,66 @@
+// A whole life of a leaf over a berth whose base is named: so what is printed is promised to be a transcript.
+ghost use Rattle.std.specs.Prelude.{IfOk};
+ghost use Rattle.play.specs.Played.{AreBases};
+
+use crate::tests::words_of;
+use crate::{Bases, Status, run};
+use berth_face::{Berth, OpenGate};
+use berth_mem::{MemBerth, MemSink, MemSource};
+use std::alloc::{AllocError, Global};
+use std::sync::Wait;
+use std::test;
+
+/// Nothing was ever written to the berth of a leaf.
+struct EmptyBase;
+
+impl Bases for EmptyBase {
+    ghost use Rattle.std.specs.Prelude.{Some};
+    ghost use Rattle.leaf_history.specs.History.{no_base};
+
+    ghost base = { λ leaf. Some (λ name. no_base) };
+}
+
+/// One berth in memory that holds nothing.
+fn fresh_berths(alloc: Global) -> Result<Vec<MemBerth>, AllocError>
+    ensures bases { IfOk result (λ berths. AreBases ⟦<EmptyBase as Bases>⟧.base ⟦<MemBerth as Berth>⟧.meaning berths.items) }
+{
+    let berth = MemBerth::new(Vec::new(alloc), Vec::new(alloc));
+    Ok(vec![in alloc; berth]?)
+}
+
+/// The status of a play of the script over a fresh berth, and what it wrote.
+fn play_fresh<R: Wait>(
+    rt: &R,
+    alloc: Global,
+    script: &str,
+) -> Result<(Status, MemSink), AllocError> {
+    let mut berths = fresh_berths(alloc)?;
+    let words = words_of(alloc, "play")?;
+    let mut source = MemSource::new(script.as_bytes().to_vec(alloc)?);
+    let mut sink = MemSink::new(alloc);
+    let status = run::<EmptyBase, R, MemSource, MemSink, MemBerth, OpenGate>(
+        rt,
+        alloc,
+        words.as_slice(),
+        &mut source,
+        &mut sink,
+        &mut berths,
+        &OpenGate,
+    );
+    Ok((status, sink))
+}
+
+#[test]
+fn a_life_over_a_fresh_berth_is_promised(rt: HostRuntime) -> Result<(), test::Fail> {
+    let (status, sink) = play_fresh(
+        &rt,
+        rt.alloc(),
+        "fleet 1 1 errors\nadd 0 errors 1\n{\"time\":1}\nflush 0 errors\nadd 0 errors 1\n{\"time\":2}\ndrain 0\nstart 0\nquery SELECT COUNT(*) FROM errors WHERE time >= 0 AND time <= 9\nkill 0\n",
+    )?;
+    assert!(rt; matches!(status, Status::Done));
+    assert_eq!(rt;
+        sink.bytes(),
+        "0 errors #1 opened 0\nstart 0 disk nohead\n0 errors #2 added 1 late 0\n0 errors #3 took 1\n0 errors #4 flushed 1\nflush 0 done\n0 errors #5 added 1 late 0\n0 errors #6 closed 2\n0 errors #7 flushed 2\n0 errors #8 handed\ndrain 0 done\n0 errors #9 opened 2\nstart 0 memory\n0 errors #10 asked\nanswer named 1 of 1 lines 1\n2\n0 errors #11 closed 2\nkill 0 done\n".as_bytes()
+    );
+    Ok(())
+}

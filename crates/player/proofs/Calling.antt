@@ -1,0 +1,139 @@
+-- The callers' seats at a leaf's tables, over their calls and over meetings.
+use Rattle.std.proofs.Common.{◌≡◌, ◌≢◌, ◌⊎◌, inl, inr, ℕ, ◌<◌, List, length, Some, refl, sym, ap, subst, ◌∙◌, arith, length-set}
+use Rattle.std.specs.Prelude.{slice_get, slice_set, slice_index_or}
+use Rattle.std.proofs.lemmas.Option.{slice_get_read}
+use Rattle.leaf_history.specs.Calls.{Call}
+use Rattle.leaf_history.specs.History.{LegalFrom}
+use Rattle.turnstile.specs.Seats.{AreIds, IsSeatOf, LearnsOthers, Told}
+use Rattle.leaf_table.specs.declared.replies.Reply.{Reply}
+use Rattle.leaf_table.specs.declared.replies.Reply.TheVariants as told
+use Rattle.leaf_table.specs.Turns.{Shared, is_founded, start_of}
+use Rattle.leaf_table.specs.Calls.{SeatView, Answered, SameSeat, base_of, seen_of}
+use Rattle.leaf_steward.specs.Seated.{Seated, AtPlace}
+use Rattle.leaf_steward.proofs.Seating.{same_at, set_either}
+use Rattle.transcript.specs.Stage.{Leaf, seated_of, with_seats}
+use Rattle.player.specs.Stage.{Called, AreCalled, Calls, IsCallersAt}
+use Rattle.player.specs.Moves.{MeetsAt}
+use Rattle.player.proofs.Meetings.{IsMetSeat, IsThere, is_there}
+
+-- ---- what stands in a place
+
+-- what is read of a place within a list stands there
+pub read_at : {A : Type 0} (xs : List A) (place : ℕ) (x : A) → place < length xs → x ≡ slice_index_or xs place x → slice_get xs place ≡ Some (slice_index_or xs place x)
+read_at xs place x within is = subst (λ y. slice_get xs place ≡ Some y) is (slice_get_read xs (length xs) place x refl within is)
+
+pub stands_at : {A : Type 0} (xs : List A) (place : ℕ) (x : A) → place < length xs → x ≡ slice_index_or xs place x → slice_get xs place ≡ Some x
+stands_at xs place x within is = slice_get_read xs (length xs) place x refl within is
+
+-- ---- a seat and its table
+
+-- the same seats but for one are callers' seats still
+pub called_with : (x : Called) (table : ℕ) (t : Shared) (c : SeatView) → AreCalled x → slice_get x.tables table ≡ Some t → IsCallersAt t c
+    → AreCalled (record { tables = x.tables; seats = slice_set x.seats table c })
+called_with x table t c are at here = record {
+  count = length-set x.seats table c ∙ are.count;
+  each = λ place u v there seat. by place u v there (set_either x.seats table place c v seat);
+}
+  where
+    by : (place : ℕ) (u : Shared) (v : SeatView) → slice_get x.tables place ≡ Some u → ((place ≡ table) × (v ≡ c)) ⊎ ((place ≢ table) × (slice_get x.seats place ≡ Some v)) → IsCallersAt u v
+    by place u v there (inl h) =
+        let is : t ≡ u = same_at x.tables table t u at (subst (λ (n : ℕ). slice_get x.tables n ≡ Some u) h.0 there) in
+        subst (λ (s : SeatView). IsCallersAt u s) (sym h.1) (subst (λ (s : Shared). IsCallersAt s c) is here)
+    by place u v there (inr h) = are.each place u v there h.1
+
+-- ---- calls
+
+-- what a seat has seen is legal, behind a call too
+legal_after : (t : Shared) (v : SeatView) (c : Call) (reply : Reply) (w : SeatView) → LegalFrom (is_founded (base_of t)) (start_of (base_of t)) (seen_of v) → Answered (base_of t) v c reply w
+    → LegalFrom (is_founded (base_of t)) (start_of (base_of t)) (seen_of w)
+legal_after t v c (told.Added number kept late) w legal answered = answered.2.legal
+legal_after t v c (told.Removed number rows) w legal answered = answered.2.legal
+legal_after t v c (told.Groups number gs) w legal answered = answered.2.legal
+legal_after t v c (told.Shut number) w legal answered = answered.2.legal
+legal_after t v c (told.Full number) w legal answered = answered.2.legal
+legal_after t v c (told.NoMemory number) w legal answered = answered.2.legal
+legal_after t v c told.Worn w legal answered = subst (λ (s : SeatView). LegalFrom (is_founded (base_of t)) (start_of (base_of t)) (seen_of s)) (sym answered.1) legal
+
+pub callers_after : (t : Shared) (v : SeatView) (c : Call) (reply : Reply) (w : SeatView) → IsCallersAt t v → IsSeatOf w t.site → SameSeat v w → Answered (base_of t) v c reply w → IsCallersAt t w
+callers_after t v c reply w is seat same answered = record {
+  seat = seat;
+  caller = subst (λ (n : ℕ). 0 < n) (sym same.id) is.caller;
+  legal = legal_after t v c reply w is.legal answered;
+}
+
+-- of the callers' seats x, which are those of `self`, the seat v at the table t, as they are read at that place
+module _ (x self : Called) (table : ℕ) (t : Shared) (v : SeatView) (are : AreCalled x) (is : x ≡ self) (within : table < length self.tables)
+    (read : t ≡ slice_index_or x.tables table t) (seat : v ≡ slice_index_or x.seats table v) where
+  abbrev shared : Shared
+  shared = slice_index_or x.tables table t
+
+  inside : table < length x.tables
+  inside = subst (λ (y : Called). table < length y.tables) (sym is) within
+
+  at : slice_get x.tables table ≡ Some shared
+  at = read_at x.tables table t inside read
+
+  was : slice_get x.seats table ≡ Some v
+  was = let below : table < length x.tables = inside in stands_at x.seats table v (omega (arith, below, are.count)) seat
+
+  pub called_at : IsCallersAt shared v
+  called_at = are.each table shared v at was
+
+  pub called_on : (c : Call) (reply : Reply) (w : SeatView) → IsSeatOf w shared.site → SameSeat v w → Answered (base_of shared) v c reply w
+      → AreCalled (record { tables = x.tables; seats = slice_set x.seats table w })
+  called_on c reply w seats same answered = called_with x table shared w are at (callers_after shared v c reply w called_at seats same answered)
+
+  pub calls : (c : Call) (reply : Reply) (w : SeatView) → Answered (base_of shared) v c reply w → Calls table c self reply (record { tables = x.tables; seats = slice_set x.seats table w })
+  calls c reply w answered =
+      subst (λ (y : Called). Calls table c y reply (record { tables = x.tables; seats = slice_set x.seats table w })) is
+      (record { shared = shared; before = v; after = w; at = at; was = was; answered = answered; now = refl })
+
+-- ---- meetings
+
+-- the seat in that place is a seat of the leaf's table
+pub meets_legal : (x self : Called) (y : Seated) (table : ℕ) (c : SeatView) → AreCalled x → x ≡ self → self.tables ≡ y.tables → table < length self.tables → c ≡ slice_index_or x.seats table c
+    → AtPlace (λ t v. IsSeatOf c t.site × LegalFrom (is_founded (base_of t)) (start_of (base_of t)) (seen_of c)) y table
+meets_legal x self y table c are is same within read = λ t v at seat.
+    let tables : x.tables ≡ y.tables = ap (λ (z : Called). z.tables) is ∙ same in
+    let inside : table < length x.tables = subst (λ (z : Called). table < length z.tables) (sym is) within in
+    let here : IsCallersAt t c = are.each table t c (subst (λ (ts : List Shared). slice_get ts table ≡ Some t) (sym tables) at) (stands_at x.seats table c (omega (arith, inside, are.count)) read) in
+    (here.seat, here.legal)
+
+module _ (x self : Called) (leaf : Leaf) (table : ℕ) (c c' : SeatView) (are : AreCalled x) (is : x ≡ self) (same : self.tables ≡ (seated_of leaf).tables)
+    (count : length (seated_of leaf).seats ≡ length (seated_of leaf).tables) (within : table < length self.tables) (read : c ≡ slice_index_or x.seats table c)
+    (met : AtPlace (IsMetSeat c c') (seated_of leaf) table) where
+  there : IsThere (seated_of leaf) table
+  there = is_there (seated_of leaf) table (subst (λ (ts : List Shared). table < length ts) same within) count
+
+  the_table : slice_get x.tables table ≡ Some there.shared
+  the_table = subst (λ (ts : List Shared). slice_get ts table ≡ Some there.shared) (sym (ap (λ (z : Called). z.tables) is ∙ same)) there.at
+
+  the_seat : slice_get x.seats table ≡ Some c
+  the_seat =
+      let inside : table < length x.tables = subst (λ (z : Called). table < length z.tables) (sym is) within in
+      stands_at x.seats table c (omega (arith, inside, are.count)) read
+
+  pub called_met : AreCalled (record { tables = x.tables; seats = slice_set x.seats table c' })
+  called_met =
+      let seat = met there.shared there.seat there.at there.was in
+      let before : IsCallersAt there.shared c = are.each table there.shared c the_table the_seat in
+      called_with x table there.shared c' are the_table
+      (record { seat = seat.0; caller = subst (λ (n : ℕ). 0 < n) (sym (ap (λ (s : SeatView). s.id) seat.1.view)) before.caller; legal = seat.3 })
+
+  pub meets_at : (leaf' : Leaf) → AreIds c'.seen
+      → AtPlace (λ t v. (w : SeatView) × (leaf' ≡ with_seats leaf (slice_set (seated_of leaf).seats table w)) × Told v c w × LearnsOthers v w) (seated_of leaf) table
+      → MeetsAt table leaf self.seats leaf' (slice_set x.seats table c')
+  meets_at leaf' ids learns =
+      let seat = met there.shared there.seat there.at there.was in
+      let learned = learns there.shared there.seat there.at there.was in
+      record {
+        steward = there.seat;
+        caller = c;
+        steward_then = learned.0;
+        caller_then = c';
+        was = there.was;
+        was_caller = subst (λ (z : Called). slice_get z.seats table ≡ Some c) is the_seat;
+        meets = record { steward = learned.2; caller = seat.1; steward_learns = learned.3; caller_learns = seat.2; ids = ids };
+        leaf_is = learned.1;
+        callers_are = ap (λ (z : Called). slice_set z.seats table c') is;
+      }

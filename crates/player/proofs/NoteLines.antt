@@ -1,0 +1,37 @@
+-- The lines of notes, told one after another.
+use Rattle.std.proofs.Common.{◌≡◌, ℕ, zero, suc, List, [], ◌∷◌, ◌++◌, length, take, slice_get, Some, refl, sym, ap, ◌∙◌, append_assoc}
+use Rattle.leaf_steward.specs.declared.notes.Note.{Note}
+use Rattle.printed_lines.specs.declared.line.Line.{Line}
+use Rattle.transcript.specs.Steps.{note_line, note_lines}
+
+-- the lines of the first i notes stand behind those that there were
+abbrev pub AreFirst : List Note → List Line → ℕ → List Line → Type 0
+AreFirst notes old i lines = lines ≡ old ++ note_lines (take i notes)
+
+no_more : (ls : List Line) → ls ++ [] ≡ ls
+no_more [] = refl
+no_more (l ∷ ls) = ap (λ (rest : List Line). l ∷ rest) (no_more ls)
+
+pub first_none : (notes : List Note) (old : List Line) → AreFirst notes old 0 old
+first_none notes old = sym (no_more old)
+
+take_next : (notes : List Note) (i : ℕ) (n : Note) → slice_get notes i ≡ Some n → note_lines (take (suc i) notes) ≡ note_lines (take i notes) ++ note_line n ∷ []
+take_next [] i n at = absurd cc
+take_next (m ∷ ms) zero n at =
+    let same : m ≡ n = cc in
+    ap (λ (x : Note). note_line x ∷ []) same
+take_next (m ∷ ms) (suc i) n at = ap (λ (ls : List Line). note_line m ∷ ls) (take_next ms i n at)
+
+pub first_next : (notes : List Note) (old : List Line) (i : ℕ) (lines lines' : List Line) (n : Note) (l : Line)
+    → AreFirst notes old i lines → slice_get notes i ≡ Some n → l ≡ note_line n → lines' ≡ lines ++ l ∷ []
+    → AreFirst notes old (suc i) lines'
+first_next notes old i lines lines' n l so_far at line_is pushed =
+    pushed ∙ ap (λ (x : Line). lines ++ x ∷ []) line_is ∙ ap (λ (ls : List Line). ls ++ note_line n ∷ []) so_far
+    ∙ append_assoc old (note_lines (take i notes)) (note_line n ∷ []) ∙ ap (λ (ls : List Line). old ++ ls) (sym (take_next notes i n at))
+
+take_all : (notes : List Note) → take (length notes) notes ≡ notes
+take_all [] = refl
+take_all (n ∷ ns) = ap (λ (ms : List Note). n ∷ ms) (take_all ns)
+
+pub first_all : (notes : List Note) (old : List Line) (i : ℕ) (lines : List Line) → AreFirst notes old i lines → i ≡ length notes → lines ≡ old ++ note_lines notes
+first_all notes old i lines so_far all = so_far ∙ ap (λ (ms : List Note). old ++ note_lines ms) (ap (λ (k : ℕ). take k notes) all ∙ take_all notes)

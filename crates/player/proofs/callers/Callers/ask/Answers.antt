@@ -1,0 +1,26 @@
+use Rattle.leaf_history.specs.Calls as call
+use Rattle.player.specs.Stage.{Called}
+use Rattle.player.proofs.Calling.{called_at, called_on, calls}
+use Rattle.player.proofs.callers.Callers.ask.Goals as goal
+
+pub ask-requires-clause-seat : goal.ask-requires-clause-seat
+ask-requires-clause-seat g c κs within =
+    let x : Called = record { tables = c.self.inside.tables.now; seats = c.self.inside.seats.items } in
+    (called_at x c.args.self.now c.args.table c.index-self-place.result c.index_mut.result.now c.self.invariant c.self.view_is c.requires.table c.index-self-place.is c.index_mut.ensures.value).seat
+
+pub ask-requires-clause-caller : goal.ask-requires-clause-caller
+ask-requires-clause-caller g c κs within =
+    let x : Called = record { tables = c.self.inside.tables.now; seats = c.self.inside.seats.items } in
+    (called_at x c.args.self.now c.args.table c.index-self-place.result c.index_mut.result.now c.self.invariant c.self.view_is c.requires.table c.index-self-place.is c.index_mut.ensures.value).caller
+
+pub invariant_of-self : goal.invariant_of-self
+invariant_of-self g c =
+    let x : Called = record { tables = c.self.inside.tables.now; seats = c.self.inside.seats.items } in
+    called_on x c.args.self.now c.args.table c.index-self-place.result c.index_mut.result.now c.self.invariant c.self.view_is c.requires.table c.index-self-place.is c.index_mut.ensures.value
+    (call.Ask c.args.query.now) c.ask.result c.ask.new.seat c.ask.ensures.seat c.ask.ensures.same c.ask.ensures.made
+
+pub returns-clause-calls : goal.returns-clause-calls
+returns-clause-calls g c =
+    let x : Called = record { tables = c.self.inside.tables.now; seats = c.self.inside.seats.items } in
+    calls x c.args.self.now c.args.table c.index-self-place.result c.index_mut.result.now c.self.invariant c.self.view_is c.requires.table c.index-self-place.is c.index_mut.ensures.value
+    (call.Ask c.args.query.now) c.ask.result c.ask.new.seat c.ask.ensures.made

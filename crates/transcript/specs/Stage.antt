@@ -1,0 +1,87 @@
+-- A leaf and its callers' seats as the program holds them, and what region and disk hold of it.
+-- The leaf is leaf 0, and each of its tables has one seat of callers.
+use Rattle.std.specs.Prelude.{◌≡◌, ℕ, List, length, slice_get, Some, Option, IsTrue}
+use Rattle.leaf_model.specs.declared.writes.Write.{Write}
+use Rattle.row_records.specs.Records.{LogRecord}
+use Rattle.berth_face.specs.Berth.{Meaning}
+use Rattle.turnstile.specs.Seats.{AreIds, LearnsOthers, Told}
+use Rattle.leaf_table.specs.Calls.{SeatView}
+use Rattle.leaf_core.specs.Left.{Tables}
+use Rattle.leaf_moments.specs.Watched.{IsFoundation}
+use Rattle.leaf_moments.specs.Told as moments
+use Rattle.leaf_standing.specs.Standing.{Runs, Rests}
+use Rattle.leaf_steward.specs.declared.notes.Note.{Note}
+use Rattle.leaf_steward.specs.Seated.{Seated, AreFounded, watched_by}
+use Rattle.leaf_steward.specs.Making.{Makes}
+use Rattle.leaf_machine.specs.States.{Serving, Shutting}
+
+-- a leaf: down, up, or shutting its tables
+pub data Leaf : Type 0 where
+  IsDown : (leaf : Seated) → Leaf
+  IsUp : (leaf : Serving) → Leaf
+  IsPreparing : (leaf : Shutting) → Leaf
+
+-- its tables, and its steward's seats at them
+abbrev pub seated_of : Leaf → Seated
+seated_of (IsDown x) = x
+seated_of (IsUp x) = x.seated
+seated_of (IsPreparing x) = x.serving.seated
+
+-- the same leaf with these seats
+abbrev pub seated_with : Seated → List SeatView → Seated
+seated_with x seats = record { names = x.names; tables = x.tables; seats = seats }
+
+abbrev pub serving_with : Serving → List SeatView → Serving
+serving_with x seats = record { seated = seated_with x.seated seats; owing = x.owing }
+
+abbrev pub with_seats : Leaf → List SeatView → Leaf
+with_seats (IsDown x) seats = IsDown (seated_with x seats)
+with_seats (IsUp x) seats = IsUp (serving_with x seats)
+with_seats (IsPreparing x) seats = IsPreparing (record { serving = serving_with x.serving seats; closed = x.closed; shut = x.shut })
+
+-- ---- what stands of it
+
+-- a leaf that serves
+abbrev pub ServingStands : Serving → Meaning → Type 0
+ServingStands x m = (writes : List ℕ → List Write) × Runs (watched_by x.seated) x.owing.owner x.owing.log writes m
+
+-- what region and disk hold; names that the leaf does not have had this base
+abbrev pub Stands : Tables → Leaf → Meaning → Type 0
+Stands base (IsDown x) m = (least : List ℕ → List Write) × (next : Option LogRecord) × Rests (watched_by x) base least next m
+Stands base (IsUp x) m = ServingStands x m
+Stands base (IsPreparing x) m = ServingStands x.serving m
+
+-- each name's base is a table that was handed in nothing
+abbrev pub AreSound : Tables → Type 0
+AreSound base = (name : List ℕ) → IsFoundation (base name)
+
+-- it stands behind a call too, and at each moment a crash leaves what belongs to its tables
+pub record StandsOn (base : Tables) (leaf leaf' : Leaf) (m m' : Meaning) : Type 0 where
+  pub stands : Stands base leaf' m'
+  pub told : moments.Told base (watched_by (seated_of leaf)) (watched_by (seated_of leaf')) m m'
+
+-- The steward makes entries with these notes. Where the berth tells its contents and the tables are founded, what stood stands on.
+pub record Carries (leaf leaf' : Leaf) (notes : List Note) (m m' : Meaning) : Type 0 where
+  pub made : Makes m.clock m'.clock (seated_of leaf) notes (seated_of leaf')
+  pub stands : (base : Tables) → IsTrue m.tells → AreFounded (seated_of leaf) → AreSound base → Stands base leaf m → StandsOn base leaf leaf' m m'
+
+-- ---- meetings
+
+-- The steward's seat v and the caller's seat c met: each has seen what the other had, of which it had made nothing itself.
+pub record Meets (v c v' c' : SeatView) : Type 0 where
+  pub steward : Told v c v'
+  pub caller : Told c v c'
+  pub steward_learns : LearnsOthers v v'
+  pub caller_learns : LearnsOthers c c'
+  pub ids : AreIds c'.seen
+
+-- at each table the steward's seat and the caller's met
+pub record MeetAll (leaf : Leaf) (callers : List SeatView) (leaf' : Leaf) (callers' : List SeatView) (m : Meaning) : Type 0 where
+  pub seats : List SeatView
+  pub leaf_is : leaf' ≡ with_seats leaf seats
+  pub each : (place : ℕ) (v c v' c' : SeatView)
+      → slice_get (seated_of leaf).seats place ≡ Some v → slice_get callers place ≡ Some c
+      → slice_get seats place ≡ Some v' → slice_get callers' place ≡ Some c'
+      → Meets v c v' c'
+  pub count : (length seats ≡ length (seated_of leaf).seats) × (length callers' ≡ length callers)
+  pub stands : (base : Tables) → IsTrue m.tells → AreFounded (seated_of leaf) → Stands base leaf m → Stands base leaf' m
