@@ -3,13 +3,11 @@ use Rattle.std.proofs.Common.{◌≡◌, ℕ, ◌*◌, ◌<◌, List, [], ◌∷
 use Rattle.std.specs.Prelude.{IfSome, slice_index_or}
 use Rattle.std.specs.List.{AllByRecursion, remove}
 use Rattle.std.proofs.lemmas.List.{take_all}
-use Rattle.std.proofs.lemmas.Option.{slice_get_read}
 use Rattle.berth_face.specs.Berth.{Meaning}
 use Rattle.region_layout.specs.Region.{AreDistinct}
 use Rattle.region_layout.specs.Names.{AreNames, IsName}
 use Rattle.leaf_core.specs.Left.{Tables}
 use Rattle.leaf_standing.proofs.Lefts.{rests_told}
-use Rattle.leaf_machine.specs.States.{MayBegin}
 use Rattle.script_text.specs.declared.command.Command.{Command}
 use Rattle.script_text.specs.declared.command.Command.TheVariants as command
 use Rattle.script_text.specs.Fits.{AreTables, IsTableName, IsCommand, AreCommands}
@@ -20,7 +18,7 @@ use Rattle.transcript.specs.Steps.{MayPlay}
 use Rattle.transcript.specs.Transcript.{Fleet, fleet_of}
 use Rattle.transcript.specs.Session.{one_leaf, scene_of}
 use Rattle.transcript.proofs.Lists.{All-weaken}
-use Rattle.play.specs.Played.{AreBases, IsBase, IsTold, OverFirst, IsWritten, names_in}
+use Rattle.play.specs.Played.{IsBase, IsTold, OverFirst, IsWritten, names_in}
 use Rattle.play.specs.Runs.{IsRun}
 use Rattle.play.proofs.Plays.{appends_nothing}
 
@@ -102,12 +100,12 @@ nothing_told (Some b) m is = λ way read way_is has. record {
   leaves = nothing_left b m is;
 }
 
-nothing_over : {B : Type 0} (base : ℕ → Option Tables) (meaning : B → Meaning) (berths : List B) → AreBases base meaning berths → OverFirst (base 0) meaning [] [] berths berths
+nothing_over : {B : Type 0} (base : B → Option Tables) (meaning : B → Meaning) (berths : List B) → ((b : B) → IfSome (base b) (λ t. IsBase t (meaning b))) → OverFirst base meaning [] [] berths berths
 nothing_over base meaning [] are = tt
-nothing_over base meaning (b ∷ bs) are = (nothing_told (base 0) (meaning b) (are 0 b refl), omega arith, omega arith)
+nothing_over base meaning (b ∷ bs) are = (nothing_told (base b) (meaning b) (are b), omega arith, omega arith)
 
-pub nothing_written : {B : Type 0} (base : ℕ → Option Tables) (meaning : B → Meaning) (commands : List Command) (was : Option (List ℕ)) (berths : List B) → AreBases base meaning berths → commands ≡ []
-    → IsWritten (base 0) meaning commands was was berths berths
+pub nothing_written : {B : Type 0} (base : B → Option Tables) (meaning : B → Meaning) (commands : List Command) (was : Option (List ℕ)) (berths : List B) → ((b : B) → IfSome (base b) (λ t. IsBase t (meaning b))) → commands ≡ []
+    → IsWritten base meaning commands was was berths berths
 nothing_written base meaning commands was berths are e = rw e (record {
   lines = [];
   written = appends_nothing was;
@@ -137,34 +135,29 @@ some_commands (command.Drain leaf stop ∷ more) c some = absurd c
 some_commands (command.Kill leaf ∷ more) c some = absurd c
 some_commands (command.Start leaf ∷ more) c some = absurd c
 
--- a base of the first berth
-pub first_base : {B : Type 0} (base : ℕ → Option Tables) (meaning : B → Meaning) (olds : List B) (b : B) → AreBases base meaning olds → 0 < length olds → b ≡ slice_index_or olds 0 b
-    → IfSome (base 0) (λ t. IsBase t (meaning b))
-first_base base meaning olds b are some first = are 0 b (slice_get_read olds (length olds) 0 b refl some first)
-
 fleet_told : (base : Option Tables) (names : List (List ℕ)) (old new : Meaning) (commands : List Command) (was now : Option (List ℕ)) → fleet_of commands ≡ one_leaf names
     → (run : IsRun base names old new was now commands) → IsTold base old new commands run.lines
 fleet_told None names old new commands was now is run = tt
 fleet_told (Some b) names old new commands was now is run = λ way read way_is has.
     subst (λ (f : Fleet). IsToldRun f way b read commands run.lines old new) (sym is) (run.told way read way_is has)
 
-run_written : {B : Type 0} (base : Option Tables) (meaning : B → Meaning) (commands : List Command) (was now : Option (List ℕ)) (old new : B) (rest : List B)
+run_written : {B : Type 0} (base : B → Option Tables) (meaning : B → Meaning) (commands : List Command) (was now : Option (List ℕ)) (old new : B) (rest : List B)
     → AreCommands commands → 0 < length (names_in commands)
-    → IsRun base (names_in commands) (meaning old) (meaning new) was now commands
+    → IsRun (base old) (names_in commands) (meaning old) (meaning new) was now commands
     → IsWritten base meaning commands was now (old ∷ rest) (new ∷ rest)
 run_written base meaning commands was now old new rest are some run =
     let fleet = some_commands commands are some in record {
       lines = run.lines;
       written = run.text;
-      transcript = (fleet_told base (names_in commands) (meaning old) (meaning new) commands was now fleet.0 run, run.region_counted, run.disk_counted);
+      transcript = (fleet_told (base old) (names_in commands) (meaning old) (meaning new) commands was now fleet.0 run, run.region_counted, run.disk_counted);
       empty = λ none. absurd (fleet.1 none);
     }
 
-pub first_written : {B : Type 0} (base : Option Tables) (meaning : B → Meaning) (commands : List Command) (names : List (List ℕ)) (was now : Option (List ℕ)) (olds rest news : List B) (old new : B)
+pub first_written : {B : Type 0} (base : B → Option Tables) (meaning : B → Meaning) (commands : List Command) (names : List (List ℕ)) (was now : Option (List ℕ)) (olds rest news : List B) (old new : B)
     → AreCommands commands → names ≡ names_in commands → 0 < length names
     → 0 < length olds → old ≡ slice_index_or olds 0 old → rest ≡ remove olds 0 → news ≡ new ∷ rest
-    → IsRun base names (meaning old) (meaning new) was now commands
+    → IsRun (base old) names (meaning old) (meaning new) was now commands
     → IsWritten base meaning commands was now olds news
 first_written base meaning commands names was now olds rest news old new are named some enough first others put run =
     rw (first_and_rest olds rest old enough first others, put)
-    (run_written base meaning commands was now old new rest are (subst (λ ns. 0 < length ns) named some) (subst (λ ns. IsRun base ns (meaning old) (meaning new) was now commands) named run))
+    (run_written base meaning commands was now old new rest are (subst (λ ns. 0 < length ns) named some) (subst (λ ns. IsRun (base old) ns (meaning old) (meaning new) was now commands) named run))

@@ -4,6 +4,7 @@ use Rattle.std.specs.Prelude.{option_map, slice_get, IfSome}
 use Rattle.std.specs.List.{AllByRecursion}
 use Rattle.std.proofs.lemmas.List.{length-map, length_push, map-append}
 use Rattle.std.proofs.lemmas.Option.{get_or_from_slice_get, slice_get-get_or, slice_get-map}
+use Rattle.berth_face.specs.Berth.{Meaning}
 use Rattle.region_layout.specs.Names.{IsName}
 use Rattle.leaf_core.specs.Left.{Tables}
 use Rattle.leaf_table.specs.declared.base.TableBase.{TableBase}
@@ -15,7 +16,7 @@ use Rattle.leaf_steward.specs.Seated.{IsUnused}
 use Rattle.printed_lines.specs.Lines.{name_at}
 use Rattle.transcript.proofs.Lists.{All-weaken, name_is, same_some, within}
 use Rattle.player.specs.Stage.{IsUnusedCaller}
-use Rattle.play.specs.Played.{AreShut}
+use Rattle.play.specs.Played.{AreShut, IsBase}
 use Rattle.play.specs.Runs.{AreFirsts, AreTables, IsEachOne}
 
 -- ---- lists
@@ -134,6 +135,11 @@ module _ (base : Option Tables) (pick : ℕ → ℕ → Option TableBase) (names
 pub one_caller : (pick : ℕ → ℕ → Option TableBase) (names : List (List ℕ)) (rows : List (List Shared)) (stewards callers : List (List SeatView)) → IsNewFleet pick 1 names 65536 rows stewards callers → IsEachOne callers
 one_caller pick names rows stewards callers f = all_each (λ (xs : List SeatView). length xs ≡ 1) callers (λ place xs at.
     ap length (sym (get_or_from_slice_get callers place xs [] at)) ∙ f.in_table place (omega (arith, within callers place xs at, f.counts.2)))
+
+-- a base's tables are shut
+pub base_is_shut : (base : Option Tables) (m : Meaning) → IfSome base (λ b. IsBase b m) → IfSome base AreShut
+base_is_shut None m is = tt
+base_is_shut (Some b) m is = is.is
 
 -- what its tables are founded with, by their names
 founded_with : (base : Option Tables) (ts : List Shared) → IfSome base AreShut → ((place : ℕ) (t : Shared) → slice_get ts place ≡ Some t → base_of t ≡ table_base base (name_of t))

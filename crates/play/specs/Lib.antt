@@ -1,5 +1,6 @@
 pub mod Words
 pub mod Count
+pub mod Empty
 pub mod Source
 pub mod Played
 pub mod Runs

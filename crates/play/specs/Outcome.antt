@@ -41,7 +41,7 @@ IsCutShort range before after was now = (count : ℕ) × IsCountOf range before 
 -- ---- what was done
 
 -- all was done that the request asks for
-abbrev pub IsDone : {B : Type 0} → Option Tables → (B → Meaning) → Option Request → Option (List ℕ) → Option (List ℕ) → Option (List ℕ) → Option (List ℕ) → List B → List B → Type 0
+abbrev pub IsDone : {B : Type 0} → (B → Option Tables) → (B → Meaning) → Option Request → Option (List ℕ) → Option (List ℕ) → Option (List ℕ) → Option (List ℕ) → List B → List B → Type 0
 IsDone base meaning None before after was now old new = ⊥
 IsDone base meaning (Some (Count range)) before after was now old new = IsCounted range before after was now
 IsDone base meaning (Some Play) before after was now old new = IsPlayed base meaning before after was now old new

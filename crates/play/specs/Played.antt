@@ -1,5 +1,5 @@
 -- What a played script prints, and what it leaves of the berths.
-use Rattle.std.specs.Prelude.{◌≡◌, ℕ, ◌+◌, ◌-◌, ◌^◌, ◌≤◌, min, List, [], ◌∷◌, length, slice_get, Option, Some, IfSome, Ok, ⊤}
+use Rattle.std.specs.Prelude.{◌≡◌, ℕ, ◌+◌, ◌-◌, ◌^◌, ◌≤◌, min, List, [], ◌∷◌, length, Option, IfSome, Ok, ⊤}
 use Rattle.std.specs.Io.KnownBytes.{Appends}
 use Rattle.berth_face.specs.Berth.{Meaning}
 use Rattle.berth_face.specs.Streams.{ReadsAll}
@@ -34,12 +34,8 @@ pub record IsBase (base : Tables) (m : Meaning) : Type 0 where
   pub begins : MayBegin base m
   pub is : AreShut base
 
--- the bases that the caller names are bases of the berths in their places
-abbrev pub AreBases : {B : Type 0} → (ℕ → Option Tables) → (B → Meaning) → List B → Type 0
-AreBases {B} base meaning berths = (leaf : ℕ) (b : B) → slice_get berths leaf ≡ Some b → IfSome (base leaf) (λ tables. IsBase tables (meaning b))
-
--- Over a berth with a named base these lines are a transcript of the commands, whatever the region's way and the log as it reads, of which each name has so many writes. At every moment since
--- the run began a crash left what belonged to the tables then, and a run may begin over the berth again. Nothing is said where no base is named.
+-- Over a berth with a base these lines are a transcript of the commands, whatever the region's way and the log as it reads, of which each name has so many writes. At every moment since
+-- the run began a crash left what belonged to the tables then, and a run may begin over the berth again. Nothing is said where no base is known.
 abbrev pub IsTold : Option Tables → Meaning → Meaning → List Command → List Line → Type 0
 IsTold base old new commands lines = IfSome base (λ tables. (way : Way) (read : List ℕ → ℕ) → IsWayOf old.held.region way → ((name : List ℕ) → LogHas old.held.disk name (read name))
     → IsToldRun (fleet_of commands) way tables read commands lines old new)
@@ -49,23 +45,23 @@ abbrev pub Counted : ℕ → ℕ → ℕ → Type 0
 Counted before now count = min (before + count) (2 ^ 64 - 1) ≤ now
 
 -- what the first leaf's berth shows
-abbrev pub OverFirst : {B : Type 0} → Option Tables → (B → Meaning) → List Command → List Line → List B → List B → Type 0
+abbrev pub OverFirst : {B : Type 0} → (B → Option Tables) → (B → Meaning) → List Command → List Line → List B → List B → Type 0
 OverFirst base meaning commands lines [] new = ⊤
 OverFirst base meaning commands lines (old ∷ olds) [] = ⊤
 OverFirst base meaning commands lines (old ∷ olds) (new ∷ news) =
-    IsTold base (meaning old) (meaning new) commands lines
+    IsTold (base old) (meaning old) (meaning new) commands lines
     × Counted (meaning old).region_faults (meaning new).region_faults (region_faults_in 0 lines)
     × Counted (meaning old).disk_faults (meaning new).disk_faults (disk_faults_in 0 lines)
 
 -- The text of these lines was written, which are a transcript of the commands.
-pub record IsWritten {B : Type 0} (base : Option Tables) (meaning : B → Meaning) (commands : List Command) (was now : Option (List ℕ)) (old new : List B) : Type 0 where
+pub record IsWritten {B : Type 0} (base : B → Option Tables) (meaning : B → Meaning) (commands : List Command) (was now : Option (List ℕ)) (old new : List B) : Type 0 where
   pub lines : List Line
   pub written : Appends was now (lines_text (names_in commands) lines)
   pub transcript : OverFirst base meaning commands lines old new
   pub empty : commands ≡ [] → lines ≡ []
 
 -- The source was read to its end, its text is a script, and what was written is a transcript of it.
-pub record IsPlayed {B : Type 0} (base : Option Tables) (meaning : B → Meaning) (before after was now : Option (List ℕ)) (old new : List B) : Type 0 where
+pub record IsPlayed {B : Type 0} (base : B → Option Tables) (meaning : B → Meaning) (before after was now : Option (List ℕ)) (old new : List B) : Type 0 where
   pub text : List ℕ
   pub script : Script
   pub read : ReadsAll before after text

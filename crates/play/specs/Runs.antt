@@ -8,7 +8,7 @@ use Rattle.leaf_opening.specs.Starts.{IsWayOf}
 use Rattle.leaf_core.specs.Left.{Tables}
 use Rattle.leaf_table.specs.Turns.{Shared, is_founded, start_of}
 use Rattle.leaf_table.specs.Calls.{SeatView, base_of, name_of}
-use Rattle.leaf_steward.specs.Seated.{Seated, AreAlike, AtEach, IsUnused}
+use Rattle.leaf_steward.specs.Seated.{Seated, AtEach, IsUnused}
 use Rattle.script_text.specs.declared.command.Command.{Command}
 use Rattle.printed_lines.specs.declared.line.Line.{Line}
 use Rattle.printed_lines.specs.Lines.{lines_text}

@@ -8,7 +8,7 @@ ghost use Rattle.region_layout.specs.Names.{AreNames};
 ghost use Rattle.script_text.specs.Fits.{AreCommands};
 ghost use Rattle.printed_lines.specs.Lines.{lines_text, IsOf};
 ghost use Rattle.transcript.specs.Steps.{MayPlay};
-ghost use Rattle.play.specs.Played.{AreBases, IsBase, IsWritten, LeavesBerths, Keeps, leaf_count, names_in};
+ghost use Rattle.play.specs.Played.{IsWritten, LeavesBerths, Keeps, leaf_count, names_in};
 ghost use Rattle.play.specs.Runs.{Advances, IsRun, IsEnd, RunSoFar};
 
 use crate::bases::Bases;
@@ -63,7 +63,7 @@ fn names_of(commands: &Commands) -> Result<Option<Names>, AllocError>
 }
 
 /// Plays a script's commands over the first berth, and puts that back in its place.
-pub fn play_commands<N: Bases, R: Wait, K: Sink, B: Berth, G: Gate>(
+pub fn play_commands<N: Bases<B>, R: Wait, K: Sink, B: Berth, G: Gate>(
     rt: &R,
     alloc: Global,
     commands: Commands,
@@ -73,8 +73,7 @@ pub fn play_commands<N: Bases, R: Wait, K: Sink, B: Berth, G: Gate>(
 ) -> Status
     requires commands { AreCommands commands }
     requires enough { leaf_count commands ≤ length berths.old.items }
-    requires bases { AreBases N.base B.meaning berths.old.items }
-    ensures done { result ≡ Status.Done → IsWritten (N.base 0) B.meaning commands (K.written sink.old) (K.written sink.new) berths.old.items berths.new.items }
+    ensures done { result ≡ Status.Done → IsWritten N.base B.meaning commands (K.written sink.old) (K.written sink.new) berths.old.items berths.new.items }
     ensures ends { IsEnd result }
     ensures write_fault { result ≡ Status.WriteFault → Rose (K.faults sink.old) (K.faults sink.new) }
     ensures berths { LeavesBerths B.meaning berths.old.items berths.new.items }
@@ -102,7 +101,7 @@ fn put_first<B>(berths: &mut Vec<B>, berth: B)
 }
 
 /// Plays commands over a berth, and gives that back.
-fn play_over<N: Bases, R: Wait, K: Sink, B: Berth, G: Gate>(
+fn play_over<N: Bases<B>, R: Wait, K: Sink, B: Berth, G: Gate>(
     rt: &R,
     alloc: Global,
     names: Names,
@@ -113,8 +112,7 @@ fn play_over<N: Bases, R: Wait, K: Sink, B: Berth, G: Gate>(
 ) -> (B, Status)
     requires names { AreNames names }
     requires may_play { AllByRecursion (MayPlay names) commands }
-    requires base { IfSome (N.base 0) (λ tables. IsBase tables (B.meaning berth)) }
-    ensures done { result.1 ≡ Status.Done → IsRun (N.base 0) names (B.meaning berth) (B.meaning result.0) (K.written sink.old) (K.written sink.new) commands }
+    ensures done { result.1 ≡ Status.Done → IsRun (N.base berth) names (B.meaning berth) (B.meaning result.0) (K.written sink.old) (K.written sink.new) commands }
     ensures ends { IsEnd result.1 }
     ensures write_fault { result.1 ≡ Status.WriteFault → Rose (K.faults sink.old) (K.faults sink.new) }
     ensures keeps { Keeps (B.meaning berth) (B.meaning result.0) }
@@ -122,7 +120,7 @@ fn play_over<N: Bases, R: Wait, K: Sink, B: Berth, G: Gate>(
     let Ok(copy) = names.copy() else {
         return (berth, Status::NoMemory);
     };
-    let Ok(leaf) = leaf_tables::<N>(alloc, &names) else {
+    let Ok(leaf) = leaf_tables::<N, B>(alloc, &names, &berth) else {
         return (berth, Status::NoMemory);
     };
     let LeafTables {
@@ -145,7 +143,7 @@ fn play_over<N: Bases, R: Wait, K: Sink, B: Berth, G: Gate>(
 }
 
 /// Plays commands one after another, writes the lines of each, and gives the berth back.
-fn play_all<'t, N: Bases, R: Wait, K: Sink, B: Berth, G: Gate>(
+fn play_all<'t, N: Bases<B>, R: Wait, K: Sink, B: Berth, G: Gate>(
     rt: &R,
     alloc: Global,
     names: &Names,
@@ -156,8 +154,8 @@ fn play_all<'t, N: Bases, R: Wait, K: Sink, B: Berth, G: Gate>(
 ) -> (B, Status)
     requires names { player.names ≡ names.now }
     requires may_play { AllByRecursion (MayPlay names.now) commands.items }
-    requires begun { RunSoFar (N.base 0) names.now (B.meaning player.berth) (B.meaning player.berth) (K.written sink.old) (K.written sink.old) [] player.leaf player.callers }
-    ensures done { result.1 ≡ Status.Done → IsRun (N.base 0) names.now (B.meaning player.entry.berth) (B.meaning result.0) (K.written sink.old) (K.written sink.new) commands.items }
+    requires begun { RunSoFar (N.base player.berth) names.now (B.meaning player.berth) (B.meaning player.berth) (K.written sink.old) (K.written sink.old) [] player.leaf player.callers }
+    ensures done { result.1 ≡ Status.Done → IsRun (N.base player.entry.berth) names.now (B.meaning player.entry.berth) (B.meaning result.0) (K.written sink.old) (K.written sink.new) commands.items }
     ensures ends { IsEnd result.1 }
     ensures write_fault { result.1 ≡ Status.WriteFault → Rose (K.faults sink.old) (K.faults sink.new) }
     ensures keeps { Keeps (B.meaning player.entry.berth) (B.meaning result.0) }

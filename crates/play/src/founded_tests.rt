@@ -1,31 +1,20 @@
-// A whole life of a leaf over a berth whose base is named: so what is printed is promised to be a transcript.
-ghost use Rattle.std.specs.Prelude.{IfOk};
-ghost use Rattle.play.specs.Played.{AreBases};
+// A whole life of a leaf over a berth whose base is known: so what is printed is promised to be a transcript.
+ghost use Rattle.std.specs.Prelude.{◌≡◌, Some};
+ghost use Rattle.play.specs.Empty.{nothing_kept};
 
 use crate::tests::words_of;
-use crate::{Bases, Status, run};
-use berth_face::{Berth, OpenGate};
+use crate::{Bases, EmptyBerths, Status, run};
+use berth_face::OpenGate;
 use berth_mem::{MemBerth, MemSink, MemSource};
 use std::alloc::{AllocError, Global};
 use std::sync::Wait;
 use std::test;
 
-/// Nothing was ever written to the berth of a leaf.
-struct EmptyBase;
-
-impl Bases for EmptyBase {
-    ghost use Rattle.std.specs.Prelude.{Some};
-    ghost use Rattle.leaf_history.specs.History.{no_base};
-
-    ghost base = { λ leaf. Some (λ name. no_base) };
-}
-
-/// One berth in memory that holds nothing.
-fn fresh_berths(alloc: Global) -> Result<Vec<MemBerth>, AllocError>
-    ensures bases { IfOk result (λ berths. AreBases ⟦<EmptyBase as Bases>⟧.base ⟦<MemBerth as Berth>⟧.meaning berths.items) }
+/// A berth in memory that holds nothing. No name has a write there.
+fn fresh_berth(alloc: Global) -> MemBerth
+    ensures { ⟦<EmptyBerths as Bases<MemBerth>>⟧.base result ≡ Some nothing_kept }
 {
-    let berth = MemBerth::new(Vec::new(alloc), Vec::new(alloc));
-    Ok(vec![in alloc; berth]?)
+    MemBerth::new(Vec::new(alloc), Vec::new(alloc))
 }
 
 /// The status of a play of the script over a fresh berth, and what it wrote.
@@ -34,11 +23,11 @@ fn play_fresh<R: Wait>(
     alloc: Global,
     script: &str,
 ) -> Result<(Status, MemSink), AllocError> {
-    let mut berths = fresh_berths(alloc)?;
+    let mut berths = vec![in alloc; fresh_berth(alloc)]?;
     let words = words_of(alloc, "play")?;
     let mut source = MemSource::new(script.as_bytes().to_vec(alloc)?);
     let mut sink = MemSink::new(alloc);
-    let status = run::<EmptyBase, R, MemSource, MemSink, MemBerth, OpenGate>(
+    let status = run::<EmptyBerths, R, MemSource, MemSink, MemBerth, OpenGate>(
         rt,
         alloc,
         words.as_slice(),

@@ -24,7 +24,7 @@ mod tables;
 mod tests;
 mod words;
 
-pub use bases::Bases;
+pub use bases::{Bases, EmptyBerths};
 pub use faults::fault_text;
 pub use program::run;
 pub use script_text::Why;

@@ -6,6 +6,7 @@ ghost use Rattle.play.specs.Played.{AreShut};
 ghost use Rattle.play.specs.Runs.{AreFirsts, AreTables, IsEachOne};
 
 use crate::bases::Bases;
+use berth_face::Berth;
 use leaf_model::Names;
 use leaf_table::{FleetTables, Seat};
 use std::alloc::{AllocError, Global};
@@ -22,12 +23,43 @@ pub struct LeafTables {
     pub callers: Vec<Seat>,
 }
 
-/// New tables of these names for leaf 0. Where N names a base they are founded with it.
-pub fn leaf_tables<N: Bases>(alloc: Global, names: &Names) -> Result<LeafTables, AllocError>
+/// The base of one leaf's tables. Contracts alone see it.
+trait LeafBase {
+    ghost use Rattle.std.specs.Prelude.{Option};
+    ghost use Rattle.leaf_core.specs.Left.{Tables};
+
+    ghost base: { Option Tables };
+}
+
+impl LeafBase for Brand {
+    ghost use Rattle.std.specs.Prelude.{None};
+
+    ghost base = { None };
+}
+
+/// New tables of these names for the leaf that uses this berth. Where N knows the berth's base they are founded with it.
+pub fn leaf_tables<N: Bases<B>, B: Berth>(
+    alloc: Global,
+    names: &Names,
+    berth: &B,
+) -> Result<LeafTables, AllocError>
     requires names { AreNames names.now }
-    requires base { IfSome (N.base 0) AreShut }
     ensures count { IfOk result (λ leaf. length leaf.tables ≡ 1) }
-    ensures tables { IfOk result (λ leaf. AreTables (N.base 0) names.now (row leaf.tables 0) leaf.stewards.items leaf.callers.items) }
+    ensures tables { IfOk result (λ leaf. AreTables (N.base berth.now) names.now (row leaf.tables 0) leaf.stewards.items leaf.callers.items) }
+{
+    founded_tables::<Brand, B>(alloc, names, berth)
+}
+
+/// New tables of these names for one leaf, founded with the base that P picks where it picks one.
+fn founded_tables<P: LeafBase, B>(
+    alloc: Global,
+    names: &Names,
+    _berth: &B,
+) -> Result<LeafTables, AllocError>
+    requires names { AreNames names.now }
+    requires base { IfSome P.base AreShut }
+    ensures count { IfOk result (λ leaf. length leaf.tables ≡ 1) }
+    ensures tables { IfOk result (λ leaf. AreTables P.base names.now (row leaf.tables 0) leaf.stewards.items leaf.callers.items) }
 {
     let (tables, stewards, callers) = FleetTables::new::<Brand>(alloc, 1, names, SHARE)?;
     Ok(LeafTables {

@@ -1,8 +1,6 @@
-use Rattle.std.proofs.Common.{◌≡◌, [], sym, subst}
-use Rattle.std.specs.Prelude.{IfSome}
+use Rattle.std.proofs.Common.{[], sym, subst}
 use Rattle.region_layout.specs.Names.{AreNames}
-use Rattle.play.specs.Played.{IsBase}
-use Rattle.play.specs.Runs.{RunSoFar}
+use Rattle.play.specs.Runs.{AreTables, RunSoFar}
 use Rattle.play.proofs.Beginning.{StandsFirst, alike, ready, run_begins, same_tables}
 use Rattle.play.proofs.berths.play_over.Goals as goal
 
@@ -14,7 +12,7 @@ new-requires-clause-alike g c κs within = alike (same_tables c.in-Ok.ensures c.
 
 pub new-requires-clause-ready : goal.new-requires-clause-ready
 new-requires-clause-ready g c κs within =
-    ready (g.B.Berth.meaning c.args.berth) (subst AreNames (sym c.in-Ok.ensures) c.requires.names) (same_tables c.in-Ok.ensures c.leaf.ensures c.in-Ok-leaf_tables.ensures.tables) c.requires.base
+    ready (g.B.Berth.meaning c.args.berth) (subst AreNames (sym c.in-Ok.ensures) c.requires.names) (same_tables c.in-Ok.ensures c.leaf.ensures c.in-Ok-leaf_tables.ensures.tables) (g.met.N.Bases.is_base c.args.berth)
 
 pub play_all-requires-clause-begun : goal.play_all-requires-clause-begun
 play_all-requires-clause-begun g c κs within =
@@ -22,8 +20,10 @@ play_all-requires-clause-begun g c κs within =
     let made = c.in-Ok-new.ensures in
     let m = g.B.Berth.meaning player.berth in
     let was = g.K.Sink.written c.args.sink.now in
-    subst (λ ns. RunSoFar (g.N.Bases.base 0) ns m m was was [] player.leaf player.callers) c.in-Ok.ensures
-    (run_begins m was player.leaf player.callers (subst AreNames (sym c.in-Ok.ensures) c.requires.names) (same_tables c.in-Ok.ensures c.leaf.ensures c.in-Ok-leaf_tables.ensures.tables)
-    (subst (λ b. IfSome (g.N.Bases.base 0) (λ t. IsBase t (g.B.Berth.meaning b))) (sym made.berth) c.requires.base)
+    subst (λ ns. RunSoFar (g.N.Bases.base player.berth) ns m m was was [] player.leaf player.callers) c.in-Ok.ensures
+    (run_begins m was player.leaf player.callers (subst AreNames (sym c.in-Ok.ensures) c.requires.names)
+    (subst (λ b. AreTables (g.N.Bases.base b) c.in-Ok.copy c.leaf.result.now c.in-Ok-leaf_tables.leaf.stewards.items c.in-Ok-leaf_tables.leaf.callers.items) (sym made.berth)
+    (same_tables c.in-Ok.ensures c.leaf.ensures c.in-Ok-leaf_tables.ensures.tables))
+    (g.met.N.Bases.is_base player.berth)
     made.down made.callers
     (subst (λ b. StandsFirst c.in-Ok.copy c.leaf.result.now c.in-Ok-leaf_tables.leaf.stewards.items player.leaf (g.B.Berth.meaning b) m) (sym made.berth) made.stands))

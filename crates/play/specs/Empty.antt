@@ -1,0 +1,85 @@
+-- The base of a berth in memory that holds nothing, and to which nothing was ever written.
+use Rattle.std.specs.Prelude.{◌≡◌, ℕ, zero, suc, ◌≤◌, ◌^◌, List, [], ◌∷◌, length, take, Option, Some, None, IfSome, refl}
+use mathlib.Core.Logic.{inl, inr}
+use Rattle.std.proofs.Common.{ap₂, sym, subst, ◌∙◌, arith, lit<, lit≤}
+use Rattle.std.proofs.lemmas.List.{length-take, nil_from_length}
+use Rattle.leaf_model.specs.declared.writes.Write.{Write}
+use Rattle.leaf_model.specs.Content.{content}
+use Rattle.leaf_history.specs.History.{no_base}
+use Rattle.berth_face.specs.Berth.{Pair, Meaning, OpenedOn}
+use Rattle.berth_mem.specs.declared.record.Call.{Call}
+use Rattle.berth_mem.specs.declared.berth.MemBerth.{MemBerth}
+use Rattle.berth_mem.specs.Forms.{FreshOn, meaning}
+use Rattle.berth_mem.specs.Record.{meaning_of}
+use Rattle.disk_backup.specs.Logs.{is_short}
+use Rattle.region_layout.specs.Region.{IsClosed}
+use Rattle.leaf_opening.specs.Backed.{HasSoundLog}
+use Rattle.leaf_core.specs.Left.{Tables}
+use Rattle.leaf_standing.specs.Standing.{Rests, is_closed}
+use Rattle.play.specs.Played.{IsBase}
+
+-- no name has writes
+abbrev pub nothing_kept : Tables
+nothing_kept name = no_base
+
+-- of a berth that holds so much, and of which so many moments passed
+abbrev base_on : List ℕ → List ℕ → ℕ → Option Tables
+base_on [] [] zero = Some nothing_kept
+base_on [] [] (suc clock) = None
+base_on [] (byte ∷ disk) clock = None
+base_on (byte ∷ region) disk clock = None
+
+-- nothing is kept of it where it holds nothing, and no call has changed it
+abbrev pub empty_base : MemBerth → Option Tables
+empty_base berth = base_on (meaning berth).held.region (meaning berth).held.disk (meaning berth).clock
+
+-- ---- a leaf may begin over it
+
+abbrev none_written : List ℕ → List Write
+none_written name = []
+
+-- no rows are not too many
+short : (k : ℕ) → length (content (take k [])).rows ≤ 2 ^ 40
+short k =
+    let nil : take k [] ≡ [] = nil_from_length (take k []) (length-take k [] ∙ omega arith) in
+    subst (λ (ws : List Write). length (content ws).rows ≤ 2 ^ 40) (sym nil) (lit≤ tt)
+
+-- the log of an empty disk has no writes
+empty_log : HasSoundLog none_written []
+empty_log = record { records = []; log_end = 0; log = is_short (lit≤ tt) refl refl; bounded = λ name k. short k; each = λ name. refl }
+
+-- over it a leaf rests that has no tables yet
+rests_empty : (m : Meaning) → OpenedOn [] [] m → m.leaves m.clock m.held → Rests [] nothing_kept none_written None m
+rests_empty m o there = record {
+  watched = record { each = tt; apart = tt };
+  stands = record { reads = there; regions = λ p left. inr (no_region p left) };
+  logs = λ p left. inl (subst (HasSoundLog none_written) (sym (o.pairs p left).1) empty_log);
+  each = λ name. record { shut = refl; flushed = lit≤ tt; shortest = refl; longest = refl; handed = λ e. (refl, refl) };
+  sound = λ name. record { before = refl; handed_in = refl; counted = record { taken = lit≤ tt; handed_in = lit≤ tt }; short = short };
+  empty = λ e p left. subst (λ (disk : List ℕ). length disk ≤ 1) (sym (o.pairs p left).1) (lit≤ tt);
+  region = is_closed (subst (λ (held : Pair). IsClosed held.region) (sym o.held) (inl (lit< tt)));
+}
+  where
+    no_region : (p : Pair) → m.leaves m.clock p → p.region ≡ []
+    no_region p left = elim (o.pairs p left).0 [
+      | inl e ↦ e
+      | inr e ↦ e
+    ]
+
+base_fits : (region disk : List ℕ) (calls : List Call) (region_faults disk_faults disk_reads : ℕ)
+    → IfSome (base_on region disk (meaning_of region disk calls region_faults disk_faults disk_reads).clock) (λ tables. IsBase tables (meaning_of region disk calls region_faults disk_faults disk_reads))
+base_fits [] [] [] rf df dr = record {
+  begins = (refl, (none_written, None, rests_empty (meaning_of [] [] [] rf df dr) (record { tells = refl; held = refl; pairs = λ p left. left }) (inl refl, refl)));
+  is = λ name. refl;
+}
+base_fits [] [] (call ∷ calls) rf df dr = tt
+base_fits [] (byte ∷ disk) calls rf df dr = tt
+base_fits (byte ∷ region) disk calls rf df dr = tt
+
+pub is_empty_base : (berth : MemBerth) → IfSome (empty_base berth) (λ tables. IsBase tables (meaning berth))
+is_empty_base berth = base_fits berth.region.items berth.disk.items berth.calls.items berth.region_faults berth.disk_faults berth.disk_reads
+
+-- a berth that was just made on nothing has that base
+pub fresh_base : (berth : MemBerth) → FreshOn [] [] berth → empty_base berth ≡ Some nothing_kept
+fresh_base berth f =
+    ap₂ (λ (held : Pair) (clock : ℕ). base_on held.region held.disk clock) f.opened.held f.clock
