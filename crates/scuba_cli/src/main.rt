@@ -1,13 +1,15 @@
 //! The program: `scuba DIR WORD..`.
 #![tactic(auto)]
 
-ghost use Rattle.std.specs.Prelude.{◌≡◌};
+ghost use Rattle.std.specs.Prelude.{◌≡◌, IfOk};
+ghost use Rattle.std.specs.List.{AllByRecursion};
 ghost use Rattle.scuba_cli.specs.Exit.{exit_number};
+ghost use Rattle.scuba_cli.specs.Fresh.{IsEmptyBerth};
 
 use berth_face::{Berth, OpenGate};
 use berth_files::{FileBerth, StdSink, StdSource};
 use berth_mem::MemBerth;
-use play::{Status, fault_text, run};
+use play::{Bases, EmptyBerths, Status, fault_text, run};
 use std::alloc::{AllocError, Global};
 use std::marker::Brand;
 use std::process::ExitCode;
@@ -32,13 +34,13 @@ fn main(rt: HostRuntime) -> ExitCode {
         return ExitCode::from(WORDS);
     };
     match folder.as_str() {
-        "mem" => serve(&rt, words, fresh_berths(rt.alloc())),
-        folder => serve(&rt, words, file_berths(rt, folder)),
+        "mem" => serve::<EmptyBerths, _, _>(&rt, words, fresh_berths(rt.alloc())),
+        folder => serve::<Brand, _, _>(&rt, words, file_berths(rt, folder)),
     }
 }
 
-/// Does what the words say over these berths, and says why where it was not done.
-fn serve<R: AllocGlobal + Input + Print + Eprint + Wait, B: Berth + Drop>(
+/// Does what the words say over these berths, of whose bases N tells what is known, and says why where it was not done.
+fn serve<N: Bases<B>, R: AllocGlobal + Input + Print + Eprint + Wait, B: Berth + Drop>(
     rt: &R,
     words: &[String],
     berths: Result<Vec<B>, AllocError>,
@@ -48,7 +50,7 @@ fn serve<R: AllocGlobal + Input + Print + Eprint + Wait, B: Berth + Drop>(
     };
     let mut source = StdSource::new(rt.reader());
     let mut sink = StdSink::new(io::writer(rt));
-    let status = run::<Brand, R, _, _, B, OpenGate>(
+    let status = run::<N, R, _, _, B, OpenGate>(
         rt,
         rt.alloc(),
         words,
@@ -61,13 +63,22 @@ fn serve<R: AllocGlobal + Input + Print + Eprint + Wait, B: Berth + Drop>(
     ExitCode::from(status_number(&status))
 }
 
-/// Berths in memory that hold nothing.
-fn fresh_berths(alloc: Global) -> Result<Vec<MemBerth>, AllocError> {
+/// Berths in memory that hold nothing: the base of each is known, and no name has a write there.
+fn fresh_berths(alloc: Global) -> Result<Vec<MemBerth>, AllocError>
+    ensures based { IfOk result (λ berths. AllByRecursion IsEmptyBerth berths.items) }
+{
     let mut berths = Vec::with_capacity(alloc, BERTHS as usize)?;
     for _ in 0..BERTHS {
-        berths.push(MemBerth::new(Vec::new(alloc), Vec::new(alloc)))?;
+        berths.push(fresh_berth(alloc))?;
     }
     Ok(berths)
+}
+
+/// A berth in memory that holds nothing.
+fn fresh_berth(alloc: Global) -> MemBerth
+    ensures { IsEmptyBerth result }
+{
+    MemBerth::new(Vec::new(alloc), Vec::new(alloc))
 }
 
 /// Berths over the files of a folder, which are made where a leaf writes.
