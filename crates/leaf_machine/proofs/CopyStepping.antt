@@ -12,13 +12,13 @@ use Rattle.drain_copy.specs.declared.step.DrainStep.TheVariants.{Finished}
 use Rattle.drain_copy.specs.Draining.{DrainState, Draining, DrainsFrom, StandsAt, AllClosed, IsStep}
 use Rattle.leaf_opening.specs.declared.ways.Way.TheVariants.{Memory}
 use Rattle.leaf_opening.specs.Starts.{IsWayOf}
-use Rattle.leaf_moments.specs.Watched.{Watched, was_opened}
-use Rattle.leaf_moments.proofs.Telling.{none_more, told_join, opened_more}
-use Rattle.leaf_standing.specs.Standing.{StandsNow, Copies, Holds, Rests}
-use Rattle.leaf_standing.specs.Entries.{HandsAll}
-use Rattle.leaf_standing.proofs.Lefts.{copies_told, rests_left, told_now}
-use Rattle.leaf_copying.specs.Laws.{DrainStepped, HandsOver}
-use Rattle.leaf_copying.proofs.Copying.{step_told, step_more, step_last, step_failed, given_up, handed}
+use Rattle.crash_moments.specs.Watched.{Watched, was_opened}
+use Rattle.crash_moments.proofs.Telling.{none_more, told_join, opened_more}
+use Rattle.crash_states.specs.Standing.{StandsNow, Copies, Holds, Rests}
+use Rattle.crash_states.specs.Entries.{HandsAll}
+use Rattle.crash_states.proofs.Lefts.{copies_told, rests_left, told_now}
+use Rattle.crash_draining.specs.Laws.{DrainStepped, HandsOver}
+use Rattle.crash_draining.proofs.Copying.{step_told, step_more, step_last, step_failed, given_up, handed}
 use Rattle.leaf_steward.specs.declared.notes.Note.{Note}
 use Rattle.leaf_steward.specs.Seated.{Seated, AreSeated, AreFounded, AtEach, IsShut, watched_by}
 use Rattle.leaf_steward.specs.Making.{Makes, EachNoted, IsHandedNote}

@@ -3,10 +3,10 @@ use Rattle.std.proofs.Common.{◌≡◌, ℕ, Bool, true, false, List, sym, subs
 use Rattle.berth_face.specs.Berth.{Meaning}
 use Rattle.leaf_history.specs.History.{no_base}
 use Rattle.leaf_opening.proofs.Logs.{none_short}
-use Rattle.leaf_core.specs.Left.{Tables, Left}
-use Rattle.leaf_moments.specs.Watched.{Watched, IsFoundation, by_name, others_then, state_then, was_opened}
-use Rattle.leaf_moments.specs.Told.{reads_one}
-use Rattle.leaf_standing.specs.Laws.{IsLeftNow}
+use Rattle.crash_events.specs.Left.{Tables, Left}
+use Rattle.crash_moments.specs.Watched.{Watched, IsFoundation, by_name, others_then, state_then, was_opened}
+use Rattle.crash_moments.specs.Told.{reads_one}
+use Rattle.crash_states.specs.Laws.{IsLeftNow}
 
 -- names of which nothing stands
 abbrev pub no_others : Tables

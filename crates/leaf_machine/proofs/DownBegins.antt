@@ -9,11 +9,11 @@ use Rattle.region_layout.specs.Images.{table_named}
 use Rattle.disk_backup.specs.Settling.{with_writes}
 use Rattle.leaf_history.specs.History.{TableState}
 use Rattle.leaf_opening.specs.Backed.{IsImageOf}
-use Rattle.leaf_core.specs.Left.{Tables}
-use Rattle.leaf_moments.specs.Watched.{Watched}
-use Rattle.leaf_standing.specs.Standing.{IsKept, IsWhole, RegionRests, is_closed, is_other, is_image, Rests, tables_of}
-use Rattle.leaf_starting.specs.Laws.{AreNew}
-use Rattle.leaf_starting.proofs.ReadyTables.{IsNew, all_watched, are_new, tables_same}
+use Rattle.crash_events.specs.Left.{Tables}
+use Rattle.crash_moments.specs.Watched.{Watched}
+use Rattle.crash_states.specs.Standing.{IsKept, IsWhole, RegionRests, is_closed, is_other, is_image, Rests, tables_of}
+use Rattle.crash_starting.specs.Laws.{AreNew}
+use Rattle.crash_starting.proofs.ReadyTables.{IsNew, all_watched, are_new, tables_same}
 
 -- what has all of some tables has all of others with the same writes
 pub whole_alike : (tables others : Tables) (images : List TableImage) (log_end : ℕ) (m : Meaning) → ((name : List ℕ) → (tables name).writes ≡ (others name).writes)

@@ -8,11 +8,11 @@ use Rattle.leaf_model.specs.declared.writes.Write.{Write}
 use Rattle.row_records.specs.Records.{LogRecord}
 use Rattle.berth_face.specs.Berth.{Meaning}
 use Rattle.region_layout.specs.Region.{AreDistinct}
-use Rattle.leaf_core.specs.Left.{Tables}
+use Rattle.crash_events.specs.Left.{Tables}
 use Rattle.leaf_table.specs.Turns.{Shared, start_of}
 use Rattle.leaf_table.specs.Calls.{SeatView, base_of, name_of, seen_of}
-use Rattle.leaf_moments.specs.Watched.{Watched, AreApart, is_watched}
-use Rattle.leaf_standing.specs.Standing.{Rests}
+use Rattle.crash_moments.specs.Watched.{Watched, AreApart, is_watched}
+use Rattle.crash_states.specs.Standing.{Rests}
 use Rattle.leaf_steward.specs.Seated.{Seated, AtEach, AreSeated, IsUnused, watched_by}
 use Rattle.leaf_steward.proofs.Watching.{watch_at, watch_names}
 use Rattle.leaf_machine.specs.States.{MayBegin}

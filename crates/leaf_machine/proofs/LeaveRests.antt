@@ -11,12 +11,12 @@ use Rattle.disk_backup.specs.Logs.{writes_of}
 use Rattle.disk_backup.specs.Settling.{HasLog, with_writes}
 use Rattle.leaf_history.specs.History.{base_of}
 use Rattle.leaf_opening.specs.Backed.{HasSoundLog, IsShort}
-use Rattle.leaf_core.specs.Left.{Tables}
-use Rattle.leaf_moments.specs.Watched.{Watched, IsFoundation, IsWatched, now_of, others_then, was_opened}
-use Rattle.leaf_standing.specs.Standing.{IsKept, IsWhole, RegionRests, is_closed, is_other, is_image, Rests, tables_of}
-use Rattle.leaf_standing.proofs.Names.{IsOwn, IsForeign, find_name, each_at, others_at}
-use Rattle.leaf_standing.proofs.States.{front_short, kept_most, now_sound, with_owed, without_owed}
-use Rattle.leaf_standing.proofs.Disks.{same_log}
+use Rattle.crash_events.specs.Left.{Tables}
+use Rattle.crash_moments.specs.Watched.{Watched, IsFoundation, IsWatched, now_of, others_then, was_opened}
+use Rattle.crash_states.specs.Standing.{IsKept, IsWhole, RegionRests, is_closed, is_other, is_image, Rests, tables_of}
+use Rattle.crash_states.proofs.Names.{IsOwn, IsForeign, find_name, each_at, others_at}
+use Rattle.crash_states.proofs.States.{front_short, kept_most, now_sound, with_owed, without_owed}
+use Rattle.crash_states.proofs.Disks.{same_log}
 use Rattle.leaf_machine.specs.Leaving.{BeginsAgain}
 use Rattle.leaf_machine.proofs.CopyWatching.{nothing_sound}
 use Rattle.leaf_machine.proofs.DownBegins.{whole_alike}

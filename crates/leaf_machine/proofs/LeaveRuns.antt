@@ -9,13 +9,13 @@ use Rattle.leaf_history.specs.Replies as reply
 use Rattle.leaf_history.specs.History.{Entry, LegalFrom, TableState, after, write_count}
 use Rattle.leaf_history.proofs.Histories.{LegalFrom-append, after-append}
 use Rattle.disk_backup.specs.State.{LogState}
-use Rattle.leaf_core.specs.Left.{Tables}
-use Rattle.leaf_moments.specs.Watched.{Watched, IsFoundation, IsWatched, by_name, now_of, others_then, was_opened}
-use Rattle.leaf_moments.proofs.Telling.{opened_more}
-use Rattle.leaf_standing.specs.Standing.{Runs, tables_of}
-use Rattle.leaf_standing.specs.Entries.{Enters, ShutsAll, stewards}
-use Rattle.leaf_running.specs.Laws.{Kills}
-use Rattle.leaf_running.proofs.Running.{kills}
+use Rattle.crash_events.specs.Left.{Tables}
+use Rattle.crash_moments.specs.Watched.{Watched, IsFoundation, IsWatched, by_name, now_of, others_then, was_opened}
+use Rattle.crash_moments.proofs.Telling.{opened_more}
+use Rattle.crash_states.specs.Standing.{Runs, tables_of}
+use Rattle.crash_states.specs.Entries.{Enters, ShutsAll, stewards}
+use Rattle.crash_serving.specs.Laws.{Kills}
+use Rattle.crash_serving.proofs.Running.{kills}
 use Rattle.leaf_machine.specs.Leaving.{IsFrontOf, BeginsAgain}
 use Rattle.leaf_machine.proofs.LeaveRests.{rests_begin}
 

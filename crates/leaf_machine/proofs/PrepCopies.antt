@@ -15,14 +15,14 @@ use Rattle.drain_copy.specs.declared.step.Next.TheVariants as next
 use Rattle.drain_copy.specs.Draining.{DrainState}
 use Rattle.leaf_table.specs.Turns.{Shared, is_founded}
 use Rattle.leaf_table.specs.Calls.{SeatView, base_of, state_seen}
-use Rattle.leaf_moments.specs.Watched.{Watched, IsFoundation, IsWatched, now_of}
-use Rattle.leaf_moments.proofs.Telling.{none_more}
-use Rattle.leaf_standing.specs.Standing.{Copies, IsContentOf, Runs}
-use Rattle.leaf_standing.proofs.Lefts.{copies_told, runs_told}
-use Rattle.leaf_standing.proofs.Names.{each_at}
-use Rattle.leaf_standing.proofs.States.{now_sound}
-use Rattle.leaf_copying.specs.Laws.{AreTaken}
-use Rattle.leaf_copying.proofs.Copying.{planned}
+use Rattle.crash_moments.specs.Watched.{Watched, IsFoundation, IsWatched, now_of}
+use Rattle.crash_moments.proofs.Telling.{none_more}
+use Rattle.crash_states.specs.Standing.{Copies, IsContentOf, Runs}
+use Rattle.crash_states.proofs.Lefts.{copies_told, runs_told}
+use Rattle.crash_states.proofs.Names.{each_at}
+use Rattle.crash_states.proofs.States.{now_sound}
+use Rattle.crash_draining.specs.Laws.{AreTaken}
+use Rattle.crash_draining.proofs.Copying.{planned}
 use Rattle.leaf_steward.specs.declared.notes.Note.{Note}
 use Rattle.leaf_steward.specs.Seated.{AreFounded, AreSeated, watched_by}
 use Rattle.leaf_steward.proofs.WatchPlaces.{watch_all}

@@ -7,9 +7,9 @@ use Rattle.berth_face.specs.Berth.{Meaning}
 use Rattle.berth_face.proofs.Moments.{passes_none, passes_on}
 use Rattle.leaf_table.specs.Turns.{Shared, is_founded}
 use Rattle.leaf_table.specs.Calls.{base_of}
-use Rattle.leaf_moments.proofs.Telling.{none_more, told_join}
-use Rattle.leaf_standing.specs.Standing.{Runs}
-use Rattle.leaf_standing.proofs.Lefts.{runs_told}
+use Rattle.crash_moments.proofs.Telling.{none_more, told_join}
+use Rattle.crash_states.specs.Standing.{Runs}
+use Rattle.crash_states.proofs.Lefts.{runs_told}
 use Rattle.leaf_steward.specs.declared.notes.Note.{Note}
 use Rattle.leaf_steward.specs.Seated.{Seated, AreFounded, watched_by}
 use Rattle.leaf_steward.specs.Making.{Makes, NotesOn, OneEntry}

@@ -7,15 +7,15 @@ use Rattle.berth_face.specs.Berth.{Meaning}
 use Rattle.leaf_history.specs.History.{no_base}
 use Rattle.leaf_opening.proofs.Logs.{none_short}
 use Rattle.leaf_table.specs.Turns.{Shared}
-use Rattle.leaf_core.specs.Left.{Tables, Left}
-use Rattle.leaf_moments.specs.Watched.{Watched, IsFoundation, by_name, others_then, state_then, tables_then, was_opened}
-use Rattle.leaf_moments.specs.Told.{Told, reads_one}
-use Rattle.leaf_moments.proofs.Telling.{opened_more}
-use Rattle.leaf_standing.specs.Standing.{Rests, Runs}
-use Rattle.leaf_standing.specs.Entries.{ShutsAll}
-use Rattle.leaf_standing.proofs.Lefts.{rests_told}
-use Rattle.leaf_running.specs.Laws.{Kills}
-use Rattle.leaf_running.proofs.Running.{kills}
+use Rattle.crash_events.specs.Left.{Tables, Left}
+use Rattle.crash_moments.specs.Watched.{Watched, IsFoundation, by_name, others_then, state_then, tables_then, was_opened}
+use Rattle.crash_moments.specs.Told.{Told, reads_one}
+use Rattle.crash_moments.proofs.Telling.{opened_more}
+use Rattle.crash_states.specs.Standing.{Rests, Runs}
+use Rattle.crash_states.specs.Entries.{ShutsAll}
+use Rattle.crash_states.proofs.Lefts.{rests_told}
+use Rattle.crash_serving.specs.Laws.{Kills}
+use Rattle.crash_serving.proofs.Running.{kills}
 use Rattle.leaf_steward.specs.declared.notes.Note.{Note}
 use Rattle.leaf_steward.specs.Seated.{Seated, AreFounded, AreSeated, AtEach, IsShut, watched_by}
 use Rattle.leaf_steward.specs.Making.{EachNoted, IsClosedNote, Makes}

@@ -10,9 +10,9 @@ use Rattle.table_state.specs.Tables.{Table}
 use Rattle.turnstile.specs.Seats.{LearnsOthers, Told}
 use Rattle.leaf_table.specs.Turns.{Shared, is_founded, start_of}
 use Rattle.leaf_table.specs.Calls.{SeatView, base_of, name_of, seen_of, state_seen}
-use Rattle.leaf_moments.specs.Watched.{Watched}
-use Rattle.leaf_standing.specs.Standing.{Runs}
-use Rattle.leaf_standing.proofs.Meeting.{met_runs}
+use Rattle.crash_moments.specs.Watched.{Watched}
+use Rattle.crash_states.specs.Standing.{Runs}
+use Rattle.crash_states.proofs.Meeting.{met_runs}
 use Rattle.leaf_steward.specs.Seated.{Seated, AreFounded, AreSeated, AtPlace, Spares, watched, watched_by, with_seat}
 use Rattle.leaf_steward.proofs.WatchPlaces.{watch_all}
 use Rattle.leaf_steward.proofs.Watching.{met_learns, watch_get, watch_set}

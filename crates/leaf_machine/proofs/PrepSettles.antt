@@ -8,7 +8,7 @@ use Rattle.berth_face.specs.Berth.{Meaning, Passes}
 use Rattle.table_state.specs.Tables.{Table}
 use Rattle.leaf_table.specs.Turns.{Shared}
 use Rattle.leaf_table.specs.Calls.{SeatView, base_of, name_of, state_seen}
-use Rattle.leaf_standing.specs.Standing.{Runs}
+use Rattle.crash_states.specs.Standing.{Runs}
 use Rattle.leaf_steward.specs.declared.notes.Note.{Note}
 use Rattle.leaf_steward.specs.Seated.{Seated, AreFounded, AreSeated, AtPlace, Spares, watched_by}
 use Rattle.leaf_steward.specs.Making.{NotesOn, OneEntry}

@@ -13,14 +13,14 @@ use Rattle.table_state.specs.Tables.{Table, Takes}
 use Rattle.leaf_table.specs.Turns.{Shared, is_founded, start_of}
 use Rattle.leaf_table.specs.Turns as turns
 use Rattle.leaf_table.specs.Calls.{base_of, name_of, seen_of, state_before, state_seen}
-use Rattle.leaf_core.specs.Left.{Tables}
-use Rattle.leaf_moments.specs.Watched.{Watched}
-use Rattle.leaf_moments.specs.Told.{SeenMore, Told}
-use Rattle.leaf_moments.proofs.Telling.{more_on}
-use Rattle.leaf_standing.specs.Standing.{Runs}
-use Rattle.leaf_standing.specs.Entries.{Enters}
-use Rattle.leaf_running.specs.Laws as law
-use Rattle.leaf_running.proofs.Running.{shuts}
+use Rattle.crash_events.specs.Left.{Tables}
+use Rattle.crash_moments.specs.Watched.{Watched}
+use Rattle.crash_moments.specs.Told.{SeenMore, Told}
+use Rattle.crash_moments.proofs.Telling.{more_on}
+use Rattle.crash_states.specs.Standing.{Runs}
+use Rattle.crash_states.specs.Entries.{Enters}
+use Rattle.crash_serving.specs.Laws as law
+use Rattle.crash_serving.proofs.Running.{shuts}
 use Rattle.leaf_steward.specs.declared.notes.Note.{Note}
 use Rattle.leaf_steward.specs.declared.notes.What.TheVariants as what
 use Rattle.leaf_steward.specs.Seated.{Seated, AreFounded, AreSeated, AtPlace, Spares, watched, watched_by}

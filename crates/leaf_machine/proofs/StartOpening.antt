@@ -16,15 +16,15 @@ use Rattle.leaf_opening.specs.declared.opening.Opened.{Opened}
 use Rattle.leaf_opening.specs.Starts.{Started, AreFresh, OpensFrom, KeepsDisks, IsDurable, serving_of}
 use Rattle.leaf_table.specs.Turns.{Shared, is_founded, MayHandIn}
 use Rattle.leaf_table.specs.Calls.{SeatView, base_of, name_of, state_seen}
-use Rattle.leaf_core.specs.Left.{Tables}
-use Rattle.leaf_moments.specs.Watched.{Watched, now_of}
-use Rattle.leaf_moments.specs.Told.{Told}
-use Rattle.leaf_moments.proofs.Telling.{told_join}
-use Rattle.leaf_standing.specs.Standing.{Rests, Runs, StandsNow}
-use Rattle.leaf_standing.specs.Entries.{OpensAll}
-use Rattle.leaf_standing.proofs.Lefts.{runs_told}
-use Rattle.leaf_starting.specs.Laws.{OpeningMade, Finds, HasContent, Opens, names_of}
-use Rattle.leaf_starting.proofs.Starting.{opening_told, found, openable, opens}
+use Rattle.crash_events.specs.Left.{Tables}
+use Rattle.crash_moments.specs.Watched.{Watched, now_of}
+use Rattle.crash_moments.specs.Told.{Told}
+use Rattle.crash_moments.proofs.Telling.{told_join}
+use Rattle.crash_states.specs.Standing.{Rests, Runs, StandsNow}
+use Rattle.crash_states.specs.Entries.{OpensAll}
+use Rattle.crash_states.proofs.Lefts.{runs_told}
+use Rattle.crash_starting.specs.Laws.{OpeningMade, Finds, HasContent, Opens, names_of}
+use Rattle.crash_starting.proofs.Starting.{opening_told, found, openable, opens}
 use Rattle.leaf_steward.specs.declared.notes.Note.{Note}
 use Rattle.leaf_steward.specs.Seated.{Seated, AreSeated, AreFounded, watched, watched_by}
 use Rattle.leaf_steward.specs.Making.{Makes, OpenedNotes}

@@ -13,14 +13,14 @@ use Rattle.leaf_opening.specs.declared.ways.StartFault.TheVariants as found
 use Rattle.leaf_opening.specs.Backed.{HasSoundLog}
 use Rattle.leaf_opening.specs.declared.opening.Opened.{Opened}
 use Rattle.leaf_opening.specs.Starts.{IsRefusal, OpensFrom, KeepsDisks}
-use Rattle.leaf_core.specs.Left.{Tables}
-use Rattle.leaf_moments.specs.Watched.{Watched}
-use Rattle.leaf_moments.specs.Told.{Told}
-use Rattle.leaf_moments.proofs.Telling.{none_more}
-use Rattle.leaf_standing.specs.Standing.{Rests, StandsNow}
-use Rattle.leaf_standing.proofs.Lefts.{rests_told}
-use Rattle.leaf_starting.specs.Laws.{OpeningMade}
-use Rattle.leaf_starting.proofs.Starting.{opening_told, refused}
+use Rattle.crash_events.specs.Left.{Tables}
+use Rattle.crash_moments.specs.Watched.{Watched}
+use Rattle.crash_moments.specs.Told.{Told}
+use Rattle.crash_moments.proofs.Telling.{none_more}
+use Rattle.crash_states.specs.Standing.{Rests, StandsNow}
+use Rattle.crash_states.proofs.Lefts.{rests_told}
+use Rattle.crash_starting.specs.Laws.{OpeningMade}
+use Rattle.crash_starting.proofs.Starting.{opening_told, refused}
 use Rattle.leaf_steward.specs.Seated.{Seated, AreSeated, watched_by}
 use Rattle.leaf_steward.proofs.Watching.{watch_names}
 use Rattle.leaf_machine.specs.declared.faults.StartFault.TheVariants as fault

@@ -7,8 +7,8 @@ use Rattle.berth_face.specs.Berth.{Meaning, Passes}
 use Rattle.berth_face.specs.Causes.{Rose, HasCause}
 use Rattle.berth_face.proofs.Moments.{passes_on}
 use Rattle.disk_backup.proofs.Results.{of_err}
-use Rattle.leaf_moments.proofs.Telling.{told_join}
-use Rattle.leaf_standing.specs.Standing.{Runs}
+use Rattle.crash_moments.proofs.Telling.{told_join}
+use Rattle.crash_states.specs.Standing.{Runs}
 use Rattle.leaf_table.specs.Turns.{Shared}
 use Rattle.leaf_table.specs.Calls.{base_of, name_of, state_seen}
 use Rattle.leaf_steward.specs.declared.notes.Note.{Note}

@@ -4,15 +4,15 @@ use Rattle.leaf_model.specs.declared.writes.Write.{Write}
 use Rattle.berth_face.specs.Berth.{Meaning}
 use Rattle.leaf_history.specs.History.{no_base}
 use Rattle.leaf_opening.proofs.Logs.{none_short}
-use Rattle.leaf_core.specs.Left.{Tables, Left}
-use Rattle.leaf_moments.specs.Watched.{Watched, IsFoundation, others_then, by_name, state_then, tables_then, was_opened}
-use Rattle.leaf_moments.specs.Told.{reads_one}
-use Rattle.leaf_moments.proofs.Telling.{opened_more}
-use Rattle.leaf_standing.specs.Standing.{Runs, Rests}
-use Rattle.leaf_standing.specs.Entries.{ShutsAll}
-use Rattle.leaf_standing.proofs.Lefts.{rests_left, told_now}
-use Rattle.leaf_running.specs.Laws.{Kills}
-use Rattle.leaf_running.proofs.Running.{kills}
+use Rattle.crash_events.specs.Left.{Tables, Left}
+use Rattle.crash_moments.specs.Watched.{Watched, IsFoundation, others_then, by_name, state_then, tables_then, was_opened}
+use Rattle.crash_moments.specs.Told.{reads_one}
+use Rattle.crash_moments.proofs.Telling.{opened_more}
+use Rattle.crash_states.specs.Standing.{Runs, Rests}
+use Rattle.crash_states.specs.Entries.{ShutsAll}
+use Rattle.crash_states.proofs.Lefts.{rests_left, told_now}
+use Rattle.crash_serving.specs.Laws.{Kills}
+use Rattle.crash_serving.proofs.Running.{kills}
 use Rattle.leaf_steward.specs.declared.notes.Note.{Note}
 use Rattle.leaf_steward.specs.Seated.{Seated, AtEach, AreSeated, AreFounded, IsShut, watched_by}
 use Rattle.leaf_steward.specs.Making.{Makes, EachNoted, IsClosedNote}

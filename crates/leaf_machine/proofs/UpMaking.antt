@@ -7,17 +7,17 @@ use Rattle.berth_face.specs.Berth.{Meaning}
 use Rattle.leaf_history.specs.Calls as call
 use Rattle.leaf_history.specs.Replies as reply
 use Rattle.leaf_history.specs.History.{Entry, TableState, after, untaken}
-use Rattle.leaf_core.specs.Left.{Tables}
+use Rattle.crash_events.specs.Left.{Tables}
 use Rattle.leaf_table.specs.Turns.{Shared, is_founded, start_of}
 use Rattle.leaf_table.specs.Turns as table
 use Rattle.leaf_table.specs.Calls.{base_of, name_of, seen_of, state_before}
-use Rattle.leaf_moments.specs.Watched.{Watched}
-use Rattle.leaf_moments.specs.Told.{SeenMore, Told}
-use Rattle.leaf_moments.proofs.Telling.{more_on}
-use Rattle.leaf_standing.specs.Standing.{Runs}
-use Rattle.leaf_standing.specs.Entries.{Enters}
-use Rattle.leaf_running.specs.Laws.{Owes, record_for, untaken_before}
-use Rattle.leaf_running.proofs.Running.{takes}
+use Rattle.crash_moments.specs.Watched.{Watched}
+use Rattle.crash_moments.specs.Told.{SeenMore, Told}
+use Rattle.crash_moments.proofs.Telling.{more_on}
+use Rattle.crash_states.specs.Standing.{Runs}
+use Rattle.crash_states.specs.Entries.{Enters}
+use Rattle.crash_serving.specs.Laws.{Owes, record_for, untaken_before}
+use Rattle.crash_serving.proofs.Running.{takes}
 use Rattle.leaf_steward.specs.declared.notes.Note.{Note}
 use Rattle.leaf_steward.specs.declared.notes.What.TheVariants as what
 use Rattle.leaf_steward.specs.Seated.{Seated, AreSeated, AreFounded, watched, watched_by}

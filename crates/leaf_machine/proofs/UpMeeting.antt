@@ -9,14 +9,14 @@ use Rattle.turnstile.specs.Seats.{LearnsOthers, Others, Told}
 use Rattle.leaf_history.specs.History.{Entry, TableState, LegalFrom, after}
 use Rattle.leaf_history.specs.Laws.{Keeps}
 use Rattle.leaf_history.proofs.Histories.{LegalFrom-back, after-append, others_keep}
-use Rattle.leaf_core.specs.Left.{Tables}
+use Rattle.crash_events.specs.Left.{Tables}
 use Rattle.leaf_table.specs.Turns.{Shared, Turns, told, history, is_founded, start_of}
 use Rattle.leaf_table.specs.Calls.{SeatView, AreOthers, base_of, name_of, seen_of, state_seen}
 use Rattle.leaf_table.proofs.Knowing.{callers_of}
-use Rattle.leaf_moments.specs.Watched.{Watched}
-use Rattle.leaf_standing.specs.Standing.{Runs, Rests}
-use Rattle.leaf_standing.specs.Entries.{Learns}
-use Rattle.leaf_standing.proofs.Meeting.{met_runs, met_rests}
+use Rattle.crash_moments.specs.Watched.{Watched}
+use Rattle.crash_states.specs.Standing.{Runs, Rests}
+use Rattle.crash_states.specs.Entries.{Learns}
+use Rattle.crash_states.proofs.Meeting.{met_runs, met_rests}
 use Rattle.leaf_steward.specs.Seated.{Seated, AtEach, AtPlace, IsSeated, AreSeated, AreFounded, Spares, watched, watched_by, with_seat}
 use Rattle.leaf_steward.proofs.WatchPlaces.{each_set, watch_all}
 use Rattle.leaf_steward.proofs.Watching.{met_learns, watch_get, watch_set}

@@ -7,7 +7,7 @@ use Rattle.berth_face.specs.Berth.{Meaning}
 use Rattle.leaf_table.specs.Calls.{base_of, name_of, state_seen}
 use Rattle.leaf_table.specs.Turns.{Shared, is_founded}
 use Rattle.std.specs.List.{AllByRecursion}
-use Rattle.leaf_standing.specs.Standing.{Runs}
+use Rattle.crash_states.specs.Standing.{Runs}
 use Rattle.leaf_steward.specs.Seated.{Seated, AtPlace, AreFounded, Spares, watched_by}
 use Rattle.leaf_machine.specs.States.{Serving, IsUp, UpStands, GoesOn}
 use Rattle.leaf_machine.proofs.UpSeats.{Serves}

@@ -5,7 +5,7 @@ use Rattle.berth_face.specs.Berth.{Meaning}
 use Rattle.drain_copy.specs.declared.step.Next.{Next}
 use Rattle.drain_copy.specs.declared.step.Next.TheVariants as next
 use Rattle.drain_copy.specs.declared.step.RegionFault.{RegionFault}
-use Rattle.leaf_standing.specs.Standing.{Copies as Stands}
+use Rattle.crash_states.specs.Standing.{Copies as Stands}
 use Rattle.leaf_opening.specs.declared.ways.Way.TheVariants.{Memory}
 use Rattle.leaf_opening.specs.Starts.{IsWayOf}
 use Rattle.leaf_steward.specs.declared.notes.Note.{Note}

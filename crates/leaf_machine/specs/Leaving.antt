@@ -5,9 +5,9 @@ use Rattle.row_records.specs.Records.{LogRecord}
 use Rattle.berth_face.specs.Berth.{Meaning}
 use Rattle.leaf_history.specs.History.{TableState, base_of}
 use Rattle.disk_backup.specs.State.{LogState}
-use Rattle.leaf_core.specs.Left.{Tables}
-use Rattle.leaf_moments.specs.Watched.{Watched, IsFoundation}
-use Rattle.leaf_standing.specs.Standing.{Runs, Rests, tables_of}
+use Rattle.crash_events.specs.Left.{Tables}
+use Rattle.crash_moments.specs.Watched.{Watched, IsFoundation}
+use Rattle.crash_states.specs.Standing.{Runs, Rests, tables_of}
 use Rattle.leaf_machine.specs.States.{MayBegin}
 
 -- the base has a front of the table's writes, and no flushed one is missing from any log

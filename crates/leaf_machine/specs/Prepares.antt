@@ -8,7 +8,7 @@ use Rattle.table_state.specs.Tables.{Table}
 use Rattle.region_layout.specs.Region.{IsImage}
 use Rattle.region_layout.specs.Images.{images_of}
 use Rattle.drain_copy.specs.declared.step.Next.TheVariants as next
-use Rattle.leaf_standing.specs.Standing.{Runs}
+use Rattle.crash_states.specs.Standing.{Runs}
 use Rattle.leaf_steward.specs.declared.notes.Note.{Note}
 use Rattle.leaf_steward.specs.declared.notes.What.TheVariants as what
 use Rattle.leaf_steward.specs.Seated.{Seated, watched_by}

@@ -9,8 +9,8 @@ use Rattle.leaf_opening.specs.declared.ways.StartFault.TheVariants as found
 use Rattle.leaf_opening.specs.Serving as plain
 use Rattle.leaf_opening.specs.Starts.{Started, IsRefusal}
 use Rattle.leaf_table.specs.Calls.{SeatView, IsFresh}
-use Rattle.leaf_core.specs.Left.{Tables}
-use Rattle.leaf_standing.specs.Standing.{Runs, Rests}
+use Rattle.crash_events.specs.Left.{Tables}
+use Rattle.crash_states.specs.Standing.{Runs, Rests}
 use Rattle.leaf_steward.specs.declared.notes.Note.{Note}
 use Rattle.leaf_steward.specs.Seated.{Seated, AtEach, watched_by}
 use Rattle.leaf_steward.specs.Making.{OpenedNotes, WornAt}

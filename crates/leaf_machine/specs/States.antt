@@ -8,10 +8,10 @@ use Rattle.table_state.specs.Tables.{Table}
 use Rattle.drain_copy.specs.declared.step.Next.TheVariants.{Nothing}
 use Rattle.drain_copy.specs.Draining.{DrainState}
 use Rattle.leaf_table.specs.Calls.{base_of, state_seen}
-use Rattle.leaf_core.specs.Left.{Tables}
-use Rattle.leaf_moments.specs.Told.{Told}
-use Rattle.leaf_moments.specs.Watched.{IsFoundation}
-use Rattle.leaf_standing.specs.Standing.{Runs, Rests, Copies}
+use Rattle.crash_events.specs.Left.{Tables}
+use Rattle.crash_moments.specs.Told.{Told}
+use Rattle.crash_moments.specs.Watched.{IsFoundation}
+use Rattle.crash_states.specs.Standing.{Runs, Rests, Copies}
 use Rattle.leaf_steward.specs.Seated.{Seated, AtEach, AtPlace, AreFounded, IsOpen, IsShut, Spares, watched_by}
 use Rattle.log_steward.specs.Owing.{Owing, IsOwed}
 

@@ -3,7 +3,7 @@ ghost use Rattle.std.specs.Prelude.{◌≡◌, ℕ, List, IsTrue};
 ghost use Rattle.leaf_model.specs.declared.writes.Write.{Write};
 ghost use Rattle.berth_face.specs.Causes.{HasCause};
 ghost use Rattle.berth_face.specs.Berth.{Passes};
-ghost use Rattle.leaf_standing.specs.Standing.{Copies};
+ghost use Rattle.crash_states.specs.Standing.{Copies};
 ghost use Rattle.leaf_steward.specs.Seated.{AreFounded, watched_by};
 ghost use Rattle.leaf_steward.specs.Making.{Makes};
 ghost use Rattle.leaf_machine.specs.States.{RestsOn};

@@ -1,7 +1,7 @@
 // Over which berths a leaf may begin.
-ghost use Rattle.leaf_core.specs.Base.{IsReady};
-ghost use Rattle.leaf_core.specs.Left.{Tables};
-ghost use Rattle.leaf_moments.specs.Told.{reads_one};
+ghost use Rattle.crash_events.specs.Base.{IsReady};
+ghost use Rattle.crash_events.specs.Left.{Tables};
+ghost use Rattle.crash_moments.specs.Told.{reads_one};
 ghost use Rattle.leaf_machine.specs.States.{MayBegin};
 ghost use Rattle.leaf_machine.specs.Leaving.{LeavesBegin};
 

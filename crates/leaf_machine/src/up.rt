@@ -7,7 +7,7 @@ ghost use Rattle.leaf_history.specs.History.{LegalFrom};
 ghost use Rattle.turnstile.specs.Seats.{IsSeatOf, LearnsOthers, Told};
 ghost use Rattle.leaf_table.specs.Turns.{is_founded, start_of};
 ghost use Rattle.leaf_table.specs.Calls.{base_of, seen_of};
-ghost use Rattle.leaf_standing.specs.Standing.{Runs};
+ghost use Rattle.crash_states.specs.Standing.{Runs};
 ghost use Rattle.leaf_steward.specs.Seated.{AreFounded, AtPlace, watched_by, with_seat};
 ghost use Rattle.leaf_steward.specs.Making.{EachNoted, IsClosedNote, Makes};
 ghost use Rattle.leaf_machine.specs.declared.up.FlushReply.TheVariants as reply;

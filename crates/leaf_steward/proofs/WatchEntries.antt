@@ -16,9 +16,9 @@ use Rattle.leaf_table.specs.declared.base.TableBase.{TableBase}
 use Rattle.leaf_table.specs.Turns.{Shared, Turns, told, history, is_founded, start_of}
 use Rattle.leaf_table.specs.Calls.{SeatView, Made, AreOthers, base_of, entry_of, seen_of, state_seen, state_before}
 use Rattle.leaf_table.proofs.Knowing.{callers_of}
-use Rattle.leaf_moments.specs.Watched.{now_of}
-use Rattle.leaf_standing.specs.Standing.{MayHave}
-use Rattle.leaf_standing.specs.Entries.{Enters, Learns}
+use Rattle.crash_moments.specs.Watched.{now_of}
+use Rattle.crash_states.specs.Standing.{MayHave}
+use Rattle.crash_states.specs.Entries.{Enters, Learns}
 use Rattle.leaf_steward.specs.Seated.{IsSeated, watched}
 
 -- ---- the seat

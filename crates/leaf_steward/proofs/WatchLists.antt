@@ -5,8 +5,8 @@ use Rattle.leaf_model.specs.declared.writes.Write.{Write}
 use Rattle.leaf_model.specs.Content.{content}
 use Rattle.leaf_history.specs.Calls as call
 use Rattle.leaf_history.specs.Replies as reply
-use Rattle.leaf_moments.specs.Watched.{Watched, now_of}
-use Rattle.leaf_standing.specs.Entries.{Enters, ShutsAll, OpensAll, HandsAll}
+use Rattle.crash_moments.specs.Watched.{Watched, now_of}
+use Rattle.crash_states.specs.Entries.{Enters, ShutsAll, OpensAll, HandsAll}
 
 -- shut, or shut before and left as it was
 abbrev pub ShutsOne : ℕ → Watched → Watched → Type 0

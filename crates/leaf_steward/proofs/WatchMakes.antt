@@ -13,11 +13,11 @@ use Rattle.leaf_history.specs.Replies as reply
 use Rattle.leaf_table.specs.declared.base.TableBase.{TableBase}
 use Rattle.leaf_table.specs.Turns.{Shared, is_founded}
 use Rattle.leaf_table.specs.Calls.{SeatView, Made, base_of}
-use Rattle.leaf_moments.specs.Watched.{Watched}
-use Rattle.leaf_moments.specs.Told.{SeenMore}
-use Rattle.leaf_moments.proofs.Telling.{between_append, more_on, none_more}
-use Rattle.leaf_standing.specs.Entries.{Enters, stewards}
-use Rattle.leaf_standing.proofs.Meeting.{callers_between}
+use Rattle.crash_moments.specs.Watched.{Watched}
+use Rattle.crash_moments.specs.Told.{SeenMore}
+use Rattle.crash_moments.proofs.Telling.{between_append, more_on, none_more}
+use Rattle.crash_states.specs.Entries.{Enters, stewards}
+use Rattle.crash_states.proofs.Meeting.{callers_between}
 use Rattle.leaf_steward.specs.declared.notes.Note.{Note}
 use Rattle.leaf_steward.specs.declared.notes.What.{What}
 use Rattle.leaf_steward.specs.declared.notes.What.TheVariants.{Opened, Took, Flushed, Closed, Handed}

@@ -6,7 +6,7 @@ use Rattle.std.proofs.lemmas.Bool.{cases_eq}
 use Rattle.std.proofs.lemmas.Option.{none-some, same_Some}
 use Rattle.leaf_table.specs.Turns.{Shared}
 use Rattle.leaf_table.specs.Calls.{SeatView, name_of}
-use Rattle.leaf_moments.specs.Watched.{Watched}
+use Rattle.crash_moments.specs.Watched.{Watched}
 use Rattle.leaf_steward.specs.Seated.{Seated, AtEach, watch, watched, watched_by, with_seat}
 
 -- ---- one list

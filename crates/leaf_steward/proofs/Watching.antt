@@ -15,10 +15,10 @@ use Rattle.turnstile.specs.Seats.{LearnsOthers, Told}
 use Rattle.leaf_table.specs.declared.base.TableBase.{TableBase}
 use Rattle.leaf_table.specs.Turns.{Shared, is_founded, start_of}
 use Rattle.leaf_table.specs.Calls.{SeatView, Made, base_of, name_of, seen_of, state_seen}
-use Rattle.leaf_moments.specs.Watched.{Watched, now_of}
-use Rattle.leaf_moments.specs.Told.{SeenMore}
-use Rattle.leaf_standing.specs.Standing.{MayHave}
-use Rattle.leaf_standing.specs.Entries.{Enters, Learns, ShutsAll, OpensAll, HandsAll}
+use Rattle.crash_moments.specs.Watched.{Watched, now_of}
+use Rattle.crash_moments.specs.Told.{SeenMore}
+use Rattle.crash_states.specs.Standing.{MayHave}
+use Rattle.crash_states.specs.Entries.{Enters, Learns, ShutsAll, OpensAll, HandsAll}
 use Rattle.leaf_steward.specs.declared.notes.Note.{Note}
 use Rattle.leaf_steward.specs.declared.notes.What.{What}
 use Rattle.leaf_steward.specs.declared.notes.What.TheVariants.{Opened, Took, Flushed, Closed, Handed}

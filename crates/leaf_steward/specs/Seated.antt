@@ -6,7 +6,7 @@ use Rattle.region_layout.specs.Names.{AreNames}
 use Rattle.turnstile.specs.Seats.{IsSeatOf, unused_seat}
 use Rattle.leaf_table.specs.Turns.{Shared, is_founded, start_of}
 use Rattle.leaf_table.specs.Calls.{SeatView, base_of, name_of, seen_of, state_seen, IsFresh}
-use Rattle.leaf_moments.specs.Watched.{Watched}
+use Rattle.crash_moments.specs.Watched.{Watched}
 
 -- the names of the tables, the tables in the same order, and the seat at each
 pub record Seated : Type 0 where

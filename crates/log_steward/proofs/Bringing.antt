@@ -13,14 +13,14 @@ use Rattle.disk_backup.specs.State.{LogState}
 use Rattle.disk_backup.specs.Settling.{Settled, HaveLog, KeepsLog, with_writes}
 use Rattle.leaf_table.specs.Turns.{Shared, is_founded}
 use Rattle.leaf_table.specs.Calls.{SeatView, base_of, state_seen}
-use Rattle.leaf_moments.specs.Watched.{Watched, now_of}
-use Rattle.leaf_moments.specs.Told.{SeenMore}
-use Rattle.leaf_moments.proofs.Telling.{none_more, told_join}
-use Rattle.leaf_standing.specs.Standing.{IsLogged, Runs, StandsNow}
-use Rattle.leaf_standing.specs.Entries.{Enters}
-use Rattle.leaf_standing.proofs.Lefts.{runs_told}
-use Rattle.leaf_running.specs.Laws.{Settles, Flushes, Owes, settled_log, owing_log}
-use Rattle.leaf_running.proofs.Running.{settles, flushes}
+use Rattle.crash_moments.specs.Watched.{Watched, now_of}
+use Rattle.crash_moments.specs.Told.{SeenMore}
+use Rattle.crash_moments.proofs.Telling.{none_more, told_join}
+use Rattle.crash_states.specs.Standing.{IsLogged, Runs, StandsNow}
+use Rattle.crash_states.specs.Entries.{Enters}
+use Rattle.crash_states.proofs.Lefts.{runs_told}
+use Rattle.crash_serving.specs.Laws.{Settles, Flushes, Owes, settled_log, owing_log}
+use Rattle.crash_serving.proofs.Running.{settles, flushes}
 use Rattle.leaf_steward.specs.declared.notes.Note.{Note}
 use Rattle.leaf_steward.specs.Seated.{Seated, AreSeated, AreFounded, AtPlace, watched, watched_by}
 use Rattle.leaf_steward.specs.Making.{OneEntry}

@@ -4,10 +4,10 @@ use Rattle.leaf_model.specs.declared.writes.Write.{Write}
 use Rattle.row_records.specs.Records.{LogRecord}
 use Rattle.berth_face.specs.Berth.{Meaning}
 use Rattle.disk_backup.specs.State.{LogState}
-use Rattle.leaf_core.specs.Left.{Tables}
-use Rattle.leaf_moments.specs.Told.{Told}
-use Rattle.leaf_standing.specs.Standing.{Runs}
-use Rattle.leaf_running.specs.Laws.{settled_log, owing_log, Owes}
+use Rattle.crash_events.specs.Left.{Tables}
+use Rattle.crash_moments.specs.Told.{Told}
+use Rattle.crash_states.specs.Standing.{Runs}
+use Rattle.crash_serving.specs.Laws.{settled_log, owing_log, Owes}
 use Rattle.leaf_table.specs.Calls.{base_of, name_of, state_seen}
 use Rattle.leaf_steward.specs.declared.notes.Note.{Note}
 use Rattle.leaf_steward.specs.declared.notes.What.TheVariants as what

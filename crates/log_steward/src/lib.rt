@@ -6,7 +6,7 @@ ghost use Rattle.leaf_model.specs.declared.writes.Write.{Write};
 ghost use Rattle.row_records.specs.Records.{IsRecord};
 ghost use Rattle.berth_face.specs.Causes.{HasCause};
 ghost use Rattle.berth_face.specs.Berth.{Passes};
-ghost use Rattle.leaf_standing.specs.Standing.{Runs};
+ghost use Rattle.crash_states.specs.Standing.{Runs};
 ghost use Rattle.leaf_table.specs.Calls.{base_of, name_of, state_seen};
 ghost use Rattle.leaf_steward.specs.Seated.{AreFounded, AtPlace, Spares, watched_by};
 ghost use Rattle.leaf_steward.specs.Making.{OneEntry};

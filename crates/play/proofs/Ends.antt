@@ -6,8 +6,8 @@ use Rattle.std.proofs.lemmas.List.{take_all}
 use Rattle.berth_face.specs.Berth.{Meaning}
 use Rattle.region_layout.specs.Region.{AreDistinct}
 use Rattle.region_layout.specs.Names.{AreNames, IsName}
-use Rattle.leaf_core.specs.Left.{Tables}
-use Rattle.leaf_standing.proofs.Lefts.{rests_told}
+use Rattle.crash_events.specs.Left.{Tables}
+use Rattle.crash_states.proofs.Lefts.{rests_told}
 use Rattle.script_text.specs.declared.command.Command.{Command}
 use Rattle.script_text.specs.declared.command.Command.TheVariants as command
 use Rattle.script_text.specs.Fits.{AreTables, IsTableName, IsCommand, AreCommands}

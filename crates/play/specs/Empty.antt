@@ -14,8 +14,8 @@ use Rattle.berth_mem.specs.Record.{meaning_of}
 use Rattle.disk_backup.specs.Logs.{is_short}
 use Rattle.region_layout.specs.Region.{IsClosed}
 use Rattle.leaf_opening.specs.Backed.{HasSoundLog}
-use Rattle.leaf_core.specs.Left.{Tables}
-use Rattle.leaf_standing.specs.Standing.{Rests, is_closed}
+use Rattle.crash_events.specs.Left.{Tables}
+use Rattle.crash_states.specs.Standing.{Rests, is_closed}
 use Rattle.play.specs.Played.{IsBase}
 
 -- no name has writes

@@ -16,11 +16,11 @@ use Rattle.drain_copy.specs.declared.step.RegionFault.{RegionFault}
 use Rattle.drain_copy.specs.Draining.{StandsAt}
 use Rattle.leaf_opening.specs.declared.ways.Way.TheVariants.{Disk}
 use Rattle.leaf_opening.specs.Starts.{IsWayOf}
-use Rattle.leaf_core.specs.Left.{Tables}
-use Rattle.leaf_moments.specs.Told as moments
-use Rattle.leaf_moments.proofs.Telling.{none_more, told_join}
-use Rattle.leaf_standing.specs.Standing.{Copies}
-use Rattle.leaf_standing.proofs.Lefts.{copies_told}
+use Rattle.crash_events.specs.Left.{Tables}
+use Rattle.crash_moments.specs.Told as moments
+use Rattle.crash_moments.proofs.Telling.{none_more, told_join}
+use Rattle.crash_states.specs.Standing.{Copies}
+use Rattle.crash_states.proofs.Lefts.{copies_told}
 use Rattle.leaf_steward.specs.declared.notes.Note.{Note}
 use Rattle.leaf_steward.specs.Seated.{Seated, AreFounded, watched_by}
 use Rattle.leaf_steward.specs.Making.{Makes, EachNoted, IsHandedNote}

@@ -4,8 +4,8 @@ use Rattle.std.specs.Prelude.{IsTrue, IfOk}
 use Rattle.std.proofs.lemmas.List.{map-append}
 use Rattle.berth_face.specs.Berth.{Meaning, Passes}
 use Rattle.leaf_model.specs.declared.writes.Write.{Write}
-use Rattle.leaf_moments.proofs.Telling.{told_join}
-use Rattle.leaf_standing.specs.Standing.{Runs}
+use Rattle.crash_moments.proofs.Telling.{told_join}
+use Rattle.crash_states.specs.Standing.{Runs}
 use Rattle.leaf_steward.specs.declared.notes.Note.{Note}
 use Rattle.leaf_steward.specs.Seated.{Seated, AreFounded, watched_by}
 use Rattle.leaf_steward.specs.Making.{Makes, EachNoted, IsClosedNote}

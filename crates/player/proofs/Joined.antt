@@ -3,8 +3,8 @@ use Rattle.std.proofs.Common.{◌≡◌, ℕ, suc, ◌+◌, List, ◌++◌, leng
 use Rattle.std.specs.Prelude.{IsTrue, IfOk}
 use Rattle.berth_face.specs.Berth.{Meaning, Passes}
 use Rattle.region_layout.specs.Images.{images_of}
-use Rattle.leaf_core.specs.Left.{Tables}
-use Rattle.leaf_moments.proofs.Telling.{told_join}
+use Rattle.crash_events.specs.Left.{Tables}
+use Rattle.crash_moments.proofs.Telling.{told_join}
 use Rattle.leaf_steward.specs.declared.notes.Note.{Note}
 use Rattle.leaf_steward.specs.Seated.{Seated, AreFounded, watched_by}
 use Rattle.leaf_steward.specs.Making.{Makes, EachNoted, IsHandedNote}

@@ -8,8 +8,8 @@ use Rattle.leaf_history.specs.History.{LegalFrom}
 use Rattle.turnstile.specs.Seats.{IsSeatOf, LearnsOthers, Told}
 use Rattle.leaf_table.specs.Turns.{Shared, is_founded, start_of}
 use Rattle.leaf_table.specs.Calls.{SeatView, base_of, seen_of}
-use Rattle.leaf_core.specs.Left.{Tables}
-use Rattle.leaf_standing.specs.Standing.{Rests, Runs}
+use Rattle.crash_events.specs.Left.{Tables}
+use Rattle.crash_states.specs.Standing.{Rests, Runs}
 use Rattle.leaf_steward.specs.Seated.{Seated, AreFounded, AtPlace, watched_by, with_seat}
 use Rattle.leaf_machine.specs.States.{Serving, Shutting}
 use Rattle.transcript.specs.Stage.{IsDown, IsUp, IsPreparing, Stands, with_seats}

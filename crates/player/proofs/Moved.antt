@@ -8,8 +8,8 @@ use Rattle.berth_face.specs.Berth.{Meaning}
 use Rattle.disk_backup.specs.Scanning.{Begins}
 use Rattle.leaf_opening.specs.declared.ways.Way.{Way}
 use Rattle.leaf_opening.specs.Starts.{IsWayOf}
-use Rattle.leaf_core.specs.Left.{Tables}
-use Rattle.leaf_standing.specs.Standing.{Rests, Runs}
+use Rattle.crash_events.specs.Left.{Tables}
+use Rattle.crash_states.specs.Standing.{Rests, Runs}
 use Rattle.leaf_steward.specs.declared.notes.Note.{Note}
 use Rattle.leaf_steward.specs.Seated.{Seated, AreFounded, watched_by}
 use Rattle.leaf_steward.specs.Making.{Makes, EachNoted, IsClosedNote}

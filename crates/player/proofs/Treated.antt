@@ -5,7 +5,7 @@ use Rattle.std.proofs.lemmas.List.{length-append}
 use Rattle.berth_face.specs.Berth.{Meaning, Passes}
 use Rattle.berth_face.proofs.Moments.{passes_none, passes_on}
 use Rattle.table_state.specs.Tables.{Table}
-use Rattle.leaf_moments.proofs.Telling.{told_join}
+use Rattle.crash_moments.proofs.Telling.{told_join}
 use Rattle.leaf_steward.specs.declared.notes.Note.{Note}
 use Rattle.leaf_steward.specs.Seated.{AreFounded, watched_by}
 use Rattle.leaf_steward.specs.Making.{Makes}

@@ -10,9 +10,9 @@ use Rattle.drain_copy.specs.declared.step.Next.TheVariants as next
 use Rattle.drain_copy.specs.Draining.{StandsAt}
 use Rattle.leaf_opening.specs.declared.ways.Way.TheVariants.{Memory}
 use Rattle.leaf_opening.specs.Starts.{IsWayOf}
-use Rattle.leaf_core.specs.Left.{Tables}
-use Rattle.leaf_moments.specs.Told as moments
-use Rattle.leaf_standing.specs.Standing.{Copies}
+use Rattle.crash_events.specs.Left.{Tables}
+use Rattle.crash_moments.specs.Told as moments
+use Rattle.crash_states.specs.Standing.{Copies}
 use Rattle.leaf_table.specs.Calls.{SeatView}
 use Rattle.leaf_steward.specs.declared.notes.Note.{Note}
 use Rattle.leaf_steward.specs.Seated.{Seated, AreFounded, watched_by}

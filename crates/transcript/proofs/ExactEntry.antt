@@ -7,8 +7,8 @@ use Rattle.leaf_history.specs.Replies as reply
 use Rattle.leaf_history.specs.History.{Entry, TableState, LegalFrom, Allowed, after, after_entry, write_count}
 use Rattle.leaf_history.specs.Laws.{IsCounted, Keeps}
 use Rattle.leaf_history.proofs.Histories.{LegalFrom-front, LegalFrom-back, after-append, counts_stay, others_keep}
-use Rattle.leaf_core.specs.Left.{Tables}
-use Rattle.leaf_moments.specs.Watched.{IsFoundation}
+use Rattle.crash_events.specs.Left.{Tables}
+use Rattle.crash_moments.specs.Watched.{IsFoundation}
 use Rattle.leaf_table.specs.Turns.{Shared, is_founded, start_of}
 use Rattle.leaf_table.specs.Calls.{SeatView, Made, base_of, name_of, entry_of, seen_of}
 use Rattle.leaf_table.proofs.Knowing.{callers_of}

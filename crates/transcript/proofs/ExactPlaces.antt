@@ -10,8 +10,8 @@ use Rattle.leaf_history.specs.Calls as call
 use Rattle.leaf_history.specs.Replies.{Reply}
 use Rattle.leaf_history.specs.History.{TableState, Entry, LegalFrom, Allowed, after, after_entry}
 use Rattle.leaf_history.specs.Laws.{AreCallers}
-use Rattle.leaf_core.specs.Left.{Tables}
-use Rattle.leaf_moments.specs.Watched.{is_open_call, now_of}
+use Rattle.crash_events.specs.Left.{Tables}
+use Rattle.crash_moments.specs.Watched.{is_open_call, now_of}
 use Rattle.leaf_table.specs.Turns.{Shared}
 use Rattle.leaf_table.specs.Calls.{SeatView, name_of, seen_of}
 use Rattle.leaf_steward.specs.Seated.{Seated, AtEach, watched, watched_by}

@@ -8,11 +8,11 @@ use Rattle.berth_face.specs.Berth.{Meaning}
 use Rattle.leaf_history.specs.History.{TableState, after, write_count}
 use Rattle.disk_backup.specs.Settling.{with_writes}
 use Rattle.leaf_opening.specs.Backed.{HasSoundLog}
-use Rattle.leaf_core.specs.Left.{Tables}
-use Rattle.leaf_moments.specs.Watched.{IsFoundation, now_of, others_then, was_opened}
-use Rattle.leaf_standing.specs.Standing.{IsKept, Rests, tables_of}
-use Rattle.leaf_standing.proofs.Names.{each_at, named_at}
-use Rattle.leaf_standing.proofs.States.{now_sound, with_more}
+use Rattle.crash_events.specs.Left.{Tables}
+use Rattle.crash_moments.specs.Watched.{IsFoundation, now_of, others_then, was_opened}
+use Rattle.crash_states.specs.Standing.{IsKept, Rests, tables_of}
+use Rattle.crash_states.proofs.Names.{each_at, named_at}
+use Rattle.crash_states.proofs.States.{now_sound, with_more}
 use Rattle.leaf_table.specs.Turns.{Shared}
 use Rattle.leaf_table.specs.Calls.{SeatView, name_of, seen_of}
 use Rattle.leaf_steward.specs.Seated.{Seated, AtEach, watched, watched_by}

@@ -19,10 +19,10 @@ use Rattle.disk_backup.specs.Settling.{HoldsOwing, with_writes}
 use Rattle.disk_backup.specs.Scanning.{Begins, begun}
 use Rattle.disk_backup.proofs.Beginning.{begun_short, begun_long}
 use Rattle.disk_backup.proofs.Logs.{one_log, closed_is_log}
-use Rattle.leaf_core.specs.Left.{Tables}
-use Rattle.leaf_moments.specs.Watched.{Watched, now_of}
-use Rattle.leaf_standing.specs.Standing.{IsLogged, Runs}
-use Rattle.leaf_standing.proofs.States.{taken_count}
+use Rattle.crash_events.specs.Left.{Tables}
+use Rattle.crash_moments.specs.Watched.{Watched, now_of}
+use Rattle.crash_states.specs.Standing.{IsLogged, Runs}
+use Rattle.crash_states.proofs.States.{taken_count}
 use Rattle.leaf_table.specs.Turns.{Shared, is_founded, start_of}
 use Rattle.leaf_table.specs.Calls.{SeatView, Made, base_of, name_of, seen_of, entry_of}
 use Rattle.leaf_table.proofs.Knowing.{callers_of}

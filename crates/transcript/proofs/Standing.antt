@@ -8,14 +8,14 @@ use Rattle.leaf_history.specs.History.{Entry, TableState}
 use Rattle.leaf_history.specs.Laws.{AreCallers}
 use Rattle.region_layout.specs.Names.{AreNames}
 use Rattle.turnstile.specs.Seats.{Others}
-use Rattle.leaf_core.specs.Left.{Tables}
-use Rattle.leaf_moments.specs.Told as moments
-use Rattle.leaf_moments.specs.Told.{SeenMore}
-use Rattle.leaf_moments.specs.Watched.{Watched}
-use Rattle.leaf_moments.proofs.Telling.{none_more, told_join}
-use Rattle.leaf_standing.proofs.Lefts.{runs_told, rests_told}
-use Rattle.leaf_standing.proofs.Meeting.{callers_between}
-use Rattle.leaf_standing.specs.Standing.{tables_of}
+use Rattle.crash_events.specs.Left.{Tables}
+use Rattle.crash_moments.specs.Told as moments
+use Rattle.crash_moments.specs.Told.{SeenMore}
+use Rattle.crash_moments.specs.Watched.{Watched}
+use Rattle.crash_moments.proofs.Telling.{none_more, told_join}
+use Rattle.crash_states.proofs.Lefts.{runs_told, rests_told}
+use Rattle.crash_states.proofs.Meeting.{callers_between}
+use Rattle.crash_states.specs.Standing.{tables_of}
 use Rattle.leaf_table.specs.Turns.{Shared, Turns, history, is_founded, start_of, told}
 use Rattle.leaf_table.specs.Calls.{SeatView, AreOthers, base_of, name_of, seen_of}
 use Rattle.leaf_table.proofs.Knowing.{callers_of}

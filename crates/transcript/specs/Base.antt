@@ -3,8 +3,8 @@ use Rattle.std.specs.Prelude.{◌≡◌, ℕ, suc, List, [], ◌∷◌, length}
 use Rattle.leaf_history.specs.History.{TableState, Entry}
 use Rattle.row_records.specs.Records.{LogRecord}
 use Rattle.disk_backup.specs.Logs.{IsLog, writes_of}
-use Rattle.leaf_core.specs.Left.{Tables}
-use Rattle.leaf_moments.specs.Watched.{Watched}
+use Rattle.crash_events.specs.Left.{Tables}
+use Rattle.crash_moments.specs.Watched.{Watched}
 use Rattle.printed_lines.specs.Lines.{name_at}
 
 -- the base of a table by its place

@@ -8,12 +8,12 @@ use Rattle.leaf_opening.specs.declared.ways.Way.{Way}
 use Rattle.leaf_opening.specs.Starts.{IsWayOf}
 use Rattle.turnstile.specs.Seats.{unused_seat}
 use Rattle.leaf_table.specs.Calls.{SeatView}
-use Rattle.leaf_core.specs.Left.{Tables}
-use Rattle.leaf_moments.specs.Told as moments
+use Rattle.crash_events.specs.Left.{Tables}
+use Rattle.crash_moments.specs.Told as moments
 use Rattle.leaf_steward.specs.Seated.{Seated}
 use Rattle.leaf_machine.specs.States.{MayBegin}
 use Rattle.leaf_machine.specs.Leaving.{BeginsAgain}
-use Rattle.leaf_standing.specs.Standing.{tables_of}
+use Rattle.crash_states.specs.Standing.{tables_of}
 use Rattle.script_text.specs.declared.command.Command.{Command}
 use Rattle.printed_lines.specs.declared.line.Line.{Line}
 use Rattle.printed_lines.specs.Lines.{lines_text, name_at}

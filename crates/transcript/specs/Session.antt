@@ -10,8 +10,8 @@ use Rattle.script_text.specs.declared.command.Command.{Command}
 use Rattle.script_text.specs.declared.command.Command.TheVariants as command
 use Rattle.leaf_opening.specs.declared.ways.Way.{Way}
 use Rattle.leaf_opening.specs.Starts.{IsWayOf}
-use Rattle.leaf_core.specs.Left.{Tables}
-use Rattle.leaf_moments.specs.Told as moments
+use Rattle.crash_events.specs.Left.{Tables}
+use Rattle.crash_moments.specs.Told as moments
 use Rattle.leaf_table.specs.Turns.{Shared, is_founded, start_of}
 use Rattle.leaf_table.specs.Calls.{SeatView, AreOthers, base_of, name_of, seen_of}
 use Rattle.log_steward.specs.Owing.{Owing}

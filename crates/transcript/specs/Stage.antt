@@ -6,10 +6,10 @@ use Rattle.row_records.specs.Records.{LogRecord}
 use Rattle.berth_face.specs.Berth.{Meaning}
 use Rattle.turnstile.specs.Seats.{AreIds, LearnsOthers, Told}
 use Rattle.leaf_table.specs.Calls.{SeatView}
-use Rattle.leaf_core.specs.Left.{Tables}
-use Rattle.leaf_moments.specs.Watched.{IsFoundation}
-use Rattle.leaf_moments.specs.Told as moments
-use Rattle.leaf_standing.specs.Standing.{Runs, Rests}
+use Rattle.crash_events.specs.Left.{Tables}
+use Rattle.crash_moments.specs.Watched.{IsFoundation}
+use Rattle.crash_moments.specs.Told as moments
+use Rattle.crash_states.specs.Standing.{Runs, Rests}
 use Rattle.leaf_steward.specs.declared.notes.Note.{Note}
 use Rattle.leaf_steward.specs.Seated.{Seated, AreFounded, watched_by}
 use Rattle.leaf_steward.specs.Making.{Makes}

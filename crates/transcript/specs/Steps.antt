@@ -10,7 +10,7 @@ use Rattle.disk_backup.specs.Scanning.{Begins}
 use Rattle.leaf_opening.specs.declared.ways.Way.{Way}
 use Rattle.leaf_opening.specs.declared.ways.Way.TheVariants.{Memory, Disk}
 use Rattle.leaf_opening.specs.Starts.{IsWayOf}
-use Rattle.leaf_core.specs.Left.{Tables}
+use Rattle.crash_events.specs.Left.{Tables}
 use Rattle.leaf_table.specs.declared.replies.Reply.{Reply}
 use Rattle.leaf_table.specs.declared.replies.Reply.TheVariants as told
 use Rattle.leaf_table.specs.Turns.{Shared}

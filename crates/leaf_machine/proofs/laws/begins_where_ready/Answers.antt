@@ -1,5 +1,5 @@
 use Rattle.std.proofs.Common.{[]}
-use Rattle.leaf_starting.proofs.Ready.{ready_rests}
+use Rattle.crash_starting.proofs.Ready.{ready_rests}
 use Rattle.leaf_machine.proofs.DownBegins.{none_new}
 use Rattle.leaf_machine.proofs.laws.begins_where_ready.Goals as goal
 

@@ -2,8 +2,8 @@ use Rattle.std.proofs.Common.{◌≡◌, ◌∙◌, Option, None, refl, sym, sub
 use Rattle.std.specs.Prelude.{IsSome}
 use Rattle.row_records.specs.Records.{LogRecord}
 use Rattle.disk_backup.specs.State.{LogState}
-use Rattle.leaf_running.specs.Laws.{Owes}
-use Rattle.leaf_standing.specs.Standing.{Runs}
+use Rattle.crash_serving.specs.Laws.{Owes}
+use Rattle.crash_states.specs.Standing.{Runs}
 use Rattle.leaf_steward.specs.Seated.{watched_by}
 use Rattle.log_steward.specs.Owing.{Owing, Brings, SettlesOwed}
 use Rattle.log_steward.proofs.Bringing.{offered_owes, nothing_owes, none_pending, settled_brings}

@@ -1,7 +1,7 @@
 use Rattle.std.proofs.Common.{Ok, Err, refl, sym, subst}
 use Rattle.std.specs.Prelude.{IsSome, IsTrue, Result}
 use Rattle.disk_backup.specs.declared.fault.DiskFault.{DiskFault}
-use Rattle.leaf_standing.specs.Standing.{Runs}
+use Rattle.crash_states.specs.Standing.{Runs}
 use Rattle.leaf_steward.specs.Seated.{watched_by}
 use Rattle.log_steward.specs.Owing.{Owing, SettlesOwed}
 use Rattle.log_steward.proofs.Bringing.{HasSettled, with_log, failed_runs, settled_runs, failed_settles, done_settles}

@@ -1,6 +1,6 @@
 use Rattle.std.proofs.Common.{◌≡◌, Ok, true, false, List, ℕ, ap, sym, subst, ◌∙◌, rules}
 use Rattle.leaf_model.specs.declared.writes.Write.{Write}
-use Rattle.leaf_standing.specs.Standing.{Copies}
+use Rattle.crash_states.specs.Standing.{Copies}
 use Rattle.leaf_steward.specs.Seated.{AreFounded, watched_by}
 use Rattle.leaf_machine.specs.States.{RestsOn}
 use Rattle.player.specs.Steps.{Spends}

@@ -1,5 +1,5 @@
 use Rattle.std.proofs.Common.{refl, sym, subst}
-use Rattle.leaf_standing.specs.Standing.{Copies}
+use Rattle.crash_states.specs.Standing.{Copies}
 use Rattle.leaf_steward.specs.Seated.{watched_by}
 use Rattle.leaf_machine.specs.States.{RestsOn}
 use Rattle.leaf_machine.proofs.CopyStepping.{copy_left, copied_down}

@@ -1,5 +1,5 @@
 use Rattle.std.proofs.Common.{◌≡◌, subst, sym}
-use Rattle.leaf_core.specs.Left.{Tables}
+use Rattle.crash_events.specs.Left.{Tables}
 use Rattle.leaf_table.specs.Turns.{start_of}
 use Rattle.leaf_table.specs.Calls.{base_of, name_of}
 use Rattle.leaf_steward.specs.Seated.{Seated, AreFounded, AtEach, IsUnused}

@@ -6,8 +6,8 @@ use Rattle.berth_face.specs.Berth.{Meaning}
 use Rattle.disk_backup.specs.Scanning.{Begins}
 use Rattle.leaf_opening.specs.Starts.{IsWayOf, Started, serving_of}
 use Rattle.leaf_table.specs.Calls.{IsFresh}
-use Rattle.leaf_moments.specs.Told.{Told}
-use Rattle.leaf_standing.specs.Standing.{Rests, Runs, StandsNow}
+use Rattle.crash_moments.specs.Told.{Told}
+use Rattle.crash_states.specs.Standing.{Rests, Runs, StandsNow}
 use Rattle.leaf_steward.specs.Seated.{AtEach, AreFounded, watched_by}
 use Rattle.leaf_steward.specs.Making.{Makes}
 use Rattle.leaf_steward.proofs.WatchMakes.{makes_tables}

@@ -5,7 +5,7 @@ use Rattle.table_state.specs.Tables.{Table}
 use Rattle.region_layout.specs.Region.{IsImage}
 use Rattle.region_layout.specs.Images.{images_of}
 use Rattle.drain_copy.specs.Draining.{DrainState}
-use Rattle.leaf_standing.specs.Standing.{Runs}
+use Rattle.crash_states.specs.Standing.{Runs}
 use Rattle.leaf_steward.specs.Seated.{AreFounded, watched_by}
 use Rattle.leaf_machine.specs.States.{Shutting, Copying, CopiesOn}
 use Rattle.leaf_machine.specs.Prepares.{IsCopyOf, IsTooMany}

@@ -1,5 +1,5 @@
 use Rattle.std.proofs.Common.{◌≡◌, ℕ, length, sym, subst}
-use Rattle.leaf_standing.specs.Standing.{Runs}
+use Rattle.crash_states.specs.Standing.{Runs}
 use Rattle.leaf_steward.specs.Seated.{AreFounded, AreSeated, watched_by}
 use Rattle.leaf_machine.specs.States.{RestsOn, Shutting}
 use Rattle.leaf_machine.proofs.PrepKills.{killed_is, killed_rests}

@@ -1,5 +1,5 @@
 use Rattle.std.proofs.Common.{subst, sym, arith}
-use Rattle.leaf_standing.specs.Standing.{Runs}
+use Rattle.crash_states.specs.Standing.{Runs}
 use Rattle.leaf_steward.specs.Seated.{AreFounded, watched_by}
 use Rattle.leaf_machine.specs.States.{Serving, RestsOn}
 use Rattle.leaf_machine.proofs.UpKilling.{kill_rests, kill_down}

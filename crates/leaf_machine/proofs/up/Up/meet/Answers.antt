@@ -3,7 +3,7 @@ use Rattle.leaf_history.specs.History.{LegalFrom}
 use Rattle.turnstile.specs.Seats.{IsSeatOf, LearnsOthers, Told}
 use Rattle.leaf_table.specs.Turns.{is_founded, start_of}
 use Rattle.leaf_table.specs.Calls.{SeatView, base_of, seen_of}
-use Rattle.leaf_standing.specs.Standing.{Runs}
+use Rattle.crash_states.specs.Standing.{Runs}
 use Rattle.leaf_steward.specs.Seated.{Seated, AreFounded, AtPlace, watched_by, with_seat}
 use Rattle.leaf_machine.specs.States.{Serving}
 use Rattle.leaf_machine.proofs.UpOwing.{founded_as, up_of, up_owed, up_serves}

@@ -1,0 +1,76 @@
+-- A pair that fits a kept state belongs to its tables.
+use Rattle.std.proofs.Common.{◌≡◌, ℕ, ◌+◌, ◌≤◌, Bool, true, false, List, [], ◌∷◌, length, take, refl, inl, ap, ◌∙◌, arith}
+use Rattle.std.specs.Prelude.{if◌then◌else◌, bytes_eq}
+use Rattle.std.proofs.lemmas.Slice.Eq.{bytes_eq-Decides}
+use Rattle.std.proofs.Math.Seq.{take-length}
+use Rattle.berth_face.specs.Berth.{Pair}
+use Rattle.leaf_history.specs.History.{TableState}
+use Rattle.row_records.specs.Records.{LogRecord}
+use Rattle.disk_backup.specs.Logs.{writes_of}
+use Rattle.crash_events.specs.Left.{Tables, Left, RegionLeft, closed, other_version, image}
+use Rattle.crash_events.specs.Machine.{Machine, Tracked, RegionIs, Whole, Either, Other}
+use Rattle.crash_events.specs.Events.{IsSettled, MayBe}
+use Rattle.crash_events.specs.Kept.{KeptTable, Kept, AllPlaces, in_hand, holds_image, is_frozen, stays}
+use Rattle.crash_events.specs.Fits.{RegionFits, shows_lost, shows_closed, shows_whole, shows_either, shows_other, FitsPair, state_of, IsElsewhere}
+use Rattle.crash_events.specs.Laws.{IsPlain}
+use Rattle.crash_events.proofs.Leaving.{may_be_between}
+use Rattle.crash_events.proofs.Modes.{or_left}
+
+-- what is known of a name's log and its state
+abbrev Front : TableState → List LogRecord → List ℕ → Type 0
+Front s records name = (m : ℕ) × (m ≤ length s.writes) × (s.flushed ≤ m) × (writes_of name records ≡ take m s.writes)
+
+fronts : (m : Machine) (records : List LogRecord) (name : List ℕ) (b : ℕ) (xs : List Tracked)
+    → AllPlaces (λ t x. KeptTable m.mode m.region (in_hand m.hand t) x) b xs
+    → AllPlaces (λ t x. (n : ℕ) × MayBe m t x n × (writes_of x.name records ≡ take n x.state.writes)) b xs
+    → IsPlain xs → (IsElsewhere name xs → writes_of name records ≡ []) → Front (state_of xs name) records name
+fronts m records name b [] k l plain others = (0, omega arith, omega arith, others tt)
+fronts m records name b (x ∷ xs) k l plain others = by (bytes_eq name x.name) refl (fronts m records name (b + 1) xs k.1 l.1 plain.1)
+  where
+    by : (c : Bool) → bytes_eq name x.name ≡ c → ((IsElsewhere name xs → writes_of name records ≡ []) → Front (state_of xs name) records name) → Front (if c then x.state else state_of xs name) records name
+    by true e rest =
+        let n : ℕ = l.0.0 in
+        let between : (x.sure ≤ n) × (n ≤ x.sure + in_hand m.hand b) = may_be_between m b x n l.0.1 in
+        let same : name ≡ x.name = (bytes_eq-Decides name x.name).0 e in
+        (n, omega (arith, between.1, k.0.sure, k.0.taken, plain.0), omega (arith, between.0, k.0.flushed), ap (λ v. writes_of v records) same ∙ l.0.2)
+    by false e rest = rest (λ h. others (e, h))
+
+-- where the tables stay as they are, the log is all of each table's writes
+wholes : (m : Machine) (records : List LogRecord) (name : List ℕ) → is_frozen m.mode m.region ≡ true → (b : ℕ) (xs : List Tracked)
+    → AllPlaces (λ t x. KeptTable m.mode m.region (in_hand m.hand t) x) b xs
+    → AllPlaces (λ t x. (n : ℕ) × MayBe m t x n × (writes_of x.name records ≡ take n x.state.writes)) b xs
+    → IsPlain xs → (IsElsewhere name xs → writes_of name records ≡ []) → writes_of name records ≡ (state_of xs name).writes
+wholes m records name frozen b [] k l plain others = others tt
+wholes m records name frozen b (x ∷ xs) k l plain others = by (bytes_eq name x.name) refl (wholes m records name frozen (b + 1) xs k.1 l.1 plain.1)
+  where
+    by : (c : Bool) → bytes_eq name x.name ≡ c → ((IsElsewhere name xs → writes_of name records ≡ []) → writes_of name records ≡ (state_of xs name).writes)
+        → writes_of name records ≡ (if c then x.state else state_of xs name).writes
+    by true e rest =
+        let n : ℕ = l.0.0 in
+        let between : (x.sure ≤ n) × (n ≤ x.sure + in_hand m.hand b) = may_be_between m b x n l.0.1 in
+        let same : name ≡ x.name = (bytes_eq-Decides name x.name).0 e in
+        let settled : IsSettled x = (k.0.frozen frozen).1 in
+        let all : n ≡ length x.state.writes = omega (arith, between.0, between.1, k.0.sure, k.0.taken, settled.1, plain.0) in
+        ap (λ v. writes_of v records) same ∙ (l.0.2 ∙ (ap (λ i. take i x.state.writes) all ∙ take-length x.state.writes))
+    by false e rest = rest (λ h. others (e, h))
+
+regions : (reads : ℕ → Bool) (tables : Tables) (pair : Pair) (records : List LogRecord) (end : ℕ) (r : RegionIs)
+    → (holds_image r ≡ true → (name : List ℕ) → writes_of name records ≡ (tables name).writes)
+    → RegionFits reads tables pair end r → RegionLeft reads tables pair records end
+regions reads tables pair records end r whole (shows_lost none) = closed (inl (let short : length pair.region ≡ 0 = ap (λ (bytes : List ℕ). length bytes) none in omega (arith, short)))
+regions reads tables pair records end r whole (shows_closed may shut) = closed shut
+regions reads tables pair records end Whole whole (shows_whole version images may is of gate) = image version images may is of (whole refl) gate
+regions reads tables pair records end Either whole (shows_either f) = regions reads tables pair records end Whole (λ e. whole refl) f
+regions reads tables pair records end Other whole (shows_other version head n) = other_version version head n
+
+-- a pair that fits a kept state belongs to its tables
+pub fitting_is_left : (reads : ℕ → Bool) (m : Machine) (pair : Pair) → IsPlain m.tables → Kept m → FitsPair reads m pair → Left reads (state_of m.tables) pair
+fitting_is_left reads m pair plain k f = record {
+  records = f.records;
+  end = f.end;
+  log = f.log;
+  bounded = f.bounded;
+  front = λ name. fronts m f.records name 0 m.tables k.1 f.logs plain (f.others name);
+  region = regions reads (state_of m.tables) pair f.records f.end m.region
+      (λ e name. wholes m f.records name (or_left (holds_image m.region) (stays m.mode) e) 0 m.tables k.1 f.logs plain (f.others name)) f.region;
+}

@@ -1,0 +1,50 @@
+-- What a berth hands to the leaf that begins there, and over which berths a leaf may begin.
+use Rattle.std.specs.Prelude.{◌≡◌, ◌≢◌, ◌⊎◌, ℕ, ◌≤◌, List, [], length, Bool, true, IsTrue}
+use Rattle.berth_face.specs.Berth.{Pair, Meaning}
+use Rattle.leaf_model.specs.declared.writes.Write.{Write}
+use Rattle.leaf_history.specs.History.{TableState, base_of}
+use Rattle.region_layout.specs.declared.image.TableImage.{TableImage}
+use Rattle.region_layout.specs.Region.{IsImage}
+use Rattle.row_records.specs.Records.{LogRecord}
+use Rattle.disk_backup.specs.Logs.{IsLog, writes_of}
+use Rattle.crash_events.specs.Left.{Tables, Left, HasShutGate}
+
+-- the writes of a name in a disk's log
+abbrev pub HasLog : List ℕ → List ℕ → List Write → Type 0
+HasLog disk name writes = (records : List LogRecord) × (end : ℕ) × IsLog disk records end × (writes ≡ writes_of name records)
+
+-- the base of a name, over the pairs that a crash may leave now: its longest log, of which the shortest is flushed
+pub record IsBaseOf (may_leave : Pair → Type 0) (name : List ℕ) (base : TableState) : Type 0 where
+  pub is : base ≡ base_of base.writes base.flushed
+  pub longest : (pair : Pair) × may_leave pair × HasLog pair.disk name base.writes
+  pub least : (pair : Pair) × (writes : List Write) × may_leave pair × HasLog pair.disk name writes × (base.flushed ≡ length writes)
+  pub between : (pair : Pair) (writes : List Write) → may_leave pair → HasLog pair.disk name writes → (base.flushed ≤ length writes) × (length writes ≤ length base.writes)
+
+-- the logs of a name have one length
+abbrev pub IsFixed : (Pair → Type 0) → List ℕ → Type 0
+IsFixed may_leave name = (p q : Pair) (u v : List Write) → may_leave p → may_leave q → HasLog p.disk name u → HasLog q.disk name v → length u ≡ length v
+
+-- they have just two
+abbrev pub HasTwoLengths : (Pair → Type 0) → List ℕ → TableState → Type 0
+HasTwoLengths may_leave name base = (p : Pair) (u : List Write) → may_leave p → HasLog p.disk name u → (length u ≡ base.flushed) ⊎ (length u ≡ length base.writes)
+
+-- the log ends here, before a gate that is not open
+abbrev pub EndsAt : List ℕ → ℕ → Type 0
+EndsAt disk end = ((records : List LogRecord) × IsLog disk records end) × HasShutGate disk end
+
+-- A leaf may begin over these pairs, of which reads give `now`: each belongs to the base, and at most one record may still be
+-- lost or not. An empty disk was not written. An image that is read has all that the logs have, and each log ends where it says.
+pub record MayBegin (reads : ℕ → Bool) (may_leave : Pair → Type 0) (now : Pair) (base : Tables) : Type 0 where
+  pub base_is : (name : List ℕ) → IsBaseOf may_leave name (base name)
+  pub left : (pair : Pair) → may_leave pair → Left reads base pair
+  pub one_open : ((name : List ℕ) → IsFixed may_leave name)
+      ⊎ ((name : List ℕ) × HasTwoLengths may_leave name (base name) × ((other : List ℕ) → other ≢ name → IsFixed may_leave other))
+  pub empty : now.disk ≡ [] → (pair : Pair) → may_leave pair → length pair.disk ≤ 1
+  pub image : (version : ℕ) (images : List TableImage) (end : ℕ) → reads version ≡ true → IsImage version now.region images end
+      → ((name : List ℕ) → (base name).flushed ≡ length (base name).writes)
+      × ((pair : Pair) → may_leave pair → EndsAt pair.disk end)
+
+-- the berth tells its contents, and a leaf with this base may begin there now
+pub record IsReady (reads : ℕ → Bool) (berth : Meaning) (base : Tables) : Type 0 where
+  pub tells : IsTrue berth.tells
+  pub begins : MayBegin reads (berth.leaves berth.clock) berth.held base

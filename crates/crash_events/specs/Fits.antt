@@ -1,0 +1,46 @@
+-- Which regions and disks a crash may leave of a leaf's machine.
+use Rattle.std.specs.Prelude.{◌≡◌, ℕ, Bool, true, false, List, [], ◌∷◌, take, if◌then◌else◌, bytes_eq}
+use Rattle.std.specs.List.{AllByRecursion}
+use Rattle.berth_face.specs.Berth.{Pair}
+use Rattle.leaf_history.specs.History.{no_base}
+use Rattle.region_layout.specs.declared.head.Head.TheVariants.{Version}
+use Rattle.region_layout.specs.declared.image.TableImage.{TableImage}
+use Rattle.region_layout.specs.Region.{IsClosed, IsImage, head_of}
+use Rattle.row_records.specs.Records.{LogRecord}
+use Rattle.disk_backup.specs.Logs.{IsLog, IsBounded, writes_of}
+use Rattle.crash_events.specs.Left.{Tables, ImageOf, HasShutGate}
+use Rattle.crash_events.specs.Machine.{Machine, Tracked, RegionIs, Whole, Either, Other}
+use Rattle.crash_events.specs.Events.{MayBe, is_whole}
+use Rattle.crash_events.specs.Kept.{AllPlaces}
+
+-- the log has the sure writes of each table, and the hand's behind them where its gate was begun: all of its record or nothing
+abbrev pub LogFits : Machine → List LogRecord → Type 0
+LogFits m records = AllPlaces (λ t x. (n : ℕ) × MayBe m t x n × (writes_of x.name records ≡ take n x.state.writes)) 0 m.tables
+
+-- the region is what the machine says, or empty where the machine was lost
+pub data RegionFits (reads : ℕ → Bool) (tables : Tables) (pair : Pair) (end : ℕ) : RegionIs → Type 0 where
+  shows_lost : {r : RegionIs} → pair.region ≡ [] → RegionFits reads tables pair end r
+  shows_closed : {r : RegionIs} → is_whole r ≡ false → IsClosed pair.region → RegionFits reads tables pair end r
+  shows_whole : (version : ℕ) (images : List TableImage) → reads version ≡ true → IsImage version pair.region images end → ImageOf tables images → HasShutGate pair.disk end
+      → RegionFits reads tables pair end Whole
+  shows_either : RegionFits reads tables pair end Whole → RegionFits reads tables pair end Either
+  shows_other : (version : ℕ) → head_of pair.region ≡ Version version → reads version ≡ false → RegionFits reads tables pair end Other
+
+-- the state of each name: of one that stands in no table, no writes
+abbrev pub state_of : List Tracked → Tables
+state_of [] name = no_base
+state_of (x ∷ xs) name = if bytes_eq name x.name then x.state else state_of xs name
+
+-- the name stands in none of these tables
+abbrev pub IsElsewhere : List ℕ → List Tracked → Type 0
+IsElsewhere name ts = AllByRecursion (λ (x : Tracked). bytes_eq name x.name ≡ false) ts
+
+-- A pair fits: its log is sound and has what the machine says of each table and nothing of other names, and its region is what the machine says.
+pub record FitsPair (reads : ℕ → Bool) (m : Machine) (pair : Pair) : Type 0 where
+  pub records : List LogRecord
+  pub end : ℕ
+  pub log : IsLog pair.disk records end
+  pub bounded : IsBounded records
+  pub logs : LogFits m records
+  pub others : (name : List ℕ) → IsElsewhere name m.tables → writes_of name records ≡ []
+  pub region : RegionFits reads (state_of m.tables) pair end m.region

@@ -1,0 +1,110 @@
+-- The tables of a leaf as its steward has seen them, and where each stood at each moment of the berth's clock.
+use Rattle.std.specs.Prelude.{◌≡◌, ℕ, ◌≤◌, ◌^◌, nat_le, take, Bool, true, false, ◌&&◌, ◌==◌, List, [], ◌∷◌, length, bytes_eq, if◌then◌else◌, ⊤}
+use Rattle.std.specs.List.{AllByRecursion, list_any}
+use Rattle.leaf_model.specs.declared.writes.Write.{Write}
+use Rattle.leaf_model.specs.Content.{content, nothing}
+use Rattle.leaf_history.specs.Calls.{Call}
+use Rattle.leaf_history.specs.Calls as call
+use Rattle.leaf_history.specs.History.{Entry, TableState, LegalFrom, after, no_base}
+use Rattle.leaf_history.specs.Laws.{IsCounted}
+use Rattle.crash_events.specs.Left.{Tables}
+
+-- a table: its name, what it was founded with, and the history as far as the steward has seen it
+pub record Watched : Type 0 where
+  pub name : List ℕ
+  pub base : TableState
+  pub seen : List Entry
+
+-- where it stands as far as that
+abbrev pub now_of : Watched → TableState
+now_of w = after true w.base w.seen
+
+-- ---- where it stood at a moment
+
+-- the steward made the entry, by this moment
+abbrev pub is_made : ℕ → Entry → Bool
+is_made t e = (e.caller == 0) && nat_le e.clock t
+
+-- it made one of the entries by then
+abbrev pub any_made : ℕ → List Entry → Bool
+any_made t [] = false
+any_made t (e ∷ es) = if is_made t e then true else any_made t es
+
+-- the history up to the last entry that the steward made by this moment: nothing where there is none
+abbrev pub cut : ℕ → List Entry → List Entry
+cut t [] = []
+cut t (e ∷ es) = if any_made t (e ∷ es) then e ∷ cut t es else []
+
+-- where the table stood then
+abbrev pub state_then : ℕ → Watched → TableState
+state_then t w = after true w.base (cut t w.seen)
+
+-- the table was opened
+abbrev pub is_open_call : Call → Bool
+is_open_call (call.Open n contents) = true
+is_open_call (call.Add rows) = false
+is_open_call (call.Expire horizon) = false
+is_open_call (call.Keep n) = false
+is_open_call (call.Ask q) = false
+is_open_call call.Take = false
+is_open_call (call.Flushed n) = false
+is_open_call call.Shut = false
+is_open_call call.Done = false
+
+abbrev pub is_opening : Entry → Bool
+is_opening e = is_open_call e.call
+
+-- some table of the leaf was opened by this moment
+abbrev pub was_opened : ℕ → List Watched → Bool
+was_opened t ws = list_any (λ (w : Watched). list_any is_opening (cut t w.seen)) ws
+
+-- names that the leaf does not have stand as these say, until it has opened a table: from then on they have no writes
+abbrev pub others_then : Bool → Tables → Tables
+others_then true others name = no_base
+others_then false others name = others name
+
+-- where each name stands, by the state of each of the leaf's own tables
+abbrev pub by_name : (Watched → TableState) → Tables → List Watched → Tables
+by_name state others [] name = others name
+by_name state others (w ∷ ws) name = if bytes_eq name w.name then state w else by_name state others ws name
+
+-- where each name stood at a moment
+abbrev pub tables_then : Tables → ℕ → List Watched → Tables
+tables_then others t ws = by_name (state_then t) (others_then (was_opened t ws) others) ws
+
+-- one of the leaf's names
+abbrev pub is_watched : List Watched → List ℕ → Bool
+is_watched ws name = list_any (λ (w : Watched). bytes_eq name w.name) ws
+
+-- ---- what holds of every table that is watched
+
+-- the steward's entries lie between two moments
+abbrev pub Between : ℕ → ℕ → List Entry → Type 0
+Between from to [] = ⊤
+Between from to (e ∷ es) = (e.caller ≡ 0 → (from ≤ e.clock) × (e.clock ≤ to)) × Between from to es
+
+-- after no write of the list has a table more than 2^40 rows
+abbrev pub IsShort : List Write → Type 0
+IsShort writes = (k : ℕ) → length (content (take k writes)).rows ≤ 2 ^ 40
+
+-- what holds of a founded table at any time: it was handed in nothing, and at no front of its writes had it more than 2^40 rows
+pub record IsFoundation (s : TableState) : Type 0 where
+  pub before : s.before ≡ nothing
+  pub handed_in : s.handed_in ≡ 0
+  pub counted : IsCounted s
+  pub short : IsShort s.writes
+
+-- Its history is legal, and no entry of the steward was made later than now.
+pub record IsWatched (clock : ℕ) (w : Watched) : Type 0 where
+  pub base : IsFoundation w.base
+  pub legal : LegalFrom true w.base w.seen
+  pub made : Between 0 clock w.seen
+
+-- no name stands twice
+abbrev pub AreApart : List Watched → Type 0
+AreApart [] = ⊤
+AreApart (w ∷ ws) = (is_watched ws w.name ≡ false) × AreApart ws
+
+pub record AreWatched (clock : ℕ) (ws : List Watched) : Type 0 where
+  pub each : AllByRecursion (IsWatched clock) ws
+  pub apart : AreApart ws

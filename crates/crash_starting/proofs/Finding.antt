@@ -1,0 +1,160 @@
+-- What a leaf that rests finds when it opens: the writes of each table, which it may be opened with.
+use Rattle.std.proofs.Common.{◌≡◌, inl, inr, ◌∙◌, ℕ, ◌≤◌, false, List, [], map, length, Option, None, refl, sym, ap, subst, arith}
+use Rattle.std.proofs.lemmas.List.{length-append, length-take, take_all}
+use Rattle.leaf_model.specs.declared.writes.Write.{Write}
+use Rattle.leaf_model.specs.Content.{content}
+use Rattle.row_records.specs.Records.{LogRecord}
+use Rattle.berth_face.specs.Berth.{Meaning, Passes, Ended, SameDisk}
+use Rattle.berth_face.specs.Moments.{EachNow}
+use Rattle.table_state.specs.Tables.{Table}
+use Rattle.region_layout.specs.declared.head.Head.TheVariants.{Version}
+use Rattle.region_layout.specs.declared.image.Image.{Image}
+use Rattle.region_layout.specs.declared.image.TableImage.{TableImage}
+use Rattle.region_layout.specs.Images.{table_of, table_named}
+use Rattle.region_layout.specs.Images as image
+use Rattle.region_layout.specs.Region.{IsClosed, IsImage}
+use Rattle.region_layout.proofs.Heads.{image_head}
+use Rattle.region_layout.proofs.Images.{one_image}
+use Rattle.adopt.specs.declared.found.WhyDisk.{WhyDisk}
+use Rattle.adopt.specs.Found.{left_behind, stranger_of}
+use Rattle.disk_backup.specs.Logs.{ClosedLog, writes_of}
+use Rattle.disk_backup.specs.State.{LogState}
+use Rattle.disk_backup.specs.Scanning.{begun}
+use Rattle.disk_backup.specs.Settling.{HoldsLog, HaveLog, with_writes}
+use Rattle.log_recovery.specs.Recovery.{IsRecovered}
+use Rattle.log_recovery.specs.Recovery as recovery
+use Rattle.leaf_history.specs.History.{TableState}
+use Rattle.leaf_opening.specs.declared.ways.Way.{Way}
+use Rattle.leaf_opening.specs.declared.ways.Way.TheVariants.{Memory, Disk}
+use Rattle.leaf_opening.specs.Serving.{Serving}
+use Rattle.leaf_opening.specs.Backed.{HasSoundLog, is_one_of}
+use Rattle.leaf_opening.specs.Starts.{IsCome, disk_after}
+use Rattle.leaf_opening.proofs.Regions.{left_closed, closed_no_image}
+use Rattle.leaf_opening.proofs.Logs.{same_writes}
+use Rattle.leaf_opening.proofs.Strangers.{no_writes_there, no_writes_read}
+use Rattle.leaf_opening.proofs.Places.{table_at}
+use Rattle.leaf_opening.proofs.Backing.{log_at}
+use Rattle.crash_events.specs.Left.{Tables}
+use Rattle.crash_moments.specs.Watched.{Watched, is_watched, now_of, others_then, was_opened}
+use Rattle.crash_states.specs.Standing.{StandsNow, Rests, RegionRests, is_closed, is_other, is_image, IsWhole, IsKept, MayHave, tables_of}
+use Rattle.crash_states.proofs.Names.{named_at}
+use Rattle.crash_states.proofs.Pairs.{lost_closed}
+use Rattle.crash_states.proofs.States.{with_more}
+use Rattle.crash_starting.specs.Laws.{Finds, HasContent, names_of}
+use Rattle.crash_starting.proofs.Watching.{watched_later, name_at, named_alike}
+
+-- ---- with which writes a kept table may be opened
+
+longer : (next : Option LogRecord) (writes : List ℕ → List Write) (name : List ℕ) → length (writes name) ≤ length (with_writes next writes name)
+longer next writes name =
+    let more = with_more next writes name in
+    omega (arith, ap (λ (l : List Write). length l) more.1, length-append (writes name) more.0)
+
+may_have_least : (least most : List Write) (s : TableState) → IsKept least most s → MayHave least s
+may_have_least least most s kept = record { shut = kept.shut; flushed = kept.flushed; front = kept.shortest; handed = λ handed. (kept.handed handed).0 }
+
+may_have_most : (least most : List Write) (s : TableState) → length least ≤ length most → IsKept least most s → MayHave most s
+may_have_most least most s more kept = record { shut = kept.shut; flushed = omega (arith, kept.flushed, more); front = kept.longest; handed = λ handed. (kept.handed handed).1 }
+
+may_have_all : (least most : List Write) (s : TableState) → IsKept least most s → MayHave s.writes s
+may_have_all least most s kept = record {
+  shut = kept.shut;
+  flushed = omega (arith, kept.flushed, ap (λ (l : List Write). length l) kept.shortest, length-take (length least) s.writes);
+  front = sym (take_all (length s.writes) s.writes (omega arith));
+  handed = λ handed. refl;
+}
+
+-- ---- a region that is an image
+
+same_version : (u v : ℕ) → Version u ≡ Version v → u ≡ v
+same_version u v same = cc
+
+whole_image : (tables : Tables) (m : Meaning) (images : List TableImage) (log_end : ℕ) → IsImage 1 m.held.region images log_end → RegionRests tables m → IsWhole tables images log_end m
+whole_image tables m images log_end is (is_closed closed) = absurd (closed_no_image m.held.region closed images log_end is)
+whole_image tables m images log_end is (is_other version head other) = absurd (other (same_version version 1 (sym head ∙ image_head m.held.region images 1 log_end is)))
+whole_image tables m images log_end is (is_image those those_end is_those whole) =
+    let one : Image = record { log_end = log_end; tables = images } in
+    let that : Image = record { log_end = those_end; tables = those } in
+    subst (λ (i : Image). IsWhole tables i.tables i.log_end m) (one_image m.held.region that one is_those is) whole
+
+module _ (ws : List Watched) (others : Tables) (least : List ℕ → List Write) (next : Option LogRecord) (a b : Meaning) (rests : Rests ws others least next a)
+    (passes : Passes a b) (stands : StandsNow b) (region : b.held.region ≡ left_behind a.held.region) where
+  abbrev tables : Tables
+  tables = tables_of others ws a
+
+  all_closed : EachNow (λ p. IsClosed p.region) b
+  all_closed p left = elim (stands.regions p left) [
+    | inl same ↦ subst IsClosed (sym (same ∙ region)) (left_closed a.held.region)
+    | inr lost ↦ lost_closed p lost
+  ]
+
+  other_name : (name : List ℕ) → is_watched ws name ≡ false → is_one_of (names_of ws) name ≡ false
+  other_name name unwatched = named_alike ws name ∙ unwatched
+
+  -- the tables that were made of these writes may be opened
+  finds : (log : LogState) (opened : List Table) (make : List ℕ → Table) (writes : List ℕ → List Write) → log.owed ≡ None → HaveLog log writes b
+      → ((name : List ℕ) → MayHave (writes name) (tables name)) → ((name : List ℕ) → is_watched ws name ≡ false → writes name ≡ [])
+      → opened ≡ map make (names_of ws) → ((name : List ℕ) → HasContent (writes name) (make name)) → Finds ws log opened writes b
+  finds log opened make writes none have may unwatched are content = record {
+    may = record {
+      watched = watched_later a.clock b.clock ws passes.later rests.watched;
+      stands = stands;
+      owed = none;
+      logs = have;
+      closed = all_closed;
+      each = λ place w at. subst (MayHave (writes w.name)) (named_at now_of (others_then (was_opened a.clock ws) others) ws place w rests.watched.apart at) (may w.name);
+      others = unwatched;
+    };
+    contents = λ place w t at there. subst (HasContent (writes w.name)) (sym (table_at make (names_of ws) opened place w.name t are (name_at ws place w at) there)) (content w.name);
+  }
+
+  -- ---- out of the region
+
+  whole_logs : (images : List TableImage) (log_end : ℕ) → IsWhole tables images log_end a → Ended SameDisk a b → HaveLog (log_at log_end) (λ name. (tables name).writes) b
+  whole_logs images log_end whole disks = λ p left.
+      let came = disks p left in
+      let had = whole.logs came.0 came.1 in
+      (had.0, subst (λ (d : List ℕ). ClosedLog had.0 log_end d) (sym came.2) had.1, had.2)
+
+  found_in_image : (log : LogState) (opened : List Table) (images : List TableImage) (log_end : ℕ) → IsImage 1 a.held.region images log_end → stranger_of (names_of ws) images ≡ None
+      → opened ≡ image.tables_of (names_of ws) images → log ≡ log_at log_end → Ended SameDisk a b → (writes : List ℕ → List Write) × Finds ws log opened writes b
+  found_in_image log opened images log_end is known are log_is disks =
+      let writes : List ℕ → List Write = λ name. (tables name).writes in
+      let whole : IsWhole tables images log_end a = whole_image tables a images log_end is rests.region in
+      let made : Finds ws (log_at log_end) opened writes b = finds (log_at log_end) opened (λ name. table_of (table_named images name)) writes refl (whole_logs images log_end whole disks)
+      (λ name. may_have_all (least name) (with_writes next least name) (tables name) (rests.each name))
+      (λ name unwatched. no_writes_there (names_of ws) name (other_name name unwatched) writes images known whole.same) are
+      (λ name. record { contents = (whole.same name).contents; count = (whole.same name).count }) in
+      (writes, subst (λ (l : LogState). Finds ws l opened writes b) (sym log_is) made)
+
+  -- ---- out of the log
+
+  module _ (log : LogState) (opened : List Table) (read : IsRecovered (names_of ws) b.held.disk opened log) (disk : b.held.disk ≡ begun a.held.disk) (durable : EachNow (λ p. p.disk ≡ b.held.disk) b) where
+    read_logs : (writes : List ℕ → List Write) → ((name : List ℕ) → writes_of name read.records ≡ writes name) → HaveLog log writes b
+    read_logs writes same = λ p left.
+        let closed : ClosedLog read.records log.end p.disk = subst (λ (d : List ℕ). ClosedLog read.records log.end d) (sym (durable p left)) read.closed in
+        (read.records, subst (λ (l : LogState). HoldsLog l read.records p.disk) (sym read.log_is) closed, same)
+
+    found_as : (writes : List ℕ → List Write) → HasSoundLog writes a.held.disk → ((name : List ℕ) → MayHave (writes name) (tables name)) → (writes : List ℕ → List Write) × Finds ws log opened writes b
+    found_as writes had may =
+        let same : (name : List ℕ) → writes_of name read.records ≡ writes name = same_writes writes a.held.disk had b.held.disk read.records log.end disk read.closed in (
+          writes,
+          finds log opened (recovery.table_of read.records) writes (ap (λ (l : LogState). l.owed) read.log_is) (read_logs writes same) may
+              (λ name unwatched. sym (same name) ∙ no_writes_read (names_of ws) name (other_name name unwatched) read.records read.known) read.tables_are
+              (λ name. record { contents = ap content (same name); count = ap (λ (l : List Write). length l) (same name) }),
+        )
+
+    -- the disk as it read had the shorter log or the longer one
+    found_in_log : (writes : List ℕ → List Write) × Finds ws log opened writes b
+    found_in_log = elim (rests.logs a.held rests.stands.reads) [
+      | inl had ↦ found_as least had (λ name. may_have_least (least name) (with_writes next least name) (tables name) (rests.each name))
+      | inr had ↦
+          found_as (with_writes next least) had (λ name. may_have_most (least name) (with_writes next least name) (tables name) (longer next least name) (rests.each name))
+    ]
+
+  -- ---- either way
+
+  pub found_by : (s : Serving) (way : Way) → IsCome (names_of ws) a.held.region b.held.disk s way → b.held.disk ≡ disk_after way a.held.disk → (way ≡ Memory → Ended SameDisk a b)
+      → ((w : WhyDisk) → way ≡ Disk w → EachNow (λ p. p.disk ≡ b.held.disk) b) → (writes : List ℕ → List Write) × Finds ws s.log s.tables writes b
+  found_by s Memory come disk kept durable = found_in_image s.log s.tables come.0 come.1 come.2 come.3 come.4 come.5 (kept refl)
+  found_by s (Disk w) come disk kept durable = found_in_log s.log s.tables come.1 disk (durable w refl)

@@ -1,0 +1,45 @@
+-- A pair that a crash may leave, by its log and its region.
+use Rattle.std.proofs.Common.{◌≡◌, inl, ℕ, List, [], length, refl, sym, ap, subst, ◌∙◌, arith}
+use Rattle.leaf_model.specs.declared.writes.Write.{Write}
+use Rattle.row_records.specs.Records.{LogRecord}
+use Rattle.berth_face.specs.Berth.{Pair}
+use Rattle.region_layout.specs.declared.image.TableImage.{TableImage}
+use Rattle.region_layout.specs.Region.{IsClosed, IsImage}
+use Rattle.disk_backup.specs.Logs.{writes_of}
+use Rattle.disk_backup.specs.Settling.{HasLog}
+use Rattle.leaf_opening.specs.Backed.{AreImagesOf, HasSoundLog}
+use Rattle.crash_events.specs.Left.{Tables, Left, RegionLeft, closed, image, HasShutGate}
+use Rattle.crash_moments.specs.Told.{reads_one}
+use Rattle.crash_states.proofs.States.{IsFrontOf, front_within}
+use Rattle.crash_states.proofs.Disks.{gate_shut, same_log}
+use Rattle.crash_states.proofs.Images.{image_of_tables}
+
+pub left_by : (tables : Tables) (held : List ℕ → List Write) (p : Pair) (log : HasSoundLog held p.disk) → ((name : List ℕ) → IsFrontOf (held name) (tables name))
+    → RegionLeft reads_one tables p log.records log.log_end → Left reads_one tables p
+left_by tables held p log fronts region = record {
+  records = log.records;
+  end = log.log_end;
+  log = log.log;
+  bounded = log.bounded;
+  front = λ name.
+      let is : IsFrontOf (held name) (tables name) = fronts name in
+      (length (held name), front_within (held name) (tables name) is, is.flushed, log.each name ∙ is.front);
+  region = region;
+}
+
+-- the region is an image of the tables, and the log has all of their writes
+pub image_left : (tables : Tables) (writes held : List ℕ → List Write) (p : Pair) (log : HasSoundLog held p.disk) (images : List TableImage) (log_end : ℕ)
+    → ((name : List ℕ) → (tables name).writes ≡ writes name) → IsImage 1 p.region images log_end → AreImagesOf writes images → HasLog writes log_end p.disk
+    → RegionLeft reads_one tables p log.records log.log_end
+image_left tables writes held p log images log_end same is are had =
+    let one = same_log writes held log_end p.disk had log in
+    image 1 images refl (subst (λ (end : ℕ). IsImage 1 p.region images end) (sym one.1) is) (image_of_tables writes tables same images are is.1.fits.distinct)
+    (λ name. ap (λ (records : List LogRecord). writes_of name records) one.0 ∙ had.2 name ∙ sym (same name))
+    (subst (λ (end : ℕ). HasShutGate p.disk end) (sym one.1) (gate_shut had.0 log_end p.disk had.1))
+
+-- a region that was lost is closed
+pub lost_closed : (p : Pair) → p.region ≡ [] → IsClosed p.region
+lost_closed p none = inl (omega (arith, ap (λ (l : List ℕ). length l) none))
+
+pub lost_left : (tables : Tables) (p : Pair) (records : List LogRecord) (end : ℕ) → p.region ≡ [] → RegionLeft reads_one tables p records end
+lost_left tables p records end none = closed (lost_closed p none)

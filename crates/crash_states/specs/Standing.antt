@@ -1,0 +1,151 @@
+-- What region and disk hold of the tables of a leaf, in each of its states, by what its steward has seen of them.
+use Rattle.std.specs.Prelude.{◌≡◌, ◌≢◌, ◌⊎◌, ℕ, ◌≤◌, true, false, List, [], length, take, slice_get, Option, Some, None, IfSome}
+use Rattle.leaf_model.specs.declared.writes.Write.{Write}
+use Rattle.leaf_model.specs.Content.{content}
+use Rattle.row_records.specs.Records.{LogRecord}
+use Rattle.table_state.specs.Tables.{Table}
+use Rattle.leaf_history.specs.History.{TableState}
+use Rattle.berth_face.specs.Berth.{Meaning}
+use Rattle.berth_face.specs.Moments.{EachNow}
+use Rattle.region_layout.specs.declared.head.Head.TheVariants.{Version}
+use Rattle.region_layout.specs.declared.image.TableImage.{TableImage}
+use Rattle.region_layout.specs.Region.{IsClosed, IsImage, head_of}
+use Rattle.disk_backup.specs.State.{LogState}
+use Rattle.disk_backup.specs.Settling.{HasLog, HaveLog, with_writes}
+use Rattle.drain_copy.specs.Draining.{DrainState, Draining, AllClosed}
+use Rattle.leaf_opening.specs.Backed.{AreImagesOf, HasSoundLog}
+use Rattle.crash_events.specs.Left.{Tables}
+use Rattle.crash_moments.specs.Watched.{Watched, AreWatched, IsFoundation, by_name, is_watched, now_of, others_then, was_opened}
+
+-- what every berth promises now: what reads give may be left, and the region is that or lost
+pub record StandsNow (m : Meaning) : Type 0 where
+  pub reads : m.leaves m.clock m.held
+  pub regions : EachNow (λ p. (p.region ≡ m.held.region) ⊎ (p.region ≡ [])) m
+
+-- ---- a leaf that serves or shuts its tables
+
+-- the log has these writes of a table, and with what it is owed just those that were taken; no more were noted as flushed than it has
+pub record IsLogged (logged taken : List Write) (s : TableState) : Type 0 where
+  pub front : take s.taken s.writes ≡ taken
+  pub enough : s.taken ≤ length s.writes
+  pub flushed : s.flushed ≤ length logged
+  pub handed : s.handed ≡ false
+
+-- what the log is owed is of the owner
+abbrev pub IsOwned : List Watched → ℕ → LogRecord → Type 0
+IsOwned ws owner r = (w : Watched) × (slice_get ws owner ≡ Some w) × (w.name ≡ r.name)
+
+-- Each disk that a crash may leave has one and the same log, with these writes of each name, and behind it what is owed. Each region is closed.
+pub record Runs (ws : List Watched) (owner : ℕ) (log : LogState) (writes : List ℕ → List Write) (m : Meaning) : Type 0 where
+  pub watched : AreWatched m.clock ws
+  pub opened : was_opened m.clock ws ≡ true
+  pub stands : StandsNow m
+  pub logs : HaveLog log writes m
+  pub closed : AllClosed m
+  pub each : (place : ℕ) (w : Watched) → slice_get ws place ≡ Some w → IsLogged (writes w.name) (with_writes log.owed writes w.name) (now_of w)
+  pub owned : IfSome log.owed (IsOwned ws owner)
+  pub others : (name : List ℕ) → is_watched ws name ≡ false → with_writes log.owed writes name ≡ []
+
+-- ---- a leaf at rest
+
+-- A shut table: each log has the first of its writes, the shortest these and the longest those; each flushed one is in all of them, and of a drained table
+-- each of its writes.
+pub record IsKept (least most : List Write) (s : TableState) : Type 0 where
+  pub shut : s.live ≡ false
+  pub flushed : s.flushed ≤ length least
+  pub shortest : least ≡ take (length least) s.writes
+  pub longest : most ≡ take (length most) s.writes
+  pub handed : s.handed ≡ true → (least ≡ s.writes) × (most ≡ s.writes)
+
+-- where each name stands now
+abbrev pub tables_now : Tables → List Watched → Tables
+tables_now others ws = by_name now_of others ws
+
+-- those of a leaf, and of names that it does not have
+abbrev pub tables_of : Tables → List Watched → Meaning → Tables
+tables_of others ws m = tables_now (others_then (was_opened m.clock ws) others) ws
+
+-- the image has all that the tables have, and so has each log, which ends where the image says at a gate that is not open
+pub record IsWhole (tables : Tables) (images : List TableImage) (log_end : ℕ) (m : Meaning) : Type 0 where
+  pub same : AreImagesOf (λ name. (tables name).writes) images
+  pub logs : EachNow (λ p. HasLog (λ name. (tables name).writes) log_end p.disk) m
+
+-- the region as it reads: closed, or of another version, or an image of the tables
+pub data RegionRests (tables : Tables) (m : Meaning) : Type 0 where
+  is_closed : IsClosed m.held.region → RegionRests tables m
+  is_other : (version : ℕ) → head_of m.held.region ≡ Version version → version ≢ 1 → RegionRests tables m
+  is_image : (images : List TableImage) (log_end : ℕ) → IsImage 1 m.held.region images log_end → IsWhole tables images log_end m → RegionRests tables m
+
+-- Each disk that a crash may leave has a log with the least writes of each name, or with those of the next record too. Each table is shut.
+-- Names that the leaf does not have stand as `others` say until it was first opened.
+pub record Rests (ws : List Watched) (others : Tables) (least : List ℕ → List Write) (next : Option LogRecord) (m : Meaning) : Type 0 where
+  pub watched : AreWatched m.clock ws
+  pub stands : StandsNow m
+  pub logs : EachNow (λ p. HasSoundLog least p.disk ⊎ HasSoundLog (with_writes next least) p.disk) m
+  pub each : (name : List ℕ) → IsKept (least name) (with_writes next least name) (tables_of others ws m name)
+  pub sound : (name : List ℕ) → IsFoundation (others name)
+  pub empty : m.held.disk ≡ [] → EachNow (λ p. length p.disk ≤ 1) m
+  pub region : RegionRests (tables_of others ws m) m
+
+-- ---- a leaf that copies its tables
+
+-- all of the table is in the log, and it is shut
+pub record IsTreated (writes : List Write) (s : TableState) : Type 0 where
+  pub shut : s.live ≡ false
+  pub whole : s.writes ≡ writes
+  pub flushed : s.flushed ≤ length writes
+  pub handed : s.handed ≡ false
+
+-- The image that is copied has these writes of each name, and so has each log, which ends where the image says, at a gate that is not open;
+-- each table has just these, and each region is closed.
+pub record Copies (ws : List Watched) (drain : DrainState) (writes : List ℕ → List Write) (m : Meaning) : Type 0 where
+  pub watched : AreWatched m.clock ws
+  pub opened : was_opened m.clock ws ≡ true
+  pub stands : StandsNow m
+  pub images : List TableImage
+  pub log_end : ℕ
+  pub image : IsImage 1 drain.image images log_end
+  pub same : AreImagesOf writes images
+  pub logs : EachNow (λ p. HasLog writes log_end p.disk) m
+  pub draining : Draining drain m.held.region
+  pub closed : AllClosed m
+  pub each : (place : ℕ) (w : Watched) → slice_get ws place ≡ Some w → IsTreated (writes w.name) (now_of w)
+  pub others : (name : List ℕ) → is_watched ws name ≡ false → writes name ≡ []
+
+-- a table's content as it was when it was shut: what its writes come to
+pub record IsContentOf (s : TableState) (t : Table) : Type 0 where
+  pub contents : t.contents ≡ content s.writes
+  pub writes : t.writes ≡ length s.writes
+
+-- the same once the image is in the region
+pub record Holds (ws : List Watched) (image : List ℕ) (writes : List ℕ → List Write) (m : Meaning) : Type 0 where
+  pub watched : AreWatched m.clock ws
+  pub opened : was_opened m.clock ws ≡ true
+  pub stands : StandsNow m
+  pub images : List TableImage
+  pub log_end : ℕ
+  pub is : IsImage 1 image images log_end
+  pub same : AreImagesOf writes images
+  pub logs : EachNow (λ p. HasLog writes log_end p.disk) m
+  pub region : m.held.region ≡ image
+  pub each : (place : ℕ) (w : Watched) → slice_get ws place ≡ Some w → IsTreated (writes w.name) (now_of w)
+  pub others : (name : List ℕ) → is_watched ws name ≡ false → writes name ≡ []
+
+-- ---- a leaf that opens its tables
+
+-- the table may be opened with these writes
+pub record MayHave (writes : List Write) (s : TableState) : Type 0 where
+  pub shut : s.live ≡ false
+  pub flushed : s.flushed ≤ length writes
+  pub front : writes ≡ take (length writes) s.writes
+  pub handed : s.handed ≡ true → writes ≡ s.writes
+
+-- Each disk that a crash may leave has one and the same log, which is owed nothing and has these writes of each name, and each region is closed.
+pub record MayOpen (ws : List Watched) (log : LogState) (writes : List ℕ → List Write) (m : Meaning) : Type 0 where
+  pub watched : AreWatched m.clock ws
+  pub stands : StandsNow m
+  pub owed : log.owed ≡ None
+  pub logs : HaveLog log writes m
+  pub closed : AllClosed m
+  pub each : (place : ℕ) (w : Watched) → slice_get ws place ≡ Some w → MayHave (writes w.name) (now_of w)
+  pub others : (name : List ℕ) → is_watched ws name ≡ false → writes name ≡ []
