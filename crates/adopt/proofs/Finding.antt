@@ -10,7 +10,7 @@ use Rattle.adopt.specs.declared.found.Found.TheVariants.{Tables}
 use Rattle.adopt.specs.declared.found.AdoptFault.{AdoptFault}
 use Rattle.adopt.specs.declared.found.AdoptFault.TheVariants.{RegionFault, Stranger, NoMemory}
 use Rattle.adopt.specs.Found.{closed_flag, Adopts, AreAdopted, IsBroken, IsFound, IsNoImage}
-use Rattle.adopt.specs.Adopting.{Arranges, IsAnswer, NamesNobody}
+use Rattle.adopt.specs.Adopting.{Arranges, AnswersAdoption, NamesNobody}
 use Rattle.adopt.proofs.Heads.{left_open, closed_breaks}
 use Rattle.adopt.proofs.Taking.{each_adopted, tables_size}
 
@@ -36,7 +36,7 @@ tables_adopted names bytes image a is arranges = (
 )
 
 -- why they were not arranged is why nothing was adopted
-pub refused : (names : List (List ℕ)) (bytes : List ℕ) (image : Image) (e : AdoptFault) → IsImage 1 bytes image.tables image.log_end → Arranges names image (Err e) → IsAnswer names bytes (Err e)
+pub refused : (names : List (List ℕ)) (bytes : List ℕ) (image : Image) (e : AdoptFault) → IsImage 1 bytes image.tables image.log_end → Arranges names image (Err e) → AnswersAdoption names bytes (Err e)
 refused names bytes image RegionFault is arranges = tt
 refused names bytes image (Stranger name) is arranges = (image.tables, image.log_end, is, arranges)
 refused names bytes image NoMemory is arranges = tt
@@ -46,14 +46,14 @@ refused_by_no_region names image RegionFault arranges same = arranges
 refused_by_no_region names image (Stranger name) arranges same = absurd cc
 refused_by_no_region names image NoMemory arranges same = absurd cc
 
-pub nobody_answers : (names : List (List ℕ)) (region : List ℕ) (e : AdoptFault) → NamesNobody e → IsAnswer names region (Err e)
+pub nobody_answers : (names : List (List ℕ)) (region : List ℕ) (e : AdoptFault) → NamesNobody e → AnswersAdoption names region (Err e)
 nobody_answers names region RegionFault nobody = tt
 nobody_answers names region (Stranger name) nobody = absurd nobody
 nobody_answers names region NoMemory nobody = tt
 
 -- after the flag was closed nothing else changes
 pub adopts_on : (names : List (List ℕ)) (region now : List ℕ) (version : ℕ) (result : Result Found AdoptFault) → head_of region ≡ head.Version version → now ≡ closed_flag region
-    → IsAnswer names region result → Adopts names region now result
+    → AnswersAdoption names region result → Adopts names region now result
 adopts_on names region now version (Ok f) opened closed answer = (answer, closed ∙ sym (left_open region version opened))
 adopts_on names region now version (Err RegionFault) opened closed answer = subst (IsBroken region) (sym closed) (closed_breaks region version opened)
 adopts_on names region now version (Err (Stranger name)) opened closed answer = (answer, closed ∙ sym (left_open region version opened))

@@ -8,7 +8,7 @@ use Rattle.region_layout.specs.declared.head.Head.TheVariants.{Version}
 use Rattle.region_layout.specs.Region.{head_of, version_of}
 use Rattle.region_layout.proofs.Heads.{open_head}
 use Rattle.adopt.specs.Found.{AdoptsFrom, IsBroken, closed_flag}
-use Rattle.adopt.specs.Adopting.{IsOpen}
+use Rattle.adopt.specs.Adopting.{IsOpenRegion}
 use Rattle.adopt.proofs.Heads.{untouched, closed_breaks, torn_breaks}
 
 -- a crash now leaves the region that is read, or none
@@ -53,7 +53,7 @@ broken_by (Ok x) old new version opened ok err = subst (IsBroken old) (sym ok) (
 broken_by (Err e) old new version opened ok err = torn_breaks old new version opened err
 
 -- the write that closes an open flag
-pub flag_closes : {T E : Type 0} (result : Result T E) (a b : Meaning) → IsOpen a.held.region → KeepsRegion a → KeepsRegion b → Passes a b → RegionWritten 0 (0 ∷ []) result a b → Throughout (AdoptsFrom a) a b
+pub flag_closes : {T E : Type 0} (result : Result T E) (a b : Meaning) → IsOpenRegion a.held.region → KeepsRegion a → KeepsRegion b → Passes a b → RegionWritten 0 (0 ∷ []) result a b → Throughout (AdoptsFrom a) a b
 flag_closes result a b open_flag before after time wrote =
     goes_on a a b (AdoptsFrom a) (started a (AdoptsFrom a) (from_itself a before)) time
     (λ t p from to left. let came = wrote.inside t p from to left in record { from = came.0; was = came.1; disk = came.2.1; region = inside p.region came.2.0 })

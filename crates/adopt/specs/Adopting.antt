@@ -11,15 +11,15 @@ use Rattle.adopt.specs.declared.found.AdoptFault.TheVariants.{RegionFault, Stran
 use Rattle.adopt.specs.Found.{IsFound, IsStranger, stranger_of}
 
 -- there is a whole head, and its flag is open
-abbrev pub IsOpen : List ℕ → Type 0
-IsOpen region = IsClosed region → ⊥
+abbrev pub IsOpenRegion : List ℕ → Type 0
+IsOpenRegion region = IsClosed region → ⊥
 
 -- what is answered, where this was the region before its flag was closed
-abbrev pub IsAnswer : List (List ℕ) → List ℕ → Result Found AdoptFault → Type 0
-IsAnswer names region (Ok f) = IsFound names region f
-IsAnswer names region (Err RegionFault) = ⊤
-IsAnswer names region (Err (Stranger name)) = IsStranger names region name
-IsAnswer names region (Err NoMemory) = ⊤
+abbrev pub AnswersAdoption : List (List ℕ) → List ℕ → Result Found AdoptFault → Type 0
+AnswersAdoption names region (Ok f) = IsFound names region f
+AnswersAdoption names region (Err RegionFault) = ⊤
+AnswersAdoption names region (Err (Stranger name)) = IsStranger names region name
+AnswersAdoption names region (Err NoMemory) = ⊤
 
 -- the fault says nothing of tables
 abbrev pub NamesNobody : AdoptFault → Type 0

@@ -7,7 +7,7 @@ ghost use Rattle.region_layout.specs.declared.head.Head.TheVariants.{Version};
 ghost use Rattle.region_layout.specs.Region.{AreDistinct, head_of};
 ghost use Rattle.adopt.specs.declared.found.AdoptFault.TheVariants as fault;
 ghost use Rattle.adopt.specs.Found.{Adopts, AdoptsFrom, AreAdopted, closed_flag};
-ghost use Rattle.adopt.specs.Adopting.{IsAnswer, IsOpen};
+ghost use Rattle.adopt.specs.Adopting.{AnswersAdoption, IsOpenRegion};
 
 use crate::found::{AdoptFault, Found, WhyDisk};
 use crate::region::{read_front, read_region};
@@ -53,7 +53,7 @@ fn adopt_version<B: Berth>(
     ensures told { IsTrue (B.meaning berth.old).tells → head_of (B.meaning berth.old).held.region ≡ Version version → front.now ≡ take 16 (B.meaning berth.old).held.region → Adopts names.now (B.meaning berth.old).held.region (B.meaning berth.new).held.region result }
     ensures disk { IsTrue (B.meaning berth.old).tells → (B.meaning berth.new).held.disk ≡ (B.meaning berth.old).held.disk }
     ensures disks { IsTrue (B.meaning berth.old).tells → Ended SameDisk (B.meaning berth.old) (B.meaning berth.new) }
-    ensures moments { IsTrue (B.meaning berth.old).tells → IsOpen (B.meaning berth.old).held.region → Throughout (AdoptsFrom (B.meaning berth.old)) (B.meaning berth.old) (B.meaning berth.new) }
+    ensures moments { IsTrue (B.meaning berth.old).tells → IsOpenRegion (B.meaning berth.old).held.region → Throughout (AdoptsFrom (B.meaning berth.old)) (B.meaning berth.old) (B.meaning berth.new) }
     ensures adopted { IfOk result (AreAdopted (length names.now)) }
     ensures time { Passes (B.meaning berth.old) (B.meaning berth.new) }
     ensures cause { result ≡ Err fault.RegionFault → Rose (B.meaning berth.old).region_faults (B.meaning berth.new).region_faults }
@@ -72,7 +72,7 @@ fn close_flag<B: Berth>(berth: &mut B) -> Result<(), Failed>
     ensures err { IsTrue (B.meaning berth.old).tells → OnErr result (Torn 0 1 (B.meaning berth.old).held.region (B.meaning berth.new).held.region) }
     ensures disk { IsTrue (B.meaning berth.old).tells → (B.meaning berth.new).held.disk ≡ (B.meaning berth.old).held.disk }
     ensures disks { IsTrue (B.meaning berth.old).tells → Ended SameDisk (B.meaning berth.old) (B.meaning berth.new) }
-    ensures moments { IsTrue (B.meaning berth.old).tells → IsOpen (B.meaning berth.old).held.region → Throughout (AdoptsFrom (B.meaning berth.old)) (B.meaning berth.old) (B.meaning berth.new) }
+    ensures moments { IsTrue (B.meaning berth.old).tells → IsOpenRegion (B.meaning berth.old).held.region → Throughout (AdoptsFrom (B.meaning berth.old)) (B.meaning berth.old) (B.meaning berth.new) }
     ensures time { Passes (B.meaning berth.old) (B.meaning berth.new) }
     ensures cause { HasCause (B.meaning berth.old).region_faults (B.meaning berth.new).region_faults result }
     ensures reads { (B.meaning berth.new).disk_reads ≡ (B.meaning berth.old).disk_reads }
@@ -88,7 +88,7 @@ fn adopt_image<B: Berth>(
     berth: &mut B,
 ) -> Result<Found, AdoptFault>
     requires distinct { AreDistinct names.now }
-    ensures told { (region : List ℕ) → IsTrue (B.meaning berth.old).tells → (B.meaning berth.old).held.region ≡ closed_flag region → head_of region ≡ Version 1 → front.now ≡ take 16 region → IsAnswer names.now region result }
+    ensures told { (region : List ℕ) → IsTrue (B.meaning berth.old).tells → (B.meaning berth.old).held.region ≡ closed_flag region → head_of region ≡ Version 1 → front.now ≡ take 16 region → AnswersAdoption names.now region result }
     ensures held { IsTrue (B.meaning berth.old).tells → (B.meaning berth.new).held ≡ (B.meaning berth.old).held }
     ensures disks { IsTrue (B.meaning berth.old).tells → Ended SameDisk (B.meaning berth.old) (B.meaning berth.new) }
     ensures stays { IsTrue (B.meaning berth.old).tells → Stays (B.meaning berth.old) (B.meaning berth.new) }
@@ -104,7 +104,7 @@ fn adopt_image<B: Berth>(
 /// What these bytes, whose flag is open, have of tables.
 fn found_in(alloc: Global, names: &[Text], bytes: &[u8]) -> Result<Found, AdoptFault>
     requires distinct { AreDistinct names.now }
-    ensures answer { head_of bytes.now ≡ Version 1 → IsAnswer names.now bytes.now result }
+    ensures answer { head_of bytes.now ≡ Version 1 → AnswersAdoption names.now bytes.now result }
     ensures adopted { IfOk result (AreAdopted (length names.now)) }
     ensures no_fault { result ≢ Err fault.RegionFault }
 {

@@ -2,7 +2,7 @@
 use Rattle.std.specs.Prelude.{◌≡◌, ℕ, ◌-◌, ◌<◌, ◌≤◌, Bool, true, false, List, [], length, take, drop}
 
 -- all that an open file means
-pub record Contents : Type 0 where
+pub record FileContents : Type 0 where
   -- whether it tells its contents; where it does not, the rest says nothing
   pub tells : Bool
   -- what reads give
@@ -11,7 +11,7 @@ pub record Contents : Type 0 where
   pub keeps : List ℕ
 
 -- a file of the system: nothing is told of it
-abbrev pub untold_file : Contents
+abbrev pub untold_file : FileContents
 untold_file = record { tells = false; holds = []; keeps = [] }
 
 -- the bytes from `at` on, as many as it likes, but one at least where there is one and room for it
@@ -21,5 +21,5 @@ pub record GivesSome (at : ℕ) (content buf : List ℕ) (n : ℕ) : Type 0 wher
   pub bytes : take n buf ≡ take n (drop at content)
 
 -- a file that tells these bytes, which are on the device
-abbrev pub told_file : List ℕ → Contents
+abbrev pub told_file : List ℕ → FileContents
 told_file bytes = record { tells = true; holds = bytes; keeps = bytes }

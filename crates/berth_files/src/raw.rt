@@ -3,7 +3,7 @@ ghost use Rattle.std.specs.Prelude.{◌≡◌, ◌+◌, ◌-◌, ◌^◌, ◌<�
 ghost use Rattle.std.specs.Io.{ReadsAtMost};
 ghost use Rattle.std.proofs.lemmas.Bool.{false≢true};
 ghost use Rattle.berth_face.specs.Berth.{written};
-ghost use Rattle.berth_files.specs.Raw.{Contents, GivesSome, untold_file};
+ghost use Rattle.berth_files.specs.Raw.{FileContents, GivesSome, untold_file};
 
 use berth_face::Failed;
 use std::fs::File;
@@ -13,7 +13,7 @@ use std::os::unix::fs::FileExt;
 /// An open file. What is proved over it holds of each file that does as these clauses say; that a
 /// file of the system does is trusted.
 pub(crate) trait RawFile {
-    ghost contents: { Self → Contents };
+    ghost contents: { Self → FileContents };
 
     fn len(&self) -> Result<u64, Failed>
         ensures told { IsTrue (contents self.now).tells → IfOk result (λ n. n ≡ length (contents self.now).holds) };

@@ -11,7 +11,7 @@ abbrev pub AreBytes : List ℕ → Type 0
 AreBytes bytes = (i : ℕ) → slice_index bytes i < 256
 
 -- how many bits were written, and the number that they are
-pub record Written : Type 0 where
+pub record WrittenBits : Type 0 where
   pub value : ℕ
   pub bits : ℕ
 

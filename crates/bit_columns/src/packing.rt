@@ -18,9 +18,9 @@ struct BitWriter {
 
 impl Model for BitWriter {
     ghost use Rattle.std.specs.Prelude.{◌+◌, ◌*◌, ◌^◌, length};
-    ghost use Rattle.bit_columns.specs.Number.{number, Written, AreWaiting};
+    ghost use Rattle.bit_columns.specs.Number.{number, WrittenBits, AreWaiting};
 
-    ghost Value = { Written };
+    ghost Value = { WrittenBits };
 
     ghost view = { λ writer. record {
       value = number writer.bytes.items + writer.waiting * 2 ^ (8 * length writer.bytes.items);

@@ -4,7 +4,7 @@ use Rattle.bit_columns.specs.Bits.{BitString, PackedCodes}
 use Rattle.column_bytes.specs.declared.form.Form.{Form}
 use Rattle.column_bytes.specs.Cells.{coded_of, IsExtra, AreCodes}
 
-pub record IsHeld (form : Form) (n : ℕ) (bits : Option BitString) (packed : PackedCodes) (part : List ℕ) : Type 0 where
+pub record IsHeldColumn (form : Form) (n : ℕ) (bits : Option BitString) (packed : PackedCodes) (part : List ℕ) : Type 0 where
   pub some : 0 < n
   pub few : n ≤ 65536
   pub presence : IfSome bits (λ found. found.count ≡ n)

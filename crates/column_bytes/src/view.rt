@@ -37,13 +37,13 @@ pub struct ColumnView<'a> {
 
 impl<'a> Model for ColumnView<'a> {
     ghost use Rattle.column_bytes.specs.Cells.{Coded, coded_of};
-    ghost use Rattle.column_bytes.specs.Held.{IsHeld};
+    ghost use Rattle.column_bytes.specs.Held.{IsHeldColumn};
 
     ghost Value = { Coded };
 
     ghost view = { λ column. coded_of column.form column.count column.presence column.packed column.extra.now };
 
-    ghost invariant = { λ column. IsHeld column.form column.count column.presence column.packed column.extra.now };
+    ghost invariant = { λ column. IsHeldColumn column.form column.count column.presence column.packed column.extra.now };
 }
 
 // The base and what is to be added to it, which the column's reading found to be an i64.

@@ -8,7 +8,7 @@ use Rattle.region_layout.specs.Images.{images_of}
 use Rattle.disk_backup.specs.State.{LogState}
 use Rattle.drain_copy.specs.declared.step.Next.TheVariants as next
 use Rattle.drain_copy.specs.Draining.{DrainState, Draining}
-use Rattle.crash_events.specs.Left.{Tables}
+use Rattle.crash_events.specs.Left.{NamedStates}
 use Rattle.crash_moments.specs.Watched.{Watched, now_of}
 use Rattle.crash_moments.specs.Told.{SeenMore, Told}
 use Rattle.crash_moments.proofs.Telling.{none_more, opened_more}
@@ -39,7 +39,7 @@ planned ws owner tables log drain writes m runs none taken plan = record {
 }
 
 -- at each moment of a step
-pub step_told : (ws : List Watched) (others : Tables) (drain : DrainState) (writes : List ℕ → List Write) (a b : Meaning)
+pub step_told : (ws : List Watched) (others : NamedStates) (drain : DrainState) (writes : List ℕ → List Write) (a b : Meaning)
     → Copies ws drain writes a → DrainStepped drain a b → Told others ws ws a b
 step_told ws others drain writes a b copies stepped = record {
   passes = stepped.passes;

@@ -6,8 +6,8 @@ use Rattle.std.proofs.lemmas.Option.{same_Some}
 use Rattle.leaf_model.specs.declared.writes.Write.{Write}
 use Rattle.leaf_history.specs.Calls as call
 use Rattle.leaf_history.specs.Replies as reply
-use Rattle.leaf_history.specs.History.{Entry, TableState, LegalFrom, after}
-use Rattle.leaf_history.specs.Laws.{AreCallers, Keeps}
+use Rattle.leaf_history.specs.History.{Entry, HistoryState, LegalFrom, after}
+use Rattle.leaf_history.specs.Laws.{AreCallers, CallersKeep}
 use Rattle.leaf_history.proofs.Histories.{LegalFrom-front, LegalFrom-back, after-append, others_keep}
 use Rattle.crash_moments.specs.Watched.{Watched, IsFoundation, IsWatched, AreWatched, AreApart, Between, is_watched, now_of}
 use Rattle.crash_moments.specs.Told.{SeenMore}
@@ -48,17 +48,17 @@ handed_watched clock w w' hands watched =
 -- on a shut table callers changed nothing, so that it was only handed over
 handed_state : (clock : ℕ) (w w' : Watched) → HandsOne clock w w' → (now_of w).live ≡ false → now_of w' ≡ record (now_of w) { handed = true }
 handed_state clock w w' hands shut =
-    let s : TableState = now_of w in
+    let s : HistoryState = now_of w in
     let more : List Entry = added clock w w' hands in
     let legal : LegalFrom true w.base (w.seen ++ more) =
-    subst (λ (es : List Entry). LegalFrom true w.base es) hands.seen (subst (λ (base : TableState). LegalFrom true base w'.seen) hands.base hands.legal) in
+    subst (λ (es : List Entry). LegalFrom true w.base es) hands.seen (subst (λ (base : HistoryState). LegalFrom true base w'.seen) hands.base hands.legal) in
     let callers : LegalFrom true s hands.between = LegalFrom-front true s hands.between (done clock ∷ []) (LegalFrom-back true w.base w.seen more legal) in
-    let keeps : Keeps s (after true s hands.between) = others_keep true s hands.between callers hands.others in
-    ap (λ (base : TableState). after true base w'.seen) hands.base
+    let keeps : CallersKeep s (after true s hands.between) = others_keep true s hands.between callers hands.others in
+    ap (λ (base : HistoryState). after true base w'.seen) hands.base
     ∙ ap (λ (es : List Entry). after true w.base es) hands.seen
     ∙ after-append true w.base w.seen more
     ∙ after-append true s hands.between (done clock ∷ [])
-    ∙ ap (λ (t : TableState). after true t (done clock ∷ [])) (keeps.shut shut)
+    ∙ ap (λ (t : HistoryState). after true t (done clock ∷ [])) (keeps.shut shut)
 
 handed_has : (clock : ℕ) (writes : List Write) (w w' : Watched) → HandsOne clock w w' → IsTreated writes (now_of w) → HasAll writes (now_of w')
 handed_has clock writes w w' hands is = subst (HasAll writes) (sym (handed_state clock w w' hands is.shut)) (record { shut = is.shut; whole = is.whole; flushed = is.flushed })

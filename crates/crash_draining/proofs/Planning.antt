@@ -8,7 +8,7 @@ use Rattle.std.proofs.lemmas.Slice.Eq.{bytes_eq-Decides}
 use Rattle.leaf_model.specs.declared.writes.Write.{Write}
 use Rattle.leaf_model.specs.Content.{content}
 use Rattle.row_records.specs.Records.{LogRecord}
-use Rattle.leaf_history.specs.History.{TableState}
+use Rattle.leaf_history.specs.History.{HistoryState}
 use Rattle.berth_face.specs.Berth.{Meaning}
 use Rattle.berth_face.specs.Moments.{EachNow}
 use Rattle.table_state.specs.Tables.{Table}
@@ -58,7 +58,7 @@ image_named writes name (w ∷ ws) (t ∷ tables) count each others =
 -- ---- the copy that is planned
 
 -- all of a table was taken, so that all of it is in the log
-all_logged : (logged taken : List Write) (s : TableState) → IsLogged logged taken s → s.taken ≡ length s.writes → s.writes ≡ taken
+all_logged : (logged taken : List Write) (s : HistoryState) → IsLogged logged taken s → s.taken ≡ length s.writes → s.writes ≡ taken
 all_logged logged taken s is all = sym (take_all s.taken s.writes (omega (arith, all))) ∙ is.front
 
 module _ (ws : List Watched) (owner : ℕ) (tables : List Table) (log : LogState) (drain : DrainState) (writes : List ℕ → List Write) (m : Meaning)

@@ -3,7 +3,7 @@ use Rattle.std.proofs.Common.{◌≡◌, ◌⊎◌, inl, inr, ◌∙◌, ℕ, �
 use Rattle.std.specs.Prelude.{slice_get}
 use Rattle.std.proofs.lemmas.List.{take_all}
 use Rattle.leaf_model.specs.declared.writes.Write.{Write}
-use Rattle.leaf_history.specs.History.{TableState, no_base}
+use Rattle.leaf_history.specs.History.{HistoryState, no_base}
 use Rattle.berth_face.specs.Berth.{Meaning}
 use Rattle.berth_face.specs.Moments.{EachNow}
 use Rattle.region_layout.specs.declared.image.TableImage.{TableImage}
@@ -13,7 +13,7 @@ use Rattle.disk_backup.specs.Logs.{open_records}
 use Rattle.disk_backup.specs.Settling.{HasLog}
 use Rattle.leaf_opening.specs.Backed.{AreImagesOf, IsImageOf, IsShort}
 use Rattle.leaf_opening.proofs.Logs.{none_short}
-use Rattle.crash_events.specs.Left.{Tables}
+use Rattle.crash_events.specs.Left.{NamedStates}
 use Rattle.crash_moments.specs.Watched.{Watched, IsFoundation, IsWatched, AreWatched, is_watched, now_of, others_then, was_opened}
 use Rattle.crash_states.specs.Standing.{StandsNow, IsKept, IsTreated, IsWhole, Rests, RegionRests, is_closed, is_image, tables_of}
 use Rattle.crash_states.proofs.Names.{IsOwn, IsForeign, find_name, no_others, each_at}
@@ -23,12 +23,12 @@ use Rattle.crash_states.proofs.Disks.{sound_log}
 -- ---- one table
 
 -- all of a shut table is in the log
-pub record HasAll (writes : List Write) (s : TableState) : Type 0 where
+pub record HasAll (writes : List Write) (s : HistoryState) : Type 0 where
   pub shut : s.live ≡ false
   pub whole : s.writes ≡ writes
   pub flushed : s.flushed ≤ length writes
 
-pub treated_has : (writes : List Write) (s : TableState) → IsTreated writes s → HasAll writes s
+pub treated_has : (writes : List Write) (s : HistoryState) → IsTreated writes s → HasAll writes s
 treated_has writes s is = record { shut = is.shut; whole = is.whole; flushed = is.flushed }
 
 -- a name with no writes has none in the log
@@ -36,7 +36,7 @@ none_has : (writes : List Write) → writes ≡ [] → HasAll writes no_base
 none_has writes none = record { shut = refl; whole = sym none; flushed = omega arith }
 
 -- then the shortest of its logs is the longest
-has_kept : (writes : List Write) (s : TableState) → HasAll writes s → IsKept writes writes s
+has_kept : (writes : List Write) (s : HistoryState) → HasAll writes s → IsKept writes writes s
 has_kept writes s has =
     let all : writes ≡ take (length writes) s.writes = sym (ap (λ (l : List Write). take (length writes) l) has.whole ∙ take_all (length writes) writes (omega arith)) in
     record { shut = has.shut; flushed = has.flushed; shortest = all; longest = all; handed = λ over. (sym has.whole, sym has.whole) }
@@ -78,11 +78,11 @@ module _ (ws : List Watched) (writes : List ℕ → List Write) (m : Meaning) (e
       let gate : List ℕ = had.1.gate ∷ had.1.rest in
       omega (arith, ap (λ (l : List ℕ). length l) (sym none ∙ had.1.is), length-append (open_records had.0) gate)
 
-  module _ (others : Tables) where
-    abbrev outside : Tables
+  module _ (others : NamedStates) where
+    abbrev outside : NamedStates
     outside = others_then (was_opened m.clock ws) others
 
-    abbrev tables : Tables
+    abbrev tables : NamedStates
     tables = tables_of others ws m
 
     -- where each name stands, all of it is in the log

@@ -8,7 +8,7 @@ use Rattle.region_layout.specs.Region.{IsClosed}
 use Rattle.disk_backup.specs.Settling.{HasLog}
 use Rattle.drain_copy.specs.declared.step.Next.TheVariants as next
 use Rattle.drain_copy.specs.Draining.{DrainState, DrainsFrom, AllClosed}
-use Rattle.crash_events.specs.Left.{Tables, Left}
+use Rattle.crash_events.specs.Left.{NamedStates, Left}
 use Rattle.crash_moments.specs.Watched.{Watched, IsWatched, AreWatched, Between, tables_then, was_opened}
 use Rattle.crash_moments.specs.Told.{reads_one}
 use Rattle.crash_moments.proofs.Telling.{between_wider, none_more, opened_more, then_now}
@@ -44,7 +44,7 @@ just_each P clock p has q same = subst P (sym same) has
 just_stands : (clock : ℕ) (p : Pair) → StandsNow (just clock p)
 just_stands clock p = record { reads = refl; regions = just_each (λ q. (q.region ≡ p.region) ⊎ (q.region ≡ [])) clock p (inl refl) }
 
-module _ (ws : List Watched) (others : Tables) (drain : DrainState) (writes : List ℕ → List Write) (a : Meaning) (copies : Copies ws drain writes a) (p : Pair) (log : HasLog writes copies.log_end p.disk) where
+module _ (ws : List Watched) (others : NamedStates) (drain : DrainState) (writes : List ℕ → List Write) (a : Meaning) (copies : Copies ws drain writes a) (p : Pair) (log : HasLog writes copies.log_end p.disk) where
   -- a pair with the log and a closed region is of a copy that was not begun
   closed_left : IsClosed p.region → Left reads_one (tables_then others a.clock ws) p
   closed_left closed =
@@ -90,9 +90,9 @@ module _ (ws : List Watched) (drain : DrainState) (writes : List ℕ → List Wr
   same_log p came = subst (λ (disk : List ℕ). HasLog writes copies.log_end disk) (sym came.disk) (copies.logs came.from came.was)
 
   -- a pair of any moment belongs to the tables as they stood then
-  pub step_left : (others : Tables) (t : ℕ) (p : Pair) → a.clock ≤ t → DrainsFrom drain a p → Left reads_one (tables_then others t ws) p
+  pub step_left : (others : NamedStates) (t : ℕ) (p : Pair) → a.clock ≤ t → DrainsFrom drain a p → Left reads_one (tables_then others t ws) p
   step_left others t p from came =
-      subst (λ (tables : Tables). Left reads_one tables p) (sym (then_now others a.clock t ws from (all_made a.clock ws copies.watched.each))) (by came.region)
+      subst (λ (tables : NamedStates). Left reads_one tables p) (sym (then_now others a.clock t ws from (all_made a.clock ws copies.watched.each))) (by came.region)
     where
       by : IsClosed p.region ⊎ ((drain.next ≡ next.Flag) × (p.region ≡ drain.image)) → Left reads_one (tables_then others a.clock ws) p
       by (inl closed) = closed_left ws others drain writes a copies p (same_log p came) closed

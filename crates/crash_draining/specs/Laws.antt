@@ -9,7 +9,7 @@ use Rattle.region_layout.specs.Images.{images_of}
 use Rattle.disk_backup.specs.State.{LogState}
 use Rattle.drain_copy.specs.declared.step.Next.TheVariants as next
 use Rattle.drain_copy.specs.Draining.{DrainState, DrainsFrom}
-use Rattle.crash_events.specs.Left.{Tables}
+use Rattle.crash_events.specs.Left.{NamedStates}
 use Rattle.crash_moments.specs.Watched.{Watched, IsFoundation, now_of}
 use Rattle.crash_moments.specs.Told.{SeenMore}
 use Rattle.crash_states.specs.Standing.{Rests, Copies, Holds, IsContentOf, StandsNow}
@@ -34,7 +34,7 @@ pub record DrainStepped (drain : DrainState) (a b : Meaning) : Type 0 where
 
 -- what is left of a leaf whose copy ended, or was given up
 abbrev pub LeftAt : List Watched → (List ℕ → List Write) → Meaning → Type 0
-LeftAt ws writes m = (others : Tables) → ((name : List ℕ) → IsFoundation (others name)) → Rests ws others writes None m
+LeftAt ws writes m = (others : NamedStates) → ((name : List ℕ) → IsFoundation (others name)) → Rests ws others writes None m
 
 -- its tables were handed over
 pub record HandsOver (ws ws' : List Watched) (writes : List ℕ → List Write) (m : Meaning) : Type 0 where

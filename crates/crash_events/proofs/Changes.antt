@@ -4,7 +4,7 @@ use Rattle.std.specs.Prelude.{◌==◌, ◌≢◌, if◌then◌else◌}
 use Rattle.std.proofs.lemmas.List.{length-append}
 use Rattle.std.proofs.lemmas.Bool.{eq-eqb, eqb-true}
 use Rattle.leaf_model.specs.declared.writes.Write.{Write}
-use Rattle.leaf_history.specs.History.{TableState, write_count, written}
+use Rattle.leaf_history.specs.History.{HistoryState, write_count, written}
 use Rattle.crash_events.specs.Machine.{Tracked, Hand, Mode, Down, RegionIs, Closed}
 use Rattle.crash_events.specs.Events.{hand_of}
 use Rattle.crash_events.specs.Kept.{in_hand, stays, is_shut, may_be_live, is_tight, has_no_hand, is_up, KeptTable, KeptIn}
@@ -17,7 +17,7 @@ one_goes mode region hand ts t x y at f k =
     let P : ℕ → Tracked → Type 0 = λ i z. KeptTable mode region (in_hand hand i) z in
     (k.0, Places-set P P 0 t ts x y at (λ i z n h. h) (rw zero-add (f (subst (λ i. P i x) (zero-add t) (Places-get P 0 t ts x at k.1)))) k.1)
 
-write_count-written : (s : TableState) (w : Write) → write_count (written s w) ≡ write_count s + 1
+write_count-written : (s : HistoryState) (w : Write) → write_count (written s w) ≡ write_count s + 1
 write_count-written s w = rw (length-append s.writes (w ∷ [])) (omega arith)
 
 -- an accepted write of an open table

@@ -3,7 +3,7 @@ use Rattle.std.proofs.Common.{◌≡◌, ℕ, ◌+◌, Bool, true, false, List, 
 use Rattle.std.specs.Prelude.{if◌then◌else◌, bytes_eq}
 use Rattle.berth_face.specs.Berth.{Pair}
 use Rattle.row_records.specs.Records.{LogRecord}
-use Rattle.crash_events.specs.Left.{Tables}
+use Rattle.crash_events.specs.Left.{NamedStates}
 use Rattle.crash_events.specs.Machine.{Machine, Tracked, Down, RegionIs, Closed, Whole, Either, Other}
 use Rattle.crash_events.specs.Events.{Resettled, AfterCrash, Step, crash}
 use Rattle.crash_events.specs.Kept.{AllPlaces}
@@ -42,7 +42,7 @@ closes Whole = tt
 closes Either = tt
 closes Other = tt
 
-region_after : (reads : ℕ → Bool) (base tables : Tables) (pair : Pair) (end : ℕ) (r : RegionIs) → ((name : List ℕ) → tables name ≡ base name) → RegionFits reads base pair end r
+region_after : (reads : ℕ → Bool) (base tables : NamedStates) (pair : Pair) (end : ℕ) (r : RegionIs) → ((name : List ℕ) → tables name ≡ base name) → RegionFits reads base pair end r
     → (r' : RegionIs) × AfterCrash r r' × RegionFits reads tables pair end r'
 region_after reads base tables pair end r same (shows_lost none) = (Closed, closes r, shows_lost none)
 region_after reads base tables pair end r same (shows_closed may shut) = (Closed, closes r, shows_closed refl shut)

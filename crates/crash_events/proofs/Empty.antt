@@ -9,8 +9,8 @@ use Rattle.leaf_history.specs.History.{no_base}
 use Rattle.region_layout.proofs.Heads.{closed_head, image_head}
 use Rattle.row_records.specs.Records.{LogRecord}
 use Rattle.disk_backup.specs.Logs.{IsLog, is_short, is_gated, writes_of}
-use Rattle.crash_events.specs.Left.{Tables, Left, closed}
-use Rattle.crash_events.specs.Base.{HasLog, IsReady}
+use Rattle.crash_events.specs.Left.{NamedStates, Left, closed}
+use Rattle.crash_events.specs.Base.{HasWritesOf, IsReady}
 
 abbrev pub empty : Pair
 empty = record { region = []; disk = [] }
@@ -19,7 +19,7 @@ empty = record { region = []; disk = [] }
 abbrev pub empty_berth : Meaning
 empty_berth = record { tells = true; held = empty; clock = 0; leaves = λ t p. p ≡ empty; region_faults = 0; disk_faults = 0; disk_reads = 0 }
 
-abbrev pub no_tables : Tables
+abbrev pub no_tables : NamedStates
 no_tables name = no_base
 
 no_records : (records : List LogRecord) (end : ℕ) → IsLog [] records end → records ≡ []
@@ -29,15 +29,15 @@ no_records records end (is_gated gate rest each is shut at long) = absurd (wrong
     wrong : 1 < 0 → ⊥
     wrong h = omega (arith, h)
 
-no_log : (p : Pair) (name : List ℕ) (writes : List Write) → p ≡ empty → HasLog p.disk name writes → writes ≡ []
+no_log : (p : Pair) (name : List ℕ) (writes : List Write) → p ≡ empty → HasWritesOf p.disk name writes → writes ≡ []
 no_log p name writes is has =
     let log : IsLog [] has.0 has.1 = subst (λ (q : Pair). IsLog q.disk has.0 has.1) is has.2 in
     has.3 ∙ ap (λ rs. writes_of name rs) (no_records has.0 has.1 log)
 
-none_there : (p : Pair) (name : List ℕ) (writes : List Write) → p ≡ empty → HasLog p.disk name writes → length writes ≡ 0
+none_there : (p : Pair) (name : List ℕ) (writes : List Write) → p ≡ empty → HasWritesOf p.disk name writes → length writes ≡ 0
 none_there p name writes is has = ap (λ (ws : List Write). length ws) (no_log p name writes is has)
 
-empty_log : (name : List ℕ) → HasLog [] name []
+empty_log : (name : List ℕ) → HasWritesOf [] name []
 empty_log name = ([], 0, is_short (lit≤ tt) refl refl, refl)
 
 empty_left : (reads : ℕ → Bool) → Left reads no_tables empty

@@ -4,10 +4,10 @@ use Rattle.std.specs.Prelude.{if◌then◌else◌, bytes_eq}
 use Rattle.std.proofs.lemmas.Slice.Eq.{bytes_eq-Decides}
 use Rattle.std.proofs.Math.Seq.{take-length}
 use Rattle.berth_face.specs.Berth.{Pair}
-use Rattle.leaf_history.specs.History.{TableState}
+use Rattle.leaf_history.specs.History.{HistoryState}
 use Rattle.row_records.specs.Records.{LogRecord}
 use Rattle.disk_backup.specs.Logs.{writes_of}
-use Rattle.crash_events.specs.Left.{Tables, Left, RegionLeft, closed, other_version, image}
+use Rattle.crash_events.specs.Left.{NamedStates, Left, RegionLeft, closed, other_version, image}
 use Rattle.crash_events.specs.Machine.{Machine, Tracked, RegionIs, Whole, Either, Other}
 use Rattle.crash_events.specs.Events.{IsSettled, MayBe}
 use Rattle.crash_events.specs.Kept.{KeptTable, Kept, AllPlaces, in_hand, holds_image, is_frozen, stays}
@@ -17,7 +17,7 @@ use Rattle.crash_events.proofs.Leaving.{may_be_between}
 use Rattle.crash_events.proofs.Modes.{or_left}
 
 -- what is known of a name's log and its state
-abbrev Front : TableState → List LogRecord → List ℕ → Type 0
+abbrev Front : HistoryState → List LogRecord → List ℕ → Type 0
 Front s records name = (m : ℕ) × (m ≤ length s.writes) × (s.flushed ≤ m) × (writes_of name records ≡ take m s.writes)
 
 fronts : (m : Machine) (records : List LogRecord) (name : List ℕ) (b : ℕ) (xs : List Tracked)
@@ -54,7 +54,7 @@ wholes m records name frozen b (x ∷ xs) k l plain others = by (bytes_eq name x
         ap (λ v. writes_of v records) same ∙ (l.0.2 ∙ (ap (λ i. take i x.state.writes) all ∙ take-length x.state.writes))
     by false e rest = rest (λ h. others (e, h))
 
-regions : (reads : ℕ → Bool) (tables : Tables) (pair : Pair) (records : List LogRecord) (end : ℕ) (r : RegionIs)
+regions : (reads : ℕ → Bool) (tables : NamedStates) (pair : Pair) (records : List LogRecord) (end : ℕ) (r : RegionIs)
     → (holds_image r ≡ true → (name : List ℕ) → writes_of name records ≡ (tables name).writes)
     → RegionFits reads tables pair end r → RegionLeft reads tables pair records end
 regions reads tables pair records end r whole (shows_lost none) = closed (inl (let short : length pair.region ≡ 0 = ap (λ (bytes : List ℕ). length bytes) none in omega (arith, short)))

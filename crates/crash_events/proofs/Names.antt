@@ -9,11 +9,11 @@ use Rattle.leaf_model.specs.declared.writes.Write.{Write}
 use Rattle.region_layout.specs.Region.{AreDistinct}
 use Rattle.row_records.specs.Records.{LogRecord}
 use Rattle.disk_backup.specs.Logs.{writes_of}
-use Rattle.crash_events.specs.Left.{Tables, Left}
+use Rattle.crash_events.specs.Left.{NamedStates, Left}
 use Rattle.crash_events.specs.Base.{IsReady}
 use Rattle.crash_events.specs.Machine.{Tracked}
 use Rattle.crash_events.specs.Fits.{IsElsewhere}
-use Rattle.crash_events.specs.Begins.{begun_tables, LeavesItself, HasNoOther, Begins}
+use Rattle.crash_events.specs.Begins.{begun_tables, LeavesItself, HasNoOther, MachineBegins}
 use Rattle.crash_events.proofs.Places.{no, both}
 use Rattle.crash_events.proofs.Beginning.{ButOne, name_of, names_are, but_one}
 use Rattle.crash_events.proofs.Ready.{ready_begins}
@@ -103,7 +103,7 @@ elsewhere name [] far = tt
 elsewhere name (x ∷ xs) far = (far.0, elsewhere name xs far.1)
 
 -- such names there are
-pub others_found : (reads : ℕ → Bool) (berth : Meaning) (base : Tables) (own : List (List ℕ)) → IsReady reads berth base → LeavesItself berth → AreDistinct own
+pub others_found : (reads : ℕ → Bool) (berth : Meaning) (base : NamedStates) (own : List (List ℕ)) → IsReady reads berth base → LeavesItself berth → AreDistinct own
     → (others : List (List ℕ)) × AreDistinct (own ++ others) × HasNoOther base (begun_tables base own others)
 others_found reads berth base own ready itself distinct =
     let may : Pair → Type 0 = λ q. berth.leaves berth.clock q in
@@ -124,8 +124,8 @@ others_found reads berth base own ready itself distinct =
     )
 
 -- over a ready berth a leaf with these tables begins
-pub leaf_begins : (reads : ℕ → Bool) (berth : Meaning) (base : Tables) (own : List (List ℕ)) → IsReady reads berth base → LeavesItself berth → AreDistinct own
-    → (others : List (List ℕ)) × AreDistinct (own ++ others) × Begins reads berth base own others
+pub leaf_begins : (reads : ℕ → Bool) (berth : Meaning) (base : NamedStates) (own : List (List ℕ)) → IsReady reads berth base → LeavesItself berth → AreDistinct own
+    → (others : List (List ℕ)) × AreDistinct (own ++ others) × MachineBegins reads berth base own others
 leaf_begins reads berth base own ready itself distinct =
     let found = others_found reads berth base own ready itself distinct in
     (found.0, found.1, ready_begins reads berth base own found.0 ready itself found.1 found.2)

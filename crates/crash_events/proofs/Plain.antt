@@ -3,7 +3,7 @@ use Rattle.std.proofs.Common.{◌≡◌, ℕ, zero, suc, ◌+◌, Bool, true, fa
 use Rattle.std.specs.Prelude.{if◌then◌else◌}
 use Rattle.leaf_history.specs.Calls.{Call}
 use Rattle.leaf_history.specs.Calls as call
-use Rattle.leaf_history.specs.History.{TableState, changed, after_entry, is_refusal}
+use Rattle.leaf_history.specs.History.{HistoryState, changed, after_entry, is_refusal}
 use Rattle.crash_events.specs.Laws.{IsPlain}
 use Rattle.crash_events.specs.Machine.{Machine, Tracked}
 use Rattle.crash_events.specs.Events.{Step, turn, take_writes, close_taking, close, lay, gate, gate_sync, flushed, prepare, plan, copy, open_flag, flag_open, done, kill, fail, find, close_flag, flag_closed, way, adopt, first_gate, barrier, open_table, stop, crash, Resettled, emptied, forgotten, open_call}
@@ -20,7 +20,7 @@ plain_put (y ∷ ts) zero x e p = (e, p.1)
 plain_put (y ∷ ts) (suc t) x e p = (p.0, plain_put ts t x e p.1)
 
 -- a call of a founded table changes nothing of it
-stays_in : (s : TableState) (c : Call) → (changed true s c).handed_in ≡ s.handed_in
+stays_in : (s : HistoryState) (c : Call) → (changed true s c).handed_in ≡ s.handed_in
 stays_in s (call.Add rows) = refl
 stays_in s (call.Expire horizon) = refl
 stays_in s (call.Keep n) = refl
@@ -31,7 +31,7 @@ stays_in s call.Shut = refl
 stays_in s call.Done = refl
 stays_in s (call.Open n contents) = refl
 
-by_entry : (s : TableState) (c : Call) (refused : Bool) → (if refused then s else changed true s c).handed_in ≡ s.handed_in
+by_entry : (s : HistoryState) (c : Call) (refused : Bool) → (if refused then s else changed true s c).handed_in ≡ s.handed_in
 by_entry s c true = refl
 by_entry s c false = stays_in s c
 
@@ -49,7 +49,7 @@ all_forgotten : (xs : List Tracked) → IsPlain xs → IsPlain (map forgotten xs
 all_forgotten [] p = tt
 all_forgotten (x ∷ xs) p = (forgetting x x.own ∙ p.0, all_forgotten xs p.1)
 
-one : (m : Machine) (t : ℕ) (x : Tracked) (s : TableState) → slice_get m.tables t ≡ Some x → s.handed_in ≡ x.state.handed_in → IsPlain m.tables → IsPlain (slice_set m.tables t (record x { state = s }))
+one : (m : Machine) (t : ℕ) (x : Tracked) (s : HistoryState) → slice_get m.tables t ≡ Some x → s.handed_in ≡ x.state.handed_in → IsPlain m.tables → IsPlain (slice_set m.tables t (record x { state = s }))
 one m t x s at same p = plain_put m.tables t (record x { state = s }) (same ∙ plain_get m.tables t x at p) p
 
 to : (m m' n : Machine) → m' ≡ n → IsPlain n.tables → IsPlain m'.tables

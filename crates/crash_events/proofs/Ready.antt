@@ -7,26 +7,26 @@ use Rattle.std.proofs.lemmas.Slice.Eq.{bytes_eq-Decides}
 use Rattle.berth_face.specs.Berth.{Pair, Meaning}
 use Rattle.leaf_model.specs.declared.writes.Write.{Write}
 use Rattle.leaf_model.specs.Content.{content}
-use Rattle.leaf_history.specs.History.{TableState, base_of, no_base}
+use Rattle.leaf_history.specs.History.{HistoryState, base_of, no_base}
 use Rattle.region_layout.specs.declared.head.Head.TheVariants.{Version}
 use Rattle.region_layout.specs.declared.image.TableImage.{TableImage}
 use Rattle.region_layout.specs.Region.{AreDistinct, IsImage, head_of}
 use Rattle.region_layout.proofs.Heads.{closed_head, image_head}
 use Rattle.row_records.specs.Records.{LogRecord}
 use Rattle.disk_backup.specs.Logs.{writes_of}
-use Rattle.crash_events.specs.Left.{Tables, Left, ImageOf, RegionLeft, closed, other_version, image}
-use Rattle.crash_events.specs.Base.{HasLog, IsBaseOf, IsFixed, HasTwoLengths, MayBegin, IsReady}
+use Rattle.crash_events.specs.Left.{NamedStates, Left, ImageOf, RegionLeft, closed, other_version, image}
+use Rattle.crash_events.specs.Base.{HasWritesOf, IsBaseOf, IsFixed, HasTwoLengths, PairsMayBegin, IsReady}
 use Rattle.crash_events.specs.Machine.{Machine, Tracked, Down, RegionIs, Closed, Whole, Either, Other}
 use Rattle.crash_events.specs.Kept.{is_frozen}
 use Rattle.crash_events.specs.Fits.{FitsPair, RegionFits, shows_lost, shows_closed, shows_whole, shows_other, state_of, IsElsewhere}
-use Rattle.crash_events.specs.Begins.{begun_tables, begun, RegionReads, reads_closed, reads_whole, reads_other, LeavesItself, HasNoOther, Begins}
+use Rattle.crash_events.specs.Begins.{begun_tables, begun, RegionReads, reads_closed, reads_whole, reads_other, LeavesItself, HasNoOther, MachineBegins}
 use Rattle.crash_events.proofs.Places.{no, both}
 use Rattle.crash_events.proofs.Fresh.{Fresh, IsAll, AtMostOne, OfLog, all_kept, no_hand, all_have}
 use Rattle.crash_events.proofs.Beginning.{IsBegun, ButOne, are_begun, names_are, flushed_le, are_fresh, are_plain, but_one, at_most_one, all_one}
 
 -- what a name's log has where it has one of two lengths
-two_lengths : (may : Pair → Type 0) (base : Tables) (p : Pair) (name : List ℕ) (records : List LogRecord) (m : ℕ) → HasTwoLengths may name (base name) → may p
-    → HasLog p.disk name (writes_of name records) → m ≤ length (base name).writes → writes_of name records ≡ take m (base name).writes
+two_lengths : (may : Pair → Type 0) (base : NamedStates) (p : Pair) (name : List ℕ) (records : List LogRecord) (m : ℕ) → HasTwoLengths may name (base name) → may p
+    → HasWritesOf p.disk name (writes_of name records) → m ≤ length (base name).writes → writes_of name records ≡ take m (base name).writes
     → (m ≡ (base name).flushed) ⊎ (m ≡ length (base name).writes)
 two_lengths may base p name records m two left has le is =
     let long : length (writes_of name records) ≡ m = ap (λ (ws : List Write). length ws) is ∙ length-take m (base name).writes ∙ omega (arith, le) in
@@ -36,10 +36,10 @@ two_lengths may base p name records m two left has le is =
     ]
 
 -- a name whose logs have one length has just its base's writes
-fixed_two : (may : Pair → Type 0) (base : Tables) (name : List ℕ) → IsBaseOf may name (base name) → IsFixed may name → HasTwoLengths may name (base name)
+fixed_two : (may : Pair → Type 0) (base : NamedStates) (name : List ℕ) → IsBaseOf may name (base name) → IsFixed may name → HasTwoLengths may name (base name)
 fixed_two may base name is fixed = λ p u left has. inr (fixed p is.longest.0 u (base name).writes left is.longest.1 has is.longest.2)
 
-each_two : (reads : ℕ → Bool) (may : Pair → Type 0) (now : Pair) (base : Tables) → MayBegin reads may now base → (name : List ℕ) → HasTwoLengths may name (base name)
+each_two : (reads : ℕ → Bool) (may : Pair → Type 0) (now : Pair) (base : NamedStates) → PairsMayBegin reads may now base → (name : List ℕ) → HasTwoLengths may name (base name)
 each_two reads may now base r name = elim r.one_open [
   | inl all ↦ fixed_two may base name (r.base_is name) (all name)
   | inr one ↦ by one.0 one.1 one.2 (bytes_eq name one.0) refl
@@ -50,34 +50,34 @@ each_two reads may now base r name = elim r.one_open [
     by but two rest false e = fixed_two may base name (r.base_is name) (rest name (λ same. both (bytes_eq name but) e ((bytes_eq-Decides name but).1 same)))
 
 -- what the log of such a pair has of each table
-log_one : (reads : ℕ → Bool) (may : Pair → Type 0) (now : Pair) (base : Tables) (p : Pair) → MayBegin reads may now base → may p → (l : Left reads base p) (x : Tracked) → IsBegun base x → OfLog l.records x
+log_one : (reads : ℕ → Bool) (may : Pair → Type 0) (now : Pair) (base : NamedStates) (p : Pair) → PairsMayBegin reads may now base → may p → (l : Left reads base p) (x : Tracked) → IsBegun base x → OfLog l.records x
 log_one reads may now base p r left l x b =
     let front = l.front x.name in
     let which : (front.0 ≡ (base x.name).flushed) ⊎ (front.0 ≡ length (base x.name).writes) =
     two_lengths may base p x.name l.records front.0 (each_two reads may now base r x.name) left (l.records, l.end, l.log, refl) front.1 front.3 in
-    let all : length x.state.writes ≡ length (base x.name).writes = ap (λ (s : TableState). length s.writes) b.0 in (
+    let all : length x.state.writes ≡ length (base x.name).writes = ap (λ (s : HistoryState). length s.writes) b.0 in (
       front.0,
       elim which [
         | inl e ↦ inl (e ∙ sym b.1)
         | inr e ↦ inr (e ∙ sym all)
       ],
-      front.3 ∙ ap (λ (s : TableState). take front.0 s.writes) (sym b.0),
+      front.3 ∙ ap (λ (s : HistoryState). take front.0 s.writes) (sym b.0),
     )
 
-logs_are : (reads : ℕ → Bool) (may : Pair → Type 0) (now : Pair) (base : Tables) (p : Pair) → MayBegin reads may now base → may p → (l : Left reads base p) (xs : List Tracked)
+logs_are : (reads : ℕ → Bool) (may : Pair → Type 0) (now : Pair) (base : NamedStates) (p : Pair) → PairsMayBegin reads may now base → may p → (l : Left reads base p) (xs : List Tracked)
     → AllByRecursion (IsBegun base) xs → AllByRecursion (OfLog l.records) xs
 logs_are reads may now base p r left l [] b = tt
 logs_are reads may now base p r left l (x ∷ xs) b = (log_one reads may now base p r left l x b.0, logs_are reads may now base p r left l xs b.1)
 
 -- nothing is known of a name with no writes
-nothing_there : (may : Pair → Type 0) (name : List ℕ) (s : TableState) → IsBaseOf may name s → s.writes ≡ [] → s ≡ no_base
+nothing_there : (may : Pair → Type 0) (name : List ℕ) (s : HistoryState) → IsBaseOf may name s → s.writes ≡ [] → s ≡ no_base
 nothing_there may name s is none =
     let le : s.flushed ≤ length s.writes = flushed_le may name s is in
     let few : length s.writes ≡ 0 = ap (λ (ws : List Write). length ws) none in
     let zero : s.flushed ≡ 0 = omega (arith, le, few) in
     is.is ∙ ap (λ (ws : List Write). base_of ws s.flushed) none ∙ ap (λ n. base_of [] n) zero
 
-state_is : (may : Pair → Type 0) (base : Tables) (name : List ℕ) (xs : List Tracked) → IsBaseOf may name (base name) → AllByRecursion (IsBegun base) xs
+state_is : (may : Pair → Type 0) (base : NamedStates) (name : List ℕ) (xs : List Tracked) → IsBaseOf may name (base name) → AllByRecursion (IsBegun base) xs
     → (IsElsewhere name xs → (base name).writes ≡ []) → state_of xs name ≡ base name
 state_is may base name [] is b none = sym (nothing_there may name (base name) is (none tt))
 state_is may base name (x ∷ xs) is b none = by (bytes_eq name x.name) refl (state_is may base name xs is b.1)
@@ -87,17 +87,17 @@ state_is may base name (x ∷ xs) is b none = by (bytes_eq name x.name) refl (st
     by false e rest = rest (λ h. none (e, h))
 
 -- an image of tables is one of the same tables
-abbrev IsImageOf : TableState → TableImage → Type 0
+abbrev IsImageOf : HistoryState → TableImage → Type 0
 IsImageOf s t = (t.rows ≡ (content s.writes).rows) × (t.horizon ≡ (content s.writes).horizon) × (t.writes ≡ length s.writes)
 
-each_image : (base tables : Tables) (images : List TableImage) → ((name : List ℕ) → tables name ≡ base name) → AllByRecursion (λ (t : TableImage). IsImageOf (base t.name) t) images
+each_image : (base tables : NamedStates) (images : List TableImage) → ((name : List ℕ) → tables name ≡ base name) → AllByRecursion (λ (t : TableImage). IsImageOf (base t.name) t) images
     → AllByRecursion (λ (t : TableImage). IsImageOf (tables t.name) t) images
 each_image base tables [] same of = tt
 each_image base tables (t ∷ images) same of = (subst (λ s. IsImageOf s t) (sym (same t.name)) of.0, each_image base tables images same of.1)
 
-pub image_of : (base tables : Tables) (images : List TableImage) → ((name : List ℕ) → tables name ≡ base name) → ImageOf base images → ImageOf tables images
+pub image_of : (base tables : NamedStates) (images : List TableImage) → ((name : List ℕ) → tables name ≡ base name) → ImageOf base images → ImageOf tables images
 image_of base tables images same of = record {
-  all = λ name some. of.all name (λ none. some (ap (λ (s : TableState). s.writes) (same name) ∙ none));
+  all = λ name some. of.all name (λ none. some (ap (λ (s : HistoryState). s.writes) (same name) ∙ none));
   each = each_image base tables images same of.each;
 }
 
@@ -110,7 +110,7 @@ no_other reads region v w images end may is head not =
     let same : v ≡ w = one_version v w (sym (image_head region images v end is) ∙ head) in
     both (reads w) not (subst (λ n. reads n ≡ true) same may)
 
-region_fits : (reads : ℕ → Bool) (base tables : Tables) (p : Pair) (records : List LogRecord) (end : ℕ) (r : RegionIs) → ((name : List ℕ) → tables name ≡ base name)
+region_fits : (reads : ℕ → Bool) (base tables : NamedStates) (p : Pair) (records : List LogRecord) (end : ℕ) (r : RegionIs) → ((name : List ℕ) → tables name ≡ base name)
     → RegionReads reads p.region r → RegionLeft reads base p records end → RegionFits reads tables p end r
 region_fits reads base tables p records end Closed same (reads_closed is) left = shows_closed refl is
 region_fits reads base tables p records end Other same (reads_other v head not) left = shows_other v head not
@@ -123,7 +123,7 @@ none_longer : (m : ℕ) (ws : List Write) → ws ≡ [] → take m ws ≡ []
 none_longer m ws e = let short : length (take m ws) ≡ 0 = length-take m ws ∙ (let few : length ws ≡ 0 = ap (λ (us : List Write). length us) e in omega (arith, few)) in nil_from_length (take m ws) short
 
 -- each pair fits
-pair_fits : (reads : ℕ → Bool) (berth : Meaning) (base : Tables) (own others : List (List ℕ)) (r : RegionIs) (p : Pair) → IsReady reads berth base → LeavesItself berth
+pair_fits : (reads : ℕ → Bool) (berth : Meaning) (base : NamedStates) (own others : List (List ℕ)) (r : RegionIs) (p : Pair) → IsReady reads berth base → LeavesItself berth
     → AreDistinct (own ++ others) → HasNoOther base (begun_tables base own others) → RegionReads reads berth.held.region r → berth.leaves berth.clock p → FitsPair reads (begun base own others r) p
 pair_fits reads berth base own others r p ready itself distinct none shows left =
     let may : Pair → Type 0 = λ q. berth.leaves berth.clock q in
@@ -148,18 +148,18 @@ pair_fits reads berth base own others r p ready itself distinct none shows left 
       ];
     }
 
-all_flushed : (base : Tables) (xs : List Tracked) → ((name : List ℕ) → (base name).flushed ≡ length (base name).writes) → AllByRecursion (IsBegun base) xs → AllByRecursion IsAll xs
+all_flushed : (base : NamedStates) (xs : List Tracked) → ((name : List ℕ) → (base name).flushed ≡ length (base name).writes) → AllByRecursion (IsBegun base) xs → AllByRecursion IsAll xs
 all_flushed base [] all b = tt
 all_flushed base (x ∷ xs) all b = (all_one base x b.0 (all x.name), all_flushed base xs all b.1)
 
 -- what the region is, is known
-region_known : (reads : ℕ → Bool) (base : Tables) (p : Pair) (records : List LogRecord) (end : ℕ) → RegionLeft reads base p records end → (r : RegionIs) × RegionReads reads p.region r
+region_known : (reads : ℕ → Bool) (base : NamedStates) (p : Pair) (records : List LogRecord) (end : ℕ) → RegionLeft reads base p records end → (r : RegionIs) × RegionReads reads p.region r
 region_known reads base p records end (closed shut) = (Closed, reads_closed shut)
 region_known reads base p records end (other_version v head not) = (Other, reads_other v head not)
 region_known reads base p records end (image v images may is of whole gate) = (Whole, reads_whole v images end may is)
 
 -- beside an image all is flushed
-frozen_all : (reads : ℕ → Bool) (berth : Meaning) (base : Tables) (r : RegionIs) (xs : List Tracked) → IsReady reads berth base → RegionReads reads berth.held.region r
+frozen_all : (reads : ℕ → Bool) (berth : Meaning) (base : NamedStates) (r : RegionIs) (xs : List Tracked) → IsReady reads berth base → RegionReads reads berth.held.region r
     → AllByRecursion (IsBegun base) xs → is_frozen Down r ≡ true → AllByRecursion IsAll xs
 frozen_all reads berth base Closed xs ready (reads_closed shut) b e = no e
 frozen_all reads berth base Other xs ready (reads_other v head not) b e = no e
@@ -167,8 +167,8 @@ frozen_all reads berth base Either xs ready shows b e = elim shows [ ]
 frozen_all reads berth base Whole xs ready (reads_whole v images end may is) b e = all_flushed base xs (ready.begins.image v images end may is).0 b
 
 -- over a ready berth a leaf begins, with all the names that have writes
-pub ready_begins : (reads : ℕ → Bool) (berth : Meaning) (base : Tables) (own others : List (List ℕ)) → IsReady reads berth base → LeavesItself berth
-    → AreDistinct (own ++ others) → HasNoOther base (begun_tables base own others) → Begins reads berth base own others
+pub ready_begins : (reads : ℕ → Bool) (berth : Meaning) (base : NamedStates) (own others : List (List ℕ)) → IsReady reads berth base → LeavesItself berth
+    → AreDistinct (own ++ others) → HasNoOther base (begun_tables base own others) → MachineBegins reads berth base own others
 ready_begins reads berth base own others ready itself distinct none =
     let may : Pair → Type 0 = λ q. berth.leaves berth.clock q in
     let xs : List Tracked = begun_tables base own others in

@@ -2,31 +2,31 @@
 use Rattle.std.specs.Prelude.{◌≡◌, ◌≢◌, ◌⊎◌, ℕ, ◌≤◌, List, [], length, Bool, true, IsTrue}
 use Rattle.berth_face.specs.Berth.{Pair, Meaning}
 use Rattle.leaf_model.specs.declared.writes.Write.{Write}
-use Rattle.leaf_history.specs.History.{TableState, base_of}
+use Rattle.leaf_history.specs.History.{HistoryState, base_of}
 use Rattle.region_layout.specs.declared.image.TableImage.{TableImage}
 use Rattle.region_layout.specs.Region.{IsImage}
 use Rattle.row_records.specs.Records.{LogRecord}
 use Rattle.disk_backup.specs.Logs.{IsLog, writes_of}
-use Rattle.crash_events.specs.Left.{Tables, Left, HasShutGate}
+use Rattle.crash_events.specs.Left.{NamedStates, Left, HasShutGate}
 
 -- the writes of a name in a disk's log
-abbrev pub HasLog : List ℕ → List ℕ → List Write → Type 0
-HasLog disk name writes = (records : List LogRecord) × (end : ℕ) × IsLog disk records end × (writes ≡ writes_of name records)
+abbrev pub HasWritesOf : List ℕ → List ℕ → List Write → Type 0
+HasWritesOf disk name writes = (records : List LogRecord) × (end : ℕ) × IsLog disk records end × (writes ≡ writes_of name records)
 
 -- the base of a name, over the pairs that a crash may leave now: its longest log, of which the shortest is flushed
-pub record IsBaseOf (may_leave : Pair → Type 0) (name : List ℕ) (base : TableState) : Type 0 where
+pub record IsBaseOf (may_leave : Pair → Type 0) (name : List ℕ) (base : HistoryState) : Type 0 where
   pub is : base ≡ base_of base.writes base.flushed
-  pub longest : (pair : Pair) × may_leave pair × HasLog pair.disk name base.writes
-  pub least : (pair : Pair) × (writes : List Write) × may_leave pair × HasLog pair.disk name writes × (base.flushed ≡ length writes)
-  pub between : (pair : Pair) (writes : List Write) → may_leave pair → HasLog pair.disk name writes → (base.flushed ≤ length writes) × (length writes ≤ length base.writes)
+  pub longest : (pair : Pair) × may_leave pair × HasWritesOf pair.disk name base.writes
+  pub least : (pair : Pair) × (writes : List Write) × may_leave pair × HasWritesOf pair.disk name writes × (base.flushed ≡ length writes)
+  pub between : (pair : Pair) (writes : List Write) → may_leave pair → HasWritesOf pair.disk name writes → (base.flushed ≤ length writes) × (length writes ≤ length base.writes)
 
 -- the logs of a name have one length
 abbrev pub IsFixed : (Pair → Type 0) → List ℕ → Type 0
-IsFixed may_leave name = (p q : Pair) (u v : List Write) → may_leave p → may_leave q → HasLog p.disk name u → HasLog q.disk name v → length u ≡ length v
+IsFixed may_leave name = (p q : Pair) (u v : List Write) → may_leave p → may_leave q → HasWritesOf p.disk name u → HasWritesOf q.disk name v → length u ≡ length v
 
 -- they have just two
-abbrev pub HasTwoLengths : (Pair → Type 0) → List ℕ → TableState → Type 0
-HasTwoLengths may_leave name base = (p : Pair) (u : List Write) → may_leave p → HasLog p.disk name u → (length u ≡ base.flushed) ⊎ (length u ≡ length base.writes)
+abbrev pub HasTwoLengths : (Pair → Type 0) → List ℕ → HistoryState → Type 0
+HasTwoLengths may_leave name base = (p : Pair) (u : List Write) → may_leave p → HasWritesOf p.disk name u → (length u ≡ base.flushed) ⊎ (length u ≡ length base.writes)
 
 -- the log ends here, before a gate that is not open
 abbrev pub EndsAt : List ℕ → ℕ → Type 0
@@ -34,7 +34,7 @@ EndsAt disk end = ((records : List LogRecord) × IsLog disk records end) × HasS
 
 -- A leaf may begin over these pairs, of which reads give `now`: each belongs to the base, and at most one record may still be
 -- lost or not. An empty disk was not written. An image that is read has all that the logs have, and each log ends where it says.
-pub record MayBegin (reads : ℕ → Bool) (may_leave : Pair → Type 0) (now : Pair) (base : Tables) : Type 0 where
+pub record PairsMayBegin (reads : ℕ → Bool) (may_leave : Pair → Type 0) (now : Pair) (base : NamedStates) : Type 0 where
   pub base_is : (name : List ℕ) → IsBaseOf may_leave name (base name)
   pub left : (pair : Pair) → may_leave pair → Left reads base pair
   pub one_open : ((name : List ℕ) → IsFixed may_leave name)
@@ -45,6 +45,6 @@ pub record MayBegin (reads : ℕ → Bool) (may_leave : Pair → Type 0) (now : 
       × ((pair : Pair) → may_leave pair → EndsAt pair.disk end)
 
 -- the berth tells its contents, and a leaf with this base may begin there now
-pub record IsReady (reads : ℕ → Bool) (berth : Meaning) (base : Tables) : Type 0 where
+pub record IsReady (reads : ℕ → Bool) (berth : Meaning) (base : NamedStates) : Type 0 where
   pub tells : IsTrue berth.tells
-  pub begins : MayBegin reads (berth.leaves berth.clock) berth.held base
+  pub begins : PairsMayBegin reads (berth.leaves berth.clock) berth.held base

@@ -4,7 +4,7 @@ use Rattle.berth_face.specs.Berth.{Pair, Meaning}
 use Rattle.region_layout.specs.declared.head.Head.TheVariants.{Version}
 use Rattle.region_layout.specs.declared.image.TableImage.{TableImage}
 use Rattle.region_layout.specs.Region.{IsClosed, IsImage, AreDistinct, head_of}
-use Rattle.crash_events.specs.Left.{Tables}
+use Rattle.crash_events.specs.Left.{NamedStates}
 use Rattle.crash_events.specs.Base.{IsReady}
 use Rattle.crash_events.specs.Machine.{Machine, Tracked, Hand, Down, RegionIs, Closed, Whole, Other}
 use Rattle.crash_events.specs.Kept.{Kept}
@@ -12,11 +12,11 @@ use Rattle.crash_events.specs.Fits.{FitsPair, IsElsewhere}
 use Rattle.crash_events.specs.Laws.{IsPlain}
 
 -- a table as its base says, of which every crash leaves the flushed writes
-abbrev pub begun_table : Tables → Bool → List ℕ → Tracked
+abbrev pub begun_table : NamedStates → Bool → List ℕ → Tracked
 begun_table base own name = record { name = name; own = own; state = base name; sure = (base name).flushed }
 
 -- the leaf's tables, and beside them names that it does not have
-abbrev pub begun_tables : Tables → List (List ℕ) → List (List ℕ) → List Tracked
+abbrev pub begun_tables : NamedStates → List (List ℕ) → List (List ℕ) → List Tracked
 begun_tables base own others = map (begun_table base true) own ++ map (begun_table base false) others
 
 -- the record that may still be lost or not, of a table that has more writes than are sure
@@ -30,7 +30,7 @@ open_hand t (x ∷ xs) = if length x.state.writes == x.sure then open_hand (t + 
     else Some (open_of t x)
 
 -- the machine begins in Down
-abbrev pub begun : Tables → List (List ℕ) → List (List ℕ) → RegionIs → Machine
+abbrev pub begun : NamedStates → List (List ℕ) → List (List ℕ) → RegionIs → Machine
 begun base own others region = record { tables = begun_tables base own others; hand = open_hand 0 (begun_tables base own others); mode = Down; region = region }
 
 -- what a region's bytes are
@@ -45,11 +45,11 @@ pub record LeavesItself (berth : Meaning) : Type 0 where
   pub region : (pair : Pair) → berth.leaves berth.clock pair → (pair.region ≡ berth.held.region) ⊎ (pair.region ≡ [])
 
 -- no other name has writes
-abbrev pub HasNoOther : Tables → List Tracked → Type 0
+abbrev pub HasNoOther : NamedStates → List Tracked → Type 0
 HasNoOther base tables = (name : List ℕ) → IsElsewhere name tables → (base name).writes ≡ []
 
 -- the leaf's machine is kept, and each pair that a crash may leave fits it
-pub record Begins (reads : ℕ → Bool) (berth : Meaning) (base : Tables) (own others : List (List ℕ)) : Type 0 where
+pub record MachineBegins (reads : ℕ → Bool) (berth : Meaning) (base : NamedStates) (own others : List (List ℕ)) : Type 0 where
   pub region : RegionIs
   pub region_reads : RegionReads reads berth.held.region region
   pub kept : Kept (begun base own others region)
@@ -58,5 +58,5 @@ pub record Begins (reads : ℕ → Bool) (berth : Meaning) (base : Tables) (own 
 
 -- over a berth a leaf with these tables begins, whatever its base is
 abbrev pub LeafBegins : (ℕ → Bool) → Meaning → Type 0
-LeafBegins reads berth = (base : Tables) (own : List (List ℕ)) → IsReady reads berth base → AreDistinct own
-    → (others : List (List ℕ)) × AreDistinct (own ++ others) × Begins reads berth base own others
+LeafBegins reads berth = (base : NamedStates) (own : List (List ℕ)) → IsReady reads berth base → AreDistinct own
+    → (others : List (List ℕ)) × AreDistinct (own ++ others) × MachineBegins reads berth base own others

@@ -4,11 +4,11 @@ use Rattle.std.specs.List.{AllByRecursion, list_all}
 use Rattle.leaf_history.specs.Calls.{Call}
 use Rattle.leaf_history.specs.Calls as call
 use Rattle.leaf_model.specs.Content.{content_from}
-use Rattle.leaf_history.specs.History.{Entry, TableState, Allowed, after_entry, changed, write_count, first_writes}
+use Rattle.leaf_history.specs.History.{Entry, HistoryState, Allowed, after_entry, changed, write_count, first_writes}
 use Rattle.crash_events.specs.Machine.{Machine, Tracked, Hand, Mode, Down, Finding, Scanning, Adopting, Opening, Up, Preparing, Copying, RegionIs, Closed, Whole, Either, Other}
 
 -- one table has another state
-abbrev pub with_state : Machine → ℕ → Tracked → TableState → Machine
+abbrev pub with_state : Machine → ℕ → Tracked → HistoryState → Machine
 with_state m t x s = record m { tables = slice_set m.tables t (record x { state = s }) }
 
 -- the record of a table's writes that were not taken, where there are any
@@ -36,8 +36,8 @@ abbrev pub AllSettled : List Tracked → Type 0
 AllSettled ts = AllByRecursion IsSettled ts
 
 -- a caller's call
-abbrev pub IsCallers : Entry → Type 0
-IsCallers e = 0 < e.caller
+abbrev pub IsCallersEntry : Entry → Type 0
+IsCallersEntry e = 0 < e.caller
 
 -- how many writes of a table the hand's record may have on the disk already
 abbrev pub gate_begun : Option Hand → ℕ → ℕ
@@ -129,7 +129,7 @@ MayStop _ = ⊥
 -- One event. Each rule names when it comes and what it changes.
 pub data Step (m m' : Machine) : Type 0 where
   -- a caller's turn
-  turn : (t : ℕ) (x : Tracked) (e : Entry) → slice_get m.tables t ≡ Some x → x.own ≡ true → IsCallers e
+  turn : (t : ℕ) (x : Tracked) (e : Entry) → slice_get m.tables t ≡ Some x → x.own ≡ true → IsCallersEntry e
       → Allowed true x.state e.caller e.call e.reply → m' ≡ with_state m t x (after_entry true x.state e) → Step m m'
   -- the steward takes what was written since the last time: a record to settle, where there is any
   take_writes : (t : ℕ) (x : Tracked) → slice_get m.tables t ≡ Some x → x.own ≡ true → m.mode ≡ Up → m.hand ≡ None

@@ -8,7 +8,7 @@ use Rattle.region_layout.specs.declared.image.TableImage.{TableImage}
 use Rattle.region_layout.specs.Region.{IsClosed, IsImage, head_of}
 use Rattle.row_records.specs.Records.{LogRecord}
 use Rattle.disk_backup.specs.Logs.{IsLog, IsBounded, writes_of}
-use Rattle.crash_events.specs.Left.{Tables, ImageOf, HasShutGate}
+use Rattle.crash_events.specs.Left.{NamedStates, ImageOf, HasShutGate}
 use Rattle.crash_events.specs.Machine.{Machine, Tracked, RegionIs, Whole, Either, Other}
 use Rattle.crash_events.specs.Events.{MayBe, is_whole}
 use Rattle.crash_events.specs.Kept.{AllPlaces}
@@ -18,7 +18,7 @@ abbrev pub LogFits : Machine → List LogRecord → Type 0
 LogFits m records = AllPlaces (λ t x. (n : ℕ) × MayBe m t x n × (writes_of x.name records ≡ take n x.state.writes)) 0 m.tables
 
 -- the region is what the machine says, or empty where the machine was lost
-pub data RegionFits (reads : ℕ → Bool) (tables : Tables) (pair : Pair) (end : ℕ) : RegionIs → Type 0 where
+pub data RegionFits (reads : ℕ → Bool) (tables : NamedStates) (pair : Pair) (end : ℕ) : RegionIs → Type 0 where
   shows_lost : {r : RegionIs} → pair.region ≡ [] → RegionFits reads tables pair end r
   shows_closed : {r : RegionIs} → is_whole r ≡ false → IsClosed pair.region → RegionFits reads tables pair end r
   shows_whole : (version : ℕ) (images : List TableImage) → reads version ≡ true → IsImage version pair.region images end → ImageOf tables images → HasShutGate pair.disk end
@@ -27,7 +27,7 @@ pub data RegionFits (reads : ℕ → Bool) (tables : Tables) (pair : Pair) (end 
   shows_other : (version : ℕ) → head_of pair.region ≡ Version version → reads version ≡ false → RegionFits reads tables pair end Other
 
 -- the state of each name: of one that stands in no table, no writes
-abbrev pub state_of : List Tracked → Tables
+abbrev pub state_of : List Tracked → NamedStates
 state_of [] name = no_base
 state_of (x ∷ xs) name = if bytes_eq name x.name then x.state else state_of xs name
 

@@ -3,7 +3,7 @@ use Rattle.std.specs.Prelude.{◌≡◌, ◌≢◌, ℕ, ◌≤◌, List, [], le
 use Rattle.std.specs.List.{AllByRecursion}
 use Rattle.berth_face.specs.Berth.{Pair}
 use Rattle.leaf_model.specs.Content.{content}
-use Rattle.leaf_history.specs.History.{TableState}
+use Rattle.leaf_history.specs.History.{HistoryState}
 use Rattle.region_layout.specs.declared.head.Head.TheVariants.{Version}
 use Rattle.region_layout.specs.declared.image.TableImage.{TableImage}
 use Rattle.region_layout.specs.Region.{IsClosed, IsImage, head_of}
@@ -11,15 +11,15 @@ use Rattle.row_records.specs.Records.{LogRecord}
 use Rattle.disk_backup.specs.Logs.{IsLog, IsBounded, writes_of}
 
 -- the state of each table, by name: one that is not listed has no writes
-abbrev pub Tables : Type 0
-Tables = List ℕ → TableState
+abbrev pub NamedStates : Type 0
+NamedStates = List ℕ → HistoryState
 
 -- the log of each table is a front of its writes, with each flushed one
-abbrev pub IsFront : Tables → List LogRecord → Type 0
+abbrev pub IsFront : NamedStates → List LogRecord → Type 0
 IsFront tables records = (name : List ℕ) → (m : ℕ) × (m ≤ length (tables name).writes) × ((tables name).flushed ≤ m) × (writes_of name records ≡ take m (tables name).writes)
 
 -- the image holds each table that has writes, and of each that it holds just what its writes come to
-pub record ImageOf (tables : Tables) (images : List TableImage) : Type 0 where
+pub record ImageOf (tables : NamedStates) (images : List TableImage) : Type 0 where
   pub all : (name : List ℕ) → (tables name).writes ≢ [] → Contains (map (λ (t : TableImage). t.name) images) name
   pub each : AllByRecursion (λ (t : TableImage).
       (t.rows ≡ (content (tables t.name).writes).rows) × (t.horizon ≡ (content (tables t.name).writes).horizon) × (t.writes ≡ length (tables t.name).writes)) images
@@ -29,7 +29,7 @@ abbrev pub HasShutGate : List ℕ → ℕ → Type 0
 HasShutGate disk at = (gate : ℕ) × (slice_get disk at ≡ Some gate) × (gate ≢ 1)
 
 -- a region that is closed, or open with a version that is not read, or an image of these tables beside their whole log
-pub data RegionLeft (reads : ℕ → Bool) (tables : Tables) (pair : Pair) (records : List LogRecord) (end : ℕ) : Type 0 where
+pub data RegionLeft (reads : ℕ → Bool) (tables : NamedStates) (pair : Pair) (records : List LogRecord) (end : ℕ) : Type 0 where
   closed : IsClosed pair.region → RegionLeft reads tables pair records end
   other_version : (version : ℕ) → head_of pair.region ≡ Version version → reads version ≡ false → RegionLeft reads tables pair records end
   image : (version : ℕ) (images : List TableImage)
@@ -42,7 +42,7 @@ pub data RegionLeft (reads : ℕ → Bool) (tables : Tables) (pair : Pair) (reco
 
 -- The pair belongs to these tables: its log is sound and has a front of the writes of each, and its region is one of those.
 -- `reads` says which versions of an image are read.
-pub record Left (reads : ℕ → Bool) (tables : Tables) (pair : Pair) : Type 0 where
+pub record Left (reads : ℕ → Bool) (tables : NamedStates) (pair : Pair) : Type 0 where
   pub records : List LogRecord
   pub end : ℕ
   pub log : IsLog pair.disk records end

@@ -1,12 +1,12 @@
 -- The state of a leaf as a machine: its tables, the record that is being settled, what it is doing, and its region.
 use Rattle.std.specs.Prelude.{ℕ, Bool, List, Option}
-use Rattle.leaf_history.specs.History.{TableState}
+use Rattle.leaf_history.specs.History.{HistoryState}
 
 -- a table of the leaf, or a name that the leaf does not have
 pub record Tracked : Type 0 where
   pub name : List ℕ
   pub own : Bool
-  pub state : TableState
+  pub state : HistoryState
   pub sure : ℕ  -- how many of its writes every crash leaves
 
 -- a record that is being settled: of which table, and how many writes

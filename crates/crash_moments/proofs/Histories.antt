@@ -13,8 +13,8 @@ use Rattle.leaf_history.specs.Calls.{Call}
 use Rattle.leaf_history.specs.Calls as call
 use Rattle.leaf_history.specs.Replies.{Reply}
 use Rattle.leaf_history.specs.Replies as reply
-use Rattle.leaf_history.specs.History.{Entry, TableState, LegalFrom, Allowed, AddReply, HasRoom, after, after_entry, changed, is_refusal}
-use Rattle.leaf_history.specs.Laws.{Keeps, AreCallers}
+use Rattle.leaf_history.specs.History.{Entry, HistoryState, LegalFrom, Allowed, AddReply, HasRoom, after, after_entry, changed, is_refusal}
+use Rattle.leaf_history.specs.Laws.{CallersKeep, AreCallers}
 use Rattle.leaf_history.proofs.Histories.{LegalFrom-back, after-append, others_keep, counts_stay}
 use Rattle.crash_moments.specs.Watched.{Between, is_made, cut, state_then, now_of}
 use Rattle.crash_moments.specs.Laws.{StaysSound, CutKeeps}
@@ -60,7 +60,7 @@ written_within most writes w within fits k = elim (cases_lt (length writes) k) [
 -- ---- one accepted call
 
 -- an add that was accepted had room
-had_room : (s : TableState) (rows : List Row) (r : Reply) → AddReply s rows r → is_refusal r ≡ false → HasRoom s rows
+had_room : (s : HistoryState) (rows : List Row) (r : Reply) → AddReply s rows r → is_refusal r ≡ false → HasRoom s rows
 had_room s rows (reply.Added kept late) a accepted = a.1
 had_room s rows reply.Shut a accepted = absurd (true≢false accepted)
 had_room s rows reply.Full a accepted = absurd (true≢false accepted)
@@ -78,15 +78,15 @@ added_within most before writes rows founded room =
     omega (arith, here, length-append c.rows (rows_from c.horizon rows))
 
 -- what is kept of a founded table, beside its counts
-record IsPlain (most : ℕ) (s : TableState) : Type 0 where
+record IsPlain (most : ℕ) (s : HistoryState) : Type 0 where
   pub before : s.before ≡ nothing
   pub handed_in : s.handed_in ≡ 0
   pub within : IsWithin most s.writes
 
-written_plain : (most : ℕ) (s : TableState) (w : Write) → IsPlain most s → length (content_after (content s.writes) w).rows ≤ most → IsPlain most (record s { writes = s.writes ++ w ∷ [] })
+written_plain : (most : ℕ) (s : HistoryState) (w : Write) → IsPlain most s → length (content_after (content s.writes) w).rows ≤ most → IsPlain most (record s { writes = s.writes ++ w ∷ [] })
 written_plain most s w plain fits = record { before = plain.before; handed_in = plain.handed_in; within = written_within most s.writes w plain.within fits }
 
-plain_changed : (s : TableState) (caller : ℕ) (c : Call) (r : Reply) → IsPlain (2 ^ 40) s → Allowed true s caller c r → is_refusal r ≡ false → IsPlain (2 ^ 40) (changed true s c)
+plain_changed : (s : HistoryState) (caller : ℕ) (c : Call) (r : Reply) → IsPlain (2 ^ 40) s → Allowed true s caller c r → is_refusal r ≡ false → IsPlain (2 ^ 40) (changed true s c)
 plain_changed s caller (call.Add rows) r plain a accepted =
     written_plain (2 ^ 40) s (write.Add rows) plain (added_within (2 ^ 40) s.before s.writes rows plain.before (had_room s rows r a.1 accepted))
 plain_changed s caller (call.Expire horizon) r plain a accepted =
@@ -101,14 +101,14 @@ plain_changed s caller call.Done r plain a accepted = record { before = plain.be
 plain_changed s caller (call.Open n contents) r plain a accepted =
     record { before = plain.before; handed_in = plain.handed_in; within = front_within (2 ^ 40) (n - s.handed_in) s.writes plain.within }
 
-plain_entry : (s : TableState) (e : Entry) → IsPlain (2 ^ 40) s → Allowed true s e.caller e.call e.reply → IsPlain (2 ^ 40) (after_entry true s e)
+plain_entry : (s : HistoryState) (e : Entry) → IsPlain (2 ^ 40) s → Allowed true s e.caller e.call e.reply → IsPlain (2 ^ 40) (after_entry true s e)
 plain_entry s e plain a = by (is_refusal e.reply) refl
   where
     by : (refused : Bool) → is_refusal e.reply ≡ refused → IsPlain (2 ^ 40) (if refused then s else changed true s e.call)
     by true is = plain
     by false is = plain_changed s e.caller e.call e.reply plain a is
 
-plain_after : (s : TableState) (es : List Entry) → IsPlain (2 ^ 40) s → LegalFrom true s es → IsPlain (2 ^ 40) (after true s es)
+plain_after : (s : HistoryState) (es : List Entry) → IsPlain (2 ^ 40) s → LegalFrom true s es → IsPlain (2 ^ 40) (after true s es)
 plain_after s [] plain legal = plain
 plain_after s (e ∷ es) plain legal = plain_after (after_entry true s e) es (plain_entry s e plain legal.0) legal.1
 
@@ -141,4 +141,4 @@ cut_keeps clock w watched =
     let legal : LegalFrom true (state_then clock w) split.0 = LegalFrom-back true w.base front split.0 (subst (λ (es : List Entry). LegalFrom true w.base es) split.1 watched.legal) in
     let callers : AreCallers split.0 = callers_of clock split.0 (between_back 0 clock front split.0 (subst (λ (es : List Entry). Between 0 clock es) split.1 watched.made)) split.2 in
     let now : now_of w ≡ after true (state_then clock w) split.0 = ap (λ (es : List Entry). after true w.base es) split.1 ∙ after-append true w.base front split.0 in
-    subst (λ (s : TableState). Keeps (state_then clock w) s) (sym now) (others_keep true (state_then clock w) split.0 legal callers)
+    subst (λ (s : HistoryState). CallersKeep (state_then clock w) s) (sym now) (others_keep true (state_then clock w) split.0 legal callers)

@@ -6,8 +6,8 @@ use Rattle.std.proofs.lemmas.Bool.{cases_lt, or_left, or_right}
 use Rattle.std.proofs.lemmas.List.Folds.{list_any-append}
 use Rattle.berth_face.specs.Berth.{Meaning}
 use Rattle.berth_face.proofs.Moments.{passes_on}
-use Rattle.leaf_history.specs.History.{TableState, Entry, after}
-use Rattle.crash_events.specs.Left.{Tables, Left}
+use Rattle.leaf_history.specs.History.{HistoryState, Entry, after}
+use Rattle.crash_events.specs.Left.{NamedStates, Left}
 use Rattle.crash_moments.specs.Watched.{Watched, Between, cut, state_then, is_opening, was_opened, others_then, by_name, tables_then}
 use Rattle.crash_moments.specs.Told.{SeenMore, Told, reads_one}
 use Rattle.crash_moments.proofs.Cuts.{made_by, none_yet, cut_before, cut_later, cut_whole, cut_on}
@@ -28,17 +28,17 @@ alike_opened t c (x ∷ xs) [] alike = absurd alike
 alike_opened t c (x ∷ xs) (y ∷ ys) alike =
     ap (λ (l : List Entry). list_any is_opening l || was_opened t ys) alike.2 ∙ ap (λ (b : Bool). list_any is_opening (cut c x.seen) || b) (alike_opened t c xs ys alike.3)
 
-alike_named : (others : Tables) (t c : ℕ) (xs ys : List Watched) → AreCutAlike t c xs ys → by_name (state_then t) others ys ≡ by_name (state_then c) others xs
+alike_named : (others : NamedStates) (t c : ℕ) (xs ys : List Watched) → AreCutAlike t c xs ys → by_name (state_then t) others ys ≡ by_name (state_then c) others xs
 alike_named others t c [] [] alike = refl
 alike_named others t c [] (y ∷ ys) alike = absurd alike
 alike_named others t c (x ∷ xs) [] alike = absurd alike
 alike_named others t c (x ∷ xs) (y ∷ ys) alike = by y.name y.base (cut t y.seen) alike.0 alike.1 alike.2 (alike_named others t c xs ys alike.3)
   where
-    by : (name : List ℕ) (base : TableState) (seen : List Entry) → name ≡ x.name → base ≡ x.base → seen ≡ cut c x.seen → by_name (state_then t) others ys ≡ by_name (state_then c) others xs
-        → (let one : Tables = λ (n : List ℕ). if bytes_eq n name then after true base seen else by_name (state_then t) others ys n in one ≡ by_name (state_then c) others (x ∷ xs))
+    by : (name : List ℕ) (base : HistoryState) (seen : List Entry) → name ≡ x.name → base ≡ x.base → seen ≡ cut c x.seen → by_name (state_then t) others ys ≡ by_name (state_then c) others xs
+        → (let one : NamedStates = λ (n : List ℕ). if bytes_eq n name then after true base seen else by_name (state_then t) others ys n in one ≡ by_name (state_then c) others (x ∷ xs))
     by name base seen n b s rest = rw (n, b, s, rest) refl
 
-alike_tables : (others : Tables) (t c : ℕ) (xs ys : List Watched) → AreCutAlike t c xs ys → tables_then others t ys ≡ tables_then others c xs
+alike_tables : (others : NamedStates) (t c : ℕ) (xs ys : List Watched) → AreCutAlike t c xs ys → tables_then others t ys ≡ tables_then others c xs
 alike_tables others t c xs ys alike =
     ap (λ (b : Bool). by_name (state_then t) (others_then b others) ys) (alike_opened t c xs ys alike) ∙ alike_named (others_then (was_opened c xs) others) t c xs ys alike
 
@@ -53,7 +53,7 @@ cut_alike t from to (x ∷ xs) (y ∷ ys) earlier more =
     (more.0, more.1, ap (cut t) more.2.1 ∙ cut_before t x.seen added (none_yet t from to added earlier more.2.2), cut_alike t from to xs ys earlier more.3)
 
 -- at a moment before all that was learned, each name stood where it stood
-pub same_then : (others : Tables) (t from to : ℕ) (xs ys : List Watched) → t < from → SeenMore from to xs ys → tables_then others t ys ≡ tables_then others t xs
+pub same_then : (others : NamedStates) (t from to : ℕ) (xs ys : List Watched) → t < from → SeenMore from to xs ys → tables_then others t ys ≡ tables_then others t xs
 same_then others t from to xs ys earlier more = alike_tables others t t xs ys (cut_alike t from to xs ys earlier more)
 
 later_alike : (c t : ℕ) (ws : List Watched) → c ≤ t → AllByRecursion (λ (w : Watched). Between 0 c w.seen) ws → AreCutAlike t c ws ws
@@ -61,7 +61,7 @@ later_alike c t [] later none = tt
 later_alike c t (w ∷ ws) later none = (refl, refl, cut_later c t w.seen later none.0, later_alike c t ws later none.1)
 
 -- once all of the steward's entries were made, no later moment adds one
-pub then_now : (others : Tables) (c t : ℕ) (ws : List Watched) → c ≤ t → AllByRecursion (λ (w : Watched). Between 0 c w.seen) ws → tables_then others t ws ≡ tables_then others c ws
+pub then_now : (others : NamedStates) (c t : ℕ) (ws : List Watched) → c ≤ t → AllByRecursion (λ (w : Watched). Between 0 c w.seen) ws → tables_then others t ws ≡ tables_then others c ws
 then_now others c t ws later none = alike_tables others t c ws ws (later_alike c t ws later none)
 
 -- ---- what each seat has seen
@@ -99,13 +99,13 @@ more_on a b c (x ∷ xs) (y ∷ ys) (z ∷ zs) ab bc first second = (
 
 -- ---- what two calls tell is told of both
 
-pub told_join : (others : Tables) (xs ys zs : List Watched) (a b c : Meaning) → Told others xs ys a b → Told others ys zs b c → Told others xs zs a c
+pub told_join : (others : NamedStates) (xs ys zs : List Watched) (a b c : Meaning) → Told others xs ys a b → Told others ys zs b c → Told others xs zs a c
 told_join others xs ys zs a b c first second = record {
   passes = passes_on a b c first.passes second.passes;
   more = more_on a.clock b.clock c.clock xs ys zs first.passes.later second.passes.later first.more second.more;
   left = λ t p from to left. elim (cases_lt t b.clock) [
     | inl before ↦
-        subst (λ (tables : Tables). Left reads_one tables p) (sym (same_then others t b.clock c.clock ys zs before second.more))
+        subst (λ (tables : NamedStates). Left reads_one tables p) (sym (same_then others t b.clock c.clock ys zs before second.more))
         (first.left t p from (omega (arith, before)) ((second.passes.past t p (omega (arith, before))).0 left))
     | inr not_before ↦ second.left t p not_before to left
   ];

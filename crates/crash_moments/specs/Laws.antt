@@ -1,20 +1,20 @@
 -- Laws of what is told, as statements.
 use Rattle.std.specs.Prelude.{ℕ, List, true}
 use Rattle.berth_face.specs.Berth.{Meaning}
-use Rattle.leaf_history.specs.History.{Entry, TableState, LegalFrom, after}
-use Rattle.leaf_history.specs.Laws.{Keeps}
-use Rattle.crash_events.specs.Left.{Tables}
+use Rattle.leaf_history.specs.History.{Entry, HistoryState, LegalFrom, after}
+use Rattle.leaf_history.specs.Laws.{CallersKeep}
+use Rattle.crash_events.specs.Left.{NamedStates}
 use Rattle.crash_moments.specs.Watched.{Watched, IsFoundation, IsWatched, now_of, state_then}
 use Rattle.crash_moments.specs.Told.{Told}
 
 -- a table that was handed in nothing and has at most 2^40 rows at each front of its writes stays so
 abbrev pub StaysSound : Type 0
-StaysSound = (base : TableState) (es : List Entry) → IsFoundation base → LegalFrom true base es → IsFoundation (after true base es)
+StaysSound = (base : HistoryState) (es : List Entry) → IsFoundation base → LegalFrom true base es → IsFoundation (after true base es)
 
 -- behind the steward's last entry a table has only got writes
 abbrev pub CutKeeps : Type 0
-CutKeeps = (clock : ℕ) (w : Watched) → IsWatched clock w → Keeps (state_then clock w) (now_of w)
+CutKeeps = (clock : ℕ) (w : Watched) → IsWatched clock w → CallersKeep (state_then clock w) (now_of w)
 
 -- what two calls tell, one after the other, is told of both
 abbrev pub ToldJoins : Meaning → Meaning → Meaning → Type 0
-ToldJoins a b c = (others : Tables) (xs ys zs : List Watched) → Told others xs ys a b → Told others ys zs b c → Told others xs zs a c
+ToldJoins a b c = (others : NamedStates) (xs ys zs : List Watched) → Told others xs ys a b → Told others ys zs b c → Told others xs zs a c

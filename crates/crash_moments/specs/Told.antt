@@ -2,7 +2,7 @@
 use Rattle.std.specs.Prelude.{◌≡◌, ℕ, ◌≤◌, ◌==◌, Bool, List, [], ◌∷◌, ◌++◌, ⊤}
 use Rattle.berth_face.specs.Berth.{Pair, Meaning, Passes}
 use Rattle.leaf_history.specs.History.{Entry}
-use Rattle.crash_events.specs.Left.{Tables, Left}
+use Rattle.crash_events.specs.Left.{NamedStates, Left}
 use Rattle.crash_moments.specs.Watched.{Watched, Between, tables_then}
 
 -- images of layout 1 are read, and of no other
@@ -17,7 +17,7 @@ SeenMore from to (x ∷ xs) [] = ⊥
 SeenMore from to (x ∷ xs) (y ∷ ys) = (y.name ≡ x.name) × (y.base ≡ x.base) × ((more : List Entry) × (y.seen ≡ x.seen ++ more) × Between from to more) × SeenMore from to xs ys
 
 -- At every moment since the call began, every region and disk that a crash may leave belong to the tables as they stood then.
-pub record Told (others : Tables) (before now : List Watched) (old new : Meaning) : Type 0 where
+pub record Told (others : NamedStates) (before now : List Watched) (old new : Meaning) : Type 0 where
   pub passes : Passes old new
   pub more : SeenMore old.clock new.clock before now
   pub left : (t : ℕ) (p : Pair) → old.clock ≤ t → t ≤ new.clock → new.leaves t p → Left reads_one (tables_then others t now) p

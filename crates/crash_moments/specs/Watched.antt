@@ -5,18 +5,18 @@ use Rattle.leaf_model.specs.declared.writes.Write.{Write}
 use Rattle.leaf_model.specs.Content.{content, nothing}
 use Rattle.leaf_history.specs.Calls.{Call}
 use Rattle.leaf_history.specs.Calls as call
-use Rattle.leaf_history.specs.History.{Entry, TableState, LegalFrom, after, no_base}
-use Rattle.leaf_history.specs.Laws.{IsCounted}
-use Rattle.crash_events.specs.Left.{Tables}
+use Rattle.leaf_history.specs.History.{Entry, HistoryState, LegalFrom, after, no_base}
+use Rattle.leaf_history.specs.Laws.{HasSoundCounts}
+use Rattle.crash_events.specs.Left.{NamedStates}
 
 -- a table: its name, what it was founded with, and the history as far as the steward has seen it
 pub record Watched : Type 0 where
   pub name : List ℕ
-  pub base : TableState
+  pub base : HistoryState
   pub seen : List Entry
 
 -- where it stands as far as that
-abbrev pub now_of : Watched → TableState
+abbrev pub now_of : Watched → HistoryState
 now_of w = after true w.base w.seen
 
 -- ---- where it stood at a moment
@@ -36,7 +36,7 @@ cut t [] = []
 cut t (e ∷ es) = if any_made t (e ∷ es) then e ∷ cut t es else []
 
 -- where the table stood then
-abbrev pub state_then : ℕ → Watched → TableState
+abbrev pub state_then : ℕ → Watched → HistoryState
 state_then t w = after true w.base (cut t w.seen)
 
 -- the table was opened
@@ -59,17 +59,17 @@ abbrev pub was_opened : ℕ → List Watched → Bool
 was_opened t ws = list_any (λ (w : Watched). list_any is_opening (cut t w.seen)) ws
 
 -- names that the leaf does not have stand as these say, until it has opened a table: from then on they have no writes
-abbrev pub others_then : Bool → Tables → Tables
+abbrev pub others_then : Bool → NamedStates → NamedStates
 others_then true others name = no_base
 others_then false others name = others name
 
 -- where each name stands, by the state of each of the leaf's own tables
-abbrev pub by_name : (Watched → TableState) → Tables → List Watched → Tables
+abbrev pub by_name : (Watched → HistoryState) → NamedStates → List Watched → NamedStates
 by_name state others [] name = others name
 by_name state others (w ∷ ws) name = if bytes_eq name w.name then state w else by_name state others ws name
 
 -- where each name stood at a moment
-abbrev pub tables_then : Tables → ℕ → List Watched → Tables
+abbrev pub tables_then : NamedStates → ℕ → List Watched → NamedStates
 tables_then others t ws = by_name (state_then t) (others_then (was_opened t ws) others) ws
 
 -- one of the leaf's names
@@ -88,10 +88,10 @@ abbrev pub IsShort : List Write → Type 0
 IsShort writes = (k : ℕ) → length (content (take k writes)).rows ≤ 2 ^ 40
 
 -- what holds of a founded table at any time: it was handed in nothing, and at no front of its writes had it more than 2^40 rows
-pub record IsFoundation (s : TableState) : Type 0 where
+pub record IsFoundation (s : HistoryState) : Type 0 where
   pub before : s.before ≡ nothing
   pub handed_in : s.handed_in ≡ 0
-  pub counted : IsCounted s
+  pub counted : HasSoundCounts s
   pub short : IsShort s.writes
 
 -- Its history is legal, and no entry of the steward was made later than now.

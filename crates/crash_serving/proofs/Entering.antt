@@ -3,7 +3,7 @@ use Rattle.std.proofs.Common.{◌≡◌, ◌∙◌, ℕ, true, List, [], ◌∷�
 use Rattle.std.specs.Prelude.{slice_get, slice_set}
 use Rattle.leaf_history.specs.Calls.{Call}
 use Rattle.leaf_history.specs.Replies.{Reply}
-use Rattle.leaf_history.specs.History.{TableState, Entry, LegalFrom, Allowed, after, after_entry}
+use Rattle.leaf_history.specs.History.{HistoryState, Entry, LegalFrom, Allowed, after, after_entry}
 use Rattle.leaf_history.proofs.Histories.{LegalFrom-front, LegalFrom-back, after-append}
 use Rattle.crash_moments.specs.Watched.{Watched, Between, AreWatched, IsWatched, IsFoundation, now_of, was_opened}
 use Rattle.crash_moments.specs.Told.{SeenMore}
@@ -26,7 +26,7 @@ module _ {clock : ℕ} {c : Call} {r : Reply} {w w' : Watched} (e : Enters clock
   whole = e.seen ∙ sym (append_assoc w.seen e.between last)
 
   legal : LegalFrom true w.base (just_before.seen ++ last)
-  legal = subst (λ (es : List Entry). LegalFrom true w.base es) whole (subst (λ (base : TableState). LegalFrom true base w'.seen) e.base e.legal)
+  legal = subst (λ (es : List Entry). LegalFrom true w.base es) whole (subst (λ (base : HistoryState). LegalFrom true base w'.seen) e.base e.legal)
 
   pub entry_learns : Learns w just_before
   entry_learns = record { name = refl; base = refl; more = e.between; others = e.others; seen = refl; legal = LegalFrom-front true w.base just_before.seen last legal }
@@ -36,7 +36,7 @@ module _ {clock : ℕ} {c : Call} {r : Reply} {w w' : Watched} (e : Enters clock
   entry_allowed = (LegalFrom-back true w.base just_before.seen last legal).0
 
   pub entry_is : now_of w' ≡ after_entry true (now_of just_before) (stewards clock c r)
-  entry_is = ap (λ (base : TableState). after true base w'.seen) e.base ∙ ap (after true w.base) whole ∙ after-append true w.base just_before.seen last
+  entry_is = ap (λ (base : HistoryState). after true base w'.seen) e.base ∙ ap (after true w.base) whole ∙ after-append true w.base just_before.seen last
 
   added : Between clock clock (e.between ++ last)
   added = between_append clock clock e.between last (callers_between clock clock e.between e.others) ((λ steward. (omega arith, omega arith)), tt)

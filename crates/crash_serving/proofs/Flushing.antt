@@ -6,22 +6,22 @@ use Rattle.leaf_model.specs.declared.writes.Write.{Write}
 use Rattle.berth_face.specs.Berth.{Meaning}
 use Rattle.leaf_history.specs.Calls as call
 use Rattle.leaf_history.specs.Replies as reply
-use Rattle.leaf_history.specs.History.{TableState}
+use Rattle.leaf_history.specs.History.{HistoryState}
 use Rattle.disk_backup.specs.State.{LogState}
 use Rattle.disk_backup.specs.Settling.{with_writes}
 use Rattle.crash_moments.specs.Watched.{Watched, now_of}
 use Rattle.crash_states.specs.Standing.{IsLogged, Runs}
 use Rattle.crash_states.specs.Entries.{Enters}
-use Rattle.crash_serving.specs.Laws.{Flushes}
+use Rattle.crash_serving.specs.Laws.{IsFlushed}
 use Rattle.crash_states.proofs.Meeting.{learned_logged, met_at, met_each, met_names}
 use Rattle.crash_serving.proofs.Entering.{entered_more, entered_opened, entered_watched, entry_is, entry_learns, just_before}
 
-flushed_logged : (logged taken : List Write) (n : ℕ) (s : TableState) → n ≤ length logged → IsLogged logged taken s → IsLogged logged taken (record s { flushed = max s.flushed n })
+flushed_logged : (logged taken : List Write) (n : ℕ) (s : HistoryState) → n ≤ length logged → IsLogged logged taken s → IsLogged logged taken (record s { flushed = max s.flushed n })
 flushed_logged logged taken n s few is = record { front = is.front; enough = is.enough; flushed = omega (arith, is.flushed, few); handed = is.handed }
 
 pub flushing : (ws : List Watched) (place owner n : ℕ) (w w' : Watched) (log : LogState) (writes : List ℕ → List Write) (m : Meaning)
     → Runs ws owner log writes m → slice_get ws place ≡ Some w → n ≤ length (writes w.name) → Enters m.clock (call.Flushed n) reply.Noted w w'
-    → Flushes ws place owner w' log writes m
+    → IsFlushed ws place owner w' log writes m
 flushing ws place owner n w w' log writes m runs at few e =
     let taken : List ℕ → List Write = with_writes log.owed writes in
     let before : Watched = just_before e in

@@ -8,19 +8,19 @@ use Rattle.leaf_model.specs.declared.writes.Write.{Write}
 use Rattle.berth_face.specs.Berth.{Meaning}
 use Rattle.leaf_history.specs.Calls as call
 use Rattle.leaf_history.specs.Replies as reply
-use Rattle.leaf_history.specs.History.{TableState, write_count}
+use Rattle.leaf_history.specs.History.{HistoryState, write_count}
 use Rattle.row_records.specs.Records.{LogRecord}
 use Rattle.row_records.specs.Pending.{pending_bytes}
 use Rattle.disk_backup.specs.Logs.{open_records}
 use Rattle.disk_backup.specs.State.{LogState}
 use Rattle.disk_backup.specs.Settling.{HoldsOwing, with_writes}
-use Rattle.crash_events.specs.Left.{Tables}
+use Rattle.crash_events.specs.Left.{NamedStates}
 use Rattle.crash_moments.specs.Watched.{Watched, AreApart, IsFoundation, IsWatched, is_watched, now_of, was_opened}
 use Rattle.crash_moments.specs.Told.{SeenMore}
 use Rattle.crash_moments.proofs.Telling.{none_more, opened_more}
 use Rattle.crash_states.specs.Standing.{IsKept, IsLogged, Rests, Runs, is_closed, tables_of}
 use Rattle.crash_states.specs.Entries.{Enters, ShutsAll}
-use Rattle.crash_serving.specs.Laws.{Kills}
+use Rattle.crash_serving.specs.Laws.{IsKilled}
 use Rattle.crash_states.proofs.Names.{IsForeign, IsOwn, find_name, no_others, others_at}
 use Rattle.crash_states.proofs.States.{IsBetween, logged_front, with_owed, without_owed}
 use Rattle.crash_states.proofs.Lefts.{runs_logs}
@@ -46,8 +46,8 @@ ends_watched clock w w' (inl shut) watched = subst (IsWatched clock) (sym shut.1
 ends_watched clock w w' (inr shuts) watched = entry_watched shuts.1 watched
 
 -- what is kept of a shut table with these writes
-kept_of : (logged taken : List Write) (s : TableState) → IsBetween logged taken logged → IsBetween logged taken taken → IsLogged logged taken s
-    → (now : TableState) → now.live ≡ false → now.writes ≡ s.writes → now.flushed ≡ s.flushed → now.handed ≡ s.handed → IsKept logged taken now
+kept_of : (logged taken : List Write) (s : HistoryState) → IsBetween logged taken logged → IsBetween logged taken taken → IsLogged logged taken s
+    → (now : HistoryState) → now.live ≡ false → now.writes ≡ s.writes → now.flushed ≡ s.flushed → now.handed ≡ s.handed → IsKept logged taken now
 kept_of logged taken s without whole is now shut same flushed handed = record {
   shut = shut;
   flushed = omega (arith, flushed, is.flushed);
@@ -62,7 +62,7 @@ ends_kept logged taken without whole clock w w' (inl shut) is =
     subst (λ (x : Watched). IsKept logged taken (now_of x)) (sym shut.1) (kept_of logged taken (now_of w) without whole is (now_of w) shut.0 refl refl refl)
 ends_kept logged taken without whole clock w w' (inr shuts) is =
     let before : Watched = just_before shuts.1 in
-    let s : TableState = now_of before in
+    let s : HistoryState = now_of before in
     subst (IsKept logged taken) (sym (entry_is shuts.1))
     (kept_of logged taken s without whole (learned_logged w before (entry_learns shuts.1) logged taken is) (record s { live = false; taken = write_count s }) refl refl refl refl)
 
@@ -118,7 +118,7 @@ module _ (ws ws' : List Watched) (owner : ℕ) (log : LogState) (writes : List �
   still_opened : was_opened m.clock ws' ≡ true
   still_opened = opened_more m.clock m.clock m.clock m.clock ws ws' (omega arith) more runs.opened
 
-  each_kept : (others : Tables) (name : List ℕ) → IsKept (writes name) (taken name) (tables_of others ws' m name)
+  each_kept : (others : NamedStates) (name : List ℕ) → IsKept (writes name) (taken name) (tables_of others ws' m name)
   each_kept others name = by (find_name ws' name)
     where
       by : IsOwn ws' name ⊎ IsForeign ws' name → IsKept (writes name) (taken name) (tables_of others ws' m name)
@@ -139,7 +139,7 @@ module _ (ws ws' : List Watched) (owner : ℕ) (log : LogState) (writes : List �
             handed = λ done. absurd (false≢true done);
           })
 
-  killed_rests : (others : Tables) → ((name : List ℕ) → IsFoundation (others name)) → Rests ws' others writes log.owed m
+  killed_rests : (others : NamedStates) → ((name : List ℕ) → IsFoundation (others name)) → Rests ws' others writes log.owed m
   killed_rests others sound = record {
     watched = record { each = all_each m.clock ws ws' all runs.watched.each; apart = still_apart m.clock m.clock ws ws' more runs.watched.apart };
     stands = runs.stands;
@@ -150,5 +150,5 @@ module _ (ws ws' : List Watched) (owner : ℕ) (log : LogState) (writes : List �
     region = is_closed (runs.closed m.held runs.stands.reads);
   }
 
-  pub killing : Kills ws ws' log writes m
+  pub killing : IsKilled ws ws' log writes m
   killing = record { rests = killed_rests; more = more }

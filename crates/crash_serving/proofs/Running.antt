@@ -10,7 +10,7 @@ use Rattle.disk_backup.specs.Settling.{Settled, KeepsLog}
 use Rattle.crash_moments.specs.Watched.{Watched}
 use Rattle.crash_states.specs.Standing.{Runs, StandsNow}
 use Rattle.crash_states.specs.Entries.{Enters, ShutsAll}
-use Rattle.crash_serving.specs.Laws.{Settles, settled_log, owing_log, record_for, Owes, untaken_before, TakesIn, Flushes, Kills}
+use Rattle.crash_serving.specs.Laws.{Settles, settled_log, owing_log, record_for, Owes, untaken_before, TakesIn, IsFlushed, IsKilled}
 use Rattle.crash_serving.proofs.Settling.{settling}
 use Rattle.crash_serving.proofs.Taking.{taken_in, shut_in}
 use Rattle.crash_serving.proofs.Flushing.{flushing}
@@ -41,10 +41,10 @@ shuts ws place owner n w w' log log' writes m runs none at e owes = shut_in ws p
 -- a table is noted as flushed
 pub flushes : (ws : List Watched) (place owner n : ℕ) (w w' : Watched) (log : LogState) (writes : List ℕ → List Write) (m : Meaning)
     → Runs ws owner log writes m → slice_get ws place ≡ Some w → n ≤ length (writes w.name) → Enters m.clock (call.Flushed n) reply.Noted w w'
-    → Flushes ws place owner w' log writes m
+    → IsFlushed ws place owner w' log writes m
 flushes ws place owner n w w' log writes m runs at few e = flushing ws place owner n w w' log writes m runs at few e
 
 -- the leaf is killed
 pub kills : (ws ws' : List Watched) (owner : ℕ) (log : LogState) (writes : List ℕ → List Write) (m : Meaning)
-    → Runs ws owner log writes m → ShutsAll m.clock ws ws' → Kills ws ws' log writes m
+    → Runs ws owner log writes m → ShutsAll m.clock ws ws' → IsKilled ws ws' log writes m
 kills ws ws' owner log writes m runs all = killing ws ws' owner log writes m runs all

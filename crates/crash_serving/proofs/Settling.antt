@@ -9,7 +9,7 @@ use Rattle.region_layout.specs.Region.{IsClosed}
 use Rattle.disk_backup.specs.Logs.{ClosedLog}
 use Rattle.disk_backup.specs.State.{LogState}
 use Rattle.disk_backup.specs.Settling.{Comes, HasLog, HaveLog, HoldsOwing, HoldsLog, KeepsLog, Settled, WithOrWithout, WithOwed, end_with, with_writes}
-use Rattle.crash_events.specs.Left.{Tables, Left, closed}
+use Rattle.crash_events.specs.Left.{NamedStates, Left, closed}
 use Rattle.crash_moments.specs.Watched.{Watched, AreWatched, Between, IsWatched, now_of, tables_then, was_opened}
 use Rattle.crash_moments.specs.Told.{Told, reads_one}
 use Rattle.crash_moments.proofs.Telling.{between_wider, none_more, opened_more, then_now}
@@ -30,7 +30,7 @@ both_err (Ok x) f p q = tt
 both_err (Err y) f p q = f p q
 
 -- each pair with that log, with or without what was owed, belongs to the tables as they stand
-log_left : (ws : List Watched) (owner : ℕ) (log : LogState) (writes : List ℕ → List Write) (m : Meaning) → Runs ws owner log writes m → (others : Tables) (p : Pair) → IsClosed p.region
+log_left : (ws : List Watched) (owner : ℕ) (log : LogState) (writes : List ℕ → List Write) (m : Meaning) → Runs ws owner log writes m → (others : NamedStates) (p : Pair) → IsClosed p.region
     → HasLog writes log.end p.disk ⊎ HasLog (with_writes log.owed writes) (end_with log) p.disk → Left reads_one (tables_then others m.clock ws) p
 log_left ws owner log writes m runs others p shut (inl without) =
     let short = taken_short ws owner log writes m runs in
@@ -58,14 +58,14 @@ module _ (ws : List Watched) (owner : ℕ) (log log' : LogState) (writes : List 
     | inr lost ↦ lost_closed p lost
   ]
 
-  settling_told : {T E : Type 0} (result : Result T E) → Settled log log' result a b → KeepsLog log log' writes result a b → (others : Tables) → Told others ws ws a b
+  settling_told : {T E : Type 0} (result : Result T E) → Settled log log' result a b → KeepsLog log log' writes result a b → (others : NamedStates) → Told others ws ws a b
   settling_told result settled keeps others = record {
     passes = passes;
     more = none_more a.clock b.clock ws;
     left = λ t p from to left.
         let shut = came_closed (WithOrWithout log) p (settled.moments.each t p from to left) in
         let same : tables_then others t ws ≡ tables_then others a.clock ws = then_now others a.clock t ws from (each_more (IsWatched a.clock) (λ (w : Watched). Between 0 a.clock w.seen) (λ w watched. watched.made) ws runs.watched.each) in
-        subst (λ (tables : Tables). Left reads_one tables p) (sym same) (log_left ws owner log writes a runs others p shut (keeps.moments.each t p from to left));
+        subst (λ (tables : NamedStates). Left reads_one tables p) (sym same) (log_left ws owner log writes a runs others p shut (keeps.moments.each t p from to left));
   }
 
   module _ (stands : StandsNow b) where

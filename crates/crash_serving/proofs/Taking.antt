@@ -10,7 +10,7 @@ use Rattle.berth_face.specs.Berth.{Meaning}
 use Rattle.leaf_history.specs.Calls.{Call}
 use Rattle.leaf_history.specs.Calls as call
 use Rattle.leaf_history.specs.Replies as reply
-use Rattle.leaf_history.specs.History.{TableState, untaken, write_count}
+use Rattle.leaf_history.specs.History.{HistoryState, untaken, write_count}
 use Rattle.disk_backup.specs.Logs.{ClosedLog}
 use Rattle.disk_backup.specs.State.{LogState}
 use Rattle.disk_backup.specs.Settling.{HaveLog, HoldsOwing, with_writes}
@@ -45,14 +45,14 @@ owing_whole (Some r) laid end records disk not_laid whole closed = subst (λ (b 
 -- ---- one table
 
 -- all of its writes are taken
-pub record TakesAll (before s : TableState) : Type 0 where
+pub record TakesAll (before s : HistoryState) : Type 0 where
   pub writes : s.writes ≡ before.writes
   pub taken : s.taken ≡ write_count before
   pub flushed : s.flushed ≡ before.flushed
   pub handed : s.handed ≡ before.handed
 
 -- what was not taken is in the record
-takes_logged : (logged more all : List Write) (before s : TableState) → IsFoundation before → IsLogged logged logged before → TakesAll before s → more ≡ untaken before → all ≡ logged ++ more → IsLogged logged all s
+takes_logged : (logged more all : List Write) (before s : HistoryState) → IsFoundation before → IsLogged logged logged before → TakesAll before s → more ≡ untaken before → all ≡ logged ++ more → IsLogged logged all s
 takes_logged logged more all before s sound is takes rest whole =
     let none : before.taken - before.handed_in ≡ before.taken = omega (arith, sound.handed_in) in
     let parts : logged ++ more ≡ before.writes =

@@ -8,7 +8,7 @@ use Rattle.leaf_history.specs.Replies as reply
 use Rattle.leaf_history.specs.History.{after, untaken}
 use Rattle.disk_backup.specs.State.{LogState}
 use Rattle.disk_backup.specs.Settling.{with_writes, end_with}
-use Rattle.crash_events.specs.Left.{Tables}
+use Rattle.crash_events.specs.Left.{NamedStates}
 use Rattle.crash_moments.specs.Watched.{Watched, IsFoundation, now_of}
 use Rattle.crash_moments.specs.Told.{SeenMore, Told}
 use Rattle.crash_states.specs.Standing.{Runs, Rests}
@@ -24,7 +24,7 @@ owing_log log log' = (log'.owed ≡ log.owed) × (log'.end ≡ log.end)
 
 -- What settling does to a leaf that runs: no entry is made, and a crash at any moment leaves what belongs to its tables. After Ok the log has what it was owed too.
 pub record Settles {T E : Type 0} (ws : List Watched) (owner : ℕ) (log log' : LogState) (writes : List ℕ → List Write) (result : Result T E) (a b : Meaning) : Type 0 where
-  pub told : (others : Tables) → Told others ws ws a b
+  pub told : (others : NamedStates) → Told others ws ws a b
   pub ok : OnOk result (Runs ws owner log' (with_writes log.owed writes) b)
   pub err : OnErr result (Runs ws owner log' writes b)
 
@@ -52,19 +52,19 @@ pub record TakesIn (ws : List Watched) (place : ℕ) (w w' : Watched) (n : ℕ) 
   pub all : n ≡ length (now_of w').writes
 
 -- It was noted as flushed.
-pub record Flushes (ws : List Watched) (place owner : ℕ) (w' : Watched) (log : LogState) (writes : List ℕ → List Write) (m : Meaning) : Type 0 where
+pub record IsFlushed (ws : List Watched) (place owner : ℕ) (w' : Watched) (log : LogState) (writes : List ℕ → List Write) (m : Meaning) : Type 0 where
   pub runs : Runs (slice_set ws place w') owner log writes m
   pub more : SeenMore m.clock m.clock ws (slice_set ws place w')
 
 -- It was killed.
-pub record Kills (ws ws' : List Watched) (log : LogState) (writes : List ℕ → List Write) (m : Meaning) : Type 0 where
-  pub rests : (others : Tables) → ((name : List ℕ) → IsFoundation (others name)) → Rests ws' others writes log.owed m
+pub record IsKilled (ws ws' : List Watched) (log : LogState) (writes : List ℕ → List Write) (m : Meaning) : Type 0 where
+  pub rests : (others : NamedStates) → ((name : List ℕ) → IsFoundation (others name)) → Rests ws' others writes log.owed m
   pub more : SeenMore m.clock m.clock ws ws'
 
 -- what happens to a leaf that runs over this berth
 pub record RunsOn (m : Meaning) : Type 0 where
   pub flushed : (ws : List Watched) (place owner n : ℕ) (w w' : Watched) (log : LogState) (writes : List ℕ → List Write)
       → Runs ws owner log writes m → slice_get ws place ≡ Some w → n ≤ length (writes w.name) → Enters m.clock (call.Flushed n) reply.Noted w w'
-      → Flushes ws place owner w' log writes m
+      → IsFlushed ws place owner w' log writes m
   pub killed : (ws ws' : List Watched) (owner : ℕ) (log : LogState) (writes : List ℕ → List Write)
-      → Runs ws owner log writes m → ShutsAll m.clock ws ws' → Kills ws ws' log writes m
+      → Runs ws owner log writes m → ShutsAll m.clock ws ws' → IsKilled ws ws' log writes m

@@ -23,7 +23,7 @@ use Rattle.disk_backup.specs.Scanning.{begun}
 use Rattle.disk_backup.specs.Settling.{HoldsLog, HaveLog, with_writes}
 use Rattle.log_recovery.specs.Recovery.{IsRecovered}
 use Rattle.log_recovery.specs.Recovery as recovery
-use Rattle.leaf_history.specs.History.{TableState}
+use Rattle.leaf_history.specs.History.{HistoryState}
 use Rattle.leaf_opening.specs.declared.ways.Way.{Way}
 use Rattle.leaf_opening.specs.declared.ways.Way.TheVariants.{Memory, Disk}
 use Rattle.leaf_opening.specs.Serving.{Serving}
@@ -34,7 +34,7 @@ use Rattle.leaf_opening.proofs.Logs.{same_writes}
 use Rattle.leaf_opening.proofs.Strangers.{no_writes_there, no_writes_read}
 use Rattle.leaf_opening.proofs.Places.{table_at}
 use Rattle.leaf_opening.proofs.Backing.{log_at}
-use Rattle.crash_events.specs.Left.{Tables}
+use Rattle.crash_events.specs.Left.{NamedStates}
 use Rattle.crash_moments.specs.Watched.{Watched, is_watched, now_of, others_then, was_opened}
 use Rattle.crash_states.specs.Standing.{StandsNow, Rests, RegionRests, is_closed, is_other, is_image, IsWhole, IsKept, MayHave, tables_of}
 use Rattle.crash_states.proofs.Names.{named_at}
@@ -50,13 +50,13 @@ longer next writes name =
     let more = with_more next writes name in
     omega (arith, ap (λ (l : List Write). length l) more.1, length-append (writes name) more.0)
 
-may_have_least : (least most : List Write) (s : TableState) → IsKept least most s → MayHave least s
+may_have_least : (least most : List Write) (s : HistoryState) → IsKept least most s → MayHave least s
 may_have_least least most s kept = record { shut = kept.shut; flushed = kept.flushed; front = kept.shortest; handed = λ handed. (kept.handed handed).0 }
 
-may_have_most : (least most : List Write) (s : TableState) → length least ≤ length most → IsKept least most s → MayHave most s
+may_have_most : (least most : List Write) (s : HistoryState) → length least ≤ length most → IsKept least most s → MayHave most s
 may_have_most least most s more kept = record { shut = kept.shut; flushed = omega (arith, kept.flushed, more); front = kept.longest; handed = λ handed. (kept.handed handed).1 }
 
-may_have_all : (least most : List Write) (s : TableState) → IsKept least most s → MayHave s.writes s
+may_have_all : (least most : List Write) (s : HistoryState) → IsKept least most s → MayHave s.writes s
 may_have_all least most s kept = record {
   shut = kept.shut;
   flushed = omega (arith, kept.flushed, ap (λ (l : List Write). length l) kept.shortest, length-take (length least) s.writes);
@@ -69,7 +69,7 @@ may_have_all least most s kept = record {
 same_version : (u v : ℕ) → Version u ≡ Version v → u ≡ v
 same_version u v same = cc
 
-whole_image : (tables : Tables) (m : Meaning) (images : List TableImage) (log_end : ℕ) → IsImage 1 m.held.region images log_end → RegionRests tables m → IsWhole tables images log_end m
+whole_image : (tables : NamedStates) (m : Meaning) (images : List TableImage) (log_end : ℕ) → IsImage 1 m.held.region images log_end → RegionRests tables m → IsWhole tables images log_end m
 whole_image tables m images log_end is (is_closed closed) = absurd (closed_no_image m.held.region closed images log_end is)
 whole_image tables m images log_end is (is_other version head other) = absurd (other (same_version version 1 (sym head ∙ image_head m.held.region images 1 log_end is)))
 whole_image tables m images log_end is (is_image those those_end is_those whole) =
@@ -77,9 +77,9 @@ whole_image tables m images log_end is (is_image those those_end is_those whole)
     let that : Image = record { log_end = those_end; tables = those } in
     subst (λ (i : Image). IsWhole tables i.tables i.log_end m) (one_image m.held.region that one is_those is) whole
 
-module _ (ws : List Watched) (others : Tables) (least : List ℕ → List Write) (next : Option LogRecord) (a b : Meaning) (rests : Rests ws others least next a)
+module _ (ws : List Watched) (others : NamedStates) (least : List ℕ → List Write) (next : Option LogRecord) (a b : Meaning) (rests : Rests ws others least next a)
     (passes : Passes a b) (stands : StandsNow b) (region : b.held.region ≡ left_behind a.held.region) where
-  abbrev tables : Tables
+  abbrev tables : NamedStates
   tables = tables_of others ws a
 
   all_closed : EachNow (λ p. IsClosed p.region) b

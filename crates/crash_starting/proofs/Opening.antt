@@ -9,16 +9,16 @@ use Rattle.berth_face.specs.Berth.{Pair, Meaning, Ended, SameDisk}
 use Rattle.berth_face.specs.Moments.{EachNow}
 use Rattle.berth_face.proofs.Moments.{now_of}
 use Rattle.region_layout.specs.Region.{IsClosed, IsImage, head_of}
-use Rattle.disk_backup.specs.Scanning.{FirstByte, Begins}
+use Rattle.disk_backup.specs.Scanning.{FirstByte, BeginsScan}
 use Rattle.disk_backup.specs.Settling.{HasLog, with_writes}
 use Rattle.leaf_opening.specs.declared.opening.Opened.{Opened}
 use Rattle.leaf_opening.specs.declared.ways.StartFault.{StartFault}
 use Rattle.leaf_opening.specs.declared.ways.StartFault.TheVariants as fault
 use Rattle.leaf_opening.specs.Backed.{HasSoundLog}
-use Rattle.leaf_opening.specs.Starts.{IsRefusal, OpensFrom, KeepsDisks}
+use Rattle.leaf_opening.specs.Starts.{IsOpeningRefusal, OpensFrom, KeepsDisks}
 use Rattle.leaf_opening.proofs.Logs.{sound_begins}
 use Rattle.leaf_opening.proofs.Regions.{left_closed, broken_same}
-use Rattle.crash_events.specs.Left.{Tables}
+use Rattle.crash_events.specs.Left.{NamedStates}
 use Rattle.crash_moments.specs.Watched.{Watched}
 use Rattle.crash_states.specs.Standing.{StandsNow, Rests, RegionRests, is_closed, is_other, is_image, IsKept, tables_of}
 use Rattle.crash_states.proofs.Pairs.{lost_closed}
@@ -44,7 +44,7 @@ abbrev pub DisksFrom : Meaning → Meaning → Type 0
 DisksFrom a b = EachNow (λ p. (q : Pair) × a.leaves a.clock q × (p.disk ≡ q.disk)) b
 
 -- over the same region and such disks
-region_stays : (tables : Tables) (a b : Meaning) → b.held.region ≡ a.held.region → DisksFrom a b → RegionRests tables a → RegionRests tables b
+region_stays : (tables : NamedStates) (a b : Meaning) → b.held.region ≡ a.held.region → DisksFrom a b → RegionRests tables a → RegionRests tables b
 region_stays tables a b same disks (is_closed closed) = is_closed (subst IsClosed (sym same) closed)
 region_stays tables a b same disks (is_other version head other) = is_other version (ap head_of same ∙ head) other
 region_stays tables a b same disks (is_image images log_end is whole) =
@@ -67,7 +67,7 @@ alone t p = record {
   disk_reads = 0;
 }
 
-module _ (ws : List Watched) (others : Tables) (least : List ℕ → List Write) (next : Option LogRecord) (a : Meaning) (rests : Rests ws others least next a) where
+module _ (ws : List Watched) (others : NamedStates) (least : List ℕ → List Write) (next : Option LogRecord) (a : Meaning) (rests : Rests ws others least next a) where
   -- ---- a pair of a moment of the opening
 
   -- the first byte is written only where no disk had more than one
@@ -79,7 +79,7 @@ module _ (ws : List Watched) (others : Tables) (least : List ℕ → List Write)
         rests.empty (nil_from_length a.held.disk none) from was
   ]
 
-  begins_before : (from : Pair) (now : List ℕ) → a.leaves a.clock from → Begins (length a.held.disk) from.disk now → Begins (length from.disk) from.disk now
+  begins_before : (from : Pair) (now : List ℕ) → a.leaves a.clock from → BeginsScan (length a.held.disk) from.disk now → BeginsScan (length from.disk) from.disk now
   begins_before from now was (inl same) = inl same
   begins_before from now was (inr first) =
       let short : length from.disk ≤ 1 = short_before from now was first in
@@ -97,7 +97,7 @@ module _ (ws : List Watched) (others : Tables) (least : List ℕ → List Write)
     | inr had ↦ inr (log_opens (with_writes next least) p came had)
   ]
 
-  short_begins : (from : Pair) (now : List ℕ) → length from.disk ≤ 1 → Begins (length a.held.disk) from.disk now → length now ≤ 1
+  short_begins : (from : Pair) (now : List ℕ) → length from.disk ≤ 1 → BeginsScan (length a.held.disk) from.disk now → length now ≤ 1
   short_begins from now short (inl same) = subst (λ (d : List ℕ). length d ≤ 1) (sym same) short
   short_begins from now short (inr first) = omega (arith, short, first.torn.no_longer)
 
@@ -132,10 +132,10 @@ module _ (ws : List Watched) (others : Tables) (least : List ℕ → List Write)
         watched = watched_later a.clock b.clock ws later rests.watched;
         stands = stands;
         logs = λ p left. logs_open p (came p left);
-        each = λ name. subst (λ (tables : Tables). IsKept (least name) (with_writes next least name) (tables name)) same (rests.each name);
+        each = λ name. subst (λ (tables : NamedStates). IsKept (least name) (with_writes next least name) (tables name)) same (rests.each name);
         sound = rests.sound;
         empty = empty;
-        region = subst (λ (tables : Tables). RegionRests tables b) same region;
+        region = subst (λ (tables : NamedStates). RegionRests tables b) same region;
       }
 
   -- a moment of the opening leaves a pair over which the leaf rests
@@ -150,7 +150,7 @@ module _ (ws : List Watched) (others : Tables) (least : List ℕ → List Write)
       ])
 
   -- and so does its end
-  none_before : (b : Meaning) → Begins (length a.held.disk) a.held.disk b.held.disk → b.held.disk ≡ [] → a.held.disk ≡ []
+  none_before : (b : Meaning) → BeginsScan (length a.held.disk) a.held.disk b.held.disk → b.held.disk ≡ [] → a.held.disk ≡ []
   none_before b (inl same) none = sym same ∙ none
   none_before b (inr first) none = nil_from_length a.held.disk (omega (arith, first.torn.no_shorter, ap (λ (d : List ℕ). length d) none))
 
@@ -164,7 +164,7 @@ module _ (ws : List Watched) (others : Tables) (least : List ℕ → List Write)
 
 -- ---- what a refusal leaves of the region
 
-pub region_refused : (names : List (List ℕ)) (a b : Meaning) (f : StartFault) → KeepsDisks a b (Err f) → IsRefusal names a b f → IsClosed b.held.region ⊎ ((b.held.region ≡ a.held.region) × Ended SameDisk a b)
+pub region_refused : (names : List (List ℕ)) (a b : Meaning) (f : StartFault) → KeepsDisks a b (Err f) → IsOpeningRefusal names a b f → IsClosed b.held.region ⊎ ((b.held.region ≡ a.held.region) × Ended SameDisk a b)
 region_refused names a b fault.RegionFault kept refusal = elim (closed_or_open b.held.region) [
   | inl shut ↦ inl shut
   | inr opened ↦ inr (broken_same a.held.region b.held.region refusal.0 opened, kept)

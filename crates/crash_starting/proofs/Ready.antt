@@ -2,21 +2,21 @@
 use Rattle.std.proofs.Common.{◌≡◌, ℕ, List, Option, Some, sym, subst}
 use Rattle.std.specs.List.{AllByRecursion}
 use Rattle.leaf_model.specs.declared.writes.Write.{Write}
-use Rattle.leaf_history.specs.History.{TableState}
+use Rattle.leaf_history.specs.History.{HistoryState}
 use Rattle.row_records.specs.Records.{LogRecord}
 use Rattle.disk_backup.specs.Settling.{with_writes}
 use Rattle.berth_face.specs.Berth.{Pair, Meaning}
-use Rattle.crash_events.specs.Left.{Tables, Left}
+use Rattle.crash_events.specs.Left.{NamedStates, Left}
 use Rattle.crash_events.specs.Base.{IsReady}
 use Rattle.crash_moments.specs.Watched.{Watched, IsFoundation}
 use Rattle.crash_moments.specs.Told.{reads_one}
 use Rattle.crash_states.specs.Standing.{IsKept, Rests, StandsNow, tables_of}
-use Rattle.crash_starting.specs.Laws.{AreNew}
+use Rattle.crash_starting.specs.Laws.{AreUnseen}
 use Rattle.crash_starting.proofs.ReadyLogs.{OneVaries, least_of, log_is, most_is, next_of, one_varies}
 use Rattle.crash_starting.proofs.ReadyTables.{IsNew, all_watched, are_new, founded, kept_one, tables_same}
 use Rattle.crash_starting.proofs.ReadyImages.{region_is}
 
-pub ready_rests : (base : Tables) (ws : List Watched) (m : Meaning) → IsReady reads_one m base → StandsNow m → AreNew base ws
+pub ready_rests : (base : NamedStates) (ws : List Watched) (m : Meaning) → IsReady reads_one m base → StandsNow m → AreUnseen base ws
     → (least : List ℕ → List Write) × (next : Option LogRecord) × Rests ws base least next m
 ready_rests base ws m ready stands new =
     let may : Pair → Type 0 = λ p. m.leaves m.clock p in
@@ -34,7 +34,7 @@ ready_rests base ws m ready stands new =
         stands = stands;
         logs = λ p left. log_is reads_one may base one.0 p one.1 (begins.left p left) left;
         each = λ name.
-            subst (λ (s : TableState). IsKept (least_of base name) (with_writes next (least_of base) name) s) (sym (same name))
+            subst (λ (s : HistoryState). IsKept (least_of base name) (with_writes next (least_of base) name) s) (sym (same name))
             (kept_one may name (base name) (with_writes next (least_of base) name) (begins.base_is name) (most_is may base one.0 name one.1));
         sound = sound;
         empty = begins.empty;

@@ -9,7 +9,7 @@ use Rattle.std.proofs.lemmas.Slice.Eq.{bytes_eq-Decides}
 use Rattle.leaf_model.specs.declared.rows.Row.{Row}
 use Rattle.leaf_model.specs.declared.writes.Write.{Write}
 use Rattle.leaf_model.specs.Content.{Contents, content}
-use Rattle.leaf_history.specs.History.{TableState}
+use Rattle.leaf_history.specs.History.{HistoryState}
 use Rattle.berth_face.specs.Berth.{Pair, Meaning}
 use Rattle.region_layout.specs.declared.image.TableImage.{TableImage}
 use Rattle.region_layout.specs.Images.{empty_image, is_named, table_named}
@@ -19,8 +19,8 @@ use Rattle.disk_backup.specs.Logs.{IsLog, ClosedLog}
 use Rattle.disk_backup.specs.Settling.{HasLog}
 use Rattle.disk_backup.proofs.Logs.{one_log, log_is_closed}
 use Rattle.leaf_opening.specs.Backed.{IsImageOf}
-use Rattle.crash_events.specs.Left.{Tables, Left, ImageOf, HasShutGate, RegionLeft, closed, other_version, image}
-use Rattle.crash_events.specs.Base.{EndsAt, MayBegin}
+use Rattle.crash_events.specs.Left.{NamedStates, Left, ImageOf, HasShutGate, RegionLeft, closed, other_version, image}
+use Rattle.crash_events.specs.Base.{EndsAt, PairsMayBegin}
 use Rattle.crash_events.proofs.Places.{both}
 use Rattle.crash_moments.specs.Told.{reads_one}
 use Rattle.crash_states.specs.Standing.{RegionRests, is_closed, is_other, is_image, IsWhole}
@@ -58,7 +58,7 @@ named_none : (name : List ℕ) (writes : List Write) → (writes ≢ [] → Cont
 named_none name [] all = record { contents = refl; count = refl }
 named_none name (v ∷ writes) all = absurd (none_contained name (all (no_writes v writes)))
 
-named_one : (base : Tables) (images : List TableImage) (name : List ℕ) → ((base name).writes ≢ [] → Contains (map (λ (t : TableImage). t.name) images) name)
+named_one : (base : NamedStates) (images : List TableImage) (name : List ℕ) → ((base name).writes ≢ [] → Contains (map (λ (t : TableImage). t.name) images) name)
     → AllByRecursion (λ (t : TableImage). HasThese (base t.name).writes t) images → IsImageOf (base name).writes (table_named images name)
 named_one base [] name all each = named_none name (base name).writes all
 named_one base (t ∷ images) name all each = by (bytes_eq t.name name) refl (λ later. named_one base images name later each.1)
@@ -78,7 +78,7 @@ gate_closes disk records end log (gate, at, shut) =
     log_is_closed disk records end log (slice_get_within disk end gate at) (λ one. shut (sym is ∙ one))
 
 -- a log that has all of the base, and ends there
-log_whole : (reads : ℕ → Bool) (base : Tables) (p : Pair) (end : ℕ) → Left reads base p → ((name : List ℕ) → (base name).flushed ≡ length (base name).writes) → EndsAt p.disk end
+log_whole : (reads : ℕ → Bool) (base : NamedStates) (p : Pair) (end : ℕ) → Left reads base p → ((name : List ℕ) → (base name).flushed ≡ length (base name).writes) → EndsAt p.disk end
     → HasLog (λ name. (base name).writes) end p.disk
 log_whole reads base p end l flushed ((others, log), gate) =
     let ends : l.end ≡ end = (one_log p.disk l.records others l.end end l.log log).1 in (
@@ -90,18 +90,18 @@ log_whole reads base p end l flushed ((others, log), gate) =
 -- ---- the region as it reads
 
 -- the image has all of the tables, and so has each log
-whole : (base tables : Tables) (m : Meaning) (version : ℕ) (images : List TableImage) (end : ℕ) → MayBegin reads_one (m.leaves m.clock) m.held base → ((name : List ℕ) → tables name ≡ base name)
+whole : (base tables : NamedStates) (m : Meaning) (version : ℕ) (images : List TableImage) (end : ℕ) → PairsMayBegin reads_one (m.leaves m.clock) m.held base → ((name : List ℕ) → tables name ≡ base name)
     → reads_one version ≡ true → IsImage version m.held.region images end → ImageOf base images → IsWhole tables images end m
 whole base tables m version images end begins same reads is of =
     let all = begins.image version images end reads is in
     record {
-      same = λ name. subst (λ (s : TableState). IsImageOf s.writes (table_named images name)) (sym (same name)) (named_one base images name (of.all name) of.each);
+      same = λ name. subst (λ (s : HistoryState). IsImageOf s.writes (table_named images name)) (sym (same name)) (named_one base images name (of.all name) of.each);
       logs = λ p left.
           let has : HasLog (λ name. (base name).writes) end p.disk = log_whole reads_one base p end (begins.left p left) all.0 (all.1 p left) in
-          (has.0, has.1, λ name. has.2 name ∙ sym (ap (λ (s : TableState). s.writes) (same name)));
+          (has.0, has.1, λ name. has.2 name ∙ sym (ap (λ (s : HistoryState). s.writes) (same name)));
     }
 
-pub region_is : (base tables : Tables) (m : Meaning) (records : List LogRecord) (end : ℕ) → MayBegin reads_one (m.leaves m.clock) m.held base → ((name : List ℕ) → tables name ≡ base name)
+pub region_is : (base tables : NamedStates) (m : Meaning) (records : List LogRecord) (end : ℕ) → PairsMayBegin reads_one (m.leaves m.clock) m.held base → ((name : List ℕ) → tables name ≡ base name)
     → RegionLeft reads_one base m.held records end → RegionRests tables m
 region_is base tables m records end begins same (closed shut) = is_closed shut
 region_is base tables m records end begins same (other_version version head not) = is_other version head (eqb-false version 1 not)

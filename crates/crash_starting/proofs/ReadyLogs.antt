@@ -4,37 +4,37 @@ use Rattle.std.specs.Prelude.{◌⊎◌, if◌then◌else◌, bytes_eq}
 use Rattle.std.proofs.lemmas.List.{take_all, take-append-drop, length-take-le}
 use Rattle.std.proofs.lemmas.Slice.Eq.{bytes_eq-Decides}
 use Rattle.leaf_model.specs.declared.writes.Write.{Write}
-use Rattle.leaf_history.specs.History.{TableState}
+use Rattle.leaf_history.specs.History.{HistoryState}
 use Rattle.berth_face.specs.Berth.{Pair}
 use Rattle.row_records.specs.Records.{LogRecord}
 use Rattle.disk_backup.specs.Logs.{writes_of}
 use Rattle.disk_backup.specs.Settling.{with_writes}
 use Rattle.leaf_opening.specs.Backed.{HasSoundLog}
-use Rattle.crash_events.specs.Left.{Tables, Left}
-use Rattle.crash_events.specs.Base.{HasLog, IsBaseOf, IsFixed, HasTwoLengths, MayBegin}
+use Rattle.crash_events.specs.Left.{NamedStates, Left}
+use Rattle.crash_events.specs.Base.{HasWritesOf, IsBaseOf, IsFixed, HasTwoLengths, PairsMayBegin}
 use Rattle.crash_events.proofs.Places.{both}
 
 -- the flushed writes of each name
-abbrev pub least_of : Tables → List ℕ → List Write
+abbrev pub least_of : NamedStates → List ℕ → List Write
 least_of base name = take (base name).flushed (base name).writes
 
 -- the record behind those of one name
-abbrev pub next_of : Tables → List ℕ → LogRecord
+abbrev pub next_of : NamedStates → List ℕ → LogRecord
 next_of base but = record { name = but; writes = drop (base but).flushed (base but).writes }
 
 -- each log has what is flushed of this name or all, and of each other name all is flushed
-pub record OneVaries (may : Pair → Type 0) (base : Tables) (but : List ℕ) : Type 0 where
+pub record OneVaries (may : Pair → Type 0) (base : NamedStates) (but : List ℕ) : Type 0 where
   pub two : HasTwoLengths may but (base but)
   pub rest : (name : List ℕ) → bytes_eq name but ≡ false → (base name).flushed ≡ length (base name).writes
 
-fixed_all : (may : Pair → Type 0) (name : List ℕ) (s : TableState) → IsBaseOf may name s → IsFixed may name → s.flushed ≡ length s.writes
+fixed_all : (may : Pair → Type 0) (name : List ℕ) (s : HistoryState) → IsBaseOf may name s → IsFixed may name → s.flushed ≡ length s.writes
 fixed_all may name s is fixed = is.least.4 ∙ fixed is.least.0 is.longest.0 is.least.1 s.writes is.least.2 is.longest.1 is.least.3 is.longest.2
 
-fixed_two : (may : Pair → Type 0) (name : List ℕ) (s : TableState) → IsBaseOf may name s → IsFixed may name → HasTwoLengths may name s
+fixed_two : (may : Pair → Type 0) (name : List ℕ) (s : HistoryState) → IsBaseOf may name s → IsFixed may name → HasTwoLengths may name s
 fixed_two may name s is fixed = λ p u left has. inr (fixed p is.longest.0 u s.writes left is.longest.1 has is.longest.2)
 
 -- where none varies, any name will do
-pub one_varies : (reads : ℕ → Bool) (may : Pair → Type 0) (now : Pair) (base : Tables) → MayBegin reads may now base → (but : List ℕ) × OneVaries may base but
+pub one_varies : (reads : ℕ → Bool) (may : Pair → Type 0) (now : Pair) (base : NamedStates) → PairsMayBegin reads may now base → (but : List ℕ) × OneVaries may base but
 one_varies reads may now base begins = elim begins.one_open [
   | inl all ↦ ([], record { two = fixed_two may [] (base []) (begins.base_is []) (all []); rest = λ name differs. fixed_all may name (base name) (begins.base_is name) (all name) })
   | inr one ↦ (
@@ -55,7 +55,7 @@ by_but P but name here others = by (bytes_eq name but) refl
     by false e = others e
 
 -- with the next record there is all of each name
-pub most_is : (may : Pair → Type 0) (base : Tables) (but name : List ℕ) → OneVaries may base but → with_writes (Some (next_of base but)) (least_of base) name ≡ (base name).writes
+pub most_is : (may : Pair → Type 0) (base : NamedStates) (but name : List ℕ) → OneVaries may base but → with_writes (Some (next_of base but)) (least_of base) name ≡ (base name).writes
 most_is may base but name varies = by (bytes_eq name but) refl
   where
     by : (same : Bool) → bytes_eq name but ≡ same → (if same then least_of base name ++ drop (base but).flushed (base but).writes else least_of base name) ≡ (base name).writes
@@ -63,7 +63,7 @@ most_is may base but name varies = by (bytes_eq name but) refl
         subst (λ n. least_of base name ++ drop (base n).flushed (base n).writes ≡ (base name).writes) ((bytes_eq-Decides name but).0 e) (take-append-drop (base name).flushed (base name).writes)
     by false e = take_all (base name).flushed (base name).writes (omega (arith, varies.rest name e))
 
-module _ (reads : ℕ → Bool) (may : Pair → Type 0) (base : Tables) (but : List ℕ) (p : Pair) (varies : OneVaries may base but) (l : Left reads base p) where
+module _ (reads : ℕ → Bool) (may : Pair → Type 0) (base : NamedStates) (but : List ℕ) (p : Pair) (varies : OneVaries may base but) (l : Left reads base p) where
   has_least : (l.front but).0 ≡ (base but).flushed → (name : List ℕ) → writes_of name l.records ≡ least_of base name
   has_least here name =
       let count : (l.front name).0 ≡ (base name).flushed =
@@ -82,7 +82,7 @@ module _ (reads : ℕ → Bool) (may : Pair → Type 0) (base : Tables) (but : L
   -- the log of such a pair
   pub log_is : may p → HasSoundLog (least_of base) p.disk ⊎ HasSoundLog (with_writes (Some (next_of base but)) (least_of base)) p.disk
   log_is left =
-      let has : HasLog p.disk but (writes_of but l.records) = (l.records, l.end, l.log, refl) in
+      let has : HasWritesOf p.disk but (writes_of but l.records) = (l.records, l.end, l.log, refl) in
       let long : length (writes_of but l.records) ≡ (l.front but).0 = ap (λ (ws : List Write). length ws) (l.front but).3 ∙ length-take-le (l.front but).0 (base but).writes (l.front but).1 in
       elim (varies.two p (writes_of but l.records) left has) [
         | inl e ↦ inl (sound (least_of base) (has_least (sym long ∙ e)))

@@ -1,4 +1,4 @@
--- Tables that their steward has not seen yet stand as their base says: shut, and sound.
+-- NamedStates that their steward has not seen yet stand as their base says: shut, and sound.
 use Rattle.std.proofs.Common.{◌≡◌, ℕ, zero, suc, ◌≤◌, ◌^◌, Bool, true, false, List, [], ◌∷◌, length, take, Some, refl, sym, ap, subst, ◌∙◌, arith}
 use Rattle.std.specs.Prelude.{◌||◌, slice_get, if◌then◌else◌, bytes_eq}
 use Rattle.std.specs.List.{AllByRecursion, list_any}
@@ -6,47 +6,47 @@ use Rattle.std.proofs.lemmas.List.{take_all, length-take-le}
 use Rattle.std.proofs.lemmas.Slice.Eq.{bytes_eq-Decides}
 use Rattle.leaf_model.specs.declared.writes.Write.{Write}
 use Rattle.leaf_model.specs.Content.{content}
-use Rattle.leaf_history.specs.History.{TableState, Entry, LegalFrom, after}
+use Rattle.leaf_history.specs.History.{HistoryState, Entry, LegalFrom, after}
 use Rattle.berth_face.specs.Berth.{Pair, Meaning}
 use Rattle.row_records.specs.Records.{LogRecord}
 use Rattle.disk_backup.specs.Logs.{writes_of}
 use Rattle.disk_backup.proofs.Logs.{one_log}
-use Rattle.crash_events.specs.Left.{Tables, Left}
-use Rattle.crash_events.specs.Base.{HasLog, IsBaseOf}
+use Rattle.crash_events.specs.Left.{NamedStates, Left}
+use Rattle.crash_events.specs.Base.{HasWritesOf, IsBaseOf}
 use Rattle.crash_events.proofs.Places.{both}
 use Rattle.crash_events.proofs.Beginning.{flushed_le}
 use Rattle.crash_moments.specs.Watched.{Watched, IsFoundation, IsShort, IsWatched, Between, by_name, cut, is_opening, now_of, others_then, was_opened}
 use Rattle.crash_states.specs.Standing.{IsKept, tables_now, tables_of}
-use Rattle.crash_starting.specs.Laws.{AreNew}
+use Rattle.crash_starting.specs.Laws.{AreUnseen}
 
 -- ---- the base of a name
 
 -- it is shut, and the logs have what is flushed of it at least
-pub kept_one : (may : Pair → Type 0) (name : List ℕ) (s : TableState) (most : List Write) → IsBaseOf may name s → most ≡ s.writes → IsKept (take s.flushed s.writes) most s
+pub kept_one : (may : Pair → Type 0) (name : List ℕ) (s : HistoryState) (most : List Write) → IsBaseOf may name s → most ≡ s.writes → IsKept (take s.flushed s.writes) most s
 kept_one may name s most is all =
     let le : s.flushed ≤ length s.writes = flushed_le may name s is in
     let long : length (take s.flushed s.writes) ≡ s.flushed = length-take-le s.flushed s.writes le in
     record {
-      shut = ap (λ (t : TableState). t.live) is.is;
+      shut = ap (λ (t : HistoryState). t.live) is.is;
       flushed = omega (arith, long);
       shortest = ap (λ n. take n s.writes) (sym long);
       longest = all ∙ sym (take_all (length most) s.writes (omega (arith, ap (λ (ws : List Write). length ws) all)));
-      handed = λ e. both s.handed (ap (λ (t : TableState). t.handed) is.is) e;
+      handed = λ e. both s.handed (ap (λ (t : HistoryState). t.handed) is.is) e;
     }
 
 -- the pair with the longest log says that it is short
-short_one : (reads : ℕ → Bool) (base : Tables) (p : Pair) (name : List ℕ) (writes : List Write) → Left reads base p → HasLog p.disk name writes → IsShort writes
+short_one : (reads : ℕ → Bool) (base : NamedStates) (p : Pair) (name : List ℕ) (writes : List Write) → Left reads base p → HasWritesOf p.disk name writes → IsShort writes
 short_one reads base p name writes l has k =
     let same : writes_of name l.records ≡ writes = ap (λ (records : List LogRecord). writes_of name records) (one_log p.disk l.records has.0 l.end has.1 l.log has.2).0 ∙ sym has.3 in
     subst (λ (ws : List Write). length (content (take k ws)).rows ≤ 2 ^ 40) same (l.bounded name k)
 
-pub founded : (reads : ℕ → Bool) (may : Pair → Type 0) (base : Tables) (name : List ℕ) → ((p : Pair) → may p → Left reads base p) → IsBaseOf may name (base name) → IsFoundation (base name)
+pub founded : (reads : ℕ → Bool) (may : Pair → Type 0) (base : NamedStates) (name : List ℕ) → ((p : Pair) → may p → Left reads base p) → IsBaseOf may name (base name) → IsFoundation (base name)
 founded reads may base name lefts is =
-    let s : TableState = base name in
-    let taken : s.taken ≡ length s.writes = ap (λ (t : TableState). t.taken) is.is in
-    let none : s.handed_in ≡ 0 = ap (λ (t : TableState). t.handed_in) is.is in
+    let s : HistoryState = base name in
+    let taken : s.taken ≡ length s.writes = ap (λ (t : HistoryState). t.taken) is.is in
+    let none : s.handed_in ≡ 0 = ap (λ (t : HistoryState). t.handed_in) is.is in
     record {
-      before = ap (λ (t : TableState). t.before) is.is;
+      before = ap (λ (t : HistoryState). t.before) is.is;
       handed_in = none;
       counted = record { taken = omega (arith, taken, none); handed_in = omega (arith, none) };
       short = short_one reads base is.longest.0 name s.writes (lefts is.longest.0 is.longest.1) is.longest.2;
@@ -54,21 +54,21 @@ founded reads may base name lefts is =
 
 -- ---- where nothing was seen
 
-abbrev pub IsNew : Tables → Watched → Type 0
+abbrev pub IsNew : NamedStates → Watched → Type 0
 IsNew base w = (w.base ≡ base w.name) × (w.seen ≡ [])
 
-each_new : (base : Tables) (ws : List Watched) → ((place : ℕ) (w : Watched) → slice_get ws place ≡ Some w → IsNew base w) → AllByRecursion (IsNew base) ws
+each_new : (base : NamedStates) (ws : List Watched) → ((place : ℕ) (w : Watched) → slice_get ws place ≡ Some w → IsNew base w) → AllByRecursion (IsNew base) ws
 each_new base [] each = tt
 each_new base (w ∷ ws) each = (each zero w refl, each_new base ws (λ place. each (suc place)))
 
-pub are_new : (base : Tables) (ws : List Watched) → AreNew base ws → AllByRecursion (IsNew base) ws
+pub are_new : (base : NamedStates) (ws : List Watched) → AreUnseen base ws → AllByRecursion (IsNew base) ws
 are_new base ws new = each_new base ws new.each
 
-none_opened : (t : ℕ) (base : Tables) (ws : List Watched) → AllByRecursion (IsNew base) ws → was_opened t ws ≡ false
+none_opened : (t : ℕ) (base : NamedStates) (ws : List Watched) → AllByRecursion (IsNew base) ws → was_opened t ws ≡ false
 none_opened t base [] new = refl
 none_opened t base (w ∷ ws) new = ap (λ (es : List Entry). list_any is_opening (cut t es) || was_opened t ws) new.0.1 ∙ none_opened t base ws new.1
 
-base_named : (base others : Tables) (ws : List Watched) (name : List ℕ) → others name ≡ base name → AllByRecursion (IsNew base) ws → by_name now_of others ws name ≡ base name
+base_named : (base others : NamedStates) (ws : List Watched) (name : List ℕ) → others name ≡ base name → AllByRecursion (IsNew base) ws → by_name now_of others ws name ≡ base name
 base_named base others [] name same new = same
 base_named base others (w ∷ ws) name same new = by (bytes_eq name w.name) refl (base_named base others ws name same new.1)
   where
@@ -77,12 +77,12 @@ base_named base others (w ∷ ws) name same new = by (bytes_eq name w.name) refl
     by false e rest = rest
 
 -- each name stands as the base says
-pub tables_same : (base : Tables) (ws : List Watched) (m : Meaning) → AllByRecursion (IsNew base) ws → (name : List ℕ) → tables_of base ws m name ≡ base name
+pub tables_same : (base : NamedStates) (ws : List Watched) (m : Meaning) → AllByRecursion (IsNew base) ws → (name : List ℕ) → tables_of base ws m name ≡ base name
 tables_same base ws m new name =
     ap (λ (opened : Bool). tables_now (others_then opened base) ws name) (none_opened m.clock base ws new) ∙ base_named base (others_then false base) ws name refl new
 
 -- each table is sound
-pub all_watched : (clock : ℕ) (base : Tables) (ws : List Watched) → ((name : List ℕ) → IsFoundation (base name)) → AllByRecursion (IsNew base) ws → AllByRecursion (IsWatched clock) ws
+pub all_watched : (clock : ℕ) (base : NamedStates) (ws : List Watched) → ((name : List ℕ) → IsFoundation (base name)) → AllByRecursion (IsNew base) ws → AllByRecursion (IsWatched clock) ws
 all_watched clock base [] sound new = tt
 all_watched clock base (w ∷ ws) sound new = (
   record {

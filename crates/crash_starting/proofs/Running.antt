@@ -12,14 +12,14 @@ use Rattle.disk_backup.specs.State.{LogState}
 use Rattle.disk_backup.specs.Settling.{with_writes}
 use Rattle.leaf_history.specs.Calls as call
 use Rattle.leaf_history.specs.Replies as reply
-use Rattle.leaf_history.specs.History.{Entry, TableState, LegalFrom, after, after_entry, opened}
+use Rattle.leaf_history.specs.History.{Entry, HistoryState, LegalFrom, after, after_entry, opened}
 use Rattle.leaf_history.specs.History as history
 use Rattle.leaf_history.proofs.Histories.{LegalFrom-front, LegalFrom-back, after-append, others_keep}
 use Rattle.crash_moments.specs.Watched.{Watched, Between, IsFoundation, IsWatched, AreApart, is_watched, now_of, was_opened}
 use Rattle.crash_moments.specs.Told.{SeenMore}
 use Rattle.crash_moments.proofs.Telling.{between_wider, between_append, opened_by}
 use Rattle.crash_states.specs.Entries.{Enters, OpensAll, stewards}
-use Rattle.crash_states.specs.Standing.{Runs, IsLogged, IsOwned, MayHave, MayOpen}
+use Rattle.crash_states.specs.Standing.{Runs, IsLogged, IsOwned, MayHave, StandsToOpen}
 use Rattle.crash_states.proofs.Meeting.{callers_between}
 use Rattle.crash_states.proofs.Names.{each_at}
 use Rattle.crash_states.proofs.States.{now_sound}
@@ -68,14 +68,14 @@ module _ (clock : ℕ) (w : Watched) (writes : List Write) (watched : IsWatched 
     -- callers changed nothing before, since it was shut
     kept_shut : after true (now_of w) enters.between ≡ now_of w
     kept_shut =
-        let legal : LegalFrom true w.base w'.seen = subst (λ (s : TableState). LegalFrom true s w'.seen) enters.base enters.legal in
+        let legal : LegalFrom true w.base w'.seen = subst (λ (s : HistoryState). LegalFrom true s w'.seen) enters.base enters.legal in
         let behind : LegalFrom true (now_of w) more = LegalFrom-back true w.base w.seen more (subst (λ (es : List Entry). LegalFrom true w.base es) enters.seen legal) in
         (others_keep true (now_of w) enters.between (LegalFrom-front true (now_of w) enters.between (opening ∷ []) behind) enters.others).shut may.shut
 
     now_opened : now_of w' ≡ opened true (now_of w) count (content writes)
     now_opened =
-        ap (λ (s : TableState). after true s w'.seen) enters.base ∙ ap (λ (es : List Entry). after true w.base es) enters.seen ∙ after-append true w.base w.seen more
-        ∙ after-append true (now_of w) enters.between (opening ∷ []) ∙ ap (λ (s : TableState). after_entry true s opening) kept_shut
+        ap (λ (s : HistoryState). after true s w'.seen) enters.base ∙ ap (λ (es : List Entry). after true w.base es) enters.seen ∙ after-append true w.base w.seen more
+        ∙ after-append true (now_of w) enters.between (opening ∷ []) ∙ ap (λ (s : HistoryState). after_entry true s opening) kept_shut
 
     pub now_logged : IsLogged writes writes (now_of w')
     now_logged = subst (IsLogged writes writes) (sym now_opened) opened_logged
@@ -154,7 +154,7 @@ module _ (clock : ℕ) (writes : List ℕ → List Write) where
 
 -- ---- and so they run
 
-module _ (ws ws' : List Watched) (owner : ℕ) (log : LogState) (writes : List ℕ → List Write) (m : Meaning) (may : MayOpen ws log writes m) (all : OpensAll m.clock writes ws ws') where
+module _ (ws ws' : List Watched) (owner : ℕ) (log : LogState) (writes : List ℕ → List Write) (m : Meaning) (may : StandsToOpen ws log writes m) (all : OpensAll m.clock writes ws ws') where
   logged_at : (place : ℕ) (w' : Watched) → slice_get ws' place ≡ Some w' → IsLogged (writes w'.name) (with_writes log.owed writes w'.name) (now_of w')
   logged_at place w' at =
       let was = opened_at m.clock writes ws ws' place w' all at in

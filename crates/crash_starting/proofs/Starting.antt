@@ -9,12 +9,12 @@ use Rattle.disk_backup.specs.State.{LogState}
 use Rattle.leaf_history.specs.History as history
 use Rattle.leaf_opening.specs.declared.opening.Opened.{Opened}
 use Rattle.leaf_opening.specs.declared.ways.StartFault.{StartFault}
-use Rattle.leaf_opening.specs.Starts.{Started, IsRefusal, IsDurable, serving_of}
-use Rattle.crash_events.specs.Left.{Tables}
+use Rattle.leaf_opening.specs.Starts.{Started, IsOpeningRefusal, IsDurable, serving_of}
+use Rattle.crash_events.specs.Left.{NamedStates}
 use Rattle.crash_moments.specs.Watched.{Watched, IsWatched, now_of}
 use Rattle.crash_moments.specs.Told.{Told}
 use Rattle.crash_moments.proofs.Telling.{none_more}
-use Rattle.crash_states.specs.Standing.{Rests, MayOpen}
+use Rattle.crash_states.specs.Standing.{Rests, StandsToOpen}
 use Rattle.crash_states.specs.Entries.{OpensAll}
 use Rattle.crash_states.proofs.Lefts.{rests_left}
 use Rattle.crash_states.proofs.Names.{each_at}
@@ -24,7 +24,7 @@ use Rattle.crash_starting.proofs.Finding.{found_by}
 use Rattle.crash_starting.proofs.Running.{may_open, opened_all}
 
 -- at each moment, whatever comes of it
-pub opening_told : (ws : List Watched) (others : Tables) (least : List ℕ → List Write) (next : Option LogRecord) (a b : Meaning) (result : Result Opened StartFault)
+pub opening_told : (ws : List Watched) (others : NamedStates) (least : List ℕ → List Write) (next : Option LogRecord) (a b : Meaning) (result : Result Opened StartFault)
     → Rests ws others least next a → OpeningMade a b result → Told others ws ws a b
 opening_told ws others least next a b result rests made = record {
   passes = made.passes;
@@ -34,25 +34,25 @@ opening_told ws others least next a b result rests made = record {
 }
 
 -- what is found may be opened
-pub found : (ws : List Watched) (others : Tables) (least : List ℕ → List Write) (next : Option LogRecord) (a b : Meaning) (o : Opened)
+pub found : (ws : List Watched) (others : NamedStates) (least : List ℕ → List Write) (next : Option LogRecord) (a b : Meaning) (o : Opened)
     → Rests ws others least next a → OpeningMade a b (Ok o) → Started (names_of ws) a b (serving_of (names_of ws) o) o.way → IsDurable b o
     → (writes : List ℕ → List Write) × Finds ws o.log o.tables.items writes b
 found ws others least next a b o rests made started durable =
     found_by ws others least next a b rests made.passes made.stands started.region (serving_of (names_of ws) o) o.way started.come started.disk made.disks durable
 
 -- a refusal leaves what there was
-pub refused : (ws : List Watched) (others : Tables) (least : List ℕ → List Write) (next : Option LogRecord) (a b : Meaning) (fault : StartFault)
-    → Rests ws others least next a → OpeningMade a b (Err fault) → IsRefusal (names_of ws) a b fault → Rests ws others least next b
+pub refused : (ws : List Watched) (others : NamedStates) (least : List ℕ → List Write) (next : Option LogRecord) (a b : Meaning) (fault : StartFault)
+    → Rests ws others least next a → OpeningMade a b (Err fault) → IsOpeningRefusal (names_of ws) a b fault → Rests ws others least next b
 refused ws others least next a b fault rests made refusal =
     rests_opened ws others least next a rests b (Err fault) made (region_refused (names_of ws) a b fault made.disks refusal)
 
 -- each table may be opened with the writes that its logs have
 pub openable : (ws : List Watched) (log : LogState) (writes : List ℕ → List Write) (m : Meaning) (place : ℕ) (w : Watched)
-    → MayOpen ws log writes m → slice_get ws place ≡ Some w → history.MayOpen (now_of w) (length (writes w.name)) (content (writes w.name))
+    → StandsToOpen ws log writes m → slice_get ws place ≡ Some w → history.MayOpen (now_of w) (length (writes w.name)) (content (writes w.name))
 openable ws log writes m place w may at =
     may_open m.clock w (writes w.name) (each_at (IsWatched m.clock) ws may.watched.each place w at) (may.each place w at)
 
 -- and opened they run
 pub opens : (ws ws' : List Watched) (owner : ℕ) (log : LogState) (writes : List ℕ → List Write) (m : Meaning)
-    → MayOpen ws log writes m → 0 < length ws → OpensAll m.clock writes ws ws' → Opens ws ws' owner log writes m
+    → StandsToOpen ws log writes m → 0 < length ws → OpensAll m.clock writes ws ws' → Opens ws ws' owner log writes m
 opens ws ws' owner log writes m may some all = opened_all ws ws' owner log writes m may all some

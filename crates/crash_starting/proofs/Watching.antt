@@ -1,11 +1,11 @@
--- Tables that are watched: at a later moment, by their places and by their names.
+-- NamedStates that are watched: at a later moment, by their places and by their names.
 use Rattle.std.proofs.Common.{◌≡◌, ◌∙◌, ℕ, ◌≤◌, Bool, List, [], ◌∷◌, Some, refl, ap, arith}
 use Rattle.std.specs.Prelude.{◌||◌, slice_get, bytes_eq, option_map}
 use Rattle.std.specs.List.{AllByRecursion, list_any}
 use Rattle.std.proofs.lemmas.Option.{slice_get-map}
 use Rattle.berth_face.specs.Berth.{Meaning}
 use Rattle.leaf_history.specs.History.{Entry}
-use Rattle.crash_events.specs.Left.{Tables}
+use Rattle.crash_events.specs.Left.{NamedStates}
 use Rattle.leaf_opening.specs.Backed.{is_one_of}
 use Rattle.crash_moments.specs.Watched.{Watched, IsWatched, AreWatched, cut, is_opening, is_watched, others_then, was_opened}
 use Rattle.crash_moments.proofs.Cuts.{cut_later}
@@ -30,7 +30,7 @@ pub watched_later : (c t : ℕ) (ws : List Watched) → c ≤ t → AreWatched c
 watched_later c t ws later watched = record { each = each_later c t ws later watched.each; apart = watched.apart }
 
 -- each name stands where it stood
-pub tables_later : (others : Tables) (ws : List Watched) (a b : Meaning) → a.clock ≤ b.clock → AreWatched a.clock ws → tables_of others ws b ≡ tables_of others ws a
+pub tables_later : (others : NamedStates) (ws : List Watched) (a b : Meaning) → a.clock ≤ b.clock → AreWatched a.clock ws → tables_of others ws b ≡ tables_of others ws a
 tables_later others ws a b later watched = ap (λ (opened : Bool). tables_now (others_then opened others) ws) (opened_later a.clock b.clock ws later watched.each)
 
 -- ---- at each place, and by name

@@ -7,16 +7,16 @@ use Rattle.berth_face.specs.Berth.{Meaning, Passes}
 use Rattle.berth_face.specs.Moments.{Throughout}
 use Rattle.table_state.specs.Tables.{Table}
 use Rattle.disk_backup.specs.State.{LogState}
-use Rattle.disk_backup.specs.Scanning.{Begins}
+use Rattle.disk_backup.specs.Scanning.{BeginsScan}
 use Rattle.leaf_history.specs.History as history
 use Rattle.leaf_opening.specs.declared.opening.Opened.{Opened}
 use Rattle.leaf_opening.specs.declared.ways.StartFault.{StartFault}
 use Rattle.leaf_opening.specs.Starts.{OpensFrom, KeepsDisks}
-use Rattle.crash_events.specs.Left.{Tables}
+use Rattle.crash_events.specs.Left.{NamedStates}
 use Rattle.crash_events.specs.Base.{IsReady}
 use Rattle.crash_moments.specs.Watched.{Watched, AreApart, now_of}
 use Rattle.crash_moments.specs.Told.{SeenMore, reads_one}
-use Rattle.crash_states.specs.Standing.{Runs, Rests, MayOpen, StandsNow}
+use Rattle.crash_states.specs.Standing.{Runs, Rests, StandsToOpen, StandsNow}
 use Rattle.crash_states.specs.Entries.{OpensAll}
 
 -- the names of tables
@@ -29,7 +29,7 @@ pub record OpeningMade (a b : Meaning) (result : Result Opened StartFault) : Typ
   pub stands : StandsNow b
   pub moments : Throughout (OpensFrom a) a b
   pub disks : KeepsDisks a b result
-  pub held : Begins (length a.held.disk) a.held.disk b.held.disk
+  pub held : BeginsScan (length a.held.disk) a.held.disk b.held.disk
 
 -- a table has what these writes come to
 pub record HasContent (writes : List Write) (t : Table) : Type 0 where
@@ -38,7 +38,7 @@ pub record HasContent (writes : List Write) (t : Table) : Type 0 where
 
 -- the tables that were found may be opened: each log has just their writes
 pub record Finds (ws : List Watched) (log : LogState) (tables : List Table) (writes : List ℕ → List Write) (m : Meaning) : Type 0 where
-  pub may : MayOpen ws log writes m
+  pub may : StandsToOpen ws log writes m
   pub contents : (place : ℕ) (w : Watched) (t : Table) → slice_get ws place ≡ Some w → slice_get tables place ≡ Some t → HasContent (writes w.name) t
 
 -- they were opened
@@ -47,17 +47,17 @@ pub record Opens (ws ws' : List Watched) (owner : ℕ) (log : LogState) (writes 
   pub more : SeenMore m.clock m.clock ws ws'
 
 -- tables that their steward has not seen yet, founded with the base of a berth
-pub record AreNew (base : Tables) (ws : List Watched) : Type 0 where
+pub record AreUnseen (base : NamedStates) (ws : List Watched) : Type 0 where
   pub apart : AreApart ws
   pub each : (place : ℕ) (w : Watched) → slice_get ws place ≡ Some w → (w.base ≡ base w.name) × (w.seen ≡ [])
 
 -- over a berth that is ready a leaf rests with its base
 abbrev pub ReadyRests : Meaning → Type 0
-ReadyRests m = (base : Tables) (ws : List Watched) → IsReady reads_one m base → AreNew base ws → (least : List ℕ → List Write) × (next : Option LogRecord) × Rests ws base least next m
+ReadyRests m = (base : NamedStates) (ws : List Watched) → IsReady reads_one m base → AreUnseen base ws → (least : List ℕ → List Write) × (next : Option LogRecord) × Rests ws base least next m
 
 -- what is found may be opened, each table with the writes that its logs have, and opened it runs
 pub record FoundRuns (m : Meaning) : Type 0 where
   pub openable : (ws : List Watched) (log : LogState) (writes : List ℕ → List Write) (place : ℕ) (w : Watched)
-      → MayOpen ws log writes m → slice_get ws place ≡ Some w → history.MayOpen (now_of w) (length (writes w.name)) (content (writes w.name))
+      → StandsToOpen ws log writes m → slice_get ws place ≡ Some w → history.MayOpen (now_of w) (length (writes w.name)) (content (writes w.name))
   pub opens : (ws ws' : List Watched) (owner : ℕ) (log : LogState) (writes : List ℕ → List Write)
-      → MayOpen ws log writes m → 0 < length ws → OpensAll m.clock writes ws ws' → Opens ws ws' owner log writes m
+      → StandsToOpen ws log writes m → 0 < length ws → OpensAll m.clock writes ws ws' → Opens ws ws' owner log writes m

@@ -10,7 +10,7 @@ use Rattle.leaf_model.specs.Content.{Contents, content}
 use Rattle.region_layout.specs.declared.image.TableImage.{TableImage}
 use Rattle.region_layout.specs.Region.{AreDistinct}
 use Rattle.region_layout.specs.Images.{empty_image, is_named, table_named}
-use Rattle.crash_events.specs.Left.{Tables, ImageOf}
+use Rattle.crash_events.specs.Left.{NamedStates, ImageOf}
 use Rattle.leaf_opening.specs.Backed.{AreImagesOf}
 
 abbrev pub names_of : List TableImage → List (List ℕ)
@@ -48,7 +48,7 @@ each_first (t ∷ images) distinct = (
 
 -- ---- the image of tables
 
-module _ (writes : List ℕ → List Write) (tables : Tables) (same : (name : List ℕ) → (tables name).writes ≡ writes name) (images : List TableImage) (are : AreImagesOf writes images) where
+module _ (writes : List ℕ → List Write) (tables : NamedStates) (same : (name : List ℕ) → (tables name).writes ≡ writes name) (images : List TableImage) (are : AreImagesOf writes images) where
   abbrev IsOfTable : TableImage → Type 0
   IsOfTable t = (t.rows ≡ (content (tables t.name).writes).rows) × (t.horizon ≡ (content (tables t.name).writes).horizon) × (t.writes ≡ length (tables t.name).writes)
 

@@ -13,10 +13,10 @@ use Rattle.region_layout.specs.Region.{IsClosed, IsImage, head_of}
 use Rattle.disk_backup.specs.State.{LogState}
 use Rattle.disk_backup.specs.Settling.{HasLog, with_writes}
 use Rattle.drain_copy.specs.Draining.{DrainState}
-use Rattle.leaf_history.specs.History.{TableState}
+use Rattle.leaf_history.specs.History.{HistoryState}
 use Rattle.leaf_opening.specs.Backed.{AreImagesOf, HasSoundLog, IsShort}
 use Rattle.leaf_opening.proofs.Logs.{none_short, no_writes}
-use Rattle.crash_events.specs.Left.{Tables, Left, RegionLeft, closed, other_version}
+use Rattle.crash_events.specs.Left.{NamedStates, Left, RegionLeft, closed, other_version}
 use Rattle.crash_moments.specs.Watched.{Watched, IsWatched, AreWatched, is_watched, now_of, state_then, tables_then, was_opened}
 use Rattle.crash_moments.specs.Told.{SeenMore, Told, reads_one}
 use Rattle.crash_moments.proofs.Histories.{cut_keeps}
@@ -34,7 +34,7 @@ module _ (ws : List Watched) (owner : ℕ) (log : LogState) (writes : List ℕ �
   taken = with_writes log.owed writes
 
   -- what lies between the log and what was taken is a front of each table's writes, now and as they were at the steward's last entry
-  pub runs_front : (others : Tables) (held : List ℕ → List Write) → ((name : List ℕ) → IsBetween (writes name) (taken name) (held name)) → (name : List ℕ) → IsFrontOf (held name) (tables_then others m.clock ws name)
+  pub runs_front : (others : NamedStates) (held : List ℕ → List Write) → ((name : List ℕ) → IsBetween (writes name) (taken name) (held name)) → (name : List ℕ) → IsFrontOf (held name) (tables_then others m.clock ws name)
   runs_front others held between name = by (find_name ws name)
     where
       by : IsOwn ws name ⊎ IsForeign ws name → IsFrontOf (held name) (tables_then others m.clock ws name)
@@ -69,7 +69,7 @@ module _ (ws : List Watched) (owner : ℕ) (log : LogState) (writes : List ℕ �
       let had = runs.logs p left in
       sound_owing writes p.disk had.0 had.2 log.owed log.laid log.end had.1 taken_short
 
-pub runs_left : (ws : List Watched) (others : Tables) (owner : ℕ) (log : LogState) (writes : List ℕ → List Write) (m : Meaning) → Runs ws owner log writes m → IsLeftNow ws others m
+pub runs_left : (ws : List Watched) (others : NamedStates) (owner : ℕ) (log : LogState) (writes : List ℕ → List Write) (m : Meaning) → Runs ws owner log writes m → IsLeftNow ws others m
 runs_left ws others owner log writes m runs p left =
     let front = runs_front ws owner log writes m runs others in
     elim (runs_logs ws owner log writes m runs p left) [
@@ -79,12 +79,12 @@ runs_left ws others owner log writes m runs p left =
 
 -- ---- a leaf at rest
 
-module _ (ws : List Watched) (others : Tables) (least : List ℕ → List Write) (next : Option LogRecord) (m : Meaning) (rests : Rests ws others least next m) where
+module _ (ws : List Watched) (others : NamedStates) (least : List ℕ → List Write) (next : Option LogRecord) (m : Meaning) (rests : Rests ws others least next m) where
   -- each table is shut, and so stood at the steward's last entry where it stands
   pub rests_then : (name : List ℕ) → tables_then others m.clock ws name ≡ tables_of others ws m name
   rests_then = same_by_name (state_then m.clock) now_of (others_at others m.clock ws) ws (λ place w at.
       let stands : tables_of others ws m w.name ≡ now_of w = named_at now_of (others_at others m.clock ws) ws place w rests.watched.apart at in
-      shut_then m.clock w (each_at (IsWatched m.clock) ws rests.watched.each place w at) (ap (λ (s : TableState). s.live) (sym stands) ∙ (rests.each w.name).shut))
+      shut_then m.clock w (each_at (IsWatched m.clock) ws rests.watched.each place w at) (ap (λ (s : HistoryState). s.live) (sym stands) ∙ (rests.each w.name).shut))
 
   pub rests_front : (name : List ℕ) → IsFrontOf (least name) (tables_then others m.clock ws name) × IsFrontOf (with_writes next least name) (tables_then others m.clock ws name)
   rests_front name =
@@ -103,12 +103,12 @@ module _ (ws : List Watched) (others : Tables) (least : List ℕ → List Write)
       as_it_reads same (is_closed shut) = closed (subst IsClosed (sym same) shut)
       as_it_reads same (is_other version head not_one) = other_version version (ap (λ (l : List ℕ). head_of l) same ∙ head) (ne_eqb version 1 not_one)
       as_it_reads same (is_image images log_end is whole) =
-          image_left (tables_then others m.clock ws) (λ name. (tables_of others ws m name).writes) held p log images log_end (λ name. ap (λ (s : TableState). s.writes) (rests_then name))
+          image_left (tables_then others m.clock ws) (λ name. (tables_of others ws m name).writes) held p log images log_end (λ name. ap (λ (s : HistoryState). s.writes) (rests_then name))
           (subst (λ (l : List ℕ). IsImage 1 l images log_end) (sym same) is) whole.same (whole.logs p left)
 
-pub rests_left : (ws : List Watched) (others : Tables) (least : List ℕ → List Write) (next : Option LogRecord) (m : Meaning) → Rests ws others least next m → IsLeftNow ws others m
+pub rests_left : (ws : List Watched) (others : NamedStates) (least : List ℕ → List Write) (next : Option LogRecord) (m : Meaning) → Rests ws others least next m → IsLeftNow ws others m
 rests_left ws others least next m rests p left =
-    let tables : Tables = tables_then others m.clock ws in
+    let tables : NamedStates = tables_then others m.clock ws in
     let fronts = rests_front ws others least next m rests in
     let region = rests_region ws others least next m rests in
     elim (rests.logs p left) [
@@ -127,7 +127,7 @@ pub record AreTreated (ws : List Watched) (writes : List ℕ → List Write) (m 
 
 module _ (ws : List Watched) (writes : List ℕ → List Write) (m : Meaning) (are : AreTreated ws writes m) where
   -- each name was treated by the steward's last entry
-  pub treated_then : (others : Tables) (name : List ℕ) → IsTreated (writes name) (tables_then others m.clock ws name)
+  pub treated_then : (others : NamedStates) (name : List ℕ) → IsTreated (writes name) (tables_then others m.clock ws name)
   treated_then others name = by (find_name ws name)
     where
       by : IsOwn ws name ⊎ IsForeign ws name → IsTreated (writes name) (tables_then others m.clock ws name)
@@ -151,11 +151,11 @@ module _ (ws : List Watched) (writes : List ℕ → List Write) (m : Meaning) (a
       by (inr foreign) = subst IsShort (sym (are.others name foreign.unwatched)) none_short
 
   -- a pair belongs to them whose region is closed, or an image with their writes
-  pub treated_closed : (others : Tables) (p : Pair) (log_end : ℕ) → HasLog writes log_end p.disk → IsClosed p.region → Left reads_one (tables_then others m.clock ws) p
+  pub treated_closed : (others : NamedStates) (p : Pair) (log_end : ℕ) → HasLog writes log_end p.disk → IsClosed p.region → Left reads_one (tables_then others m.clock ws) p
   treated_closed others p log_end had shut =
       left_by (tables_then others m.clock ws) writes p (sound_log writes log_end p.disk had treated_short) (λ name. treated_front (writes name) (tables_then others m.clock ws name) (treated_then others name)) (closed shut)
 
-  pub treated_image : (others : Tables) (p : Pair) (images : List TableImage) (log_end : ℕ) → HasLog writes log_end p.disk → IsImage 1 p.region images log_end → AreImagesOf writes images
+  pub treated_image : (others : NamedStates) (p : Pair) (images : List TableImage) (log_end : ℕ) → HasLog writes log_end p.disk → IsImage 1 p.region images log_end → AreImagesOf writes images
       → Left reads_one (tables_then others m.clock ws) p
   treated_image others p images log_end had is same =
       let log : HasSoundLog writes p.disk = sound_log writes log_end p.disk had treated_short in
@@ -168,10 +168,10 @@ copies_treated ws drain writes m copies = record { watched = copies.watched; ope
 pub holds_treated : (ws : List Watched) (image : List ℕ) (writes : List ℕ → List Write) (m : Meaning) → Holds ws image writes m → AreTreated ws writes m
 holds_treated ws image writes m holds = record { watched = holds.watched; opened = holds.opened; each = holds.each; others = holds.others }
 
-pub copies_left : (ws : List Watched) (others : Tables) (drain : DrainState) (writes : List ℕ → List Write) (m : Meaning) → Copies ws drain writes m → IsLeftNow ws others m
+pub copies_left : (ws : List Watched) (others : NamedStates) (drain : DrainState) (writes : List ℕ → List Write) (m : Meaning) → Copies ws drain writes m → IsLeftNow ws others m
 copies_left ws others drain writes m copies p left = treated_closed ws writes m (copies_treated ws drain writes m copies) others p copies.log_end (copies.logs p left) (copies.closed p left)
 
-pub holds_left : (ws : List Watched) (others : Tables) (image : List ℕ) (writes : List ℕ → List Write) (m : Meaning) → Holds ws image writes m → IsLeftNow ws others m
+pub holds_left : (ws : List Watched) (others : NamedStates) (image : List ℕ) (writes : List ℕ → List Write) (m : Meaning) → Holds ws image writes m → IsLeftNow ws others m
 holds_left ws others image writes m holds p left =
     let treated : AreTreated ws writes m = holds_treated ws image writes m holds in
     let had : HasLog writes holds.log_end p.disk = holds.logs p left in
@@ -183,7 +183,7 @@ holds_left ws others image writes m holds p left =
 -- ---- what is told
 
 -- what is left now is told of entries that were made while no call on the berth went on
-pub told_now : (ws ws' : List Watched) (others : Tables) (m : Meaning) → IsLeftNow ws' others m → SeenMore m.clock m.clock ws ws' → Told others ws ws' m m
+pub told_now : (ws ws' : List Watched) (others : NamedStates) (m : Meaning) → IsLeftNow ws' others m → SeenMore m.clock m.clock ws ws' → Told others ws ws' m m
 told_now ws ws' others m now more = record {
   passes = passes_none m;
   more = more;
@@ -193,14 +193,14 @@ told_now ws ws' others m now more = record {
 }
 
 -- entries were made while no call on the berth went on
-pub runs_told : (ws ws' : List Watched) (others : Tables) (owner : ℕ) (log : LogState) (writes : List ℕ → List Write) (m : Meaning)
+pub runs_told : (ws ws' : List Watched) (others : NamedStates) (owner : ℕ) (log : LogState) (writes : List ℕ → List Write) (m : Meaning)
     → Runs ws' owner log writes m → SeenMore m.clock m.clock ws ws' → Told others ws ws' m m
 runs_told ws ws' others owner log writes m runs more = told_now ws ws' others m (runs_left ws' others owner log writes m runs) more
 
-pub rests_told : (ws ws' : List Watched) (others : Tables) (least : List ℕ → List Write) (next : Option LogRecord) (m : Meaning)
+pub rests_told : (ws ws' : List Watched) (others : NamedStates) (least : List ℕ → List Write) (next : Option LogRecord) (m : Meaning)
     → Rests ws' others least next m → SeenMore m.clock m.clock ws ws' → Told others ws ws' m m
 rests_told ws ws' others least next m rests more = told_now ws ws' others m (rests_left ws' others least next m rests) more
 
-pub copies_told : (ws ws' : List Watched) (others : Tables) (drain : DrainState) (writes : List ℕ → List Write) (m : Meaning)
+pub copies_told : (ws ws' : List Watched) (others : NamedStates) (drain : DrainState) (writes : List ℕ → List Write) (m : Meaning)
     → Copies ws' drain writes m → SeenMore m.clock m.clock ws ws' → Told others ws ws' m m
 copies_told ws ws' others drain writes m copies more = told_now ws ws' others m (copies_left ws' others drain writes m copies) more

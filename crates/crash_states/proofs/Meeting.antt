@@ -10,10 +10,10 @@ use Rattle.berth_face.specs.Berth.{Meaning}
 use Rattle.disk_backup.specs.State.{LogState}
 use Rattle.disk_backup.specs.Settling.{with_writes}
 use Rattle.drain_copy.specs.Draining.{DrainState}
-use Rattle.leaf_history.specs.History.{Entry, TableState, LegalFrom, after}
-use Rattle.leaf_history.specs.Laws.{AreCallers, Keeps}
+use Rattle.leaf_history.specs.History.{Entry, HistoryState, LegalFrom, after}
+use Rattle.leaf_history.specs.Laws.{AreCallers, CallersKeep}
 use Rattle.leaf_history.proofs.Histories.{LegalFrom-back, after-append, others_keep}
-use Rattle.crash_events.specs.Left.{Tables}
+use Rattle.crash_events.specs.Left.{NamedStates}
 use Rattle.crash_moments.specs.Watched.{Watched, AreApart, AreWatched, Between, IsFoundation, IsWatched, by_name, cut, is_opening, is_watched, now_of, others_then, was_opened}
 use Rattle.crash_moments.specs.Told.{SeenMore}
 use Rattle.crash_moments.proofs.Cuts.{cut_before, none_yet}
@@ -36,11 +36,11 @@ callers_cut t xs es callers = cut_before t xs es (none_yet t (t + 1) (t + 1) es 
 -- ---- one table
 
 module _ (w w' : Watched) (learns : Learns w w') where
-  pub learned_keeps : Keeps (now_of w) (now_of w')
+  pub learned_keeps : CallersKeep (now_of w) (now_of w')
   learned_keeps =
-      let seen : now_of w' ≡ after true w.base (w.seen ++ learns.more) = ap₂ (λ (base : TableState) (es : List Entry). after true base es) learns.base learns.seen in
-      let whole : LegalFrom true w.base (w.seen ++ learns.more) = subst (λ (es : List Entry). LegalFrom true w.base es) learns.seen (subst (λ (base : TableState). LegalFrom true base w'.seen) learns.base learns.legal) in
-      subst (Keeps (now_of w)) (sym (seen ∙ after-append true w.base w.seen learns.more)) (others_keep true (now_of w) learns.more (LegalFrom-back true w.base w.seen learns.more whole) learns.others)
+      let seen : now_of w' ≡ after true w.base (w.seen ++ learns.more) = ap₂ (λ (base : HistoryState) (es : List Entry). after true base es) learns.base learns.seen in
+      let whole : LegalFrom true w.base (w.seen ++ learns.more) = subst (λ (es : List Entry). LegalFrom true w.base es) learns.seen (subst (λ (base : HistoryState). LegalFrom true base w'.seen) learns.base learns.legal) in
+      subst (CallersKeep (now_of w)) (sym (seen ∙ after-append true w.base w.seen learns.more)) (others_keep true (now_of w) learns.more (LegalFrom-back true w.base w.seen learns.more whole) learns.others)
 
   pub learned_shut : (now_of w).live ≡ false → now_of w' ≡ now_of w
   learned_shut shut = learned_keeps.shut shut
@@ -58,7 +58,7 @@ module _ (w w' : Watched) (learns : Learns w w') where
   -- no caller's write is taken at a meeting
   pub learned_logged : (logged taken : List Write) → IsLogged logged taken (now_of w) → IsLogged logged taken (now_of w')
   learned_logged logged taken is =
-      let keeps : Keeps (now_of w) (now_of w') = learned_keeps in
+      let keeps : CallersKeep (now_of w) (now_of w') = learned_keeps in
       record {
         front = ap₂ (λ (n : ℕ) (l : List Write). take n l) keeps.taken keeps.appends.1 ∙ take-append-le (now_of w).taken (now_of w).writes keeps.appends.0 is.enough ∙ is.front;
         enough = subst (λ (l : List Write). (now_of w').taken ≤ length l) (sym keeps.appends.1) (omega (arith, keeps.taken, is.enough, length-append (now_of w).writes keeps.appends.0));
@@ -112,14 +112,14 @@ met_opened zero w w' (u ∷ ws) there learns t =
 met_opened (suc place) w w' (u ∷ ws) there learns t = ap (λ (b : Bool). list_any is_opening (cut t u.seen) || b) (met_opened place w w' ws there learns t)
 
 -- where it learned nothing that changes it, each name stands where it stood
-pub met_named : (state : Watched → TableState) (others : Tables) (place : ℕ) (w w' : Watched) (ws : List Watched) → slice_get ws place ≡ Some w → w'.name ≡ w.name → state w' ≡ state w
+pub met_named : (state : Watched → HistoryState) (others : NamedStates) (place : ℕ) (w w' : Watched) (ws : List Watched) → slice_get ws place ≡ Some w → w'.name ≡ w.name → state w' ≡ state w
     → by_name state others (slice_set ws place w') ≡ by_name state others ws
 met_named state others place w w' [] there same stays = refl
 met_named state others zero w w' (u ∷ ws) there same stays =
     let old : u ≡ w = same_Some u w there in
-    ap₂ {C = Tables} (λ (n : List ℕ) (s : TableState). λ (name : List ℕ). cond (bytes_eq name n) s (by_name state others ws name)) (same ∙ ap (λ (x : Watched). x.name) (sym old)) (stays ∙ ap state (sym old))
+    ap₂ {C = NamedStates} (λ (n : List ℕ) (s : HistoryState). λ (name : List ℕ). cond (bytes_eq name n) s (by_name state others ws name)) (same ∙ ap (λ (x : Watched). x.name) (sym old)) (stays ∙ ap state (sym old))
 met_named state others (suc place) w w' (u ∷ ws) there same stays =
-    ap {B = Tables} (λ (tables : Tables). λ (name : List ℕ). cond (bytes_eq name u.name) (state u) (tables name)) (met_named state others place w w' ws there same stays)
+    ap {B = NamedStates} (λ (tables : NamedStates). λ (name : List ℕ). cond (bytes_eq name u.name) (state u) (tables name)) (met_named state others place w w' ws there same stays)
 
 -- ---- what stands goes on standing
 
@@ -159,10 +159,10 @@ module _ (place : ℕ) (w w' : Watched) (ws : List Watched) (at : slice_get ws p
     others = λ name none. runs.others name (unwatched name none);
   }
 
-  pub still_rests : (others : Tables) (least : List ℕ → List Write) (next : Option LogRecord) (m : Meaning) → Rests ws others least next m → Rests ws' others least next m
+  pub still_rests : (others : NamedStates) (least : List ℕ → List Write) (next : Option LogRecord) (m : Meaning) → Rests ws others least next m → Rests ws' others least next m
   still_rests others least next m rests =
       let stands : tables_of others ws m w.name ≡ now_of w = named_at now_of (others_at others m.clock ws) ws place w rests.watched.apart at in
-      let shut : (now_of w).live ≡ false = ap (λ (s : TableState). s.live) (sym stands) ∙ (rests.each w.name).shut in
+      let shut : (now_of w).live ≡ false = ap (λ (s : HistoryState). s.live) (sym stands) ∙ (rests.each w.name).shut in
       let same : tables_of others ws' m ≡ tables_of others ws m =
       ap (λ (b : Bool). by_name now_of (others_then b others) ws') (met_opened place w w' ws at learns m.clock)
       ∙ met_named now_of (others_at others m.clock ws) place w w' ws at learns.name (learned_shut w w' learns shut) in
@@ -170,10 +170,10 @@ module _ (place : ℕ) (w w' : Watched) (ws : List Watched) (at : slice_get ws p
         watched = met_watched m.clock rests.watched;
         stands = rests.stands;
         logs = rests.logs;
-        each = subst (λ (tables : Tables). (name : List ℕ) → IsKept (least name) (with_writes next least name) (tables name)) (sym same) rests.each;
+        each = subst (λ (tables : NamedStates). (name : List ℕ) → IsKept (least name) (with_writes next least name) (tables name)) (sym same) rests.each;
         sound = rests.sound;
         empty = rests.empty;
-        region = subst (λ (tables : Tables). RegionRests tables m) (sym same) rests.region;
+        region = subst (λ (tables : NamedStates). RegionRests tables m) (sym same) rests.region;
       }
 
   pub still_copies : (drain : DrainState) (writes : List ℕ → List Write) (m : Meaning) → Copies ws drain writes m → Copies ws' drain writes m
@@ -200,7 +200,7 @@ pub met_runs : (place : ℕ) (w w' : Watched) (ws : List Watched) (owner : ℕ) 
     → slice_get ws place ≡ Some w → Learns w w' → Runs ws owner log writes m → Runs (slice_set ws place w') owner log writes m
 met_runs place w w' ws owner log writes m at learns runs = still_runs place w w' ws at learns owner log writes m runs
 
-pub met_rests : (place : ℕ) (w w' : Watched) (ws : List Watched) (others : Tables) (least : List ℕ → List Write) (next : Option LogRecord) (m : Meaning)
+pub met_rests : (place : ℕ) (w w' : Watched) (ws : List Watched) (others : NamedStates) (least : List ℕ → List Write) (next : Option LogRecord) (m : Meaning)
     → slice_get ws place ≡ Some w → Learns w w' → Rests ws others least next m → Rests (slice_set ws place w') others least next m
 met_rests place w w' ws others least next m at learns rests = still_rests place w w' ws at learns others least next m rests
 

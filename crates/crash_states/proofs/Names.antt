@@ -5,8 +5,8 @@ use Rattle.std.specs.List.{AllByRecursion}
 use Rattle.std.proofs.lemmas.Bool.{false≢true, cond-true, cond-false, false_from_ne_true, or_left, or_right, or_parts}
 use Rattle.std.proofs.lemmas.Option.{same_Some}
 use Rattle.std.proofs.lemmas.Slice.Eq.{bytes_eq-Decides}
-use Rattle.leaf_history.specs.History.{TableState, no_base}
-use Rattle.crash_events.specs.Left.{Tables}
+use Rattle.leaf_history.specs.History.{HistoryState, no_base}
+use Rattle.crash_events.specs.Left.{NamedStates}
 use Rattle.crash_moments.specs.Watched.{Watched, AreApart, by_name, is_watched, others_then, was_opened}
 
 -- the name is that of this table, and stands where the table does
@@ -15,12 +15,12 @@ pub record IsOwn (ws : List Watched) (name : List ℕ) : Type 0 where
   pub table : Watched
   pub at : slice_get ws place ≡ Some table
   pub named : table.name ≡ name
-  pub stands : (state : Watched → TableState) (others : Tables) → by_name state others ws name ≡ state table
+  pub stands : (state : Watched → HistoryState) (others : NamedStates) → by_name state others ws name ≡ state table
 
 -- the name is that of no table, and stands as the others do
 pub record IsForeign (ws : List Watched) (name : List ℕ) : Type 0 where
   pub unwatched : is_watched ws name ≡ false
-  pub stands : (state : Watched → TableState) (others : Tables) → by_name state others ws name ≡ others name
+  pub stands : (state : Watched → HistoryState) (others : NamedStates) → by_name state others ws name ≡ others name
 
 -- each name is the one or the other
 pub find_name : (ws : List Watched) (name : List ℕ) → IsOwn ws name ⊎ IsForeign ws name
@@ -48,7 +48,7 @@ find_name (w ∷ ws) name = by (bytes_eq name w.name) refl (find_name ws name)
     })
 
 -- of two states that are alike for each table of the leaf, each name stands alike
-pub same_by_name : (state other : Watched → TableState) (others : Tables) (ws : List Watched)
+pub same_by_name : (state other : Watched → HistoryState) (others : NamedStates) (ws : List Watched)
     → ((place : ℕ) (w : Watched) → slice_get ws place ≡ Some w → state w ≡ other w) → (name : List ℕ) → by_name state others ws name ≡ by_name other others ws name
 same_by_name state other others ws same name = by (find_name ws name)
   where
@@ -57,11 +57,11 @@ same_by_name state other others ws same name = by (find_name ws name)
     by (inr foreign) = foreign.stands state others ∙ sym (foreign.stands other others)
 
 -- where the names that the leaf does not have stand at a moment
-abbrev pub others_at : Tables → ℕ → List Watched → Tables
+abbrev pub others_at : NamedStates → ℕ → List Watched → NamedStates
 others_at others t ws = others_then (was_opened t ws) others
 
 -- once the leaf has opened a table, the names that it does not have have no writes
-pub no_others : (opened : Bool) (others : Tables) (name : List ℕ) → opened ≡ true → others_then opened others name ≡ no_base
+pub no_others : (opened : Bool) (others : NamedStates) (name : List ℕ) → opened ≡ true → others_then opened others name ≡ no_base
 no_others opened others name is = ap (λ (b : Bool). others_then b others name) is
 
 -- ---- what holds at each place
@@ -89,7 +89,7 @@ watched_at (v ∷ ws) zero w at = or_left (bytes_eq w.name v.name) (is_watched w
 watched_at (v ∷ ws) (suc place) w at = or_right (bytes_eq w.name v.name) (is_watched ws w.name) (watched_at ws place w at)
 
 -- its name stands where it does
-pub named_at : (state : Watched → TableState) (others : Tables) (ws : List Watched) (place : ℕ) (w : Watched) → AreApart ws → slice_get ws place ≡ Some w → by_name state others ws w.name ≡ state w
+pub named_at : (state : Watched → HistoryState) (others : NamedStates) (ws : List Watched) (place : ℕ) (w : Watched) → AreApart ws → slice_get ws place ≡ Some w → by_name state others ws w.name ≡ state w
 named_at state others [] place w apart at = absurd cc
 named_at state others (v ∷ ws) zero w apart at =
     let same : v ≡ w = same_Some v w at in

@@ -8,13 +8,13 @@ use Rattle.region_layout.specs.Region.{IsClosed, IsImage}
 use Rattle.disk_backup.specs.Logs.{writes_of}
 use Rattle.disk_backup.specs.Settling.{HasLog}
 use Rattle.leaf_opening.specs.Backed.{AreImagesOf, HasSoundLog}
-use Rattle.crash_events.specs.Left.{Tables, Left, RegionLeft, closed, image, HasShutGate}
+use Rattle.crash_events.specs.Left.{NamedStates, Left, RegionLeft, closed, image, HasShutGate}
 use Rattle.crash_moments.specs.Told.{reads_one}
 use Rattle.crash_states.proofs.States.{IsFrontOf, front_within}
 use Rattle.crash_states.proofs.Disks.{gate_shut, same_log}
 use Rattle.crash_states.proofs.Images.{image_of_tables}
 
-pub left_by : (tables : Tables) (held : List ℕ → List Write) (p : Pair) (log : HasSoundLog held p.disk) → ((name : List ℕ) → IsFrontOf (held name) (tables name))
+pub left_by : (tables : NamedStates) (held : List ℕ → List Write) (p : Pair) (log : HasSoundLog held p.disk) → ((name : List ℕ) → IsFrontOf (held name) (tables name))
     → RegionLeft reads_one tables p log.records log.log_end → Left reads_one tables p
 left_by tables held p log fronts region = record {
   records = log.records;
@@ -28,7 +28,7 @@ left_by tables held p log fronts region = record {
 }
 
 -- the region is an image of the tables, and the log has all of their writes
-pub image_left : (tables : Tables) (writes held : List ℕ → List Write) (p : Pair) (log : HasSoundLog held p.disk) (images : List TableImage) (log_end : ℕ)
+pub image_left : (tables : NamedStates) (writes held : List ℕ → List Write) (p : Pair) (log : HasSoundLog held p.disk) (images : List TableImage) (log_end : ℕ)
     → ((name : List ℕ) → (tables name).writes ≡ writes name) → IsImage 1 p.region images log_end → AreImagesOf writes images → HasLog writes log_end p.disk
     → RegionLeft reads_one tables p log.records log.log_end
 image_left tables writes held p log images log_end same is are had =
@@ -41,5 +41,5 @@ image_left tables writes held p log images log_end same is are had =
 pub lost_closed : (p : Pair) → p.region ≡ [] → IsClosed p.region
 lost_closed p none = inl (omega (arith, ap (λ (l : List ℕ). length l) none))
 
-pub lost_left : (tables : Tables) (p : Pair) (records : List LogRecord) (end : ℕ) → p.region ≡ [] → RegionLeft reads_one tables p records end
+pub lost_left : (tables : NamedStates) (p : Pair) (records : List LogRecord) (end : ℕ) → p.region ≡ [] → RegionLeft reads_one tables p records end
 lost_left tables p records end none = closed (lost_closed p none)

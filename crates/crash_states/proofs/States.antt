@@ -4,8 +4,8 @@ use Rattle.std.specs.Prelude.{bytes_eq}
 use Rattle.std.proofs.lemmas.List.{length-append, length-take, take-append-drop, take-append-le, take-take, take_all, take_at}
 use Rattle.leaf_model.specs.declared.writes.Write.{Write}
 use Rattle.row_records.specs.Records.{LogRecord}
-use Rattle.leaf_history.specs.History.{Entry, TableState, LegalFrom, no_base}
-use Rattle.leaf_history.specs.Laws.{Keeps}
+use Rattle.leaf_history.specs.History.{Entry, HistoryState, LegalFrom, no_base}
+use Rattle.leaf_history.specs.Laws.{CallersKeep}
 use Rattle.leaf_history.proofs.Histories.{LegalFrom-front}
 use Rattle.disk_backup.specs.Settling.{with_writes}
 use Rattle.leaf_opening.specs.Backed.{IsShort}
@@ -28,20 +28,20 @@ then_sound clock w watched =
 -- a shut table stood at the present moment where it stands now
 pub shut_then : (clock : ℕ) (w : Watched) → IsWatched clock w → (now_of w).live ≡ false → state_then clock w ≡ now_of w
 shut_then clock w watched shut =
-    let keeps : Keeps (state_then clock w) (now_of w) = cut_keeps clock w watched in
+    let keeps : CallersKeep (state_then clock w) (now_of w) = cut_keeps clock w watched in
     sym (keeps.shut (sym keeps.live ∙ shut))
 
 -- ---- fronts
 
 -- these are the first of a table's writes, with each flushed one
-pub record IsFrontOf (held : List Write) (s : TableState) : Type 0 where
+pub record IsFrontOf (held : List Write) (s : HistoryState) : Type 0 where
   pub flushed : s.flushed ≤ length held
   pub front : held ≡ take (length held) s.writes
 
-pub front_within : (held : List Write) (s : TableState) → IsFrontOf held s → length held ≤ length s.writes
+pub front_within : (held : List Write) (s : HistoryState) → IsFrontOf held s → length held ≤ length s.writes
 front_within held s is = omega (arith, ap (λ (l : List Write). length l) is.front, length-take (length held) s.writes)
 
-pub front_short : (held : List Write) (s : TableState) → IsFrontOf held s → IsShort s.writes → IsShort held
+pub front_short : (held : List Write) (s : HistoryState) → IsFrontOf held s → IsShort s.writes → IsShort held
 front_short held s is short =
     let all : s.writes ≡ take (length held) s.writes ++ drop (length held) s.writes = sym (take-append-drop (length held) s.writes) in
     subst IsShort (sym is.front) (shorter (take (length held) s.writes) (drop (length held) s.writes) (subst IsShort all short))
@@ -51,7 +51,7 @@ pub no_front : (held : List Write) → held ≡ [] → IsFrontOf held no_base
 no_front held none = record { flushed = omega arith; front = none ∙ sym (take_all (length held) no_writes (omega arith)) }
 
 -- what was taken before a table got more writes was a front of it then
-pub front_before : (held : List Write) (before now : TableState) → Keeps before now → IsFoundation before → length held ≤ now.taken → IsFrontOf held now → IsFrontOf held before
+pub front_before : (held : List Write) (before now : HistoryState) → CallersKeep before now → IsFoundation before → length held ≤ now.taken → IsFrontOf held now → IsFrontOf held before
 front_before held before now keeps sound few is = record {
   flushed = subst (λ (n : ℕ). n ≤ length held) keeps.flushed is.flushed;
   front = is.front ∙ ap (λ (l : List Write). take (length held) l) keeps.appends.1
@@ -89,25 +89,25 @@ with_owed owed writes name =
 
 -- ---- fronts by what the log has
 
-pub taken_count : (logged taken : List Write) (s : TableState) → IsLogged logged taken s → length taken ≡ s.taken
+pub taken_count : (logged taken : List Write) (s : HistoryState) → IsLogged logged taken s → length taken ≡ s.taken
 taken_count logged taken s is = omega (arith, ap (λ (l : List Write). length l) is.front, length-take s.taken s.writes, is.enough)
 
-pub between_few : (logged taken held : List Write) (s : TableState) → IsLogged logged taken s → IsBetween logged taken held → length held ≤ s.taken
+pub between_few : (logged taken held : List Write) (s : HistoryState) → IsLogged logged taken s → IsBetween logged taken held → length held ≤ s.taken
 between_few logged taken held s is between = omega (arith, taken_count logged taken s is, ap (λ (l : List Write). length l) between.front, length-take (length held) taken)
 
-pub logged_front : (logged taken held : List Write) (s : TableState) → IsLogged logged taken s → IsBetween logged taken held → IsFrontOf held s
+pub logged_front : (logged taken held : List Write) (s : HistoryState) → IsLogged logged taken s → IsBetween logged taken held → IsFrontOf held s
 logged_front logged taken held s is between = record {
   flushed = omega (arith, is.flushed, between.no_less);
   front = between.front ∙ ap (λ (l : List Write). take (length held) l) (sym is.front) ∙ take-take (length held) s.taken s.writes (between_few logged taken held s is between);
 }
 
-pub kept_least : (least most : List Write) (s : TableState) → IsKept least most s → IsFrontOf least s
+pub kept_least : (least most : List Write) (s : HistoryState) → IsKept least most s → IsFrontOf least s
 kept_least least most s is = record { flushed = is.flushed; front = is.shortest }
 
-pub kept_most : (least most : List Write) (s : TableState) → IsKept least most s → length least ≤ length most → IsFrontOf most s
+pub kept_most : (least most : List Write) (s : HistoryState) → IsKept least most s → length least ≤ length most → IsFrontOf most s
 kept_most least most s is more = record { flushed = omega (arith, is.flushed, more); front = is.longest }
 
-pub treated_front : (writes : List Write) (s : TableState) → IsTreated writes s → IsFrontOf writes s
+pub treated_front : (writes : List Write) (s : HistoryState) → IsTreated writes s → IsFrontOf writes s
 treated_front writes s is = record {
   flushed = is.flushed;
   front = sym (ap (λ (l : List Write). take (length writes) l) is.whole ∙ take_all (length writes) writes (omega arith));

@@ -6,16 +6,16 @@ use Rattle.berth_face.specs.Berth.{Meaning}
 use Rattle.berth_face.specs.Moments.{EachNow}
 use Rattle.disk_backup.specs.State.{LogState}
 use Rattle.drain_copy.specs.Draining.{DrainState}
-use Rattle.crash_events.specs.Left.{Tables, Left}
+use Rattle.crash_events.specs.Left.{NamedStates, Left}
 use Rattle.crash_moments.specs.Watched.{Watched, tables_then}
 use Rattle.crash_moments.specs.Told.{reads_one}
 use Rattle.crash_states.specs.Standing.{Runs, Rests, Copies}
 
 -- each pair that a crash may leave belongs to the tables, in each state of a leaf
-abbrev pub IsLeftNow : List Watched → Tables → Meaning → Type 0
+abbrev pub IsLeftNow : List Watched → NamedStates → Meaning → Type 0
 IsLeftNow ws others m = EachNow (λ p. Left reads_one (tables_then others m.clock ws) p) m
 
 pub record StandingIsLeft (m : Meaning) : Type 0 where
-  pub runs : (ws : List Watched) (others : Tables) (owner : ℕ) (log : LogState) (writes : List ℕ → List Write) → Runs ws owner log writes m → IsLeftNow ws others m
-  pub rests : (ws : List Watched) (others : Tables) (least : List ℕ → List Write) (next : Option LogRecord) → Rests ws others least next m → IsLeftNow ws others m
-  pub copies : (ws : List Watched) (others : Tables) (drain : DrainState) (writes : List ℕ → List Write) → Copies ws drain writes m → IsLeftNow ws others m
+  pub runs : (ws : List Watched) (others : NamedStates) (owner : ℕ) (log : LogState) (writes : List ℕ → List Write) → Runs ws owner log writes m → IsLeftNow ws others m
+  pub rests : (ws : List Watched) (others : NamedStates) (least : List ℕ → List Write) (next : Option LogRecord) → Rests ws others least next m → IsLeftNow ws others m
+  pub copies : (ws : List Watched) (others : NamedStates) (drain : DrainState) (writes : List ℕ → List Write) → Copies ws drain writes m → IsLeftNow ws others m

@@ -4,7 +4,7 @@ use Rattle.leaf_model.specs.declared.writes.Write.{Write}
 use Rattle.leaf_model.specs.Content.{content}
 use Rattle.row_records.specs.Records.{LogRecord}
 use Rattle.table_state.specs.Tables.{Table}
-use Rattle.leaf_history.specs.History.{TableState}
+use Rattle.leaf_history.specs.History.{HistoryState}
 use Rattle.berth_face.specs.Berth.{Meaning}
 use Rattle.berth_face.specs.Moments.{EachNow}
 use Rattle.region_layout.specs.declared.head.Head.TheVariants.{Version}
@@ -14,7 +14,7 @@ use Rattle.disk_backup.specs.State.{LogState}
 use Rattle.disk_backup.specs.Settling.{HasLog, HaveLog, with_writes}
 use Rattle.drain_copy.specs.Draining.{DrainState, Draining, AllClosed}
 use Rattle.leaf_opening.specs.Backed.{AreImagesOf, HasSoundLog}
-use Rattle.crash_events.specs.Left.{Tables}
+use Rattle.crash_events.specs.Left.{NamedStates}
 use Rattle.crash_moments.specs.Watched.{Watched, AreWatched, IsFoundation, by_name, is_watched, now_of, others_then, was_opened}
 
 -- what every berth promises now: what reads give may be left, and the region is that or lost
@@ -25,7 +25,7 @@ pub record StandsNow (m : Meaning) : Type 0 where
 -- ---- a leaf that serves or shuts its tables
 
 -- the log has these writes of a table, and with what it is owed just those that were taken; no more were noted as flushed than it has
-pub record IsLogged (logged taken : List Write) (s : TableState) : Type 0 where
+pub record IsLogged (logged taken : List Write) (s : HistoryState) : Type 0 where
   pub front : take s.taken s.writes ≡ taken
   pub enough : s.taken ≤ length s.writes
   pub flushed : s.flushed ≤ length logged
@@ -50,7 +50,7 @@ pub record Runs (ws : List Watched) (owner : ℕ) (log : LogState) (writes : Lis
 
 -- A shut table: each log has the first of its writes, the shortest these and the longest those; each flushed one is in all of them, and of a drained table
 -- each of its writes.
-pub record IsKept (least most : List Write) (s : TableState) : Type 0 where
+pub record IsKept (least most : List Write) (s : HistoryState) : Type 0 where
   pub shut : s.live ≡ false
   pub flushed : s.flushed ≤ length least
   pub shortest : least ≡ take (length least) s.writes
@@ -58,27 +58,27 @@ pub record IsKept (least most : List Write) (s : TableState) : Type 0 where
   pub handed : s.handed ≡ true → (least ≡ s.writes) × (most ≡ s.writes)
 
 -- where each name stands now
-abbrev pub tables_now : Tables → List Watched → Tables
+abbrev pub tables_now : NamedStates → List Watched → NamedStates
 tables_now others ws = by_name now_of others ws
 
 -- those of a leaf, and of names that it does not have
-abbrev pub tables_of : Tables → List Watched → Meaning → Tables
+abbrev pub tables_of : NamedStates → List Watched → Meaning → NamedStates
 tables_of others ws m = tables_now (others_then (was_opened m.clock ws) others) ws
 
 -- the image has all that the tables have, and so has each log, which ends where the image says at a gate that is not open
-pub record IsWhole (tables : Tables) (images : List TableImage) (log_end : ℕ) (m : Meaning) : Type 0 where
+pub record IsWhole (tables : NamedStates) (images : List TableImage) (log_end : ℕ) (m : Meaning) : Type 0 where
   pub same : AreImagesOf (λ name. (tables name).writes) images
   pub logs : EachNow (λ p. HasLog (λ name. (tables name).writes) log_end p.disk) m
 
 -- the region as it reads: closed, or of another version, or an image of the tables
-pub data RegionRests (tables : Tables) (m : Meaning) : Type 0 where
+pub data RegionRests (tables : NamedStates) (m : Meaning) : Type 0 where
   is_closed : IsClosed m.held.region → RegionRests tables m
   is_other : (version : ℕ) → head_of m.held.region ≡ Version version → version ≢ 1 → RegionRests tables m
   is_image : (images : List TableImage) (log_end : ℕ) → IsImage 1 m.held.region images log_end → IsWhole tables images log_end m → RegionRests tables m
 
 -- Each disk that a crash may leave has a log with the least writes of each name, or with those of the next record too. Each table is shut.
 -- Names that the leaf does not have stand as `others` say until it was first opened.
-pub record Rests (ws : List Watched) (others : Tables) (least : List ℕ → List Write) (next : Option LogRecord) (m : Meaning) : Type 0 where
+pub record Rests (ws : List Watched) (others : NamedStates) (least : List ℕ → List Write) (next : Option LogRecord) (m : Meaning) : Type 0 where
   pub watched : AreWatched m.clock ws
   pub stands : StandsNow m
   pub logs : EachNow (λ p. HasSoundLog least p.disk ⊎ HasSoundLog (with_writes next least) p.disk) m
@@ -90,7 +90,7 @@ pub record Rests (ws : List Watched) (others : Tables) (least : List ℕ → Lis
 -- ---- a leaf that copies its tables
 
 -- all of the table is in the log, and it is shut
-pub record IsTreated (writes : List Write) (s : TableState) : Type 0 where
+pub record IsTreated (writes : List Write) (s : HistoryState) : Type 0 where
   pub shut : s.live ≡ false
   pub whole : s.writes ≡ writes
   pub flushed : s.flushed ≤ length writes
@@ -113,7 +113,7 @@ pub record Copies (ws : List Watched) (drain : DrainState) (writes : List ℕ �
   pub others : (name : List ℕ) → is_watched ws name ≡ false → writes name ≡ []
 
 -- a table's content as it was when it was shut: what its writes come to
-pub record IsContentOf (s : TableState) (t : Table) : Type 0 where
+pub record IsContentOf (s : HistoryState) (t : Table) : Type 0 where
   pub contents : t.contents ≡ content s.writes
   pub writes : t.writes ≡ length s.writes
 
@@ -134,14 +134,14 @@ pub record Holds (ws : List Watched) (image : List ℕ) (writes : List ℕ → L
 -- ---- a leaf that opens its tables
 
 -- the table may be opened with these writes
-pub record MayHave (writes : List Write) (s : TableState) : Type 0 where
+pub record MayHave (writes : List Write) (s : HistoryState) : Type 0 where
   pub shut : s.live ≡ false
   pub flushed : s.flushed ≤ length writes
   pub front : writes ≡ take (length writes) s.writes
   pub handed : s.handed ≡ true → writes ≡ s.writes
 
 -- Each disk that a crash may leave has one and the same log, which is owed nothing and has these writes of each name, and each region is closed.
-pub record MayOpen (ws : List Watched) (log : LogState) (writes : List ℕ → List Write) (m : Meaning) : Type 0 where
+pub record StandsToOpen (ws : List Watched) (log : LogState) (writes : List ℕ → List Write) (m : Meaning) : Type 0 where
   pub watched : AreWatched m.clock ws
   pub stands : StandsNow m
   pub owed : log.owed ≡ None

@@ -4,11 +4,11 @@ use Rattle.std.specs.Prelude.{Result}
 use Rattle.berth_face.specs.Berth.{Pair, Meaning, Passes, Stays, Torn, DiskWritten, written}
 use Rattle.berth_face.specs.Moments.{EachNow, Throughout}
 use Rattle.berth_face.proofs.Moments.{started, goes_on, throughout_join, throughout_map}
-use Rattle.disk_backup.specs.Scanning.{StepsFrom, Begins, begun}
+use Rattle.disk_backup.specs.Scanning.{StepsFrom, BeginsScan, begun}
 use Rattle.disk_backup.proofs.Staying.{through_stay}
 
 -- a pair comes from itself
-pub from_itself : (n : ℕ) (a : Meaning) → EachNow (StepsFrom (Begins n) a) a
+pub from_itself : (n : ℕ) (a : Meaning) → EachNow (StepsFrom (BeginsScan n) a) a
 from_itself n a = λ p left. record { from = p; was = left; region = inl refl; disk = inl refl }
 
 no_bytes : (n : ℕ) → min 0 n ≡ 0
@@ -24,8 +24,8 @@ gate_written result a b time wrote =
     (λ p left. let came = wrote.ended p left in record { from = came.0; was = came.1; region = inl came.2.0; disk = came.2.1 })
 
 -- the first write, where nothing was called before
-pub gate_first : (a b : Meaning) → Throughout (StepsFrom (Torn 0 1) a) a b → Throughout (StepsFrom (Begins 0) a) a b
-gate_first a b all = throughout_map a b (StepsFrom (Torn 0 1) a) (StepsFrom (Begins 0) a) (λ p came. record {
+pub gate_first : (a b : Meaning) → Throughout (StepsFrom (Torn 0 1) a) a b → Throughout (StepsFrom (BeginsScan 0) a) a b
+gate_first a b all = throughout_map a b (StepsFrom (Torn 0 1) a) (StepsFrom (BeginsScan 0) a) (λ p came. record {
   from = came.from;
   was = came.was;
   region = came.region;
@@ -33,8 +33,8 @@ gate_first a b all = throughout_map a b (StepsFrom (Torn 0 1) a) (StepsFrom (Beg
 }) all
 
 -- and where a sync came before
-pub gate_synced : (n : ℕ) (a b c : Meaning) → n ≤ 1 → Throughout (StepsFrom (Begins n) a) a b → ((p : Pair) → b.leaves b.clock p → a.leaves a.clock p × (length p.disk ≤ 1)) → Throughout (StepsFrom (Torn 0 1) b) b c → Throughout (StepsFrom (Begins n) a) a c
-gate_synced n a b c few so_far were all = throughout_join a b c (StepsFrom (Begins n) a) so_far (throughout_map b c (StepsFrom (Torn 0 1) b) (StepsFrom (Begins n) a) (λ p came.
+pub gate_synced : (n : ℕ) (a b c : Meaning) → n ≤ 1 → Throughout (StepsFrom (BeginsScan n) a) a b → ((p : Pair) → b.leaves b.clock p → a.leaves a.clock p × (length p.disk ≤ 1)) → Throughout (StepsFrom (Torn 0 1) b) b c → Throughout (StepsFrom (BeginsScan n) a) a c
+gate_synced n a b c few so_far were all = throughout_join a b c (StepsFrom (BeginsScan n) a) so_far (throughout_map b c (StepsFrom (Torn 0 1) b) (StepsFrom (BeginsScan n) a) (λ p came.
     let was = were came.from came.was in
     record {
       from = came.from;
@@ -44,10 +44,10 @@ gate_synced n a b c few so_far were all = throughout_join a b c (StepsFrom (Begi
     }) all)
 
 -- a call before that changed nothing
-pub begins_after : (n : ℕ) (a b c : Meaning) → Passes a b → Stays a b → Throughout (StepsFrom (Begins n) b) b c → Throughout (StepsFrom (Begins n) a) a c
+pub begins_after : (n : ℕ) (a b c : Meaning) → Passes a b → Stays a b → Throughout (StepsFrom (BeginsScan n) b) b c → Throughout (StepsFrom (BeginsScan n) a) a c
 begins_after n a b c time stays all =
-    throughout_join a b c (StepsFrom (Begins n) a) (through_stay a a b (StepsFrom (Begins n) a) (started a (StepsFrom (Begins n) a) (from_itself n a)) time stays)
-    (throughout_map b c (StepsFrom (Begins n) b) (StepsFrom (Begins n) a) (λ p came. record {
+    throughout_join a b c (StepsFrom (BeginsScan n) a) (through_stay a a b (StepsFrom (BeginsScan n) a) (started a (StepsFrom (BeginsScan n) a) (from_itself n a)) time stays)
+    (throughout_map b c (StepsFrom (BeginsScan n) b) (StepsFrom (BeginsScan n) a) (λ p came. record {
       from = came.from;
       was = (stays.leaves b.clock came.from time.later (omega arith)).0 came.was;
       region = came.region;
@@ -75,10 +75,10 @@ gate_torn old new is = subst (λ (disk : List ℕ). Torn 0 1 old disk) (sym is) 
     whole (b ∷ rest) = record { before = ap (λ (k : ℕ). take k (0 ∷ rest)) (no_bytes (length (b ∷ rest))); after = refl; no_shorter = omega arith; no_longer = omega arith }
 
 -- a disk that reads as so many bytes, whose first one was written
-pub gate_begins : (n : ℕ) (old new : List ℕ) → n ≤ 1 → n ≡ length old → Torn 0 1 old new → Begins n old new
+pub gate_begins : (n : ℕ) (old new : List ℕ) → n ≤ 1 → n ≡ length old → Torn 0 1 old new → BeginsScan n old new
 gate_begins n old new few size torn = inr (record { short = few; synced = λ e. omega (arith, few, size); torn = torn })
 
 -- a read before it
-pub begins_of : (n : ℕ) (p q : Pair) (now : List ℕ) → q ≡ p → n ≡ length p.disk → Begins n q.disk now → Begins (length p.disk) p.disk now
+pub begins_of : (n : ℕ) (p q : Pair) (now : List ℕ) → q ≡ p → n ≡ length p.disk → BeginsScan n q.disk now → BeginsScan (length p.disk) p.disk now
 begins_of n p q now same size held =
-    subst (λ (m : ℕ). Begins m p.disk now) size (subst (λ (r : Pair). Begins n r.disk now) same held)
+    subst (λ (m : ℕ). BeginsScan m p.disk now) size (subst (λ (r : Pair). BeginsScan n r.disk now) same held)

@@ -27,8 +27,8 @@ pub record FirstByte (len : ℕ) (before now : List ℕ) : Type 0 where
   pub torn : Torn 0 1 before now
 
 -- a disk while a scan begins
-abbrev pub Begins : ℕ → List ℕ → List ℕ → Type 0
-Begins len before now = (now ≡ before) ⊎ FirstByte len before now
+abbrev pub BeginsScan : ℕ → List ℕ → List ℕ → Type 0
+BeginsScan len before now = (now ≡ before) ⊎ FirstByte len before now
 
 -- the disk that is read: one of at most one byte has become one gate that is not open
 abbrev pub begun : List ℕ → List ℕ
@@ -89,6 +89,6 @@ GivesRecord (Record later flush) = IsRecord (record_is flush)
 GivesRecord (Ended log) = ⊤
 
 -- Of each berth, whether it tells its contents or not: a step passes a byte at least for each write, and stays below 2^63.
-abbrev pub GoesOn : ScanState → LogStep → Type 0
-GoesOn scan (Record later flush) = (scan.at + length flush.writes < later.at) × (later.at < 2 ^ 63)
-GoesOn scan (Ended log) = (log ≡ record { end = scan.at; owed = None; laid = false }) × (scan.at < 2 ^ 63)
+abbrev pub ScansOn : ScanState → LogStep → Type 0
+ScansOn scan (Record later flush) = (scan.at + length flush.writes < later.at) × (later.at < 2 ^ 63)
+ScansOn scan (Ended log) = (log ≡ record { end = scan.at; owed = None; laid = false }) × (scan.at < 2 ^ 63)

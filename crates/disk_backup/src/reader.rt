@@ -5,7 +5,7 @@ ghost use Rattle.berth_face.specs.Berth.{Passes, Stays};
 ghost use Rattle.row_records.specs.Records.{LogRecord, IsRecord, record_bytes};
 ghost use Rattle.disk_backup.specs.State.{ScanState};
 ghost use Rattle.disk_backup.specs.declared.fault.LogFault.TheVariants as fault;
-ghost use Rattle.disk_backup.specs.Scanning.{size_at, record_is, Scanned, Damaged, NoRecord, Found, StepIs, GivesRecord, GoesOn};
+ghost use Rattle.disk_backup.specs.Scanning.{size_at, record_is, Scanned, Damaged, NoRecord, Found, StepIs, GivesRecord, ScansOn};
 
 use crate::fault::LogFault;
 use crate::log::BackupLog;
@@ -22,7 +22,7 @@ pub fn step<B: Berth>(alloc: Global, at: u64, len: u64, berth: &mut B) -> Result
     ensures time { Passes (B.meaning berth.old) (B.meaning berth.new) }
     ensures cause { result ≡ Err fault.DiskFault → Rose (B.meaning berth.old).disk_faults (B.meaning berth.new).disk_faults }
     ensures record { IfOk result GivesRecord }
-    ensures goes_on { IfOk result (GoesOn (record { at = at; len = len })) }
+    ensures goes_on { IfOk result (ScansOn (record { at = at; len = len })) }
     ensures step { (records : List LogRecord) → IsTrue (B.meaning berth.old).tells → len ≡ length (B.meaning berth.old).held.disk → Scanned (B.meaning berth.old).held.disk records at
         → IfOk result (StepIs (B.meaning berth.old).held.disk records len) }
     ensures damaged { (records : List LogRecord) → IsTrue (B.meaning berth.old).tells → len ≡ length (B.meaning berth.old).held.disk → Scanned (B.meaning berth.old).held.disk records at

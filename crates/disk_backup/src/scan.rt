@@ -6,7 +6,7 @@ ghost use Rattle.berth_face.specs.Moments.{EachNow, Throughout};
 ghost use Rattle.row_records.specs.Records.{LogRecord};
 ghost use Rattle.disk_backup.specs.Logs.{IsLog};
 ghost use Rattle.disk_backup.specs.declared.fault.LogFault.TheVariants as fault;
-ghost use Rattle.disk_backup.specs.Scanning.{StepsFrom, Begins, begun, Scanned, Damaged, StepIs, GivesRecord, GoesOn};
+ghost use Rattle.disk_backup.specs.Scanning.{StepsFrom, BeginsScan, begun, Scanned, Damaged, StepIs, GivesRecord, ScansOn};
 
 use crate::fault::LogFault;
 use crate::gate::first_gate;
@@ -22,11 +22,11 @@ impl LogScan {
         ensures start { IfOk result (λ scan. scan.at ≡ 0) }
         ensures len { IsTrue (B.meaning berth.old).tells → IfOk result (λ scan. scan.len ≡ length (B.meaning berth.new).held.disk) }
         ensures disk { IsTrue (B.meaning berth.old).tells → OnOk result ((B.meaning berth.new).held.disk ≡ begun (B.meaning berth.old).held.disk) }
-        ensures held { IsTrue (B.meaning berth.old).tells → Begins (length (B.meaning berth.old).held.disk) (B.meaning berth.old).held.disk (B.meaning berth.new).held.disk }
+        ensures held { IsTrue (B.meaning berth.old).tells → BeginsScan (length (B.meaning berth.old).held.disk) (B.meaning berth.old).held.disk (B.meaning berth.new).held.disk }
         ensures region { IsTrue (B.meaning berth.old).tells → (B.meaning berth.new).held.region ≡ (B.meaning berth.old).held.region }
         ensures durable { IsTrue (B.meaning berth.old).tells → OnOk result (EachNow (λ p. p.disk ≡ (B.meaning berth.new).held.disk) (B.meaning berth.new)) }
         ensures moments { IsTrue (B.meaning berth.old).tells
-            → Throughout (StepsFrom (Begins (length (B.meaning berth.old).held.disk)) (B.meaning berth.old)) (B.meaning berth.old) (B.meaning berth.new) }
+            → Throughout (StepsFrom (BeginsScan (length (B.meaning berth.old).held.disk)) (B.meaning berth.old)) (B.meaning berth.old) (B.meaning berth.new) }
         ensures time { Passes (B.meaning berth.old) (B.meaning berth.new) }
         ensures cause { result ≡ Err fault.DiskFault → Rose (B.meaning berth.old).disk_faults (B.meaning berth.new).disk_faults }
         ensures sound { (result ≢ Err fault.DiskDamaged) × (result ≢ Err fault.NoMemory) }
@@ -52,7 +52,7 @@ impl LogScan {
             → IsLog (B.meaning berth.old).held.disk all end → 1 < self.len → result ≢ Err fault.DiskDamaged }
         // On every berth, whether it tells its contents or not.
         ensures record { IfOk result GivesRecord }
-        ensures goes_on { IfOk result (GoesOn self) }
+        ensures goes_on { IfOk result (ScansOn self) }
         ensures stays { IsTrue (B.meaning berth.old).tells → Stays (B.meaning berth.old) (B.meaning berth.new) }
         ensures time { Passes (B.meaning berth.old) (B.meaning berth.new) }
         ensures cause { result ≡ Err fault.DiskFault → Rose (B.meaning berth.old).disk_faults (B.meaning berth.new).disk_faults }

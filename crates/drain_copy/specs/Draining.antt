@@ -24,11 +24,11 @@ abbrev pub Draining : DrainState → List ℕ → Type 0
 Draining d region = StandsAt d.next d.image region
 
 -- what a step is, by the one that comes next before it and behind it
-abbrev pub IsStep : Next → DrainStep → Next → Type 0
-IsStep next.Begin s later = (s ≡ Begun) × (later ≡ next.Write)
-IsStep next.Write s later = (s ≡ Written) × (later ≡ next.Flag)
-IsStep next.Flag s later = (s ≡ Finished) × (later ≡ next.Nothing)
-IsStep next.Nothing s later = ⊥
+abbrev pub IsCopyStep : Next → DrainStep → Next → Type 0
+IsCopyStep next.Begin s later = (s ≡ Begun) × (later ≡ next.Write)
+IsCopyStep next.Write s later = (s ≡ Written) × (later ≡ next.Flag)
+IsCopyStep next.Flag s later = (s ≡ Finished) × (later ≡ next.Nothing)
+IsCopyStep next.Nothing s later = ⊥
 
 -- A pair of a moment of a step comes from one before: the disk is the same, and the region is closed, or in the last step it may be the image.
 pub record DrainsFrom (d : DrainState) (old : Meaning) (p : Pair) : Type 0 where

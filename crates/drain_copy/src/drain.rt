@@ -8,7 +8,7 @@ ghost use Rattle.region_layout.specs.Region.{IsClosed, IsImage};
 ghost use Rattle.region_layout.specs.Names.{AreNames};
 ghost use Rattle.region_layout.specs.Images.{images_of};
 ghost use Rattle.drain_copy.specs.declared.step.Next.TheVariants as next;
-ghost use Rattle.drain_copy.specs.Draining.{Draining, DrainsFrom, AllClosed, IsStep};
+ghost use Rattle.drain_copy.specs.Draining.{Draining, DrainsFrom, AllClosed, IsCopyStep};
 
 use crate::region::{begin, fill, open};
 use crate::step::{DrainStep, Next, RegionFault};
@@ -63,7 +63,7 @@ impl Drain {
     pub fn step<B: Berth>(&mut self, berth: &mut B) -> Result<DrainStep, RegionFault>
         requires more { self.old.next ≢ next.Nothing }
         ensures image { self.new.image ≡ self.old.image }
-        ensures step { IfOk result (λ s. IsStep self.old.next s self.new.next) }
+        ensures step { IfOk result (λ s. IsCopyStep self.old.next s self.new.next) }
         ensures told { IsTrue (B.meaning berth.old).tells → Draining self.old (B.meaning berth.old).held.region → OnOk result (Draining self.new (B.meaning berth.new).held.region) }
         ensures failed { IsTrue (B.meaning berth.old).tells → Draining self.old (B.meaning berth.old).held.region → IsClosed (B.meaning berth.old).held.region
             → OnErr result (IsClosed (B.meaning berth.new).held.region ⊎ ((B.meaning berth.new).held.region ≡ self.old.image)) }

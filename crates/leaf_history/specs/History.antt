@@ -20,7 +20,7 @@ pub record Entry : Type 0 where
 
 -- Where a table stands. W is its accepted writes: those that were handed in with `before`, and then `writes`.
 -- A table of a berth's base is handed in nothing, so that W is `writes`.
-pub record TableState : Type 0 where
+pub record HistoryState : Type 0 where
   pub before : Contents  -- what the writes handed in come to
   pub handed_in : ℕ  -- how many those are
   pub writes : List Write  -- the accepted writes since then
@@ -30,19 +30,19 @@ pub record TableState : Type 0 where
   pub handed : Bool  -- drained, and not opened since
 
 -- the length of W
-abbrev pub write_count : TableState → ℕ
+abbrev pub write_count : HistoryState → ℕ
 write_count s = s.handed_in + length s.writes
 
 -- the writes of W that were not taken
-abbrev pub untaken : TableState → List Write
+abbrev pub untaken : HistoryState → List Write
 untaken s = drop (s.taken - s.handed_in) s.writes
 
 -- what the table holds
-abbrev pub held : TableState → Contents
+abbrev pub held : HistoryState → Contents
 held s = content_from s.before s.writes
 
 -- a shut table of these writes, of which the disk is known to hold so many
-abbrev pub base_of : List Write → ℕ → TableState
+abbrev pub base_of : List Write → ℕ → HistoryState
 base_of writes flushed = record {
   before = nothing;
   handed_in = 0;
@@ -54,19 +54,19 @@ base_of writes flushed = record {
 }
 
 -- a table of which nothing is known begins shut and with no writes
-abbrev pub no_base : TableState
+abbrev pub no_base : HistoryState
 no_base = base_of [] 0
 
 -- one more accepted write
-abbrev pub written : TableState → Write → TableState
+abbrev pub written : HistoryState → Write → HistoryState
 written s w = record s { writes = s.writes ++ w ∷ [] }
 
 -- the accepted writes among the first n that came after those handed in
-abbrev pub first_writes : TableState → ℕ → List Write
+abbrev pub first_writes : HistoryState → ℕ → List Write
 first_writes s n = take (n - s.handed_in) s.writes
 
 -- opened again: a founded table with the first n of its writes, any other with what is handed in
-abbrev pub opened : Bool → TableState → ℕ → Contents → TableState
+abbrev pub opened : Bool → HistoryState → ℕ → Contents → HistoryState
 opened true s n contents = record s {
   writes = first_writes s n;
   live = true;
@@ -85,7 +85,7 @@ opened false s n contents = record {
 }
 
 -- what a call that was accepted changes
-abbrev pub changed : Bool → TableState → Call → TableState
+abbrev pub changed : Bool → HistoryState → Call → HistoryState
 changed founded s (call.Add rows) = written s (write.Add rows)
 changed founded s (call.Expire horizon) = written s (write.Expire horizon)
 changed founded s (call.Keep n) = written s (write.Keep n)
@@ -107,22 +107,22 @@ is_refusal (reply.Counted n) = false
 is_refusal reply.Noted = false
 
 -- the state after one entry: a refusal changes nothing
-abbrev pub after_entry : Bool → TableState → Entry → TableState
+abbrev pub after_entry : Bool → HistoryState → Entry → HistoryState
 after_entry founded s e = if is_refusal e.reply then s else changed founded s e.call
 
 -- the state after a history
-abbrev pub after : Bool → TableState → List Entry → TableState
+abbrev pub after : Bool → HistoryState → List Entry → HistoryState
 after founded s entries = fold (after_entry founded) s entries
 
 -- the table would pass 2^40 rows
-abbrev pub IsFull : TableState → List Row → Type 0
+abbrev pub IsFull : HistoryState → List Row → Type 0
 IsFull s rows = 2 ^ 40 < length (held s).rows + kept_count (held s) rows
 
-abbrev pub HasRoom : TableState → List Row → Type 0
+abbrev pub HasRoom : HistoryState → List Row → Type 0
 HasRoom s rows = length (held s).rows + kept_count (held s) rows ≤ 2 ^ 40
 
 -- which replies an add may have
-abbrev pub AddReply : TableState → List Row → Reply → Type 0
+abbrev pub AddReply : HistoryState → List Row → Reply → Type 0
 AddReply s rows reply.Shut = s.live ≡ false
 AddReply s rows reply.NoMemory = s.live ≡ true
 AddReply s rows reply.Full = (s.live ≡ true) × IsFull s rows
@@ -133,7 +133,7 @@ AddReply s rows (reply.Counted n) = ⊥
 AddReply s rows reply.Noted = ⊥
 
 -- which replies an expiry or a keep may have
-abbrev pub RemoveReply : TableState → Write → Reply → Type 0
+abbrev pub RemoveReply : HistoryState → Write → Reply → Type 0
 RemoveReply s w reply.Shut = s.live ≡ false
 RemoveReply s w reply.NoMemory = s.live ≡ true
 RemoveReply s w (reply.Removed n) = (s.live ≡ true) × (n ≡ removed_count (held s) w)
@@ -144,7 +144,7 @@ RemoveReply s w (reply.Counted n) = ⊥
 RemoveReply s w reply.Noted = ⊥
 
 -- which replies a query may have
-abbrev pub AskReply : TableState → Query → Reply → Type 0
+abbrev pub AskReply : HistoryState → Query → Reply → Type 0
 AskReply s q reply.Shut = s.live ≡ false
 AskReply s q reply.NoMemory = s.live ≡ true
 AskReply s q (reply.Groups gs) = (s.live ≡ true) × (gs ≡ groups q (held s).rows)
@@ -155,7 +155,7 @@ AskReply s q (reply.Counted n) = ⊥
 AskReply s q reply.Noted = ⊥
 
 -- the reply tells the length of W
-abbrev pub CountReply : TableState → Reply → Type 0
+abbrev pub CountReply : HistoryState → Reply → Type 0
 CountReply s (reply.Counted n) = n ≡ write_count s
 CountReply s (reply.Added kept late) = ⊥
 CountReply s (reply.Removed n) = ⊥
@@ -166,18 +166,18 @@ CountReply s reply.NoMemory = ⊥
 CountReply s reply.Noted = ⊥
 
 -- a founded table is opened with the first n of its writes, among them each flushed one, and with all of them where it was drained
-pub record MayOpen (s : TableState) (n : ℕ) (contents : Contents) : Type 0 where
+pub record MayOpen (s : HistoryState) (n : ℕ) (contents : Contents) : Type 0 where
   pub flushed : s.flushed ≤ n
   pub accepted : n ≤ write_count s
   pub all : s.handed ≡ true → n ≡ write_count s
   pub contents_are : contents ≡ content_from s.before (first_writes s n)
 
-abbrev pub OpenAllowed : Bool → TableState → ℕ → Contents → Type 0
+abbrev pub OpenAllowed : Bool → HistoryState → ℕ → Contents → Type 0
 OpenAllowed true s n contents = MayOpen s n contents
 OpenAllowed false s n contents = ⊤
 
 -- what may come next: who calls, and which reply agrees with the state
-abbrev pub Allowed : Bool → TableState → ℕ → Call → Reply → Type 0
+abbrev pub Allowed : Bool → HistoryState → ℕ → Call → Reply → Type 0
 Allowed founded s caller (call.Add rows) r = (0 < caller) × AddReply s rows r
 Allowed founded s caller (call.Expire horizon) r = (0 < caller) × RemoveReply s (write.Expire horizon) r
 Allowed founded s caller (call.Keep n) r = (0 < caller) × RemoveReply s (write.Keep n) r
@@ -189,10 +189,10 @@ Allowed founded s caller call.Done r = (caller ≡ 0) × (s.live ≡ false) × (
 Allowed founded s caller (call.Open n contents) r = (caller ≡ 0) × (s.live ≡ false) × OpenAllowed founded s n contents × (r ≡ reply.Noted)
 
 -- each entry agrees with the state that the entries before it give
-abbrev pub LegalFrom : Bool → TableState → List Entry → Type 0
+abbrev pub LegalFrom : Bool → HistoryState → List Entry → Type 0
 LegalFrom founded s [] = ⊤
 LegalFrom founded s (e ∷ es) = Allowed founded s e.caller e.call e.reply × LegalFrom founded (after_entry founded s e) es
 
 -- of a founded table
-abbrev pub Legal : TableState → List Entry → Type 0
+abbrev pub Legal : HistoryState → List Entry → Type 0
 Legal base entries = LegalFrom true base entries

@@ -9,7 +9,7 @@ use Rattle.drain_copy.specs.declared.step.Next.{Next}
 use Rattle.drain_copy.specs.declared.step.Next.TheVariants as next
 use Rattle.drain_copy.specs.declared.step.DrainStep.{DrainStep}
 use Rattle.drain_copy.specs.declared.step.DrainStep.TheVariants.{Finished}
-use Rattle.drain_copy.specs.Draining.{DrainState, Draining, DrainsFrom, StandsAt, AllClosed, IsStep}
+use Rattle.drain_copy.specs.Draining.{DrainState, Draining, DrainsFrom, StandsAt, AllClosed, IsCopyStep}
 use Rattle.leaf_opening.specs.declared.ways.Way.TheVariants.{Memory}
 use Rattle.leaf_opening.specs.Starts.{IsWayOf}
 use Rattle.crash_moments.specs.Watched.{Watched, was_opened}
@@ -23,45 +23,45 @@ use Rattle.leaf_steward.specs.declared.notes.Note.{Note}
 use Rattle.leaf_steward.specs.Seated.{Seated, AreSeated, AreFounded, AtEach, IsShut, watched_by}
 use Rattle.leaf_steward.specs.Making.{Makes, EachNoted, IsHandedNote}
 use Rattle.leaf_steward.proofs.Watching.{makes_hands}
-use Rattle.leaf_machine.specs.States.{IsDown, IsCopying, RestsOn, CopiesOn}
-use Rattle.leaf_machine.specs.Copies.{IsNext}
+use Rattle.leaf_machine.specs.States.{IsDown, IsCopying, RestsOn, GoesOnCopying}
+use Rattle.leaf_machine.specs.Copies.{IsNextCopy}
 use Rattle.leaf_machine.proofs.StartAlike.{founded_same}
 use Rattle.leaf_machine.proofs.CopyWatching.{no_others, nothing_sound, left_others}
 
 -- ---- which step it was
 
-pub more_next : (n : Next) (s : DrainStep) (later : Next) → s ≢ Finished → IsStep n s later → IsNext n later
+pub more_next : (n : Next) (s : DrainStep) (later : Next) → s ≢ Finished → IsCopyStep n s later → IsNextCopy n later
 more_next next.Begin s later more is = is.1
 more_next next.Write s later more is = is.1
 more_next next.Flag s later more is = absurd (more is.0)
 more_next next.Nothing s later more is = absurd is
 
-pub more_before : (n : Next) (s : DrainStep) (later : Next) → s ≢ Finished → IsStep n s later → n ≢ next.Flag
+pub more_before : (n : Next) (s : DrainStep) (later : Next) → s ≢ Finished → IsCopyStep n s later → n ≢ next.Flag
 more_before next.Begin s later more is = λ same. absurd cc
 more_before next.Write s later more is = λ same. absurd cc
 more_before next.Flag s later more is = absurd (more is.0)
 more_before next.Nothing s later more is = absurd is
 
-pub more_after : (n : Next) (s : DrainStep) (later : Next) → s ≢ Finished → IsStep n s later → later ≢ next.Nothing
+pub more_after : (n : Next) (s : DrainStep) (later : Next) → s ≢ Finished → IsCopyStep n s later → later ≢ next.Nothing
 more_after next.Begin s later more is = λ none. absurd cc
 more_after next.Write s later more is = λ none. absurd cc
 more_after next.Flag s later more is = absurd (more is.0)
 more_after next.Nothing s later more is = absurd is
 
-pub last_before : (n later : Next) → IsStep n Finished later → n ≡ next.Flag
+pub last_before : (n later : Next) → IsCopyStep n Finished later → n ≡ next.Flag
 last_before next.Begin later is = absurd cc
 last_before next.Write later is = absurd cc
 last_before next.Flag later is = refl
 last_before next.Nothing later is = absurd is
 
-last_after : (n later : Next) → IsStep n Finished later → later ≡ next.Nothing
+last_after : (n later : Next) → IsCopyStep n Finished later → later ≡ next.Nothing
 last_after next.Begin later is = absurd cc
 last_after next.Write later is = absurd cc
 last_after next.Flag later is = is.1
 last_after next.Nothing later is = absurd is
 
 -- behind the last the region is the image
-pub last_region : (d later : DrainState) (region : List ℕ) → IsStep d.next Finished later.next → Draining later region → later.image ≡ d.image → region ≡ d.image
+pub last_region : (d later : DrainState) (region : List ℕ) → IsCopyStep d.next Finished later.next → Draining later region → later.image ≡ d.image → region ≡ d.image
 last_region d later region is stands image = subst (λ (n : Next). StandsAt n later.image region) (last_after d.next later.next is) stands ∙ image
 
 -- ---- what is left
@@ -81,7 +81,7 @@ module _ (x : Seated) (drain : DrainState) (a b : Meaning) where
 
   -- the copy goes on
   pub copy_more : (later : DrainState) → DrainMade drain a b → drain.next ≢ next.Flag → later.image ≡ drain.image → (Draining drain a.held.region → Draining later b.held.region)
-      → (writes : List ℕ → List Write) → Copies ws drain writes a → CopiesOn x (record { seated = x; drain = later }) a b
+      → (writes : List ℕ → List Write) → Copies ws drain writes a → GoesOnCopying x (record { seated = x; drain = later }) a b
   copy_more later made before image draining writes copies = record {
     writes = writes;
     copies = step_more ws drain later writes a b copies (stepped writes copies made) before image (draining copies.draining);
@@ -136,7 +136,7 @@ copy_left x drain m writes copies = record {
 
 -- a copy that stood goes on
 pub copying_on : (x : Seated) (drain later : DrainState) (a b : Meaning) → IsCopying (record { seated = x; drain = drain }) a → Passes a b → later.next ≢ next.Nothing
-    → (IsTrue a.tells → AreFounded x → (writes : List ℕ → List Write) → Copies (watched_by x) drain writes a → CopiesOn x (record { seated = x; drain = later }) a b)
+    → (IsTrue a.tells → AreFounded x → (writes : List ℕ → List Write) → Copies (watched_by x) drain writes a → GoesOnCopying x (record { seated = x; drain = later }) a b)
     → IsCopying (record { seated = x; drain = later }) b
 copying_on x drain later a b is passes more on = record {
   shut = is.shut;
@@ -144,7 +144,7 @@ copying_on x drain later a b is passes more on = record {
   more = more;
   stands = λ founded.
       let stood = is.stands founded in
-      let now : CopiesOn x (record { seated = x; drain = later }) a b = on stood.0 founded stood.1.0 stood.1.1 in
+      let now : GoesOnCopying x (record { seated = x; drain = later }) a b = on stood.0 founded stood.1.0 stood.1.1 in
       (subst IsTrue (sym passes.tells) stood.0, (now.writes, now.copies));
 }
 

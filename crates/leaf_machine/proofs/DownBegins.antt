@@ -7,16 +7,16 @@ use Rattle.berth_face.specs.Berth.{Meaning}
 use Rattle.region_layout.specs.declared.image.TableImage.{TableImage}
 use Rattle.region_layout.specs.Images.{table_named}
 use Rattle.disk_backup.specs.Settling.{with_writes}
-use Rattle.leaf_history.specs.History.{TableState}
+use Rattle.leaf_history.specs.History.{HistoryState}
 use Rattle.leaf_opening.specs.Backed.{IsImageOf}
-use Rattle.crash_events.specs.Left.{Tables}
+use Rattle.crash_events.specs.Left.{NamedStates}
 use Rattle.crash_moments.specs.Watched.{Watched}
 use Rattle.crash_states.specs.Standing.{IsKept, IsWhole, RegionRests, is_closed, is_other, is_image, Rests, tables_of}
-use Rattle.crash_starting.specs.Laws.{AreNew}
+use Rattle.crash_starting.specs.Laws.{AreUnseen}
 use Rattle.crash_starting.proofs.ReadyTables.{IsNew, all_watched, are_new, tables_same}
 
 -- what has all of some tables has all of others with the same writes
-pub whole_alike : (tables others : Tables) (images : List TableImage) (log_end : ℕ) (m : Meaning) → ((name : List ℕ) → (tables name).writes ≡ (others name).writes)
+pub whole_alike : (tables others : NamedStates) (images : List TableImage) (log_end : ℕ) (m : Meaning) → ((name : List ℕ) → (tables name).writes ≡ (others name).writes)
     → IsWhole tables images log_end m → IsWhole others images log_end m
 whole_alike tables others images log_end m same whole = record {
   same = λ name. subst (λ (ws : List Write). IsImageOf ws (table_named images name)) (same name) (whole.same name);
@@ -24,14 +24,14 @@ whole_alike tables others images log_end m same whole = record {
 }
 
 -- what the region says of tables it says of those that stand alike
-region_alike : (tables others : Tables) (m : Meaning) → ((name : List ℕ) → others name ≡ tables name) → RegionRests tables m → RegionRests others m
+region_alike : (tables others : NamedStates) (m : Meaning) → ((name : List ℕ) → others name ≡ tables name) → RegionRests tables m → RegionRests others m
 region_alike tables others m same (is_closed shut) = is_closed shut
 region_alike tables others m same (is_other version head not_one) = is_other version head not_one
 region_alike tables others m same (is_image images log_end is whole) =
-    is_image images log_end is (whole_alike tables others images log_end m (λ name. ap (λ (s : TableState). s.writes) (sym (same name))) whole)
+    is_image images log_end is (whole_alike tables others images log_end m (λ name. ap (λ (s : HistoryState). s.writes) (sym (same name))) whole)
 
 -- tables that their steward has not seen yet, founded with that base, rest there
-pub begun_rests : (base : Tables) (ws : List Watched) (least : List ℕ → List Write) (next : Option LogRecord) (m : Meaning) → Rests [] base least next m → AreNew base ws → Rests ws base least next m
+pub begun_rests : (base : NamedStates) (ws : List Watched) (least : List ℕ → List Write) (next : Option LogRecord) (m : Meaning) → Rests [] base least next m → AreUnseen base ws → Rests ws base least next m
 begun_rests base ws least next m rests new =
     let unseen : AllByRecursion (IsNew base) ws = are_new base ws new in
     let same : (name : List ℕ) → tables_of base ws m name ≡ base name = tables_same base ws m unseen in
@@ -39,12 +39,12 @@ begun_rests base ws least next m rests new =
       watched = record { each = all_watched m.clock base ws rests.sound unseen; apart = new.apart };
       stands = rests.stands;
       logs = rests.logs;
-      each = λ name. subst (λ (s : TableState). IsKept (least name) (with_writes next least name) s) (sym (same name)) (rests.each name);
+      each = λ name. subst (λ (s : HistoryState). IsKept (least name) (with_writes next least name) s) (sym (same name)) (rests.each name);
       sound = rests.sound;
       empty = rests.empty;
       region = region_alike (tables_of base [] m) (tables_of base ws m) m same rests.region;
     }
 
 -- no table is founded with any base
-pub none_new : (base : Tables) → AreNew base []
+pub none_new : (base : NamedStates) → AreUnseen base []
 none_new base = record { apart = tt; each = λ place w at. absurd cc }

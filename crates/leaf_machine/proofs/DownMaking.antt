@@ -8,9 +8,9 @@ use Rattle.leaf_model.specs.declared.writes.Write.{Write}
 use Rattle.row_records.specs.Records.{LogRecord}
 use Rattle.berth_face.specs.Berth.{Meaning}
 use Rattle.region_layout.specs.Region.{AreDistinct}
-use Rattle.crash_events.specs.Left.{Tables}
+use Rattle.crash_events.specs.Left.{NamedStates}
 use Rattle.leaf_table.specs.Turns.{Shared, start_of}
-use Rattle.leaf_table.specs.Calls.{SeatView, base_of, name_of, seen_of}
+use Rattle.leaf_table.specs.Calls.{SeatView, base_seen, name_of, seen_of}
 use Rattle.crash_moments.specs.Watched.{Watched, AreApart, is_watched}
 use Rattle.crash_states.specs.Standing.{Rests}
 use Rattle.leaf_steward.specs.Seated.{Seated, AtEach, AreSeated, IsUnused, watched_by}
@@ -40,8 +40,8 @@ all_apart (w ∷ ws) distinct = (unwatched w.name ws distinct.0, all_apart ws di
 unused_new : (t : Shared) (v : SeatView) → IsUnused t v → seen_of v ≡ []
 unused_new t v unused = ap (λ (s : SeatView). seen_of s) unused.unused
 
-pub new_rests : (x : Seated) (base : Tables) (m : Meaning) → AreSeated x → AtEach (λ place t v. IsUnused t v) x → MayBegin base m
-    → AtEach (λ place t v. start_of (base_of t) ≡ base (name_of t)) x → (least : List ℕ → List Write) × (next : Option LogRecord) × Rests (watched_by x) base least next m
+pub new_rests : (x : Seated) (base : NamedStates) (m : Meaning) → AreSeated x → AtEach (λ place t v. IsUnused t v) x → MayBegin base m
+    → AtEach (λ place t v. start_of (base_seen t) ≡ base (name_of t)) x → (least : List ℕ → List Write) × (next : Option LogRecord) × Rests (watched_by x) base least next m
 new_rests x base m seated unused may bases =
     let rests = may.1 in (
       rests.0,

@@ -11,7 +11,7 @@ use Rattle.disk_backup.specs.Logs.{writes_of}
 use Rattle.disk_backup.specs.Settling.{HasLog, with_writes}
 use Rattle.leaf_history.specs.History.{base_of}
 use Rattle.leaf_opening.specs.Backed.{HasSoundLog, IsShort}
-use Rattle.crash_events.specs.Left.{Tables}
+use Rattle.crash_events.specs.Left.{NamedStates}
 use Rattle.crash_moments.specs.Watched.{Watched, IsFoundation, IsWatched, now_of, others_then, was_opened}
 use Rattle.crash_states.specs.Standing.{IsKept, IsWhole, RegionRests, is_closed, is_other, is_image, Rests, tables_of}
 use Rattle.crash_states.proofs.Names.{IsOwn, IsForeign, find_name, each_at, others_at}
@@ -22,12 +22,12 @@ use Rattle.leaf_machine.proofs.CopyWatching.{nothing_sound}
 use Rattle.leaf_machine.proofs.DownBegins.{whole_alike}
 
 -- names that the leaf does not have are sound, whether it has opened a table or not
-others_sound : (opened : Bool) (others : Tables) (name : List ℕ) → IsFoundation (others name) → IsFoundation (others_then opened others name)
+others_sound : (opened : Bool) (others : NamedStates) (name : List ℕ) → IsFoundation (others name) → IsFoundation (others_then opened others name)
 others_sound true others name sound = nothing_sound name
 others_sound false others name sound = sound
 
-module _ (ws : List Watched) (others : Tables) (least : List ℕ → List Write) (next : Option LogRecord) (m : Meaning) (rests : Rests ws others least next m) where
-  abbrev tables : Tables
+module _ (ws : List Watched) (others : NamedStates) (least : List ℕ → List Write) (next : Option LogRecord) (m : Meaning) (rests : Rests ws others least next m) where
+  abbrev tables : NamedStates
   tables = tables_of others ws m
 
   abbrev most : List ℕ → List Write
@@ -35,7 +35,7 @@ module _ (ws : List Watched) (others : Tables) (least : List ℕ → List Write)
 
   -- ---- the base
 
-  abbrev base : Tables
+  abbrev base : NamedStates
   base name = base_of (most name) (length (least name))
 
   table_sound : (name : List ℕ) → IsFoundation (tables name)

@@ -6,15 +6,15 @@ use Rattle.leaf_model.specs.declared.writes.Write.{Write}
 use Rattle.berth_face.specs.Berth.{Meaning}
 use Rattle.leaf_history.specs.Calls as call
 use Rattle.leaf_history.specs.Replies as reply
-use Rattle.leaf_history.specs.History.{Entry, LegalFrom, TableState, after, write_count}
+use Rattle.leaf_history.specs.History.{Entry, LegalFrom, HistoryState, after, write_count}
 use Rattle.leaf_history.proofs.Histories.{LegalFrom-append, after-append}
 use Rattle.disk_backup.specs.State.{LogState}
-use Rattle.crash_events.specs.Left.{Tables}
+use Rattle.crash_events.specs.Left.{NamedStates}
 use Rattle.crash_moments.specs.Watched.{Watched, IsFoundation, IsWatched, by_name, now_of, others_then, was_opened}
 use Rattle.crash_moments.proofs.Telling.{opened_more}
 use Rattle.crash_states.specs.Standing.{Runs, tables_of}
 use Rattle.crash_states.specs.Entries.{Enters, ShutsAll, stewards}
-use Rattle.crash_serving.specs.Laws.{Kills}
+use Rattle.crash_serving.specs.Laws.{IsKilled}
 use Rattle.crash_serving.proofs.Running.{kills}
 use Rattle.leaf_machine.specs.Leaving.{IsFrontOf, BeginsAgain}
 use Rattle.leaf_machine.proofs.LeaveRests.{rests_begin}
@@ -22,7 +22,7 @@ use Rattle.leaf_machine.proofs.LeaveRests.{rests_begin}
 -- ---- one table
 
 -- its steward's entry that shuts it, where it is open
-abbrev shutting : ℕ → TableState → Bool → List Entry
+abbrev shutting : ℕ → HistoryState → Bool → List Entry
 shutting clock s true = stewards clock call.Shut (reply.Counted (write_count s)) ∷ []
 shutting clock s false = []
 
@@ -48,7 +48,7 @@ shuts_one clock w legal true is = inr (
 shuts_one clock w legal false is = inl (is, ap (λ (es : List Entry). record { name = w.name; base = w.base; seen = es }) (append-nil w.seen))
 
 -- it has the same writes, and the same of them are flushed
-abbrev IsAlike : TableState → TableState → Type 0
+abbrev IsAlike : HistoryState → HistoryState → Type 0
 IsAlike s t = (t.writes ≡ s.writes) × (t.flushed ≡ s.flushed)
 
 one_alike : (clock : ℕ) (w : Watched) → IsAlike (now_of w) (now_of (shut_one clock w))
@@ -68,7 +68,7 @@ shuts_each : (clock : ℕ) (ws : List Watched) → AllByRecursion (IsWatched clo
 shuts_each clock [] each = tt
 shuts_each clock (w ∷ ws) each = (shuts_one clock w each.0.legal (now_of w).live refl, shuts_each clock ws each.1)
 
-each_alike : (clock : ℕ) (others : Tables) (ws : List Watched) (name : List ℕ) → IsAlike (by_name now_of others ws name) (by_name now_of others (shut_each clock ws) name)
+each_alike : (clock : ℕ) (others : NamedStates) (ws : List Watched) (name : List ℕ) → IsAlike (by_name now_of others ws name) (by_name now_of others (shut_each clock ws) name)
 each_alike clock others [] name = (refl, refl)
 each_alike clock others (w ∷ ws) name = by (bytes_eq name w.name) (each_alike clock others ws name)
   where
@@ -79,17 +79,17 @@ each_alike clock others (w ∷ ws) name = by (bytes_eq name w.name) (each_alike 
 
 -- ---- the leaf
 
-front_alike : (s t b : TableState) → IsAlike s t → IsFrontOf t b → IsFrontOf s b
+front_alike : (s t b : HistoryState) → IsAlike s t → IsFrontOf t b → IsFrontOf s b
 front_alike s t b alike is = record {
   front = is.front ∙ ap (λ (ws : List Write). take (length b.writes) ws) alike.0;
   flushed = omega (arith, is.flushed, alike.1);
 }
 
-module _ (ws : List Watched) (others : Tables) (owner : ℕ) (log : LogState) (writes : List ℕ → List Write) (m : Meaning) (runs : Runs ws owner log writes m) where
+module _ (ws : List Watched) (others : NamedStates) (owner : ℕ) (log : LogState) (writes : List ℕ → List Write) (m : Meaning) (runs : Runs ws owner log writes m) where
   abbrev ws' : List Watched
   ws' = shut_each m.clock ws
 
-  killed : Kills ws ws' log writes m
+  killed : IsKilled ws ws' log writes m
   killed = kills ws ws' owner log writes m runs (shuts_each m.clock ws runs.watched.each)
 
   -- the leaf has opened a table, before and behind

@@ -7,14 +7,14 @@ use Rattle.std.proofs.lemmas.Option.{slice_get_within}
 use Rattle.leaf_model.specs.declared.writes.Write.{Write}
 use Rattle.leaf_model.specs.Content.{Contents, content_from}
 use Rattle.berth_face.specs.Berth.{Meaning}
-use Rattle.leaf_history.specs.History.{TableState, write_count}
+use Rattle.leaf_history.specs.History.{HistoryState, write_count}
 use Rattle.table_state.specs.Tables.{Table}
 use Rattle.region_layout.specs.Region.{IsImage}
 use Rattle.region_layout.specs.Images.{images_of}
 use Rattle.drain_copy.specs.declared.step.Next.TheVariants as next
 use Rattle.drain_copy.specs.Draining.{DrainState}
 use Rattle.leaf_table.specs.Turns.{Shared, is_founded}
-use Rattle.leaf_table.specs.Calls.{SeatView, base_of, state_seen}
+use Rattle.leaf_table.specs.Calls.{SeatView, base_seen, state_seen}
 use Rattle.crash_moments.specs.Watched.{Watched, IsFoundation, IsWatched, now_of}
 use Rattle.crash_moments.proofs.Telling.{none_more}
 use Rattle.crash_states.specs.Standing.{Copies, IsContentOf, Runs}
@@ -29,9 +29,9 @@ use Rattle.leaf_steward.proofs.WatchPlaces.{watch_all}
 use Rattle.leaf_steward.proofs.Watching.{now_seen, watch_at, watch_length, watch_names}
 use Rattle.leaf_machine.specs.declared.preparing.PrepareFault.{PrepareFault}
 use Rattle.leaf_machine.specs.declared.preparing.PrepareFault.TheVariants.{DiskFault, NoRoom, NoMemory}
-use Rattle.leaf_machine.specs.States.{Serving, Shutting, CopiesOn, GoesOn, IsClosed, IsCopying, IsShutting, treated}
-use Rattle.leaf_machine.specs.Prepares.{AllTreated, IsCopyOf, IsStep, IsTooMany}
-use Rattle.leaf_machine.specs.PrepParts.{IsAllTreated, IsNext, is_too_many}
+use Rattle.leaf_machine.specs.States.{Serving, Shutting, GoesOnCopying, GoesOn, IsShutAndTaken, IsCopying, IsShutting, treated}
+use Rattle.leaf_machine.specs.Prepares.{AllTreated, IsCopyOf, IsTreatingStep, HasTooManyWrites}
+use Rattle.leaf_machine.specs.PrepParts.{IsAllTreated, IsNextTreated, is_too_many}
 
 -- ---- tables that have too many writes for an image
 
@@ -55,7 +55,7 @@ many_in (t ∷ tables) some = by (is_too_many t) refl some (many_in tables)
     by true many is others = (t, (0, refl), leb-true (2 ^ 63) t.writes many)
     by false few is others = let there = others is in (there.0, (suc there.1.0, there.1.1), there.2)
 
-pub too_many : (x : Shutting) → list_any is_too_many x.closed ≡ true → IsTooMany x
+pub too_many : (x : Shutting) → list_any is_too_many x.closed ≡ true → HasTooManyWrites x
 too_many x some = many_in x.closed some
 
 -- ---- nothing happens
@@ -76,13 +76,13 @@ begins : next.Begin ≢ next.Nothing
 begins = λ same. cc
 
 -- a table that was handed in nothing
-content_is : (s : TableState) (t : Table) → IsFoundation s → t.contents ≡ content_from s.before s.writes → t.writes ≡ write_count s → IsContentOf s t
+content_is : (s : HistoryState) (t : Table) → IsFoundation s → t.contents ≡ content_from s.before s.writes → t.writes ≡ write_count s → IsContentOf s t
 content_is s t sound contents writes = record {
   contents = contents ∙ ap (λ (c : Contents). content_from c s.writes) sound.before;
   writes = omega (arith, writes, sound.handed_in);
 }
 
-all_taken : (s : TableState) → IsFoundation s → s.taken ≡ write_count s → s.taken ≡ length s.writes
+all_taken : (s : HistoryState) → IsFoundation s → s.taken ≡ write_count s → s.taken ≡ length s.writes
 all_taken s sound taken = omega (arith, taken, sound.handed_in)
 
 module _ (x : Shutting) (m : Meaning) (is : IsShutting x m) (sits : AreSeated x.serving.seated) (all : length x.closed ≡ length x.serving.seated.tables) (none : x.serving.owing.log.owed ≡ None)
@@ -90,24 +90,24 @@ module _ (x : Shutting) (m : Meaning) (is : IsShutting x m) (sits : AreSeated x.
   abbrev ws : List Watched
   ws = watched_by x.serving.seated
 
-  closed_at : (place : ℕ) (t : Shared) (v : SeatView) → slice_get x.serving.seated.tables place ≡ Some t → slice_get x.serving.seated.seats place ≡ Some v → IsClosed (state_seen (base_of t) v)
+  closed_at : (place : ℕ) (t : Shared) (v : SeatView) → slice_get x.serving.seated.tables place ≡ Some t → slice_get x.serving.seated.seats place ≡ Some v → IsShutAndTaken (state_seen (base_seen t) v)
   closed_at place t v at was = is.closed_are place t v at was (omega (arith, slice_get_within x.serving.seated.tables place t at, all))
 
   -- what the watched table in a place is
   record IsTakenAt (place : ℕ) (w : Watched) : Type 0 where
-    pub closed : IsClosed (now_of w)
+    pub closed : IsShutAndTaken (now_of w)
     pub contents : (c : Table) → slice_get x.closed place ≡ Some c → (c.contents ≡ content_from (now_of w).before (now_of w).writes) × (c.writes ≡ write_count (now_of w))
 
   taken_at : AreFounded x.serving.seated → (place : ℕ) (w : Watched) → slice_get ws place ≡ Some w → IsTakenAt place w
   taken_at founded place w found =
       let a = watch_at x.serving.seated place w found in
-      let base : is_founded (base_of a.0) ≡ true = watch_all (λ (s : Shared). is_founded (base_of s) ≡ true) x.serving.seated.tables place a.0 founded a.2 in
-      let same : state_seen (base_of a.0) a.1 ≡ now_of w = sym (ap now_of a.4 ∙ now_seen a.0 a.1 base) in
+      let base : is_founded (base_seen a.0) ≡ true = watch_all (λ (s : Shared). is_founded (base_seen s) ≡ true) x.serving.seated.tables place a.0 founded a.2 in
+      let same : state_seen (base_seen a.0) a.1 ≡ now_of w = sym (ap now_of a.4 ∙ now_seen a.0 a.1 base) in
       record {
-        closed = subst IsClosed same (closed_at place a.0 a.1 a.2 a.3);
+        closed = subst IsShutAndTaken same (closed_at place a.0 a.1 a.2 a.3);
         contents = λ c at.
             let had = is.contents place a.0 a.1 a.2 a.3 c at in
-            subst (λ (s : TableState). (c.contents ≡ content_from s.before s.writes) × (c.writes ≡ write_count s)) same (had.contents, had.writes);
+            subst (λ (s : HistoryState). (c.contents ≡ content_from s.before s.writes) × (c.writes ≡ write_count s)) same (had.contents, had.writes);
       }
 
   taken : AreFounded x.serving.seated → (writes : List ℕ → List Write) → Runs ws x.serving.owing.owner x.serving.owing.log writes m → AreTaken ws x.closed
@@ -133,7 +133,7 @@ module _ (x : Shutting) (m : Meaning) (is : IsShutting x m) (sits : AreSeated x.
       })
 
   pub copied_goes : AreFounded x.serving.seated → (writes : List ℕ → List Write) → Runs ws x.serving.owing.owner x.serving.owing.log writes m
-      → CopiesOn x.serving.seated (record { seated = x.serving.seated; drain = drain }) m m
+      → GoesOnCopying x.serving.seated (record { seated = x.serving.seated; drain = drain }) m m
   copied_goes founded writes runs = record {
     writes = writes;
     copies = copies founded writes runs;
@@ -154,8 +154,8 @@ module _ (x : Shutting) (m : Meaning) (is : IsShutting x m) (sits : AreSeated x.
 -- ---- a step
 
 -- one that did not end
-pub err_step : {B : Type 0} (x y : Shutting) (b : B) (notes : List Note) (fault : PrepareFault) → treated x < length x.serving.seated.tables → IsNext {T = Unit {0}} x y notes (Err fault)
-    → IsStep {B = B} x notes (Err ((y, b), fault))
+pub err_step : {B : Type 0} (x y : Shutting) (b : B) (notes : List Note) (fault : PrepareFault) → treated x < length x.serving.seated.tables → IsNextTreated {T = Unit {0}} x y notes (Err fault)
+    → IsTreatingStep {B = B} x notes (Err ((y, b), fault))
 err_step x y b notes DiskFault more next = (more, next)
 err_step x y b notes NoRoom more next = absurd next
 err_step x y b notes NoMemory more next = next

@@ -6,7 +6,7 @@ use Rattle.leaf_model.specs.declared.writes.Write.{Write}
 use Rattle.berth_face.specs.Berth.{Meaning}
 use Rattle.berth_face.proofs.Moments.{passes_none, passes_on}
 use Rattle.leaf_table.specs.Turns.{Shared, is_founded}
-use Rattle.leaf_table.specs.Calls.{base_of}
+use Rattle.leaf_table.specs.Calls.{base_seen}
 use Rattle.crash_moments.proofs.Telling.{none_more, told_join}
 use Rattle.crash_states.specs.Standing.{Runs}
 use Rattle.crash_states.proofs.Lefts.{runs_told}
@@ -15,8 +15,8 @@ use Rattle.leaf_steward.specs.Seated.{Seated, AreFounded, watched_by}
 use Rattle.leaf_steward.specs.Making.{Makes, NotesOn, OneEntry}
 use Rattle.leaf_steward.proofs.WatchMakes.{makes_tables}
 use Rattle.log_steward.specs.Owing.{RunsTo}
-use Rattle.leaf_machine.specs.States.{Serving, GoesOn, RunsOn, UpStands}
-use Rattle.leaf_machine.specs.PrepParts.{IsPart}
+use Rattle.leaf_machine.specs.States.{Serving, GoesOn, GoesOnServing, UpStands}
+use Rattle.leaf_machine.specs.PrepParts.{IsPartOfStep}
 
 -- ---- entries, one after another
 
@@ -52,7 +52,7 @@ notes_are a b x y old new none on = subst (λ (notes : List Note). Makes a b x n
 -- ---- the tables stay
 
 pub founded_on : (x y : Seated) → y.tables ≡ x.tables → AreFounded x → AreFounded y
-founded_on x y same founded = subst (λ (ts : List Shared). AllByRecursion (λ (t : Shared). is_founded (base_of t) ≡ true) ts) (sym same) founded
+founded_on x y same founded = subst (λ (ts : List Shared). AllByRecursion (λ (t : Shared). is_founded (base_seen t) ≡ true) ts) (sym same) founded
 
 pub tables_on : (a b : ℕ) (x y : Seated) (old new : List Note) → NotesOn a b x old new y → y.tables ≡ x.tables
 tables_on a b x y old new on = makes_tables a b x on.0 y on.2
@@ -63,7 +63,7 @@ tables_on a b x y old new on = makes_tables a b x on.0 y on.2
 pub stands_on : (x y : Serving) (m m' : Meaning) → UpStands x m → (IsTrue m.tells → AreFounded x.seated → GoesOn x y m m') → y.seated.tables ≡ x.seated.tables → m'.tells ≡ m.tells → UpStands y m'
 stands_on x y m m' stands goes same tells founded =
     let was = stands (founded_on y.seated x.seated (sym same) founded) in
-    let on : RunsOn x y m m' = goes was.0 (founded_on y.seated x.seated (sym same) founded) was.1.0 was.1.1 in
+    let on : GoesOnServing x y m m' = goes was.0 (founded_on y.seated x.seated (sym same) founded) was.1.0 was.1.1 in
     (tells ∙ was.0, (on.later, on.runs))
 
 -- as the log's own steps tell it
@@ -76,7 +76,7 @@ goes_to x y m m' runs tells founded writes was =
 
 -- ---- parts
 
-pub part_none : (x : Serving) (notes : List Note) (m : Meaning) → IsPart x x notes notes m m
+pub part_none : (x : Serving) (notes : List Note) (m : Meaning) → IsPartOfStep x x notes notes m m
 part_none x notes m = record {
   made = no_notes m.clock m.clock x.seated x.seated notes notes (le_refl m.clock) refl refl;
   crash = λ tells founded writes runs. record {
@@ -89,21 +89,21 @@ part_none x notes m = record {
   reads = refl;
 }
 
-module _ (x y z : Serving) (old mid new : List Note) (m m' m'' : Meaning) (first : IsPart x y old mid m m') (second : IsPart y z mid new m' m'') where
+module _ (x y z : Serving) (old mid new : List Note) (m m' m'' : Meaning) (first : IsPartOfStep x y old mid m m') (second : IsPartOfStep y z mid new m' m'') where
   tells_still : IsTrue m.tells → IsTrue m'.tells
   tells_still tells = first.time.tells ∙ tells
 
   both_go : IsTrue m.tells → AreFounded x.seated → GoesOn x z m m''
   both_go tells founded writes runs =
-      let one : RunsOn x y m m' = first.crash tells founded writes runs in
-      let two : RunsOn y z m' m'' = second.crash (tells_still tells) (founded_on x.seated y.seated (tables_on m.clock m'.clock x.seated y.seated old mid first.made) founded) one.later one.runs in
+      let one : GoesOnServing x y m m' = first.crash tells founded writes runs in
+      let two : GoesOnServing y z m' m'' = second.crash (tells_still tells) (founded_on x.seated y.seated (tables_on m.clock m'.clock x.seated y.seated old mid first.made) founded) one.later one.runs in
       record {
         later = two.later;
         runs = two.runs;
         told = λ others. told_join others (watched_by x.seated) (watched_by y.seated) (watched_by z.seated) m m' m'' (one.told others) (two.told others);
       }
 
-  pub part_join : IsPart x z old new m m''
+  pub part_join : IsPartOfStep x z old new m m''
   part_join = record {
     made = notes_join m.clock m'.clock m''.clock x.seated y.seated z.seated old mid new first.made second.made;
     crash = both_go;

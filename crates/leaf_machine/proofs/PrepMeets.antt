@@ -9,7 +9,7 @@ use Rattle.leaf_history.specs.History.{LegalFrom}
 use Rattle.table_state.specs.Tables.{Table}
 use Rattle.turnstile.specs.Seats.{LearnsOthers, Told}
 use Rattle.leaf_table.specs.Turns.{Shared, is_founded, start_of}
-use Rattle.leaf_table.specs.Calls.{SeatView, base_of, name_of, seen_of, state_seen}
+use Rattle.leaf_table.specs.Calls.{SeatView, base_seen, name_of, seen_of, state_seen}
 use Rattle.crash_moments.specs.Watched.{Watched}
 use Rattle.crash_states.specs.Standing.{Runs}
 use Rattle.crash_states.proofs.Meeting.{met_runs}
@@ -23,20 +23,20 @@ use Rattle.leaf_machine.proofs.PrepHolds.{Holds, holds_of, met_holds}
 use Rattle.leaf_machine.proofs.PrepPlaces.{place_set}
 
 module _ (x : Seated) (sits : AreSeated x) (place : ℕ) (t : Shared) (v u w : SeatView) (at : slice_get x.tables place ≡ Some t) (was : slice_get x.seats place ≡ Some v)
-    (met : Told v u w) (learns : LearnsOthers v w) (legal : LegalFrom (is_founded (base_of t)) (start_of (base_of t)) (seen_of w)) where
+    (met : Told v u w) (learns : LearnsOthers v w) (legal : LegalFrom (is_founded (base_seen t)) (start_of (base_seen t)) (seen_of w)) where
   pub met_goes : (owner : ℕ) (log : LogState) (writes : List ℕ → List Write) (m : Meaning) → AreFounded x → Runs (watched_by x) owner log writes m → Runs (watched_by (with_seat x place w)) owner log writes m
   met_goes owner log writes m founded runs =
-      let base : is_founded (base_of t) ≡ true = watch_all (λ (s : Shared). is_founded (base_of s) ≡ true) x.tables place t founded at in
+      let base : is_founded (base_seen t) ≡ true = watch_all (λ (s : Shared). is_founded (base_seen s) ≡ true) x.tables place t founded at in
       subst (λ (ws : List Watched). Runs ws owner log writes m) (sym (watch_set x place t w at))
       (met_runs place (watched t v) (watched t w) (watched_by x) owner log writes m (watch_get x place t v at was) (met_learns t v u w base (sits.each place t v at was) met learns legal) runs)
 
   -- who owes what
-  met_owed : (owed : Option LogRecord) (owner count : ℕ) → IfSome owed (λ r. (owner < length x.tables) × AtPlace (λ a s. (count ≤ (state_seen (base_of a) s).taken) × (name_of a ≡ r.name)) x owner)
-      → IfSome owed (λ r. (owner < length x.tables) × AtPlace (λ a s. (count ≤ (state_seen (base_of a) s).taken) × (name_of a ≡ r.name)) (with_seat x place w) owner)
+  met_owed : (owed : Option LogRecord) (owner count : ℕ) → IfSome owed (λ r. (owner < length x.tables) × AtPlace (λ a s. (count ≤ (state_seen (base_seen a) s).taken) × (name_of a ≡ r.name)) x owner)
+      → IfSome owed (λ r. (owner < length x.tables) × AtPlace (λ a s. (count ≤ (state_seen (base_seen a) s).taken) × (name_of a ≡ r.name)) (with_seat x place w) owner)
   met_owed None owner count is = tt
   met_owed (Some r) owner count is = (
     is.0,
-    place_set (λ a s. (count ≤ (state_seen (base_of a) s).taken) × (name_of a ≡ r.name)) x place t v w at was
+    place_set (λ a s. (count ≤ (state_seen (base_seen a) s).taken) × (name_of a ≡ r.name)) x place t v w at was
         (λ old. (omega (arith, old.0, (met_keeps t v u w (sits.each place t v at was) met learns legal).taken), old.1)) owner is.1,
   )
 

@@ -7,14 +7,14 @@ use Rattle.row_records.specs.Records.{LogRecord}
 use Rattle.berth_face.specs.Berth.{Meaning, Passes}
 use Rattle.table_state.specs.Tables.{Table}
 use Rattle.leaf_table.specs.Turns.{Shared}
-use Rattle.leaf_table.specs.Calls.{SeatView, base_of, name_of, state_seen}
+use Rattle.leaf_table.specs.Calls.{SeatView, base_seen, name_of, state_seen}
 use Rattle.crash_states.specs.Standing.{Runs}
 use Rattle.leaf_steward.specs.declared.notes.Note.{Note}
 use Rattle.leaf_steward.specs.Seated.{Seated, AreFounded, AreSeated, AtPlace, Spares, watched_by}
 use Rattle.leaf_steward.specs.Making.{NotesOn, OneEntry}
 use Rattle.log_steward.specs.Owing.{Owing, IsOwed, RunsTo, SettlesOwed, flushed_note, nothing, done, failed}
 use Rattle.leaf_machine.specs.States.{Serving, Shutting, IsShutting, SparesOwed, UpStands}
-use Rattle.leaf_machine.specs.PrepParts.{IsPart}
+use Rattle.leaf_machine.specs.PrepParts.{IsPartOfStep}
 use Rattle.leaf_machine.proofs.PrepHolds.{Holds, flushed_holds, holds_of}
 use Rattle.leaf_machine.proofs.PrepJoins.{goes_to, makes_one, no_notes, stands_on, tables_on}
 
@@ -41,7 +41,7 @@ quiet_is closed y o m holds none stands = record {
   spares_closed = holds.spares_closed;
   spares_owed = λ empty. if_none o.log.owed (λ r. AtPlace (Spares 4) y o.owner) none;
   spares_shut = λ shut. absurd (false≢true shut);
-  owed = if_none o.log.owed (λ r. (o.owner < length y.tables) × AtPlace (λ t v. (o.count ≤ (state_seen (base_of t) v).taken) × (name_of t ≡ r.name)) y o.owner) none;
+  owed = if_none o.log.owed (λ r. (o.owner < length y.tables) × AtPlace (λ t v. (o.count ≤ (state_seen (base_seen t) v).taken) × (name_of t ≡ r.name)) y o.owner) none;
   last = λ shut. absurd (false≢true shut);
   owes = λ some. none_owed o.log.owed none some;
   stands = stands;
@@ -51,7 +51,7 @@ quiet_is closed y o m holds none stands = record {
 
 -- who owes what
 abbrev OwesAs : Seated → Option LogRecord → ℕ → ℕ → Type 0
-OwesAs x owed owner count = IfSome owed (λ r. (owner < length x.tables) × AtPlace (λ t v. (count ≤ (state_seen (base_of t) v).taken) × (name_of t ≡ r.name)) x owner)
+OwesAs x owed owner count = IfSome owed (λ r. (owner < length x.tables) × AtPlace (λ t v. (count ≤ (state_seen (base_seen t) v).taken) × (name_of t ≡ r.name)) x owner)
 
 abbrev SparesAs : Seated → Option LogRecord → ℕ → ℕ → Type 0
 SparesAs x owed owner n = IfSome owed (λ r. AtPlace (Spares n) x owner)
@@ -148,7 +148,7 @@ module _ (x : Serving) (y : Seated) (o : Owing) (m m' : Meaning) {T E : Type 0} 
   made : NotesOn m.clock m'.clock x.seated before after y
   made = settles_notes m.clock m'.clock x.seated x.owing before result y o after time.later settles
 
-  pub settle_part : (IsTrue m.tells → m'.held.region ≡ m.held.region) → m'.disk_reads ≡ m.disk_reads → IsPart x (record { seated = y; owing = o }) before after m m'
+  pub settle_part : (IsTrue m.tells → m'.held.region ≡ m.held.region) → m'.disk_reads ≡ m.disk_reads → IsPartOfStep x (record { seated = y; owing = o }) before after m m'
   settle_part region reads = record {
     made = made;
     crash = goes_to x (record { seated = y; owing = o }) m m' runs;

@@ -8,12 +8,12 @@ use Rattle.row_records.specs.Records.{LogRecord}
 use Rattle.berth_face.specs.Berth.{Meaning, Passes}
 use Rattle.leaf_history.specs.Calls as call
 use Rattle.leaf_history.specs.Replies as reply
-use Rattle.leaf_history.specs.History.{TableState, after, held, untaken}
+use Rattle.leaf_history.specs.History.{HistoryState, after, held, untaken}
 use Rattle.table_state.specs.Tables.{Table, Takes}
 use Rattle.leaf_table.specs.Turns.{Shared, is_founded, start_of}
 use Rattle.leaf_table.specs.Turns as turns
-use Rattle.leaf_table.specs.Calls.{base_of, name_of, seen_of, state_before, state_seen}
-use Rattle.crash_events.specs.Left.{Tables}
+use Rattle.leaf_table.specs.Calls.{base_seen, name_of, seen_of, state_before, state_seen}
+use Rattle.crash_events.specs.Left.{NamedStates}
 use Rattle.crash_moments.specs.Watched.{Watched}
 use Rattle.crash_moments.specs.Told.{SeenMore, Told}
 use Rattle.crash_moments.proofs.Telling.{more_on}
@@ -28,11 +28,11 @@ use Rattle.leaf_steward.specs.Making.{Makes, NotesOn, OneEntry, ShutsAt}
 use Rattle.leaf_steward.proofs.WatchMakes.{makes_seated, makes_tables}
 use Rattle.leaf_steward.proofs.WatchPlaces.{watch_all}
 use Rattle.leaf_steward.proofs.Watching.{made_enters, makes_more, watch_get, watch_set}
-use Rattle.log_steward.specs.Owing.{Owing, Brings, HasTaken, RunsTo, done, failed}
+use Rattle.log_steward.specs.Owing.{Owing, Brings, HasJustTaken, RunsTo, done, failed}
 use Rattle.leaf_machine.specs.States.{Shutting, GoesOn, IsShutting, UpStands}
 use Rattle.leaf_machine.specs.Flushes.{OwedNotes}
 use Rattle.leaf_machine.specs.Prepares.{Halts, Treats, half, whole}
-use Rattle.leaf_machine.specs.PrepParts.{IsPart}
+use Rattle.leaf_machine.specs.PrepParts.{IsPartOfStep}
 use Rattle.leaf_machine.proofs.PrepHolds.{Holds, flushed_holds, holds_of, shut_count, shut_holds, shut_named, shut_room}
 use Rattle.leaf_machine.proofs.PrepJoins.{founded_on, makes_one, makes_two, stands_on, tables_on}
 use Rattle.leaf_machine.proofs.PrepSettles.{not_both, quiet_is}
@@ -70,7 +70,7 @@ module _ (x : Shutting) (m : Meaning) (is : IsShutting x m) (sits : AreSeated x.
   pub tables_then : y.tables ≡ x.serving.seated.tables
   tables_then = makes_tables m.clock m.clock x.serving.seated (closing place ∷ []) y makes
 
-  contents : t'.contents ≡ held (state_before (base_of shut.table) shut.before shut.made.between)
+  contents : t'.contents ≡ held (state_before (base_seen shut.table) shut.before shut.made.between)
   contents = ap (λ (c : Table). c.contents) takes.1 ∙ shut.contents
 
   pub holds_then : Holds closed y
@@ -86,37 +86,37 @@ module _ (x : Shutting) (m : Meaning) (is : IsShutting x m) (sits : AreSeated x.
   pub one_spare : AtPlace (Spares 1) y place
   one_spare = λ u s here there. omega (arith, room_then u s here there)
 
-  pub count_then : AtPlace (λ u s. t.writes ≤ (state_seen (base_of u) s).taken) y place
+  pub count_then : AtPlace (λ u s. t.writes ≤ (state_seen (base_seen u) s).taken) y place
   count_then =
-      subst (λ (z : Seated). AtPlace (λ u s. t.writes ≤ (state_seen (base_of u) s).taken) z place) (sym shut.now)
+      subst (λ (z : Seated). AtPlace (λ u s. t.writes ≤ (state_seen (base_seen u) s).taken) z place) (sym shut.now)
       (shut_count x.closed x.serving.seated (holds_of x m is) place shut.table shut.before shut.after m.clock t.writes t' next shut.at shut.was shut.made contents (ap (λ (c : Table). c.writes) takes.1))
 
-  record_is : pending ≡ turns.record_for (name_of shut.table) (untaken (state_before (base_of shut.table) shut.before shut.made.between))
+  record_is : pending ≡ turns.record_for (name_of shut.table) (untaken (state_before (base_seen shut.table) shut.before shut.made.between))
   record_is = takes.0 ∙ shut.record_is
 
   pub named_then : IfSome pending (λ (r : LogRecord). AtPlace (λ u s. name_of u ≡ r.name) y place)
   named_then =
       subst (λ (z : Seated). IfSome pending (λ (r : LogRecord). AtPlace (λ u s. name_of u ≡ r.name) z place)) (sym shut.now)
-      (shut_named x.serving.seated place shut.table shut.before shut.after pending (state_before (base_of shut.table) shut.before shut.made.between) shut.at shut.was record_is)
+      (shut_named x.serving.seated place shut.table shut.before shut.after pending (state_before (base_seen shut.table) shut.before shut.made.between) shut.at shut.was record_is)
 
   -- ---- what its record is, where the tables are founded
 
   module _ (founded : AreFounded x.serving.seated) where
-    is_base : is_founded (base_of shut.table) ≡ true
-    is_base = watch_all (λ (s : Shared). is_founded (base_of s) ≡ true) x.serving.seated.tables place shut.table founded shut.at
+    is_base : is_founded (base_seen shut.table) ≡ true
+    is_base = watch_all (λ (s : Shared). is_founded (base_seen s) ≡ true) x.serving.seated.tables place shut.table founded shut.at
 
     enters : (e : Enters m.clock call.Shut (reply.Counted t.writes) (watched shut.table shut.before) (watched shut.table shut.after)) × (e.between ≡ shut.made.between)
     enters = made_enters shut.table shut.before shut.after m.clock call.Shut (reply.Counted t.writes) is_base (sits.each place shut.table shut.before shut.at shut.was) shut.made
 
-    same_state : after true (start_of (base_of shut.table)) (seen_of shut.before ++ enters.0.between) ≡ state_before (base_of shut.table) shut.before shut.made.between
-    same_state = ap₂ (λ (b : Bool) (es : _). after b (start_of (base_of shut.table)) (seen_of shut.before ++ es)) (sym is_base) enters.1
+    same_state : after true (start_of (base_seen shut.table)) (seen_of shut.before ++ enters.0.between) ≡ state_before (base_seen shut.table) shut.before shut.made.between
+    same_state = ap₂ (λ (b : Bool) (es : _). after b (start_of (base_seen shut.table)) (seen_of shut.before ++ es)) (sym is_base) enters.1
 
     same_pending : pending ≡ law.record_for (name_of shut.table) (law.untaken_before enters.0)
     same_pending =
-        record_is ∙ same_record (name_of shut.table) (untaken (state_before (base_of shut.table) shut.before shut.made.between))
-        ∙ ap (λ (s : TableState). law.record_for (name_of shut.table) (untaken s)) (sym same_state)
+        record_is ∙ same_record (name_of shut.table) (untaken (state_before (base_seen shut.table) shut.before shut.made.between))
+        ∙ ap (λ (s : HistoryState). law.record_for (name_of shut.table) (untaken s)) (sym same_state)
 
-    has_taken : (writes : List ℕ → List Write) → Runs (watched_by x.serving.seated) x.serving.owing.owner x.serving.owing.log writes m → HasTaken y x.serving.owing place pending writes m
+    has_taken : (writes : List ℕ → List Write) → Runs (watched_by x.serving.seated) x.serving.owing.owner x.serving.owing.log writes m → HasJustTaken y x.serving.owing place pending writes m
     has_taken writes runs log owes =
         let ws : List Watched = watched_by x.serving.seated in
         let takes_in = shuts ws place x.serving.owing.owner t.writes (watched shut.table shut.before) (watched shut.table shut.after) x.serving.owing.log log writes m runs none
@@ -126,7 +126,7 @@ module _ (x : Shutting) (m : Meaning) (is : IsShutting x m) (sits : AreSeated x.
         subst (λ (now_seen : List Watched). Runs now_seen place log writes m) (sym now) takes_in.runs
 
     -- what is told of the bringing is told of both
-    told_both : (others : Tables) (z : Seated) (m' : Meaning) → Told others (watched_by y) (watched_by z) m m' → Told others (watched_by x.serving.seated) (watched_by z) m m'
+    told_both : (others : NamedStates) (z : Seated) (m' : Meaning) → Told others (watched_by y) (watched_by z) m m' → Told others (watched_by x.serving.seated) (watched_by z) m m'
     told_both others z m' told =
         let first : SeenMore m.clock m.clock (watched_by x.serving.seated) (watched_by y) = makes_more m.clock m.clock x.serving.seated (closing place ∷ []) y sits founded makes in
         record {
@@ -136,7 +136,7 @@ module _ (x : Shutting) (m : Meaning) (is : IsShutting x m) (sits : AreSeated x.
         }
 
   shut_goes : (z : Seated) (o : Owing) (m' : Meaning)
-      → ((taken : List ℕ → List Write) → IsTrue m.tells → AreFounded y → HasTaken y x.serving.owing place pending taken m → RunsTo y z o m m')
+      → ((taken : List ℕ → List Write) → IsTrue m.tells → AreFounded y → HasJustTaken y x.serving.owing place pending taken m → RunsTo y z o m m')
       → IsTrue m.tells → AreFounded x.serving.seated → GoesOn x.serving (record { seated = z; owing = o }) m m'
   shut_goes z o m' brings tells founded writes runs =
       let on : RunsTo y z o m m' = brings writes tells (founded_on x.serving.seated y tables_then founded) (has_taken founded writes runs) in
@@ -146,7 +146,7 @@ module _ (x : Shutting) (m : Meaning) (is : IsShutting x m) (sits : AreSeated x.
 
   module _ {T E : Type 0} (m' : Meaning) (z : Seated) (o : Owing) (result : Result T E) (old mid new : List Note) (noted : mid ≡ old ++ closing place ∷ [])
       (brings : Brings m'.clock y x.serving.owing place t.writes pending mid result z o new) (time : Passes m m')
-      (runs : (taken : List ℕ → List Write) → IsTrue m.tells → AreFounded y → HasTaken y x.serving.owing place pending taken m → RunsTo y z o m m') where
+      (runs : (taken : List ℕ → List Write) → IsTrue m.tells → AreFounded y → HasJustTaken y x.serving.owing place pending taken m → RunsTo y z o m m') where
     abbrev flushing : ℕ → Note
     flushing n = record { table = place; number = n; what = what.Flushed t.writes }
 
@@ -159,7 +159,7 @@ module _ (x : Shutting) (m : Meaning) (is : IsShutting x m) (sits : AreSeated x.
     brought_notes (failed r owes bad same notes owed owner count) =
         (closing place ∷ [], notes ∙ noted, subst (λ (s : Seated). Makes m.clock m'.clock x.serving.seated (closing place ∷ []) s) (sym same) (makes_one m.clock m'.clock m.clock x.serving.seated (closing place) y (le_refl m.clock) time.later one))
 
-    pub brought_part : (IsTrue m.tells → m'.held.region ≡ m.held.region) → m'.disk_reads ≡ m.disk_reads → IsPart x.serving (record { seated = z; owing = o }) old new m m'
+    pub brought_part : (IsTrue m.tells → m'.held.region ≡ m.held.region) → m'.disk_reads ≡ m.disk_reads → IsPartOfStep x.serving (record { seated = z; owing = o }) old new m m'
     brought_part region reads = record {
       made = brought_notes brings;
       crash = shut_goes z o m' runs;
@@ -208,8 +208,8 @@ module _ (x : Shutting) (m : Meaning) (is : IsShutting x m) (sits : AreSeated x.
       spares_owed = λ empty. absurd (omega (arith, size, ap (λ (l : List Table). length l) empty));
       spares_shut = λ last.
           subst (λ (p : Option LogRecord). IfSome p (λ q. AtPlace (Spares 2) y o.owner)) (sym owed) (subst (λ (k : ℕ). AtPlace (Spares 2) y k) (sym owner) room_then);
-      owed = subst (λ (p : Option LogRecord). IfSome p (λ q. (o.owner < length y.tables) × AtPlace (λ u s. (o.count ≤ (state_seen (base_of u) s).taken) × (name_of u ≡ q.name)) y o.owner)) (sym owed)
-          (subst (λ (k : ℕ). (k < length y.tables) × AtPlace (λ u s. (o.count ≤ (state_seen (base_of u) s).taken) × (name_of u ≡ r.name)) y k) (sym owner) (
+      owed = subst (λ (p : Option LogRecord). IfSome p (λ q. (o.owner < length y.tables) × AtPlace (λ u s. (o.count ≤ (state_seen (base_seen u) s).taken) × (name_of u ≡ q.name)) y o.owner)) (sym owed)
+          (subst (λ (k : ℕ). (k < length y.tables) × AtPlace (λ u s. (o.count ≤ (state_seen (base_seen u) s).taken) × (name_of u ≡ r.name)) y k) (sym owner) (
             omega (arith, slice_get_within x.serving.seated.tables place shut.table shut.at, ap (λ (l : List Shared). length l) tables_then),
             λ u s here there. (omega (arith, count, count_then u s here there), subst (λ (p : Option LogRecord). IfSome p (λ q. AtPlace (λ u s. name_of u ≡ q.name) y place)) is_pending named_then u s here there),
           ));

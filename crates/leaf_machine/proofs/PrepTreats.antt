@@ -12,7 +12,7 @@ use Rattle.leaf_machine.specs.declared.preparing.PrepareFault.TheVariants.{DiskF
 use Rattle.leaf_machine.specs.States.{Shutting}
 use Rattle.leaf_machine.specs.Flushes.{OwedNotes}
 use Rattle.leaf_machine.specs.Prepares.{Halts, Starves, Treats, half, rest, stuck, whole}
-use Rattle.leaf_machine.specs.PrepParts.{IsNext}
+use Rattle.leaf_machine.specs.PrepParts.{IsNextTreated}
 use Rattle.leaf_machine.proofs.PrepSettles.{none_owed}
 
 -- nothing was owed, and so nothing was noted of it
@@ -52,7 +52,7 @@ module _ (x mid y : Shutting) (first new made : List Note) (starves : Starves x 
         owed = more.owed;
       }
 
-  pub next_behind : {T : Type 0} (result : Result T PrepareFault) → IsNext mid y made result → IsNext x y new result
+  pub next_behind : {T : Type 0} (result : Result T PrepareFault) → IsNextTreated mid y made result → IsNextTreated x y new result
   next_behind (Ok v) next = treats_behind next
   next_behind (Err DiskFault) next = halts_behind next
   next_behind (Err NoRoom) next = absurd next

@@ -3,16 +3,16 @@ use Rattle.std.proofs.Common.{◌≡◌, ℕ, List, [], Err, refl, sym, subst}
 use Rattle.berth_face.specs.Berth.{Meaning}
 use Rattle.leaf_opening.specs.declared.ways.StartFault as opening
 use Rattle.leaf_opening.specs.declared.ways.StartFault.TheVariants as found
-use Rattle.leaf_opening.specs.Starts.{IsRefusal}
+use Rattle.leaf_opening.specs.Starts.{IsOpeningRefusal}
 use Rattle.leaf_table.specs.Calls.{IsFresh}
 use Rattle.leaf_steward.specs.declared.notes.Note.{Note}
 use Rattle.leaf_steward.specs.Seated.{Seated, AtEach}
 use Rattle.leaf_machine.specs.declared.faults.StartFault.{StartFault}
 use Rattle.leaf_machine.specs.declared.faults.StartFault.TheVariants.{RegionFault, DiskFault, DiskDamaged}
-use Rattle.leaf_machine.specs.Starts.{IsStart, IsRefused, told_of}
+use Rattle.leaf_machine.specs.Starts.{IsStart, IsStartRefused, told_of}
 
 -- what was found, by how it is told
-told_refused : (names : List (List ℕ)) (old new : Meaning) (f : opening.StartFault) → IsRefusal names old new f → IsRefused names old new (told_of f)
+told_refused : (names : List (List ℕ)) (old new : Meaning) (f : opening.StartFault) → IsOpeningRefusal names old new f → IsStartRefused names old new (told_of f)
 told_refused names old new found.RegionFault is = (found.RegionFault, refl, is)
 told_refused names old new found.DiskFault is = (found.DiskFault, refl, is)
 told_refused names old new found.DiskDamaged is = (found.DiskDamaged, refl, is)
@@ -29,8 +29,8 @@ told_start x berth after notes found.NoMemory fresh none = (fresh, refl, none)
 
 -- the same of a fault that tells it
 module _ (f : opening.StartFault) (e : StartFault) (told : e ≡ told_of f) where
-  pub refused_as : (names : List (List ℕ)) (old new : Meaning) → IsRefusal names old new f → IsRefused names old new e
-  refused_as names old new is = subst (λ (x : StartFault). IsRefused names old new x) (sym told) (told_refused names old new f is)
+  pub refused_as : (names : List (List ℕ)) (old new : Meaning) → IsOpeningRefusal names old new f → IsStartRefused names old new e
+  refused_as names old new is = subst (λ (x : StartFault). IsStartRefused names old new x) (sym told) (told_refused names old new f is)
 
   pub start_as : {B : Type 0} (x : Seated) (berth after : B) (notes : List Note) → AtEach (λ place t v. IsFresh v) x → notes ≡ [] → IsStart x berth notes (Err ((x, after), e))
   start_as x berth after notes fresh none = subst (λ (y : StartFault). IsStart x berth notes (Err ((x, after), y))) (sym told) (told_start x berth after notes f fresh none)

@@ -9,14 +9,14 @@ use Rattle.row_records.specs.Records.{LogRecord}
 use Rattle.table_state.specs.Tables.{Table}
 use Rattle.berth_face.specs.Berth.{Meaning, Passes}
 use Rattle.berth_face.specs.Moments.{Throughout}
-use Rattle.disk_backup.specs.Scanning.{Begins}
-use Rattle.leaf_history.specs.History.{TableState, OpenAllowed}
+use Rattle.disk_backup.specs.Scanning.{BeginsScan}
+use Rattle.leaf_history.specs.History.{HistoryState, OpenAllowed}
 use Rattle.leaf_history.specs.History as history
 use Rattle.leaf_opening.specs.declared.opening.Opened.{Opened}
 use Rattle.leaf_opening.specs.Starts.{Started, AreFresh, OpensFrom, KeepsDisks, IsDurable, serving_of}
 use Rattle.leaf_table.specs.Turns.{Shared, is_founded, MayHandIn}
-use Rattle.leaf_table.specs.Calls.{SeatView, base_of, name_of, state_seen}
-use Rattle.crash_events.specs.Left.{Tables}
+use Rattle.leaf_table.specs.Calls.{SeatView, base_seen, name_of, state_seen}
+use Rattle.crash_events.specs.Left.{NamedStates}
 use Rattle.crash_moments.specs.Watched.{Watched, now_of}
 use Rattle.crash_moments.specs.Told.{Told}
 use Rattle.crash_moments.proofs.Telling.{told_join}
@@ -40,7 +40,7 @@ pub record StartOpened (x : Seated) (a b : Meaning) (o : Opened) : Type 0 where
   pub durable : IsDurable b o
 
 pub start_opened : (x : Seated) (a b : Meaning) (o : Opened) (names : List (List ℕ)) → names ≡ x.names → Passes a b → StandsNow b → Throughout (OpensFrom a) a b → KeepsDisks a b (Ok o)
-    → Begins (length a.held.disk) a.held.disk b.held.disk → Started names a b (serving_of names o) o.way → IsDurable b o → StartOpened x a b o
+    → BeginsScan (length a.held.disk) a.held.disk b.held.disk → Started names a b (serving_of names o) o.way → IsDurable b o → StartOpened x a b o
 start_opened x a b o names same passes stands moments disks held started durable = record {
   made = record { passes = passes; stands = stands; moments = moments; disks = disks; held = held };
   started = subst (λ (own : List (List ℕ)). Started own a b (serving_of own o) o.way) same started;
@@ -62,17 +62,17 @@ some_watched x seated = omega (arith, watch_length x seated, table_count x seate
 -- ---- one table
 
 -- a table that is handed in: of a founded one the history says what may be opened, and of another nothing is asked
-hand_in : (founded : Bool) (s : TableState) (table : Table) → table.pending ≡ None → table.writes < 2 ^ 63 → OpenAllowed founded s table.writes table.contents → MayHandIn founded s table.writes table
+hand_in : (founded : Bool) (s : HistoryState) (table : Table) → table.pending ≡ None → table.writes < 2 ^ 63 → OpenAllowed founded s table.writes table.contents → MayHandIn founded s table.writes table
 hand_in founded s table fresh small may = record { pending = fresh; writes = refl; small = small; allowed = may }
 
 -- the founded one has what its log has
-may_hold : (t : Shared) (v : SeatView) (writes : List Write) (table : Table) → is_founded (base_of t) ≡ true → HasContent writes table
-    → history.MayOpen (now_of (watched t v)) (length writes) (content writes) → OpenAllowed (is_founded (base_of t)) (state_seen (base_of t) v) table.writes table.contents
+may_hold : (t : Shared) (v : SeatView) (writes : List Write) (table : Table) → is_founded (base_seen t) ≡ true → HasContent writes table
+    → history.MayOpen (now_of (watched t v)) (length writes) (content writes) → OpenAllowed (is_founded (base_seen t)) (state_seen (base_seen t) v) table.writes table.contents
 may_hold t v writes table founded has may =
     let with_count : history.MayOpen (now_of (watched t v)) table.writes (content writes) = subst (λ (n : ℕ). history.MayOpen (now_of (watched t v)) n (content writes)) (sym has.count) may in
     let with_contents : history.MayOpen (now_of (watched t v)) table.writes table.contents = subst (λ (c : Contents). history.MayOpen (now_of (watched t v)) table.writes c) (sym has.contents) with_count in
-    let seen : history.MayOpen (state_seen (base_of t) v) table.writes table.contents = subst (λ (s : TableState). history.MayOpen s table.writes table.contents) (now_seen t v founded) with_contents in
-    subst (λ (b : Bool). OpenAllowed b (state_seen (base_of t) v) table.writes table.contents) (sym founded) seen
+    let seen : history.MayOpen (state_seen (base_seen t) v) table.writes table.contents = subst (λ (s : HistoryState). history.MayOpen s table.writes table.contents) (now_seen t v founded) with_contents in
+    subst (λ (b : Bool). OpenAllowed b (state_seen (base_seen t) v) table.writes table.contents) (sym founded) seen
 
 -- ---- the leaf
 
@@ -80,7 +80,7 @@ module _ (x : Seated) (seated : AreSeated x) (a b : Meaning) (o : Opened) where
   abbrev ws : List Watched
   ws = watched_by x
 
-  pub finds : (others : Tables) (least : List ℕ → List Write) (next : Option LogRecord) → Rests ws others least next a → StartOpened x a b o → (writes : List ℕ → List Write) × Finds ws o.log o.tables.items writes b
+  pub finds : (others : NamedStates) (least : List ℕ → List Write) (next : Option LogRecord) → Rests ws others least next a → StartOpened x a b o → (writes : List ℕ → List Write) × Finds ws o.log o.tables.items writes b
   finds others least next rests opened =
       let started : Started (names_of ws) a b (serving_of (names_of ws) o) o.way = subst (λ (names : List (List ℕ)). Started names a b (serving_of names o) o.way) (sym (watch_names x seated)) opened.started in
       found ws others least next a b o rests opened.made started opened.durable
@@ -88,28 +88,28 @@ module _ (x : Seated) (seated : AreSeated x) (a b : Meaning) (o : Opened) where
   -- what is found may be handed in, at each place
   founded_hand : AreFounded x → (writes : List ℕ → List Write) → Finds ws o.log o.tables.items writes b → AreFresh o.tables.items → AllByRecursion (λ (t : Table). t.writes < 2 ^ 63) o.tables.items
       → (place : ℕ) (t : Shared) (v : SeatView) (table : Table) → slice_get x.tables place ≡ Some t → slice_get x.seats place ≡ Some v → slice_get o.tables.items place ≡ Some table
-      → MayHandIn (is_founded (base_of t)) (state_seen (base_of t) v) table.writes table
+      → MayHandIn (is_founded (base_seen t)) (state_seen (base_seen t) v) table.writes table
   founded_hand founded writes has fresh room place t v table here sat at =
       let there : slice_get ws place ≡ Some (watched t v) = watch_get x place t v here sat in
-      let is_base : is_founded (base_of t) ≡ true = watch_all (λ (u : Shared). is_founded (base_of u) ≡ true) x.tables place t founded here in
-      hand_in (is_founded (base_of t)) (state_seen (base_of t) v) table
+      let is_base : is_founded (base_seen t) ≡ true = watch_all (λ (u : Shared). is_founded (base_seen u) ≡ true) x.tables place t founded here in
+      hand_in (is_founded (base_seen t)) (state_seen (base_seen t) v) table
       (watch_all (λ (u : Table). u.pending ≡ None) o.tables.items place table fresh at)
       (watch_all (λ (u : Table). u.writes < 2 ^ 63) o.tables.items place table room at)
       (may_hold t v (writes (name_of t)) table is_base (has.contents place (watched t v) table there at) (openable ws o.log writes b place (watched t v) has.may there))
 
-  other_hand : AllByRecursion (λ (t : Shared). is_founded (base_of t) ≡ false) x.tables → AreFresh o.tables.items → AllByRecursion (λ (t : Table). t.writes < 2 ^ 63) o.tables.items
+  other_hand : AllByRecursion (λ (t : Shared). is_founded (base_seen t) ≡ false) x.tables → AreFresh o.tables.items → AllByRecursion (λ (t : Table). t.writes < 2 ^ 63) o.tables.items
       → (place : ℕ) (t : Shared) (v : SeatView) (table : Table) → slice_get x.tables place ≡ Some t → slice_get x.seats place ≡ Some v → slice_get o.tables.items place ≡ Some table
-      → MayHandIn (is_founded (base_of t)) (state_seen (base_of t) v) table.writes table
+      → MayHandIn (is_founded (base_seen t)) (state_seen (base_seen t) v) table.writes table
   other_hand none fresh room place t v table here sat at =
-      let no_base : is_founded (base_of t) ≡ false = watch_all (λ (u : Shared). is_founded (base_of u) ≡ false) x.tables place t none here in
-      hand_in (is_founded (base_of t)) (state_seen (base_of t) v) table
+      let no_base : is_founded (base_seen t) ≡ false = watch_all (λ (u : Shared). is_founded (base_seen u) ≡ false) x.tables place t none here in
+      hand_in (is_founded (base_seen t)) (state_seen (base_seen t) v) table
       (watch_all (λ (u : Table). u.pending ≡ None) o.tables.items place table fresh at)
       (watch_all (λ (u : Table). u.writes < 2 ^ 63) o.tables.items place table room at)
-      (subst (λ (b : Bool). OpenAllowed b (state_seen (base_of t) v) table.writes table.contents) (sym no_base) tt)
+      (subst (λ (b : Bool). OpenAllowed b (state_seen (base_seen t) v) table.writes table.contents) (sym no_base) tt)
 
   pub may_hand : AreAlike x → DownStands x a → (IsTrue a.tells → StartOpened x a b o) → AreFresh o.tables.items → AllByRecursion (λ (t : Table). t.writes < 2 ^ 63) o.tables.items
       → (place : ℕ) (t : Shared) (v : SeatView) (table : Table) → slice_get x.tables place ≡ Some t → slice_get x.seats place ≡ Some v → slice_get o.tables.items place ≡ Some table
-      → MayHandIn (is_founded (base_of t)) (state_seen (base_of t) v) table.writes table
+      → MayHandIn (is_founded (base_seen t)) (state_seen (base_seen t) v) table.writes table
   may_hand (inl founded) stands opened fresh room =
       let stood = stands founded in
       let has = finds stood.1.0 stood.1.1 stood.1.2 stood.1.3 (opened stood.0) in
@@ -124,7 +124,7 @@ module _ (x : Seated) (seated : AreSeated x) (a b : Meaning) (o : Opened) where
         makes_opens b.clock x o.tables.items writes notes y seated founded makes each count (λ place w t there at. (has.contents place w t there at).count) has.may.each in
         opens ws (watched_by y) owner o.log writes b has.may (some_watched x seated) all
 
-    pub start_runs : AreFounded x → (owner : ℕ) (others : Tables) (least : List ℕ → List Write) (next : Option LogRecord) → Rests ws others least next a → StartOpened x a b o
+    pub start_runs : AreFounded x → (owner : ℕ) (others : NamedStates) (least : List ℕ → List Write) (next : Option LogRecord) → Rests ws others least next a → StartOpened x a b o
         → ((writes : List ℕ → List Write) × Runs (watched_by y) owner o.log writes b) × Told others ws (watched_by y) a b
     start_runs founded owner others least next rests opened =
         let has = finds others least next rests opened in

@@ -5,15 +5,15 @@ use Rattle.leaf_model.specs.declared.writes.Write.{Write}
 use Rattle.row_records.specs.Records.{LogRecord}
 use Rattle.berth_face.specs.Berth.{Meaning, Passes}
 use Rattle.berth_face.specs.Moments.{Throughout}
-use Rattle.disk_backup.specs.Scanning.{Begins}
+use Rattle.disk_backup.specs.Scanning.{BeginsScan}
 use Rattle.disk_backup.specs.Logs.{IsSound}
 use Rattle.disk_backup.specs.Settling.{with_writes}
 use Rattle.leaf_opening.specs.declared.ways.StartFault as opening
 use Rattle.leaf_opening.specs.declared.ways.StartFault.TheVariants as found
 use Rattle.leaf_opening.specs.Backed.{HasSoundLog}
 use Rattle.leaf_opening.specs.declared.opening.Opened.{Opened}
-use Rattle.leaf_opening.specs.Starts.{IsRefusal, OpensFrom, KeepsDisks}
-use Rattle.crash_events.specs.Left.{Tables}
+use Rattle.leaf_opening.specs.Starts.{IsOpeningRefusal, OpensFrom, KeepsDisks}
+use Rattle.crash_events.specs.Left.{NamedStates}
 use Rattle.crash_moments.specs.Watched.{Watched}
 use Rattle.crash_moments.specs.Told.{Told}
 use Rattle.crash_moments.proofs.Telling.{none_more}
@@ -37,7 +37,7 @@ one_sound : (first second : List ℕ → List Write) (disk : List ℕ) → HasSo
 one_sound first second disk (inl has) = log_sound first disk has
 one_sound first second disk (inr has) = log_sound second disk has
 
-pub rests_sound : (ws : List Watched) (others : Tables) (least : List ℕ → List Write) (next : Option LogRecord) (m : Meaning) → Rests ws others least next m → IsSound m.held.disk
+pub rests_sound : (ws : List Watched) (others : NamedStates) (least : List ℕ → List Write) (next : Option LogRecord) (m : Meaning) → Rests ws others least next m → IsSound m.held.disk
 rests_sound ws others least next m rests = one_sound least (λ name. with_writes next least name) m.held.disk (rests.logs m.held rests.stands.reads)
 
 -- ---- a refusal
@@ -45,7 +45,7 @@ rests_sound ws others least next m rests = one_sound least (λ name. with_writes
 -- what refused the opening, where the berth tells its contents
 pub record StartRefused (x : Seated) (a b : Meaning) (f : opening.StartFault) : Type 0 where
   pub made : OpeningMade a b (Err f)
-  pub refusal : IsRefusal x.names a b f
+  pub refusal : IsOpeningRefusal x.names a b f
   pub sound : IsSound a.held.disk → f ≢ found.DiskDamaged
 
 -- the opening's answer
@@ -53,10 +53,10 @@ abbrev pub failed : opening.StartFault → Result Opened opening.StartFault
 failed f = Err f
 
 pub opening_refused : (x : Seated) (a b : Meaning) (f : opening.StartFault) (names : List (List ℕ)) → names ≡ x.names → Passes a b → StandsNow b → Throughout (OpensFrom a) a b → KeepsDisks a b (failed f)
-    → Begins (length a.held.disk) a.held.disk b.held.disk → IsRefusal names a b f → (IsSound a.held.disk → failed f ≢ failed found.DiskDamaged) → StartRefused x a b f
+    → BeginsScan (length a.held.disk) a.held.disk b.held.disk → IsOpeningRefusal names a b f → (IsSound a.held.disk → failed f ≢ failed found.DiskDamaged) → StartRefused x a b f
 opening_refused x a b f names same passes stands moments disks held refusal sound = record {
   made = record { passes = passes; stands = stands; moments = moments; disks = disks; held = held };
-  refusal = subst (λ (own : List (List ℕ)). IsRefusal own a b f) same refusal;
+  refusal = subst (λ (own : List (List ℕ)). IsOpeningRefusal own a b f) same refusal;
   sound = λ is damaged. sound is (ap failed damaged);
 }
 
@@ -64,11 +64,11 @@ module _ (x : Seated) (seated : AreSeated x) (a b : Meaning) (f : opening.StartF
   abbrev ws : List Watched
   ws = watched_by x
 
-  pub rests_on : (others : Tables) (least : List ℕ → List Write) (next : Option LogRecord) → Rests ws others least next a → StartRefused x a b f → Rests ws others least next b
+  pub rests_on : (others : NamedStates) (least : List ℕ → List Write) (next : Option LogRecord) → Rests ws others least next a → StartRefused x a b f → Rests ws others least next b
   rests_on others least next rests refusal =
-      refused ws others least next a b f rests refusal.made (subst (λ (names : List (List ℕ)). IsRefusal names a b f) (sym (watch_names x seated)) refusal.refusal)
+      refused ws others least next a b f rests refusal.made (subst (λ (names : List (List ℕ)). IsOpeningRefusal names a b f) (sym (watch_names x seated)) refusal.refusal)
 
-  pub start_refused : (others : Tables) (least : List ℕ → List Write) (next : Option LogRecord) → Rests ws others least next a → StartRefused x a b f
+  pub start_refused : (others : NamedStates) (least : List ℕ → List Write) (next : Option LogRecord) → Rests ws others least next a → StartRefused x a b f
       → Rests ws others least next b × Told others ws ws a b × (told_of f ≢ fault.DiskDamaged)
   start_refused others least next rests refusal = (
     rests_on others least next rests refusal,
@@ -89,7 +89,7 @@ module _ (x : Seated) (seated : AreSeated x) (a b : Meaning) (f : opening.StartF
 -- ---- a seat that is worn
 
 -- nothing is touched
-pub worn_goes_on : (x : Seated) (table : ℕ) (others : Tables) (least : List ℕ → List Write) (next : Option LogRecord) (m : Meaning) → Rests (watched_by x) others least next m
+pub worn_goes_on : (x : Seated) (table : ℕ) (others : NamedStates) (least : List ℕ → List Write) (next : Option LogRecord) (m : Meaning) → Rests (watched_by x) others least next m
     → Rests (watched_by x) others least next m × Told others (watched_by x) (watched_by x) m m × (fault.Worn table ≢ fault.DiskDamaged)
 worn_goes_on x table others least next m rests =
     (rests, rests_told (watched_by x) (watched_by x) others least next m rests (none_more m.clock m.clock (watched_by x)), λ same. absurd cc)

@@ -10,16 +10,16 @@ use Rattle.disk_backup.proofs.Results.{of_err}
 use Rattle.crash_moments.proofs.Telling.{told_join}
 use Rattle.crash_states.specs.Standing.{Runs}
 use Rattle.leaf_table.specs.Turns.{Shared}
-use Rattle.leaf_table.specs.Calls.{base_of, name_of, state_seen}
+use Rattle.leaf_table.specs.Calls.{base_seen, name_of, state_seen}
 use Rattle.leaf_steward.specs.declared.notes.Note.{Note}
 use Rattle.leaf_steward.specs.declared.notes.What.TheVariants as what
 use Rattle.leaf_steward.specs.Seated.{Seated, AtPlace, AreSeated, AreFounded, Spares, watched_by}
 use Rattle.leaf_steward.specs.Making.{Makes, OneEntry, TakesAt, WornAt}
 use Rattle.leaf_steward.proofs.WatchMakes.{makes_seated, makes_tables}
-use Rattle.log_steward.specs.Owing.{Owing, Brings, HasTaken, RunsTo, SettlesOwed, flushed_note}
+use Rattle.log_steward.specs.Owing.{Owing, Brings, HasJustTaken, RunsTo, SettlesOwed, flushed_note}
 use Rattle.leaf_machine.specs.declared.up.FlushReply.{FlushReply}
 use Rattle.leaf_machine.specs.declared.up.FlushReply.TheVariants as reply
-use Rattle.leaf_machine.specs.States.{Serving, IsUp, UpStands, GoesOn, RunsOn}
+use Rattle.leaf_machine.specs.States.{Serving, IsUp, UpStands, GoesOn, GoesOnServing}
 use Rattle.leaf_machine.specs.Flushes.{Flushes, OwedNotes}
 use Rattle.leaf_machine.specs.UpFlush.{FlushGoes}
 use Rattle.leaf_machine.proofs.UpSeats.{Serves, count_taken, named_taken, serves_flushed, serves_taken, spares_taken, takes_entry}
@@ -168,7 +168,7 @@ module _ {T E : Type 0} (table number n : ℕ) (pending : Option LogRecord) (x y
     (up : IsUp x a) (seated : AreSeated x.seated) (goes : Goes x y first a b) (settled : IsSettled x y first)
     (takes : TakesAt b.clock y.seated table number n pending taken) (noted : between ≡ first ++ record { table = table; number = number; what = what.Took n } ∷ [])
     (within : table < length x.seated.tables)
-    (runs : (writes : List ℕ → List Write) → IsTrue b.tells → AreFounded taken → HasTaken taken y.owing table pending writes b → RunsTo taken z.seated z.owing b c)
+    (runs : (writes : List ℕ → List Write) → IsTrue b.tells → AreFounded taken → HasJustTaken taken y.owing table pending writes b → RunsTo taken z.seated z.owing b c)
     (outside : Outside result b c) where
   abbrev took : Note
   took = record { table = table; number = number; what = what.Took n }
@@ -203,10 +203,10 @@ module _ {T E : Type 0} (table number n : ℕ) (pending : Option LogRecord) (x y
 
   crash_on : IsTrue a.tells → AreFounded x.seated → GoesOn x z a c
   crash_on tells founded writes runs_now =
-      let one : RunsOn x y a b = goes.crash tells founded writes runs_now in
+      let one : GoesOnServing x y a b = goes.crash tells founded writes runs_now in
       let founded_now : AreFounded y.seated = founded_as x.seated y.seated (same_tables table x y first a b up seated goes) founded in
       let founded_taken : AreFounded taken = founded_as x.seated taken taken_tables founded in
-      let has : HasTaken taken y.owing table pending one.later b = has_taken b table number n pending y.seated taken takes seated_now founded_now y.owing one.later settled.none one.runs in
+      let has : HasJustTaken taken y.owing table pending one.later b = has_taken b table number n pending y.seated taken takes seated_now founded_now y.owing one.later settled.none one.runs in
       let to : RunsTo taken z.seated z.owing b c = runs one.later (subst IsTrue (sym goes.time.tells) tells) founded_taken has in
       record {
         later = to.later;
@@ -253,7 +253,7 @@ module _ {T E : Type 0} (table number n : ℕ) (pending : Option LogRecord) (x y
   flush_half (Brings.done flushing ok one noted_on none) bad = absurd (not_both result ok bad)
   flush_half (Brings.failed r is err same kept owed owner count) bad =
       let here : table < length taken.tables = omega (arith, within, ap (λ (ts : List Shared). length ts) taken_tables) in
-      let counted : AtPlace (λ t v. n ≤ (state_seen (base_of t) v).taken) taken table = count_taken b.clock table number n pending y.seated taken takes seated_now in
+      let counted : AtPlace (λ t v. n ≤ (state_seen (base_seen t) v).taken) taken table = count_taken b.clock table number n pending y.seated taken takes seated_now in
       let named : AtPlace (λ t v. name_of t ≡ r.name) taken table =
       subst (λ (q : Option LogRecord). IfSome q (λ s. AtPlace (λ t v. name_of t ≡ s.name) taken table)) is (named_taken b.clock table number n pending y.seated taken takes seated_now) in
       let owes : OwedBy taken (Some r) table n = record { owes = (here, λ t v at sat. (counted t v at sat, named t v at sat)); spares = spares_now } in

@@ -6,11 +6,11 @@ use Rattle.row_records.specs.Records.{LogRecord}
 use Rattle.berth_face.specs.Berth.{Meaning}
 use Rattle.leaf_history.specs.Calls as call
 use Rattle.leaf_history.specs.Replies as reply
-use Rattle.leaf_history.specs.History.{Entry, TableState, after, untaken}
-use Rattle.crash_events.specs.Left.{Tables}
+use Rattle.leaf_history.specs.History.{Entry, HistoryState, after, untaken}
+use Rattle.crash_events.specs.Left.{NamedStates}
 use Rattle.leaf_table.specs.Turns.{Shared, is_founded, start_of}
 use Rattle.leaf_table.specs.Turns as table
-use Rattle.leaf_table.specs.Calls.{base_of, name_of, seen_of, state_before}
+use Rattle.leaf_table.specs.Calls.{base_seen, name_of, seen_of, state_before}
 use Rattle.crash_moments.specs.Watched.{Watched}
 use Rattle.crash_moments.specs.Told.{SeenMore, Told}
 use Rattle.crash_moments.proofs.Telling.{more_on}
@@ -24,7 +24,7 @@ use Rattle.leaf_steward.specs.Seated.{Seated, AreSeated, AreFounded, watched, wa
 use Rattle.leaf_steward.specs.Making.{Makes, OneEntry, TakesAt}
 use Rattle.leaf_steward.proofs.WatchPlaces.{watch_all}
 use Rattle.leaf_steward.proofs.Watching.{made_enters, makes_more, watch_get, watch_set}
-use Rattle.log_steward.specs.Owing.{Owing, HasTaken}
+use Rattle.log_steward.specs.Owing.{Owing, HasJustTaken}
 use Rattle.leaf_machine.proofs.UpSeats.{takes_entry}
 
 -- ---- entries, one after another
@@ -48,7 +48,7 @@ makes_join a b c x y z first second (Makes.more f u i ns o clock note rest betwe
 -- ---- what is told
 
 -- entries were made while no call on the berth went on, and then what is told
-pub told_behind : (others : Tables) (xs ys zs : List Watched) (a b : Meaning) → SeenMore a.clock a.clock xs ys → Told others ys zs a b → Told others xs zs a b
+pub told_behind : (others : NamedStates) (xs ys zs : List Watched) (a b : Meaning) → SeenMore a.clock a.clock xs ys → Told others ys zs a b → Told others xs zs a b
 told_behind others xs ys zs a b more told =
     record { passes = told.passes; more = more_on a.clock a.clock b.clock xs ys zs (le_refl a.clock) told.passes.later more told.more; left = told.left }
 
@@ -59,8 +59,8 @@ same_record name [] = refl
 same_record name (w ∷ ws) = refl
 
 module _ (m : Meaning) (place number n : ℕ) (pending : Option LogRecord) (x y : Seated) (taken : TakesAt m.clock x place number n pending y) (seated : AreSeated x) (founded : AreFounded x) where
-  is_base : is_founded (base_of taken.table) ≡ true
-  is_base = watch_all (λ (t : Shared). is_founded (base_of t) ≡ true) x.tables place taken.table founded taken.at
+  is_base : is_founded (base_seen taken.table) ≡ true
+  is_base = watch_all (λ (t : Shared). is_founded (base_seen t) ≡ true) x.tables place taken.table founded taken.at
 
   abbrev old : Watched
   old = watched taken.table taken.before
@@ -74,18 +74,18 @@ module _ (m : Meaning) (place number n : ℕ) (pending : Option LogRecord) (x y 
   -- what is owed of it is what its steward had not taken
   record_is : pending ≡ record_for (name_of taken.table) (untaken_before enters.0)
   record_is =
-      let base = base_of taken.table in
-      let start : TableState = start_of base in
+      let base = base_seen taken.table in
+      let start : HistoryState = start_of base in
       let seen : List Entry = seen_of taken.before in
       let state : state_before base taken.before taken.made.between ≡ after true start (seen ++ enters.0.between) =
       ap (λ (b : Bool). after b start (seen ++ taken.made.between)) is_base ∙ ap (λ (es : List Entry). after true start (seen ++ es)) (sym enters.1) in
-      taken.record_is ∙ ap (λ (s : TableState). table.record_for (name_of taken.table) (untaken s)) state ∙ sym (same_record (name_of taken.table) (untaken_before enters.0))
+      taken.record_is ∙ ap (λ (s : HistoryState). table.record_for (name_of taken.table) (untaken s)) state ∙ sym (same_record (name_of taken.table) (untaken_before enters.0))
 
   watched_now : watched_by y ≡ slice_set (watched_by x) place new
   watched_now = ap (λ (s : Seated). watched_by s) taken.now ∙ watch_set x place taken.table taken.after taken.at
 
   -- whatever its log then is, the leaf runs
-  pub has_taken : (o : Owing) (writes : List ℕ → List Write) → o.log.owed ≡ None → Runs (watched_by x) o.owner o.log writes m → HasTaken y o place pending writes m
+  pub has_taken : (o : Owing) (writes : List ℕ → List Write) → o.log.owed ≡ None → Runs (watched_by x) o.owner o.log writes m → HasJustTaken y o place pending writes m
   has_taken o writes none runs = λ log' owes.
       let here : slice_get (watched_by x) place ≡ Some old = watch_get x place taken.table taken.before taken.at taken.was in
       let of_it : Owes (record_for old.name (untaken_before enters.0)) o.log log' = subst (λ (q : Option LogRecord). Owes q o.log log') record_is owes in

@@ -6,12 +6,12 @@ use Rattle.row_records.specs.Records.{LogRecord}
 use Rattle.berth_face.specs.Berth.{Meaning}
 use Rattle.disk_backup.specs.State.{LogState}
 use Rattle.turnstile.specs.Seats.{LearnsOthers, Others, Told}
-use Rattle.leaf_history.specs.History.{Entry, TableState, LegalFrom, after}
-use Rattle.leaf_history.specs.Laws.{Keeps}
+use Rattle.leaf_history.specs.History.{Entry, HistoryState, LegalFrom, after}
+use Rattle.leaf_history.specs.Laws.{CallersKeep}
 use Rattle.leaf_history.proofs.Histories.{LegalFrom-back, after-append, others_keep}
-use Rattle.crash_events.specs.Left.{Tables}
+use Rattle.crash_events.specs.Left.{NamedStates}
 use Rattle.leaf_table.specs.Turns.{Shared, Turns, told, history, is_founded, start_of}
-use Rattle.leaf_table.specs.Calls.{SeatView, AreOthers, base_of, name_of, seen_of, state_seen}
+use Rattle.leaf_table.specs.Calls.{SeatView, AreOthers, base_seen, name_of, seen_of, state_seen}
 use Rattle.leaf_table.proofs.Knowing.{callers_of}
 use Rattle.crash_moments.specs.Watched.{Watched}
 use Rattle.crash_states.specs.Standing.{Runs, Rests}
@@ -34,19 +34,19 @@ others_told v [] o = tt
 others_told v (e ∷ es) o = (o.0, others_told v es o.1)
 
 abbrev IsLegalAt : Shared → SeatView → Type 0
-IsLegalAt t w = LegalFrom (is_founded (base_of t)) (start_of (base_of t)) (seen_of w)
+IsLegalAt t w = LegalFrom (is_founded (base_seen t)) (start_of (base_seen t)) (seen_of w)
 
 -- callers left what the steward knew
-pub met_keeps : (t : Shared) (v u w : SeatView) → IsSeated t v → Told v u w → LearnsOthers v w → IsLegalAt t w → Keeps (state_seen (base_of t) v) (state_seen (base_of t) w)
+pub met_keeps : (t : Shared) (v u w : SeatView) → IsSeated t v → Told v u w → LearnsOthers v w → IsLegalAt t w → CallersKeep (state_seen (base_seen t) v) (state_seen (base_seen t) w)
 met_keeps t v u w seated met others legal =
-    let f : Bool = is_founded (base_of t) in
-    let s : TableState = start_of (base_of t) in
+    let f : Bool = is_founded (base_seen t) in
+    let s : HistoryState = start_of (base_seen t) in
     let more : Turns = met.longer.own.0 in
     let seen : w.seen ≡ v.seen ++ more = ap (λ (x : SeatView). x.seen) met.view ∙ sym met.longer.own.1 in
     let all : seen_of w ≡ seen_of v ++ history more = ap history seen ∙ history_on v.seen more in
     let whole : LegalFrom f s (seen_of v ++ history more) = subst (λ (es : List Entry). LegalFrom f s es) all legal in
-    let state : state_seen (base_of t) w ≡ after f (after f s (seen_of v)) (history more) = ap (λ (es : List Entry). after f s es) all ∙ after-append f s (seen_of v) (history more) in
-    subst (Keeps (after f s (seen_of v))) (sym state)
+    let state : state_seen (base_seen t) w ≡ after f (after f s (seen_of v)) (history more) = ap (λ (es : List Entry). after f s es) all ∙ after-append f s (seen_of v) (history more) in
+    subst (CallersKeep (after f s (seen_of v))) (sym state)
     (others_keep f (after f s (seen_of v)) (history more) (LegalFrom-back f s (seen_of v) (history more) whole)
     (callers_of v (history more) seated.id seated.seat.has_id (others_told v more (others more seen))))
 
@@ -72,7 +72,7 @@ module _ {A : Type 0} where
   some_at (x ∷ xs) (suc i) within = some_at xs i (omega (arith, within))
 
 pub meets_in : (x y : Seated) (place : ℕ) (u : SeatView) → AreSeated x → place < length x.tables
-    → AtPlace (λ t v. (w : SeatView) × (y ≡ with_seat x place w) × Told v u w × LearnsOthers v w × LegalFrom (is_founded (base_of t)) (start_of (base_of t)) (seen_of w)) x place → Meets x y place
+    → AtPlace (λ t v. (w : SeatView) × (y ≡ with_seat x place w) × Told v u w × LearnsOthers v w × LegalFrom (is_founded (base_seen t)) (start_of (base_seen t)) (seen_of w)) x place → Meets x y place
 meets_in x y place u seated within met =
     let table = some_at x.tables place within in
     let seat = some_at x.seats place (omega (arith, within, seated.count)) in
@@ -94,7 +94,7 @@ module _ (x y : Seated) (place : ℕ) (meets : Meets x y place) (seated : AreSea
   sits : IsSeated meets.table meets.before
   sits = seated.each place meets.table meets.before meets.at meets.was
 
-  keeps : Keeps (state_seen (base_of meets.table) meets.before) (state_seen (base_of meets.table) meets.after)
+  keeps : CallersKeep (state_seen (base_seen meets.table) meets.before) (state_seen (base_seen meets.table) meets.after)
   keeps = met_keeps meets.table meets.before meets.caller meets.after sits meets.told meets.others meets.legal
 
   room : meets.after.room ≡ meets.before.room
@@ -104,9 +104,9 @@ module _ (x y : Seated) (place : ℕ) (meets : Meets x y place) (seated : AreSea
   met_tables = ap (λ (s : Seated). s.tables) meets.now
 
   -- each table stays open, or shut
-  pub met_live : (b : Bool) → AtEach (λ at t v. (state_seen (base_of t) v).live ≡ b) x → AtEach (λ at t v. (state_seen (base_of t) v).live ≡ b) y
-  met_live b each = subst (λ (s : Seated). AtEach (λ at t v. (state_seen (base_of t) v).live ≡ b) s) (sym meets.now)
-      (each_set (λ at t v. (state_seen (base_of t) v).live ≡ b) x place meets.table meets.after meets.at (keeps.live ∙ each place meets.table meets.before meets.at meets.was) each)
+  pub met_live : (b : Bool) → AtEach (λ at t v. (state_seen (base_seen t) v).live ≡ b) x → AtEach (λ at t v. (state_seen (base_seen t) v).live ≡ b) y
+  met_live b each = subst (λ (s : Seated). AtEach (λ at t v. (state_seen (base_seen t) v).live ≡ b) s) (sym meets.now)
+      (each_set (λ at t v. (state_seen (base_seen t) v).live ≡ b) x place meets.table meets.after meets.at (keeps.live ∙ each place meets.table meets.before meets.at meets.was) each)
 
   pub met_spares : (n : ℕ) → AtEach (λ at t v. Spares n t v) x → AtEach (λ at t v. Spares n t v) y
   met_spares n each = subst (λ (s : Seated). AtEach (λ at t v. Spares n t v) s) (sym meets.now)
@@ -128,7 +128,7 @@ module _ (x y : Seated) (place : ℕ) (meets : Meets x y place) (seated : AreSea
   met_owed (Some r) owner count owes = record {
     owes = (
       omega (arith, owes.owes.0, ap (λ (ts : List Shared). length ts) met_tables),
-      met_place (λ t v. (count ≤ (state_seen (base_of t) v).taken) × (name_of t ≡ r.name)) (λ had. (omega (arith, had.0, keeps.taken), had.1)) owner owes.owes.1,
+      met_place (λ t v. (count ≤ (state_seen (base_seen t) v).taken) × (name_of t ≡ r.name)) (λ had. (omega (arith, had.0, keeps.taken), had.1)) owner owes.owes.1,
     );
     spares = met_place (Spares 4) (λ had. omega (arith, had, room)) owner owes.spares;
   }
@@ -137,7 +137,7 @@ module _ (x y : Seated) (place : ℕ) (meets : Meets x y place) (seated : AreSea
 
   module _ (founded : AreFounded x) where
     learns : Learns (watched meets.table meets.before) (watched meets.table meets.after)
-    learns = met_learns meets.table meets.before meets.caller meets.after (watch_all (λ (t : Shared). is_founded (base_of t) ≡ true) x.tables place meets.table founded meets.at) sits meets.told meets.others meets.legal
+    learns = met_learns meets.table meets.before meets.caller meets.after (watch_all (λ (t : Shared). is_founded (base_seen t) ≡ true) x.tables place meets.table founded meets.at) sits meets.told meets.others meets.legal
 
     here : slice_get (watched_by x) place ≡ Some (watched meets.table meets.before)
     here = watch_get x place meets.table meets.before meets.at meets.was
@@ -149,6 +149,6 @@ module _ (x y : Seated) (place : ℕ) (meets : Meets x y place) (seated : AreSea
     met_run owner log writes m runs = subst (λ (ws : List Watched). Runs ws owner log writes m) (sym watched_now)
         (met_runs place (watched meets.table meets.before) (watched meets.table meets.after) (watched_by x) owner log writes m here learns runs)
 
-    pub met_rest : (others : Tables) (least : List ℕ → List Write) (next : Option LogRecord) (m : Meaning) → Rests (watched_by x) others least next m → Rests (watched_by y) others least next m
+    pub met_rest : (others : NamedStates) (least : List ℕ → List Write) (next : Option LogRecord) (m : Meaning) → Rests (watched_by x) others least next m → Rests (watched_by y) others least next m
     met_rest others least next m rests = subst (λ (ws : List Watched). Rests ws others least next m) (sym watched_now)
         (met_rests place (watched meets.table meets.before) (watched meets.table meets.after) (watched_by x) others least next m here learns rests)

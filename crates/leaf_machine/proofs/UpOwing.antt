@@ -4,7 +4,7 @@ use Rattle.std.specs.Prelude.{IfSome, IsTrue}
 use Rattle.leaf_model.specs.declared.writes.Write.{Write}
 use Rattle.row_records.specs.Records.{LogRecord}
 use Rattle.berth_face.specs.Berth.{Meaning}
-use Rattle.leaf_table.specs.Calls.{base_of, name_of, state_seen}
+use Rattle.leaf_table.specs.Calls.{base_seen, name_of, state_seen}
 use Rattle.leaf_table.specs.Turns.{Shared, is_founded}
 use Rattle.std.specs.List.{AllByRecursion}
 use Rattle.crash_states.specs.Standing.{Runs}
@@ -14,7 +14,7 @@ use Rattle.leaf_machine.proofs.UpSeats.{Serves}
 
 -- the record that is owed is of a table in that place, which knows that so many writes were taken and has room for four entries more
 pub record OwedBy (x : Seated) (owed : Option LogRecord) (owner count : ℕ) : Type 0 where
-  pub owes : IfSome owed (λ r. (owner < length x.tables) × AtPlace (λ t v. (count ≤ (state_seen (base_of t) v).taken) × (name_of t ≡ r.name)) x owner)
+  pub owes : IfSome owed (λ r. (owner < length x.tables) × AtPlace (λ t v. (count ≤ (state_seen (base_seen t) v).taken) × (name_of t ≡ r.name)) x owner)
   pub spares : IfSome owed (λ r. AtPlace (Spares 4) x owner)
 
 pub owed_none : (x : Seated) (owed : Option LogRecord) (owner count : ℕ) → owed ≡ None → OwedBy x owed owner count
@@ -41,7 +41,7 @@ up_of x m serves owes stands = record { opened = serves.opened; spares = serves.
 
 -- the same tables are founded
 pub founded_as : (x y : Seated) → y.tables ≡ x.tables → AreFounded x → AreFounded y
-founded_as x y same founded = subst (λ ts. AllByRecursion (λ (t : Shared). is_founded (base_of t) ≡ true) ts) (sym same) founded
+founded_as x y same founded = subst (λ ts. AllByRecursion (λ (t : Shared). is_founded (base_seen t) ≡ true) ts) (sym same) founded
 
 -- what runs on still stands
 pub stands_on : (x y : Serving) (m m' : Meaning) → y.seated.tables ≡ x.seated.tables → m'.tells ≡ m.tells → UpStands x m

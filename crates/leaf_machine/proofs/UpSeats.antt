@@ -9,7 +9,7 @@ use Rattle.leaf_history.specs.Replies.{Reply}
 use Rattle.leaf_history.specs.Replies as reply
 use Rattle.leaf_history.specs.History.{untaken}
 use Rattle.leaf_table.specs.Turns.{Shared, record_for}
-use Rattle.leaf_table.specs.Calls.{SeatView, Made, IsFresh, IsSteward, base_of, name_of, state_before, state_seen}
+use Rattle.leaf_table.specs.Calls.{SeatView, Made, IsFresh, IsSteward, base_seen, name_of, state_before, state_seen}
 use Rattle.leaf_table.proofs.Knowing.{live_after_flushed, open_after_take, taken_after_take}
 use Rattle.leaf_steward.specs.declared.notes.What.TheVariants as what
 use Rattle.leaf_steward.specs.Seated.{Seated, AtEach, AtPlace, IsOpen, IsSeated, AreSeated, Spares, with_seat}
@@ -26,7 +26,7 @@ pub steward_may : (t : Shared) (v : SeatView) → IsSeated t v → 1 ≤ v.room 
 steward_may t v seated room = (seated.id, omega (arith, seated.share, room))
 
 -- it takes at most one of the room
-pub room_after : (t : Shared) (clock n : ℕ) (v w : SeatView) (c : Call) (r : Reply) → Made (base_of t) clock v c r w → suc n ≤ v.room → n ≤ w.room
+pub room_after : (t : Shared) (clock n : ℕ) (v w : SeatView) (c : Call) (r : Reply) → Made (base_seen t) clock v c r w → suc n ≤ v.room → n ≤ w.room
 room_after t clock n v w c r made room = omega (arith, made.room.1, room)
 
 -- what holds of the new seat holds in its place
@@ -42,10 +42,10 @@ serves_flushed clock count number place x y one seated spares serves =
     let t : Shared = one.table in
     let v : SeatView = one.before in
     let w : SeatView = one.after in
-    let made : Made (base_of t) clock v (call.Flushed count) reply.Noted w = one.made in
+    let made : Made (base_seen t) clock v (call.Flushed count) reply.Noted w = one.made in
     let sits : IsSeated t v = seated.each place t v one.at one.was in
     let room : 4 ≤ v.room = spares t v one.at one.was in
-    let live : IsOpen t w = live_after_flushed (base_of t) clock count v w reply.Noted made (steward_may t v sits (omega (arith, room))) (omega (arith, sits.share)) ∙ serves.opened place t v one.at one.was in
+    let live : IsOpen t w = live_after_flushed (base_seen t) clock count v w reply.Noted made (steward_may t v sits (omega (arith, room))) (omega (arith, sits.share)) ∙ serves.opened place t v one.at one.was in
     subst Serves (sym one.now) (record {
       opened = each_set (λ at u s. IsOpen u s) x place t w one.at live serves.opened;
       spares = each_set (λ at u s. Spares 3 u s) x place t w one.at (room_after t clock 3 v w (call.Flushed count) reply.Noted made room) serves.spares;
@@ -76,7 +76,7 @@ module _ (clock place number n : ℕ) (pending : Option LogRecord) (x y : Seated
       let t : Shared = takes.table in
       let v : SeatView = takes.before in
       let w : SeatView = takes.after in
-      let live : IsOpen t w = open_after_take (base_of t) clock n v w takes.made (steward_may t v takes_sits (omega (arith, takes_room))) (omega (arith, takes_sits.share)) (serves.opened place t v takes.at takes.was) in
+      let live : IsOpen t w = open_after_take (base_seen t) clock n v w takes.made (steward_may t v takes_sits (omega (arith, takes_room))) (omega (arith, takes_sits.share)) (serves.opened place t v takes.at takes.was) in
       subst Serves (sym takes.now) (record {
         opened = each_set (λ at u s. IsOpen u s) x place t w takes.at live serves.opened;
         spares = each_set (λ at u s. Spares 3 u s) x place t w takes.at (omega (arith, takes_spares)) serves.spares;
@@ -86,11 +86,11 @@ module _ (clock place number n : ℕ) (pending : Option LogRecord) (x y : Seated
   pub spares_taken : AtPlace (Spares 4) y place
   spares_taken = subst (λ (s : Seated). AtPlace (Spares 4) s place) (sym takes.now) (at_set (Spares 4) x place takes.table takes.after takes.at takes_spares)
 
-  pub count_taken : AtPlace (λ t v. n ≤ (state_seen (base_of t) v).taken) y place
+  pub count_taken : AtPlace (λ t v. n ≤ (state_seen (base_seen t) v).taken) y place
   count_taken =
-      let all : (state_seen (base_of takes.table) takes.after).taken ≡ n = taken_after_take (base_of takes.table) clock n takes.before takes.after takes.made in
-      let few : n ≤ (state_seen (base_of takes.table) takes.after).taken = omega (arith, all) in
-      subst (λ (s : Seated). AtPlace (λ t v. n ≤ (state_seen (base_of t) v).taken) s place) (sym takes.now) (at_set (λ t v. n ≤ (state_seen (base_of t) v).taken) x place takes.table takes.after takes.at few)
+      let all : (state_seen (base_seen takes.table) takes.after).taken ≡ n = taken_after_take (base_seen takes.table) clock n takes.before takes.after takes.made in
+      let few : n ≤ (state_seen (base_seen takes.table) takes.after).taken = omega (arith, all) in
+      subst (λ (s : Seated). AtPlace (λ t v. n ≤ (state_seen (base_seen t) v).taken) s place) (sym takes.now) (at_set (λ t v. n ≤ (state_seen (base_seen t) v).taken) x place takes.table takes.after takes.at few)
 
   named_record : (ws : List Write) (q : Option LogRecord) → q ≡ record_for (name_of takes.table) ws → IfSome q (λ r. AtPlace (λ t v. name_of t ≡ r.name) y place)
   named_record [] q is = subst (λ (p : Option LogRecord). IfSome p (λ r. AtPlace (λ t v. name_of t ≡ r.name) y place)) (sym is) tt
@@ -101,4 +101,4 @@ module _ (clock place number n : ℕ) (pending : Option LogRecord) (x y : Seated
 
   -- the record is of that table
   pub named_taken : IfSome pending (λ r. AtPlace (λ t v. name_of t ≡ r.name) y place)
-  named_taken = named_record (untaken (state_before (base_of takes.table) takes.before takes.made.between)) pending takes.record_is
+  named_taken = named_record (untaken (state_before (base_seen takes.table) takes.before takes.made.between)) pending takes.record_is

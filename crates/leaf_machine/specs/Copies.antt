@@ -13,7 +13,7 @@ use Rattle.leaf_steward.specs.Seated.{Seated, watched_by}
 use Rattle.leaf_steward.specs.Making.{EachNoted, IsHandedNote}
 use Rattle.leaf_machine.specs.declared.copying.Copied.{Copied}
 use Rattle.leaf_machine.specs.declared.copying.Copied.TheVariants as copied
-use Rattle.leaf_machine.specs.States.{Copying, CopiesOn, RestsOn}
+use Rattle.leaf_machine.specs.States.{Copying, GoesOnCopying, RestsOn}
 
 abbrev pub berth_of_copy : {B : Type 0} → Result (Copied B) ((Seated × B) × RegionFault) → B
 berth_of_copy (Ok (copied.More leaf)) = leaf.1
@@ -26,21 +26,21 @@ seats_of_copy (Ok (copied.Finished leaf)) = leaf.0
 seats_of_copy (Err x) = x.0.0
 
 -- the step that comes after one that is not the last
-abbrev pub IsNext : Next → Next → Type 0
-IsNext next.Begin later = later ≡ next.Write
-IsNext next.Write later = later ≡ next.Flag
-IsNext next.Flag later = ⊥
-IsNext next.Nothing later = ⊥
+abbrev pub IsNextCopy : Next → Next → Type 0
+IsNextCopy next.Begin later = later ≡ next.Write
+IsNextCopy next.Write later = later ≡ next.Flag
+IsNextCopy next.Flag later = ⊥
+IsNextCopy next.Nothing later = ⊥
 
 -- a step that is not the last; the last, which notes each table as handed over; or the region failed
 abbrev pub IsCopyStep : {B : Type 0} → Copying → List Note → Result (Copied B) ((Seated × B) × RegionFault) → Type 0
-IsCopyStep c notes (Ok (copied.More leaf)) = IsNext c.drain.next leaf.0.drain.next × (leaf.0.seated ≡ c.seated) × (leaf.0.drain.image ≡ c.drain.image) × (notes ≡ [])
+IsCopyStep c notes (Ok (copied.More leaf)) = IsNextCopy c.drain.next leaf.0.drain.next × (leaf.0.seated ≡ c.seated) × (leaf.0.drain.image ≡ c.drain.image) × (notes ≡ [])
 IsCopyStep c notes (Ok (copied.Finished leaf)) = (c.drain.next ≡ next.Flag) × EachNoted IsHandedNote 0 (length c.seated.tables) notes
 IsCopyStep c notes (Err (leaf, fault)) = (leaf.0 ≡ c.seated) × (notes ≡ [])
 
 -- the copy goes on; or it is whole, and the next start comes from memory; or the leaf is at rest
 abbrev pub CopyGoesOn : {B : Type 0} → (B → Meaning) → Copying → Meaning → Result (Copied B) ((Seated × B) × RegionFault) → Type 0
-CopyGoesOn meaning c m (Ok (copied.More leaf)) = (writes : List ℕ → List Write) → Stands (watched_by c.seated) c.drain writes m → CopiesOn c.seated leaf.0 m (meaning leaf.1)
+CopyGoesOn meaning c m (Ok (copied.More leaf)) = (writes : List ℕ → List Write) → Stands (watched_by c.seated) c.drain writes m → GoesOnCopying c.seated leaf.0 m (meaning leaf.1)
 CopyGoesOn meaning c m (Ok (copied.Finished leaf)) = (writes : List ℕ → List Write) → Stands (watched_by c.seated) c.drain writes m
     → RestsOn c.seated leaf.0 m (meaning leaf.1) × IsWayOf (meaning leaf.1).held.region Memory
 CopyGoesOn meaning c m (Err (leaf, fault)) = (writes : List ℕ → List Write) → Stands (watched_by c.seated) c.drain writes m → RestsOn c.seated leaf.0 m (meaning leaf.1)

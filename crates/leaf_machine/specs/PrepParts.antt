@@ -12,7 +12,7 @@ use Rattle.leaf_machine.specs.States.{Serving, Shutting, GoesOn}
 use Rattle.leaf_machine.specs.Prepares.{Treats, Halts, Starves}
 
 -- a part of a step: its entries stand behind the notes that were there, and the leaf goes on over its berth
-pub record IsPart (x y : Serving) (before after : List Note) (m m' : Meaning) : Type 0 where
+pub record IsPartOfStep (x y : Serving) (before after : List Note) (m m' : Meaning) : Type 0 where
   pub made : NotesOn m.clock m'.clock x.seated before after y.seated
   pub crash : IsTrue m.tells → AreFounded x.seated → GoesOn x y m m'
   pub region : IsTrue m.tells → m'.held.region ≡ m.held.region
@@ -20,11 +20,11 @@ pub record IsPart (x y : Serving) (before after : List Note) (m m' : Meaning) : 
   pub reads : m'.disk_reads ≡ m.disk_reads
 
 -- a table more is treated, or the disk fails, or there is no memory
-abbrev pub IsNext : {T : Type 0} → Shutting → Shutting → List Note → Result T PrepareFault → Type 0
-IsNext x y notes (Ok done) = Treats x y notes
-IsNext x y notes (Err DiskFault) = Halts x y notes
-IsNext x y notes (Err NoRoom) = ⊥
-IsNext x y notes (Err NoMemory) = Starves x y notes
+abbrev pub IsNextTreated : {T : Type 0} → Shutting → Shutting → List Note → Result T PrepareFault → Type 0
+IsNextTreated x y notes (Ok done) = Treats x y notes
+IsNextTreated x y notes (Err DiskFault) = Halts x y notes
+IsNextTreated x y notes (Err NoRoom) = ⊥
+IsNextTreated x y notes (Err NoMemory) = Starves x y notes
 
 -- a fault of the disk is told only where the count of its faults rose
 abbrev pub RoseNext : {T : Type 0} → ℕ → ℕ → Result T PrepareFault → Type 0

@@ -16,7 +16,7 @@ use Rattle.leaf_machine.specs.declared.preparing.Prepared.{Prepared}
 use Rattle.leaf_machine.specs.declared.preparing.Prepared.TheVariants as prepared
 use Rattle.leaf_machine.specs.declared.preparing.PrepareFault.{PrepareFault}
 use Rattle.leaf_machine.specs.declared.preparing.PrepareFault.TheVariants.{DiskFault, NoRoom, NoMemory}
-use Rattle.leaf_machine.specs.States.{Serving, Shutting, Copying, GoesOn, CopiesOn, treated}
+use Rattle.leaf_machine.specs.States.{Serving, Shutting, Copying, GoesOn, GoesOnCopying, treated}
 use Rattle.leaf_machine.specs.Flushes.{OwedNotes}
 
 -- a leaf that serves and is told to shut
@@ -75,8 +75,8 @@ pub record Starves (old new : Shutting) (notes : List Note) : Type 0 where
   pub owed : new.serving.owing.log.owed ≡ None
 
 -- a table has too many writes for an image
-abbrev pub IsTooMany : Shutting → Type 0
-IsTooMany x = (t : Table) × ((place : ℕ) × (slice_get x.closed place ≡ Some t)) × (2 ^ 63 ≤ t.writes)
+abbrev pub HasTooManyWrites : Shutting → Type 0
+HasTooManyWrites x = (t : Table) × ((place : ℕ) × (slice_get x.closed place ≡ Some t)) × (2 ^ 63 ≤ t.writes)
 
 -- the copy of a leaf all of whose tables are treated: it is an image of them, and nothing of it is in the region yet
 pub record IsCopyOf (x : Shutting) (c : Copying) : Type 0 where
@@ -96,17 +96,17 @@ seats_of_step (Ok (prepared.Ready leaf)) = leaf.0.seated
 seats_of_step (Err x) = x.0.0.serving.seated
 
 -- Where a table is left to treat, one is treated, or the disk fails, or there is no memory for its content. Where none is, the copy is made, or has no room, or there is no memory.
-abbrev pub IsStep : {B : Type 0} → Shutting → List Note → Result (Prepared B) ((Shutting × B) × PrepareFault) → Type 0
-IsStep x notes (Ok (prepared.More leaf)) = (treated x < length x.serving.seated.tables) × Treats x leaf.0 notes
-IsStep x notes (Ok (prepared.Ready leaf)) = AllTreated x × (notes ≡ []) × IsCopyOf x leaf.0
-IsStep x notes (Err ((y, b), DiskFault)) = (treated x < length x.serving.seated.tables) × Halts x y notes
-IsStep x notes (Err ((y, b), NoRoom)) = AllTreated x × IsTooMany x × (notes ≡ []) × (y ≡ x)
-IsStep x notes (Err ((y, b), NoMemory)) = Starves x y notes
+abbrev pub IsTreatingStep : {B : Type 0} → Shutting → List Note → Result (Prepared B) ((Shutting × B) × PrepareFault) → Type 0
+IsTreatingStep x notes (Ok (prepared.More leaf)) = (treated x < length x.serving.seated.tables) × Treats x leaf.0 notes
+IsTreatingStep x notes (Ok (prepared.Ready leaf)) = AllTreated x × (notes ≡ []) × IsCopyOf x leaf.0
+IsTreatingStep x notes (Err ((y, b), DiskFault)) = (treated x < length x.serving.seated.tables) × Halts x y notes
+IsTreatingStep x notes (Err ((y, b), NoRoom)) = AllTreated x × HasTooManyWrites x × (notes ≡ []) × (y ≡ x)
+IsTreatingStep x notes (Err ((y, b), NoMemory)) = Starves x y notes
 
 abbrev pub StepGoesOn : {B : Type 0} → (B → Meaning) → Shutting → Meaning → Result (Prepared B) ((Shutting × B) × PrepareFault) → Type 0
 StepGoesOn meaning x m (Ok (prepared.More leaf)) = GoesOn x.serving leaf.0.serving m (meaning leaf.1)
 StepGoesOn meaning x m (Ok (prepared.Ready leaf)) = (writes : List ℕ → List Write) → Runs (watched_by x.serving.seated) x.serving.owing.owner x.serving.owing.log writes m
-    → CopiesOn x.serving.seated leaf.0 m (meaning leaf.1)
+    → GoesOnCopying x.serving.seated leaf.0 m (meaning leaf.1)
 StepGoesOn meaning x m (Err ((y, b), fault)) = GoesOn x.serving y.serving m (meaning b)
 
 -- a fault of the disk is told only where the count of its faults rose

@@ -7,16 +7,16 @@ use Rattle.leaf_opening.specs.declared.ways.Way.{Way}
 use Rattle.leaf_opening.specs.declared.ways.StartFault as opening
 use Rattle.leaf_opening.specs.declared.ways.StartFault.TheVariants as found
 use Rattle.leaf_opening.specs.Serving as plain
-use Rattle.leaf_opening.specs.Starts.{Started, IsRefusal}
+use Rattle.leaf_opening.specs.Starts.{Started, IsOpeningRefusal}
 use Rattle.leaf_table.specs.Calls.{SeatView, IsFresh}
-use Rattle.crash_events.specs.Left.{Tables}
+use Rattle.crash_events.specs.Left.{NamedStates}
 use Rattle.crash_states.specs.Standing.{Runs, Rests}
 use Rattle.leaf_steward.specs.declared.notes.Note.{Note}
 use Rattle.leaf_steward.specs.Seated.{Seated, AtEach, watched_by}
 use Rattle.leaf_steward.specs.Making.{OpenedNotes, WornAt}
 use Rattle.leaf_machine.specs.declared.faults.StartFault.{StartFault}
 use Rattle.leaf_machine.specs.declared.faults.StartFault.TheVariants.{RegionFault, DiskFault, DiskDamaged, Stranger, NoMemory, Worn}
-use Rattle.leaf_machine.specs.States.{Serving, IsTold}
+use Rattle.leaf_machine.specs.States.{Serving, SeatsTold}
 
 -- how a refusal of the opening is told
 abbrev pub told_of : opening.StartFault → StartFault
@@ -48,19 +48,19 @@ IsStart x berth notes (Err ((y, b), Worn table)) = IsFirstWorn x table × (y ≡
 IsStart x berth notes (Err ((y, b), fault)) = AtEach (λ place t v. IsFresh v) x × (y ≡ x) × (notes ≡ [])
 
 -- where the berth tells its contents: what was found, or why it was refused
-pub record Came (names : List (List ℕ)) (old new : Meaning) (notes : List Note) (up : Serving) (way : Way) : Type 0 where
+pub record CameUp (names : List (List ℕ)) (old new : Meaning) (notes : List Note) (up : Serving) (way : Way) : Type 0 where
   pub served : plain.Serving
   pub started : Started names old new served way
   pub log : up.owing.log ≡ served.log
   pub noted : OpenedNotes 0 served.tables notes
 
-abbrev pub IsRefused : List (List ℕ) → Meaning → Meaning → StartFault → Type 0
-IsRefused names old new (Worn table) = ⊤
-IsRefused names old new fault = (f : opening.StartFault) × (fault ≡ told_of f) × IsRefusal names old new f
+abbrev pub IsStartRefused : List (List ℕ) → Meaning → Meaning → StartFault → Type 0
+IsStartRefused names old new (Worn table) = ⊤
+IsStartRefused names old new fault = (f : opening.StartFault) × (fault ≡ told_of f) × IsOpeningRefusal names old new f
 
 -- what becomes of a leaf at rest that starts
-abbrev pub StartGoesOn : {B : Type 0} → (B → Meaning) → Seated → Meaning → Tables → (List ℕ → List Write) → Option LogRecord
+abbrev pub StartGoesOn : {B : Type 0} → (B → Meaning) → Seated → Meaning → NamedStates → (List ℕ → List Write) → Option LogRecord
     → Result ((Serving × B) × Way) ((Seated × B) × StartFault) → Type 0
 StartGoesOn meaning x m others least next (Ok ((up, b), way)) =
-    ((writes : List ℕ → List Write) × Runs (watched_by up.seated) up.owing.owner up.owing.log writes (meaning b)) × IsTold others x up.seated m (meaning b)
-StartGoesOn meaning x m others least next (Err ((y, b), fault)) = Rests (watched_by y) others least next (meaning b) × IsTold others x y m (meaning b) × (fault ≢ DiskDamaged)
+    ((writes : List ℕ → List Write) × Runs (watched_by up.seated) up.owing.owner up.owing.log writes (meaning b)) × SeatsTold others x up.seated m (meaning b)
+StartGoesOn meaning x m others least next (Err ((y, b), fault)) = Rests (watched_by y) others least next (meaning b) × SeatsTold others x y m (meaning b) × (fault ≢ DiskDamaged)

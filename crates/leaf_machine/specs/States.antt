@@ -3,12 +3,12 @@ use Rattle.std.specs.Prelude.{◌≡◌, ◌≢◌, ◌⊎◌, ℕ, suc, ◌-◌
 use Rattle.leaf_model.specs.declared.writes.Write.{Write}
 use Rattle.row_records.specs.Records.{LogRecord}
 use Rattle.berth_face.specs.Berth.{Meaning}
-use Rattle.leaf_history.specs.History.{TableState, held, write_count}
+use Rattle.leaf_history.specs.History.{HistoryState, held, write_count}
 use Rattle.table_state.specs.Tables.{Table}
 use Rattle.drain_copy.specs.declared.step.Next.TheVariants.{Nothing}
 use Rattle.drain_copy.specs.Draining.{DrainState}
-use Rattle.leaf_table.specs.Calls.{base_of, state_seen}
-use Rattle.crash_events.specs.Left.{Tables}
+use Rattle.leaf_table.specs.Calls.{base_seen, state_seen}
+use Rattle.crash_events.specs.Left.{NamedStates}
 use Rattle.crash_moments.specs.Told.{Told}
 use Rattle.crash_moments.specs.Watched.{IsFoundation}
 use Rattle.crash_states.specs.Standing.{Runs, Rests, Copies}
@@ -38,7 +38,7 @@ treated x = if x.shut then length x.closed - 1 else length x.closed
 -- ---- what region and disk hold, where the tables are founded
 
 abbrev pub DownStands : Seated → Meaning → Type 0
-DownStands x m = AreFounded x → IsTrue m.tells × ((others : Tables) × (least : List ℕ → List Write) × (next : Option LogRecord) × Rests (watched_by x) others least next m)
+DownStands x m = AreFounded x → IsTrue m.tells × ((others : NamedStates) × (least : List ℕ → List Write) × (next : Option LogRecord) × Rests (watched_by x) others least next m)
 
 abbrev pub UpStands : Serving → Meaning → Type 0
 UpStands x m = AreFounded x.seated → IsTrue m.tells × ((writes : List ℕ → List Write) × Runs (watched_by x.seated) x.owing.owner x.owing.log writes m)
@@ -47,7 +47,7 @@ abbrev pub CopyStands : Copying → Meaning → Type 0
 CopyStands x m = AreFounded x.seated → IsTrue m.tells × ((writes : List ℕ → List Write) × Copies (watched_by x.seated) x.drain writes m)
 
 -- A leaf with this base may begin over the berth: each log that a crash may leave has the least writes of each name, or those of one record more, and the base has the longest.
-abbrev pub MayBegin : Tables → Meaning → Type 0
+abbrev pub MayBegin : NamedStates → Meaning → Type 0
 MayBegin base m = IsTrue m.tells × ((least : List ℕ → List Write) × (next : Option LogRecord) × Rests [] base least next m)
 
 -- ---- what every leaf is
@@ -70,12 +70,12 @@ pub record IsUp (x : Serving) (m : Meaning) : Type 0 where
   pub stands : UpStands x m
 
 -- a content that was handed out when its table was shut
-pub record IsContent (s : TableState) (t : Table) : Type 0 where
+pub record IsContent (s : HistoryState) (t : Table) : Type 0 where
   pub contents : t.contents ≡ held s
   pub writes : t.writes ≡ write_count s
 
 -- a table that is shut, and all of which was taken
-pub record IsClosed (s : TableState) : Type 0 where
+pub record IsShutAndTaken (s : HistoryState) : Type 0 where
   pub shut : s.live ≡ false
   pub taken : s.taken ≡ write_count s
 
@@ -83,8 +83,8 @@ pub record IsClosed (s : TableState) : Type 0 where
 pub record IsShutting (x : Shutting) (m : Meaning) : Type 0 where
   pub few : length x.closed ≤ length x.serving.seated.tables
   pub opened : AtEach (λ place t v. length x.closed ≤ place → IsOpen t v) x.serving.seated
-  pub closed_are : AtEach (λ place t v. place < length x.closed → IsClosed (state_seen (base_of t) v)) x.serving.seated
-  pub contents : AtEach (λ place t v. (c : Table) → slice_get x.closed place ≡ Some c → IsContent (state_seen (base_of t) v) c) x.serving.seated
+  pub closed_are : AtEach (λ place t v. place < length x.closed → IsShutAndTaken (state_seen (base_seen t) v)) x.serving.seated
+  pub contents : AtEach (λ place t v. (c : Table) → slice_get x.closed place ≡ Some c → IsContent (state_seen (base_seen t) v) c) x.serving.seated
   pub spares : AtEach (λ place t v. length x.closed ≤ place → Spares 3 t v) x.serving.seated
   pub spares_closed : AtEach (λ place t v. place < length x.closed → Spares 1 t v) x.serving.seated
   pub spares_owed : x.closed ≡ [] → SparesOwed x.serving.seated x.serving.owing 4
@@ -104,27 +104,27 @@ pub record IsCopying (x : Copying) (m : Meaning) : Type 0 where
 -- ---- what a crash may leave at each moment of a call
 
 -- the seats before and behind, and the berth
-abbrev pub IsTold : Tables → Seated → Seated → Meaning → Meaning → Type 0
-IsTold others x y m m' = Told others (watched_by x) (watched_by y) m m'
+abbrev pub SeatsTold : NamedStates → Seated → Seated → Meaning → Meaning → Type 0
+SeatsTold others x y m m' = Told others (watched_by x) (watched_by y) m m'
 
 -- The leaf runs on: whatever its log had, it has a log again, and at each moment a crash leaves what belongs to its tables.
-pub record RunsOn (x y : Serving) (m m' : Meaning) : Type 0 where
+pub record GoesOnServing (x y : Serving) (m m' : Meaning) : Type 0 where
   pub later : List ℕ → List Write
   pub runs : Runs (watched_by y.seated) y.owing.owner y.owing.log later m'
-  pub told : (others : Tables) → IsTold others x.seated y.seated m m'
+  pub told : (others : NamedStates) → SeatsTold others x.seated y.seated m m'
 
 abbrev pub GoesOn : Serving → Serving → Meaning → Meaning → Type 0
-GoesOn x y m m' = (writes : List ℕ → List Write) → Runs (watched_by x.seated) x.owing.owner x.owing.log writes m → RunsOn x y m m'
+GoesOn x y m m' = (writes : List ℕ → List Write) → Runs (watched_by x.seated) x.owing.owner x.owing.log writes m → GoesOnServing x y m m'
 
 -- it rests, whatever stands of names that it does not have, and at each moment a crash leaves what belongs to its tables
 pub record RestsOn (x y : Seated) (m m' : Meaning) : Type 0 where
   pub least : List ℕ → List Write
   pub next : Option LogRecord
-  pub rests : (others : Tables) → ((name : List ℕ) → IsFoundation (others name)) → Rests (watched_by y) others least next m'
-  pub told : (others : Tables) → IsTold others x y m m'
+  pub rests : (others : NamedStates) → ((name : List ℕ) → IsFoundation (others name)) → Rests (watched_by y) others least next m'
+  pub told : (others : NamedStates) → SeatsTold others x y m m'
 
 -- it copies on
-pub record CopiesOn (x : Seated) (y : Copying) (m m' : Meaning) : Type 0 where
+pub record GoesOnCopying (x : Seated) (y : Copying) (m m' : Meaning) : Type 0 where
   pub writes : List ℕ → List Write
   pub copies : Copies (watched_by y.seated) y.drain writes m'
-  pub told : (others : Tables) → IsTold others x y.seated m m'
+  pub told : (others : NamedStates) → SeatsTold others x y.seated m m'

@@ -2,8 +2,8 @@
 use Rattle.leaf_history.specs.History.{LegalFrom}
 use Rattle.turnstile.specs.Seats.{IsSeatOf}
 use Rattle.leaf_table.specs.Turns.{Shared, is_founded, start_of}
-use Rattle.leaf_table.specs.Calls.{SeatView, base_of, seen_of, IsCaller}
+use Rattle.leaf_table.specs.Calls.{SeatView, base_seen, seen_of, IsCaller}
 
 -- a caller's seat at the table
 abbrev pub Calls : SeatView → Shared → Type 0
-Calls v t = IsSeatOf v t.site × IsCaller v × LegalFrom (is_founded (base_of t)) (start_of (base_of t)) (seen_of v)
+Calls v t = IsSeatOf v t.site × IsCaller v × LegalFrom (is_founded (base_seen t)) (start_of (base_seen t)) (seen_of v)

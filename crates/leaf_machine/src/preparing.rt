@@ -7,14 +7,14 @@ ghost use Rattle.berth_face.specs.Causes.{HasCause};
 ghost use Rattle.leaf_history.specs.History.{LegalFrom};
 ghost use Rattle.turnstile.specs.Seats.{IsSeatOf, LearnsOthers, Told};
 ghost use Rattle.leaf_table.specs.Turns.{is_founded, start_of};
-ghost use Rattle.leaf_table.specs.Calls.{base_of, seen_of};
+ghost use Rattle.leaf_table.specs.Calls.{base_seen, seen_of};
 ghost use Rattle.crash_states.specs.Standing.{Runs};
 ghost use Rattle.leaf_steward.specs.declared.notes.Note.{Note};
 ghost use Rattle.leaf_steward.specs.Seated.{AreFounded, AreSeated, AtPlace, watched_by, with_seat};
 ghost use Rattle.leaf_steward.specs.Making.{EachNoted, IsClosedNote, Makes};
 ghost use Rattle.leaf_machine.specs.States.{RestsOn, treated};
-ghost use Rattle.leaf_machine.specs.Prepares.{Halts, IsStep, RoseStep, Starves, StepGoesOn, berth_of_step, seats_of_step};
-ghost use Rattle.leaf_machine.specs.PrepParts.{IsAllTreated, IsNext, IsPart, RoseNext, is_too_many};
+ghost use Rattle.leaf_machine.specs.Prepares.{Halts, IsTreatingStep, RoseStep, Starves, StepGoesOn, berth_of_step, seats_of_step};
+ghost use Rattle.leaf_machine.specs.PrepParts.{IsAllTreated, IsNextTreated, IsPartOfStep, RoseNext, is_too_many};
 
 use crate::copying::Copying;
 use crate::down::Down;
@@ -80,7 +80,7 @@ impl<'t, B: Berth> Preparing<'t, B> {
     /// Lets the steward's seat of that table and a caller's see what the other has seen. It makes no entry and takes no memory.
     pub fn meet(&mut self, table: u32, seat: &mut Seat) -> Result<(), AllocError>
         requires table { table < length self.old.0.serving.seated.tables }
-        requires seat { AtPlace (λ t v. IsSeatOf seat.old t.site × LegalFrom (is_founded (base_of t)) (start_of (base_of t)) (seen_of seat.old)) self.old.0.serving.seated table }
+        requires seat { AtPlace (λ t v. IsSeatOf seat.old t.site × LegalFrom (is_founded (base_seen t)) (start_of (base_seen t)) (seen_of seat.old)) self.old.0.serving.seated table }
         ensures learns { AtPlace (λ t v. (w : _) × (self.new ≡ (
           record {
             serving = record { seated = with_seat self.old.0.serving.seated table w; owing = self.old.0.serving.owing };
@@ -88,9 +88,9 @@ impl<'t, B: Berth> Preparing<'t, B> {
             shut = self.old.0.shut;
           },
           self.old.1,
-        )) × Told v seat.old w × LearnsOthers v w × LegalFrom (is_founded (base_of t)) (start_of (base_of t)) (seen_of w)) self.old.0.serving.seated table }
+        )) × Told v seat.old w × LearnsOthers v w × LegalFrom (is_founded (base_seen t)) (start_of (base_seen t)) (seen_of w)) self.old.0.serving.seated table }
         ensures seat { AtPlace (λ t v. IsSeatOf seat.new t.site × Told seat.old v seat.new × LearnsOthers seat.old seat.new
-            × LegalFrom (is_founded (base_of t)) (start_of (base_of t)) (seen_of seat.new)) self.old.0.serving.seated table }
+            × LegalFrom (is_founded (base_seen t)) (start_of (base_seen t)) (seen_of seat.new)) self.old.0.serving.seated table }
         ensures runs { (writes : List ℕ → List Write) → AreFounded self.old.0.serving.seated
             → Runs (watched_by self.old.0.serving.seated) self.old.0.serving.owing.owner self.old.0.serving.owing.log writes (B.meaning self.old.1)
             → Runs (watched_by self.new.0.serving.seated) self.new.0.serving.owing.owner self.new.0.serving.owing.log writes (B.meaning self.new.1) }
@@ -109,7 +109,7 @@ impl<'t, B: Berth> Preparing<'t, B> {
         gate: &G,
         notes: &mut Notes,
     ) -> Result<Prepared<'t, B>, (Preparing<'t, B>, PrepareFault)>
-        ensures step { IsStep self.entry.0 notes.new result }
+        ensures step { IsTreatingStep self.entry.0 notes.new result }
         ensures made { Makes (B.meaning self.entry.1).clock (B.meaning (berth_of_step result)).clock self.entry.0.serving.seated notes.new (seats_of_step result) }
         // At every moment since the call began a crash leaves what belongs to the tables as they stood then.
         ensures crash { IsTrue (B.meaning self.entry.1).tells → AreFounded self.entry.0.serving.seated → StepGoesOn B.meaning self.entry.0 (B.meaning self.entry.1) result }
@@ -179,7 +179,7 @@ impl<'t, B: Berth> Preparing<'t, B> {
     // Plans the copy of tables that are all treated.
     fn copied(self, alloc: Global) -> Result<Prepared<'t, B>, (Preparing<'t, B>, PrepareFault)>
         requires all { IsAllTreated self.0 }
-        ensures step { IsStep self.entry.0 [] result }
+        ensures step { IsTreatingStep self.entry.0 [] result }
         ensures crash { AreFounded self.entry.0.serving.seated → StepGoesOn B.meaning self.entry.0 (B.meaning self.entry.1) result }
         ensures berth { berth_of_step result ≡ self.entry.1 }
         ensures seats { seats_of_step result ≡ self.entry.0.serving.seated }
@@ -211,8 +211,8 @@ impl<'t, B: Berth> Preparing<'t, B> {
     ) -> Result<(), PrepareFault>
         requires more { treated self.old.0 < length self.old.0.serving.seated.tables }
         requires none { notes.old ≡ [] }
-        ensures next { IsNext self.old.0 self.new.0 notes.new result }
-        ensures part { IsPart self.old.0.serving self.new.0.serving notes.old notes.new (B.meaning self.old.1) (B.meaning self.new.1) }
+        ensures next { IsNextTreated self.old.0 self.new.0 notes.new result }
+        ensures part { IsPartOfStep self.old.0.serving self.new.0.serving notes.old notes.new (B.meaning self.old.1) (B.meaning self.new.1) }
         ensures cause { RoseNext (B.meaning self.old.1).disk_faults (B.meaning self.new.1).disk_faults result }
     {
         let shut = self.shut;
@@ -235,7 +235,7 @@ impl<'t, B: Berth> Preparing<'t, B> {
         requires none { notes.old ≡ [] }
         ensures settled { OnOk result (Starves self.old.0 self.new.0 notes.new) }
         ensures halts { OnErr result (Halts self.old.0 self.new.0 notes.new) }
-        ensures part { IsPart self.old.0.serving self.new.0.serving notes.old notes.new (B.meaning self.old.1) (B.meaning self.new.1) }
+        ensures part { IsPartOfStep self.old.0.serving self.new.0.serving notes.old notes.new (B.meaning self.old.1) (B.meaning self.new.1) }
         ensures cause { HasCause (B.meaning self.old.1).disk_faults (B.meaning self.new.1).disk_faults result }
     {
         self.seats.sits();
@@ -256,8 +256,8 @@ impl<'t, B: Berth> Preparing<'t, B> {
         requires rests { self.old.0.shut ≡ false }
         requires none { self.old.0.serving.owing.log.owed ≡ None }
         requires room { length notes.old ≤ 1 }
-        ensures next { (made : List Note) × (notes.new ≡ notes.old ++ made) × IsNext self.old.0 self.new.0 made result }
-        ensures part { IsPart self.old.0.serving self.new.0.serving notes.old notes.new (B.meaning self.old.1) (B.meaning self.new.1) }
+        ensures next { (made : List Note) × (notes.new ≡ notes.old ++ made) × IsNextTreated self.old.0 self.new.0 made result }
+        ensures part { IsPartOfStep self.old.0.serving self.new.0.serving notes.old notes.new (B.meaning self.old.1) (B.meaning self.new.1) }
         ensures cause { RoseNext (B.meaning self.old.1).disk_faults (B.meaning self.new.1).disk_faults result }
     {
         let place = self.first_open();

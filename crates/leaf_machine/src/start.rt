@@ -4,15 +4,15 @@ ghost use Rattle.leaf_model.specs.declared.writes.Write.{Write};
 ghost use Rattle.row_records.specs.Records.{LogRecord};
 ghost use Rattle.berth_face.specs.Causes.{Rose};
 ghost use Rattle.berth_face.specs.Berth.{Passes};
-ghost use Rattle.disk_backup.specs.Scanning.{Begins};
+ghost use Rattle.disk_backup.specs.Scanning.{BeginsScan};
 ghost use Rattle.leaf_opening.specs.declared.ways.Way.TheVariants as way;
 ghost use Rattle.leaf_opening.specs.Starts.{IsWayOf};
-ghost use Rattle.crash_events.specs.Left.{Tables};
+ghost use Rattle.crash_events.specs.Left.{NamedStates};
 ghost use Rattle.crash_states.specs.Standing.{Rests};
 ghost use Rattle.leaf_steward.specs.Seated.{AreFounded, watched_by};
 ghost use Rattle.leaf_steward.specs.Making.{Makes};
 ghost use Rattle.leaf_machine.specs.declared.faults.StartFault.TheVariants as fault;
-ghost use Rattle.leaf_machine.specs.Starts.{Came, IsRefused, IsStart, StartGoesOn, berth_after, seats_after};
+ghost use Rattle.leaf_machine.specs.Starts.{CameUp, IsStartRefused, IsStart, StartGoesOn, berth_after, seats_after};
 
 use crate::down::Down;
 use crate::faults::{StartFault, told};
@@ -38,13 +38,13 @@ impl<'t, B: Berth> Down<'t, B> {
         ensures start { IsStart self.entry.0 self.entry.1 notes.new result }
         ensures made { Makes (B.meaning self.entry.1).clock (B.meaning (berth_after result)).clock self.entry.0 notes.new (seats_after result) }
         // Where the berth tells its contents: on any bytes, and where they are what a leaf left.
-        ensures came { IsTrue (B.meaning self.entry.1).tells → IfOk result (λ x. Came self.entry.0.names (B.meaning self.entry.1) (B.meaning x.0.1) notes.new x.0.0 x.1) }
+        ensures came { IsTrue (B.meaning self.entry.1).tells → IfOk result (λ x. CameUp self.entry.0.names (B.meaning self.entry.1) (B.meaning x.0.1) notes.new x.0.0 x.1) }
         ensures way { IsTrue (B.meaning self.entry.1).tells → IfOk result (λ x. IsWayOf (B.meaning self.entry.1).held.region x.1) }
-        ensures refused { IsTrue (B.meaning self.entry.1).tells → IfErr result (λ x. IsRefused self.entry.0.names (B.meaning self.entry.1) (B.meaning x.0.1) x.1) }
+        ensures refused { IsTrue (B.meaning self.entry.1).tells → IfErr result (λ x. IsStartRefused self.entry.0.names (B.meaning self.entry.1) (B.meaning x.0.1) x.1) }
         // The disk reads as it did, or its first byte was written where it had at most one.
-        ensures disk { IsTrue (B.meaning self.entry.1).tells → Begins (length (B.meaning self.entry.1).held.disk) (B.meaning self.entry.1).held.disk (B.meaning (berth_after result)).held.disk }
+        ensures disk { IsTrue (B.meaning self.entry.1).tells → BeginsScan (length (B.meaning self.entry.1).held.disk) (B.meaning self.entry.1).held.disk (B.meaning (berth_after result)).held.disk }
         // At every moment since the call began a crash leaves what belongs to the tables as they stood then.
-        ensures crash { (others : Tables) (least : List ℕ → List Write) (next : Option LogRecord) → IsTrue (B.meaning self.entry.1).tells → AreFounded self.entry.0
+        ensures crash { (others : NamedStates) (least : List ℕ → List Write) (next : Option LogRecord) → IsTrue (B.meaning self.entry.1).tells → AreFounded self.entry.0
             → Rests (watched_by self.entry.0) others least next (B.meaning self.entry.1) → StartGoesOn B.meaning self.entry.0 (B.meaning self.entry.1) others least next result }
         // On every berth.
         ensures time { Passes (B.meaning self.entry.1) (B.meaning (berth_after result)) }

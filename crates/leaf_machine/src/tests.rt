@@ -4,7 +4,7 @@ ghost use Rattle.std.specs.List.{AllByRecursion};
 ghost use Rattle.leaf_model.specs.Values.{IsRow};
 ghost use Rattle.region_layout.specs.Names.{AreNames};
 ghost use Rattle.leaf_table.specs.Turns.{Shared, is_founded};
-ghost use Rattle.leaf_table.specs.Calls.{base_of, name_of};
+ghost use Rattle.leaf_table.specs.Calls.{base_seen, name_of};
 ghost use Rattle.leaf_steward.specs.Seated.{AtEach, IsUnused};
 ghost use Rattle.leaf_machine.specs.Trying.{Calls};
 
@@ -50,7 +50,7 @@ fn one_table(alloc: Global, names: &Names) -> Result<Shut, AllocError>
     ensures named { IfOk result (λ r. map name_of r.0.items ≡ names.now) }
     ensures one { IfOk result (λ r. (length r.0.items ≡ 1) × (length r.1.items ≡ 1)) }
     ensures unused { IfOk result (λ r. AtEach (λ place t v. IsUnused t v) (record { names = names.now; tables = r.0.items; seats = r.1.items })) }
-    ensures plain { IfOk result (λ r. AllByRecursion (λ (t : Shared). is_founded (base_of t) ≡ false) r.0.items) }
+    ensures plain { IfOk result (λ r. AllByRecursion (λ (t : Shared). is_founded (base_seen t) ≡ false) r.0.items) }
     ensures caller { IfOk result (λ r. (t : Shared) → slice_get r.0.items 0 ≡ Some t → Calls r.2 t) }
 {
     let names = names.as_slice();
@@ -73,7 +73,7 @@ fn at_rest<'t>(
     requires names { map name_of tables.now ≡ names }
     requires one { (length tables.now ≡ 1) × (length stewards.items ≡ 1) }
     requires unused { AtEach (λ place t v. IsUnused t v) (record { names = names; tables = tables.now; seats = stewards.items }) }
-    requires plain { AllByRecursion (λ (t : Shared). is_founded (base_of t) ≡ false) tables.now }
+    requires plain { AllByRecursion (λ (t : Shared). is_founded (base_seen t) ≡ false) tables.now }
     ensures { length result.0.tables ≡ 1 }
 {
     Down::new(names, tables, stewards, berth)

@@ -6,7 +6,7 @@ ghost use Rattle.berth_face.specs.Berth.{Passes};
 ghost use Rattle.leaf_history.specs.History.{LegalFrom};
 ghost use Rattle.turnstile.specs.Seats.{IsSeatOf, LearnsOthers, Told};
 ghost use Rattle.leaf_table.specs.Turns.{is_founded, start_of};
-ghost use Rattle.leaf_table.specs.Calls.{base_of, seen_of};
+ghost use Rattle.leaf_table.specs.Calls.{base_seen, seen_of};
 ghost use Rattle.crash_states.specs.Standing.{Runs};
 ghost use Rattle.leaf_steward.specs.Seated.{AreFounded, AtPlace, watched_by, with_seat};
 ghost use Rattle.leaf_steward.specs.Making.{EachNoted, IsClosedNote, Makes};
@@ -59,11 +59,11 @@ impl<'t, B: Berth> Up<'t, B> {
     /// Lets the steward's seat of that table and a caller's see what the other has seen. It makes no entry and takes no memory.
     pub fn meet(&mut self, table: u32, seat: &mut Seat) -> Result<(), AllocError>
         requires table { table < length self.old.0.seated.tables }
-        requires seat { AtPlace (λ t v. IsSeatOf seat.old t.site × LegalFrom (is_founded (base_of t)) (start_of (base_of t)) (seen_of seat.old)) self.old.0.seated table }
+        requires seat { AtPlace (λ t v. IsSeatOf seat.old t.site × LegalFrom (is_founded (base_seen t)) (start_of (base_seen t)) (seen_of seat.old)) self.old.0.seated table }
         ensures learns { AtPlace (λ t v. (w : _) × (self.new ≡ (record { seated = with_seat self.old.0.seated table w; owing = self.old.0.owing }, self.old.1)) × Told v seat.old w × LearnsOthers v w
-            × LegalFrom (is_founded (base_of t)) (start_of (base_of t)) (seen_of w)) self.old.0.seated table }
+            × LegalFrom (is_founded (base_seen t)) (start_of (base_seen t)) (seen_of w)) self.old.0.seated table }
         ensures seat { AtPlace (λ t v. IsSeatOf seat.new t.site × Told seat.old v seat.new × LearnsOthers seat.old seat.new
-            × LegalFrom (is_founded (base_of t)) (start_of (base_of t)) (seen_of seat.new)) self.old.0.seated table }
+            × LegalFrom (is_founded (base_seen t)) (start_of (base_seen t)) (seen_of seat.new)) self.old.0.seated table }
         ensures runs { (writes : List ℕ → List Write) → AreFounded self.old.0.seated
             → Runs (watched_by self.old.0.seated) self.old.0.owing.owner self.old.0.owing.log writes (B.meaning self.old.1)
             → Runs (watched_by self.new.0.seated) self.new.0.owing.owner self.new.0.owing.log writes (B.meaning self.new.1) }

@@ -7,7 +7,7 @@ use Rattle.leaf_model.specs.Content.{content}
 use Rattle.row_records.specs.Records.{LogRecord}
 use Rattle.table_state.specs.Tables.{most_rows}
 use Rattle.disk_backup.specs.Logs.{IsLog, is_short, is_gated, IsBounded, IsSound, ClosedLog, writes_of}
-use Rattle.disk_backup.specs.Scanning.{Begins, begun}
+use Rattle.disk_backup.specs.Scanning.{BeginsScan, begun}
 use Rattle.disk_backup.proofs.Beginning.{begun_short, begun_long}
 use Rattle.disk_backup.proofs.Logs.{one_log, closed_is_log}
 use Rattle.leaf_opening.specs.Backed.{HasSoundLog, IsShort}
@@ -54,7 +54,7 @@ module _ (writes : List ℕ → List Write) (disk : List ℕ) (had : HasSoundLog
   sound_of = (had.records, had.log_end, had.log, had.bounded)
 
   -- whatever became of its first byte, it has the same log
-  pub sound_begins : (now : List ℕ) → Begins (length disk) disk now → HasSoundLog writes now
+  pub sound_begins : (now : List ℕ) → BeginsScan (length disk) disk now → HasSoundLog writes now
   sound_begins now (inl same) = subst (HasSoundLog writes) (sym same) had
   sound_begins now (inr first) =
       let none = short_log disk had.records had.log_end first.short had.log in

@@ -8,7 +8,7 @@ use Rattle.adopt.specs.declared.found.AdoptFault.{AdoptFault}
 use Rattle.adopt.specs.declared.found.AdoptFault.TheVariants as adopting
 use Rattle.adopt.specs.Found.{Adopts, IsBroken, left_behind}
 use Rattle.disk_backup.specs.Logs.{IsSound}
-use Rattle.disk_backup.specs.Scanning.{Begins}
+use Rattle.disk_backup.specs.Scanning.{BeginsScan}
 use Rattle.disk_backup.specs.Settling.{HasLog}
 use Rattle.log_recovery.specs.declared.fault.RecoveryFault.{RecoveryFault}
 use Rattle.log_recovery.specs.declared.fault.RecoveryFault.TheVariants as found
@@ -72,7 +72,7 @@ never_damaged found.NoMemory other = λ e. absurd cc
 
 pub rests_read : (writes : List ℕ → List Write) (old mid new : Meaning) → Rests writes old
     → mid.held.disk ≡ old.held.disk → mid.held.region ≡ left_behind old.held.region → new.held.region ≡ mid.held.region
-    → Begins (length mid.held.disk) mid.held.disk new.held.disk → (f : RecoveryFault) → (IsSound mid.held.disk → f ≢ found.DiskDamaged) → RestsStill writes new (told_of_recovery f)
+    → BeginsScan (length mid.held.disk) mid.held.disk new.held.disk → (f : RecoveryFault) → (IsSound mid.held.disk → f ≢ found.DiskDamaged) → RestsStill writes new (told_of_recovery f)
 rests_read writes old mid new rests disk closed region begins f sound =
     let log : HasSoundLog writes mid.held.disk = subst (HasSoundLog writes) (sym disk) rests.log in
     let shut : IsClosed new.held.region = subst IsClosed (sym (region ∙ closed)) (left_closed old.held.region) in (

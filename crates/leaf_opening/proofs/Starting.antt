@@ -8,7 +8,7 @@ use Rattle.region_layout.specs.Region.{IsClosed}
 use Rattle.adopt.specs.Found.{AdoptsFrom, IsBroken}
 use Rattle.adopt.specs.declared.found.AdoptFault.{AdoptFault}
 use Rattle.adopt.specs.declared.found.AdoptFault.TheVariants as adopting
-use Rattle.disk_backup.specs.Scanning.{StepsFrom, Begins}
+use Rattle.disk_backup.specs.Scanning.{StepsFrom, BeginsScan}
 use Rattle.log_recovery.specs.declared.fault.RecoveryFault.{RecoveryFault}
 use Rattle.log_recovery.specs.declared.fault.RecoveryFault.TheVariants as found
 use Rattle.leaf_opening.specs.declared.ways.StartFault.{StartFault}
@@ -24,8 +24,8 @@ lost_closed : (region : List ℕ) → region ≡ [] → IsClosed region
 lost_closed region lost = inl (omega (arith, ap (λ (r : List ℕ). length r) lost))
 
 -- a scan that begins on a disk that reads as before
-pub held_on : (old mid now : List ℕ) → mid ≡ old → Begins (length mid) mid now → Begins (length old) old now
-held_on old mid now same begins = subst (λ (d : List ℕ). Begins (length d) d now) same begins
+pub held_on : (old mid now : List ℕ) → mid ≡ old → BeginsScan (length mid) mid now → BeginsScan (length old) old now
+held_on old mid now same begins = subst (λ (d : List ℕ). BeginsScan (length d) d now) same begins
 
 module _ (old mid : Meaning) (so_far : Throughout (AdoptsFrom old) old mid) where
   adopt_opens : (p : Pair) → AdoptsFrom old p → OpensFrom old p
@@ -43,10 +43,10 @@ module _ (old mid : Meaning) (so_far : Throughout (AdoptsFrom old) old mid) wher
     ]
 
     -- a pair of the recovery comes from one that the adoption left, and that from one before it
-    recovery_opens : (p : Pair) → StepsFrom (Begins (length mid.held.disk)) mid p → OpensFrom old p
+    recovery_opens : (p : Pair) → StepsFrom (BeginsScan (length mid.held.disk)) mid p → OpensFrom old p
     recovery_opens p came =
         let first = now_of old mid (AdoptsFrom old) so_far came.from came.was in
-        let begins = subst (λ (d : List ℕ). Begins (length mid.held.disk) d p.disk) first.disk came.disk in
+        let begins = subst (λ (d : List ℕ). BeginsScan (length mid.held.disk) d p.disk) first.disk came.disk in
         record {
           from = first.from;
           was = first.was;
@@ -59,13 +59,13 @@ module _ (old mid : Meaning) (so_far : Throughout (AdoptsFrom old) old mid) wher
               | inl same ↦ subst IsClosed (sym same) (left_shut came.from came.was)
               | inr lost ↦ lost_closed p.region lost
             ],
-            subst (λ (d : List ℕ). Begins (length d) first.from.disk p.disk) same_disk begins,
+            subst (λ (d : List ℕ). BeginsScan (length d) first.from.disk p.disk) same_disk begins,
           );
         }
 
-    pub opens_reading : (new : Meaning) → Throughout (StepsFrom (Begins (length mid.held.disk)) mid) mid new → Throughout (OpensFrom old) old new
+    pub opens_reading : (new : Meaning) → Throughout (StepsFrom (BeginsScan (length mid.held.disk)) mid) mid new → Throughout (OpensFrom old) old new
     opens_reading new reading =
-        throughout_join old mid new (OpensFrom old) opens_adopting (throughout_map mid new (StepsFrom (Begins (length mid.held.disk)) mid) (OpensFrom old) recovery_opens reading)
+        throughout_join old mid new (OpensFrom old) opens_adopting (throughout_map mid new (StepsFrom (BeginsScan (length mid.held.disk)) mid) (OpensFrom old) recovery_opens reading)
 
 -- ---- of the fault that a start tells
 

@@ -10,7 +10,7 @@ use Rattle.region_layout.specs.Images.{tables_of}
 use Rattle.adopt.specs.declared.found.WhyDisk.{WhyDisk}
 use Rattle.adopt.specs.declared.found.WhyDisk.TheVariants as why
 use Rattle.adopt.specs.Found.{IsWhy, IsBroken, IsStranger, left_behind, stranger_of}
-use Rattle.disk_backup.specs.Scanning.{begun, Begins}
+use Rattle.disk_backup.specs.Scanning.{begun, BeginsScan}
 use Rattle.log_recovery.specs.Recovery.{IsRecovered}
 use Rattle.log_recovery.specs.Recovery as recovery
 use Rattle.log_recovery.specs.declared.fault.RecoveryFault.TheVariants as found
@@ -56,13 +56,13 @@ abbrev pub AreFresh : List Table → Type 0
 AreFresh tables = AllByRecursion (λ (t : Table). t.pending ≡ None) tables
 
 -- why a start was refused, and what it leaves of the region
-abbrev pub IsRefusal : List (List ℕ) → Meaning → Meaning → StartFault → Type 0
-IsRefusal names old new RegionFault = IsBroken old.held.region new.held.region × (new.held.disk ≡ old.held.disk)
-IsRefusal names old new DiskFault = new.held.region ≡ left_behind old.held.region
-IsRefusal names old new DiskDamaged = (new.held.region ≡ left_behind old.held.region) × recovery.IsRefusal names new.held.disk found.DiskDamaged
-IsRefusal names old new (Stranger name) = (new.held.region ≡ left_behind old.held.region)
+abbrev pub IsOpeningRefusal : List (List ℕ) → Meaning → Meaning → StartFault → Type 0
+IsOpeningRefusal names old new RegionFault = IsBroken old.held.region new.held.region × (new.held.disk ≡ old.held.disk)
+IsOpeningRefusal names old new DiskFault = new.held.region ≡ left_behind old.held.region
+IsOpeningRefusal names old new DiskDamaged = (new.held.region ≡ left_behind old.held.region) × recovery.IsRefusal names new.held.disk found.DiskDamaged
+IsOpeningRefusal names old new (Stranger name) = (new.held.region ≡ left_behind old.held.region)
     × (IsStranger names old.held.region name ⊎ recovery.IsRefusal names new.held.disk (found.Stranger name))
-IsRefusal names old new NoMemory = new.held.region ≡ left_behind old.held.region
+IsOpeningRefusal names old new NoMemory = new.held.region ≡ left_behind old.held.region
 
 -- the leaf that serves what was opened
 abbrev pub serving_of : List (List ℕ) → Opened → Serving
@@ -76,7 +76,7 @@ pub record OpensFrom (old : Meaning) (p : Pair) : Type 0 where
   pub from : Pair
   pub was : old.leaves old.clock from
   pub region : (p.region ≡ []) ⊎ IsBroken old.held.region p.region
-  pub disk : (p.disk ≡ from.disk) ⊎ (IsClosed p.region × Begins (length old.held.disk) from.disk p.disk)
+  pub disk : (p.disk ≡ from.disk) ⊎ (IsClosed p.region × BeginsScan (length old.held.disk) from.disk p.disk)
 
 -- the disks are those of before where nothing of the disk was called: an image was adopted, or the region failed
 abbrev pub KeepsDisks : Meaning → Meaning → Result Opened StartFault → Type 0

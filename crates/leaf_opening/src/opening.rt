@@ -6,12 +6,12 @@ ghost use Rattle.berth_face.specs.Causes.{Rose};
 ghost use Rattle.berth_face.specs.Berth.{Passes};
 ghost use Rattle.berth_face.specs.Moments.{Throughout};
 ghost use Rattle.disk_backup.specs.Logs.{IsSound};
-ghost use Rattle.disk_backup.specs.Scanning.{Begins};
+ghost use Rattle.disk_backup.specs.Scanning.{BeginsScan};
 ghost use Rattle.region_layout.specs.Names.{AreNames};
 ghost use Rattle.leaf_opening.specs.declared.ways.Way.TheVariants as way;
 ghost use Rattle.leaf_opening.specs.declared.ways.StartFault.TheVariants as fault;
 ghost use Rattle.leaf_opening.specs.Backed.{Backed, Rests};
-ghost use Rattle.leaf_opening.specs.Starts.{Started, IsRefusal, IsWayOf, AreFresh, OpensFrom, KeepsDisks, IsDurable, serving_of};
+ghost use Rattle.leaf_opening.specs.Starts.{Started, IsOpeningRefusal, IsWayOf, AreFresh, OpensFrom, KeepsDisks, IsDurable, serving_of};
 
 use crate::ways::{StartFault, Way};
 use adopt::{Adopted, Found, WhyDisk, adopt};
@@ -44,7 +44,7 @@ pub fn open_tables<B: Berth>(
     // Where the berth tells its contents: on any bytes, and where they are what a leaf left.
     ensures told { IsTrue (B.meaning berth.old).tells → IfOk result (λ o. Started names.now (B.meaning berth.old) (B.meaning berth.new) (serving_of names.now o) o.way) }
     ensures way { IsTrue (B.meaning berth.old).tells → IfOk result (λ o. IsWayOf (B.meaning berth.old).held.region o.way) }
-    ensures refused { IsTrue (B.meaning berth.old).tells → IfErr result (IsRefusal names.now (B.meaning berth.old) (B.meaning berth.new)) }
+    ensures refused { IsTrue (B.meaning berth.old).tells → IfErr result (IsOpeningRefusal names.now (B.meaning berth.old) (B.meaning berth.new)) }
     ensures backed { (writes : List ℕ → List Write) → IsTrue (B.meaning berth.old).tells → Rests writes (B.meaning berth.old)
         → IfOk result (λ o. Backed writes (serving_of names.now o) (B.meaning berth.new)) }
     ensures rests { (writes : List ℕ → List Write) → IsTrue (B.meaning berth.old).tells → Rests writes (B.meaning berth.old)
@@ -55,7 +55,7 @@ pub fn open_tables<B: Berth>(
     ensures moments { IsTrue (B.meaning berth.old).tells → Throughout (OpensFrom (B.meaning berth.old)) (B.meaning berth.old) (B.meaning berth.new) }
     ensures disks { IsTrue (B.meaning berth.old).tells → KeepsDisks (B.meaning berth.old) (B.meaning berth.new) result }
     ensures durable { IsTrue (B.meaning berth.old).tells → IfOk result (IsDurable (B.meaning berth.new)) }
-    ensures held { IsTrue (B.meaning berth.old).tells → Begins (length (B.meaning berth.old).held.disk) (B.meaning berth.old).held.disk (B.meaning berth.new).held.disk }
+    ensures held { IsTrue (B.meaning berth.old).tells → BeginsScan (length (B.meaning berth.old).held.disk) (B.meaning berth.old).held.disk (B.meaning berth.new).held.disk }
     ensures log_room { IfOk result (λ o. o.log.end < 2 ^ 63) }
     // On every berth.
     ensures time { Passes (B.meaning berth.old) (B.meaning berth.new) }

@@ -7,7 +7,7 @@ use Rattle.leaf_history.specs.Replies as reply
 use Rattle.row_records.specs.Records.{LogRecord}
 use Rattle.leaf_table.specs.declared.base.TableBase.{TableBase}
 use Rattle.leaf_table.specs.Turns.{Shared}
-use Rattle.leaf_table.specs.Calls.{SeatView, Made, base_of, state_seen, IsFresh}
+use Rattle.leaf_table.specs.Calls.{SeatView, Made, base_seen, state_seen, IsFresh}
 use Rattle.leaf_table.proofs.Knowing.{open_after_take, taken_after_take, live_after_flushed}
 use Rattle.leaf_steward.specs.declared.notes.Note.{Note}
 use Rattle.leaf_steward.specs.declared.notes.What.{What}
@@ -36,7 +36,7 @@ entry_tables clock x note y one = ap (λ (s : Seated). s.tables) one.now
 
 pub entry_seated : (clock : ℕ) (x : Seated) (note : Note) (y : Seated) → AreSeated x → OneEntry clock x note y → AreSeated y
 entry_seated clock x note y s one =
-    let some = some_entry (base_of one.table) clock one.before note.what one.after one.made in
+    let some = some_entry (base_seen one.table) clock one.before note.what one.after one.made in
     let seated = keeps_seated one.table clock one.before one.after some.call some.reply (s.each note.table one.table one.before one.at one.was) some.made in
     subst AreSeated (sym one.now) (seated_with x note.table one.table one.after s one.at seated)
 
@@ -47,7 +47,7 @@ entry_each P Q clock x note y one others here each = subst (AtEach Q) (sym one.n
 
 pub entry_spares : (n clock : ℕ) (x : Seated) (note : Note) (y : Seated) → OneEntry clock x note y → AtEach (λ p t v. Spares (n + 1) t v) x → AtEach (λ p t v. Spares n t v) y
 entry_spares n clock x note y one spares =
-    let some = some_entry (base_of one.table) clock one.before note.what one.after one.made in
+    let some = some_entry (base_seen one.table) clock one.before note.what one.after one.made in
     entry_each (λ p t v. Spares (n + 1) t v) (λ p t v. Spares n t v) clock x note y one (λ p u v apart h. omega (arith, h))
     (spares_less one.table clock n one.before one.after some.call some.reply some.made (spares note.table one.table one.before one.at one.was)) spares
 
@@ -80,15 +80,15 @@ take_open clock x place number n pending y s spares h open_ =
     let seated = s.each place h.table h.before h.at h.was in
     let steward = may_enter h.table h.before seated (spares h.table h.before h.at h.was) in
     entry_each (λ p t v. IsOpen t v) (λ p t v. IsOpen t v) clock x (record { table = place; number = number; what = Took n }) y (take_entry clock x place number n pending y h) (λ p u v apart is. is)
-    (open_after_take (base_of h.table) clock n h.before h.after h.made steward seated.seat.has_id (open_ place h.table h.before h.at h.was)) open_
+    (open_after_take (base_seen h.table) clock n h.before h.after h.made steward seated.seat.has_id (open_ place h.table h.before h.at h.was)) open_
 
 -- the steward has taken as many as it was told
-pub taken_there : (clock : ℕ) (x : Seated) (place number n : ℕ) (pending : Option LogRecord) (y : Seated) → TakesAt clock x place number n pending y → AtPlace (λ t v. n ≤ (state_seen (base_of t) v).taken) y place
+pub taken_there : (clock : ℕ) (x : Seated) (place number n : ℕ) (pending : Option LogRecord) (y : Seated) → TakesAt clock x place number n pending y → AtPlace (λ t v. n ≤ (state_seen (base_seen t) v).taken) y place
 taken_there clock x place number n pending y h = λ u v table seat.
     let same_table : h.table ≡ u = same_at x.tables place h.table u h.at (ap (λ (s : Seated). slice_get s.tables place) (sym h.now) ∙ table) in
     let same_seat : h.after ≡ v = same_at y.seats place h.after v (ap (λ (s : Seated). slice_get s.seats place) h.now ∙ set_get x.seats place h.before h.after h.was) seat in
-    let taken = taken_after_take (base_of h.table) clock n h.before h.after h.made in
-    subst (λ (s : SeatView). n ≤ (state_seen (base_of u) s).taken) same_seat (subst (λ (s : Shared). n ≤ (state_seen (base_of s) h.after).taken) same_table (omega (arith, taken)))
+    let taken = taken_after_take (base_seen h.table) clock n h.before h.after h.made in
+    subst (λ (s : SeatView). n ≤ (state_seen (base_seen u) s).taken) same_seat (subst (λ (s : Shared). n ≤ (state_seen (base_seen s) h.after).taken) same_table (omega (arith, taken)))
 
 pub flush_open : (clock : ℕ) (x : Seated) (place number n : ℕ) (y : Seated) → AreSeated x → AtPlace (Spares 1) x place → OneEntry clock x (record { table = place; number = number; what = Flushed n }) y
     → AtEach (λ p t v. IsOpen t v) x → AtEach (λ p t v. IsOpen t v) y
@@ -96,7 +96,7 @@ flush_open clock x place number n y s spares h open_ =
     let seated = s.each place h.table h.before h.at h.was in
     let steward = may_enter h.table h.before seated (spares h.table h.before h.at h.was) in
     entry_each (λ p t v. IsOpen t v) (λ p t v. IsOpen t v) clock x (record { table = place; number = number; what = Flushed n }) y h (λ p u v apart is. is)
-    (live_after_flushed (base_of h.table) clock n h.before h.after reply.Noted h.made steward seated.seat.has_id ∙ open_ place h.table h.before h.at h.was) open_
+    (live_after_flushed (base_seen h.table) clock n h.before h.after reply.Noted h.made steward seated.seat.has_id ∙ open_ place h.table h.before h.at h.was) open_
 
 -- a seat that was not used is fresh
 pub unused_fresh : (t : Shared) (v : SeatView) → IsUnused t v → IsFresh v

@@ -3,7 +3,7 @@ use Rattle.std.proofs.Common.{◌≡◌, ◌≢◌, ℕ, zero, suc, ◌+◌, ◌
 use Rattle.std.proofs.lemmas.Option.{slice_get_within}
 use Rattle.table_state.specs.Tables.{Table}
 use Rattle.leaf_table.specs.Turns.{Shared}
-use Rattle.leaf_table.specs.Calls.{SeatView, base_of}
+use Rattle.leaf_table.specs.Calls.{SeatView, base_seen}
 use Rattle.leaf_table.proofs.Knowing.{shut_after_shut}
 use Rattle.leaf_steward.specs.declared.notes.Note.{Note}
 use Rattle.leaf_steward.specs.declared.notes.What.{What}
@@ -98,7 +98,7 @@ pub shut_there : (clock : ℕ) (x : Seated) (place number n : ℕ) (t : Table) (
 shut_there clock x place number n t y h = λ u v table seat.
     let same_table : h.table ≡ u = same_at x.tables place h.table u h.at (ap (λ (s : Seated). slice_get s.tables place) (sym h.now) ∙ table) in
     let same_seat : h.after ≡ v = same_at y.seats place h.after v (ap (λ (s : Seated). slice_get s.seats place) h.now ∙ set_get x.seats place h.before h.after h.was) seat in
-    subst (λ (s : SeatView). IsShut u s) same_seat (subst (λ (s : Shared). IsShut s h.after) same_table (shut_after_shut (base_of h.table) clock n h.before h.after h.made))
+    subst (λ (s : SeatView). IsShut u s) same_seat (subst (λ (s : Shared). IsShut s h.after) same_table (shut_after_shut (base_seen h.table) clock n h.before h.after h.made))
 
 -- each table from the first to the place is noted so
 abbrev pub IsNoted : (What → Type 0) → ℕ → ℕ → List Note → Type 0

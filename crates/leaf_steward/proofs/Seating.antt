@@ -12,7 +12,7 @@ use Rattle.leaf_history.specs.History.{Entry, LegalFrom}
 use Rattle.row_records.specs.Records.{LogRecord}
 use Rattle.leaf_table.specs.declared.replies.ClosedTable.{ClosedTable}
 use Rattle.leaf_table.specs.Turns.{Shared, Turns, is_founded, start_of, told, history, untaken_record}
-use Rattle.leaf_table.specs.Calls.{SeatView, Made, ClosedBy, base_of, name_of, seen_of, state_before, entry_of, IsFresh, IsSteward, IsWorn}
+use Rattle.leaf_table.specs.Calls.{SeatView, Made, ClosedBy, base_seen, name_of, seen_of, state_before, entry_seen, IsFresh, IsSteward, IsWorn}
 use Rattle.leaf_steward.specs.declared.notes.What.{What}
 use Rattle.leaf_steward.specs.Seated.{Seated, AtEach, AtPlace, IsSeated, IsUnused, AreSeated, Spares, with_seat}
 use Rattle.leaf_steward.specs.Making.{MadeAs, OneEntry, TakesAt, ShutsAt, WornAt}
@@ -78,9 +78,9 @@ seen_length v = length-map v.seen told
 longer : (xs ys : List Entry) (e : Entry) → length xs ≤ length ((xs ++ ys) ++ e ∷ [])
 longer xs ys e = omega (arith, length-append (xs ++ ys) (e ∷ []), length-append xs ys)
 
-pub sees_more : (t : Shared) (clock : ℕ) (v w : SeatView) (c : Call) (r : Reply) → Made (base_of t) clock v c r w → length v.seen ≤ length w.seen
+pub sees_more : (t : Shared) (clock : ℕ) (v w : SeatView) (c : Call) (r : Reply) → Made (base_seen t) clock v c r w → length v.seen ≤ length w.seen
 sees_more t clock v w c r m =
-    let e = entry_of v.id clock c r in
+    let e = entry_seen v.id clock c r in
     let was = seen_length v in
     let now = seen_length w in
     let seen = ap (λ (es : List Entry). length es) m.seen in
@@ -88,7 +88,7 @@ sees_more t clock v w c r m =
     omega (arith, was, now, seen, more)
 
 -- an entry keeps a seat seated
-pub keeps_seated : (t : Shared) (clock : ℕ) (v w : SeatView) (c : Call) (r : Reply) → IsSeated t v → Made (base_of t) clock v c r w → IsSeated t w
+pub keeps_seated : (t : Shared) (clock : ℕ) (v w : SeatView) (c : Call) (r : Reply) → IsSeated t v → Made (base_seen t) clock v c r w → IsSeated t w
 keeps_seated t clock v w c r s m =
     let share = ap (λ (u : SeatView). u.share) m.place ∙ s.share in
     let more = sees_more t clock v w c r m in record {
@@ -101,7 +101,7 @@ keeps_seated t clock v w c r s m =
     }
 
 -- one entry takes at most one of its room
-pub spares_less : (t : Shared) (clock n : ℕ) (v w : SeatView) (c : Call) (r : Reply) → Made (base_of t) clock v c r w → n + 1 ≤ v.room → n ≤ w.room
+pub spares_less : (t : Shared) (clock n : ℕ) (v w : SeatView) (c : Call) (r : Reply) → Made (base_seen t) clock v c r w → n + 1 ≤ v.room → n ≤ w.room
 spares_less t clock n v w c r m spares = let room = m.room.1 in omega (arith, room, spares)
 
 -- it may make an entry while it spares one
@@ -112,15 +112,15 @@ pub fresh_spares : (t : Shared) (v : SeatView) → IsSeated t v → IsFresh v �
 fresh_spares t v s fresh = s.room fresh
 
 -- of two legal histories that a seat is told it has seen one
-pub told_legal : (t : Shared) (v u w : SeatView) → LegalFrom (is_founded (base_of t)) (start_of (base_of t)) (seen_of v) → LegalFrom (is_founded (base_of t)) (start_of (base_of t)) (seen_of u) → Told v u w
-    → LegalFrom (is_founded (base_of t)) (start_of (base_of t)) (seen_of w)
+pub told_legal : (t : Shared) (v u w : SeatView) → LegalFrom (is_founded (base_seen t)) (start_of (base_seen t)) (seen_of v) → LegalFrom (is_founded (base_seen t)) (start_of (base_seen t)) (seen_of u) → Told v u w
+    → LegalFrom (is_founded (base_seen t)) (start_of (base_seen t)) (seen_of w)
 told_legal t v u w own theirs h = ⊎_elim (λ is. legal_as v.seen own is) (λ is. legal_as u.seen theirs is) h.longer.one
   where
-    legal_as : (es : Turns) → LegalFrom (is_founded (base_of t)) (start_of (base_of t)) (history es) → h.seen ≡ es → LegalFrom (is_founded (base_of t)) (start_of (base_of t)) (seen_of w)
-    legal_as es legal is = subst (λ (l : Turns). LegalFrom (is_founded (base_of t)) (start_of (base_of t)) (history l)) (sym (ap (λ (x : SeatView). x.seen) h.view ∙ is)) legal
+    legal_as : (es : Turns) → LegalFrom (is_founded (base_seen t)) (start_of (base_seen t)) (history es) → h.seen ≡ es → LegalFrom (is_founded (base_seen t)) (start_of (base_seen t)) (seen_of w)
+    legal_as es legal is = subst (λ (l : Turns). LegalFrom (is_founded (base_seen t)) (start_of (base_seen t)) (history l)) (sym (ap (λ (x : SeatView). x.seen) h.view ∙ is)) legal
 
 -- a seat that was told what another has seen is still seated
-pub told_seated : (t : Shared) (v u w : SeatView) → IsSeated t v → LegalFrom (is_founded (base_of t)) (start_of (base_of t)) (seen_of u) → Told v u w → IsSeated t w
+pub told_seated : (t : Shared) (v u w : SeatView) → IsSeated t v → LegalFrom (is_founded (base_seen t)) (start_of (base_seen t)) (seen_of u) → Told v u w → IsSeated t w
 told_seated t v u w s legal h =
     let seen = ap (λ (x : SeatView). x.seen) h.view in
     let more = prefix_length v.seen h.seen h.longer.own in
@@ -141,7 +141,7 @@ unused_seated t v h = record {
   id = ap (λ (x : SeatView). x.id) h.unused;
   share = ap (λ (x : SeatView). x.share) h.unused;
   none_taken = ap (λ (x : SeatView). x.taken) h.unused;
-  legal = subst (λ (l : Turns). LegalFrom (is_founded (base_of t)) (start_of (base_of t)) (history l)) (sym (ap (λ (x : SeatView). x.seen) h.unused)) tt;
+  legal = subst (λ (l : Turns). LegalFrom (is_founded (base_seen t)) (start_of (base_seen t)) (history l)) (sym (ap (λ (x : SeatView). x.seen) h.unused)) tt;
   room = λ fresh. subst (λ n. 1024 ≤ n) (sym (ap (λ (x : SeatView). x.room) h.unused)) (omega arith);
 }
 
@@ -194,11 +194,11 @@ pub steward_at : {x now : Seated} {place : ℕ} {t : Shared} {v : SeatView} → 
 steward_at {x} {now} {place} {t} {v} h is spares = may_enter t v h.seated (there (Spares 1) h is spares)
 
 -- its seats are as they have to be after an entry
-pub seated_after : {x : Seated} {place : ℕ} {t : Shared} {v : SeatView} → SitsAt x place t v → AreSeated x → {clock : ℕ} {c : Call} {r : Reply} {w : SeatView} → Made (base_of t) clock v c r w → AreSeated (with_seat x place w)
+pub seated_after : {x : Seated} {place : ℕ} {t : Shared} {v : SeatView} → SitsAt x place t v → AreSeated x → {clock : ℕ} {c : Call} {r : Reply} {w : SeatView} → Made (base_seen t) clock v c r w → AreSeated (with_seat x place w)
 seated_after {x} {place} {t} {v} h s {clock} {c} {r} {w} m = seated_with x place t w s h.at (keeps_seated t clock v w c r h.seated m)
 
 -- an entry with its note
-pub enters : {x now : Seated} {place : ℕ} {t : Shared} {v : SeatView} → SitsAt x place t v → x ≡ now → (clock number : ℕ) (what : What) (w : SeatView) → number ≡ length w.seen → MadeAs (base_of t) clock v what w
+pub enters : {x now : Seated} {place : ℕ} {t : Shared} {v : SeatView} → SitsAt x place t v → x ≡ now → (clock number : ℕ) (what : What) (w : SeatView) → number ≡ length w.seen → MadeAs (base_seen t) clock v what w
     → OneEntry clock now (record { table = place; number = number; what = what }) (with_seat x place w)
 enters {x} {now} {place} {t} {v} h is clock number what w counted made = record {
   table = t;
@@ -212,7 +212,7 @@ enters {x} {now} {place} {t} {v} h is clock number what w counted made = record 
 }
 
 pub takes : {x now : Seated} {place : ℕ} {t : Shared} {v : SeatView} → SitsAt x place t v → x ≡ now → (clock number n : ℕ) (pending : Option LogRecord) (w : SeatView) → IsFresh v → number ≡ length w.seen
-    → (m : Made (base_of t) clock v call.Take (reply.Counted n) w) → pending ≡ untaken_record (name_of t) (state_before (base_of t) v m.between) → TakesAt clock now place number n pending (with_seat x place w)
+    → (m : Made (base_seen t) clock v call.Take (reply.Counted n) w) → pending ≡ untaken_record (name_of t) (state_before (base_seen t) v m.between) → TakesAt clock now place number n pending (with_seat x place w)
 takes {x} {now} {place} {t} {v} h is clock number n pending w fresh counted made record_is = record {
   table = t;
   before = v;
@@ -226,7 +226,7 @@ takes {x} {now} {place} {t} {v} h is clock number n pending w fresh counted made
   now = ap (λ (y : Seated). with_seat y place w) is;
 }
 
-pub shuts : {x now : Seated} {place : ℕ} {t : Shared} {v : SeatView} → SitsAt x place t v → x ≡ now → (clock : ℕ) (closed : ClosedTable) (w : SeatView) → ClosedBy (name_of t) (base_of t) clock v closed w
+pub shuts : {x now : Seated} {place : ℕ} {t : Shared} {v : SeatView} → SitsAt x place t v → x ≡ now → (clock : ℕ) (closed : ClosedTable) (w : SeatView) → ClosedBy (name_of t) (base_seen t) clock v closed w
     → ShutsAt clock now place closed.number closed.table.writes closed.table (with_seat x place w)
 shuts {x} {now} {place} {t} {v} h is clock closed w by = counted_as closed.table.writes by.writes
   where
@@ -261,7 +261,7 @@ pub fresh_at : {x now : Seated} {place : ℕ} {t : Shared} {v : SeatView} → Si
 fresh_at {x} {now} {place} {t} {v} h is fresh = let room = h.seated.room (there (λ u s. IsFresh s) h is fresh) in may_enter t v h.seated (omega (arith, room))
 
 -- and spares many an entry after that
-pub spares_after : {x now : Seated} {place : ℕ} {t : Shared} {v : SeatView} → SitsAt x place t v → x ≡ now → AtPlace (λ u s. IsFresh s) now place → {clock : ℕ} {c : Call} {r : Reply} {w : SeatView} → Made (base_of t) clock v c r w → Spares 1000 t w
+pub spares_after : {x now : Seated} {place : ℕ} {t : Shared} {v : SeatView} → SitsAt x place t v → x ≡ now → AtPlace (λ u s. IsFresh s) now place → {clock : ℕ} {c : Call} {r : Reply} {w : SeatView} → Made (base_seen t) clock v c r w → Spares 1000 t w
 spares_after {x} {now} {place} {t} {v} h is fresh {clock} {c} {r} {w} m =
     let room = h.seated.room (there (λ u s. IsFresh s) h is fresh) in
     spares_less t clock 1000 v w c r m (omega (arith, room))
@@ -270,14 +270,14 @@ spares_after {x} {now} {place} {t} {v} h is fresh {clock} {c} {r} {w} m =
 
 -- a caller's seat of that table, which has seen a legal history
 abbrev pub IsCallersOf : SeatView → Shared → SeatView → Type 0
-IsCallersOf u t v = IsSeatOf u t.site × LegalFrom (is_founded (base_of t)) (start_of (base_of t)) (seen_of u)
+IsCallersOf u t v = IsSeatOf u t.site × LegalFrom (is_founded (base_seen t)) (start_of (base_seen t)) (seen_of u)
 
 pub met_seated : {x now : Seated} {place : ℕ} {t : Shared} {v : SeatView} → SitsAt x place t v → x ≡ now → AreSeated x → (u w : SeatView) → AtPlace (IsCallersOf u) now place → Told v u w → AreSeated (with_seat x place w)
 met_seated {x} {now} {place} {t} {v} h is s u w callers told = seated_with x place t w s h.at (told_seated t v u w h.seated (there (IsCallersOf u) h is callers).1 told)
 
 -- what the steward's seat has learned
 abbrev pub Learned : Seated → Seated → ℕ → SeatView → Shared → SeatView → Type 0
-Learned now after place u t v = (w : SeatView) × (after ≡ with_seat now place w) × Told v u w × LearnsOthers v w × LegalFrom (is_founded (base_of t)) (start_of (base_of t)) (seen_of w)
+Learned now after place u t v = (w : SeatView) × (after ≡ with_seat now place w) × Told v u w × LearnsOthers v w × LegalFrom (is_founded (base_seen t)) (start_of (base_seen t)) (seen_of w)
 
 pub meets : {x now : Seated} {place : ℕ} {t : Shared} {v : SeatView} → SitsAt x place t v → x ≡ now → (u w : SeatView) → AtPlace (IsCallersOf u) now place → Told v u w → LearnsOthers v w
     → AtPlace (Learned now (with_seat x place w) place u) now place
@@ -291,7 +291,7 @@ meets {x} {now} {place} {t} {v} h is u w callers told others = everywhere (Learn
 
 -- what the caller's seat has learned
 abbrev pub Heard : SeatView → SeatView → Shared → SeatView → Type 0
-Heard u w t v = IsSeatOf w t.site × Told u v w × LearnsOthers u w × LegalFrom (is_founded (base_of t)) (start_of (base_of t)) (seen_of w)
+Heard u w t v = IsSeatOf w t.site × Told u v w × LearnsOthers u w × LegalFrom (is_founded (base_seen t)) (start_of (base_seen t)) (seen_of w)
 
 pub met_seat : {x now : Seated} {place : ℕ} {t : Shared} {v : SeatView} → SitsAt x place t v → x ≡ now → (u w : SeatView) → AtPlace (IsCallersOf u) now place → IsSeatOf w t.site → Told u v w → LearnsOthers u w → AtPlace (Heard u w) now place
 met_seat {x} {now} {place} {t} {v} h is u w callers seat told others =

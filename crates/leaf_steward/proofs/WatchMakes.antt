@@ -12,7 +12,7 @@ use Rattle.leaf_history.specs.Replies.{Reply}
 use Rattle.leaf_history.specs.Replies as reply
 use Rattle.leaf_table.specs.declared.base.TableBase.{TableBase}
 use Rattle.leaf_table.specs.Turns.{Shared, is_founded}
-use Rattle.leaf_table.specs.Calls.{SeatView, Made, base_of}
+use Rattle.leaf_table.specs.Calls.{SeatView, Made, base_seen}
 use Rattle.crash_moments.specs.Watched.{Watched}
 use Rattle.crash_moments.specs.Told.{SeenMore}
 use Rattle.crash_moments.proofs.Telling.{between_append, more_on, none_more}
@@ -54,11 +54,11 @@ module _ (clock : ℕ) (x : Seated) (note : Note) (y : Seated) (one : OneEntry c
   entry_tables = ap (λ (s : Seated). s.tables) one.now
 
   entry_founded : AreFounded x → AreFounded y
-  entry_founded founded = subst (λ (ts : List Shared). AllByRecursion (λ (t : Shared). is_founded (base_of t) ≡ true) ts) (sym entry_tables) founded
+  entry_founded founded = subst (λ (ts : List Shared). AllByRecursion (λ (t : Shared). is_founded (base_seen t) ≡ true) ts) (sym entry_tables) founded
 
   entry_seated : AreSeated x → AreSeated y
   entry_seated seated =
-      let made = made_of (base_of one.table) clock one.before one.after note.what one.made in
+      let made = made_of (base_seen one.table) clock one.before one.after note.what one.made in
       let sits : IsSeated one.table one.after = watch_stays one.table one.before one.after clock made.0 made.1 (seated.each note.table one.table one.before one.at one.was) made.2 in
       subst AreSeated (sym one.now) (record {
         named = seated.named;
@@ -70,8 +70,8 @@ module _ (clock : ℕ) (x : Seated) (note : Note) (y : Seated) (one : OneEntry c
 
   entry_more : (from to : ℕ) → from ≤ clock → clock ≤ to → AreSeated x → AreFounded x → SeenMore from to (watched_by x) (watched_by y)
   entry_more from to low high seated founded =
-      let made = made_of (base_of one.table) clock one.before one.after note.what one.made in
-      let is_base : is_founded (base_of one.table) ≡ true = watch_all (λ (t : Shared). is_founded (base_of t) ≡ true) x.tables note.table one.table founded one.at in
+      let made = made_of (base_seen one.table) clock one.before one.after note.what one.made in
+      let is_base : is_founded (base_seen one.table) ≡ true = watch_all (λ (t : Shared). is_founded (base_seen t) ≡ true) x.tables note.table one.table founded one.at in
       let enters : Enters clock made.0 made.1 (watched one.table one.before) (watched one.table one.after) =
       (enters_made one.table one.before one.after clock made.0 made.1 is_base (seated.each note.table one.table one.before one.at one.was) made.2).0 in
       let now : watched_by y ≡ slice_set (watched_by x) note.table (watched one.table one.after) = ap (λ (s : Seated). watched_by s) one.now ∙ set_watch x.tables x.seats note.table one.table one.after one.at in
@@ -139,7 +139,7 @@ pub record MadeAt (P : ℕ → What → Type 0) (from to place : ℕ) (t : Share
   pub high : clock ≤ to
   pub what : What
   pub noted : P place what
-  pub made : MadeAs (base_of t) clock v what w
+  pub made : MadeAs (base_seen t) clock v what w
 
 -- the tables before them are as they were, and each of them has its entry
 pub record Went (P : ℕ → What → Type 0) (from to first count : ℕ) (x y : Seated) : Type 0 where
@@ -177,9 +177,9 @@ went_more P from to first count fewer clock x note between y more place_is kind 
         let before : one.before ≡ v = watch_same (slice_get x.seats first) one.before v (subst (λ (k : ℕ). slice_get x.seats k ≡ Some one.before) place_is one.was) was in
         let put : slice_get (slice_set x.seats first one.after) first ≡ Some w = ap (λ (s : Seated). slice_get s.seats first) (sym now) ∙ sym (went.before first (omega arith)) ∙ is in
         let after : one.after ≡ w = watch_put x.seats first one.after w put in
-        let by_table : MadeAs (base_of t) clock one.before note.what one.after = subst (λ (u : Shared). MadeAs (base_of u) clock one.before note.what one.after) table one.made in
-        let by_seat : MadeAs (base_of t) clock v note.what one.after = subst (λ (u : SeatView). MadeAs (base_of t) clock u note.what one.after) before by_table in
-        record { clock = clock; low = low; high = high; what = note.what; noted = kind; made = subst (λ (u : SeatView). MadeAs (base_of t) clock v note.what u) after by_seat }
+        let by_table : MadeAs (base_seen t) clock one.before note.what one.after = subst (λ (u : Shared). MadeAs (base_seen u) clock one.before note.what one.after) table one.made in
+        let by_seat : MadeAs (base_seen t) clock v note.what one.after = subst (λ (u : SeatView). MadeAs (base_seen t) clock u note.what one.after) before by_table in
+        record { clock = clock; low = low; high = high; what = note.what; noted = kind; made = subst (λ (u : SeatView). MadeAs (base_seen t) clock v note.what u) after by_seat }
 
     each : (place : ℕ) (t : Shared) (v w : SeatView) → first ≤ place → place < first + count
         → slice_get x.tables place ≡ Some t → slice_get x.seats place ≡ Some v → slice_get y.seats place ≡ Some w → MadeAt P from to place t v w

@@ -10,11 +10,11 @@ use Rattle.leaf_history.specs.Calls.{Call}
 use Rattle.leaf_history.specs.Calls as call
 use Rattle.leaf_history.specs.Replies.{Reply}
 use Rattle.leaf_history.specs.Replies as reply
-use Rattle.leaf_history.specs.History.{TableState, LegalFrom}
+use Rattle.leaf_history.specs.History.{HistoryState, LegalFrom}
 use Rattle.turnstile.specs.Seats.{LearnsOthers, Told}
 use Rattle.leaf_table.specs.declared.base.TableBase.{TableBase}
 use Rattle.leaf_table.specs.Turns.{Shared, is_founded, start_of}
-use Rattle.leaf_table.specs.Calls.{SeatView, Made, base_of, name_of, seen_of, state_seen}
+use Rattle.leaf_table.specs.Calls.{SeatView, Made, base_seen, name_of, seen_of, state_seen}
 use Rattle.crash_moments.specs.Watched.{Watched, now_of}
 use Rattle.crash_moments.specs.Told.{SeenMore}
 use Rattle.crash_states.specs.Standing.{MayHave}
@@ -30,16 +30,16 @@ use Rattle.leaf_steward.proofs.WatchMakes.{IsOpenedAs, MadeAt, Went, each_noted,
 use Rattle.leaf_steward.proofs.WatchLists.{ShutsOne, OpensOne, HandsOne, shuts_all, opens_all, hands_all}
 
 -- an entry of the steward at a founded table: what came between is what callers did just before it
-pub made_enters : (t : Shared) (v w : SeatView) (clock : ℕ) (c : Call) (r : Reply) → is_founded (base_of t) ≡ true → IsSeated t v → (made : Made (base_of t) clock v c r w)
+pub made_enters : (t : Shared) (v w : SeatView) (clock : ℕ) (c : Call) (r : Reply) → is_founded (base_seen t) ≡ true → IsSeated t v → (made : Made (base_seen t) clock v c r w)
     → (e : Enters clock c r (watched t v) (watched t w)) × (e.between ≡ made.between)
 made_enters t v w clock c r founded seated made = enters_made t v w clock c r founded seated made
 
 -- the state that a seat has seen is the watched table's
-pub now_seen : (t : Shared) (v : SeatView) → is_founded (base_of t) ≡ true → now_of (watched t v) ≡ state_seen (base_of t) v
+pub now_seen : (t : Shared) (v : SeatView) → is_founded (base_seen t) ≡ true → now_of (watched t v) ≡ state_seen (base_seen t) v
 now_seen t v founded = seen_now t v founded
 
 -- a meeting at a founded table
-pub met_learns : (t : Shared) (v u w : SeatView) → is_founded (base_of t) ≡ true → IsSeated t v → Told v u w → LearnsOthers v w → LegalFrom (is_founded (base_of t)) (start_of (base_of t)) (seen_of w)
+pub met_learns : (t : Shared) (v u w : SeatView) → is_founded (base_seen t) ≡ true → IsSeated t v → Told v u w → LearnsOthers v w → LegalFrom (is_founded (base_seen t)) (start_of (base_seen t)) (seen_of w)
     → Learns (watched t v) (watched t w)
 met_learns t v u w founded seated told others legal = learns_met t v u w founded seated told others legal
 
@@ -70,14 +70,14 @@ same_length : (clock : ℕ) (x : Seated) (notes : List Note) (y : Seated) → Ar
 same_length clock x notes y seated makes =
     watch_length y (makes_seated clock clock x notes y makes seated) ∙ ap (λ (ts : List Shared). length ts) (makes_tables clock clock x notes y makes) ∙ sym (watch_length x seated)
 
-founded_at : (x : Seated) (place : ℕ) (t : Shared) → AreFounded x → slice_get x.tables place ≡ Some t → is_founded (base_of t) ≡ true
-founded_at x place t founded at = watch_all (λ (s : Shared). is_founded (base_of s) ≡ true) x.tables place t founded at
+founded_at : (x : Seated) (place : ℕ) (t : Shared) → AreFounded x → slice_get x.tables place ≡ Some t → is_founded (base_seen t) ≡ true
+founded_at x place t founded at = watch_all (λ (s : Shared). is_founded (base_seen s) ≡ true) x.tables place t founded at
 
 -- what is made between a moment and the same is made then
-made_then : (P : ℕ → What → Type 0) (clock place : ℕ) (t : Shared) (v w : SeatView) → (m : MadeAt P clock clock place t v w) → MadeAs (base_of t) clock v m.what w
+made_then : (P : ℕ → What → Type 0) (clock place : ℕ) (t : Shared) (v w : SeatView) → (m : MadeAt P clock clock place t v w) → MadeAs (base_seen t) clock v m.what w
 made_then P clock place t v w m =
     let then : m.clock ≡ clock = omega (arith, m.low, m.high) in
-    subst (λ (k : ℕ). MadeAs (base_of t) k v m.what w) then m.made
+    subst (λ (k : ℕ). MadeAs (base_seen t) k v m.what w) then m.made
 
 is_shut : (base : Option TableBase) (clock : ℕ) (v w : SeatView) (what : What) → IsClosedNote what → MadeAs base clock v what w → (n : ℕ) × Made base clock v call.Shut (reply.Counted n) w
 is_shut base clock v w (Opened n) closed made = absurd closed
@@ -99,10 +99,10 @@ shuts_one : (clock first count : ℕ) (x y : Seated) → AreSeated x → AreFoun
 shuts_one clock first count x y seated founded went all shut place t v w here was is = elim (cases_lt place first) [
   | inl lower ↦
       let same : w ≡ v = watch_same (slice_get x.seats place) w v (sym (went.before place lower) ∙ is) was in
-      inl (ap (λ (s : TableState). s.live) (now_seen t v (founded_at x place t founded here)) ∙ shut place t v here was lower, ap (λ (u : SeatView). watched t u) same)
+      inl (ap (λ (s : HistoryState). s.live) (now_seen t v (founded_at x place t founded here)) ∙ shut place t v here was lower, ap (λ (u : SeatView). watched t u) same)
   | inr least ↦
       let m : MadeAt (λ i what. IsClosedNote what) clock clock place t v w = went.noted place t v w least (omega (arith, slice_get_within x.tables place t here, all)) here was is in
-      let made = is_shut (base_of t) clock v w m.what m.noted (made_then (λ i what. IsClosedNote what) clock place t v w m) in
+      let made = is_shut (base_seen t) clock v w m.what m.noted (made_then (λ i what. IsClosedNote what) clock place t v w m) in
       inr (made.0, (made_enters t v w clock call.Shut (reply.Counted made.0) (founded_at x place t founded here) (seated.each place t v here was) made.1).0)
 ]
 
@@ -110,7 +110,7 @@ hands_one : (clock : ℕ) (x y : Seated) → AreSeated x → AreFounded x → We
     → (place : ℕ) (t : Shared) (v w : SeatView) → slice_get x.tables place ≡ Some t → slice_get x.seats place ≡ Some v → slice_get y.seats place ≡ Some w → HandsOne clock (watched t v) (watched t w)
 hands_one clock x y seated founded went place t v w here was is =
     let m : MadeAt (λ i what. IsHandedNote what) clock clock place t v w = went.noted place t v w (omega arith) (omega (arith, slice_get_within x.tables place t here)) here was is in
-    let made = is_done (base_of t) clock v w m.what m.noted (made_then (λ i what. IsHandedNote what) clock place t v w m) in
+    let made = is_done (base_seen t) clock v w m.what m.noted (made_then (λ i what. IsHandedNote what) clock place t v w m) in
     (made_enters t v w clock call.Done reply.Noted (founded_at x place t founded here) (seated.each place t v here was) made).0
 
 opens_one : (clock : ℕ) (x y : Seated) (tables : List Table) (writes : List ℕ → List Write) → AreSeated x → AreFounded x → Went (IsOpenedAs tables) clock clock 0 (length tables) x y → length tables ≡ length x.tables
@@ -120,15 +120,15 @@ opens_one : (clock : ℕ) (x y : Seated) (tables : List Table) (writes : List �
 opens_one clock x y tables writes seated founded went count are may place t v w here was is =
     let m : MadeAt (IsOpenedAs tables) clock clock place t v w = went.noted place t v w (omega arith) (omega (arith, slice_get_within x.tables place t here, count)) here was is in
     let n : ℕ = m.noted.0.writes in
-    let made : MadeAs (base_of t) clock v (Opened n) w = subst (λ (what : What). MadeAs (base_of t) clock v what w) m.noted.2 (made_then (IsOpenedAs tables) clock place t v w m) in
+    let made : MadeAs (base_seen t) clock v (Opened n) w = subst (λ (what : What). MadeAs (base_seen t) clock v what w) m.noted.2 (made_then (IsOpenedAs tables) clock place t v w m) in
     let there : slice_get (watched_by x) place ≡ Some (watched t v) = watch_get x place t v here was in
     let own : List Write = writes (name_of t) in
     let as_many : n ≡ length own = are place (watched t v) m.noted.0 there m.noted.1 in
-    let is_base : is_founded (base_of t) ≡ true = founded_at x place t founded here in
+    let is_base : is_founded (base_seen t) ≡ true = founded_at x place t founded here in
     let sits : IsSeated t v = seated.each place t v here was in
     let contents : made.0 ≡ content own = watch_contents t v w clock n made.0 own is_base sits made.1 (may place (watched t v) there) as_many in
-    let with_contents : Made (base_of t) clock v (call.Open n (content own)) reply.Noted w = subst (λ (c : Contents). Made (base_of t) clock v (call.Open n c) reply.Noted w) contents made.1 in
-    let opened : Made (base_of t) clock v (call.Open (length own) (content own)) reply.Noted w = subst (λ (k : ℕ). Made (base_of t) clock v (call.Open k (content own)) reply.Noted w) as_many with_contents in
+    let with_contents : Made (base_seen t) clock v (call.Open n (content own)) reply.Noted w = subst (λ (c : Contents). Made (base_seen t) clock v (call.Open n c) reply.Noted w) contents made.1 in
+    let opened : Made (base_seen t) clock v (call.Open (length own) (content own)) reply.Noted w = subst (λ (k : ℕ). Made (base_seen t) clock v (call.Open k (content own)) reply.Noted w) as_many with_contents in
     (made_enters t v w clock (call.Open (length own) (content own)) reply.Noted is_base sits opened).0
 
 -- each open table is shut, the first of which has this place

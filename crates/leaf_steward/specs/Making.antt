@@ -8,7 +8,7 @@ use Rattle.table_state.specs.Tables.{Table}
 use Rattle.row_records.specs.Records.{LogRecord}
 use Rattle.leaf_table.specs.declared.base.TableBase.{TableBase}
 use Rattle.leaf_table.specs.Turns.{Shared, untaken_record}
-use Rattle.leaf_table.specs.Calls.{SeatView, Made, base_of, name_of, state_before, IsFresh, IsWorn}
+use Rattle.leaf_table.specs.Calls.{SeatView, Made, base_seen, name_of, state_before, IsFresh, IsWorn}
 use Rattle.leaf_steward.specs.declared.notes.Note.{Note}
 use Rattle.leaf_steward.specs.declared.notes.What.{What}
 use Rattle.leaf_steward.specs.declared.notes.What.TheVariants.{Opened, Took, Flushed, Closed, Handed}
@@ -30,7 +30,7 @@ pub record OneEntry (clock : ℕ) (x : Seated) (note : Note) (y : Seated) : Type
   pub at : slice_get x.tables note.table ≡ Some table
   pub was : slice_get x.seats note.table ≡ Some before
   pub number : note.number ≡ length after.seen
-  pub made : MadeAs (base_of table) clock before note.what after
+  pub made : MadeAs (base_seen table) clock before note.what after
   pub now : y ≡ with_seat x note.table after
 
 -- entries were made one after another, from one clock of the berth to another, and these are their notes
@@ -81,8 +81,8 @@ pub record TakesAt (clock : ℕ) (x : Seated) (place number n : ℕ) (pending : 
   pub was : slice_get x.seats place ≡ Some before
   pub fresh : IsFresh before
   pub counted : number ≡ length after.seen
-  pub made : Made (base_of table) clock before call.Take (reply.Counted n) after
-  pub record_is : pending ≡ untaken_record (name_of table) (state_before (base_of table) before made.between)
+  pub made : Made (base_seen table) clock before call.Take (reply.Counted n) after
+  pub record_is : pending ≡ untaken_record (name_of table) (state_before (base_seen table) before made.between)
   pub now : y ≡ with_seat x place after
 
 -- it was shut after so many writes, and this is its content, with the record of those that were not taken
@@ -93,10 +93,10 @@ pub record ShutsAt (clock : ℕ) (x : Seated) (place number n : ℕ) (t : Table)
   pub at : slice_get x.tables place ≡ Some table
   pub was : slice_get x.seats place ≡ Some before
   pub counted : number ≡ length after.seen
-  pub made : Made (base_of table) clock before call.Shut (reply.Counted n) after
+  pub made : Made (base_seen table) clock before call.Shut (reply.Counted n) after
   pub writes : t.writes ≡ n
-  pub contents : t.contents ≡ held (state_before (base_of table) before made.between)
-  pub record_is : t.pending ≡ untaken_record (name_of table) (state_before (base_of table) before made.between)
+  pub contents : t.contents ≡ held (state_before (base_seen table) before made.between)
+  pub record_is : t.pending ≡ untaken_record (name_of table) (state_before (base_seen table) before made.between)
   pub now : y ≡ with_seat x place after
 
 -- the seat in that place is worn

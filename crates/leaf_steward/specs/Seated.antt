@@ -5,7 +5,7 @@ use Rattle.leaf_history.specs.History.{LegalFrom}
 use Rattle.region_layout.specs.Names.{AreNames}
 use Rattle.turnstile.specs.Seats.{IsSeatOf, unused_seat}
 use Rattle.leaf_table.specs.Turns.{Shared, is_founded, start_of}
-use Rattle.leaf_table.specs.Calls.{SeatView, base_of, name_of, seen_of, state_seen, IsFresh}
+use Rattle.leaf_table.specs.Calls.{SeatView, base_seen, name_of, seen_of, state_seen, IsFresh}
 use Rattle.crash_moments.specs.Watched.{Watched}
 
 -- the names of the tables, the tables in the same order, and the seat at each
@@ -28,16 +28,16 @@ pub record IsSeated (t : Shared) (v : SeatView) : Type 0 where
   pub id : v.id ≡ 0
   pub share : v.share ≡ 1
   pub none_taken : v.taken ≡ []
-  pub legal : LegalFrom (is_founded (base_of t)) (start_of (base_of t)) (seen_of v)
+  pub legal : LegalFrom (is_founded (base_seen t)) (start_of (base_seen t)) (seen_of v)
   pub room : IsFresh v → 1024 ≤ v.room
 
 -- the tables are founded
 abbrev pub AreFounded : Seated → Type 0
-AreFounded x = AllByRecursion (λ (t : Shared). is_founded (base_of t) ≡ true) x.tables
+AreFounded x = AllByRecursion (λ (t : Shared). is_founded (base_seen t) ≡ true) x.tables
 
 -- all of them are, or none is
 abbrev pub AreAlike : Seated → Type 0
-AreAlike x = AreFounded x ⊎ AllByRecursion (λ (t : Shared). is_founded (base_of t) ≡ false) x.tables
+AreAlike x = AreFounded x ⊎ AllByRecursion (λ (t : Shared). is_founded (base_seen t) ≡ false) x.tables
 
 -- what always holds of a leaf's seats
 pub record AreSeated (x : Seated) : Type 0 where
@@ -53,14 +53,14 @@ Spares n t v = n ≤ v.room
 
 -- it knows that its table is open, or shut
 abbrev pub IsOpen : Shared → SeatView → Type 0
-IsOpen t v = (state_seen (base_of t) v).live ≡ true
+IsOpen t v = (state_seen (base_seen t) v).live ≡ true
 
 abbrev pub IsShut : Shared → SeatView → Type 0
-IsShut t v = (state_seen (base_of t) v).live ≡ false
+IsShut t v = (state_seen (base_seen t) v).live ≡ false
 
 -- a table as its seat has seen it
 abbrev pub watched : Shared → SeatView → Watched
-watched t v = record { name = name_of t; base = start_of (base_of t); seen = seen_of v }
+watched t v = record { name = name_of t; base = start_of (base_seen t); seen = seen_of v }
 
 abbrev pub watch : List Shared → List SeatView → List Watched
 watch [] vs = []

@@ -4,7 +4,7 @@ ghost use Rattle.std.specs.List.{AllByRecursion};
 ghost use Rattle.table_state.specs.Tables.{Table};
 ghost use Rattle.leaf_history.specs.History as history;
 ghost use Rattle.leaf_table.specs.Turns.{Shared, is_founded, MayHandIn};
-ghost use Rattle.leaf_table.specs.Calls.{SeatView, base_of, state_seen, IsFresh};
+ghost use Rattle.leaf_table.specs.Calls.{SeatView, base_seen, state_seen, IsFresh};
 ghost use Rattle.leaf_steward.specs.declared.notes.Note.{Note};
 ghost use Rattle.leaf_steward.specs.declared.notes.What.TheVariants as what;
 ghost use Rattle.leaf_steward.specs.Seated.{AtEach, AtPlace, IsOpen, IsShut, Spares};
@@ -62,7 +62,7 @@ impl<'t> Seats<'t> {
         notes: &mut Notes,
     )
         requires table { table < length self.old.tables }
-        requires taken { AtPlace (λ t v. writes ≤ (state_seen (base_of t) v).taken) self.old table }
+        requires taken { AtPlace (λ t v. writes ≤ (state_seen (base_seen t) v).taken) self.old table }
         requires spares { AtPlace (Spares 1) self.old table }
         requires room { length notes.old < 32 }
         ensures { (number : ℕ) × OneEntry (B.meaning berth.now).clock self.old (record { table = table; number = number; what = what.Flushed writes }) self.new
@@ -156,7 +156,7 @@ impl<'t> Seats<'t> {
         requires shut { AtEach (λ place t v. IsShut t v) self.old }
         requires fresh { AtEach (λ place t v. IsFresh v) self.old }
         requires content { (place : ℕ) (t : Shared) (v : SeatView) (table : Table) → slice_get self.old.tables place ≡ Some t → slice_get self.old.seats place ≡ Some v
-            → slice_get tables.items place ≡ Some table → MayHandIn (is_founded (base_of t)) (state_seen (base_of t) v) table.writes table }
+            → slice_get tables.items place ≡ Some table → MayHandIn (is_founded (base_seen t)) (state_seen (base_seen t) v) table.writes table }
         ensures made { Makes (B.meaning berth.now).clock (B.meaning berth.now).clock self.old notes.new self.new }
         ensures each { OpenedNotes 0 tables.items notes.new }
         ensures open_ { AtEach (λ place t v. IsOpen t v) self.new }
@@ -206,7 +206,7 @@ impl<'t> Seats<'t> {
         requires table { table < length self.old.tables }
         requires shut { AtPlace IsShut self.old table }
         requires fresh { AtPlace (λ t v. IsFresh v) self.old table }
-        requires content { AtPlace (λ t v. MayHandIn (is_founded (base_of t)) (state_seen (base_of t) v) content.writes content) self.old table }
+        requires content { AtPlace (λ t v. MayHandIn (is_founded (base_seen t)) (state_seen (base_seen t) v) content.writes content) self.old table }
         requires room { length notes.old < 32 }
         ensures entry { (number : ℕ) × OneEntry (B.meaning berth.now).clock self.old (record { table = table; number = number; what = what.Opened content.writes }) self.new
             × (notes.new ≡ notes.old ++ record { table = table; number = number; what = what.Opened content.writes } ∷ []) }

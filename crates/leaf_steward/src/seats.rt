@@ -4,7 +4,7 @@ ghost use Rattle.leaf_history.specs.History.{LegalFrom};
 ghost use Rattle.region_layout.specs.Names.{AreNames};
 ghost use Rattle.turnstile.specs.Seats.{IsSeatOf, LearnsOthers, Told};
 ghost use Rattle.leaf_table.specs.Turns.{Shared, is_founded, start_of};
-ghost use Rattle.leaf_table.specs.Calls.{SeatView, base_of, name_of, seen_of, IsFresh, IsWorn};
+ghost use Rattle.leaf_table.specs.Calls.{SeatView, base_seen, name_of, seen_of, IsFresh, IsWorn};
 ghost use Rattle.leaf_steward.specs.Seated.{AreAlike, AreSeated, AtEach, AtPlace, IsUnused, with_seat};
 ghost use Rattle.leaf_steward.specs.Making.{WornAt};
 
@@ -87,11 +87,11 @@ impl<'t> Seats<'t> {
     /// Lets the steward's seat of that table and a caller's see what the other has seen. It makes no entry and takes no memory.
     pub fn meet(&mut self, table: u32, seat: &mut Seat) -> Result<(), AllocError>
         requires table { table < length self.old.tables }
-        requires seat { AtPlace (λ t v. IsSeatOf seat.old t.site × LegalFrom (is_founded (base_of t)) (start_of (base_of t)) (seen_of seat.old)) self.old table }
+        requires seat { AtPlace (λ t v. IsSeatOf seat.old t.site × LegalFrom (is_founded (base_seen t)) (start_of (base_seen t)) (seen_of seat.old)) self.old table }
         ensures learns { AtPlace (λ t v. (w : SeatView) × (self.new ≡ with_seat self.old table w) × Told v seat.old w × LearnsOthers v w
-            × LegalFrom (is_founded (base_of t)) (start_of (base_of t)) (seen_of w)) self.old table }
+            × LegalFrom (is_founded (base_seen t)) (start_of (base_seen t)) (seen_of w)) self.old table }
         ensures seat { AtPlace (λ t v. IsSeatOf seat.new t.site × Told seat.old v seat.new × LearnsOthers seat.old seat.new
-            × LegalFrom (is_founded (base_of t)) (start_of (base_of t)) (seen_of seat.new)) self.old table }
+            × LegalFrom (is_founded (base_seen t)) (start_of (base_seen t)) (seen_of seat.new)) self.old table }
         ensures done { IsOk result }
     {
         let place = table as usize;

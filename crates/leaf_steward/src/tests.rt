@@ -4,7 +4,7 @@ ghost use Rattle.std.specs.List.{AllByRecursion};
 ghost use Rattle.leaf_model.specs.Values.{IsRow};
 ghost use Rattle.region_layout.specs.Names.{AreNames};
 ghost use Rattle.leaf_table.specs.Turns.{Shared};
-ghost use Rattle.leaf_table.specs.Calls.{base_of, name_of};
+ghost use Rattle.leaf_table.specs.Calls.{base_seen, name_of};
 ghost use Rattle.leaf_steward.specs.Seated.{AreAlike, AtEach, IsUnused};
 ghost use Rattle.leaf_steward.specs.Trying.{Runs, Rests, Calls};
 
@@ -50,7 +50,7 @@ fn two_tables(alloc: Global, names: &Names) -> Result<Shut, AllocError>
     ensures named { IfOk result (λ r. map name_of r.0.items ≡ names.now) }
     ensures two { IfOk result (λ r. (length r.0.items ≡ 2) × (length r.1.items ≡ 2)) }
     ensures unused { IfOk result (λ r. AtEach (λ place t v. IsUnused t v) (record { names = names.now; tables = r.0.items; seats = r.1.items })) }
-    ensures plain { IfOk result (λ r. AtEach (λ place t v. base_of t ≡ None) (record { names = names.now; tables = r.0.items; seats = r.1.items })) }
+    ensures plain { IfOk result (λ r. AtEach (λ place t v. base_seen t ≡ None) (record { names = names.now; tables = r.0.items; seats = r.1.items })) }
     ensures alike { IfOk result (λ r. AreAlike (record { names = names.now; tables = r.0.items; seats = r.1.items })) }
     ensures caller { IfOk result (λ r. (t : Shared) → slice_get r.0.items 0 ≡ Some t → Calls r.2 t) }
 {
@@ -77,7 +77,7 @@ fn open_both<R: Wait>(
     requires none { notes.old ≡ [] }
     requires two { length seats.old.tables ≡ 2 }
     requires unused { AtEach (λ place t v. IsUnused t v) seats.old }
-    requires plain { AtEach (λ place t v. base_of t ≡ None) seats.old }
+    requires plain { AtEach (λ place t v. base_seen t ≡ None) seats.old }
     ensures tables { seats.new.tables ≡ seats.old.tables }
     ensures runs { IfOk result (λ _. AtEach (λ place t v. Runs 1000 t v) seats.new) }
 {

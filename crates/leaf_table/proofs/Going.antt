@@ -10,11 +10,11 @@ use Rattle.leaf_model.specs.declared.writes.Write.TheVariants as write
 use Rattle.leaf_model.specs.Values.{IsRow, IsTime}
 use Rattle.leaf_model.specs.Content.{Contents, content_after, content_from, kept_count, late_count, removed_count}
 use Rattle.leaf_model.specs.Groups.{groups}
-use Rattle.leaf_history.specs.History.{TableState, LegalFrom, Allowed, opened, after, after_entry, held, untaken, write_count, written}
-use Rattle.leaf_history.specs.Laws.{IsCounted}
+use Rattle.leaf_history.specs.History.{HistoryState, LegalFrom, Allowed, opened, after, after_entry, held, untaken, write_count, written}
+use Rattle.leaf_history.specs.Laws.{HasSoundCounts}
 use Rattle.leaf_history.proofs.Histories.{counts_stay, length_take}
 use Rattle.row_records.specs.Pending.{with_push}
-use Rattle.table_state.specs.Tables.{Table, with_write, empty_table}
+use Rattle.table_state.specs.Tables.{Table, table_with_write, empty_table}
 use Rattle.leaf_table.specs.declared.base.TableBase.{TableBase}
 use Rattle.leaf_table.specs.declared.turns.Turn.{Turn}
 use Rattle.leaf_table.specs.declared.turns.Turn.TheVariants as turn
@@ -24,15 +24,15 @@ use Rattle.leaf_table.specs.declared.value.LeafTable.{LeafTable}
 use Rattle.leaf_table.specs.Turns.{Turns, is_founded, start_of, call_of, reply_of, told, history, record_for, Hands, HandsFrom, LegalTurns, state_after, IsTableOf, StandsFor, MayHandIn, MayNow}
 use Rattle.leaf_table.specs.Steps.{AddsTo, RemovesFrom, AsksOf}
 
-push_after : (founded : Bool) (s : TableState) (h : Turns) (e : turnstile.Entry Turn Answer) → after founded s (history (h ++ e ∷ [])) ≡ after_entry founded (after founded s (history h)) (told e)
+push_after : (founded : Bool) (s : HistoryState) (h : Turns) (e : turnstile.Entry Turn Answer) → after founded s (history (h ++ e ∷ [])) ≡ after_entry founded (after founded s (history h)) (told e)
 push_after founded s [] e = refl
 push_after founded s (x ∷ h) e = push_after founded (after_entry founded s (told x)) h e
 
-push_legal : (founded : Bool) (s : TableState) (h : Turns) (e : turnstile.Entry Turn Answer) → LegalFrom founded s (history h) → Allowed founded (after founded s (history h)) e.by (call_of e.call) (reply_of e.reply) → LegalFrom founded s (history (h ++ e ∷ []))
+push_legal : (founded : Bool) (s : HistoryState) (h : Turns) (e : turnstile.Entry Turn Answer) → LegalFrom founded s (history h) → Allowed founded (after founded s (history h)) e.by (call_of e.call) (reply_of e.reply) → LegalFrom founded s (history (h ++ e ∷ []))
 push_legal founded s [] e l a = (a, tt)
 push_legal founded s (x ∷ h) e l a = (l.0, push_legal founded (after_entry founded s (told x)) h e l.1 a)
 
-push_hands : (name : List ℕ) (founded : Bool) (s : TableState) (h : Turns) (e : turnstile.Entry Turn Answer) → HandsFrom name founded s h → Hands name (after founded s (history h)) e.call e.reply → HandsFrom name founded s (h ++ e ∷ [])
+push_hands : (name : List ℕ) (founded : Bool) (s : HistoryState) (h : Turns) (e : turnstile.Entry Turn Answer) → HandsFrom name founded s h → Hands name (after founded s (history h)) e.call e.reply → HandsFrom name founded s (h ++ e ∷ [])
 push_hands name founded s [] e l a = (a, tt)
 push_hands name founded s (x ∷ h) e l a = (l.0, push_hands name founded (after_entry founded s (told x)) h e l.1 a)
 
@@ -41,7 +41,7 @@ push_length [] e = refl
 push_length (x ∷ h) e = let further = push_length h e in omega (arith, further)
 
 -- what one turn tells of the value and of its history
-pub record Goes (name : List ℕ) (founded : Bool) (s : TableState) (n : ℕ) (by clock : ℕ) (t : Turn) (a : Answer) (w : LeafTable) : Type 0 where
+pub record Goes (name : List ℕ) (founded : Bool) (s : HistoryState) (n : ℕ) (by clock : ℕ) (t : Turn) (a : Answer) (w : LeafTable) : Type 0 where
   pub allowed : Allowed founded s by (call_of t) (reply_of a)
   pub hands : Hands name s t a
   pub stands : IsTableOf name (after_entry founded s (told (entry_of by clock t a))) (n + 1) w
@@ -55,11 +55,11 @@ goes_on name base h by clock t a w l g =
     let same : IsTableOf name (after f s (history (h ++ e ∷ []))) (length h + 1) w = subst (λ s'. IsTableOf name s' (length h + 1) w) (sym (push_after f s h e)) g.stands in
     (record { legal = push_legal f s h e l.legal g.allowed; hands = push_hands name f s h e l.hands g.hands }, subst (λ n. IsTableOf name (after f s (history (h ++ e ∷ []))) n w) (sym (push_length h e)) same)
 
-counted_start : (base : Option TableBase) → IsCounted (start_of base)
+counted_start : (base : Option TableBase) → HasSoundCounts (start_of base)
 counted_start (Some b) = record { taken = omega arith; handed_in = omega arith }
 counted_start None = record { taken = omega arith; handed_in = omega arith }
 
-pub counted : (name : List ℕ) (base : Option TableBase) (h : Turns) → LegalTurns name base h → IsCounted (state_after base h)
+pub counted : (name : List ℕ) (base : Option TableBase) (h : Turns) → LegalTurns name base h → HasSoundCounts (state_after base h)
 counted name base h l = counts_stay (is_founded base) (start_of base) (history h) l.legal (counted_start base)
 
 held_push : (c : Contents) (ws : List Write) (w : Write) → content_after (content_from c ws) w ≡ content_from c (ws ++ w ∷ [])
@@ -81,7 +81,7 @@ drop_end zero (x ∷ ws) h = absurd (omega (arith, h))
 drop_end (suc k) [] h = refl
 drop_end (suc k) (x ∷ ws) h = drop_end k ws (omega (arith, h))
 
-stays : (name : List ℕ) (s : TableState) (n : ℕ) (v : LeafTable) → IsTableOf name s n v → IsTableOf name s (n + 1) v
+stays : (name : List ℕ) (s : HistoryState) (n : ℕ) (v : LeafTable) → IsTableOf name s n v → IsTableOf name s (n + 1) v
 stays name s n v i = record { named = i.named; short = i.short; live = i.live; contents = i.contents; writes = i.writes; pending = i.pending; few = λ yes. let few = i.few yes in omega (arith, few) }
 
 -- one more write in the record
@@ -93,7 +93,7 @@ record_end : (name : List ℕ) (ws : List Write) → [] ≡ ws → None ≡ reco
 record_end name ws is = ap (record_for name) is
 
 -- an open table after one more write
-writes_on : (name : List ℕ) (s : TableState) (n : ℕ) (v : LeafTable) (w : Write) → IsCounted s → IsTableOf name s n v → s.live ≡ true → IsTableOf name (written s w) (n + 1) (record v { table = with_write v.name v.table w })
+writes_on : (name : List ℕ) (s : HistoryState) (n : ℕ) (v : LeafTable) (w : Write) → HasSoundCounts s → IsTableOf name s n v → s.live ≡ true → IsTableOf name (written s w) (n + 1) (record v { table = table_with_write v.name v.table w })
 writes_on name s n v w c i live =
     let count = i.writes live in
     let few = i.few live in
@@ -107,7 +107,7 @@ writes_on name s n v w c i live =
       few = λ _. omega (arith, few);
     }
 
-pub added : (name : List ℕ) (founded : Bool) (s : TableState) (n by clock : ℕ) (v : LeafTable) (rows : List Row) (a : Answer) (w : LeafTable) → IsCounted s → IsTableOf name s n v → (0 < by) × AllByRecursion IsRow rows → AddsTo v rows a w → Goes name founded s n by clock (turn.Add rows) a w
+pub added : (name : List ℕ) (founded : Bool) (s : HistoryState) (n by clock : ℕ) (v : LeafTable) (rows : List Row) (a : Answer) (w : LeafTable) → HasSoundCounts s → IsTableOf name s n v → (0 < by) × AllByRecursion IsRow rows → AddsTo v rows a w → Goes name founded s n by clock (turn.Add rows) a w
 added name founded s n by clock v rows (answer.Added kept late) w c i caller is =
     let live : s.live ≡ true = sym i.live ∙ is.0 in
     let same : v.table.contents ≡ held s = i.contents live in
@@ -130,7 +130,7 @@ added name founded s n by clock v rows (answer.Took writes pending) w c i caller
 added name founded s n by clock v rows (answer.Closed table) w c i caller is = absurd is
 added name founded s n by clock v rows answer.Noted w c i caller is = absurd is
 
-pub expired : (name : List ℕ) (founded : Bool) (s : TableState) (n by clock : ℕ) (v : LeafTable) (horizon : ℤ) (a : Answer) (w : LeafTable) → IsCounted s → IsTableOf name s n v → (0 < by) × IsTime horizon → RemovesFrom v (write.Expire horizon) a w → Goes name founded s n by clock (turn.Expire horizon) a w
+pub expired : (name : List ℕ) (founded : Bool) (s : HistoryState) (n by clock : ℕ) (v : LeafTable) (horizon : ℤ) (a : Answer) (w : LeafTable) → HasSoundCounts s → IsTableOf name s n v → (0 < by) × IsTime horizon → RemovesFrom v (write.Expire horizon) a w → Goes name founded s n by clock (turn.Expire horizon) a w
 expired name founded s n by clock v horizon (answer.Removed k) w c i caller is = let live : s.live ≡ true = sym i.live ∙ is.0 in record { allowed = (caller.0, (live, is.1 ∙ ap (λ x. removed_count x (write.Expire horizon)) (i.contents live))); hands = (tt, tt); stands = subst (λ x. IsTableOf name (written s (write.Expire horizon)) (n + 1) x) (sym is.2) (writes_on name s n v (write.Expire horizon) c i live) }
 expired name founded s n by clock v horizon answer.NoMemory w c i caller is = record { allowed = (caller.0, sym i.live ∙ is.0); hands = (tt, tt); stands = subst (λ x. IsTableOf name s (n + 1) x) (sym is.1) (stays name s n v i) }
 expired name founded s n by clock v horizon answer.Shut w c i caller is = record { allowed = (caller.0, sym i.live ∙ is.0); hands = (tt, tt); stands = subst (λ x. IsTableOf name s (n + 1) x) (sym is.1) (stays name s n v i) }
@@ -141,7 +141,7 @@ expired name founded s n by clock v horizon (answer.Took writes pending) w c i c
 expired name founded s n by clock v horizon (answer.Closed table) w c i caller is = absurd is
 expired name founded s n by clock v horizon answer.Noted w c i caller is = absurd is
 
-pub cut_to : (name : List ℕ) (founded : Bool) (s : TableState) (n by clock : ℕ) (v : LeafTable) (count : ℕ) (a : Answer) (w : LeafTable) → IsCounted s → IsTableOf name s n v → 0 < by → RemovesFrom v (write.Keep count) a w → Goes name founded s n by clock (turn.Keep count) a w
+pub cut_to : (name : List ℕ) (founded : Bool) (s : HistoryState) (n by clock : ℕ) (v : LeafTable) (count : ℕ) (a : Answer) (w : LeafTable) → HasSoundCounts s → IsTableOf name s n v → 0 < by → RemovesFrom v (write.Keep count) a w → Goes name founded s n by clock (turn.Keep count) a w
 cut_to name founded s n by clock v count (answer.Removed k) w c i caller is = let live : s.live ≡ true = sym i.live ∙ is.0 in record { allowed = (caller, (live, is.1 ∙ ap (λ x. removed_count x (write.Keep count)) (i.contents live))); hands = (tt, tt); stands = subst (λ x. IsTableOf name (written s (write.Keep count)) (n + 1) x) (sym is.2) (writes_on name s n v (write.Keep count) c i live) }
 cut_to name founded s n by clock v count answer.NoMemory w c i caller is = record { allowed = (caller, sym i.live ∙ is.0); hands = (tt, tt); stands = subst (λ x. IsTableOf name s (n + 1) x) (sym is.1) (stays name s n v i) }
 cut_to name founded s n by clock v count answer.Shut w c i caller is = record { allowed = (caller, sym i.live ∙ is.0); hands = (tt, tt); stands = subst (λ x. IsTableOf name s (n + 1) x) (sym is.1) (stays name s n v i) }
@@ -157,7 +157,7 @@ same_query None q r e is = cc
 same_query (Some x) q r (inl e) is = cc
 same_query (Some x) q r (inr e) is = cc
 
-pub asked : (name : List ℕ) (founded : Bool) (s : TableState) (n by clock : ℕ) (v : LeafTable) (query : _) (copy : Option Query) (a : Answer) → IsTableOf name s n v → MayNow founded s by (turn.Ask query copy) → AsksOf v copy a → Goes name founded s n by clock (turn.Ask query copy) a v
+pub asked : (name : List ℕ) (founded : Bool) (s : HistoryState) (n by clock : ℕ) (v : LeafTable) (query : _) (copy : Option Query) (a : Answer) → IsTableOf name s n v → MayNow founded s by (turn.Ask query copy) → AsksOf v copy a → Goes name founded s n by clock (turn.Ask query copy) a v
 asked name founded s n by clock v query copy (answer.Groups gs) i may is =
     let live : s.live ≡ true = sym i.live ∙ is.0 in
     let which : is.1 ≡ query.value = same_query copy query.value is.1 may.1 is.2 in record {
@@ -174,7 +174,7 @@ asked name founded s n by clock v query copy (answer.Took writes pending) i may 
 asked name founded s n by clock v query copy (answer.Closed table) i may is = absurd is
 asked name founded s n by clock v query copy answer.Noted i may is = absurd is
 
-pub taken : (name : List ℕ) (founded : Bool) (s : TableState) (n by clock : ℕ) (v : LeafTable) → IsTableOf name s n v → MayNow founded s by turn.Take
+pub taken : (name : List ℕ) (founded : Bool) (s : HistoryState) (n by clock : ℕ) (v : LeafTable) → IsTableOf name s n v → MayNow founded s by turn.Take
     → Goes name founded s n by clock turn.Take (answer.Took v.table.writes v.table.pending) (record v { table = record v.table { pending = None } })
 taken name founded s n by clock v i may = record {
   allowed = (may.0, may.1, i.writes may.1);
@@ -185,7 +185,7 @@ taken name founded s n by clock v i may = record {
 clash : (A : Type 0) → false ≡ true → A
 clash A e = absurd (cc e)
 
-pub shut : (name : List ℕ) (founded : Bool) (s : TableState) (n by clock : ℕ) (v : LeafTable) → IsTableOf name s n v → MayNow founded s by turn.Shut
+pub shut : (name : List ℕ) (founded : Bool) (s : HistoryState) (n by clock : ℕ) (v : LeafTable) → IsTableOf name s n v → MayNow founded s by turn.Shut
     → Goes name founded s n by clock turn.Shut (answer.Closed v.table) (record v { live = false; table = empty_table })
 shut name founded s n by clock v i may = record {
   allowed = (may.0, may.1, i.writes may.1);
@@ -193,13 +193,13 @@ shut name founded s n by clock v i may = record {
   stands = record { named = i.named; short = i.short; live = refl; contents = λ e. clash _ e; writes = λ e. clash _ e; pending = λ e. clash _ e; few = λ e. clash _ e };
 }
 
-pub flushed : (name : List ℕ) (founded : Bool) (s : TableState) (n by clock : ℕ) (v : LeafTable) (k : ℕ) → IsTableOf name s n v → MayNow founded s by (turn.Flushed k) → Goes name founded s n by clock (turn.Flushed k) answer.Noted v
+pub flushed : (name : List ℕ) (founded : Bool) (s : HistoryState) (n by clock : ℕ) (v : LeafTable) (k : ℕ) → IsTableOf name s n v → MayNow founded s by (turn.Flushed k) → Goes name founded s n by clock (turn.Flushed k) answer.Noted v
 flushed name founded s n by clock v k i may = let on = stays name s n v i in record { allowed = (may.0, may.1, refl); hands = (tt, tt); stands = record { named = on.named; short = on.short; live = on.live; contents = on.contents; writes = on.writes; pending = on.pending; few = on.few } }
 
-pub done : (name : List ℕ) (founded : Bool) (s : TableState) (n by clock : ℕ) (v : LeafTable) → IsTableOf name s n v → MayNow founded s by turn.Done → Goes name founded s n by clock turn.Done answer.Noted v
+pub done : (name : List ℕ) (founded : Bool) (s : HistoryState) (n by clock : ℕ) (v : LeafTable) → IsTableOf name s n v → MayNow founded s by turn.Done → Goes name founded s n by clock turn.Done answer.Noted v
 done name founded s n by clock v i may = let on = stays name s n v i in record { allowed = (may.0, may.1, refl); hands = (tt, tt); stands = record { named = on.named; short = on.short; live = on.live; contents = on.contents; writes = on.writes; pending = on.pending; few = on.few } }
 
-handed_in : (name : List ℕ) (founded : Bool) (s : TableState) (n k : ℕ) (v : LeafTable) (table : Table) → IsCounted s → IsTableOf name s n v → MayHandIn founded s k table → IsTableOf name (opened founded s k table.contents) (n + 1) (record v { live = true; table = table })
+handed_in : (name : List ℕ) (founded : Bool) (s : HistoryState) (n k : ℕ) (v : LeafTable) (table : Table) → HasSoundCounts s → IsTableOf name s n v → MayHandIn founded s k table → IsTableOf name (opened founded s k table.contents) (n + 1) (record v { live = true; table = table })
 handed_in name true s n k v table c i may =
     let a = may.allowed in
     let size = length_take (k - s.handed_in) s.writes (omega (arith, a.accepted, c.handed_in)) in record {
@@ -221,13 +221,13 @@ handed_in name false s n k v table c i may = record {
   few = λ _. omega (arith, may.writes, may.small);
 }
 
-pub reopened : (name : List ℕ) (founded : Bool) (s : TableState) (n by clock k : ℕ) (v : LeafTable) (table : Table) → IsCounted s → IsTableOf name s n v → MayNow founded s by (turn.Open k table) → Goes name founded s n by clock (turn.Open k table) answer.Noted (record v { live = true; table = table })
+pub reopened : (name : List ℕ) (founded : Bool) (s : HistoryState) (n by clock k : ℕ) (v : LeafTable) (table : Table) → HasSoundCounts s → IsTableOf name s n v → MayNow founded s by (turn.Open k table) → Goes name founded s n by clock (turn.Open k table) answer.Noted (record v { live = true; table = table })
 reopened name founded s n by clock k v table c i may = record { allowed = (may.0, may.1, may.2.allowed, refl); hands = (tt, tt); stands = handed_in name founded s n k v table c i may.2 }
 
 -- the same, for a turn, an answer and a value that equal the ones it is shown for
 pub steps_on : (name : List ℕ) (base : Option TableBase) (h : Turns) (by clock : ℕ) (v : LeafTable) (t t' : Turn) (a a' : Answer) (w w' : LeafTable) → t ≡ t' → a ≡ a' → w ≡ w'
     → LegalTurns name base h → StandsFor name base h v → MayNow (is_founded base) (state_after base h) by t
-    → (IsCounted (state_after base h) → IsTableOf name (state_after base h) (length h) v → MayNow (is_founded base) (state_after base h) by t' → Goes name (is_founded base) (state_after base h) (length h) by clock t' a' w')
+    → (HasSoundCounts (state_after base h) → IsTableOf name (state_after base h) (length h) v → MayNow (is_founded base) (state_after base h) by t' → Goes name (is_founded base) (state_after base h) (length h) by clock t' a' w')
     → LegalTurns name base (h ++ entry_of by clock t a ∷ []) × StandsFor name base (h ++ entry_of by clock t a ∷ []) w
 steps_on name base h by clock v t t' a a' w w' turn_is answer_is value_is l i may goes =
     let f = is_founded base in

@@ -9,8 +9,8 @@ use Rattle.leaf_history.specs.Calls as call
 use Rattle.leaf_history.specs.Replies.{Reply}
 use Rattle.leaf_history.specs.Replies as reply
 use Rattle.leaf_model.specs.Content.{Contents}
-use Rattle.leaf_history.specs.History.{opened, changed, is_refusal, Entry, TableState, LegalFrom, Allowed, after, after_entry}
-use Rattle.leaf_history.specs.Laws.{AreCallers, Keeps}
+use Rattle.leaf_history.specs.History.{opened, changed, is_refusal, Entry, HistoryState, LegalFrom, Allowed, after, after_entry}
+use Rattle.leaf_history.specs.Laws.{AreCallers, CallersKeep}
 use Rattle.leaf_history.proofs.Histories.{others_keep, LegalFrom-front, LegalFrom-back, after-append}
 use Rattle.leaf_table.specs.declared.base.TableBase.{TableBase}
 use Rattle.leaf_table.specs.declared.base.Origin.{Origin}
@@ -20,19 +20,19 @@ use Rattle.leaf_table.specs.declared.turns.Answer.{Answer}
 use Rattle.leaf_table.specs.declared.turns.Answer.TheVariants as answer
 use Rattle.leaf_table.specs.declared.replies.ClosedTable.{ClosedTable}
 use Rattle.leaf_table.specs.Turns.{Turns, is_founded, start_of, call_of, reply_of, told, history, HandsOut, Hands, HandsFrom, LegalTurns, state_after, MayHandIn, MayNow}
-use Rattle.leaf_table.specs.Calls.{SameSeat, SeatView, entry_of, AreOthers, HaveIds, OwnsTheRest, AreOwnOrStewards, MakersKnown, Made, MadeTurn, seen_of, state_seen, state_before, IsSteward, ClosedBy}
+use Rattle.leaf_table.specs.Calls.{SameSeat, SeatView, entry_seen, AreOthers, HaveIds, OwnsTheRest, AreOwnOrStewards, MakersKnown, Made, MadeTurn, seen_of, state_seen, state_before, IsSteward, ClosedBy}
 use Rattle.leaf_table.specs.Laws.{StewardKnows}
 
 history_append : (xs ys : Turns) → history (xs ++ ys) ≡ history xs ++ history ys
 history_append [] ys = refl
 history_append (x ∷ xs) ys = ap (λ es. told x ∷ es) (history_append xs ys)
 
-keeps_on : (founded : Bool) (s : TableState) (xs ys : Turns) → LegalFrom founded s (history (xs ++ ys)) → AreCallers (history ys) → Keeps (after founded s (history xs)) (after founded s (history (xs ++ ys)))
+keeps_on : (founded : Bool) (s : HistoryState) (xs ys : Turns) → LegalFrom founded s (history (xs ++ ys)) → AreCallers (history ys) → CallersKeep (after founded s (history xs)) (after founded s (history (xs ++ ys)))
 keeps_on founded s [] ys l o = others_keep founded s (history ys) l o
 keeps_on founded s (x ∷ xs) ys l o = keeps_on founded (after_entry founded s (told x)) xs ys l.1 o
 
 -- what the steward may do stays allowed while callers take their turns
-may_still : (founded : Bool) (s now : TableState) (by : ℕ) (t : Turn) → Keeps s now → MayNow founded s by t → MayNow founded now by t
+may_still : (founded : Bool) (s now : HistoryState) (by : ℕ) (t : Turn) → CallersKeep s now → MayNow founded s by t → MayNow founded now by t
 may_still founded s now by (turn.Add rows) k may = may
 may_still founded s now by (turn.Expire horizon) k may = may
 may_still founded s now by (turn.Keep n) k may = may
@@ -43,11 +43,11 @@ may_still founded s now by turn.Shut k may = (may.0, k.live ∙ may.1)
 may_still founded s now by turn.Done k may = (may.0, k.live ∙ may.1)
 may_still founded s now by (turn.Open n table) k may = (may.0, k.live ∙ may.1, subst (λ x. MayHandIn founded x n table) (sym (k.shut may.1)) may.2)
 
-last_allowed : (founded : Bool) (s : TableState) (h : Turns) (e : turnstile.Entry Turn Answer) → LegalFrom founded s (history (h ++ e ∷ [])) → Allowed founded (after founded s (history h)) e.by (call_of e.call) (reply_of e.reply)
+last_allowed : (founded : Bool) (s : HistoryState) (h : Turns) (e : turnstile.Entry Turn Answer) → LegalFrom founded s (history (h ++ e ∷ [])) → Allowed founded (after founded s (history h)) e.by (call_of e.call) (reply_of e.reply)
 last_allowed founded s [] e l = l.0
 last_allowed founded s (x ∷ h) e l = last_allowed founded (after_entry founded s (told x)) h e l.1
 
-last_hands : (name : List ℕ) (founded : Bool) (s : TableState) (h : Turns) (e : turnstile.Entry Turn Answer) → HandsFrom name founded s (h ++ e ∷ []) → Hands name (after founded s (history h)) e.call e.reply
+last_hands : (name : List ℕ) (founded : Bool) (s : HistoryState) (h : Turns) (e : turnstile.Entry Turn Answer) → HandsFrom name founded s (h ++ e ∷ []) → Hands name (after founded s (history h)) e.call e.reply
 last_hands name founded s [] e l = l.0
 last_hands name founded s (x ∷ h) e l = last_hands name founded (after_entry founded s (told x)) h e l.1
 
@@ -137,16 +137,16 @@ closed_by name base clock v x w m number writes =
       pending = now.1.1;
     }
 
-pub others_kept : (base : Option TableBase) (clock : ℕ) (v w : SeatView) (c : Call) (r : Reply) → (m : Made base clock v c r w) → IsSteward v → 0 < v.share → Keeps (state_seen base v) (state_before base v m.between)
+pub others_kept : (base : Option TableBase) (clock : ℕ) (v w : SeatView) (c : Call) (r : Reply) → (m : Made base clock v c r w) → IsSteward v → 0 < v.share → CallersKeep (state_seen base v) (state_before base v m.between)
 others_kept base clock v w c r m steward share =
     let f = is_founded base in
     let s = start_of base in
     let h = seen_of v in
-    let front : LegalFrom f s (h ++ m.between) = LegalFrom-front f s (h ++ m.between) (entry_of v.id clock c r ∷ []) (subst (LegalFrom f s) m.seen m.legal) in
-    subst (Keeps (after f s h)) (sym (after-append f s h m.between)) (others_keep f (after f s h) m.between (LegalFrom-back f s h m.between front) (callers_of v m.between steward.0 share m.others))
+    let front : LegalFrom f s (h ++ m.between) = LegalFrom-front f s (h ++ m.between) (entry_seen v.id clock c r ∷ []) (subst (LegalFrom f s) m.seen m.legal) in
+    subst (CallersKeep (after f s h)) (sym (after-append f s h m.between)) (others_keep f (after f s h) m.between (LegalFrom-back f s h m.between front) (callers_of v m.between steward.0 share m.others))
 
-pub known_after : (base : Option TableBase) (clock : ℕ) (v w : SeatView) (c : Call) (r : Reply) → (m : Made base clock v c r w) → state_seen base w ≡ after_entry (is_founded base) (state_before base v m.between) (entry_of v.id clock c r)
-known_after base clock v w c r m = ap (after (is_founded base) (start_of base)) m.seen ∙ after-append (is_founded base) (start_of base) (seen_of v ++ m.between) (entry_of v.id clock c r ∷ [])
+pub known_after : (base : Option TableBase) (clock : ℕ) (v w : SeatView) (c : Call) (r : Reply) → (m : Made base clock v c r w) → state_seen base w ≡ after_entry (is_founded base) (state_before base v m.between) (entry_seen v.id clock c r)
+known_after base clock v w c r m = ap (after (is_founded base) (start_of base)) m.seen ∙ after-append (is_founded base) (start_of base) (seen_of v ++ m.between) (entry_seen v.id clock c r ∷ [])
 
 pub steward_knows : StewardKnows
 steward_knows = λ base clock v w c r m. record { others = others_kept base clock v w c r m; now = known_after base clock v w c r m }
@@ -158,31 +158,31 @@ pub unused_shut : (base : Option TableBase) → (start_of base).live ≡ false
 unused_shut (Some b) = refl
 unused_shut None = refl
 
-opened_live : (founded : Bool) (s : TableState) (n : ℕ) (contents : Contents) → (opened founded s n contents).live ≡ true
+opened_live : (founded : Bool) (s : HistoryState) (n : ℕ) (contents : Contents) → (opened founded s n contents).live ≡ true
 opened_live true s n contents = refl
 opened_live false s n contents = refl
 
-either_live : (refused : Bool) (s t : TableState) → t.live ≡ s.live → (if refused then s else t).live ≡ s.live
+either_live : (refused : Bool) (s t : HistoryState) → t.live ≡ s.live → (if refused then s else t).live ≡ s.live
 either_live true s t is = refl
 either_live false s t is = is
 
 pub open_after_take : (base : Option TableBase) (clock n : ℕ) (v w : SeatView) → Made base clock v call.Take (reply.Counted n) w → IsSteward v → 0 < v.share → (state_seen base v).live ≡ true → (state_seen base w).live ≡ true
-open_after_take base clock n v w m steward share is = ap (λ (s : TableState). s.live) (known_after base clock v w call.Take (reply.Counted n) m) ∙ ((others_kept base clock v w call.Take (reply.Counted n) m steward share).live ∙ is)
+open_after_take base clock n v w m steward share is = ap (λ (s : HistoryState). s.live) (known_after base clock v w call.Take (reply.Counted n) m) ∙ ((others_kept base clock v w call.Take (reply.Counted n) m steward share).live ∙ is)
 
 pub taken_after_take : (base : Option TableBase) (clock n : ℕ) (v w : SeatView) → Made base clock v call.Take (reply.Counted n) w → (state_seen base w).taken ≡ n
-taken_after_take base clock n v w m = ap (λ (s : TableState). s.taken) (known_after base clock v w call.Take (reply.Counted n) m) ∙ sym m.allowed.2
+taken_after_take base clock n v w m = ap (λ (s : HistoryState). s.taken) (known_after base clock v w call.Take (reply.Counted n) m) ∙ sym m.allowed.2
 
 pub live_after_flushed : (base : Option TableBase) (clock n : ℕ) (v w : SeatView) (r : Reply) → Made base clock v (call.Flushed n) r w → IsSteward v → 0 < v.share → (state_seen base w).live ≡ (state_seen base v).live
 live_after_flushed base clock n v w r m steward share = let s = state_before base v m.between in
-    ap (λ (x : TableState). x.live) (known_after base clock v w (call.Flushed n) r m) ∙ (either_live (is_refusal r) s (changed (is_founded base) s (call.Flushed n)) refl ∙ (others_kept base clock v w (call.Flushed n) r m steward share).live)
+    ap (λ (x : HistoryState). x.live) (known_after base clock v w (call.Flushed n) r m) ∙ (either_live (is_refusal r) s (changed (is_founded base) s (call.Flushed n)) refl ∙ (others_kept base clock v w (call.Flushed n) r m steward share).live)
 
 pub shut_after_shut : (base : Option TableBase) (clock n : ℕ) (v w : SeatView) → Made base clock v call.Shut (reply.Counted n) w → (state_seen base w).live ≡ false
-shut_after_shut base clock n v w m = ap (λ (s : TableState). s.live) (known_after base clock v w call.Shut (reply.Counted n) m)
+shut_after_shut base clock n v w m = ap (λ (s : HistoryState). s.live) (known_after base clock v w call.Shut (reply.Counted n) m)
 
 pub shut_after_done : (base : Option TableBase) (clock : ℕ) (v w : SeatView) (r : Reply) → Made base clock v call.Done r w → (state_seen base w).live ≡ false
 shut_after_done base clock v w r m = let s = state_before base v m.between in
-    ap (λ (x : TableState). x.live) (known_after base clock v w call.Done r m) ∙ (either_live (is_refusal r) s (changed (is_founded base) s call.Done) refl ∙ m.allowed.1)
+    ap (λ (x : HistoryState). x.live) (known_after base clock v w call.Done r m) ∙ (either_live (is_refusal r) s (changed (is_founded base) s call.Done) refl ∙ m.allowed.1)
 
 pub open_after_open : (base : Option TableBase) (clock n : ℕ) (contents : Contents) (v w : SeatView) (r : Reply) → Made base clock v (call.Open n contents) r w → (state_seen base w).live ≡ true
 open_after_open base clock n contents v w r m = let f = is_founded base in let s = state_before base v m.between in
-    ap (λ (x : TableState). x.live) (known_after base clock v w (call.Open n contents) r m) ∙ (ap (λ (x : Reply). (if is_refusal x then s else opened f s n contents).live) m.allowed.3 ∙ opened_live f s n contents)
+    ap (λ (x : HistoryState). x.live) (known_after base clock v w (call.Open n contents) r m) ∙ (ap (λ (x : Reply). (if is_refusal x then s else opened f s n contents).live) m.allowed.3 ∙ opened_live f s n contents)

@@ -8,7 +8,7 @@ use Rattle.leaf_table.specs.declared.base.TableBase.{TableBase}
 use Rattle.leaf_table.specs.Turns.{Shared}
 use Rattle.leaf_table.specs.Calls.{SeatView}
 use Rattle.leaf_table.specs.Lists.{lists_in, row, place, HasRows, Puts}
-use Rattle.leaf_table.specs.Fleet.{IsNew, IsAt, IsPart, IsNewFleet}
+use Rattle.leaf_table.specs.Fleet.{IsNew, IsAt, IsPartOfFleet, IsNewFleet}
 
 front_at : {A : Type 0} (xs : List A) (y : A) (i : ℕ) (x : A) → slice_get xs i ≡ Some x → slice_get (xs ++ y ∷ []) i ≡ Some x
 front_at [] y i x is = absurd (none-some x is)
@@ -54,12 +54,12 @@ module _ (base : ℕ → ℕ → Option TableBase) (names : List (List ℕ)) (sh
   }
 
   part_step : (leaf k : ℕ) (name : List ℕ) (tables : List Shared) (stewards : List SeatView) (before rows more : List (List SeatView)) (table : Shared) (steward caller : SeatView)
-      → IsPart base leaf names share k tables stewards before rows
+      → IsPartOfFleet base leaf names share k tables stewards before rows
       → HasRows (length names) leaf before → k < length names
       → slice_get names k ≡ Some name
       → IsNew (base leaf k) leaf k name share table steward caller
       → Puts rows k caller more
-      → IsPart base leaf names share (k + 1) (tables ++ table ∷ []) (stewards ++ steward ∷ []) before more
+      → IsPartOfFleet base leaf names share (k + 1) (tables ++ table ∷ []) (stewards ++ steward ∷ []) before more
   part_step leaf k name tables stewards before rows more table steward caller p has low named new puts =
       let grown : List SeatView = row rows k ++ caller ∷ [] in
       let inside : k < length rows = omega (arith, p.sizes.2, has.count, low) in
@@ -102,7 +102,7 @@ module _ (base : ℕ → ℕ → Option TableBase) (names : List (List ℕ)) (sh
 
   fleet_step : (k : ℕ) (tables : List (List Shared)) (stewards callers more : List (List SeatView)) (ts : List Shared) (ss : List SeatView)
       → IsNewFleet base k names share tables stewards callers
-      → IsPart base k names share (length names) ts ss callers more
+      → IsPartOfFleet base k names share (length names) ts ss callers more
       → IsNewFleet base (k + 1) names share (tables ++ ts ∷ []) (stewards ++ ss ∷ []) more
   fleet_step k tables stewards callers more ts ss f p =
       let t_front : (i : ℕ) → i < k → row (tables ++ ts ∷ []) i ≡ row tables i = λ i low. row_front tables ts i k f.counts.0 low in
@@ -140,25 +140,25 @@ lists_more {A} rows v = map-append (λ (u : Vec A Global). u.items) rows (v ∷ 
 module _ (base : ℕ → ℕ → Option TableBase) (names : List (List ℕ)) (share : ℕ) where
   -- one more table was made
   pub part_more : (leaf k n : ℕ) (list : List (List ℕ)) (name : List ℕ) (tables tables_after : List Shared) (stewards stewards_after : List SeatView) (before rows more : List (List SeatView)) (table : Shared) (steward caller : SeatView)
-      → IsPart base leaf names share k tables stewards before rows
+      → IsPartOfFleet base leaf names share k tables stewards before rows
       → HasRows (length names) leaf before → list ≡ names → k < length list → name ≡ get_or list k name → n ≡ k
       → IsNew (base leaf n) leaf n name share table steward caller
       → tables_after ≡ tables ++ table ∷ [] → stewards_after ≡ stewards ++ steward ∷ []
       → Puts rows n caller more
-      → IsPart base leaf names share (k + 1) tables_after stewards_after before more
+      → IsPartOfFleet base leaf names share (k + 1) tables_after stewards_after before more
   part_more leaf k n list name tables tables_after stewards stewards_after before rows more table steward caller p has same low is n_is new t_is s_is puts =
       let small : k < length names = subst (λ (l : List (List ℕ)). k < length l) same low in
       let named : slice_get names k ≡ Some name = slice_get_read names (length names) k name refl small (is ∙ ap (λ (l : List (List ℕ)). get_or l k name) same) in
       let new_at : IsNew (base leaf k) leaf k name share table steward caller = subst (λ (m : ℕ). IsNew (base leaf m) leaf m name share table steward caller) n_is new in
       let puts_at : Puts rows k caller more = subst (λ (m : ℕ). Puts rows m caller more) n_is puts in
-      let done : IsPart base leaf names share (k + 1) (tables ++ table ∷ []) (stewards ++ steward ∷ []) before more = part_step base names share leaf k name tables stewards before rows more table steward caller p has small named new_at puts_at in
-      let one : IsPart base leaf names share (k + 1) tables_after (stewards ++ steward ∷ []) before more = subst (λ (l : List Shared). IsPart base leaf names share (k + 1) l (stewards ++ steward ∷ []) before more) (sym t_is) done in
-      subst (λ (l : List SeatView). IsPart base leaf names share (k + 1) tables_after l before more) (sym s_is) one
+      let done : IsPartOfFleet base leaf names share (k + 1) (tables ++ table ∷ []) (stewards ++ steward ∷ []) before more = part_step base names share leaf k name tables stewards before rows more table steward caller p has small named new_at puts_at in
+      let one : IsPartOfFleet base leaf names share (k + 1) tables_after (stewards ++ steward ∷ []) before more = subst (λ (l : List Shared). IsPartOfFleet base leaf names share (k + 1) l (stewards ++ steward ∷ []) before more) (sym t_is) done in
+      subst (λ (l : List SeatView). IsPartOfFleet base leaf names share (k + 1) tables_after l before more) (sym s_is) one
 
   -- one more leaf was made
   pub fleet_more : (k : ℕ) (tables tables_after : List (Vec Shared Global)) (stewards stewards_after : List (Vec SeatView Global)) (callers more : List (List SeatView)) (ts : Vec Shared Global) (ss : Vec SeatView Global)
       → IsNewFleet base k names share (lists_in tables) (lists_in stewards) callers
-      → IsPart base k names share (length names) ts.items ss.items callers more
+      → IsPartOfFleet base k names share (length names) ts.items ss.items callers more
       → tables_after ≡ tables ++ ts ∷ [] → stewards_after ≡ stewards ++ ss ∷ []
       → IsNewFleet base (k + 1) names share (lists_in tables_after) (lists_in stewards_after) more
   fleet_more k tables tables_after stewards stewards_after callers more ts ss f p t_is s_is =

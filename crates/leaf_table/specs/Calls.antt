@@ -6,7 +6,7 @@ use Rattle.leaf_history.specs.Calls.{Call}
 use Rattle.leaf_history.specs.Calls as call
 use Rattle.leaf_history.specs.Replies.{Reply}
 use Rattle.leaf_history.specs.Replies as reply
-use Rattle.leaf_history.specs.History.{Entry, TableState, LegalFrom, Allowed, after, held}
+use Rattle.leaf_history.specs.History.{Entry, HistoryState, LegalFrom, Allowed, after, held}
 use Rattle.table_state.specs.Tables.{Table}
 use Rattle.leaf_table.specs.declared.base.TableBase.{TableBase}
 use Rattle.leaf_table.specs.declared.base.Origin.{Origin}
@@ -20,8 +20,8 @@ use Rattle.leaf_table.specs.declared.replies.ClosedTable.{ClosedTable}
 use Rattle.leaf_table.specs.Turns.{Shared, is_founded, start_of, call_of, reply_of, history, HandsOut, OverFew, untaken_record}
 
 -- what the table was founded with, if it was
-abbrev pub base_of : Shared → Option TableBase
-base_of t = t.site.base.base
+abbrev pub base_seen : Shared → Option TableBase
+base_seen t = t.site.base.base
 
 -- its name
 abbrev pub name_of : Shared → List ℕ
@@ -32,11 +32,11 @@ abbrev pub SeatView : Type 0
 SeatView = Standing Origin Turn Answer
 
 -- one entry
-abbrev pub entry_of : ℕ → ℕ → Call → Reply → Entry
-entry_of caller clock c r = record { caller = caller; call = c; reply = r; clock = clock }
+abbrev pub entry_seen : ℕ → ℕ → Call → Reply → Entry
+entry_seen caller clock c r = record { caller = caller; call = c; reply = r; clock = clock }
 
 -- the table's state after a history
-abbrev pub state_of : Option TableBase → List Entry → TableState
+abbrev pub state_of : Option TableBase → List Entry → HistoryState
 state_of base h = after (is_founded base) (start_of base) h
 
 -- the seat has seen 2^62 entries
@@ -52,7 +52,7 @@ abbrev pub seen_of : SeatView → List Entry
 seen_of v = history v.seen
 
 -- the table as the seat has seen it last
-abbrev pub state_seen : Option TableBase → SeatView → TableState
+abbrev pub state_seen : Option TableBase → SeatView → HistoryState
 state_seen base v = state_of base (seen_of v)
 
 -- entries of other seats
@@ -81,13 +81,13 @@ abbrev pub MakersKnown : Type 0
 MakersKnown = (v : SeatView) → AreIds v.seen → Makers v
 
 -- the table just before the call's own entry
-abbrev pub state_before : Option TableBase → SeatView → List Entry → TableState
+abbrev pub state_before : Option TableBase → SeatView → List Entry → HistoryState
 state_before base v between = state_of base (seen_of v ++ between)
 
 -- One entry was made: this call with this reply. Before it others may have made theirs.
 pub record Made (base : Option TableBase) (clock : ℕ) (v : SeatView) (c : Call) (r : Reply) (w : SeatView) : Type 0 where
   pub between : List Entry
-  pub seen : seen_of w ≡ (seen_of v ++ between) ++ entry_of v.id clock c r ∷ []
+  pub seen : seen_of w ≡ (seen_of v ++ between) ++ entry_seen v.id clock c r ∷ []
   pub others : AreOthers v between
   pub legal : LegalFrom (is_founded base) (start_of base) (seen_of w)
   pub allowed : Allowed (is_founded base) (state_before base v between) v.id c r
@@ -117,31 +117,31 @@ pub record SameSeat (v w : SeatView) : Type 0 where
 
 -- the seat has seen the table open, or shut
 abbrev pub SeesOpen : Shared → SeatView → Type 0
-SeesOpen t v = (state_seen (base_of t) v).live ≡ true
+SeesOpen t v = (state_seen (base_seen t) v).live ≡ true
 
 abbrev pub SeesShut : Shared → SeatView → Type 0
-SeesShut t v = (state_seen (base_of t) v).live ≡ false
+SeesShut t v = (state_seen (base_seen t) v).live ≡ false
 
 -- the reply of an entry, with its number
-abbrev pub Tells : ℕ → Reply → shared.Reply → Type 0
-Tells n (reply.Added kept late) x = x ≡ told.Added n kept late
-Tells n (reply.Groups gs) x = x ≡ told.Groups n gs
-Tells n reply.Shut x = x ≡ told.Shut n
-Tells n reply.Full x = x ≡ told.Full n
-Tells n reply.NoMemory x = x ≡ told.NoMemory n
-Tells n (reply.Removed k) x = x ≡ told.Removed n k
-Tells n (reply.Counted k) x = ⊥
-Tells n reply.Noted x = ⊥
+abbrev pub IsToldAs : ℕ → Reply → shared.Reply → Type 0
+IsToldAs n (reply.Added kept late) x = x ≡ told.Added n kept late
+IsToldAs n (reply.Groups gs) x = x ≡ told.Groups n gs
+IsToldAs n reply.Shut x = x ≡ told.Shut n
+IsToldAs n reply.Full x = x ≡ told.Full n
+IsToldAs n reply.NoMemory x = x ≡ told.NoMemory n
+IsToldAs n (reply.Removed k) x = x ≡ told.Removed n k
+IsToldAs n (reply.Counted k) x = ⊥
+IsToldAs n reply.Noted x = ⊥
 
 -- a reply to a caller
-abbrev pub IsCallers : Reply → Type 0
-IsCallers (reply.Counted k) = ⊥
-IsCallers reply.Noted = ⊥
-IsCallers _ = ⊤
+abbrev pub IsCallersReply : Reply → Type 0
+IsCallersReply (reply.Counted k) = ⊥
+IsCallersReply reply.Noted = ⊥
+IsCallersReply _ = ⊤
 
 -- an entry was made, whose reply is told with its number
 abbrev pub Replied : Option TableBase → SeatView → Call → shared.Reply → SeatView → Type 0
-Replied base v c x w = IsFresh v × (r : Reply) × Made base 0 v c r w × Tells (length w.seen) r x
+Replied base v c x w = IsFresh v × (r : Reply) × Made base 0 v c r w × IsToldAs (length w.seen) r x
 
 -- a caller's call: its entry has the reply that is told; a worn seat makes none
 abbrev pub Answered : Option TableBase → SeatView → Call → shared.Reply → SeatView → Type 0
@@ -173,5 +173,5 @@ ReopenedBy base clock v writes table (Err t) w = IsWorn v × (t ≡ table) × (w
 
 -- the steward has taken as many writes as it was told
 abbrev pub HasTaken : Shared → Taken → SeatView → Type 0
-HasTaken t (taken.Took number writes pending) w = (state_seen (base_of t) w).taken ≡ writes
+HasTaken t (taken.Took number writes pending) w = (state_seen (base_seen t) w).taken ≡ writes
 HasTaken t taken.Worn w = ⊤

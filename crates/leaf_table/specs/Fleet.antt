@@ -3,18 +3,18 @@ use Rattle.std.specs.Prelude.{◌≡◌, ℕ, ◌+◌, ◌<◌, ◌≤◌, List,
 use Rattle.turnstile.specs.Seats.{IsSeatOf, unused_seat}
 use Rattle.leaf_table.specs.declared.base.TableBase.{TableBase}
 use Rattle.leaf_table.specs.Turns.{Shared}
-use Rattle.leaf_table.specs.Calls.{SeatView, SeesShut, base_of, name_of}
+use Rattle.leaf_table.specs.Calls.{SeatView, SeesShut, base_seen, name_of}
 use Rattle.leaf_table.specs.Lists.{row, place}
 
 -- a name of at most 255 bytes
-abbrev pub IsShort : List ℕ → Type 0
-IsShort name = length name ≤ 255
+abbrev pub IsShortName : List ℕ → Type 0
+IsShortName name = length name ≤ 255
 
 -- a new table has its numbers, its name and its base; both seats are unused, and it is shut
 pub record IsNew (base : Option TableBase) (leaf number : ℕ) (name : List ℕ) (share : ℕ) (table : Shared) (steward caller : SeatView) : Type 0 where
   pub numbers : (table.leaf ≡ leaf) × (table.table ≡ number)
   pub named : name_of table ≡ name
-  pub founded : base_of table ≡ base
+  pub founded : base_seen table ≡ base
   pub unused : steward ≡ unused_seat table.site 0 1 1024
   pub unused_caller : caller ≡ unused_seat table.site 1 share share
   pub shut : SeesShut table steward
@@ -33,7 +33,7 @@ pub record IsAt (base : ℕ → ℕ → Option TableBase) (names : List (List �
   pub new : IsNew (base leaf t) leaf t name share table steward caller
 
 -- the first k tables of a leaf were made, and their callers' seats put behind those that stood there
-pub record IsPart (base : ℕ → ℕ → Option TableBase) (leaf : ℕ) (names : List (List ℕ)) (share k : ℕ) (tables : List Shared) (stewards : List SeatView) (before callers : List (List SeatView)) : Type 0 where
+pub record IsPartOfFleet (base : ℕ → ℕ → Option TableBase) (leaf : ℕ) (names : List (List ℕ)) (share k : ℕ) (tables : List Shared) (stewards : List SeatView) (before callers : List (List SeatView)) : Type 0 where
   pub sizes : (length tables ≡ k) × (length stewards ≡ k) × (length callers ≡ length before)
   pub longer : (t : ℕ) → t < k → length (row callers t) ≡ length (row before t) + 1
   pub same : (t : ℕ) → k ≤ t → row callers t ≡ row before t

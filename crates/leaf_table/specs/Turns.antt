@@ -10,7 +10,7 @@ use Rattle.leaf_history.specs.Calls.{Call}
 use Rattle.leaf_history.specs.Calls as call
 use Rattle.leaf_history.specs.Replies.{Reply}
 use Rattle.leaf_history.specs.Replies as reply
-use Rattle.leaf_history.specs.History.{Entry, TableState, base_of, no_base, LegalFrom, OpenAllowed, after, after_entry, held, untaken, write_count}
+use Rattle.leaf_history.specs.History.{Entry, HistoryState, base_of, no_base, LegalFrom, OpenAllowed, after, after_entry, held, untaken, write_count}
 use Rattle.row_records.specs.Records.{LogRecord}
 use Rattle.table_state.specs.Tables.{Table}
 use Rattle.leaf_table.specs.declared.base.TableBase.{TableBase}
@@ -37,7 +37,7 @@ is_founded (Some b) = true
 is_founded None = false
 
 -- where it begins
-abbrev pub start_of : Option TableBase → TableState
+abbrev pub start_of : Option TableBase → HistoryState
 start_of (Some b) = base_of b.writes b.flushed
 start_of None = no_base
 
@@ -91,11 +91,11 @@ record_for name [] = None
 record_for name (w ∷ ws) = Some (record { name = name; writes = w ∷ ws })
 
 -- the record of the writes of a table that were not taken
-abbrev pub untaken_record : List ℕ → TableState → Option LogRecord
+abbrev pub untaken_record : List ℕ → HistoryState → Option LogRecord
 untaken_record name s = record_for name (untaken s)
 
 -- a take hands out the record of the writes that were not taken, and a shut the table with them
-abbrev pub HandsOut : List ℕ → TableState → Turn → Answer → Type 0
+abbrev pub HandsOut : List ℕ → HistoryState → Turn → Answer → Type 0
 HandsOut name s turn.Take (answer.Took writes pending) = pending ≡ untaken_record name s
 HandsOut name s turn.Take _ = ⊥
 HandsOut name s turn.Shut (answer.Closed table) = (table.contents ≡ held s) × (table.pending ≡ untaken_record name s)
@@ -103,14 +103,14 @@ HandsOut name s turn.Shut _ = ⊥
 HandsOut name s _ _ = ⊤
 
 -- groups are told over at most 2^40 rows
-abbrev pub OverFew : TableState → Reply → Type 0
+abbrev pub OverFew : HistoryState → Reply → Type 0
 OverFew s (reply.Groups gs) = length (held s).rows ≤ 2 ^ 40
 OverFew s _ = ⊤
 
-abbrev pub Hands : List ℕ → TableState → Turn → Answer → Type 0
+abbrev pub Hands : List ℕ → HistoryState → Turn → Answer → Type 0
 Hands name s t a = HandsOut name s t a × OverFew s (reply_of a)
 
-abbrev pub HandsFrom : List ℕ → Bool → TableState → Turns → Type 0
+abbrev pub HandsFrom : List ℕ → Bool → HistoryState → Turns → Type 0
 HandsFrom name founded s [] = ⊤
 HandsFrom name founded s (e ∷ es) = Hands name s e.call e.reply × HandsFrom name founded (after_entry founded s (told e)) es
 
@@ -120,11 +120,11 @@ pub record LegalTurns (name : List ℕ) (base : Option TableBase) (h : Turns) : 
   pub hands : HandsFrom name (is_founded base) (start_of base) h
 
 -- the table's state after these turns
-abbrev pub state_after : Option TableBase → Turns → TableState
+abbrev pub state_after : Option TableBase → Turns → HistoryState
 state_after base h = after (is_founded base) (start_of base) (history h)
 
 -- an open table holds what its history says, and the record of the writes that were not taken
-pub record IsTableOf (name : List ℕ) (s : TableState) (n : ℕ) (v : LeafTable) : Type 0 where
+pub record IsTableOf (name : List ℕ) (s : HistoryState) (n : ℕ) (v : LeafTable) : Type 0 where
   pub named : v.name ≡ name
   pub short : length name ≤ 255
   pub live : v.live ≡ s.live
@@ -137,14 +137,14 @@ abbrev pub StandsFor : List ℕ → Option TableBase → Turns → LeafTable →
 StandsFor name base h v = IsTableOf name (state_after base h) (length h) v
 
 -- a table that is handed in: nothing is pending, and it had n writes
-pub record MayHandIn (founded : Bool) (s : TableState) (n : ℕ) (table : Table) : Type 0 where
+pub record MayHandIn (founded : Bool) (s : HistoryState) (n : ℕ) (table : Table) : Type 0 where
   pub pending : table.pending ≡ None
   pub writes : table.writes ≡ n
   pub small : n < 2 ^ 63
   pub allowed : OpenAllowed founded s n table.contents
 
 -- who may take which turn in this state: the steward shuts what is open and opens what is shut
-abbrev pub MayNow : Bool → TableState → ℕ → Turn → Type 0
+abbrev pub MayNow : Bool → HistoryState → ℕ → Turn → Type 0
 MayNow founded s by (turn.Add rows) = (0 < by) × AllByRecursion IsRow rows
 MayNow founded s by (turn.Expire horizon) = (0 < by) × IsTime horizon
 MayNow founded s by (turn.Keep n) = 0 < by

@@ -5,7 +5,7 @@ ghost use Rattle.turnstile.specs.Seats.{IsSeatOf};
 ghost use Rattle.leaf_model.specs.Values.{IsRow, IsTime};
 ghost use Rattle.leaf_history.specs.Calls as call;
 ghost use Rattle.leaf_table.specs.Turns.{IsAsk};
-ghost use Rattle.leaf_table.specs.Calls.{base_of, IsCaller, SameSeat, Answered};
+ghost use Rattle.leaf_table.specs.Calls.{base_seen, IsCaller, SameSeat, Answered};
 
 use crate::replies::{Reply, numbered};
 use crate::shared::{Seat, SharedTable};
@@ -27,7 +27,7 @@ impl SharedTable {
         requires rows { AllByRecursion IsRow rows }
         ensures seat { IsSeatOf seat.new self.now.site }
         ensures same { SameSeat seat.old seat.new }
-        ensures made { Answered (base_of self.now) seat.old (call.Add rows) result seat.new }
+        ensures made { Answered (base_seen self.now) seat.old (call.Add rows) result seat.new }
     {
         if seat.seen() >= WORN {
             return Reply::Worn;
@@ -43,7 +43,7 @@ impl SharedTable {
         requires horizon { IsTime horizon }
         ensures seat { IsSeatOf seat.new self.now.site }
         ensures same { SameSeat seat.old seat.new }
-        ensures made { Answered (base_of self.now) seat.old (call.Expire horizon) result seat.new }
+        ensures made { Answered (base_seen self.now) seat.old (call.Expire horizon) result seat.new }
     {
         if seat.seen() >= WORN {
             return Reply::Worn;
@@ -58,7 +58,7 @@ impl SharedTable {
         requires caller { IsCaller seat.old }
         ensures seat { IsSeatOf seat.new self.now.site }
         ensures same { SameSeat seat.old seat.new }
-        ensures made { Answered (base_of self.now) seat.old (call.Keep n) result seat.new }
+        ensures made { Answered (base_seen self.now) seat.old (call.Keep n) result seat.new }
     {
         if seat.seen() >= WORN {
             return Reply::Worn;
@@ -73,7 +73,7 @@ impl SharedTable {
         requires caller { IsCaller seat.old }
         ensures seat { IsSeatOf seat.new self.now.site }
         ensures same { SameSeat seat.old seat.new }
-        ensures made { Answered (base_of self.now) seat.old (call.Ask query.now) result seat.new }
+        ensures made { Answered (base_seen self.now) seat.old (call.Ask query.now) result seat.new }
     {
         if seat.seen() >= WORN {
             return Reply::Worn;

@@ -2,7 +2,7 @@
 ghost use Rattle.std.specs.Prelude.{◌≡◌, ◌<◌, ◌≤◌, length, IfOk};
 ghost use Rattle.std.specs.List.{AllByRecursion};
 ghost use Rattle.leaf_table.specs.Lists.{lists_in, row, HasRows, Puts};
-ghost use Rattle.leaf_table.specs.Fleet.{IsShort, IsPart, IsNewFleet};
+ghost use Rattle.leaf_table.specs.Fleet.{IsShortName, IsPartOfFleet, IsNewFleet};
 
 use crate::base::Founds;
 use crate::shared::{Seat, SharedTable};
@@ -108,7 +108,7 @@ impl FleetTables {
     ) -> Result<(FleetTables, StewardSeats, CallerSeats), AllocError>
         requires leaves { leaves ≤ 256 }
         requires names { length names.now ≤ 16 }
-        requires short { AllByRecursion IsShort names.now }
+        requires short { AllByRecursion IsShortName names.now }
         requires share { (1 ≤ share) × (share ≤ 65536) }
         ensures { IfOk result (λ f. IsNewFleet N.base leaves names.now share f.0 f.1 f.2) }
     {
@@ -162,10 +162,10 @@ fn leaf_tables<N: Founds>(
     callers: &mut Vec<Vec<Seat>>,
 ) -> Result<(Vec<SharedTable>, Vec<Seat>), AllocError>
     requires names { length names.now ≤ 16 }
-    requires short { AllByRecursion IsShort names.now }
+    requires short { AllByRecursion IsShortName names.now }
     requires share { (1 ≤ share) × (share ≤ 65536) }
     requires callers { HasRows (length names.now) leaf (lists_in callers.old.items) }
-    ensures { IfOk result (λ r. IsPart N.base leaf names.now share (length names.now) r.0.items r.1.items (lists_in callers.old.items) (lists_in callers.new.items)) }
+    ensures { IfOk result (λ r. IsPartOfFleet N.base leaf names.now share (length names.now) r.0.items r.1.items (lists_in callers.old.items) (lists_in callers.new.items)) }
 {
     let mut tables = Vec::new(alloc);
     let mut stewards = Vec::new(alloc);

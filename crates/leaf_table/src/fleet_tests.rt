@@ -4,7 +4,7 @@ ghost use Rattle.std.specs.List.{AllByRecursion};
 ghost use Rattle.table_state.specs.Tables.{empty_table};
 ghost use Rattle.leaf_table.specs.Turns.{is_founded, start_of, MayHandIn};
 ghost use Rattle.leaf_table.specs.Lists.{lists_in, row, place};
-ghost use Rattle.leaf_table.specs.Fleet.{IsShort, IsNew};
+ghost use Rattle.leaf_table.specs.Fleet.{IsShortName, IsNew};
 
 use crate::tests::{AT_FIVE, count_all, one_row};
 use crate::{FleetTables, Founds, Reply, Seat, SharedTable};
@@ -28,7 +28,7 @@ impl Founds for EmptyBerths {
 
 fn two_names(alloc: Global) -> Result<Names, AllocError>
     ensures count { IfOk result (λ names. length names ≡ 2) }
-    ensures short { IfOk result (λ names. AllByRecursion IsShort names) }
+    ensures short { IfOk result (λ names. AllByRecursion IsShortName names) }
 {
     let mut names = Vec::new(alloc);
     names.push(Text::of(String::from_str(alloc, "errors")?))?;
@@ -87,7 +87,7 @@ fn live_in_a_fleet<N: Founds, R: Wait>(
     names: &Names,
 ) -> Result<Life, AllocError>
     requires count { length names.now ≡ 2 }
-    requires short { AllByRecursion IsShort names.now }
+    requires short { AllByRecursion IsShortName names.now }
     requires base { MayHandIn (is_founded (N.base 1 0)) (start_of (N.base 1 0)) 0 empty_table }
 {
     let (fleet, stewards, callers) = FleetTables::new::<N>(alloc, 2, names, 3)?;

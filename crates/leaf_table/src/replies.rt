@@ -1,6 +1,6 @@
 // What the calls answer.
 ghost use Rattle.leaf_table.specs.Turns.{reply_of};
-ghost use Rattle.leaf_table.specs.Calls.{IsCallers, Tells};
+ghost use Rattle.leaf_table.specs.Calls.{IsCallersReply, IsToldAs};
 
 use crate::turns::Answer;
 use leaf_model::Groups;
@@ -40,8 +40,8 @@ pub struct ClosedTable {
 
 // The reply of an entry, with its number.
 pub(crate) fn numbered(number: u64, answer: Answer) -> Reply
-    requires { IsCallers (reply_of answer) }
-    ensures { Tells number (reply_of answer) result }
+    requires { IsCallersReply (reply_of answer) }
+    ensures { IsToldAs number (reply_of answer) result }
 {
     match answer {
         Answer::Added { kept, late } => Reply::Added { number, kept, late },

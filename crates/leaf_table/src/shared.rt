@@ -2,7 +2,7 @@
 ghost use Rattle.std.specs.Prelude.{◌≡◌, ◌<◌, ◌≤◌, length, IfOk, IsOk};
 ghost use Rattle.turnstile.specs.Seats.{IsSeatOf, HasRoom, Joined, LearnsOthers, Told, keeps_all_but, given, unused_seat};
 ghost use Rattle.leaf_table.specs.Turns.{is_founded, MayNow};
-ghost use Rattle.leaf_table.specs.Calls.{base_of, name_of, state_seen, IsSteward, SeesShut, MadeTurn};
+ghost use Rattle.leaf_table.specs.Calls.{base_seen, name_of, state_seen, IsSteward, SeesShut, MadeTurn};
 
 use crate::base::{Founds, origin_of};
 use crate::turns::{Answer, Turn};
@@ -51,7 +51,7 @@ impl SharedTable {
         requires share { (1 ≤ share) × (share ≤ 65536) }
         ensures numbers { IfOk result (λ t. (t.0.leaf ≡ leaf) × (t.0.table ≡ table)) }
         ensures named { IfOk result (λ t. name_of t.0 ≡ name.now) }
-        ensures base { IfOk result (λ t. base_of t.0 ≡ N.base leaf table) }
+        ensures base { IfOk result (λ t. base_seen t.0 ≡ N.base leaf table) }
         ensures steward { IfOk result (λ t. t.1 ≡ unused_seat t.0.site 0 1 1024) }
         ensures caller { IfOk result (λ t. t.2 ≡ unused_seat t.0.site 1 share share) }
         ensures shut { IfOk result (λ t. SeesShut t.0 t.1) }
@@ -125,9 +125,9 @@ impl SharedTable {
     ) -> Answer
         requires seat { IsSeatOf seat.old self.now.site }
         requires room { HasRoom seat.old }
-        requires may { MayNow (is_founded (base_of self.now)) (state_seen (base_of self.now) seat.old) seat.old.id turn }
+        requires may { MayNow (is_founded (base_seen self.now)) (state_seen (base_seen self.now) seat.old) seat.old.id turn }
         ensures seat { IsSeatOf seat.new self.now.site }
-        ensures made { MadeTurn (name_of self.now) (base_of self.now) C.now seat.old turn result seat.new }
+        ensures made { MadeTurn (name_of self.now) (base_seen self.now) C.now seat.old turn result seat.new }
     {
         self.turns
             .call::<C, R, G>(rt, seat, turn, gate, self.leaf, self.table)
@@ -144,10 +144,10 @@ impl SharedTable {
     ) -> Answer
         requires seat { IsSeatOf steward.old self.now.site }
         requires steward { IsSteward steward.old }
-        requires may { MayNow (is_founded (base_of self.now)) (state_seen (base_of self.now) steward.old) steward.old.id turn }
+        requires may { MayNow (is_founded (base_seen self.now)) (state_seen (base_seen self.now) steward.old) steward.old.id turn }
         requires clock { C.now ≡ (B.meaning _berth.now).clock }
         ensures seat { IsSeatOf steward.new self.now.site }
-        ensures made { MadeTurn (name_of self.now) (base_of self.now) (B.meaning _berth.now).clock steward.old turn result steward.new }
+        ensures made { MadeTurn (name_of self.now) (base_seen self.now) (B.meaning _berth.now).clock steward.old turn result steward.new }
     {
         self.turn::<C, R, G>(rt, steward, turn, gate)
     }
@@ -163,9 +163,9 @@ impl SharedTable {
     ) -> Answer
         requires seat { IsSeatOf steward.old self.now.site }
         requires steward { IsSteward steward.old }
-        requires may { MayNow (is_founded (base_of self.now)) (state_seen (base_of self.now) steward.old) steward.old.id turn }
+        requires may { MayNow (is_founded (base_seen self.now)) (state_seen (base_seen self.now) steward.old) steward.old.id turn }
         ensures seat { IsSeatOf steward.new self.now.site }
-        ensures made { MadeTurn (name_of self.now) (base_of self.now) (B.meaning berth.now).clock steward.old turn result steward.new }
+        ensures made { MadeTurn (name_of self.now) (base_seen self.now) (B.meaning berth.now).clock steward.old turn result steward.new }
     {
         self.turn_at::<Brand, R, B, G>(rt, steward, turn, berth, gate)
     }

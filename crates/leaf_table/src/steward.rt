@@ -4,7 +4,7 @@ ghost use Rattle.turnstile.specs.Seats.{IsSeatOf};
 ghost use Rattle.leaf_history.specs.Calls as call;
 ghost use Rattle.leaf_history.specs.Replies as reply;
 ghost use Rattle.leaf_table.specs.Turns.{is_founded, MayHandIn};
-ghost use Rattle.leaf_table.specs.Calls.{base_of, name_of, state_seen, IsSteward, SameSeat, SeesOpen, SeesShut, HasTaken, Made, TookBy, ClosedBy, ReopenedBy};
+ghost use Rattle.leaf_table.specs.Calls.{base_seen, name_of, state_seen, IsSteward, SameSeat, SeesOpen, SeesShut, HasTaken, Made, TookBy, ClosedBy, ReopenedBy};
 
 use crate::callers::WORN;
 use crate::replies::{ClosedTable, Taken};
@@ -30,7 +30,7 @@ impl SharedTable {
         ensures same { SameSeat steward.old steward.new }
         ensures open { SeesOpen self.now steward.new }
         ensures taken { HasTaken self.now result steward.new }
-        ensures made { TookBy (name_of self.now) (base_of self.now) (B.meaning berth.now).clock steward.old result steward.new }
+        ensures made { TookBy (name_of self.now) (base_seen self.now) (B.meaning berth.now).clock steward.old result steward.new }
     {
         if steward.seen() >= WORN {
             return Taken::Worn;
@@ -63,12 +63,12 @@ impl SharedTable {
     ) -> u64
         requires seat { IsSeatOf steward.old self.now.site }
         requires steward { IsSteward steward.old }
-        requires taken { writes ≤ (state_seen (base_of self.now) steward.old).taken }
+        requires taken { writes ≤ (state_seen (base_seen self.now) steward.old).taken }
         ensures seat { IsSeatOf steward.new self.now.site }
         ensures same { SameSeat steward.old steward.new }
         ensures number { result ≡ length steward.new.seen }
-        ensures live { (state_seen (base_of self.now) steward.new).live ≡ (state_seen (base_of self.now) steward.old).live }
-        ensures made { Made (base_of self.now) (B.meaning berth.now).clock steward.old (call.Flushed writes) reply.Noted steward.new }
+        ensures live { (state_seen (base_seen self.now) steward.new).live ≡ (state_seen (base_seen self.now) steward.old).live }
+        ensures made { Made (base_seen self.now) (B.meaning berth.now).clock steward.old (call.Flushed writes) reply.Noted steward.new }
     {
         self.steward_turn(rt, steward, Turn::Flushed(writes), berth, gate);
         steward.seen()
@@ -88,7 +88,7 @@ impl SharedTable {
         ensures seat { IsSeatOf steward.new self.now.site }
         ensures same { SameSeat steward.old steward.new }
         ensures shut { SeesShut self.now steward.new }
-        ensures closed { ClosedBy (name_of self.now) (base_of self.now) (B.meaning berth.now).clock steward.old result steward.new }
+        ensures closed { ClosedBy (name_of self.now) (base_seen self.now) (B.meaning berth.now).clock steward.old result steward.new }
     {
         match self.steward_turn(rt, steward, Turn::Shut, berth, gate) {
             Answer::Closed(table) => ClosedTable {
@@ -122,7 +122,7 @@ impl SharedTable {
         ensures same { SameSeat steward.old steward.new }
         ensures number { result ≡ length steward.new.seen }
         ensures shut { SeesShut self.now steward.new }
-        ensures made { Made (base_of self.now) (B.meaning berth.now).clock steward.old call.Done reply.Noted steward.new }
+        ensures made { Made (base_seen self.now) (B.meaning berth.now).clock steward.old call.Done reply.Noted steward.new }
     {
         self.steward_turn(rt, steward, Turn::Done, berth, gate);
         steward.seen()
@@ -142,11 +142,11 @@ impl SharedTable {
         requires seat { IsSeatOf steward.old self.now.site }
         requires steward { IsSteward steward.old }
         requires shut { SeesShut self.now steward.old }
-        requires content { MayHandIn (is_founded (base_of self.now)) (state_seen (base_of self.now) steward.old) writes table }
+        requires content { MayHandIn (is_founded (base_seen self.now)) (state_seen (base_seen self.now) steward.old) writes table }
         ensures seat { IsSeatOf steward.new self.now.site }
         ensures same { SameSeat steward.old steward.new }
         ensures open { OnOk result (SeesOpen self.now steward.new) }
-        ensures made { ReopenedBy (base_of self.now) (B.meaning berth.now).clock steward.old writes table result steward.new }
+        ensures made { ReopenedBy (base_seen self.now) (B.meaning berth.now).clock steward.old writes table result steward.new }
     {
         if steward.seen() >= WORN {
             return Err(table);

@@ -3,7 +3,7 @@ ghost use Rattle.std.specs.Prelude.{◌≡◌, ◌+◌, ◌<◌, ◌≤◌, None
 ghost use Rattle.std.specs.List.{AllByRecursion};
 ghost use Rattle.leaf_model.specs.Values.{IsRow};
 ghost use Rattle.turnstile.specs.Seats.{IsSeatOf};
-ghost use Rattle.leaf_table.specs.Calls.{base_of, IsCaller, SameSeat, SeesOpen, SeesShut};
+ghost use Rattle.leaf_table.specs.Calls.{base_seen, IsCaller, SameSeat, SeesOpen, SeesShut};
 
 use crate::{Reply, Seat, SharedTable, Taken};
 use berth_face::OpenGate;
@@ -60,7 +60,7 @@ pub(crate) fn open_empty<R: Wait>(
     requires seat { IsSeatOf steward.old shared.now.site }
     requires steward { (steward.old.id ≡ 0) × (steward.old.share ≡ 1) × (8 ≤ steward.old.room) }
     requires shut { SeesShut shared.now steward.old }
-    requires founded { base_of shared.now ≡ None }
+    requires founded { base_seen shared.now ≡ None }
     ensures seat { IsSeatOf steward.new shared.now.site }
     ensures steward { (steward.new.id ≡ 0) × (steward.new.share ≡ 1) × (7 ≤ steward.new.room) }
     ensures open { OnOk result (SeesOpen shared.now steward.new) }

@@ -12,13 +12,13 @@ use Rattle.disk_backup.specs.declared.step.FlushRecord.{FlushRecord}
 use Rattle.disk_backup.specs.declared.step.LogStep.TheVariants.{Record}
 use Rattle.disk_backup.specs.Logs.{IsSound, open_records, writes_of}
 use Rattle.disk_backup.specs.State.{ScanState}
-use Rattle.disk_backup.specs.Scanning.{Scanned, StepIs, GoesOn, begun, record_is}
+use Rattle.disk_backup.specs.Scanning.{Scanned, StepIs, ScansOn, begun, record_is}
 use Rattle.disk_backup.proofs.Logs.{end_snoc}
 use Rattle.disk_backup.proofs.Beginning.{begun_short, begun_long}
 use Rattle.disk_backup.proofs.Scanned.{never_damaged, scanned_is_front}
 use Rattle.log_recovery.specs.declared.fault.RecoveryFault.{RecoveryFault}
 use Rattle.log_recovery.specs.declared.fault.RecoveryFault.TheVariants.{DiskDamaged}
-use Rattle.log_recovery.specs.Recovery.{IsTooLong, IsRefusal, tables_of}
+use Rattle.log_recovery.specs.Recovery.{IsTooLong, IsRecoveryRefusal, tables_of}
 use Rattle.log_recovery.specs.Applying.{HasApplied, Reached, count_of}
 use Rattle.log_recovery.proofs.Applying.{writes_append, few_writes, count_more}
 
@@ -42,7 +42,7 @@ module _ (names : List (List ℕ)) (tells : Bool) (disk : List ℕ) where
     -- ---- one record more
 
     pub reached_more : (later : ScanState) (flush : FlushRecord) (now : List Table)
-        → (IsTrue tells → StepIs disk so_far.records scan.len (Record later flush)) → GoesOn scan (Record later flush)
+        → (IsTrue tells → StepIs disk so_far.records scan.len (Record later flush)) → ScansOn scan (Record later flush)
         → HasApplied names (so_far.records ++ record_is flush ∷ []) now → Reached names tells disk later now
     reached_more later flush now step goes applied = record {
       records = so_far.records ++ record_is flush ∷ [];
@@ -85,19 +85,19 @@ never_too_long disk records r at sound s long =
     let few = subst (λ (l : List Write). length (content l).rows ≤ 2 ^ 40) same (sound.3 r.name k) in
     absurd (omega (arith, few, long.1))
 
-never_refused_long : (names : List (List ℕ)) (disk : List ℕ) → IsSound disk → 1 < length disk → IsRefusal names disk DiskDamaged → ⊥
+never_refused_long : (names : List (List ℕ)) (disk : List ℕ) → IsSound disk → 1 < length disk → IsRecoveryRefusal names disk DiskDamaged → ⊥
 never_refused_long names disk sound long (inl cut) = never_damaged disk cut.records sound.0 cut.at sound.1 long sound.2 cut.scanned cut.damaged
 never_refused_long names disk sound long (inr passed) = never_too_long disk passed.0 passed.1 passed.2.at sound passed.2.scanned passed.3
 
-never_refused_short : (names : List (List ℕ)) → IsRefusal names (0 ∷ []) DiskDamaged → ⊥
+never_refused_short : (names : List (List ℕ)) → IsRecoveryRefusal names (0 ∷ []) DiskDamaged → ⊥
 never_refused_short names (inl cut) = nothing_there cut.at cut.damaged.rest cut.damaged.opened
 never_refused_short names (inr passed) = short_whole passed.0 passed.1 passed.2.at passed.2.scanned
 
 -- of a sound log no damage is told
-pub never_refused : (names : List (List ℕ)) (disk : List ℕ) → IsSound disk → IsRefusal names (begun disk) DiskDamaged → ⊥
+pub never_refused : (names : List (List ℕ)) (disk : List ℕ) → IsSound disk → IsRecoveryRefusal names (begun disk) DiskDamaged → ⊥
 never_refused names disk sound refused = elim (cases_lt 1 (length disk)) [
-  | inl long ↦ never_refused_long names disk sound long (subst (λ (d : List ℕ). IsRefusal names d DiskDamaged) (begun_long disk long) refused)
-  | inr short ↦ never_refused_short names (subst (λ (d : List ℕ). IsRefusal names d DiskDamaged) (begun_short disk short) refused)
+  | inl long ↦ never_refused_long names disk sound long (subst (λ (d : List ℕ). IsRecoveryRefusal names d DiskDamaged) (begun_long disk long) refused)
+  | inr short ↦ never_refused_short names (subst (λ (d : List ℕ). IsRecoveryRefusal names d DiskDamaged) (begun_short disk short) refused)
 ]
 
 -- ---- for the answers

@@ -58,8 +58,8 @@ pub record IsCut (names : List (List ℕ)) (disk : List ℕ) : Type 0 where
   pub damaged : Damaged disk at
 
 -- why a log that reads as this disk was not read to its end
-abbrev pub IsRefusal : List (List ℕ) → List ℕ → RecoveryFault → Type 0
-IsRefusal names disk (Stranger name) = (records : List LogRecord) × (r : LogRecord) × ComesTo names disk records r × (r.name ≡ name) × (list_any (bytes_eq name) names ≡ false)
-IsRefusal names disk DiskDamaged = IsCut names disk ⊎ ((records : List LogRecord) × (r : LogRecord) × ComesTo names disk records r × IsTooLong records r)
-IsRefusal names disk DiskFault = ⊤
-IsRefusal names disk NoMemory = ⊤
+abbrev pub IsRecoveryRefusal : List (List ℕ) → List ℕ → RecoveryFault → Type 0
+IsRecoveryRefusal names disk (Stranger name) = (records : List LogRecord) × (r : LogRecord) × ComesTo names disk records r × (r.name ≡ name) × (list_any (bytes_eq name) names ≡ false)
+IsRecoveryRefusal names disk DiskDamaged = IsCut names disk ⊎ ((records : List LogRecord) × (r : LogRecord) × ComesTo names disk records r × IsTooLong records r)
+IsRecoveryRefusal names disk DiskFault = ⊤
+IsRecoveryRefusal names disk NoMemory = ⊤

@@ -5,9 +5,9 @@ ghost use Rattle.berth_face.specs.Causes.{Rose};
 ghost use Rattle.berth_face.specs.Berth.{Passes, Stays};
 ghost use Rattle.berth_face.specs.Moments.{EachNow, Throughout};
 ghost use Rattle.disk_backup.specs.Logs.{IsSound};
-ghost use Rattle.disk_backup.specs.Scanning.{StepsFrom, Begins, begun};
+ghost use Rattle.disk_backup.specs.Scanning.{StepsFrom, BeginsScan, begun};
 ghost use Rattle.log_recovery.specs.declared.fault.RecoveryFault.TheVariants as fault;
-ghost use Rattle.log_recovery.specs.Recovery.{AreDistinct, IsRecovered, IsRefusal, tables_of};
+ghost use Rattle.log_recovery.specs.Recovery.{AreDistinct, IsRecovered, IsRecoveryRefusal, tables_of};
 
 use crate::apply::{apply, empty_tables};
 use crate::fault::RecoveryFault;
@@ -27,16 +27,16 @@ pub fn recover<B: Berth>(
     requires distinct { AreDistinct names.now }
     // What was read, and each answer that is a refusal, where the berth tells its contents.
     ensures told { IsTrue (B.meaning berth.old).tells → IfOk result (λ r. IsRecovered names.now (B.meaning berth.new).held.disk r.tables r.log) }
-    ensures refused { IsTrue (B.meaning berth.old).tells → IfErr result (IsRefusal names.now (B.meaning berth.new).held.disk) }
+    ensures refused { IsTrue (B.meaning berth.old).tells → IfErr result (IsRecoveryRefusal names.now (B.meaning berth.new).held.disk) }
     // A log that is sound is never damaged.
     ensures sound { IsTrue (B.meaning berth.old).tells → IsSound (B.meaning berth.old).held.disk → result ≢ Err fault.DiskDamaged }
     // What is left of the berth, and what a crash leaves of it at each moment; after Ok a crash leaves the disk that was read.
     ensures disk { IsTrue (B.meaning berth.old).tells → OnOk result ((B.meaning berth.new).held.disk ≡ begun (B.meaning berth.old).held.disk) }
-    ensures held { IsTrue (B.meaning berth.old).tells → Begins (length (B.meaning berth.old).held.disk) (B.meaning berth.old).held.disk (B.meaning berth.new).held.disk }
+    ensures held { IsTrue (B.meaning berth.old).tells → BeginsScan (length (B.meaning berth.old).held.disk) (B.meaning berth.old).held.disk (B.meaning berth.new).held.disk }
     ensures region { IsTrue (B.meaning berth.old).tells → (B.meaning berth.new).held.region ≡ (B.meaning berth.old).held.region }
     ensures durable { IsTrue (B.meaning berth.old).tells → OnOk result (EachNow (λ p. p.disk ≡ (B.meaning berth.new).held.disk) (B.meaning berth.new)) }
     ensures moments { IsTrue (B.meaning berth.old).tells
-        → Throughout (StepsFrom (Begins (length (B.meaning berth.old).held.disk)) (B.meaning berth.old)) (B.meaning berth.old) (B.meaning berth.new) }
+        → Throughout (StepsFrom (BeginsScan (length (B.meaning berth.old).held.disk)) (B.meaning berth.old)) (B.meaning berth.old) (B.meaning berth.new) }
     // On every berth, whether it tells its contents or not.
     ensures one { IfOk result (λ r. length r.tables ≡ length names.now) }
     ensures none_owed { IfOk result (λ r. (r.log.owed ≡ None) × (r.log.end < 2 ^ 63)) }
@@ -66,7 +66,7 @@ fn read_on<B: Berth>(
     ensures time { Passes (B.meaning berth.old) (B.meaning berth.new) }
     ensures cause { result ≡ Err fault.DiskFault → Rose (B.meaning berth.old).disk_faults (B.meaning berth.new).disk_faults }
     ensures told { IsTrue (B.meaning berth.old).tells → IfOk result (λ log. IsRecovered names.now (B.meaning berth.old).held.disk tables.new log) }
-    ensures refused { IsTrue (B.meaning berth.old).tells → IfErr result (IsRefusal names.now (B.meaning berth.old).held.disk) }
+    ensures refused { IsTrue (B.meaning berth.old).tells → IfErr result (IsRecoveryRefusal names.now (B.meaning berth.old).held.disk) }
     ensures one { OnOk result (length tables.new ≡ length names.now) }
     ensures none_owed { IfOk result (λ log. (log.owed ≡ None) × (log.end < 2 ^ 63)) }
     ensures settled { OnOk result (AllByRecursion (λ t. (t.pending ≡ None) × (t.writes < 2 ^ 63)) tables.new) }

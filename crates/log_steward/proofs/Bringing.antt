@@ -8,18 +8,18 @@ use Rattle.row_records.specs.Records.{LogRecord, IsRecord}
 use Rattle.berth_face.specs.Berth.{Meaning, Passes}
 use Rattle.leaf_history.specs.Calls as call
 use Rattle.leaf_history.specs.Replies as reply
-use Rattle.leaf_history.specs.History.{TableState}
+use Rattle.leaf_history.specs.History.{HistoryState}
 use Rattle.disk_backup.specs.State.{LogState}
 use Rattle.disk_backup.specs.Settling.{Settled, HaveLog, KeepsLog, with_writes}
 use Rattle.leaf_table.specs.Turns.{Shared, is_founded}
-use Rattle.leaf_table.specs.Calls.{SeatView, base_of, state_seen}
+use Rattle.leaf_table.specs.Calls.{SeatView, base_seen, state_seen}
 use Rattle.crash_moments.specs.Watched.{Watched, now_of}
 use Rattle.crash_moments.specs.Told.{SeenMore}
 use Rattle.crash_moments.proofs.Telling.{none_more, told_join}
 use Rattle.crash_states.specs.Standing.{IsLogged, Runs, StandsNow}
 use Rattle.crash_states.specs.Entries.{Enters}
 use Rattle.crash_states.proofs.Lefts.{runs_told}
-use Rattle.crash_serving.specs.Laws.{Settles, Flushes, Owes, settled_log, owing_log}
+use Rattle.crash_serving.specs.Laws.{Settles, IsFlushed, Owes, settled_log, owing_log}
 use Rattle.crash_serving.proofs.Running.{settles, flushes}
 use Rattle.leaf_steward.specs.declared.notes.Note.{Note}
 use Rattle.leaf_steward.specs.Seated.{Seated, AreSeated, AreFounded, AtPlace, watched, watched_by}
@@ -32,13 +32,13 @@ use Rattle.log_steward.specs.Owing.{Owing, SettlesOwed, Brings, RunsTo, flushed_
 
 -- the seat knows that at least so many writes were taken of the table
 abbrev pub TookAtLeast : ℕ → Shared → SeatView → Type 0
-TookAtLeast n t v = n ≤ (state_seen (base_of t) v).taken
+TookAtLeast n t v = n ≤ (state_seen (base_seen t) v).taken
 
 -- of a log that is owed nothing, all that was taken of a table is in it
 all_logged : (ws : List Watched) (owner : ℕ) (log : LogState) (writes : List ℕ → List Write) (m : Meaning) (place : ℕ) (w : Watched)
     → Runs ws owner log writes m → log.owed ≡ None → slice_get ws place ≡ Some w → length (writes w.name) ≡ (now_of w).taken
 all_logged ws owner log writes m place w runs none at =
-    let s : TableState = now_of w in
+    let s : HistoryState = now_of w in
     let logged : IsLogged (writes w.name) (with_writes log.owed writes w.name) s = runs.each place w at in
     let same : with_writes log.owed writes w.name ≡ writes w.name = ap (λ (owed : Option LogRecord). with_writes owed writes w.name) none in
     let front : length (take s.taken s.writes) ≡ length (writes w.name) = ap (λ (l : List Write). length l) (logged.front ∙ same) in
@@ -53,8 +53,8 @@ module _ (x y : Seated) (o : Owing) (number : ℕ) (writes : List ℕ → List W
   abbrev now : Watched
   now = watched entry.table entry.after
 
-  base_founded : is_founded (base_of entry.table) ≡ true
-  base_founded = watch_all (λ (t : Shared). is_founded (base_of t) ≡ true) x.tables o.owner entry.table founded entry.at
+  base_founded : is_founded (base_seen entry.table) ≡ true
+  base_founded = watch_all (λ (t : Shared). is_founded (base_seen t) ≡ true) x.tables o.owner entry.table founded entry.at
 
   was_at : slice_get (watched_by x) o.owner ≡ Some was
   was_at = watch_get x o.owner entry.table entry.before entry.at entry.was
@@ -67,10 +67,10 @@ module _ (x y : Seated) (o : Owing) (number : ℕ) (writes : List ℕ → List W
 
   few : o.count ≤ length (writes was.name)
   few =
-      let known : o.count ≤ (now_of was).taken = subst (λ (s : TableState). o.count ≤ s.taken) (sym (now_seen entry.table entry.before base_founded)) (took entry.table entry.before entry.at entry.was) in
+      let known : o.count ≤ (now_of was).taken = subst (λ (s : HistoryState). o.count ≤ s.taken) (sym (now_seen entry.table entry.before base_founded)) (took entry.table entry.before entry.at entry.was) in
       omega (arith, known, all_logged (watched_by x) o.owner o.log writes m o.owner was runs none was_at)
 
-  flushed : Flushes (watched_by x) o.owner o.owner now o.log writes m
+  flushed : IsFlushed (watched_by x) o.owner o.owner now o.log writes m
   flushed = flushes (watched_by x) o.owner o.owner o.count was now o.log writes m runs was_at few enters
 
   -- the leaf runs on when the table is noted as flushed

@@ -4,11 +4,11 @@ use Rattle.leaf_model.specs.declared.writes.Write.{Write}
 use Rattle.row_records.specs.Records.{LogRecord}
 use Rattle.berth_face.specs.Berth.{Meaning}
 use Rattle.disk_backup.specs.State.{LogState}
-use Rattle.crash_events.specs.Left.{Tables}
+use Rattle.crash_events.specs.Left.{NamedStates}
 use Rattle.crash_moments.specs.Told.{Told}
 use Rattle.crash_states.specs.Standing.{Runs}
 use Rattle.crash_serving.specs.Laws.{settled_log, owing_log, Owes}
-use Rattle.leaf_table.specs.Calls.{base_of, name_of, state_seen}
+use Rattle.leaf_table.specs.Calls.{base_seen, name_of, state_seen}
 use Rattle.leaf_steward.specs.declared.notes.Note.{Note}
 use Rattle.leaf_steward.specs.declared.notes.What.TheVariants as what
 use Rattle.leaf_steward.specs.Seated.{Seated, AtPlace, watched_by}
@@ -22,7 +22,7 @@ pub record Owing : Type 0 where
 
 -- what the log is owed is of a table of the leaf, which knows that so many writes were taken
 abbrev pub IsOwed : Seated → Owing → Type 0
-IsOwed x o = IfSome o.log.owed (λ r. (o.owner < length x.tables) × AtPlace (λ t v. (o.count ≤ (state_seen (base_of t) v).taken) × (name_of t ≡ r.name)) x o.owner)
+IsOwed x o = IfSome o.log.owed (λ r. (o.owner < length x.tables) × AtPlace (λ t v. (o.count ≤ (state_seen (base_seen t) v).taken) × (name_of t ≡ r.name)) x o.owner)
 
 -- the note of what was settled, with its entry's number
 abbrev pub flushed_note : Owing → ℕ → Note
@@ -71,8 +71,8 @@ pub data Brings {T E : Type 0} (clock : ℕ) (x : Seated) (o : Owing) (place wri
 pub record RunsTo (x y : Seated) (o : Owing) (m m' : Meaning) : Type 0 where
   pub later : List ℕ → List Write
   pub runs : Runs (watched_by y) o.owner o.log later m'
-  pub told : (others : Tables) → Told others (watched_by x) (watched_by y) m m'
+  pub told : (others : NamedStates) → Told others (watched_by x) (watched_by y) m m'
 
 -- a leaf that is owed nothing, and whose table in that place was just taken, with this record: whatever its log then is, it runs
-abbrev pub HasTaken : Seated → Owing → ℕ → Option LogRecord → (List ℕ → List Write) → Meaning → Type 0
-HasTaken x o place pending writes m = (log' : LogState) → Owes pending o.log log' → Runs (watched_by x) place log' writes m
+abbrev pub HasJustTaken : Seated → Owing → ℕ → Option LogRecord → (List ℕ → List Write) → Meaning → Type 0
+HasJustTaken x o place pending writes m = (log' : LogState) → Owes pending o.log log' → Runs (watched_by x) place log' writes m

@@ -7,10 +7,10 @@ ghost use Rattle.row_records.specs.Records.{IsRecord};
 ghost use Rattle.berth_face.specs.Causes.{HasCause};
 ghost use Rattle.berth_face.specs.Berth.{Passes};
 ghost use Rattle.crash_states.specs.Standing.{Runs};
-ghost use Rattle.leaf_table.specs.Calls.{base_of, name_of, state_seen};
+ghost use Rattle.leaf_table.specs.Calls.{base_seen, name_of, state_seen};
 ghost use Rattle.leaf_steward.specs.Seated.{AreFounded, AtPlace, Spares, watched_by};
 ghost use Rattle.leaf_steward.specs.Making.{OneEntry};
-ghost use Rattle.log_steward.specs.Owing.{Brings, HasTaken, IsOwed, RunsTo, SettlesOwed, flushed_note};
+ghost use Rattle.log_steward.specs.Owing.{Brings, HasJustTaken, IsOwed, RunsTo, SettlesOwed, flushed_note};
 
 #[cfg(test)]
 mod tests;
@@ -102,13 +102,13 @@ impl StewardLog {
     ) -> Result<(), DiskFault>
         requires nothing { self.old.log.owed ≡ None }
         requires table { table < length seats.old.tables }
-        requires taken { AtPlace (λ t v. writes ≤ (state_seen (base_of t) v).taken) seats.old table }
+        requires taken { AtPlace (λ t v. writes ≤ (state_seen (base_seen t) v).taken) seats.old table }
         requires named { IfSome pending (λ r. AtPlace (λ t v. name_of t ≡ r.name) seats.old table) }
         requires spares { AtPlace (Spares 1) seats.old table }
         requires room { length notes.old < 32 }
         ensures brings { Brings (B.meaning berth.new).clock seats.old self.old table writes pending notes.old result seats.new self.new notes.new }
         ensures runs { (taken : List ℕ → List Write) → IsTrue (B.meaning berth.old).tells → AreFounded seats.old
-            → HasTaken seats.old self.old table pending taken (B.meaning berth.old) → RunsTo seats.old seats.new self.new (B.meaning berth.old) (B.meaning berth.new) }
+            → HasJustTaken seats.old self.old table pending taken (B.meaning berth.old) → RunsTo seats.old seats.new self.new (B.meaning berth.old) (B.meaning berth.new) }
         ensures region { IsTrue (B.meaning berth.old).tells → (B.meaning berth.new).held.region ≡ (B.meaning berth.old).held.region }
         ensures time { Passes (B.meaning berth.old) (B.meaning berth.new) }
         ensures cause { HasCause (B.meaning berth.old).disk_faults (B.meaning berth.new).disk_faults result }
@@ -160,7 +160,7 @@ impl StewardLog {
         notes: &mut Notes,
     )
         requires table { self.now.owner < length seats.old.tables }
-        requires taken { AtPlace (λ t v. self.now.count ≤ (state_seen (base_of t) v).taken) seats.old self.now.owner }
+        requires taken { AtPlace (λ t v. self.now.count ≤ (state_seen (base_seen t) v).taken) seats.old self.now.owner }
         requires spares { AtPlace (Spares 1) seats.old self.now.owner }
         requires room { length notes.old < 32 }
         ensures noted { (number : ℕ) × OneEntry (B.meaning berth.now).clock seats.old (flushed_note self.now number) seats.new

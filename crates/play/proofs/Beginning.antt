@@ -5,9 +5,9 @@ use Rattle.std.specs.List.{AllByRecursion}
 use Rattle.std.proofs.lemmas.List.{length-map}
 use Rattle.berth_face.specs.Berth.{Meaning}
 use Rattle.region_layout.specs.Names.{AreNames}
-use Rattle.crash_events.specs.Left.{Tables}
+use Rattle.crash_events.specs.Left.{NamedStates}
 use Rattle.leaf_table.specs.Turns.{Shared, is_founded, start_of}
-use Rattle.leaf_table.specs.Calls.{SeatView, base_of, name_of}
+use Rattle.leaf_table.specs.Calls.{SeatView, base_seen, name_of}
 use Rattle.leaf_steward.specs.Seated.{AreAlike, AreFounded, AtEach}
 use Rattle.leaf_machine.specs.States.{MayBegin}
 use Rattle.transcript.specs.Stage.{Leaf, IsDown, Stands}
@@ -15,31 +15,31 @@ use Rattle.transcript.specs.Laws.{IsNewStage}
 use Rattle.transcript.proofs.Lists.{All-weaken, clash_bool}
 use Rattle.transcript.proofs.Playing.{begins}
 use Rattle.play.specs.Played.{IsBase}
-use Rattle.play.specs.Runs.{AreTables, RunSoFar, TellsSoFar, seated}
+use Rattle.play.specs.Runs.{AreNewTables, RunSoFar, TellsSoFar, seated}
 use Rattle.play.proofs.Fleets.{each_at}
 use Rattle.play.proofs.Plays.{appends_nothing, keeps_same}
 
 -- founded as the base says
-abbrev IsFoundedBy : Tables → Shared → Type 0
-IsFoundedBy b t = (is_founded (base_of t) ≡ true) × (start_of (base_of t) ≡ b (name_of t))
+abbrev IsFoundedBy : NamedStates → Shared → Type 0
+IsFoundedBy b t = (is_founded (base_seen t) ≡ true) × (start_of (base_seen t) ≡ b (name_of t))
 
-not_both : (tables : List Shared) → 0 < length tables → AllByRecursion (λ (t : Shared). is_founded (base_of t) ≡ true) tables → AllByRecursion (λ (t : Shared). is_founded (base_of t) ≡ false) tables → ⊥
+not_both : (tables : List Shared) → 0 < length tables → AllByRecursion (λ (t : Shared). is_founded (base_seen t) ≡ true) tables → AllByRecursion (λ (t : Shared). is_founded (base_seen t) ≡ false) tables → ⊥
 not_both [] some founded unfounded = omega (arith, some)
-not_both (t ∷ ts) some founded unfounded = clash_bool (is_founded (base_of t)) founded.0 unfounded.0
+not_both (t ∷ ts) some founded unfounded = clash_bool (is_founded (base_seen t)) founded.0 unfounded.0
 
 -- the same names and the same tables
-pub same_tables : {base : Option Tables} {names others : List (List ℕ)} {tables ts : List Shared} {stewards callers : List SeatView} → others ≡ names → ts ≡ tables
-    → AreTables base names tables stewards callers → AreTables base others ts stewards callers
+pub same_tables : {base : Option NamedStates} {names others : List (List ℕ)} {tables ts : List Shared} {stewards callers : List SeatView} → others ≡ names → ts ≡ tables
+    → AreNewTables base names tables stewards callers → AreNewTables base others ts stewards callers
 same_tables e f t = rw (e, f) t
 
-as_many : {base : Option Tables} {names : List (List ℕ)} {tables : List Shared} {stewards callers : List SeatView} → AreTables base names tables stewards callers → length tables ≡ length names
+as_many : {base : Option NamedStates} {names : List (List ℕ)} {tables : List Shared} {stewards callers : List SeatView} → AreNewTables base names tables stewards callers → length tables ≡ length names
 as_many {tables = tables} t = sym (length-map tables name_of) ∙ ap (λ (ns : List (List ℕ)). length ns) t.named
 
 -- ---- tables that are founded
 
-module _ {b : Tables} {names : List (List ℕ)} {tables : List Shared} {stewards callers : List SeatView} (t : AreTables (Some b) names tables stewards callers) where
+module _ {b : NamedStates} {names : List (List ℕ)} {tables : List Shared} {stewards callers : List SeatView} (t : AreNewTables (Some b) names tables stewards callers) where
   all_founded : AreFounded (seated names tables stewards)
-  all_founded = All-weaken (IsFoundedBy b) (λ (s : Shared). is_founded (base_of s) ≡ true) (λ s h. h.0) tables t.founded
+  all_founded = All-weaken (IsFoundedBy b) (λ (s : Shared). is_founded (base_seen s) ≡ true) (λ s h. h.0) tables t.founded
 
   founded_at : (place : ℕ) (s : Shared) → slice_get tables place ≡ Some s → IsFoundedBy b s
   founded_at place s at = each_at (IsFoundedBy b) tables t.founded place s at
@@ -59,14 +59,14 @@ module _ {b : Tables} {names : List (List ℕ)} {tables : List Shared} {stewards
 
 -- ---- what a new leaf asks
 
-pub alike : {base : Option Tables} {names : List (List ℕ)} {tables : List Shared} {stewards callers : List SeatView} → AreTables base names tables stewards callers → AreAlike (seated names tables stewards)
+pub alike : {base : Option NamedStates} {names : List (List ℕ)} {tables : List Shared} {stewards callers : List SeatView} → AreNewTables base names tables stewards callers → AreAlike (seated names tables stewards)
 alike {base = None} t = inr (t.unfounded refl)
 alike {base = Some b} t = inl (all_founded t)
 
 -- where the tables are founded, it is with the base that is named
-pub ready : {base : Option Tables} {names : List (List ℕ)} {tables : List Shared} {stewards callers : List SeatView} (m : Meaning)
-    → AreNames names → AreTables base names tables stewards callers → IfSome base (λ b. IsBase b m)
-    → AreFounded (seated names tables stewards) → (b : Tables) × MayBegin b m × AtEach (λ place t v. start_of (base_of t) ≡ b (name_of t)) (seated names tables stewards)
+pub ready : {base : Option NamedStates} {names : List (List ℕ)} {tables : List Shared} {stewards callers : List SeatView} (m : Meaning)
+    → AreNames names → AreNewTables base names tables stewards callers → IfSome base (λ b. IsBase b m)
+    → AreFounded (seated names tables stewards) → (b : NamedStates) × MayBegin b m × AtEach (λ place t v. start_of (base_seen t) ≡ b (name_of t)) (seated names tables stewards)
 ready {base = None} {tables = tables} m are t is founded = absurd (not_both tables (omega (arith, are.some, as_many t)) founded (t.unfounded refl))
 ready {base = Some b} m are t is founded = (b, is.begins, λ place s v at sat. (founded_at t place s at).1)
 
@@ -74,11 +74,11 @@ ready {base = Some b} m are t is founded = (b, is.begins, λ place s v at sat. (
 
 -- what stands of a leaf over these tables, where their base is one that may begin over the berth
 abbrev pub StandsFirst : List (List ℕ) → List Shared → List SeatView → Leaf → Meaning → Meaning → Type 0
-StandsFirst names tables stewards leaf m m' = (b : Tables) → AreFounded (seated names tables stewards) → MayBegin b m
-    → AtEach (λ place t v. start_of (base_of t) ≡ b (name_of t)) (seated names tables stewards) → Stands b leaf m'
+StandsFirst names tables stewards leaf m m' = (b : NamedStates) → AreFounded (seated names tables stewards) → MayBegin b m
+    → AtEach (λ place t v. start_of (base_seen t) ≡ b (name_of t)) (seated names tables stewards) → Stands b leaf m'
 
-tells_first : {base : Option Tables} {names : List (List ℕ)} {tables : List Shared} {stewards callers : List SeatView} (m : Meaning)
-    → AreNames names → AreTables base names tables stewards callers → IfSome base (λ b. IsBase b m) → StandsFirst names tables stewards (IsDown (seated names tables stewards)) m m
+tells_first : {base : Option NamedStates} {names : List (List ℕ)} {tables : List Shared} {stewards callers : List SeatView} (m : Meaning)
+    → AreNames names → AreNewTables base names tables stewards callers → IfSome base (λ b. IsBase b m) → StandsFirst names tables stewards (IsDown (seated names tables stewards)) m m
     → TellsSoFar base names m m [] [] (IsDown (seated names tables stewards)) callers
 tells_first {base = None} m are t is stands = tt
 tells_first {base = Some b} {names = names} {tables = tables} {stewards = stewards} {callers = callers} m are t is stands = λ way read way_is has.
@@ -86,8 +86,8 @@ tells_first {base = Some b} {names = names} {tables = tables} {stewards = stewar
     (stands b (all_founded t) is.begins (λ place s v at sat. (founded_at t place s at).1))
 
 -- nothing was written yet
-pub run_begins : {base : Option Tables} {names : List (List ℕ)} {tables : List Shared} {stewards callers : List SeatView} (m : Meaning) (was : Option (List ℕ)) (leaf : Leaf) (seats : List SeatView)
-    → AreNames names → AreTables base names tables stewards callers → IfSome base (λ b. IsBase b m)
+pub run_begins : {base : Option NamedStates} {names : List (List ℕ)} {tables : List Shared} {stewards callers : List SeatView} (m : Meaning) (was : Option (List ℕ)) (leaf : Leaf) (seats : List SeatView)
+    → AreNames names → AreNewTables base names tables stewards callers → IfSome base (λ b. IsBase b m)
     → leaf ≡ IsDown (seated names tables stewards) → seats ≡ callers → StandsFirst names tables stewards leaf m m
     → RunSoFar base names m m was was [] leaf seats
 run_begins {base = base} {names = names} {tables = tables} {stewards = stewards} {callers = callers} m was leaf seats are t is down same stands =

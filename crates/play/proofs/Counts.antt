@@ -7,11 +7,11 @@ use Rattle.row_json.specs.Row.{row_of}
 use Rattle.play.specs.declared.count.LineFault.{LineFault}
 use Rattle.play.specs.declared.words.Range.{Range}
 use Rattle.script_text.specs.Lines.{lines, is_blank, without_return}
-use Rattle.play.specs.Count.{with_row, rows_from, rows_of, is_in, count_in, count_of}
+use Rattle.play.specs.Count.{with_row, rows_of_lines, rows_of, is_in, count_in, count_of}
 
 -- how many rows are in the range, of the text that follows the line n
 abbrev pub count_after : Range → ℕ → List ℕ → Result ℕ LineFault
-count_after range n text = count_in range (rows_from (n + 1) (map without_return (lines text)))
+count_after range n text = count_in range (rows_of_lines (n + 1) (map without_return (lines text)))
 
 -- so many more, where there is no fault
 abbrev pub more_by : ℕ → Result ℕ LineFault → Result ℕ LineFault
@@ -26,7 +26,7 @@ counted range n row (Ok rows) = ap Ok (sum_by-cons _ row rows)
 counted range n row (Err found) = refl
 
 pub count_row : (range : Range) (n : ℕ) (text piece rest : List ℕ) (row : Row) → lines text ≡ piece ∷ lines rest → is_blank (without_return piece) ≡ false → row_of (without_return piece) ≡ Ok row → count_after range n text ≡ more_by (cond (is_in range row) 1 0) (count_after range (n + 1) rest)
-count_row range n text piece rest row cut blank is = rw (cut, blank, is) (counted range (n + 1) row (rows_from (n + 1 + 1) (map without_return (lines rest))))
+count_row range n text piece rest row cut blank is = rw (cut, blank, is) (counted range (n + 1) row (rows_of_lines (n + 1 + 1) (map without_return (lines rest))))
 
 pub count_fault : (range : Range) (n : ℕ) (text piece rest : List ℕ) (fault : RowFault) → lines text ≡ piece ∷ lines rest → is_blank (without_return piece) ≡ false → row_of (without_return piece) ≡ Err fault → count_after range n text ≡ Err (record { line = n + 1; fault = fault })
 count_fault range n text piece rest fault cut blank is = rw (cut, blank, is)

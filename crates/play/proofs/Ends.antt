@@ -6,7 +6,7 @@ use Rattle.std.proofs.lemmas.List.{take_all}
 use Rattle.berth_face.specs.Berth.{Meaning}
 use Rattle.region_layout.specs.Region.{AreDistinct}
 use Rattle.region_layout.specs.Names.{AreNames, IsName}
-use Rattle.crash_events.specs.Left.{Tables}
+use Rattle.crash_events.specs.Left.{NamedStates}
 use Rattle.crash_states.proofs.Lefts.{rests_told}
 use Rattle.script_text.specs.declared.command.Command.{Command}
 use Rattle.script_text.specs.declared.command.Command.TheVariants as command
@@ -15,7 +15,7 @@ use Rattle.script_text.specs.Fits as fits
 use Rattle.transcript.specs.Life.{Down}
 use Rattle.transcript.specs.Laws.{IsToldRun, LeavesBerth}
 use Rattle.transcript.specs.Steps.{MayPlay}
-use Rattle.transcript.specs.Transcript.{Fleet, fleet_of}
+use Rattle.transcript.specs.Transcript.{Fleet, script_fleet}
 use Rattle.transcript.specs.Session.{one_leaf, scene_of}
 use Rattle.transcript.proofs.Lists.{All-weaken}
 use Rattle.play.specs.Played.{IsBase, IsTold, OverFirst, IsWritten, names_in}
@@ -70,7 +70,7 @@ all_may_play (command.Start leaf ∷ more) c = absurd c
 -- ---- no command
 
 -- nothing was done to the berth
-nothing_left : (b : Tables) (m : Meaning) → IsBase b m → LeavesBerth [] b (λ table. []) m m
+nothing_left : (b : NamedStates) (m : Meaning) → IsBase b m → LeavesBerth [] b (λ table. []) m m
 nothing_left b m based = record {
   crash = rests_told [] [] b based.begins.1.0 based.begins.1.1 m based.begins.1.2 tt;
   begins = record {
@@ -81,7 +81,7 @@ nothing_left b m based = record {
   };
 }
 
-nothing_told : (base : Option Tables) (m : Meaning) → IfSome base (λ b. IsBase b m) → IsTold base m m [] []
+nothing_told : (base : Option NamedStates) (m : Meaning) → IfSome base (λ b. IsBase b m) → IsTold base m m [] []
 nothing_told None m is = tt
 nothing_told (Some b) m is = λ way read way_is has. record {
   transcript = record {
@@ -100,11 +100,11 @@ nothing_told (Some b) m is = λ way read way_is has. record {
   leaves = nothing_left b m is;
 }
 
-nothing_over : {B : Type 0} (base : B → Option Tables) (meaning : B → Meaning) (berths : List B) → ((b : B) → IfSome (base b) (λ t. IsBase t (meaning b))) → OverFirst base meaning [] [] berths berths
+nothing_over : {B : Type 0} (base : B → Option NamedStates) (meaning : B → Meaning) (berths : List B) → ((b : B) → IfSome (base b) (λ t. IsBase t (meaning b))) → OverFirst base meaning [] [] berths berths
 nothing_over base meaning [] are = tt
 nothing_over base meaning (b ∷ bs) are = (nothing_told (base b) (meaning b) (are b), omega arith, omega arith)
 
-pub nothing_written : {B : Type 0} (base : B → Option Tables) (meaning : B → Meaning) (commands : List Command) (was : Option (List ℕ)) (berths : List B) → ((b : B) → IfSome (base b) (λ t. IsBase t (meaning b))) → commands ≡ []
+pub nothing_written : {B : Type 0} (base : B → Option NamedStates) (meaning : B → Meaning) (commands : List Command) (was : Option (List ℕ)) (berths : List B) → ((b : B) → IfSome (base b) (λ t. IsBase t (meaning b))) → commands ≡ []
     → IsWritten base meaning commands was was berths berths
 nothing_written base meaning commands was berths are e = rw e (record {
   lines = [];
@@ -122,7 +122,7 @@ first_and_rest (o ∷ os) rest b some e f = rw (e, f) refl
 one_fleet : (m p : ℕ) (names : List (List ℕ)) → m ≡ 1 → p ≡ 1 → record { leaves = m * p; names = names } ≡ one_leaf names
 one_fleet m p names e f = rw (e, f) refl
 
-some_commands : (commands : List Command) → AreCommands commands → 0 < length (names_in commands) → (fleet_of commands ≡ one_leaf (names_in commands)) × (commands ≡ [] → ⊥)
+some_commands : (commands : List Command) → AreCommands commands → 0 < length (names_in commands) → (script_fleet commands ≡ one_leaf (names_in commands)) × (commands ≡ [] → ⊥)
 some_commands [] c some = absurd (omega (arith, some))
 some_commands (command.Fleet m p tables ∷ more) c some = (one_fleet m p tables c.0 c.1, λ e. nil e)
   where
@@ -135,13 +135,13 @@ some_commands (command.Drain leaf stop ∷ more) c some = absurd c
 some_commands (command.Kill leaf ∷ more) c some = absurd c
 some_commands (command.Start leaf ∷ more) c some = absurd c
 
-fleet_told : (base : Option Tables) (names : List (List ℕ)) (old new : Meaning) (commands : List Command) (was now : Option (List ℕ)) → fleet_of commands ≡ one_leaf names
+fleet_told : (base : Option NamedStates) (names : List (List ℕ)) (old new : Meaning) (commands : List Command) (was now : Option (List ℕ)) → script_fleet commands ≡ one_leaf names
     → (run : IsRun base names old new was now commands) → IsTold base old new commands run.lines
 fleet_told None names old new commands was now is run = tt
 fleet_told (Some b) names old new commands was now is run = λ way read way_is has.
     subst (λ (f : Fleet). IsToldRun f way b read commands run.lines old new) (sym is) (run.told way read way_is has)
 
-run_written : {B : Type 0} (base : B → Option Tables) (meaning : B → Meaning) (commands : List Command) (was now : Option (List ℕ)) (old new : B) (rest : List B)
+run_written : {B : Type 0} (base : B → Option NamedStates) (meaning : B → Meaning) (commands : List Command) (was now : Option (List ℕ)) (old new : B) (rest : List B)
     → AreCommands commands → 0 < length (names_in commands)
     → IsRun (base old) (names_in commands) (meaning old) (meaning new) was now commands
     → IsWritten base meaning commands was now (old ∷ rest) (new ∷ rest)
@@ -153,7 +153,7 @@ run_written base meaning commands was now old new rest are some run =
       empty = λ none. absurd (fleet.1 none);
     }
 
-pub first_written : {B : Type 0} (base : B → Option Tables) (meaning : B → Meaning) (commands : List Command) (names : List (List ℕ)) (was now : Option (List ℕ)) (olds rest news : List B) (old new : B)
+pub first_written : {B : Type 0} (base : B → Option NamedStates) (meaning : B → Meaning) (commands : List Command) (names : List (List ℕ)) (was now : Option (List ℕ)) (olds rest news : List B) (old new : B)
     → AreCommands commands → names ≡ names_in commands → 0 < length names
     → 0 < length olds → old ≡ slice_index_or olds 0 old → rest ≡ remove olds 0 → news ≡ new ∷ rest
     → IsRun (base old) names (meaning old) (meaning new) was now commands

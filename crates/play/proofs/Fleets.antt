@@ -6,18 +6,18 @@ use Rattle.std.proofs.lemmas.List.{length-map, length_push, map-append}
 use Rattle.std.proofs.lemmas.Option.{get_or_from_slice_get, slice_get-get_or, slice_get-map}
 use Rattle.berth_face.specs.Berth.{Meaning}
 use Rattle.region_layout.specs.Names.{IsName}
-use Rattle.crash_events.specs.Left.{Tables}
+use Rattle.crash_events.specs.Left.{NamedStates}
 use Rattle.leaf_table.specs.declared.base.TableBase.{TableBase}
 use Rattle.leaf_table.specs.Turns.{Shared, is_founded, start_of}
-use Rattle.leaf_table.specs.Calls.{SeatView, base_of, name_of}
+use Rattle.leaf_table.specs.Calls.{SeatView, base_seen, name_of}
 use Rattle.leaf_table.specs.Lists.{lists_in, row}
-use Rattle.leaf_table.specs.Fleet.{IsAt, IsNewFleet, IsShort}
+use Rattle.leaf_table.specs.Fleet.{IsAt, IsNewFleet, IsShortName}
 use Rattle.leaf_steward.specs.Seated.{IsUnused}
 use Rattle.printed_lines.specs.Lines.{name_at}
 use Rattle.transcript.proofs.Lists.{All-weaken, name_is, same_some, within}
 use Rattle.player.specs.Stage.{IsUnusedCaller}
 use Rattle.play.specs.Played.{AreShut, IsBase}
-use Rattle.play.specs.Runs.{AreFirsts, AreTables, IsEachOne}
+use Rattle.play.specs.Runs.{AreFirsts, AreNewTables, IsEachOne}
 
 -- ---- lists
 
@@ -42,8 +42,8 @@ named_as (t ∷ ts) (n ∷ ns) count each =
     ap₂ (λ (x : List ℕ) (xs : List (List ℕ)). x ∷ xs) (each zero t n refl refl) (named_as ts ns (omega (arith, count)) (λ place u m at is. each (suc place) u m at is))
 
 -- names of a leaf are short enough for tables
-pub names_short : (names : List (List ℕ)) → AllByRecursion IsName names → AllByRecursion IsShort names
-names_short names are = All-weaken IsName IsShort (λ name n. n.1) names are
+pub names_short : (names : List (List ℕ)) → AllByRecursion IsName names → AllByRecursion IsShortName names
+names_short names are = All-weaken IsName IsShortName (λ name n. n.1) names are
 
 -- ---- the first of each list
 
@@ -87,11 +87,11 @@ count_lists {A} rows lists e = sym (length-map rows (λ (v : Vec A Global). v.it
 -- ---- the tables of the one leaf
 
 -- what a table of this name is founded with
-abbrev pub table_base : Option Tables → List ℕ → Option TableBase
+abbrev pub table_base : Option NamedStates → List ℕ → Option TableBase
 table_base None name = None
 table_base (Some base) name = Some (record { writes = (base name).writes; flushed = (base name).flushed })
 
-module _ (base : Option Tables) (pick : ℕ → ℕ → Option TableBase) (names : List (List ℕ)) (rows : List (List Shared)) (stewards callers : List (List SeatView))
+module _ (base : Option NamedStates) (pick : ℕ → ℕ → Option TableBase) (names : List (List ℕ)) (rows : List (List Shared)) (stewards callers : List (List SeatView))
     (f : IsNewFleet pick 1 names 65536 rows stewards callers) where
   abbrev tables : List Shared
   tables = row rows 0
@@ -121,11 +121,11 @@ module _ (base : Option Tables) (pick : ℕ → ℕ → Option TableBase) (names
       (subst (IsUnusedCaller n.0.table) (same_some n.0.caller c (sym n.0.callers_seat ∙ called)) (record { unused = n.0.new.unused_caller; seat = n.0.new.seats.1 }))
 
   -- each is founded with what was picked for its name
-  picked_at : ((place : ℕ) → pick 0 place ≡ table_base base (name_at names place)) → (place : ℕ) (t : Shared) → slice_get tables place ≡ Some t → base_of t ≡ table_base base (name_of t)
+  picked_at : ((place : ℕ) → pick 0 place ≡ table_base base (name_at names place)) → (place : ℕ) (t : Shared) → slice_get tables place ≡ Some t → base_seen t ≡ table_base base (name_of t)
   picked_at picked place t at =
       let n = new_at place t at in
       let named : name_at names place ≡ name_of n.0.table = sym (name_is names place n.0.name n.0.named) ∙ sym n.0.new.named in
-      subst (λ (u : Shared). base_of u ≡ table_base base (name_of u)) n.1 (n.0.new.founded ∙ (picked place ∙ ap (table_base base) named))
+      subst (λ (u : Shared). base_seen u ≡ table_base base (name_of u)) n.1 (n.0.new.founded ∙ (picked place ∙ ap (table_base base) named))
 
   -- the first of the callers' seats at each
   first_at : (firsts : List SeatView) → AreFirsts callers firsts → (place : ℕ) → place < length names → slice_get firsts place ≡ slice_get (row callers place) 0
@@ -137,30 +137,30 @@ one_caller pick names rows stewards callers f = all_each (λ (xs : List SeatView
     ap length (sym (get_or_from_slice_get callers place xs [] at)) ∙ f.in_table place (omega (arith, within callers place xs at, f.counts.2)))
 
 -- a base's tables are shut
-pub base_is_shut : (base : Option Tables) (m : Meaning) → IfSome base (λ b. IsBase b m) → IfSome base AreShut
+pub base_is_shut : (base : Option NamedStates) (m : Meaning) → IfSome base (λ b. IsBase b m) → IfSome base AreShut
 base_is_shut None m is = tt
 base_is_shut (Some b) m is = is.is
 
 -- what its tables are founded with, by their names
-founded_with : (base : Option Tables) (ts : List Shared) → IfSome base AreShut → ((place : ℕ) (t : Shared) → slice_get ts place ≡ Some t → base_of t ≡ table_base base (name_of t))
-    → IfSome base (λ b. AllByRecursion (λ (t : Shared). (is_founded (base_of t) ≡ true) × (start_of (base_of t) ≡ b (name_of t))) ts)
+founded_with : (base : Option NamedStates) (ts : List Shared) → IfSome base AreShut → ((place : ℕ) (t : Shared) → slice_get ts place ≡ Some t → base_seen t ≡ table_base base (name_of t))
+    → IfSome base (λ b. AllByRecursion (λ (t : Shared). (is_founded (base_seen t) ≡ true) × (start_of (base_seen t) ≡ b (name_of t))) ts)
 founded_with None ts are each = tt
-founded_with (Some b) ts are each = all_each (λ (t : Shared). (is_founded (base_of t) ≡ true) × (start_of (base_of t) ≡ b (name_of t))) ts (λ place t at.
+founded_with (Some b) ts are each = all_each (λ (t : Shared). (is_founded (base_seen t) ≡ true) × (start_of (base_seen t) ≡ b (name_of t))) ts (λ place t at.
     let is = each place t at in
     (ap is_founded is, ap start_of is ∙ sym (are (name_of t))))
 
-unfounded_with : (base : Option Tables) (ts : List Shared) → ((place : ℕ) (t : Shared) → slice_get ts place ≡ Some t → base_of t ≡ table_base base (name_of t))
-    → base ≡ None → AllByRecursion (λ (t : Shared). is_founded (base_of t) ≡ false) ts
-unfounded_with base ts each none = all_each (λ (t : Shared). is_founded (base_of t) ≡ false) ts (λ place t at.
-    ap is_founded (each place t at ∙ ap (λ (o : Option Tables). table_base o (name_of t)) none))
+unfounded_with : (base : Option NamedStates) (ts : List Shared) → ((place : ℕ) (t : Shared) → slice_get ts place ≡ Some t → base_seen t ≡ table_base base (name_of t))
+    → base ≡ None → AllByRecursion (λ (t : Shared). is_founded (base_seen t) ≡ false) ts
+unfounded_with base ts each none = all_each (λ (t : Shared). is_founded (base_seen t) ≡ false) ts (λ place t at.
+    ap is_founded (each place t at ∙ ap (λ (o : Option NamedStates). table_base o (name_of t)) none))
 
-pub new_tables : (base : Option Tables) (pick : ℕ → ℕ → Option TableBase) (names : List (List ℕ)) (rows : List (List Shared)) (stewards callers : List (List SeatView)) (seats firsts : List SeatView)
+pub new_tables : (base : Option NamedStates) (pick : ℕ → ℕ → Option TableBase) (names : List (List ℕ)) (rows : List (List Shared)) (stewards callers : List (List SeatView)) (seats firsts : List SeatView)
     → IsNewFleet pick 1 names 65536 rows stewards callers
     → ((place : ℕ) → pick 0 place ≡ table_base base (name_at names place))
     → IfSome base AreShut
     → slice_get stewards 0 ≡ Some seats
     → AreFirsts callers firsts
-    → AreTables base names (row rows 0) seats firsts
+    → AreNewTables base names (row rows 0) seats firsts
 new_tables base pick names rows stewards callers seats firsts f picked are is firsts_are =
     let ts = row rows 0 in
     let count = as_many base pick names rows stewards callers f in

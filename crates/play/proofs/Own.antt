@@ -21,7 +21,7 @@ use Rattle.script_text.specs.Script.{rows_taken, fleet_after, commands_from, num
 use Rattle.script_text.specs.declared.fault.ScriptFault.{ScriptFault}
 use Rattle.script_text.specs.declared.fault.ScriptFault.TheVariants.{At, NoMemory}
 use Rattle.script_text.specs.Script.{IfAt}
-use Rattle.play.specs.Outcome.{IsNoPlay, Takes, IfScript, status_of_fault}
+use Rattle.play.specs.Outcome.{IsNoPlay, TakesText, IfScript, status_of_fault}
 use Rattle.play.specs.Source.{longest_text}
 use Rattle.play.specs.declared.status.Status.TheVariants as status
 
@@ -170,7 +170,7 @@ no_play berths before after text line why.Short r e = (text, r, e)
 no_play berths before after text line (why.Row fault) r e = (text, r, e)
 no_play berths before after text line (why.Query fault) r e = (text, r, e)
 
-pub no_more_taken : (before after : Option (List ℕ)) (text : List ℕ) (line : ℕ) (w : Why) → script_of text ≡ Err (line, w) → TakesAtMost before after longest_text → Takes (status.Script line w) before after
+pub no_more_taken : (before after : Option (List ℕ)) (text : List ℕ) (line : ℕ) (w : Why) → script_of text ≡ Err (line, w) → TakesAtMost before after longest_text → TakesText (status.Script line w) before after
 no_more_taken before after text line why.TooLong e t = absurd (own_fault text line why.TooLong e)
 no_more_taken before after text line why.NoBerth e t = t
 no_more_taken before after text line why.Command e t = t
@@ -192,6 +192,6 @@ pub no_play_fault : (berths : ℕ) (before after : Option (List ℕ)) (text : Li
 no_play_fault berths before after text (At line w) r e = no_play berths before after text line w r e
 no_play_fault berths before after text NoMemory r e = tt
 
-pub no_more_fault : (before after : Option (List ℕ)) (text : List ℕ) (fault : ScriptFault) → Found text fault → TakesAtMost before after longest_text → Takes (status_of_fault fault) before after
+pub no_more_fault : (before after : Option (List ℕ)) (text : List ℕ) (fault : ScriptFault) → Found text fault → TakesAtMost before after longest_text → TakesText (status_of_fault fault) before after
 no_more_fault before after text (At line w) e t = no_more_taken before after text line w e t
 no_more_fault before after text NoMemory e t = t

@@ -5,7 +5,7 @@ use Rattle.std.specs.Io.KnownBytes.{Appends}
 use Rattle.std.proofs.lemmas.Grind.{flat_map-append}
 use Rattle.std.proofs.lemmas.List.{append-nil, append_assoc}
 use Rattle.berth_face.specs.Berth.{Meaning, Passes}
-use Rattle.crash_events.specs.Left.{Tables}
+use Rattle.crash_events.specs.Left.{NamedStates}
 use Rattle.leaf_opening.specs.declared.ways.Way.{Way}
 use Rattle.leaf_opening.specs.Starts.{IsWayOf}
 use Rattle.leaf_table.specs.Calls.{SeatView}
@@ -25,7 +25,7 @@ use Rattle.transcript.specs.Steps.{MayPlay, Plays}
 use Rattle.transcript.specs.Transcript.{is_region_fault, is_disk_fault, endings_in, region_faults_in, disk_faults_in}
 use Rattle.transcript.proofs.Playing.{ended, plays_on}
 use Rattle.player.specs.Stage.{HasMet}
-use Rattle.play.specs.Played.{Counted, Keeps}
+use Rattle.play.specs.Played.{WereCounted, KeepsCounts}
 use Rattle.play.specs.Runs.{Advances, IsRun, RunSoFar, TellsSoFar}
 
 -- ---- bytes
@@ -57,15 +57,15 @@ endings_append test (line.Entry l t number said ∷ xs) ys = endings_append test
 endings_append test (line.Worn l t ∷ xs) ys = endings_append test xs ys
 endings_append test (line.Answer n leaves rows ∷ xs) ys = endings_append test xs ys
 
-counted_on : (a b c m n k : ℕ) → k ≡ m + n → Counted a b m → Counted b c n → Counted a c k
+counted_on : (a b c m n k : ℕ) → k ≡ m + n → WereCounted a b m → WereCounted b c n → WereCounted a c k
 counted_on a b c m n k e g h = omega (arith, e, g, h)
 
 -- ---- berths
 
-pub keeps_same : (m : Meaning) → Keeps m m
+pub keeps_same : (m : Meaning) → KeepsCounts m m
 keeps_same m = record { tells = refl; region_faults = omega arith; disk_faults = omega arith }
 
-pub keeps_on : (a b c : Meaning) → Keeps a b → Passes b c → Keeps a c
+pub keeps_on : (a b c : Meaning) → KeepsCounts a b → Passes b c → KeepsCounts a c
 keeps_on a b c k p = record {
   tells = p.tells ∙ k.tells;
   region_faults = omega (arith, k.region_faults, p.region_faults);
@@ -74,7 +74,7 @@ keeps_on a b c k p = record {
 
 -- ---- runs
 
-goes_on : (base : Option Tables) (names : List (List ℕ)) {B : Type 0} (meaning : B → Meaning) (old : Meaning) (now new : B) (commands : List Command) (out lines : List Line)
+goes_on : (base : Option NamedStates) (names : List (List ℕ)) {B : Type 0} (meaning : B → Meaning) (old : Meaning) (now new : B) (commands : List Command) (out lines : List Line)
     (leaf leaf' : Leaf) (callers callers' : List SeatView) (c : Command)
     → MayPlay names c → TellsSoFar base names old (meaning now) commands out leaf callers → Plays meaning names c leaf callers now lines leaf' callers' new
     → TellsSoFar base names old (meaning new) (commands ++ c ∷ []) (out ++ lines) leaf' callers'
@@ -82,7 +82,7 @@ goes_on None names meaning old now new commands out lines leaf leaf' callers cal
 goes_on (Some b) names meaning old now new commands out lines leaf leaf' callers callers' c may told plays = λ way read way_is has.
     plays_on meaning old now new names way b read commands out leaf leaf' callers callers' c lines may (told way read way_is has) plays
 
-pub run_goes_on : (base : Option Tables) (names : List (List ℕ)) {B : Type 0} (meaning : B → Meaning) (old : Meaning) (now new : B) (was written after : Option (List ℕ)) (commands : List Command)
+pub run_goes_on : (base : Option NamedStates) (names : List (List ℕ)) {B : Type 0} (meaning : B → Meaning) (old : Meaning) (now new : B) (was written after : Option (List ℕ)) (commands : List Command)
     (leaf leaf' : Leaf) (callers callers' : List SeatView) (c : Command)
     → RunSoFar base names old (meaning now) was written commands leaf callers
     → MayPlay names c
@@ -107,7 +107,7 @@ leaves m = record {
   runs = λ ws others owner log writes tells sound runs. runs_begin ws others owner log writes m runs tells sound;
 }
 
-ends_told : (base : Option Tables) (names : List (List ℕ)) (old m : Meaning) (commands : List Command) (out : List Line) (leaf : Leaf) (callers : List SeatView)
+ends_told : (base : Option NamedStates) (names : List (List ℕ)) (old m : Meaning) (commands : List Command) (out : List Line) (leaf : Leaf) (callers : List SeatView)
     → TellsSoFar base names old m commands out leaf callers → HasMet leaf callers m
     → IfSome base (λ tables. (way : Way) (read : List ℕ → ℕ) → IsWayOf old.held.region way → ((name : List ℕ) → LogHas old.held.disk name (read name)) → IsToldRun (one_leaf names) way tables read commands out old m)
 ends_told None names old m commands out leaf callers told met = tt
@@ -115,7 +115,7 @@ ends_told (Some b) names old m commands out leaf callers told met = λ way read 
     ended old m (leaves m) names way b read commands out leaf met.leaf_then callers met.callers_then (told way read way_is has) met.met
 
 -- once all seats have met again, the run is told
-pub run_ends : (base : Option Tables) (names : List (List ℕ)) (old m : Meaning) (was now : Option (List ℕ)) (commands : List Command) (leaf : Leaf) (callers : List SeatView)
+pub run_ends : (base : Option NamedStates) (names : List (List ℕ)) (old m : Meaning) (was now : Option (List ℕ)) (commands : List Command) (leaf : Leaf) (callers : List SeatView)
     → RunSoFar base names old m was now commands leaf callers → HasMet leaf callers m → IsRun base names old m was now commands
 run_ends base names old m was now commands leaf callers run met = record {
   lines = run.lines;

@@ -17,13 +17,13 @@ with_row n (Ok row) (Err found) = Err found
 with_row n (Err fault) more = Err (record { line = n; fault = fault })
 
 -- The rows of lines that are numbered from n on, or the first line that is none. Blank lines are no rows, and are numbered too.
-abbrev pub rows_from : ℕ → List (List ℕ) → Result (List Row) LineFault
-rows_from n [] = Ok []
-rows_from n (line ∷ more) = if is_blank line then rows_from (n + 1) more else with_row n (row_of line) (rows_from (n + 1) more)
+abbrev pub rows_of_lines : ℕ → List (List ℕ) → Result (List Row) LineFault
+rows_of_lines n [] = Ok []
+rows_of_lines n (line ∷ more) = if is_blank line then rows_of_lines (n + 1) more else with_row n (row_of line) (rows_of_lines (n + 1) more)
 
 -- the rows of a text, or the first line that is none
 unfoldable pub rows_of : List ℕ → Result (List Row) LineFault
-rows_of text = rows_from 1 (map without_return (lines text))
+rows_of text = rows_of_lines 1 (map without_return (lines text))
 
 abbrev pub is_in : Range → Row → Bool
 is_in range row = int_le range.from row.time && int_le row.time range.to

@@ -14,23 +14,23 @@ use Rattle.berth_mem.specs.Record.{meaning_of}
 use Rattle.disk_backup.specs.Logs.{is_short}
 use Rattle.region_layout.specs.Region.{IsClosed}
 use Rattle.leaf_opening.specs.Backed.{HasSoundLog}
-use Rattle.crash_events.specs.Left.{Tables}
+use Rattle.crash_events.specs.Left.{NamedStates}
 use Rattle.crash_states.specs.Standing.{Rests, is_closed}
 use Rattle.play.specs.Played.{IsBase}
 
 -- no name has writes
-abbrev pub nothing_kept : Tables
+abbrev pub nothing_kept : NamedStates
 nothing_kept name = no_base
 
 -- of a berth that holds so much, and of which so many moments passed
-abbrev base_on : List ℕ → List ℕ → ℕ → Option Tables
+abbrev base_on : List ℕ → List ℕ → ℕ → Option NamedStates
 base_on [] [] zero = Some nothing_kept
 base_on [] [] (suc clock) = None
 base_on [] (byte ∷ disk) clock = None
 base_on (byte ∷ region) disk clock = None
 
 -- nothing is kept of it where it holds nothing, and no call has changed it
-abbrev pub empty_base : MemBerth → Option Tables
+abbrev pub empty_base : MemBerth → Option NamedStates
 empty_base berth = base_on (meaning berth).held.region (meaning berth).held.disk (meaning berth).clock
 
 -- ---- a leaf may begin over it

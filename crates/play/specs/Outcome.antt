@@ -3,7 +3,7 @@ use Rattle.std.specs.Prelude.{◌≡◌, ℕ, List, [], ◌∷◌, ◌++◌, len
 use Rattle.std.specs.Io.KnownBytes.{Appends}
 use Rattle.berth_face.specs.Berth.{Meaning}
 use Rattle.berth_face.specs.Streams.{ReadsAll, TakesAtMost, TakesCount, WritesFront}
-use Rattle.crash_events.specs.Left.{Tables}
+use Rattle.crash_events.specs.Left.{NamedStates}
 use Rattle.script_text.specs.declared.fault.Why.{Why}
 use Rattle.script_text.specs.declared.fault.Why.TheVariants as why
 use Rattle.script_text.specs.declared.fault.ScriptFault.{ScriptFault}
@@ -41,7 +41,7 @@ IsCutShort range before after was now = (count : ℕ) × IsCountOf range before 
 -- ---- what was done
 
 -- all was done that the request asks for
-abbrev pub IsDone : {B : Type 0} → (B → Option Tables) → (B → Meaning) → Option Request → Option (List ℕ) → Option (List ℕ) → Option (List ℕ) → Option (List ℕ) → List B → List B → Type 0
+abbrev pub IsDone : {B : Type 0} → (B → Option NamedStates) → (B → Meaning) → Option Request → Option (List ℕ) → Option (List ℕ) → Option (List ℕ) → Option (List ℕ) → List B → List B → Type 0
 IsDone base meaning None before after was now old new = ⊥
 IsDone base meaning (Some (Count range)) before after was now old new = IsCounted range before after was now
 IsDone base meaning (Some Play) before after was now old new = IsPlayed base meaning before after was now old new
@@ -49,13 +49,13 @@ IsDone base meaning (Some Play) before after was now old new = IsPlayed base mea
 -- ---- why a source is refused
 
 -- the source was read to its end, and this is the first line of its text that is no row
-abbrev pub HasFault : Option (List ℕ) → Option (List ℕ) → LineFault → Type 0
-HasFault before after found = (text : List ℕ) × ReadsAll before after text × (rows_of text ≡ Err found)
+abbrev pub HasLineFault : Option (List ℕ) → Option (List ℕ) → LineFault → Type 0
+HasLineFault before after found = (text : List ℕ) × ReadsAll before after text × (rows_of text ≡ Err found)
 
 -- of a count: one byte too much was taken, or its text has that first fault
 abbrev pub IsNoRows : Option (List ℕ) → Option (List ℕ) → ℕ → Why → Type 0
 IsNoRows before after line why.TooLong = (line ≡ 0) × TakesCount before after most_taken
-IsNoRows before after line (why.Row fault) = HasFault before after (record { line = line; fault = fault })
+IsNoRows before after line (why.Row fault) = HasLineFault before after (record { line = line; fault = fault })
 IsNoRows before after line (why.Query fault) = ⊥
 IsNoRows before after line why.Command = ⊥
 IsNoRows before after line why.NoFleet = ⊥
@@ -71,14 +71,14 @@ abbrev pub IsNoScript : Option (List ℕ) → Option (List ℕ) → ℕ → Why 
 IsNoScript before after line fault = (text : List ℕ) × ReadsAll before after text × (script_of text ≡ Err (line, fault))
 
 -- the source was read to its end, and its fleet, which stands on that line, has more leaves than there are berths
-abbrev pub IsTooMany : ℕ → Option (List ℕ) → Option (List ℕ) → ℕ → Type 0
-IsTooMany berths before after line =
+abbrev pub HasTooManyLeaves : ℕ → Option (List ℕ) → Option (List ℕ) → ℕ → Type 0
+HasTooManyLeaves berths before after line =
     (text : List ℕ) × (script : Script) × ReadsAll before after text × (script_of text ≡ Ok script) × (line ≡ script.fleet_line) × (nat_lt berths (leaf_count script.commands) ≡ true)
 
 -- of a script
 abbrev pub IsNoPlay : ℕ → Option (List ℕ) → Option (List ℕ) → ℕ → Why → Type 0
 IsNoPlay berths before after line why.TooLong = (line ≡ 0) × TakesCount before after most_taken
-IsNoPlay berths before after line why.NoBerth = IsTooMany berths before after line
+IsNoPlay berths before after line why.NoBerth = HasTooManyLeaves berths before after line
 IsNoPlay berths before after line (why.Row fault) = IsNoScript before after line (why.Row fault)
 IsNoPlay berths before after line (why.Query fault) = IsNoScript before after line (why.Query fault)
 IsNoPlay berths before after line why.Command = IsNoScript before after line why.Command
@@ -89,10 +89,10 @@ IsNoPlay berths before after line why.Leaf = IsNoScript before after line why.Le
 IsNoPlay berths before after line why.Table = IsNoScript before after line why.Table
 IsNoPlay berths before after line why.Short = IsNoScript before after line why.Short
 
-abbrev pub IsRefused : ℕ → Option Request → Option (List ℕ) → Option (List ℕ) → ℕ → Why → Type 0
-IsRefused berths None before after line fault = ⊥
-IsRefused berths (Some (Count range)) before after line fault = IsNoRows before after line fault
-IsRefused berths (Some Play) before after line fault = IsNoPlay berths before after line fault
+abbrev pub IsTextRefused : ℕ → Option Request → Option (List ℕ) → Option (List ℕ) → ℕ → Why → Type 0
+IsTextRefused berths None before after line fault = ⊥
+IsTextRefused berths (Some (Count range)) before after line fault = IsNoRows before after line fault
+IsTextRefused berths (Some Play) before after line fault = IsNoPlay berths before after line fault
 
 -- what holds of the line and the cause of a refused text
 abbrev pub IfScript : Status → (ℕ → Why → Type 0) → Type 0
@@ -172,20 +172,20 @@ IfCount (Some (Count range)) P = P range
 IfCount (Some Play) P = Unit {0}
 
 -- one byte more than a text may have is taken where it is refused as too long, and never otherwise
-abbrev pub Takes : Status → Option (List ℕ) → Option (List ℕ) → Type 0
-Takes (Status.Script line why.TooLong) before after = TakesCount before after most_taken
-Takes (Status.Script line (why.Row fault)) before after = TakesAtMost before after longest_text
-Takes (Status.Script line (why.Query fault)) before after = TakesAtMost before after longest_text
-Takes (Status.Script line why.Command) before after = TakesAtMost before after longest_text
-Takes (Status.Script line why.NoFleet) before after = TakesAtMost before after longest_text
-Takes (Status.Script line why.Place) before after = TakesAtMost before after longest_text
-Takes (Status.Script line why.Words) before after = TakesAtMost before after longest_text
-Takes (Status.Script line why.Leaf) before after = TakesAtMost before after longest_text
-Takes (Status.Script line why.Table) before after = TakesAtMost before after longest_text
-Takes (Status.Script line why.Short) before after = TakesAtMost before after longest_text
-Takes (Status.Script line why.NoBerth) before after = TakesAtMost before after longest_text
-Takes Status.Done before after = TakesAtMost before after longest_text
-Takes Status.Words before after = TakesAtMost before after longest_text
-Takes Status.ReadFault before after = TakesAtMost before after longest_text
-Takes Status.WriteFault before after = TakesAtMost before after longest_text
-Takes Status.NoMemory before after = TakesAtMost before after longest_text
+abbrev pub TakesText : Status → Option (List ℕ) → Option (List ℕ) → Type 0
+TakesText (Status.Script line why.TooLong) before after = TakesCount before after most_taken
+TakesText (Status.Script line (why.Row fault)) before after = TakesAtMost before after longest_text
+TakesText (Status.Script line (why.Query fault)) before after = TakesAtMost before after longest_text
+TakesText (Status.Script line why.Command) before after = TakesAtMost before after longest_text
+TakesText (Status.Script line why.NoFleet) before after = TakesAtMost before after longest_text
+TakesText (Status.Script line why.Place) before after = TakesAtMost before after longest_text
+TakesText (Status.Script line why.Words) before after = TakesAtMost before after longest_text
+TakesText (Status.Script line why.Leaf) before after = TakesAtMost before after longest_text
+TakesText (Status.Script line why.Table) before after = TakesAtMost before after longest_text
+TakesText (Status.Script line why.Short) before after = TakesAtMost before after longest_text
+TakesText (Status.Script line why.NoBerth) before after = TakesAtMost before after longest_text
+TakesText Status.Done before after = TakesAtMost before after longest_text
+TakesText Status.Words before after = TakesAtMost before after longest_text
+TakesText Status.ReadFault before after = TakesAtMost before after longest_text
+TakesText Status.WriteFault before after = TakesAtMost before after longest_text
+TakesText Status.NoMemory before after = TakesAtMost before after longest_text

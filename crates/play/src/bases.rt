@@ -8,10 +8,10 @@ use std::marker::Brand;
 /// A program cannot find a base out, since no read tells what a crash would leave.
 pub trait Bases<B: Berth> {
     ghost use Rattle.std.specs.Prelude.{Option, IfSome};
-    ghost use Rattle.crash_events.specs.Left.{Tables};
+    ghost use Rattle.crash_events.specs.Left.{NamedStates};
     ghost use Rattle.play.specs.Played.{IsBase};
 
-    ghost base: { B → Option Tables };
+    ghost base: { B → Option NamedStates };
 
     ghost is_base: { (berth : B) → IfSome (base berth) (λ tables. IsBase tables (B.meaning berth)) };
 }

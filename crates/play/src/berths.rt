@@ -8,7 +8,7 @@ ghost use Rattle.region_layout.specs.Names.{AreNames};
 ghost use Rattle.script_text.specs.Fits.{AreCommands};
 ghost use Rattle.printed_lines.specs.Lines.{lines_text, IsOf};
 ghost use Rattle.transcript.specs.Steps.{MayPlay};
-ghost use Rattle.play.specs.Played.{IsWritten, LeavesBerths, Keeps, leaf_count, names_in};
+ghost use Rattle.play.specs.Played.{IsWritten, LeavesBerths, KeepsCounts, leaf_count, names_in};
 ghost use Rattle.play.specs.Runs.{Advances, IsRun, IsEnd, RunSoFar};
 
 use crate::bases::Bases;
@@ -115,7 +115,7 @@ fn play_over<N: Bases<B>, R: Wait, K: Sink, B: Berth, G: Gate>(
     ensures done { result.1 ≡ Status.Done → IsRun (N.base berth) names (B.meaning berth) (B.meaning result.0) (K.written sink.old) (K.written sink.new) commands }
     ensures ends { IsEnd result.1 }
     ensures write_fault { result.1 ≡ Status.WriteFault → Rose (K.faults sink.old) (K.faults sink.new) }
-    ensures keeps { Keeps (B.meaning berth) (B.meaning result.0) }
+    ensures keeps { KeepsCounts (B.meaning berth) (B.meaning result.0) }
 {
     let Ok(copy) = names.copy() else {
         return (berth, Status::NoMemory);
@@ -158,7 +158,7 @@ fn play_all<'t, N: Bases<B>, R: Wait, K: Sink, B: Berth, G: Gate>(
     ensures done { result.1 ≡ Status.Done → IsRun (N.base player.entry.berth) names.now (B.meaning player.entry.berth) (B.meaning result.0) (K.written sink.old) (K.written sink.new) commands.items }
     ensures ends { IsEnd result.1 }
     ensures write_fault { result.1 ≡ Status.WriteFault → Rose (K.faults sink.old) (K.faults sink.new) }
-    ensures keeps { Keeps (B.meaning player.entry.berth) (B.meaning result.0) }
+    ensures keeps { KeepsCounts (B.meaning player.entry.berth) (B.meaning result.0) }
 {
     let mut rest = VecDeque::from_vec(commands);
     let mut player = player;

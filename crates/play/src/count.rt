@@ -4,7 +4,7 @@ ghost use Rattle.row_json.specs.Row.{row_of};
 ghost use Rattle.berth_face.specs.Causes.{Rose};
 ghost use Rattle.berth_face.specs.Streams.{TakesAtMost};
 ghost use Rattle.play.specs.Count.{count_of, is_in, IfFault};
-ghost use Rattle.play.specs.Outcome.{IsCounted, IsCutShort, IsNoRows, IfScript, UnlessCutOff, UnlessWritten, Takes, count_verdict};
+ghost use Rattle.play.specs.Outcome.{IsCounted, IsCutShort, IsNoRows, IfScript, UnlessCutOff, UnlessWritten, TakesText, count_verdict};
 ghost use Rattle.play.specs.Source.{most_taken};
 
 use crate::status::Status;
@@ -43,7 +43,7 @@ pub fn count_source<S: Source, K: Sink>(
     ensures write_fault { result ≡ Status.WriteFault → Rose (K.faults sink.old) (K.faults sink.new) }
     ensures exact { IfSome (S.left source.old) (λ text. UnlessCutOff result (result ≡ count_verdict range text)) }
     ensures takes { TakesAtMost (S.left source.old) (S.left source.new) most_taken }
-    ensures too_long { Takes result (S.left source.old) (S.left source.new) }
+    ensures too_long { TakesText result (S.left source.old) (S.left source.new) }
     ensures unwritten { UnlessWritten result (sink.new ≡ sink.old) }
     ensures cut_short { result ≡ Status.WriteFault → IsCutShort range (S.left source.old) (S.left source.new) (K.written sink.old) (K.written sink.new) }
 {

@@ -2,7 +2,7 @@
 ghost use Rattle.std.specs.Prelude.{◌≡◌, ◌↔◌, None, IfSome, length, map, string_bytes};
 ghost use Rattle.berth_face.specs.Causes.{Rose};
 ghost use Rattle.berth_face.specs.Streams.{TakesAtMost};
-ghost use Rattle.play.specs.Outcome.{IsDone, IsCutShort, IfScript, IsRefused, IfCount, UnlessCutOff, UnlessPlayed, UnlessWritten, Takes, verdict};
+ghost use Rattle.play.specs.Outcome.{IsDone, IsCutShort, IfScript, IsTextRefused, IfCount, UnlessCutOff, UnlessPlayed, UnlessWritten, TakesText, verdict};
 ghost use Rattle.play.specs.Played.{LeavesBerths};
 ghost use Rattle.play.specs.Source.{most_taken};
 ghost use Rattle.play.specs.Words.{request_of};
@@ -31,7 +31,7 @@ pub fn run<N: Bases<B>, R: Wait, S: Source, K: Sink, B: Berth, G: Gate>(
 
     // Each other status has its cause, but for want of memory.
     ensures words { (result ≡ Status.Words) ↔ (request_of (map string_bytes words.now) ≡ None) }
-    ensures script { IfScript result (IsRefused (length berths.old.items) (request_of (map string_bytes words.now)) (S.left source.old) (S.left source.new)) }
+    ensures script { IfScript result (IsTextRefused (length berths.old.items) (request_of (map string_bytes words.now)) (S.left source.old) (S.left source.new)) }
     ensures read_fault { result ≡ Status.ReadFault → Rose (S.faults source.old) (S.faults source.new) }
     ensures write_fault { result ≡ Status.WriteFault → Rose (K.faults sink.old) (K.faults sink.new) }
 
@@ -41,7 +41,7 @@ pub fn run<N: Bases<B>, R: Wait, S: Source, K: Sink, B: Berth, G: Gate>(
 
     // What a run takes: one byte too much exactly where the text is refused as too long.
     ensures takes { TakesAtMost (S.left source.old) (S.left source.new) most_taken }
-    ensures too_long { Takes result (S.left source.old) (S.left source.new) }
+    ensures too_long { TakesText result (S.left source.old) (S.left source.new) }
     ensures unread { result ≡ Status.Words → source.new ≡ source.old }
 
     // Where the words, the text or the source are at fault nothing is written, and nothing is played.

@@ -2,7 +2,7 @@
 ghost use Rattle.std.specs.Prelude.{◌≡◌, ◌≢◌, ◌<◌, ◌∷◌, [], length, Some, None, IfSome, IfOk, IfErr};
 ghost use Rattle.berth_face.specs.Causes.{Rose};
 ghost use Rattle.berth_face.specs.Streams.{TakesAtMost};
-ghost use Rattle.play.specs.Outcome.{IsNoPlay, IfScript, UnlessCutOff, UnlessPlayed, Takes, play_verdict, status_of_fault};
+ghost use Rattle.play.specs.Outcome.{IsNoPlay, IfScript, UnlessCutOff, UnlessPlayed, TakesText, play_verdict, status_of_fault};
 ghost use Rattle.play.specs.Played.{IsPlayed, LeavesBerths};
 ghost use Rattle.play.specs.Source.{most_taken};
 
@@ -31,7 +31,7 @@ pub fn play_source<N: Bases<B>, R: Wait, S: Source, K: Sink, B: Berth, G: Gate>(
     ensures write_fault { result ≡ Status.WriteFault → Rose (K.faults sink.old) (K.faults sink.new) }
     ensures exact { IfSome (S.left source.old) (λ text. UnlessCutOff result (result ≡ play_verdict (length berths.old.items) text)) }
     ensures takes { TakesAtMost (S.left source.old) (S.left source.new) most_taken }
-    ensures too_long { Takes result (S.left source.old) (S.left source.new) }
+    ensures too_long { TakesText result (S.left source.old) (S.left source.new) }
     ensures unwritten { UnlessPlayed result (sink.new ≡ sink.old) }
     ensures unplayed { UnlessPlayed result (berths.new ≡ berths.old) }
     ensures berths { LeavesBerths B.meaning berths.old.items berths.new.items }

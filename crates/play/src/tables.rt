@@ -3,7 +3,7 @@ ghost use Rattle.std.specs.Prelude.{◌≡◌, ◌<◌, length, slice_get, Some,
 ghost use Rattle.region_layout.specs.Names.{AreNames};
 ghost use Rattle.leaf_table.specs.Lists.{lists_in, row};
 ghost use Rattle.play.specs.Played.{AreShut};
-ghost use Rattle.play.specs.Runs.{AreFirsts, AreTables, IsEachOne};
+ghost use Rattle.play.specs.Runs.{AreFirsts, AreNewTables, IsEachOne};
 
 use crate::bases::Bases;
 use berth_face::Berth;
@@ -26,9 +26,9 @@ pub struct LeafTables {
 /// The base of one leaf's tables. Contracts alone see it.
 trait LeafBase {
     ghost use Rattle.std.specs.Prelude.{Option};
-    ghost use Rattle.crash_events.specs.Left.{Tables};
+    ghost use Rattle.crash_events.specs.Left.{NamedStates};
 
-    ghost base: { Option Tables };
+    ghost base: { Option NamedStates };
 }
 
 impl LeafBase for Brand {
@@ -45,7 +45,7 @@ pub fn leaf_tables<N: Bases<B>, B: Berth>(
 ) -> Result<LeafTables, AllocError>
     requires names { AreNames names.now }
     ensures count { IfOk result (λ leaf. length leaf.tables ≡ 1) }
-    ensures tables { IfOk result (λ leaf. AreTables (N.base berth.now) names.now (row leaf.tables 0) leaf.stewards.items leaf.callers.items) }
+    ensures tables { IfOk result (λ leaf. AreNewTables (N.base berth.now) names.now (row leaf.tables 0) leaf.stewards.items leaf.callers.items) }
 {
     founded_tables::<Brand, B>(alloc, names, berth)
 }
@@ -59,7 +59,7 @@ fn founded_tables<P: LeafBase, B>(
     requires names { AreNames names.now }
     requires base { IfSome P.base AreShut }
     ensures count { IfOk result (λ leaf. length leaf.tables ≡ 1) }
-    ensures tables { IfOk result (λ leaf. AreTables P.base names.now (row leaf.tables 0) leaf.stewards.items leaf.callers.items) }
+    ensures tables { IfOk result (λ leaf. AreNewTables P.base names.now (row leaf.tables 0) leaf.stewards.items leaf.callers.items) }
 {
     let (tables, stewards, callers) = FleetTables::new::<Brand>(alloc, 1, names, SHARE)?;
     Ok(LeafTables {

@@ -8,7 +8,7 @@ use Rattle.turnstile.specs.Seats.{AreIds, IsSeatOf, LearnsOthers, Told}
 use Rattle.leaf_table.specs.declared.replies.Reply.{Reply}
 use Rattle.leaf_table.specs.declared.replies.Reply.TheVariants as told
 use Rattle.leaf_table.specs.Turns.{Shared, is_founded, start_of}
-use Rattle.leaf_table.specs.Calls.{SeatView, Answered, SameSeat, base_of, seen_of}
+use Rattle.leaf_table.specs.Calls.{SeatView, Answered, SameSeat, base_seen, seen_of}
 use Rattle.leaf_steward.specs.Seated.{Seated, AtPlace}
 use Rattle.leaf_steward.proofs.Seating.{same_at, set_either}
 use Rattle.transcript.specs.Stage.{Leaf, seated_of, with_seats}
@@ -44,17 +44,17 @@ called_with x table t c are at here = record {
 -- ---- calls
 
 -- what a seat has seen is legal, behind a call too
-legal_after : (t : Shared) (v : SeatView) (c : Call) (reply : Reply) (w : SeatView) → LegalFrom (is_founded (base_of t)) (start_of (base_of t)) (seen_of v) → Answered (base_of t) v c reply w
-    → LegalFrom (is_founded (base_of t)) (start_of (base_of t)) (seen_of w)
+legal_after : (t : Shared) (v : SeatView) (c : Call) (reply : Reply) (w : SeatView) → LegalFrom (is_founded (base_seen t)) (start_of (base_seen t)) (seen_of v) → Answered (base_seen t) v c reply w
+    → LegalFrom (is_founded (base_seen t)) (start_of (base_seen t)) (seen_of w)
 legal_after t v c (told.Added number kept late) w legal answered = answered.2.legal
 legal_after t v c (told.Removed number rows) w legal answered = answered.2.legal
 legal_after t v c (told.Groups number gs) w legal answered = answered.2.legal
 legal_after t v c (told.Shut number) w legal answered = answered.2.legal
 legal_after t v c (told.Full number) w legal answered = answered.2.legal
 legal_after t v c (told.NoMemory number) w legal answered = answered.2.legal
-legal_after t v c told.Worn w legal answered = subst (λ (s : SeatView). LegalFrom (is_founded (base_of t)) (start_of (base_of t)) (seen_of s)) (sym answered.1) legal
+legal_after t v c told.Worn w legal answered = subst (λ (s : SeatView). LegalFrom (is_founded (base_seen t)) (start_of (base_seen t)) (seen_of s)) (sym answered.1) legal
 
-pub callers_after : (t : Shared) (v : SeatView) (c : Call) (reply : Reply) (w : SeatView) → IsCallersAt t v → IsSeatOf w t.site → SameSeat v w → Answered (base_of t) v c reply w → IsCallersAt t w
+pub callers_after : (t : Shared) (v : SeatView) (c : Call) (reply : Reply) (w : SeatView) → IsCallersAt t v → IsSeatOf w t.site → SameSeat v w → Answered (base_seen t) v c reply w → IsCallersAt t w
 callers_after t v c reply w is seat same answered = record {
   seat = seat;
   caller = subst (λ (n : ℕ). 0 < n) (sym same.id) is.caller;
@@ -79,11 +79,11 @@ module _ (x self : Called) (table : ℕ) (t : Shared) (v : SeatView) (are : AreC
   pub called_at : IsCallersAt shared v
   called_at = are.each table shared v at was
 
-  pub called_on : (c : Call) (reply : Reply) (w : SeatView) → IsSeatOf w shared.site → SameSeat v w → Answered (base_of shared) v c reply w
+  pub called_on : (c : Call) (reply : Reply) (w : SeatView) → IsSeatOf w shared.site → SameSeat v w → Answered (base_seen shared) v c reply w
       → AreCalled (record { tables = x.tables; seats = slice_set x.seats table w })
   called_on c reply w seats same answered = called_with x table shared w are at (callers_after shared v c reply w called_at seats same answered)
 
-  pub calls : (c : Call) (reply : Reply) (w : SeatView) → Answered (base_of shared) v c reply w → Calls table c self reply (record { tables = x.tables; seats = slice_set x.seats table w })
+  pub calls : (c : Call) (reply : Reply) (w : SeatView) → Answered (base_seen shared) v c reply w → Calls table c self reply (record { tables = x.tables; seats = slice_set x.seats table w })
   calls c reply w answered =
       subst (λ (y : Called). Calls table c y reply (record { tables = x.tables; seats = slice_set x.seats table w })) is
       (record { shared = shared; before = v; after = w; at = at; was = was; answered = answered; now = refl })
@@ -92,7 +92,7 @@ module _ (x self : Called) (table : ℕ) (t : Shared) (v : SeatView) (are : AreC
 
 -- the seat in that place is a seat of the leaf's table
 pub meets_legal : (x self : Called) (y : Seated) (table : ℕ) (c : SeatView) → AreCalled x → x ≡ self → self.tables ≡ y.tables → table < length self.tables → c ≡ slice_index_or x.seats table c
-    → AtPlace (λ t v. IsSeatOf c t.site × LegalFrom (is_founded (base_of t)) (start_of (base_of t)) (seen_of c)) y table
+    → AtPlace (λ t v. IsSeatOf c t.site × LegalFrom (is_founded (base_seen t)) (start_of (base_seen t)) (seen_of c)) y table
 meets_legal x self y table c are is same within read = λ t v at seat.
     let tables : x.tables ≡ y.tables = ap (λ (z : Called). z.tables) is ∙ same in
     let inside : table < length x.tables = subst (λ (z : Called). table < length z.tables) (sym is) within in

@@ -4,8 +4,8 @@ use Rattle.std.specs.Prelude.{IsTrue}
 use Rattle.std.specs.List.{AllByRecursion}
 use Rattle.berth_face.specs.Berth.{Meaning}
 use Rattle.leaf_table.specs.Turns.{Shared, is_founded}
-use Rattle.leaf_table.specs.Calls.{base_of}
-use Rattle.crash_events.specs.Left.{Tables}
+use Rattle.leaf_table.specs.Calls.{base_seen}
+use Rattle.crash_events.specs.Left.{NamedStates}
 use Rattle.crash_moments.specs.Told as moments
 use Rattle.crash_moments.proofs.Telling.{none_more, told_join}
 use Rattle.crash_states.proofs.Lefts.{runs_told, rests_told}
@@ -15,14 +15,14 @@ use Rattle.leaf_steward.specs.Making.{Makes, OneEntry}
 use Rattle.leaf_steward.proofs.WatchMakes.{makes_tables}
 use Rattle.leaf_machine.proofs.UpMaking.{makes_join}
 use Rattle.transcript.specs.Stage.{Leaf, IsDown, IsUp, IsPreparing, Stands, StandsOn, Carries, seated_of}
-use Rattle.player.specs.Stage.{Keeps}
+use Rattle.player.specs.Stage.{KeepsSeats}
 
 -- at the same tables, founded ones stay founded
 pub founded_on : (x y : Seated) → y.tables ≡ x.tables → AreFounded x → AreFounded y
-founded_on x y same founded = subst (λ (ts : List Shared). AllByRecursion (λ (t : Shared). is_founded (base_of t) ≡ true) ts) (sym same) founded
+founded_on x y same founded = subst (λ (ts : List Shared). AllByRecursion (λ (t : Shared). is_founded (base_seen t) ≡ true) ts) (sym same) founded
 
 -- what stands is told of the one moment
-pub stands_told : (base : Tables) (leaf : Leaf) (m : Meaning) → Stands base leaf m → moments.Told base (watched_by (seated_of leaf)) (watched_by (seated_of leaf)) m m
+pub stands_told : (base : NamedStates) (leaf : Leaf) (m : Meaning) → Stands base leaf m → moments.Told base (watched_by (seated_of leaf)) (watched_by (seated_of leaf)) m m
 stands_told base (IsDown x) m stands = rests_told (watched_by x) (watched_by x) base stands.0 stands.1 m stands.2 (none_more m.clock m.clock (watched_by x))
 stands_told base (IsUp x) m stands =
     runs_told (watched_by x.seated) (watched_by x.seated) base x.owing.owner x.owing.log stands.0 m stands.1 (none_more m.clock m.clock (watched_by x.seated))
@@ -55,14 +55,14 @@ carries_on leaf between leaf' xs ys a b c first second = record {
 
 -- ---- the steward's seats stay at the same tables
 
-pub keeps_none : (x : Seated) → Keeps x x
+pub keeps_none : (x : Seated) → KeepsSeats x x
 keeps_none x = record { names = refl; tables = refl; seats = refl }
 
-pub keeps_on : (x y z : Seated) → Keeps x y → Keeps y z → Keeps x z
+pub keeps_on : (x y z : Seated) → KeepsSeats x y → KeepsSeats y z → KeepsSeats x z
 keeps_on x y z first second = record { names = second.names ∙ first.names; tables = second.tables ∙ first.tables; seats = second.seats ∙ first.seats }
 
 -- other seats, as many, at the same tables
-entry_keeps : (clock : ℕ) (x : Seated) (note : Note) (y : Seated) → OneEntry clock x note y → Keeps x y
+entry_keeps : (clock : ℕ) (x : Seated) (note : Note) (y : Seated) → OneEntry clock x note y → KeepsSeats x y
 entry_keeps clock x note y one = record {
   names = ap (λ (s : Seated). s.names) one.now;
   tables = ap (λ (s : Seated). s.tables) one.now;
@@ -70,6 +70,6 @@ entry_keeps clock x note y one = record {
 }
 
 -- entries keep them
-pub makes_keeps : (from to : ℕ) (x : Seated) (notes : List Note) (y : Seated) → Makes from to x notes y → Keeps x y
-makes_keeps from to x notes y (Makes.none f u a ns b on no_note same) = subst (Keeps x) (sym same) (keeps_none x)
+pub makes_keeps : (from to : ℕ) (x : Seated) (notes : List Note) (y : Seated) → Makes from to x notes y → KeepsSeats x y
+makes_keeps from to x notes y (Makes.none f u a ns b on no_note same) = subst (KeepsSeats x) (sym same) (keeps_none x)
 makes_keeps from to x notes y (Makes.more f u a ns b clock note rest between on one makes all) = keeps_on x between y (entry_keeps clock x note between one) (makes_keeps clock to between rest y makes)

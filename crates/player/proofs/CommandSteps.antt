@@ -24,15 +24,15 @@ use Rattle.printed_lines.specs.Lines.{EndsOf}
 use Rattle.transcript.specs.Transcript.{named}
 use Rattle.transcript.specs.Stage.{Leaf, seated_of, Carries, MeetAll}
 use Rattle.transcript.specs.Steps as step
-use Rattle.transcript.specs.Steps.{Says, AnswersWith, CallStep, AddStep, QueryStep, StewardPart, StartStep, FlushStep, KillStep, DrainStep, StartMoves, FlushMoves, KillMoves, DrainMoves, IsWornFor, ending_of, ending_of_flush}
-use Rattle.player.specs.Stage.{Called, Calls, Fits, IsAnswer, Keeps, named_by_reply}
+use Rattle.transcript.specs.Steps.{IsReplyLine, AnswersWith, CallStep, AddStep, QueryStep, StewardPart, StartStep, FlushStep, KillStep, DrainsLeaf, StartMoves, FlushMoves, KillMoves, DrainMoves, IsWornFor, ending_of, ending_of_flush}
+use Rattle.player.specs.Stage.{Called, Calls, FitsTogether, IsAnswer, KeepsSeats, named_by_reply}
 use Rattle.player.specs.Moves.{AreSound, ArePlaces, FaultRose}
 use Rattle.player.proofs.NoteTables.{notes_at, count_of}
 use Rattle.player.proofs.CommandLines.{AreEnded, sound}
 
 -- ---- calls
 
-pub call_step : (table : ℕ) (c : call.Call) (x y : Called) (r : Reply) (l : Line) → Calls table c x r y → Says table r l → CallStep table c x.tables x.seats l y.seats
+pub call_step : (table : ℕ) (c : call.Call) (x y : Called) (r : Reply) (l : Line) → Calls table c x r y → IsReplyLine table r l → CallStep table c x.tables x.seats l y.seats
 call_step table c x y r l calls says = record {
   shared = calls.shared;
   before = calls.before;
@@ -46,7 +46,7 @@ call_step table c x y r l calls says = record {
 }
 
 -- the leaf is named just where its table answered
-named_one : (table : ℕ) (r : Reply) (l : Line) → IsAnswer r → Says table r l → named_by_reply r ≡ length (named (l ∷ []))
+named_one : (table : ℕ) (r : Reply) (l : Line) → IsAnswer r → IsReplyLine table r l → named_by_reply r ≡ length (named (l ∷ []))
 named_one table (told.Groups number gs) l is says = rw says refl
 named_one table (told.Shut number) l is says = rw says refl
 named_one table (told.NoMemory number) l is says = rw says refl
@@ -56,7 +56,7 @@ named_one table (told.Removed number rows) l is says = absurd is
 named_one table (told.Full number) l is says = absurd is
 
 pub query_step : (table : ℕ) (q : Query) (x y : Called) (r : Reply) (l : Line) (rows : List (List ℕ)) (count : ℕ) (lines : List Line)
-    → Calls table (call.Ask q) x r y → IsAnswer r → Says table r l → AnswersWith q r rows → count ≡ named_by_reply r → lines ≡ l ∷ line.Answer count 1 rows ∷ []
+    → Calls table (call.Ask q) x r y → IsAnswer r → IsReplyLine table r l → AnswersWith q r rows → count ≡ named_by_reply r → lines ≡ l ∷ line.Answer count 1 rows ∷ []
     → QueryStep table q x.tables x.seats lines y.seats
 unfolding call_step
 query_step table q x y r l rows count lines calls is says answers counted are = record {
@@ -70,7 +70,7 @@ query_step table q x y r l rows count lines calls is says answers counted are = 
 -- ---- tables
 
 -- a leaf has as many tables as names
-pub tables_fit : (names : List (List ℕ)) (x : Seated) (c : Called) → Fits names x c → length c.tables ≡ length names
+pub tables_fit : (names : List (List ℕ)) (x : Seated) (c : Called) → FitsTogether names x c → length c.tables ≡ length names
 tables_fit names x c fits = ap length fits.tables ∙ count_of x.tables names fits.names_are
 
 -- ---- a steward's command
@@ -154,10 +154,10 @@ module _ {B : Type 0} (meaning : B → Meaning) (b b1 b2 b3 : B) (leaf met moved
 
     pub drain_result : (stop : Option ℕ) → DrainMoves (meaning b1) (meaning b2) met stop notes ends moved
         → IfOk result (λ lines. AreEnded Drain notes ends lines.items)
-        → IfOk result (λ lines. DrainStep stop (meaning b) (meaning b3) leaf callers lines.items after after_callers)
+        → IfOk result (λ lines. DrainsLeaf stop (meaning b) (meaning b3) leaf callers lines.items after after_callers)
     unfolding part_of
     drain_result stop moves are = IfOk-weaker result (λ lines. AreEnded Drain notes ends lines.items)
-        (λ lines. DrainStep stop (meaning b) (meaning b3) leaf callers lines.items after after_callers)
+        (λ lines. DrainsLeaf stop (meaning b) (meaning b3) leaf callers lines.items after after_callers)
         (λ lines told. record {
           part = part_of Drain lines.items told;
           moves = between (λ (m m' : Meaning). DrainMoves m m' met stop notes ends moved) moves;
@@ -166,7 +166,7 @@ module _ {B : Type 0} (meaning : B → Meaning) (b b1 b2 b3 : B) (leaf met moved
 
 -- what its lines tell
 pub sound_result : {B E : Type 0} (meaning : B → Meaning) (b b1 b2 b3 : B) (names : List (List ℕ)) (called : Called) (leaf met moved : Leaf) (verb : Verb) (notes : List Note) (ends : Ending) (result : Result (Vec Line Global) E)
-    → b1 ≡ b → b3 ≡ b2 → Fits names (seated_of leaf) called → Keeps (seated_of leaf) (seated_of met) → Carries met moved notes (meaning b1) (meaning b2)
+    → b1 ≡ b → b3 ≡ b2 → FitsTogether names (seated_of leaf) called → KeepsSeats (seated_of leaf) (seated_of met) → Carries met moved notes (meaning b1) (meaning b2)
     → Passes (meaning b1) (meaning b2) → FaultRose ends (meaning b1) (meaning b2) → EndsOf names ends
     → IfOk result (λ lines. AreEnded verb notes ends lines.items)
     → IfOk result (λ lines. AreSound names (meaning b) (meaning b3) lines.items)
@@ -193,11 +193,11 @@ flush_fits names reply.DiskFault = tt
 flush_fits names reply.Worn = tt
 
 -- the steward has a seat at each of the names' tables still
-met_count : (names : List (List ℕ)) (x y : Seated) (called : Called) → Fits names x called → Keeps x y → length y.seats ≡ length names
+met_count : (names : List (List ℕ)) (x y : Seated) (called : Called) → FitsTogether names x called → KeepsSeats x y → length y.seats ≡ length names
 met_count names x y called fits keeps = keeps.seats ∙ fits.seats
 
 pub start_ends : (names : List (List ℕ)) (m m' : Meaning) (x : Seated) (leaf : Leaf) (notes : List Note) (ends : Ending) (leaf' : Leaf) (called : Called)
-    → Fits names x called → Keeps x (seated_of leaf) → StartMoves m m' leaf notes ends leaf' → EndsOf names ends
+    → FitsTogether names x called → KeepsSeats x (seated_of leaf) → StartMoves m m' leaf notes ends leaf' → EndsOf names ends
 start_ends names m m' x leaf notes ends leaf' called fits keeps (step.opened y s way at owed told ended is) = subst (EndsOf names) (sym ended) tt
 start_ends names m m' x leaf notes ends leaf' called fits keeps (step.refused y f at worn sound begins empty ended is) =
     let count : length y.seats ≡ length names = ap (λ (l : Leaf). length (seated_of l).seats) (sym at) ∙ met_count names x (seated_of leaf) called fits keeps in

@@ -16,7 +16,7 @@ use Rattle.drain_copy.specs.declared.step.RegionFault.{RegionFault}
 use Rattle.drain_copy.specs.Draining.{StandsAt}
 use Rattle.leaf_opening.specs.declared.ways.Way.TheVariants.{Disk}
 use Rattle.leaf_opening.specs.Starts.{IsWayOf}
-use Rattle.crash_events.specs.Left.{Tables}
+use Rattle.crash_events.specs.Left.{NamedStates}
 use Rattle.crash_moments.specs.Told as moments
 use Rattle.crash_moments.proofs.Telling.{none_more, told_join}
 use Rattle.crash_states.specs.Standing.{Copies}
@@ -26,8 +26,8 @@ use Rattle.leaf_steward.specs.Seated.{Seated, AreFounded, watched_by}
 use Rattle.leaf_steward.specs.Making.{Makes, EachNoted, IsHandedNote}
 use Rattle.leaf_machine.specs.declared.copying.Copied.{Copied}
 use Rattle.leaf_machine.specs.declared.copying.Copied.TheVariants as copied
-use Rattle.leaf_machine.specs.States.{Copying, CopiesOn, RestsOn}
-use Rattle.leaf_machine.specs.Copies.{CopyGoesOn, IsCopyStep, IsNext, berth_of_copy, seats_of_copy}
+use Rattle.leaf_machine.specs.States.{Copying, GoesOnCopying, RestsOn}
+use Rattle.leaf_machine.specs.Copies.{CopyGoesOn, IsCopyStep, IsNextCopy, berth_of_copy, seats_of_copy}
 use Rattle.leaf_machine.proofs.UpMaking.{makes_since}
 use Rattle.printed_lines.specs.declared.line.Ending.TheVariants as ending
 use Rattle.player.specs.Steps.{AreLeft, Spends, steps_before}
@@ -39,7 +39,7 @@ use Rattle.player.proofs.Counted.{none_made, spent, may_make, all_made}
 
 -- a copy that stood stands on, and at each moment a crash left what belongs to its tables
 abbrev pub CopyTold : Copying → Copying → Meaning → Meaning → Type 0
-CopyTold c d m n = CopyStands d n × ((base : Tables) → moments.Told base (watched_by c.seated) (watched_by d.seated) m n)
+CopyTold c d m n = CopyStands d n × ((base : NamedStates) → moments.Told base (watched_by c.seated) (watched_by d.seated) m n)
 
 -- As many steps were made as come before the next, none of them the last, and nothing was noted.
 pub record CopiedSoFar (c : Copying) (m : Meaning) (stop : Option ℕ) (d : Copying) (n : Meaning) (left : Option ℕ) (notes : List Note) : Type 0 where
@@ -52,7 +52,7 @@ pub record CopiedSoFar (c : Copying) (m : Meaning) (stop : Option ℕ) (d : Copy
   pub copies : IsTrue m.tells → AreFounded c.seated → CopyStands c m → CopyTold c d m n
   pub passes : Passes m n
 
-copy_told : (base : Tables) (c : Copying) (m : Meaning) → CopyStands c m → moments.Told base (watched_by c.seated) (watched_by c.seated) m m
+copy_told : (base : NamedStates) (c : Copying) (m : Meaning) → CopyStands c m → moments.Told base (watched_by c.seated) (watched_by c.seated) m m
 copy_told base c m stands = copies_told (watched_by c.seated) (watched_by c.seated) base c.drain stands.0 m stands.1 (none_more m.clock m.clock (watched_by c.seated))
 
 pub copied_none : (c : Copying) (m : Meaning) (stop : Option ℕ) (notes : List Note) → c.drain.next ≡ next.Begin → notes ≡ [] → CopiedSoFar c m stop c m stop notes
@@ -83,7 +83,7 @@ last_copy leaf = Ok (copied.Finished leaf)
 abbrev pub failed_copy : {B : Type 0} → Seated × B → RegionFault → Result (Copied B) ((Seated × B) × RegionFault)
 failed_copy leaf fault = Err (leaf, fault)
 
-next_steps : (a b : Next) → IsNext a b → (steps_before b ≡ suc (steps_before a)) × (steps_before b < 3) × (b ≡ next.Begin → ⊥)
+next_steps : (a b : Next) → IsNextCopy a b → (steps_before b ≡ suc (steps_before a)) × (steps_before b < 3) × (b ≡ next.Begin → ⊥)
 next_steps next.Begin b is = (ap steps_before is, subst (λ (n : Next). steps_before n < 3) (sym is) (omega arith), λ e. absurd cc)
 next_steps next.Write b is = (ap steps_before is, subst (λ (n : Next). steps_before n < 3) (sym is) (omega arith), λ e. absurd cc)
 next_steps next.Flag b is = absurd is
@@ -145,7 +145,7 @@ module _ (c : Copying) (m : Meaning) (stop left left' : Option ℕ) (d : Copying
       untouched = λ e. absurd (goes.2 e);
       copies = λ tells founded stands.
           let now : CopyTold c d m n = so_far.copies tells founded stands in
-          let on : CopiesOn d.seated later.0 n (meaning later.1) = steps.crash (tells_still tells) (founded_still founded) now.0.0 now.0.1 in
+          let on : GoesOnCopying d.seated later.0 n (meaning later.1) = steps.crash (tells_still tells) (founded_still founded) now.0.0 now.0.1 in
           ((on.writes, on.copies), λ base. told_join base (watched_by c.seated) (watched_by d.seated) (watched_by later.0.seated) m n (meaning later.1) (now.1 base) (on.told base));
       passes = passes_on m n (meaning later.1) so_far.passes steps.time;
     }

@@ -14,8 +14,8 @@ use Rattle.leaf_machine.specs.declared.preparing.Prepared.{Prepared}
 use Rattle.leaf_machine.specs.declared.preparing.Prepared.TheVariants as prepared
 use Rattle.leaf_machine.specs.declared.preparing.PrepareFault.{PrepareFault}
 use Rattle.leaf_machine.specs.declared.preparing.PrepareFault.TheVariants as fault
-use Rattle.leaf_machine.specs.States.{Shutting, Copying, CopiesOn, RestsOn, RunsOn, treated}
-use Rattle.leaf_machine.specs.Prepares.{AllTreated, IsStep, StepGoesOn, berth_of_step, seats_of_step}
+use Rattle.leaf_machine.specs.States.{Shutting, Copying, GoesOnCopying, RestsOn, GoesOnServing, treated}
+use Rattle.leaf_machine.specs.Prepares.{AllTreated, IsTreatingStep, StepGoesOn, berth_of_step, seats_of_step}
 use Rattle.leaf_machine.proofs.UpMaking.{makes_join}
 use Rattle.printed_lines.specs.declared.line.Line.{Line}
 use Rattle.transcript.specs.Stage.{IsPreparing, Carries}
@@ -73,7 +73,7 @@ so_far_none x m stop none empty = record {
 
 -- what a step does
 pub record Stepped {B : Type 0} (meaning : B → Meaning) (y : Shutting) (n : Meaning) (notes : List Note) (r : Result (Prepared B) ((Shutting × B) × PrepareFault)) : Type 0 where
-  pub one : IsStep y notes r
+  pub one : IsTreatingStep y notes r
   pub made : Makes n.clock (meaning (berth_of_step r)).clock y.serving.seated notes (seats_of_step r)
   pub crash : IsTrue n.tells → AreFounded y.serving.seated → StepGoesOn meaning y n r
   pub region : IsTrue n.tells → (meaning (berth_of_step r)).held.region ≡ n.held.region
@@ -160,8 +160,8 @@ module _ {B E : Type 0} (meaning : B → Meaning) (x : Shutting) (m : Meaning) (
         copy_carries = record {
           made = makes_join m.clock (meaning leaf.1).clock (meaning copy.1).clock x.serving.seated leaf.0.serving.seated copy.0.seated so_far.notes notes so_far.far.made stepped.made;
           stands = λ base tells founded stands.
-              let now : RunsOn x.serving leaf.0.serving m (meaning leaf.1) = so_far.far.goes tells founded stands.0 stands.1 in
-              let on : CopiesOn leaf.0.serving.seated copy.0 (meaning leaf.1) (meaning copy.1) = stepped.crash (tells_then tells) (far_founded x leaf.0 so_far.notes m (meaning leaf.1) so_far.far founded) now.later now.runs in (
+              let now : GoesOnServing x.serving leaf.0.serving m (meaning leaf.1) = so_far.far.goes tells founded stands.0 stands.1 in
+              let on : GoesOnCopying leaf.0.serving.seated copy.0 (meaning leaf.1) (meaning copy.1) = stepped.crash (tells_then tells) (far_founded x leaf.0 so_far.notes m (meaning leaf.1) so_far.far founded) now.later now.runs in (
                 (on.writes, on.copies),
                 told_join base (watched_by x.serving.seated) (watched_by leaf.0.serving.seated) (watched_by copy.0.seated) m (meaning leaf.1) (meaning copy.1) (now.told base) (on.told base),
               );
@@ -177,7 +177,7 @@ module _ {B E : Type 0} (meaning : B → Meaning) (x : Shutting) (m : Meaning) (
 
       pub shut_halted : f ≡ fault.DiskFault → move.Shuts meaning x m stop (how.Halted half) left' after
       shut_halted e =
-          let one : IsStep leaf.0 notes (failed_step half fault.DiskFault) = subst (λ (g : PrepareFault). IsStep leaf.0 notes (failed_step half g)) e stepped.one in
+          let one : IsTreatingStep leaf.0 notes (failed_step half fault.DiskFault) = subst (λ (g : PrepareFault). IsTreatingStep leaf.0 notes (failed_step half g)) e stepped.one in
           record {
             notes = so_far.notes ++ notes;
             ends = record {
@@ -199,7 +199,7 @@ module _ {B E : Type 0} (meaning : B → Meaning) (x : Shutting) (m : Meaning) (
 
       pub shut_starved : f ≡ fault.NoMemory → move.Shuts meaning x m stop (how.Starved half) left' after
       shut_starved e =
-          let one : IsStep leaf.0 notes (failed_step half fault.NoMemory) = subst (λ (g : PrepareFault). IsStep leaf.0 notes (failed_step half g)) e stepped.one in
+          let one : IsTreatingStep leaf.0 notes (failed_step half fault.NoMemory) = subst (λ (g : PrepareFault). IsTreatingStep leaf.0 notes (failed_step half g)) e stepped.one in
           record {
             notes = so_far.notes ++ notes;
             ends = record {
@@ -221,7 +221,7 @@ module _ {B E : Type 0} (meaning : B → Meaning) (x : Shutting) (m : Meaning) (
 
       pub shut_roomless : f ≡ fault.NoRoom → move.Shuts meaning x m stop (how.Roomless half) left' after
       shut_roomless e =
-          let one : IsStep leaf.0 notes (failed_step half fault.NoRoom) = subst (λ (g : PrepareFault). IsStep leaf.0 notes (failed_step half g)) e stepped.one in
+          let one : IsTreatingStep leaf.0 notes (failed_step half fault.NoRoom) = subst (λ (g : PrepareFault). IsTreatingStep leaf.0 notes (failed_step half g)) e stepped.one in
           let stays : leaf.0 ≡ half.0 = sym one.3 in
           record {
             notes = so_far.notes ++ notes;

@@ -3,7 +3,7 @@ use Rattle.std.proofs.Common.{◌≡◌, ℕ, suc, ◌+◌, List, ◌++◌, leng
 use Rattle.std.specs.Prelude.{IsTrue, IfOk}
 use Rattle.berth_face.specs.Berth.{Meaning, Passes}
 use Rattle.region_layout.specs.Images.{images_of}
-use Rattle.crash_events.specs.Left.{Tables}
+use Rattle.crash_events.specs.Left.{NamedStates}
 use Rattle.crash_moments.proofs.Telling.{told_join}
 use Rattle.leaf_steward.specs.declared.notes.Note.{Note}
 use Rattle.leaf_steward.specs.Seated.{Seated, AreFounded, watched_by}
@@ -17,12 +17,12 @@ use Rattle.printed_lines.specs.declared.line.Ending.TheVariants as ending
 use Rattle.printed_lines.specs.declared.line.Line.{Line}
 use Rattle.transcript.specs.Stage.{Leaf, IsDown, IsUp, IsPreparing, Stands, Carries, seated_of}
 use Rattle.transcript.specs.Steps as step
-use Rattle.transcript.specs.Steps.{Part, Shuts, TreatsOn, DrainMoves, RegionStopped}
+use Rattle.transcript.specs.Steps.{Part, BeginsShutting, TreatsOn, DrainMoves, RegionStopped}
 use Rattle.player.specs.declared.drain.Shut.TheVariants as how
-use Rattle.player.specs.Stage.{Keeps}
+use Rattle.player.specs.Stage.{KeepsSeats}
 use Rattle.player.specs.Steps.{steps_before}
 use Rattle.player.specs.Moves as move
-use Rattle.player.specs.Moves.{AreAdded, CarriesCopy, CopyEnds, CopyRests, CopyStands, Drains, IsKilled, IsReady}
+use Rattle.player.specs.Moves.{AreAdded, CarriesCopy, CopyEnds, CopyRests, CopyStands, DrainsWithLines, IsKilled, IsCopyReady}
 use Rattle.player.proofs.Carrying.{carries_on, founded_on, makes_keeps}
 use Rattle.player.proofs.Counted.{may_make_more, all_made}
 use Rattle.player.proofs.Copied.{region_stopped}
@@ -31,20 +31,20 @@ use Rattle.player.proofs.Treated.{treats_still}
 
 -- ---- a leaf that begins to shut its tables is one that shuts them
 
-pub begins_seated : (leaf : Leaf) (x : Shutting) → Shuts leaf x → x.serving.seated ≡ seated_of leaf
+pub begins_seated : (leaf : Leaf) (x : Shutting) → BeginsShutting leaf x → x.serving.seated ≡ seated_of leaf
 begins_seated (IsDown y) x shuts = absurd shuts
 begins_seated (IsUp s) x shuts = ap (λ (z : Shutting). z.serving.seated) shuts
 begins_seated (IsPreparing y) x shuts = ap (λ (z : Shutting). z.serving.seated) shuts
 
-pub begins_stands : (leaf : Leaf) (x : Shutting) (base : Tables) (m : Meaning) → Shuts leaf x → Stands base leaf m → Stands base (IsPreparing x) m
+pub begins_stands : (leaf : Leaf) (x : Shutting) (base : NamedStates) (m : Meaning) → BeginsShutting leaf x → Stands base leaf m → Stands base (IsPreparing x) m
 begins_stands (IsDown y) x base m shuts stands = absurd shuts
 begins_stands (IsUp s) x base m shuts stands = subst (λ (z : Shutting). Stands base (IsPreparing z) m) (sym shuts) stands
 begins_stands (IsPreparing y) x base m shuts stands = subst (λ (z : Shutting). Stands base (IsPreparing z) m) (sym shuts) stands
 
-begins_founded : (leaf : Leaf) (x : Shutting) → Shuts leaf x → AreFounded (seated_of leaf) → AreFounded x.serving.seated
+begins_founded : (leaf : Leaf) (x : Shutting) → BeginsShutting leaf x → AreFounded (seated_of leaf) → AreFounded x.serving.seated
 begins_founded leaf x shuts founded = subst AreFounded (sym (begins_seated leaf x shuts)) founded
 
-begins_carries : (leaf : Leaf) (x : Shutting) (leaf' : Leaf) (notes : List Note) (m m' : Meaning) → Shuts leaf x → Carries (IsPreparing x) leaf' notes m m' → Carries leaf leaf' notes m m'
+begins_carries : (leaf : Leaf) (x : Shutting) (leaf' : Leaf) (notes : List Note) (m m' : Meaning) → BeginsShutting leaf x → Carries (IsPreparing x) leaf' notes m m' → Carries leaf leaf' notes m m'
 begins_carries (IsDown y) x leaf' notes m m' shuts carries = absurd shuts
 begins_carries (IsUp s) x leaf' notes m m' shuts carries =
     let here : Carries (IsPreparing (begins s)) leaf' notes m m' = subst (λ (z : Shutting). Carries (IsPreparing z) leaf' notes m m') shuts carries in
@@ -54,12 +54,12 @@ begins_carries (IsPreparing y) x leaf' notes m m' shuts carries = subst (λ (z :
 -- ---- all tables are treated, and then they are copied
 
 module _ (x : Shutting) (m n o : Meaning) (leaf : Leaf) (stop left : Option ℕ) (treating notes : List Note) (c : Copying) (z : Seated) (ends : Ending)
-    (shuts : Shuts leaf x) (ready : IsReady x m stop treating c n left) (passes : Passes m n) where
+    (shuts : BeginsShutting leaf x) (ready : IsCopyReady x m stop treating c n left) (passes : Passes m n) where
   copy_tables : c.seated.tables ≡ x.serving.seated.tables
   copy_tables = makes_tables m.clock n.clock x.serving.seated treating c.seated ready.carries.made
 
   -- the copy stands, of a leaf that stood
-  copy_stands : (base : Tables) → IsTrue m.tells → AreFounded (seated_of leaf) → Stands base leaf m → IsTrue n.tells × AreFounded c.seated × CopyStands c n
+  copy_stands : (base : NamedStates) → IsTrue m.tells → AreFounded (seated_of leaf) → Stands base leaf m → IsTrue n.tells × AreFounded c.seated × CopyStands c n
   copy_stands base tells founded stands =
       let was : AreFounded x.serving.seated = begins_founded leaf x shuts founded in
       (passes.tells ∙ tells, founded_on x.serving.seated c.seated copy_tables was, (ready.carries.stands base tells was (begins_stands leaf x base m shuts stands)).0)
@@ -102,13 +102,13 @@ module _ (x : Shutting) (m n o : Meaning) (leaf : Leaf) (stop left : Option ℕ)
 
 -- ---- what a drain does
 
-module _ {B E : Type 0} (meaning : B → Meaning) (x : Shutting) (m : Meaning) (leaf : Leaf) (stop left : Option ℕ) (before : Result (Vec Line Global) E) (shuts : Shuts leaf x) where
+module _ {B E : Type 0} (meaning : B → Meaning) (x : Shutting) (m : Meaning) (leaf : Leaf) (stop left : Option ℕ) (before : Result (Vec Line Global) E) (shuts : BeginsShutting leaf x) where
   -- all tables were copied, or the region failed, or no step was left for the copy
   pub drain_copied : (o : Meaning) (copy : Copying × B) (z : Seated) (ends : Ending) (after : Result (Vec Line Global) E) (notes : List Note)
       → move.Shuts meaning x m stop (how.Ready copy) left before → Passes m (meaning copy.1)
       → CopyEnds copy.0 left (meaning copy.1) o notes ends z → CopyRests copy.0 z notes (meaning copy.1) o
       → IfOk after (λ lines. AreAdded before notes lines.items)
-      → Drains m o leaf stop ends after (IsDown z)
+      → DrainsWithLines m o leaf stop ends after (IsDown z)
   drain_copied o copy z ends after notes shut passes copied rests added = record {
     notes = shut.notes ++ notes;
     moves = copy_moves x m (meaning copy.1) o leaf stop left shut.notes notes copy.0 z ends shuts shut.ends passes rests copied;
@@ -121,7 +121,7 @@ module _ {B E : Type 0} (meaning : B → Meaning) (x : Shutting) (m : Meaning) (
   pub drain_stopped : (y : Shutting × B) (z : Seated) (after : Result (Vec Line Global) E) (closing : List Note)
       → move.Shuts meaning x m stop (how.Stopped y) left before → IsKilled y.0 z closing (meaning y.1) (meaning y.1)
       → IfOk after (λ lines. AreAdded before closing lines.items)
-      → Drains m (meaning y.1) leaf stop ending.Stopped after (IsDown z)
+      → DrainsWithLines m (meaning y.1) leaf stop ending.Stopped after (IsDown z)
   drain_stopped y z after closing shut killed added = record {
     notes = shut.notes ++ closing;
     moves =
@@ -135,7 +135,7 @@ module _ {B E : Type 0} (meaning : B → Meaning) (x : Shutting) (m : Meaning) (
   }
 
   -- the disk failed
-  pub drain_halted : (half : Shutting × B) → move.Shuts meaning x m stop (how.Halted half) left before → Drains m (meaning half.1) leaf stop ending.FaultDisk before (IsPreparing half.0)
+  pub drain_halted : (half : Shutting × B) → move.Shuts meaning x m stop (how.Halted half) left before → DrainsWithLines m (meaning half.1) leaf stop ending.FaultDisk before (IsPreparing half.0)
   drain_halted half shut = record {
     notes = shut.notes;
     moves = step.halted x shut.ends.half half.0 shut.ends.treating shut.ends.halting shut.ends.made shuts shut.ends.count shut.ends.may shut.ends.treats shut.ends.more
@@ -145,7 +145,7 @@ module _ {B E : Type 0} (meaning : B → Meaning) (x : Shutting) (m : Meaning) (
   }
 
   -- there was no memory for a table's content, or for the copy
-  pub drain_starved : (half : Shutting × B) → move.Shuts meaning x m stop (how.Starved half) left before → Drains m (meaning half.1) leaf stop ending.FaultMemory before (IsPreparing half.0)
+  pub drain_starved : (half : Shutting × B) → move.Shuts meaning x m stop (how.Starved half) left before → DrainsWithLines m (meaning half.1) leaf stop ending.FaultMemory before (IsPreparing half.0)
   drain_starved half shut = record {
     notes = shut.notes;
     moves = step.starved x shut.ends.half half.0 shut.ends.treating shut.ends.starving shut.ends.made shuts shut.ends.count shut.ends.may shut.ends.treats shut.ends.starves
@@ -155,7 +155,7 @@ module _ {B E : Type 0} (meaning : B → Meaning) (x : Shutting) (m : Meaning) (
   }
 
   -- the copy has no room
-  pub drain_roomless : (whole : Shutting × B) → move.Shuts meaning x m stop (how.Roomless whole) left before → Drains m (meaning whole.1) leaf stop ending.FaultRoom before (IsPreparing whole.0)
+  pub drain_roomless : (whole : Shutting × B) → move.Shuts meaning x m stop (how.Roomless whole) left before → DrainsWithLines m (meaning whole.1) leaf stop ending.FaultRoom before (IsPreparing whole.0)
   drain_roomless whole shut = record {
     notes = shut.notes;
     moves = step.roomless x whole.0 shut.ends.tables shuts shut.ends.count shut.ends.may shut.ends.treats shut.ends.all shut.ends.region refl refl;
@@ -165,5 +165,5 @@ module _ {B E : Type 0} (meaning : B → Meaning) (x : Shutting) (m : Meaning) (
 
 -- the steward's seats stay at their tables
 pub drain_keeps : {E : Type 0} (m m' : Meaning) (leaf : Leaf) (stop : Option ℕ) (ends : Ending) (lines : Result (Vec Line Global) E) (leaf' : Leaf)
-    → Drains m m' leaf stop ends lines leaf' → Keeps (seated_of leaf) (seated_of leaf')
+    → DrainsWithLines m m' leaf stop ends lines leaf' → KeepsSeats (seated_of leaf) (seated_of leaf')
 drain_keeps m m' leaf stop ends lines leaf' drains = makes_keeps m.clock m'.clock (seated_of leaf) drains.notes (seated_of leaf') drains.carries.made

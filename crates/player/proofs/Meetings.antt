@@ -7,8 +7,8 @@ use Rattle.berth_face.specs.Berth.{Meaning}
 use Rattle.leaf_history.specs.History.{LegalFrom}
 use Rattle.turnstile.specs.Seats.{IsSeatOf, LearnsOthers, Told}
 use Rattle.leaf_table.specs.Turns.{Shared, is_founded, start_of}
-use Rattle.leaf_table.specs.Calls.{SeatView, base_of, seen_of}
-use Rattle.crash_events.specs.Left.{Tables}
+use Rattle.leaf_table.specs.Calls.{SeatView, base_seen, seen_of}
+use Rattle.crash_events.specs.Left.{NamedStates}
 use Rattle.crash_states.specs.Standing.{Rests, Runs}
 use Rattle.leaf_steward.specs.Seated.{Seated, AreFounded, AtPlace, watched_by, with_seat}
 use Rattle.leaf_machine.specs.States.{Serving, Shutting}
@@ -20,11 +20,11 @@ use Rattle.player.specs.Stage.{state_of, berth_of, seats_of}
 
 -- what a seat brings to a meeting
 abbrev pub IsLegalSeat : SeatView → Shared → Type 0
-IsLegalSeat c t = IsSeatOf c t.site × LegalFrom (is_founded (base_of t)) (start_of (base_of t)) (seen_of c)
+IsLegalSeat c t = IsSeatOf c t.site × LegalFrom (is_founded (base_seen t)) (start_of (base_seen t)) (seen_of c)
 
 -- it has seen a legal history
 abbrev pub IsLegal : Shared → SeatView → Type 0
-IsLegal t w = LegalFrom (is_founded (base_of t)) (start_of (base_of t)) (seen_of w)
+IsLegal t w = LegalFrom (is_founded (base_seen t)) (start_of (base_seen t)) (seen_of w)
 
 -- some table and some seat are in that place
 pub record IsThere (x : Seated) (table : ℕ) : Type 0 where
@@ -44,12 +44,12 @@ module _ {B : Type 0} (meaning : B → Meaning) where
   pub record LeafMet (self then : OneLeaf B) (table : ℕ) (c : SeatView) : Type 0 where
     pub learns : AtPlace (λ t v. (w : SeatView) × (state_of then ≡ with_seats (state_of self) (slice_set (seats_of self).seats table w)) × Told v c w × LearnsOthers v w) (seats_of self) table
     pub berth : berth_of then ≡ berth_of self
-    pub stands : (base : Tables) → AreFounded (seats_of self) → Stands base (state_of self) (meaning (berth_of self)) → Stands base (state_of then) (meaning (berth_of then))
+    pub stands : (base : NamedStates) → AreFounded (seats_of self) → Stands base (state_of self) (meaning (berth_of self)) → Stands base (state_of then) (meaning (berth_of then))
 
   pub down_met : (self then : OneLeaf B) (x y : Seated × B) (table : ℕ) (c : SeatView) → self ≡ one.Down x → then ≡ one.Down y
       → table < length (seats_of self).tables → length (seats_of self).seats ≡ length (seats_of self).tables
       → AtPlace (λ t v. (w : SeatView) × (y ≡ (with_seat x.0 table w, x.1)) × Told v c w × LearnsOthers v w × IsLegal t w) x.0 table
-      → ((others : Tables) (least : List ℕ → List Write) (next : Option LogRecord) → AreFounded x.0 → Rests (watched_by x.0) others least next (meaning x.1)
+      → ((others : NamedStates) (least : List ℕ → List Write) (next : Option LogRecord) → AreFounded x.0 → Rests (watched_by x.0) others least next (meaning x.1)
       → Rests (watched_by y.0) others least next (meaning y.1))
       → LeafMet self then table c
   down_met self then x y table c was is within count learns rests =
@@ -114,7 +114,7 @@ at_place P self other table is at = subst (λ (l : OneLeaf _). AtPlace P (seats_
 
 -- the caller's seat behind a meeting
 abbrev pub IsMetSeat : SeatView → SeatView → Shared → SeatView → Type 0
-IsMetSeat c c' t v = IsSeatOf c' t.site × Told c v c' × LearnsOthers c c' × LegalFrom (is_founded (base_of t)) (start_of (base_of t)) (seen_of c')
+IsMetSeat c c' t v = IsSeatOf c' t.site × Told c v c' × LearnsOthers c c' × LegalFrom (is_founded (base_seen t)) (start_of (base_seen t)) (seen_of c')
 
 pub met_seat : {B : Type 0} (self other : OneLeaf B) (table : ℕ) (c c' now : SeatView) → self ≡ other → now ≡ c' → AtPlace (IsMetSeat c c') (seats_of other) table → AtPlace (IsMetSeat c now) (seats_of self) table
 met_seat self other table c c' now is same at = at_place (IsMetSeat c now) other self table (sym is) (subst (λ (d : SeatView). AtPlace (IsMetSeat c d) (seats_of other) table) (sym same) at)

@@ -4,12 +4,12 @@ use Rattle.std.specs.Prelude.{slice_get, slice_set}
 use Rattle.std.proofs.lemmas.Bool.{cases_eq}
 use Rattle.std.proofs.lemmas.Option.{slice_get_within}
 use Rattle.berth_face.specs.Berth.{Meaning}
-use Rattle.crash_events.specs.Left.{Tables}
+use Rattle.crash_events.specs.Left.{NamedStates}
 use Rattle.leaf_table.specs.Calls.{SeatView}
 use Rattle.leaf_steward.specs.Seated.{Seated, AreFounded}
 use Rattle.leaf_steward.proofs.Seating.{same_at, set_either, set_other}
 use Rattle.transcript.specs.Stage.{Leaf, IsDown, IsUp, IsPreparing, Stands, Meets, MeetAll, seated_of, seated_with, with_seats}
-use Rattle.player.specs.Stage.{Keeps}
+use Rattle.player.specs.Stage.{KeepsSeats}
 use Rattle.player.specs.Moves.{MeetFirst, MeetsAt}
 use Rattle.player.proofs.Carrying.{founded_on}
 
@@ -25,11 +25,11 @@ seats_again (IsDown x) first last = refl
 seats_again (IsUp x) first last = refl
 seats_again (IsPreparing x) first last = refl
 
-seats_keep : (leaf leaf' : Leaf) (seats : List SeatView) → leaf' ≡ with_seats leaf seats → length seats ≡ length (seated_of leaf).seats → Keeps (seated_of leaf) (seated_of leaf')
-seats_keep leaf leaf' seats is count = subst (Keeps (seated_of leaf)) (sym (ap seated_of is ∙ seats_become leaf seats)) (record { names = refl; tables = refl; seats = count })
+seats_keep : (leaf leaf' : Leaf) (seats : List SeatView) → leaf' ≡ with_seats leaf seats → length seats ≡ length (seated_of leaf).seats → KeepsSeats (seated_of leaf) (seated_of leaf')
+seats_keep leaf leaf' seats is count = subst (KeepsSeats (seated_of leaf)) (sym (ap seated_of is ∙ seats_become leaf seats)) (record { names = refl; tables = refl; seats = count })
 
 -- a meeting keeps the seats at their tables
-pub meets_keep : (table : ℕ) (leaf : Leaf) (callers : List SeatView) (leaf' : Leaf) (callers' : List SeatView) → MeetsAt table leaf callers leaf' callers' → Keeps (seated_of leaf) (seated_of leaf')
+pub meets_keep : (table : ℕ) (leaf : Leaf) (callers : List SeatView) (leaf' : Leaf) (callers' : List SeatView) → MeetsAt table leaf callers leaf' callers' → KeepsSeats (seated_of leaf) (seated_of leaf')
 meets_keep table leaf callers leaf' callers' at =
     seats_keep leaf leaf' (slice_set (seated_of leaf).seats table at.steward_then) at.leaf_is (length-set (seated_of leaf).seats table at.steward_then)
 
@@ -80,7 +80,7 @@ module _ (k : ℕ) (leaf between leaf' : Leaf) (xs ys zs : List SeatView) (m : M
           first.met place v c v' c' (omega (arith, below, apart)) was called (sym still.0 ∙ is) (sym still.1 ∙ called_now)
 
   -- one pair more has met
-  pub meet_more : ((base : Tables) → AreFounded (seated_of between) → Stands base between m → Stands base leaf' m) → MeetFirst (k + 1) leaf xs leaf' zs m
+  pub meet_more : ((base : NamedStates) → AreFounded (seated_of between) → Stands base between m → Stands base leaf' m) → MeetFirst (k + 1) leaf xs leaf' zs m
   meet_more stands = record {
     seats = seats_now;
     leaf_is = now;

@@ -5,10 +5,10 @@ use Rattle.std.specs.Global.{Global}
 use Rattle.leaf_model.specs.declared.writes.Write.{Write}
 use Rattle.row_records.specs.Records.{LogRecord}
 use Rattle.berth_face.specs.Berth.{Meaning}
-use Rattle.disk_backup.specs.Scanning.{Begins}
+use Rattle.disk_backup.specs.Scanning.{BeginsScan}
 use Rattle.leaf_opening.specs.declared.ways.Way.{Way}
 use Rattle.leaf_opening.specs.Starts.{IsWayOf}
-use Rattle.crash_events.specs.Left.{Tables}
+use Rattle.crash_events.specs.Left.{NamedStates}
 use Rattle.crash_states.specs.Standing.{Rests, Runs}
 use Rattle.leaf_steward.specs.declared.notes.Note.{Note}
 use Rattle.leaf_steward.specs.Seated.{Seated, AreFounded, watched_by}
@@ -16,8 +16,8 @@ use Rattle.leaf_steward.specs.Making.{Makes, EachNoted, IsClosedNote}
 use Rattle.leaf_machine.specs.declared.faults.StartFault.{StartFault}
 use Rattle.leaf_machine.specs.declared.faults.StartFault.TheVariants as fault
 use Rattle.leaf_machine.specs.declared.up.FlushReply.{FlushReply}
-use Rattle.leaf_machine.specs.States.{Serving, Shutting, GoesOn, RestsOn, RunsOn}
-use Rattle.leaf_machine.specs.Starts.{Came, IsStart, StartGoesOn}
+use Rattle.leaf_machine.specs.States.{Serving, Shutting, GoesOn, RestsOn, GoesOnServing}
+use Rattle.leaf_machine.specs.Starts.{CameUp, IsStart, StartGoesOn}
 use Rattle.leaf_machine.specs.Flushes.{Flushes}
 use Rattle.printed_lines.specs.declared.line.Ending.TheVariants as ending
 use Rattle.printed_lines.specs.declared.line.Line.{Line}
@@ -25,8 +25,8 @@ use Rattle.transcript.specs.Stage.{Leaf, IsDown, IsUp, IsPreparing, Stands, Carr
 use Rattle.transcript.specs.Steps.{StartMoves, FlushMoves, KillMoves, DrainMoves, IsWornFor, ending_of, ending_of_flush}
 use Rattle.player.specs.declared.leaf.OneLeaf.{OneLeaf}
 use Rattle.player.specs.declared.leaf.OneLeaf.TheVariants as one
-use Rattle.player.specs.Stage.{Keeps, state_of, berth_of, seats_of}
-use Rattle.player.specs.Moves.{Drains}
+use Rattle.player.specs.Stage.{KeepsSeats, state_of, berth_of, seats_of}
+use Rattle.player.specs.Moves.{DrainsWithLines}
 use Rattle.player.proofs.Carrying.{carries_none, makes_keeps}
 
 -- ---- what stands behind the entries
@@ -37,13 +37,13 @@ pub runs_carried : (x y : Serving) (notes : List Note) (m m' : Meaning) → Make
 runs_carried x y notes m m' made crash = record {
   made = made;
   stands = λ base tells founded sound stands.
-      let on : RunsOn x y m m' = crash tells founded stands.0 stands.1 in
+      let on : GoesOnServing x y m m' = crash tells founded stands.0 stands.1 in
       record { stands = (on.later, on.runs); told = on.told base };
 }
 
 -- a leaf comes to rest
 pub rests_carried : (leaf : Leaf) (y : Seated) (notes : List Note) (m m' : Meaning) → Makes m.clock m'.clock (seated_of leaf) notes y
-    → ((base : Tables) → AreFounded (seated_of leaf) → Stands base leaf m → RestsOn (seated_of leaf) y m m') → Carries leaf (IsDown y) notes m m'
+    → ((base : NamedStates) → AreFounded (seated_of leaf) → Stands base leaf m → RestsOn (seated_of leaf) y m m') → Carries leaf (IsDown y) notes m m'
 rests_carried leaf y notes m m' made crash = record {
   made = made;
   stands = λ base tells founded sound stands.
@@ -78,7 +78,7 @@ module _ {B : Type 0} (meaning : B → Meaning) where
 
   pub start_opens : (self : OneLeaf B) (x : Seated × B) (s : Serving × B) (way : Way) (notes : List Note) → self ≡ one.Down x
       → IsStart x.0 x.1 notes (Ok (s, way))
-      → (IsTrue (meaning x.1).tells → Came x.0.names (meaning x.1) (meaning s.1) notes s.0 way)
+      → (IsTrue (meaning x.1).tells → CameUp x.0.names (meaning x.1) (meaning s.1) notes s.0 way)
       → (IsTrue (meaning x.1).tells → IsWayOf (meaning x.1).held.region way)
       → StartMoves (meaning (berth_of self)) (meaning s.1) (state_of self) notes (ending.Started way) (IsUp s.0)
   start_opens self x s way notes is start came found =
@@ -87,7 +87,7 @@ module _ {B : Type 0} (meaning : B → Meaning) where
 
   pub start_carries : (self : OneLeaf B) (x : Seated × B) (s : Serving × B) (way : Way) (notes : List Note) → self ≡ one.Down x
       → Makes (meaning x.1).clock (meaning s.1).clock x.0 notes s.0.seated
-      → ((others : Tables) (least : List ℕ → List Write) (next : Option LogRecord) → IsTrue (meaning x.1).tells → AreFounded x.0 → Rests (watched_by x.0) others least next (meaning x.1)
+      → ((others : NamedStates) (least : List ℕ → List Write) (next : Option LogRecord) → IsTrue (meaning x.1).tells → AreFounded x.0 → Rests (watched_by x.0) others least next (meaning x.1)
       → StartGoesOn meaning x.0 (meaning x.1) others least next (Ok (s, way)))
       → Carries (state_of self) (IsUp s.0) notes (meaning (berth_of self)) (meaning s.1)
   start_carries self x s way notes is made crash =
@@ -100,8 +100,8 @@ module _ {B : Type 0} (meaning : B → Meaning) where
 
   pub start_refused : (self : OneLeaf B) (x y : Seated × B) (f : StartFault) (notes : List Note) (ends : ending.the_data) → self ≡ one.Down x
       → IsStart x.0 x.1 notes (Err (y, f))
-      → (IsTrue (meaning x.1).tells → Begins (length (meaning x.1).held.disk) (meaning x.1).held.disk (meaning y.1).held.disk)
-      → ((others : Tables) (least : List ℕ → List Write) (next : Option LogRecord) → IsTrue (meaning x.1).tells → AreFounded x.0 → Rests (watched_by x.0) others least next (meaning x.1)
+      → (IsTrue (meaning x.1).tells → BeginsScan (length (meaning x.1).held.disk) (meaning x.1).held.disk (meaning y.1).held.disk)
+      → ((others : NamedStates) (least : List ℕ → List Write) (next : Option LogRecord) → IsTrue (meaning x.1).tells → AreFounded x.0 → Rests (watched_by x.0) others least next (meaning x.1)
       → StartGoesOn meaning x.0 (meaning x.1) others least next (Err (y, f)))
       → ends ≡ ending_of f
       → StartMoves (meaning (berth_of self)) (meaning y.1) (state_of self) notes ends (IsDown y.0)
@@ -112,7 +112,7 @@ module _ {B : Type 0} (meaning : B → Meaning) where
 
   pub refusal_carries : (self : OneLeaf B) (x y : Seated × B) (f : StartFault) (notes : List Note) → self ≡ one.Down x
       → Makes (meaning x.1).clock (meaning y.1).clock x.0 notes y.0
-      → ((others : Tables) (least : List ℕ → List Write) (next : Option LogRecord) → IsTrue (meaning x.1).tells → AreFounded x.0 → Rests (watched_by x.0) others least next (meaning x.1)
+      → ((others : NamedStates) (least : List ℕ → List Write) (next : Option LogRecord) → IsTrue (meaning x.1).tells → AreFounded x.0 → Rests (watched_by x.0) others least next (meaning x.1)
       → StartGoesOn meaning x.0 (meaning x.1) others least next (Err (y, f)))
       → Carries (state_of self) (IsDown y.0) notes (meaning (berth_of self)) (meaning y.1)
   refusal_carries self x y f notes is made crash =
@@ -184,9 +184,9 @@ module _ {B : Type 0} (meaning : B → Meaning) where
   -- ---- a drain of a leaf that is down
 
   pub drain_not_up : {E : Type 0} (self : OneLeaf B) (x : Seated × B) (stop : Option ℕ) (lines : Vec Line Global) → self ≡ one.Down x → lines.items ≡ []
-      → Drains {E = E} (meaning (berth_of self)) (meaning x.1) (state_of self) stop ending.NotUp (Ok lines) (IsDown x.0)
+      → DrainsWithLines {E = E} (meaning (berth_of self)) (meaning x.1) (state_of self) stop ending.NotUp (Ok lines) (IsDown x.0)
   drain_not_up {E} self x stop lines is none =
-      subst (λ (l : OneLeaf B). Drains {E = E} (meaning (berth_of l)) (meaning x.1) (state_of l) stop ending.NotUp (Ok lines) (IsDown x.0)) (sym is) (record {
+      subst (λ (l : OneLeaf B). DrainsWithLines {E = E} (meaning (berth_of l)) (meaning x.1) (state_of l) stop ending.NotUp (Ok lines) (IsDown x.0)) (sym is) (record {
         notes = [];
         moves = DrainMoves.not_up tt refl refl refl refl;
         carries = carries_none (IsDown x.0) (meaning x.1);
@@ -195,5 +195,5 @@ module _ {B : Type 0} (meaning : B → Meaning) where
 
 -- ---- its tables stay
 
-pub leaf_keeps : {B : Type 0} (self other : OneLeaf B) (from to : ℕ) (notes : List Note) (y : Seated) → self ≡ other → Makes from to (seats_of other) notes y → Keeps (seats_of self) y
-leaf_keeps self other from to notes y is made = subst (λ (l : OneLeaf _). Keeps (seats_of l) y) (sym is) (makes_keeps from to (seats_of other) notes y made)
+pub leaf_keeps : {B : Type 0} (self other : OneLeaf B) (from to : ℕ) (notes : List Note) (y : Seated) → self ≡ other → Makes from to (seats_of other) notes y → KeepsSeats (seats_of self) y
+leaf_keeps self other from to notes y is made = subst (λ (l : OneLeaf _). KeepsSeats (seats_of l) y) (sym is) (makes_keeps from to (seats_of other) notes y made)

@@ -8,7 +8,7 @@ use Rattle.leaf_model.specs.declared.rows.Cell.{Cell}
 use Rattle.leaf_model.specs.Values.{IsTime, IsRow}
 use Rattle.region_layout.specs.Names.{AreNames}
 use Rattle.leaf_table.specs.Turns.{Shared, is_founded}
-use Rattle.leaf_table.specs.Calls.{SeatView, base_of, name_of}
+use Rattle.leaf_table.specs.Calls.{SeatView, base_seen, name_of}
 use Rattle.leaf_table.specs.Lists.{row}
 use Rattle.leaf_table.specs.Fleet.{IsAt, IsNewFleet}
 use Rattle.leaf_steward.specs.Seated.{AtEach, IsUnused}
@@ -50,9 +50,9 @@ one_named (s ∷ []) (n ∷ []) t name one two at named is = ap (λ (x : List �
 one_named (s ∷ []) (n ∷ m ∷ ms) t name one two at named is = absurd (omega (arith, two))
 one_named (s ∷ r ∷ rs) (n ∷ ns) t name one two at named is = absurd (omega (arith, one))
 
-one_plain : (tables : List Shared) (t : Shared) → length tables ≡ 1 → slice_get tables 0 ≡ Some t → base_of t ≡ None → AllByRecursion (λ (s : Shared). is_founded (base_of s) ≡ false) tables
+one_plain : (tables : List Shared) (t : Shared) → length tables ≡ 1 → slice_get tables 0 ≡ Some t → base_seen t ≡ None → AllByRecursion (λ (s : Shared). is_founded (base_seen s) ≡ false) tables
 one_plain [] t one at is = tt
-one_plain (s ∷ []) t one at is = (ap is_founded (ap base_of (same_Some s t at) ∙ is), tt)
+one_plain (s ∷ []) t one at is = (ap is_founded (ap base_seen (same_Some s t at) ∙ is), tt)
 one_plain (s ∷ r ∷ rs) t one at is = absurd (omega (arith, one))
 
 module _ (names : List (List ℕ)) (tables : List (List Shared)) (stewards callers : List (List SeatView)) (new : IsNewFleet (λ leaf table. None) 1 names 65536 tables stewards callers)
@@ -103,7 +103,7 @@ true_false : true ≡ false → ⊥
 true_false same = absurd cc
 
 -- some table is not founded, and so not all of them are
-pub none_founded : (tables : List Shared) → 0 < length tables → AllByRecursion (λ (t : Shared). is_founded (base_of t) ≡ false) tables
-    → AllByRecursion (λ (t : Shared). is_founded (base_of t) ≡ true) tables → ⊥
+pub none_founded : (tables : List Shared) → 0 < length tables → AllByRecursion (λ (t : Shared). is_founded (base_seen t) ≡ false) tables
+    → AllByRecursion (λ (t : Shared). is_founded (base_seen t) ≡ true) tables → ⊥
 none_founded [] some plain founded = omega (arith, some)
 none_founded (t ∷ ts) some plain founded = true_false (sym founded.0 ∙ plain.0)

@@ -10,7 +10,7 @@ use Rattle.leaf_steward.specs.declared.notes.Note.{Note}
 use Rattle.leaf_steward.specs.Seated.{AreFounded, watched_by}
 use Rattle.leaf_steward.specs.Making.{Makes}
 use Rattle.leaf_steward.proofs.WatchMakes.{makes_tables}
-use Rattle.leaf_machine.specs.States.{Serving, Shutting, GoesOn, RunsOn, treated}
+use Rattle.leaf_machine.specs.States.{Serving, Shutting, GoesOn, GoesOnServing, treated}
 use Rattle.leaf_machine.specs.Prepares as prepare
 use Rattle.leaf_machine.specs.Prepares.{Treats}
 use Rattle.leaf_machine.proofs.UpMaking.{makes_join}
@@ -58,8 +58,8 @@ one_treated x y notes some (prepare.rest half noted closed shut none) =
 
 pub goes_join : (s t u : Serving) (a b c : Meaning) → GoesOn s t a b → GoesOn t u b c → GoesOn s u a c
 goes_join s t u a b c first second writes runs =
-    let one : RunsOn s t a b = first writes runs in
-    let two : RunsOn t u b c = second one.later one.runs in
+    let one : GoesOnServing s t a b = first writes runs in
+    let two : GoesOnServing t u b c = second one.later one.runs in
     record {
       later = two.later;
       runs = two.runs;
@@ -105,6 +105,6 @@ module _ (x y : Shutting) (first : List Note) (a b : Meaning) (far : GoesFar x y
   far_carries = record {
     made = far.made;
     stands = λ base tells founded sound stands.
-        let on : RunsOn x.serving y.serving a b = far.goes tells founded stands.0 stands.1 in
+        let on : GoesOnServing x.serving y.serving a b = far.goes tells founded stands.0 stands.1 in
         record { stands = (on.later, on.runs); told = on.told base };
   }

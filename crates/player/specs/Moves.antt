@@ -10,7 +10,7 @@ use Rattle.drain_copy.specs.declared.step.Next.TheVariants as next
 use Rattle.drain_copy.specs.Draining.{StandsAt}
 use Rattle.leaf_opening.specs.declared.ways.Way.TheVariants.{Memory}
 use Rattle.leaf_opening.specs.Starts.{IsWayOf}
-use Rattle.crash_events.specs.Left.{Tables}
+use Rattle.crash_events.specs.Left.{NamedStates}
 use Rattle.crash_moments.specs.Told as moments
 use Rattle.crash_states.specs.Standing.{Copies}
 use Rattle.leaf_table.specs.Calls.{SeatView}
@@ -102,7 +102,7 @@ pub record MeetFirst (k : ℕ) (leaf : Leaf) (callers : List SeatView) (leaf' : 
       → slice_get seats place ≡ Some v' → slice_get callers' place ≡ Some c'
       → Meets v c v' c'
   pub others : (place : ℕ) → k ≤ place → (slice_get seats place ≡ slice_get (seated_of leaf).seats place) × (slice_get callers' place ≡ slice_get callers place)
-  pub stands : (base : Tables) → IsTrue m.tells → AreFounded (seated_of leaf) → Stands base leaf m → Stands base leaf' m
+  pub stands : (base : NamedStates) → IsTrue m.tells → AreFounded (seated_of leaf) → Stands base leaf m → Stands base leaf' m
 
 -- ---- drains
 
@@ -113,13 +113,13 @@ CopyStands c m = (writes : List ℕ → List Write) × Copies (watched_by c.seat
 -- the steward makes entries with these notes, and the leaf comes to copy its tables
 pub record CarriesCopy (x : Shutting) (c : Copying) (notes : List Note) (m m' : Meaning) : Type 0 where
   pub made : Makes m.clock m'.clock x.serving.seated notes c.seated
-  pub stands : (base : Tables) → IsTrue m.tells → AreFounded x.serving.seated → Stands base (IsPreparing x) m
+  pub stands : (base : NamedStates) → IsTrue m.tells → AreFounded x.serving.seated → Stands base (IsPreparing x) m
       → CopyStands c m' × moments.Told base (watched_by x.serving.seated) (watched_by c.seated) m m'
 
 -- a leaf that copied its tables comes to rest
 pub record CopyRests (c : Copying) (y : Seated) (notes : List Note) (m m' : Meaning) : Type 0 where
   pub made : Makes m.clock m'.clock c.seated notes y
-  pub stands : (base : Tables) → IsTrue m.tells → AreFounded c.seated → stage.AreSound base → CopyStands c m
+  pub stands : (base : NamedStates) → IsTrue m.tells → AreFounded c.seated → stage.AreSound base → CopyStands c m
       → Stands base (IsDown y) m' × moments.Told base (watched_by c.seated) (watched_by y) m m'
 
 -- the region is as it was
@@ -127,7 +127,7 @@ abbrev pub SameRegion : Meaning → Meaning → Type 0
 SameRegion m m' = IsTrue m.tells → m'.held.region ≡ m.held.region
 
 -- all tables that were left were treated, by these notes, and the copy of them is planned, with a step each and one for the plan
-pub record IsReady (x : Shutting) (m : Meaning) (stop : Option ℕ) (notes : List Note) (c : Copying) (m' : Meaning) (left : Option ℕ) : Type 0 where
+pub record IsCopyReady (x : Shutting) (m : Meaning) (stop : Option ℕ) (notes : List Note) (c : Copying) (m' : Meaning) (left : Option ℕ) : Type 0 where
   pub whole : Shutting
   pub tables : ℕ
   pub count : treated x + tables ≡ length x.serving.seated.tables
@@ -189,7 +189,7 @@ pub record IsRoomless (x : Shutting) (m : Meaning) (stop : Option ℕ) (notes : 
 
 -- how the shutting of a leaf's tables ends, and how many steps are left then
 abbrev pub ShutEnds : {B : Type 0} → (B → Meaning) → Shutting → Meaning → Option ℕ → List Note → Shut B → Option ℕ → Type 0
-ShutEnds meaning x m stop notes (shut.Ready leaf) left = IsReady x m stop notes leaf.0 (meaning leaf.1) left
+ShutEnds meaning x m stop notes (shut.Ready leaf) left = IsCopyReady x m stop notes leaf.0 (meaning leaf.1) left
 ShutEnds meaning x m stop notes (shut.Stopped leaf) left = IsStopped x m stop notes leaf.0 (meaning leaf.1)
 ShutEnds meaning x m stop notes (shut.Halted leaf) left = IsHalted x m stop notes leaf.0 (meaning leaf.1)
 ShutEnds meaning x m stop notes (shut.Starved leaf) left = IsStarved x m stop notes leaf.0 (meaning leaf.1)
@@ -212,7 +212,7 @@ RoseShut before now (shut.Starved leaf) = ⊤
 RoseShut before now (shut.Roomless leaf) = ⊤
 
 -- tables were shut, with these lines, and how that ended
-pub record Shuts {B E : Type 0} (meaning : B → Meaning) (x : Shutting) (m : Meaning) (stop : Option ℕ)
+pub record ShutsTables {B E : Type 0} (meaning : B → Meaning) (x : Shutting) (m : Meaning) (stop : Option ℕ)
     (result : Shut B) (left : Option ℕ) (lines : Result (Vec Line Global) E) : Type 0 where
   pub notes : List Note
   pub ends : ShutEnds meaning x m stop notes result left
@@ -248,7 +248,7 @@ pub record IsKilled (x : Shutting) (y : Seated) (notes : List Note) (m m' : Mean
   pub carries : Carries (IsPreparing x) (IsDown y) notes m m'
 
 -- what a drain does to a leaf, with the lines of its notes
-pub record Drains {E : Type 0} (m m' : Meaning) (leaf : Leaf) (stop : Option ℕ) (ends : Ending) (lines : Result (Vec Line Global) E) (leaf' : Leaf) : Type 0 where
+pub record DrainsWithLines {E : Type 0} (m m' : Meaning) (leaf : Leaf) (stop : Option ℕ) (ends : Ending) (lines : Result (Vec Line Global) E) (leaf' : Leaf) : Type 0 where
   pub notes : List Note
   pub moves : DrainMoves m m' leaf stop notes ends leaf'
   pub carries : Carries leaf leaf' notes m m'

@@ -8,7 +8,7 @@ use Rattle.turnstile.specs.Seats.{IsSeatOf, unused_seat}
 use Rattle.leaf_table.specs.declared.replies.Reply.{Reply}
 use Rattle.leaf_table.specs.declared.replies.Reply.TheVariants as told
 use Rattle.leaf_table.specs.Turns.{Shared, is_founded, start_of}
-use Rattle.leaf_table.specs.Calls.{SeatView, Answered, IsCaller, base_of, name_of, seen_of}
+use Rattle.leaf_table.specs.Calls.{SeatView, Answered, IsCaller, base_seen, name_of, seen_of}
 use Rattle.leaf_steward.specs.Seated.{Seated}
 use Rattle.script_text.specs.declared.command.Command.{Command}
 use Rattle.script_text.specs.declared.command.Command.TheVariants as command
@@ -17,7 +17,7 @@ use Rattle.player.specs.declared.leaf.OneLeaf.{OneLeaf}
 use Rattle.player.specs.declared.leaf.OneLeaf.TheVariants as one
 
 -- a leaf with the names of its tables, its callers' seats, and its berth
-pub record Stage (B : Type 0) : Type 0 where
+pub record PlayerState (B : Type 0) : Type 0 where
   pub names : List (List ℕ)
   pub leaf : Leaf
   pub callers : List SeatView
@@ -49,7 +49,7 @@ pub record Called : Type 0 where
 pub record IsCallersAt (t : Shared) (c : SeatView) : Type 0 where
   pub seat : IsSeatOf c t.site
   pub caller : IsCaller c
-  pub legal : LegalFrom (is_founded (base_of t)) (start_of (base_of t)) (seen_of c)
+  pub legal : LegalFrom (is_founded (base_seen t)) (start_of (base_seen t)) (seen_of c)
 
 pub record AreCalled (x : Called) : Type 0 where
   pub count : length x.seats ≡ length x.tables
@@ -62,7 +62,7 @@ pub record Calls (table : ℕ) (c : Call) (x : Called) (reply : Reply) (y : Call
   pub after : SeatView
   pub at : slice_get x.tables table ≡ Some shared
   pub was : slice_get x.seats table ≡ Some before
-  pub answered : Answered (base_of shared) before c reply after
+  pub answered : Answered (base_seen shared) before c reply after
   pub now : y ≡ record { tables = x.tables; seats = slice_set x.seats table after }
 
 -- a reply to an add or a query
@@ -98,13 +98,13 @@ named_by_reply (told.Full number) = 0
 -- ---- the leaf and its callers together
 
 -- the steward's seats are at the same tables still
-pub record Keeps (x y : Seated) : Type 0 where
+pub record KeepsSeats (x y : Seated) : Type 0 where
   pub names : y.names ≡ x.names
   pub tables : y.tables ≡ x.tables
   pub seats : length y.seats ≡ length x.seats
 
 -- the leaf has tables of these names, a seat of its steward at each, and the callers' seats are at these
-pub record Fits (names : List (List ℕ)) (x : Seated) (callers : Called) : Type 0 where
+pub record FitsTogether (names : List (List ℕ)) (x : Seated) (callers : Called) : Type 0 where
   pub named : AreNames names
   pub same : x.names ≡ names
   pub tables : callers.tables ≡ x.tables

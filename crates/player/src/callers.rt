@@ -5,8 +5,8 @@ ghost use Rattle.leaf_model.specs.Values.{IsRow};
 ghost use Rattle.leaf_history.specs.Calls as call;
 ghost use Rattle.leaf_table.specs.Turns.{Shared};
 ghost use Rattle.leaf_table.specs.Calls.{SeatView};
-ghost use Rattle.player.specs.Stage.{Calls, IsAnswer, IsCallersAt, IsKnown, Keeps, berth_of, seats_of, state_of};
-ghost use Rattle.crash_events.specs.Left.{Tables};
+ghost use Rattle.player.specs.Stage.{Calls, IsAnswer, IsCallersAt, IsKnown, KeepsSeats, berth_of, seats_of, state_of};
+ghost use Rattle.crash_events.specs.Left.{NamedStates};
 ghost use Rattle.leaf_steward.specs.Seated.{AreFounded};
 ghost use Rattle.transcript.specs.Stage.{MeetAll, Stands};
 ghost use Rattle.player.specs.Moves.{MeetsAt};
@@ -73,7 +73,7 @@ impl<'t> Callers<'t> {
         requires few { length self.old.tables ≤ 16 }
         ensures met { MeetAll (state_of leaf.old) self.old.seats (state_of leaf.new) self.new.seats (B.meaning (berth_of leaf.old)) }
         ensures berth { berth_of leaf.new ≡ berth_of leaf.old }
-        ensures keeps { Keeps (seats_of leaf.old) (seats_of leaf.new) }
+        ensures keeps { KeepsSeats (seats_of leaf.old) (seats_of leaf.new) }
         ensures same { self.new.tables ≡ self.old.tables }
     {
         for place in 0..self.seats.len() {
@@ -87,7 +87,7 @@ impl<'t> Callers<'t> {
         requires tables { self.old.tables ≡ (seats_of leaf.old).tables }
         requires seats { length (seats_of leaf.old).seats ≡ length (seats_of leaf.old).tables }
         ensures met { MeetsAt table (state_of leaf.old) self.old.seats (state_of leaf.new) self.new.seats }
-        ensures stands { (base : Tables) → AreFounded (seats_of leaf.old) → Stands base (state_of leaf.old) (B.meaning (berth_of leaf.old)) → Stands base (state_of leaf.new) (B.meaning (berth_of leaf.old)) }
+        ensures stands { (base : NamedStates) → AreFounded (seats_of leaf.old) → Stands base (state_of leaf.old) (B.meaning (berth_of leaf.old)) → Stands base (state_of leaf.new) (B.meaning (berth_of leaf.old)) }
         ensures berth { berth_of leaf.new ≡ berth_of leaf.old }
         ensures same { self.new.tables ≡ self.old.tables }
     {

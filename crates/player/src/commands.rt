@@ -3,9 +3,9 @@ ghost use Rattle.std.specs.Prelude.{◌≡◌, ◌<◌, ◌≤◌, length, IfOk}
 ghost use Rattle.std.specs.List.{AllByRecursion};
 ghost use Rattle.berth_face.specs.Berth.{Passes};
 ghost use Rattle.leaf_model.specs.Values.{IsRow};
-ghost use Rattle.transcript.specs.Steps.{StartStep, FlushStep, KillStep, DrainStep, AddStep, QueryStep, MayPlay, Plays};
+ghost use Rattle.transcript.specs.Steps.{StartStep, FlushStep, KillStep, DrainsLeaf, AddStep, QueryStep, MayPlay, Plays};
 ghost use Rattle.transcript.specs.Transcript.{place_of};
-ghost use Rattle.player.specs.Stage.{Fits, IsCall, berth_of, seats_of, state_of};
+ghost use Rattle.player.specs.Stage.{FitsTogether, IsCall, berth_of, seats_of, state_of};
 ghost use Rattle.player.specs.Moves.{AreSound, IsCalm};
 
 use crate::answer::{answer_rows, named, place_of};
@@ -30,9 +30,9 @@ pub fn play_command<'t, R: Wait, B: Berth, G: Gate>(
     callers: &mut Callers<'t>,
     command: Command,
 ) -> (OneLeaf<'t, B>, Result<Vec<Line>, AllocError>)
-    requires fit { Fits names.now (seats_of leaf) callers.old }
+    requires fit { FitsTogether names.now (seats_of leaf) callers.old }
     requires may { MayPlay names.now command }
-    ensures fits { Fits names.now (seats_of result.0) callers.new }
+    ensures fits { FitsTogether names.now (seats_of result.0) callers.new }
     ensures plays { IfOk result.1 (λ lines. Plays B.meaning names.now command (state_of leaf.entry) callers.old.seats (berth_of leaf.entry) lines.items (state_of result.0) callers.new.seats (berth_of result.0)) }
     ensures time { Passes (B.meaning (berth_of leaf.entry)) (B.meaning (berth_of result.0)) }
     ensures kept { IsCall command → berth_of result.0 ≡ berth_of leaf.entry }
@@ -74,8 +74,8 @@ fn start<'t, R: Wait, B: Berth, G: Gate>(
     leaf: OneLeaf<'t, B>,
     callers: &mut Callers<'t>,
 ) -> (OneLeaf<'t, B>, Result<Vec<Line>, AllocError>)
-    requires { Fits names.now (seats_of leaf) callers.old }
-    ensures fits { Fits names.now (seats_of result.0) callers.new }
+    requires { FitsTogether names.now (seats_of leaf) callers.old }
+    ensures fits { FitsTogether names.now (seats_of result.0) callers.new }
     ensures starts { IfOk result.1 (λ lines. StartStep (B.meaning (berth_of leaf.entry)) (B.meaning (berth_of result.0)) (state_of leaf.entry) callers.old.seats lines.items (state_of result.0) callers.new.seats) }
     ensures time { Passes (B.meaning (berth_of leaf.entry)) (B.meaning (berth_of result.0)) }
     ensures sound { IfOk result.1 (λ lines. AreSound names.now (B.meaning (berth_of leaf.entry)) (B.meaning (berth_of result.0)) lines.items) }
@@ -99,9 +99,9 @@ fn flush<'t, R: Wait, B: Berth, G: Gate>(
     callers: &mut Callers<'t>,
     table: u32,
 ) -> (OneLeaf<'t, B>, Result<Vec<Line>, AllocError>)
-    requires fit { Fits names.now (seats_of leaf) callers.old }
+    requires fit { FitsTogether names.now (seats_of leaf) callers.old }
     requires table { table < length names.now }
-    ensures fits { Fits names.now (seats_of result.0) callers.new }
+    ensures fits { FitsTogether names.now (seats_of result.0) callers.new }
     ensures flushes { IfOk result.1 (λ lines. FlushStep table (B.meaning (berth_of leaf.entry)) (B.meaning (berth_of result.0)) (state_of leaf.entry) callers.old.seats lines.items (state_of result.0) callers.new.seats) }
     ensures time { Passes (B.meaning (berth_of leaf.entry)) (B.meaning (berth_of result.0)) }
     ensures sound { IfOk result.1 (λ lines. AreSound names.now (B.meaning (berth_of leaf.entry)) (B.meaning (berth_of result.0)) lines.items) }
@@ -124,8 +124,8 @@ fn kill<'t, R: Wait, B: Berth, G: Gate>(
     leaf: OneLeaf<'t, B>,
     callers: &mut Callers<'t>,
 ) -> (OneLeaf<'t, B>, Result<Vec<Line>, AllocError>)
-    requires { Fits names.now (seats_of leaf) callers.old }
-    ensures fits { Fits names.now (seats_of result.0) callers.new }
+    requires { FitsTogether names.now (seats_of leaf) callers.old }
+    ensures fits { FitsTogether names.now (seats_of result.0) callers.new }
     ensures kills { IfOk result.1 (λ lines. KillStep (B.meaning (berth_of leaf.entry)) (B.meaning (berth_of result.0)) (state_of leaf.entry) callers.old.seats lines.items (state_of result.0) callers.new.seats) }
     ensures time { Passes (B.meaning (berth_of leaf.entry)) (B.meaning (berth_of result.0)) }
     ensures sound { IfOk result.1 (λ lines. AreSound names.now (B.meaning (berth_of leaf.entry)) (B.meaning (berth_of result.0)) lines.items) }
@@ -149,9 +149,9 @@ fn drain<'t, R: Wait, B: Berth, G: Gate>(
     callers: &mut Callers<'t>,
     stop: Option<u32>,
 ) -> (OneLeaf<'t, B>, Result<Vec<Line>, AllocError>)
-    requires { Fits names.now (seats_of leaf) callers.old }
-    ensures fits { Fits names.now (seats_of result.0) callers.new }
-    ensures drains { IfOk result.1 (λ lines. DrainStep stop (B.meaning (berth_of leaf.entry)) (B.meaning (berth_of result.0)) (state_of leaf.entry) callers.old.seats lines.items (state_of result.0) callers.new.seats) }
+    requires { FitsTogether names.now (seats_of leaf) callers.old }
+    ensures fits { FitsTogether names.now (seats_of result.0) callers.new }
+    ensures drains { IfOk result.1 (λ lines. DrainsLeaf stop (B.meaning (berth_of leaf.entry)) (B.meaning (berth_of result.0)) (state_of leaf.entry) callers.old.seats lines.items (state_of result.0) callers.new.seats) }
     ensures time { Passes (B.meaning (berth_of leaf.entry)) (B.meaning (berth_of result.0)) }
     ensures sound { IfOk result.1 (λ lines. AreSound names.now (B.meaning (berth_of leaf.entry)) (B.meaning (berth_of result.0)) lines.items) }
 {

@@ -6,9 +6,9 @@ ghost use Rattle.leaf_steward.specs.declared.notes.Note.{Note};
 ghost use Rattle.leaf_steward.specs.Making.{EachNoted, IsClosedNote};
 ghost use Rattle.transcript.specs.Stage.{Carries, IsDown, IsPreparing, Leaf};
 ghost use Rattle.transcript.specs.Steps as step;
-ghost use Rattle.player.specs.Stage.{Keeps, berth_of, seats_of, state_of};
+ghost use Rattle.player.specs.Stage.{KeepsSeats, berth_of, seats_of, state_of};
 ghost use Rattle.player.specs.Moves as move;
-ghost use Rattle.player.specs.Moves.{AreAdded, CopyEnds, CopyRests, Drains, FaultRose, IsKilled, RoseShut, berth_left};
+ghost use Rattle.player.specs.Moves.{AreAdded, CopyEnds, CopyRests, DrainsWithLines, FaultRose, IsKilled, RoseShut, berth_left};
 
 use crate::entries::with_notes;
 use crate::leaf::OneLeaf;
@@ -42,8 +42,8 @@ pub fn drain<'t, R: Wait, B: Berth, G: Gate>(
     leaf: Preparing<'t, B>,
     stop: Option<u32>,
 ) -> (OneLeaf<'t, B>, Ending, Result<Vec<Line>, AllocError>)
-    ensures drains { (before : Leaf) → step.Shuts before leaf.entry.0 → Drains (B.meaning leaf.entry.1) (B.meaning (berth_of result.0)) before stop result.1 result.2 (state_of result.0) }
-    ensures keeps { Keeps leaf.entry.0.serving.seated (seats_of result.0) }
+    ensures drains { (before : Leaf) → step.Shuts before leaf.entry.0 → DrainsWithLines (B.meaning leaf.entry.1) (B.meaning (berth_of result.0)) before stop result.1 result.2 (state_of result.0) }
+    ensures keeps { KeepsSeats leaf.entry.0.serving.seated (seats_of result.0) }
     ensures time { Passes (B.meaning leaf.entry.1) (B.meaning (berth_of result.0)) }
     ensures cause { FaultRose result.1 (B.meaning leaf.entry.1) (B.meaning (berth_of result.0)) }
 {

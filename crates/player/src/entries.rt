@@ -1,7 +1,7 @@
 // The lines of calls and of what a steward's command did.
 ghost use Rattle.std.specs.Prelude.{◌≡◌, ◌∷◌, ◌++◌, [], IfOk, OnOk, MatchResult};
 ghost use Rattle.printed_lines.specs.declared.line.Line.TheVariants.{Ended, Entry};
-ghost use Rattle.transcript.specs.Steps.{Says, note_line, note_lines, said_of_note};
+ghost use Rattle.transcript.specs.Steps.{IsReplyLine, note_line, note_lines, said_of_note};
 ghost use Rattle.player.specs.Stage.{IsKnown};
 ghost use Rattle.player.specs.Moves.{AreAdded};
 
@@ -13,7 +13,7 @@ use std::alloc::{AllocError, Global};
 /// The line of a reply to an add or a query of that table.
 pub fn call_line(table: u32, reply: &Reply) -> Line
     requires { IsKnown reply.now }
-    ensures { Says table reply.now result }
+    ensures { IsReplyLine table reply.now result }
 {
     match reply {
         Reply::Added { number, kept, late } => entry(

@@ -3,15 +3,15 @@ ghost use Rattle.std.specs.Prelude.{◌≡◌, ◌<◌, [], length, slice_set, I
 ghost use Rattle.berth_face.specs.Berth.{Passes};
 ghost use Rattle.leaf_history.specs.History.{LegalFrom};
 ghost use Rattle.turnstile.specs.Seats.{IsSeatOf, LearnsOthers, Told};
-ghost use Rattle.crash_events.specs.Left.{Tables};
+ghost use Rattle.crash_events.specs.Left.{NamedStates};
 ghost use Rattle.leaf_table.specs.Turns.{is_founded, start_of};
-ghost use Rattle.leaf_table.specs.Calls.{SeatView, base_of, seen_of};
+ghost use Rattle.leaf_table.specs.Calls.{SeatView, base_seen, seen_of};
 ghost use Rattle.leaf_steward.specs.Seated.{AreFounded, AtPlace};
 ghost use Rattle.printed_lines.specs.declared.line.Ending.TheVariants as ending;
 ghost use Rattle.transcript.specs.Stage.{Carries, Stands, with_seats};
 ghost use Rattle.transcript.specs.Steps.{FlushMoves, KillMoves, StartMoves, IsDownLeaf, ending_of, ending_of_flush};
-ghost use Rattle.player.specs.Stage.{Keeps, state_of, berth_of, seats_of};
-ghost use Rattle.player.specs.Moves.{Drains, FaultRose};
+ghost use Rattle.player.specs.Stage.{KeepsSeats, state_of, berth_of, seats_of};
+ghost use Rattle.player.specs.Moves.{DrainsWithLines, FaultRose};
 
 use crate::drain;
 use berth_face::{Berth, Gate};
@@ -34,12 +34,12 @@ impl<'t, B: Berth> OneLeaf<'t, B> {
     pub fn meet(&mut self, table: u32, seat: &mut Seat)
         requires table { table < length (seats_of self.old).tables }
         requires seats { length (seats_of self.old).seats ≡ length (seats_of self.old).tables }
-        requires seat { AtPlace (λ t v. IsSeatOf seat.old t.site × LegalFrom (is_founded (base_of t)) (start_of (base_of t)) (seen_of seat.old)) (seats_of self.old) table }
+        requires seat { AtPlace (λ t v. IsSeatOf seat.old t.site × LegalFrom (is_founded (base_seen t)) (start_of (base_seen t)) (seen_of seat.old)) (seats_of self.old) table }
         ensures learns { AtPlace (λ t v. (w : SeatView) × (state_of self.new ≡ with_seats (state_of self.old) (slice_set (seats_of self.old).seats table w)) × Told v seat.old w × LearnsOthers v w) (seats_of self.old) table }
         ensures seat { AtPlace (λ t v. IsSeatOf seat.new t.site × Told seat.old v seat.new × LearnsOthers seat.old seat.new
-            × LegalFrom (is_founded (base_of t)) (start_of (base_of t)) (seen_of seat.new)) (seats_of self.old) table }
+            × LegalFrom (is_founded (base_seen t)) (start_of (base_seen t)) (seen_of seat.new)) (seats_of self.old) table }
         ensures berth { berth_of self.new ≡ berth_of self.old }
-        ensures stands { (base : Tables) → AreFounded (seats_of self.old) → Stands base (state_of self.old) (B.meaning (berth_of self.old)) → Stands base (state_of self.new) (B.meaning (berth_of self.new)) }
+        ensures stands { (base : NamedStates) → AreFounded (seats_of self.old) → Stands base (state_of self.old) (B.meaning (berth_of self.old)) → Stands base (state_of self.new) (B.meaning (berth_of self.new)) }
     {
         let met = match self {
             OneLeaf::Down(leaf) => leaf.meet(table, seat),
@@ -63,7 +63,7 @@ impl<'t, B: Berth> OneLeaf<'t, B> {
         requires { notes.old ≡ [] }
         ensures moves { StartMoves (B.meaning (berth_of self.entry)) (B.meaning (berth_of result.0)) (state_of self.entry) notes.new result.1 (state_of result.0) }
         ensures carries { Carries (state_of self.entry) (state_of result.0) notes.new (B.meaning (berth_of self.entry)) (B.meaning (berth_of result.0)) }
-        ensures keeps { Keeps (seats_of self.entry) (seats_of result.0) }
+        ensures keeps { KeepsSeats (seats_of self.entry) (seats_of result.0) }
         ensures time { Passes (B.meaning (berth_of self.entry)) (B.meaning (berth_of result.0)) }
         ensures cause { FaultRose result.1 (B.meaning (berth_of self.entry)) (B.meaning (berth_of result.0)) }
     {
@@ -89,7 +89,7 @@ impl<'t, B: Berth> OneLeaf<'t, B> {
         requires table { table < length (seats_of self.old).tables }
         ensures moves { FlushMoves table (B.meaning (berth_of self.old)) (B.meaning (berth_of self.new)) (state_of self.old) notes.new result (state_of self.new) }
         ensures carries { Carries (state_of self.old) (state_of self.new) notes.new (B.meaning (berth_of self.old)) (B.meaning (berth_of self.new)) }
-        ensures keeps { Keeps (seats_of self.old) (seats_of self.new) }
+        ensures keeps { KeepsSeats (seats_of self.old) (seats_of self.new) }
         ensures time { Passes (B.meaning (berth_of self.old)) (B.meaning (berth_of self.new)) }
         ensures cause { FaultRose result (B.meaning (berth_of self.old)) (B.meaning (berth_of self.new)) }
     {
@@ -110,7 +110,7 @@ impl<'t, B: Berth> OneLeaf<'t, B> {
         requires { notes.old ≡ [] }
         ensures moves { KillMoves (B.meaning (berth_of self.entry)) (B.meaning (berth_of result.0)) (state_of self.entry) notes.new result.1 (state_of result.0) }
         ensures carries { Carries (state_of self.entry) (state_of result.0) notes.new (B.meaning (berth_of self.entry)) (B.meaning (berth_of result.0)) }
-        ensures keeps { Keeps (seats_of self.entry) (seats_of result.0) }
+        ensures keeps { KeepsSeats (seats_of self.entry) (seats_of result.0) }
         ensures berth { berth_of result.0 ≡ berth_of self.entry }
         ensures cause { FaultRose result.1 (B.meaning (berth_of self.entry)) (B.meaning (berth_of result.0)) }
     {
@@ -121,7 +121,7 @@ impl<'t, B: Berth> OneLeaf<'t, B> {
         }
     }
 
-    /// Drains a leaf that is not down, and gives the lines of its notes. Where that has not ended after so many steps, it kills the leaf.
+    /// DrainsWithLines a leaf that is not down, and gives the lines of its notes. Where that has not ended after so many steps, it kills the leaf.
     pub fn drain<R: Wait, G: Gate>(
         self,
         rt: &R,
@@ -129,8 +129,8 @@ impl<'t, B: Berth> OneLeaf<'t, B> {
         gate: &G,
         stop: Option<u32>,
     ) -> (OneLeaf<'t, B>, Ending, Result<Vec<Line>, AllocError>)
-        ensures drains { Drains (B.meaning (berth_of self.entry)) (B.meaning (berth_of result.0)) (state_of self.entry) stop result.1 result.2 (state_of result.0) }
-        ensures keeps { Keeps (seats_of self.entry) (seats_of result.0) }
+        ensures drains { DrainsWithLines (B.meaning (berth_of self.entry)) (B.meaning (berth_of result.0)) (state_of self.entry) stop result.1 result.2 (state_of result.0) }
+        ensures keeps { KeepsSeats (seats_of self.entry) (seats_of result.0) }
         ensures time { Passes (B.meaning (berth_of self.entry)) (B.meaning (berth_of result.0)) }
         ensures cause { FaultRose result.1 (B.meaning (berth_of self.entry)) (B.meaning (berth_of result.0)) }
     {

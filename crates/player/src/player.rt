@@ -3,9 +3,9 @@ ghost use Rattle.std.specs.Prelude.{◌≡◌, ◌≤◌, ◌+◌, ◌-◌, ◌^
 ghost use Rattle.std.specs.List.{AllByRecursion};
 ghost use Rattle.berth_face.specs.Berth.{Passes};
 ghost use Rattle.region_layout.specs.Names.{AreNames};
-ghost use Rattle.crash_events.specs.Left.{Tables};
+ghost use Rattle.crash_events.specs.Left.{NamedStates};
 ghost use Rattle.leaf_table.specs.Turns.{Shared, start_of};
-ghost use Rattle.leaf_table.specs.Calls.{SeatView, base_of, name_of};
+ghost use Rattle.leaf_table.specs.Calls.{SeatView, base_seen, name_of};
 ghost use Rattle.leaf_steward.specs.Seated.{AreAlike, AreFounded, AtEach, IsUnused};
 ghost use Rattle.leaf_machine.specs.States.{MayBegin};
 ghost use Rattle.printed_lines.specs.Lines.{IsOf};
@@ -36,9 +36,9 @@ pub struct Player<'t, B: Berth> {
 }
 
 impl<'t, B: Berth> Model for Player<'t, B> {
-    ghost use Rattle.player.specs.Stage.{Stage, Fits, berth_of, seats_of, state_of};
+    ghost use Rattle.player.specs.Stage.{PlayerState, FitsTogether, berth_of, seats_of, state_of};
 
-    ghost Value = { Stage B };
+    ghost Value = { PlayerState B };
 
     ghost view = { λ player. record {
       names = player.names;
@@ -47,7 +47,7 @@ impl<'t, B: Berth> Model for Player<'t, B> {
       berth = berth_of player.leaf;
     } };
 
-    ghost invariant = { λ player. Fits player.names (seats_of player.leaf) player.callers };
+    ghost invariant = { λ player. FitsTogether player.names (seats_of player.leaf) player.callers };
 }
 
 impl<'t, B: Berth> Player<'t, B> {
@@ -69,13 +69,13 @@ impl<'t, B: Berth> Player<'t, B> {
         requires unused_callers { (place : ℕ) (t : Shared) (c : SeatView) → slice_get tables.now place ≡ Some t → slice_get callers.items place ≡ Some c → IsUnusedCaller t c }
         requires alike { AreAlike (record { names = names; tables = tables.now; seats = stewards.items }) }
         requires ready { AreFounded (record { names = names; tables = tables.now; seats = stewards.items })
-            → (base : Tables) × MayBegin base (B.meaning berth) × AtEach (λ place t v. start_of (base_of t) ≡ base (name_of t)) (record { names = names; tables = tables.now; seats = stewards.items }) }
+            → (base : NamedStates) × MayBegin base (B.meaning berth) × AtEach (λ place t v. start_of (base_seen t) ≡ base (name_of t)) (record { names = names; tables = tables.now; seats = stewards.items }) }
         ensures names { IfOk result (λ player. player.names ≡ names) }
         ensures down { IfOk result (λ player. player.leaf ≡ IsDown (record { names = names; tables = tables.now; seats = stewards.items })) }
         ensures callers { IfOk result (λ player. player.callers ≡ callers.items) }
         ensures berth { IfOk result (λ player. player.berth ≡ berth) }
-        ensures stands { IfOk result (λ player. (base : Tables) → AreFounded (record { names = names; tables = tables.now; seats = stewards.items }) → MayBegin base (B.meaning berth)
-            → AtEach (λ place t v. start_of (base_of t) ≡ base (name_of t)) (record { names = names; tables = tables.now; seats = stewards.items }) → Stands base player.leaf (B.meaning player.berth)) }
+        ensures stands { IfOk result (λ player. (base : NamedStates) → AreFounded (record { names = names; tables = tables.now; seats = stewards.items }) → MayBegin base (B.meaning berth)
+            → AtEach (λ place t v. start_of (base_seen t) ≡ base (name_of t)) (record { names = names; tables = tables.now; seats = stewards.items }) → Stands base player.leaf (B.meaning player.berth)) }
         ensures no_memory { IfErr result (λ given. given ≡ berth) }
     {
         let Ok(copy) = names.copy() else {

@@ -22,7 +22,7 @@ use Rattle.query_text.specs.declared.places.Move.TheVariants.{On, Stuck}
 use Rattle.query_text.specs.Tokens.{Placed, tokens_of}
 use Rattle.query_text.specs.Roles.{name_of, const_of, kind_of, op_of, int_of, limit_from, table_of, is_word, is_open, is_close, is_comma, is_int, has_kind, is_orderable, place_in, agg_inside}
 use Rattle.query_text.specs.Reading.{read_from, query_of, nothing_read, led, fault_of, plain_fault, takes_int, is_in_range, goes_on, may_end, on_if, order_or_limit, has_keys, kind_goes_on, key_goes_on, agg_goes_on, table_goes_on, low_goes_on, high_goes_on, cond_goes_on, op_goes_on, const_goes_on, kind_goes_on_if, order_goes_on, limit_goes_on, sign_fits, is_key, with_agg, with_order, with_low, with_high, with_cond, with_limit}
-use Rattle.query_text.specs.Grammar.{IsBegun, IsStuck, IsRefused, IsSize, IsFault, place_of, behind_from, is_ranging, plain_tokens}
+use Rattle.query_text.specs.Grammar.{IsBegun, IsStuck, IsQueryRefused, IsSize, IsFault, place_of, behind_from, is_ranging, plain_tokens}
 use Rattle.query_text.proofs.Plain.{reads, moved}
 use Rattle.query_text.proofs.Found.{found, None≢Some}
 use Rattle.query_text.proofs.Only.{only}
@@ -293,7 +293,7 @@ kind_by : (before : List Token) (rest : List Placed) (end : ℕ) (r : Query) (th
 kind_by before [] end r there fault range same h = plain_kind (is_in_range there) before [] end end fault refl (λ size. size) range h
 kind_by before (p ∷ ps) end r there fault range same h = large_kind (takes_int there) (is_int p.token) before p ps end r there fault refl refl range same h
 
-pub refused : (text : List ℕ) (fault : QueryFault) → query_of text ≡ Err fault → IsRefused text fault
+pub refused : (text : List ℕ) (fault : QueryFault) → query_of text ≡ Err fault → IsQueryRefused text fault
 refused text fault h =
     let l = walk None (length text) (tokens_of text) nothing_read Select fault tt refl h in
     record {

@@ -178,7 +178,7 @@ IsFault (Syntax at) before rest end = (at ≡ place_of end rest) × ((IsSize bef
 IsFault NoMemory before rest end = ⊥
 
 -- the tokens before the fault begin some query, with what stands there none goes on, and the fault is told by these
-pub record IsRefused (text : List ℕ) (fault : QueryFault) : Type 0 where
+pub record IsQueryRefused (text : List ℕ) (fault : QueryFault) : Type 0 where
   pub before : List Placed
   pub rest : List Placed
   pub tokens : tokens_of text ≡ before ++ rest

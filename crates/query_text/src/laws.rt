@@ -5,13 +5,13 @@ ghost use Rattle.query_text.specs.declared.fault.QueryFault.{QueryFault};
 ghost use Rattle.query_text.specs.Tokens.{tokens_of};
 ghost use Rattle.query_text.specs.Reading.{query_of};
 ghost use Rattle.query_text.specs.Printing.{printed};
-ghost use Rattle.query_text.specs.Grammar.{IsSpelled, IsRefused, plain_tokens};
+ghost use Rattle.query_text.specs.Grammar.{IsSpelled, IsQueryRefused, plain_tokens};
 
 /// Law: a text is read as a query exactly where its tokens spell that query, part by part; and it is refused at the first token
 /// with which no query goes on, or at its end where more has to follow.
 pub fn grammar_meaning()
     ensures spelled { (text : List ℕ) → (query : Query) → (query_of text ≡ Ok query) ↔ IsSpelled query (plain_tokens (tokens_of text)) }
-    ensures refused { (text : List ℕ) → (fault : QueryFault) → query_of text ≡ Err fault → IsRefused text fault }
+    ensures refused { (text : List ℕ) → (fault : QueryFault) → query_of text ≡ Err fault → IsQueryRefused text fault }
 {}
 
 /// Law: the one text of a query that some text is read as is read as that query.

@@ -13,7 +13,7 @@ use Rattle.leaf_model.specs.declared.rows.Value.{Value}
 use Rattle.leaf_model.specs.declared.rows.Value.TheVariants.{Int, Text}
 use Rattle.leaf_model.specs.declared.rows.Cell.{Cell}
 use Rattle.row_json.specs.Row.{is_time, is_bad_name, is_missing, text_of, value_of, named_cell, cell_with, cell_of, with_cell, before, cells_of}
-use Rattle.row_json.specs.Meaning.{Holds, IsOther}
+use Rattle.row_json.specs.Meaning.{HoldsValue, IsOther}
 use Rattle.row_json.specs.declared.object.RowFault.{RowFault}
 use Rattle.row_json.specs.declared.object.RowFault.TheVariants.{Json, NotObject, NoTime, TooMany, Name, NoMemory}
 use Rattle.row_json.specs.declared.object.RowFault.TheVariants as fault
@@ -22,15 +22,15 @@ use Rattle.row_json.proofs.Found.{Ascending, found_here, found_later, found_case
 
 -- ---- one member
 
-integer_held : (n : Num) (o : Option ℤ) (v : Value) → as_i64 n ≡ o → option_map Int o ≡ Some v → Holds (number n) v
+integer_held : (n : Num) (o : Option ℤ) (v : Value) → as_i64 n ≡ o → option_map Int o ≡ Some v → HoldsValue (number n) v
 integer_held n None v is h = absurd (found_none v h)
-integer_held n (Some z) v is h = subst (Holds (number n)) (ap (λ o. unwrap_or o v) h) is
+integer_held n (Some z) v is h = subst (HoldsValue (number n)) (ap (λ o. unwrap_or o v) h) is
 
-text_held : (s : List ℕ) (b : Bool) (v : Value) → nat_lt 65535 (length s) ≡ b → cond b None (Some (Text s)) ≡ Some v → Holds (string s) v
+text_held : (s : List ℕ) (b : Bool) (v : Value) → nat_lt 65535 (length s) ≡ b → cond b None (Some (Text s)) ≡ Some v → HoldsValue (string s) v
 text_held s true v is h = absurd (found_none v h)
-text_held s false v is h = subst (Holds (string s)) (ap (λ o. unwrap_or o v) h) (refl, ltb-false 65535 (length s) is)
+text_held s false v is h = subst (HoldsValue (string s)) (ap (λ o. unwrap_or o v) h) (refl, ltb-false 65535 (length s) is)
 
-value_held : (d : Data) (v : Value) → value_of d ≡ Some v → Holds d v
+value_held : (d : Data) (v : Value) → value_of d ≡ Some v → HoldsValue d v
 value_held null v h = absurd (found_none v h)
 value_held (boolean b) v h = absurd (found_none v h)
 value_held (number n) v h = integer_held n (as_i64 n) v refl h
@@ -38,7 +38,7 @@ value_held (string s) v h = text_held s (nat_lt 65535 (length s)) v refl h
 value_held (array items) v h = absurd (found_none v h)
 value_held (object all) v h = absurd (found_none v h)
 
-held_value : (d : Data) (v : Value) → Holds d v → value_of d ≡ Some v
+held_value : (d : Data) (v : Value) → HoldsValue d v → value_of d ≡ Some v
 held_value null (Int z) h = ap (option_map Int) h
 held_value (boolean b) (Int z) h = ap (option_map Int) h
 held_value (number n) (Int z) h = ap (option_map Int) h
@@ -65,8 +65,8 @@ pub data Case (name : List ℕ) (d : Data) : Type 0 where
   the_time : name ≡ time_name → cell_of name d ≡ Ok None → Case name d
   bad_name : name ≢ time_name → is_bad_name name ≡ true → cell_of name d ≡ Err (Name name) → Case name d
   missing : name ≢ time_name → is_bad_name name ≡ false → d ≡ null → cell_of name d ≡ Ok None → Case name d
-  held : name ≢ time_name → is_bad_name name ≡ false → d ≢ null → (v : Value) → Holds d v → cell_of name d ≡ Ok (Some (named_cell name v)) → Case name d
-  bad_value : name ≢ time_name → is_bad_name name ≡ false → d ≢ null → ((v : Value) → ¬ Holds d v) → cell_of name d ≡ Err (fault.Value name) → Case name d
+  held : name ≢ time_name → is_bad_name name ≡ false → d ≢ null → (v : Value) → HoldsValue d v → cell_of name d ≡ Ok (Some (named_cell name v)) → Case name d
+  bad_value : name ≢ time_name → is_bad_name name ≡ false → d ≢ null → ((v : Value) → ¬ HoldsValue d v) → cell_of name d ≡ Err (fault.Value name) → Case name d
 
 chosen : Bool → Bool → Bool → Option Value → List ℕ → Result (Option Cell) RowFault
 chosen t b m v name = cond t (Ok None) (cond b (Err (Name name)) (cond m (Ok None) (cell_with name v)))
@@ -81,7 +81,7 @@ no_time name h is = true≢false (sym ((bytes_eq-Decides name time_name).1 is) �
 no_null : (d : Data) → is_missing d ≡ false → d ≢ null
 no_null d h is = true≢false (sym (ap is_missing is) ∙ h)
 
-no_value : (d : Data) → value_of d ≡ None → (v : Value) → ¬ Holds d v
+no_value : (d : Data) → value_of d ≡ None → (v : Value) → ¬ HoldsValue d v
 no_value d h v holds = found_none v (sym h ∙ held_value d v holds)
 
 case_at : (name : List ℕ) (d : Data) (t b m : Bool) (v : Option Value) → is_time name ≡ t → is_bad_name name ≡ b → is_missing d ≡ m → value_of d ≡ v → cell_of name d ≡ chosen t b m v name → Case name d
@@ -139,9 +139,9 @@ refused_rest c (Err e) f h = h
 -- ---- the cells
 
 abbrev Cells : Members → List Cell → Type 0
-Cells all cs = (name : List ℕ) (d : Data) → IsOther all name d → (v : Value) × Contains cs (named_cell name v) × Holds d v
+Cells all cs = (name : List ℕ) (d : Data) → IsOther all name d → (v : Value) × Contains cs (named_cell name v) × HoldsValue d v
 
-more_cells : (c : Cell) (cs : List Cell) (d : Data) (name : List ℕ) → (v : Value) × Contains cs (named_cell name v) × Holds d v → (v : Value) × Contains (c ∷ cs) (named_cell name v) × Holds d v
+more_cells : (c : Cell) (cs : List Cell) (d : Data) (name : List ℕ) → (v : Value) × Contains cs (named_cell name v) × HoldsValue d v → (v : Value) × Contains (c ∷ cs) (named_cell name v) × HoldsValue d v
 more_cells c cs d name h = (h.0, Contains-append_right (c ∷ []) cs (named_cell name h.0) h.1, h.2)
 
 whole_at : (k : List ℕ) (e : Data) (ms : Members) (cs : List Cell) → Case k e → with_cell (cell_of k e) (cells_of ms) ≡ Ok cs → ((ds : List Cell) → cells_of ms ≡ Ok ds → Cells ms ds) → Cells (member k e ms) cs
@@ -156,9 +156,9 @@ whole_at k e ms cs (missing t b m is) h rest name d x = elim (found_cases name k
 ]
 whole_at k e ms cs (held t b m v holds is) h rest name d x =
     let both = taken (cell_of k e) (cells_of ms) (named_cell k v) cs is h in
-    let P : List Cell → Type 0 = λ all. (w : Value) × Contains all (named_cell name w) × Holds d w in
+    let P : List Cell → Type 0 = λ all. (w : Value) × Contains all (named_cell name w) × HoldsValue d w in
     elim (found_cases name k e d ms x.has) [
-      | inl here ↦ subst P (sym both.2) (v, (0, omega arith, ap (λ n. named_cell n v) (sym here.0)), subst (λ f. Holds f v) here.1 holds)
+      | inl here ↦ subst P (sym both.2) (v, (0, omega arith, ap (λ n. named_cell n v) (sym here.0)), subst (λ f. HoldsValue f v) here.1 holds)
       | inr there ↦ subst P (sym both.2) (more_cells (named_cell k v) both.0 d name (rest both.0 both.1 name d record { has = there; other = x.other; there = x.there }))
     ]
 whole_at k e ms cs (bad_value t b m v is) h rest name d x = absurd (err≢ok _ cs (sym (refused _ _ _ is) ∙ h))
@@ -169,7 +169,7 @@ cells_whole (member k e ms) cs h name d x = whole_at k e ms cs (case_of k e) h (
 
 -- the cell is a member of the object
 abbrev pub IsMember : Members → Cell → Type 0
-IsMember all c = (d : Data) × IsOther all c.name d × Holds d c.value
+IsMember all c = (d : Data) × IsOther all c.name d × HoldsValue d c.value
 
 lifted : (k : List ℕ) (e : Data) (ms : Members) (name : List ℕ) (d : Data) → Ascending (member k e ms) → IsOther ms name d → IsOther (member k e ms) name d
 unfolding IsStrictlySortedBy

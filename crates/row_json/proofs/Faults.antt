@@ -6,7 +6,7 @@ use Rattle.leaf_model.specs.Values.{time_name}
 use Rattle.leaf_model.specs.declared.rows.Value.{Value}
 use Rattle.leaf_model.specs.declared.rows.Cell.{Cell}
 use Rattle.row_json.specs.Row.{is_bad_name, named_cell, cell_of, with_cell, cells_of}
-use Rattle.row_json.specs.Meaning.{Holds, IsFine, IsFaultOf, IsFirstFault}
+use Rattle.row_json.specs.Meaning.{HoldsValue, IsFine, IsFaultOf, IsFirstFault}
 use Rattle.row_json.specs.declared.object.RowFault.{RowFault}
 use Rattle.row_json.specs.declared.object.RowFault.TheVariants.{Json, NotObject, NoTime, TooMany, Name, NoMemory}
 use Rattle.row_json.specs.declared.object.RowFault.TheVariants as fault
@@ -70,7 +70,7 @@ first_fault (member k e ms) f all h = first_at k e ms f all (case_of k e) h (λ 
 not_both : {A : Type 0} (name : List ℕ) → is_bad_name name ≡ true → is_bad_name name ≡ false → A
 not_both name t f = absurd (true≢false (sym t ∙ f))
 
-not_fine : (name : List ℕ) (d : Data) → is_bad_name name ≡ false → d ≢ null → ((v : Value) → ¬ Holds d v) → IsFine name d → ⊥
+not_fine : (name : List ℕ) (d : Data) → is_bad_name name ≡ false → d ≢ null → ((v : Value) → ¬ HoldsValue d v) → IsFine name d → ⊥
 not_fine name d b m v h = elim h.1 [
   | inl is ↦ m is
   | inr some ↦ v some.0 some.1

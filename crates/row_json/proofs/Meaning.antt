@@ -10,7 +10,7 @@ use Rattle.leaf_model.specs.Values.{time_name}
 use Rattle.leaf_model.specs.declared.rows.Cell.{Cell}
 use Rattle.leaf_model.specs.declared.rows.Row.{Row}
 use Rattle.row_json.specs.Row.{not_negative, time_of, cell_count, cells_of, row_with, row_of_members, row_of_data, row_of}
-use Rattle.row_json.specs.Meaning.{IsObject, IsTimeOf, HasTime, IsRowOf, HasFault, Gives, Refuses}
+use Rattle.row_json.specs.Meaning.{IsObject, IsTimeOf, HasTime, IsRowOf, HasFault, IsThisRow, Refuses}
 use Rattle.row_json.specs.declared.object.RowFault.{RowFault}
 use Rattle.row_json.specs.declared.object.RowFault.TheVariants.{Json, NotObject, NoTime, TooMany, Name, NoMemory}
 use Rattle.row_json.specs.declared.object.RowFault.TheVariants as fault
@@ -96,7 +96,7 @@ member_fault : (text : List ℕ) (all : Members) (f : RowFault) (o : Option ℤ)
 member_fault text all f None obj eo h = subst (Refuses text) (same_fault NoTime f h) (all, obj, λ x. found_none x.0 (sym eo ∙ time_given all x.0 x.1))
 member_fault text all f (Some t) obj eo h = many_fault text all t f (nat_lt 1024 (cell_count all)) obj (time_found all t eo) refl h
 
-few_given : (text : List ℕ) (all : Members) (t : ℤ) (row : Row) (b : Bool) → IsObject text all → IsTimeOf all t → nat_lt 1024 (cell_count all) ≡ b → cond b (Err TooMany) (row_with t (cells_of all)) ≡ Ok row → Gives text row
+few_given : (text : List ℕ) (all : Members) (t : ℤ) (row : Row) (b : Bool) → IsObject text all → IsTimeOf all t → nat_lt 1024 (cell_count all) ≡ b → cond b (Err TooMany) (row_with t (cells_of all)) ≡ Ok row → IsThisRow text row
 few_given text all t row true obj time eb h = absurd (err≢ok TooMany row h)
 few_given text all t row false obj time eb h =
     let made = cells_of_row t (cells_of all) row h in
@@ -112,7 +112,7 @@ few_given text all t row false obj time eb h =
       is = subst (IsRowOf all) made.2 given;
     }
 
-members_given : (text : List ℕ) (all : Members) (row : Row) (o : Option ℤ) → IsObject text all → time_of (object all) ≡ o → row_of_members o all ≡ Ok row → Gives text row
+members_given : (text : List ℕ) (all : Members) (row : Row) (o : Option ℤ) → IsObject text all → time_of (object all) ≡ o → row_of_members o all ≡ Ok row → IsThisRow text row
 members_given text all row None obj eo h = absurd (err≢ok NoTime row h)
 members_given text all row (Some t) obj eo h = few_given text all t row (nat_lt 1024 (cell_count all)) obj (time_found all t eo) refl h
 
@@ -141,7 +141,7 @@ data_fault text (string s) f utf8 is h = no_object text (string s) f utf8 is ref
 data_fault text (array items) f utf8 is h = no_object text (array items) f utf8 is refl h
 data_fault text (object all) f utf8 is h = member_fault text all f (time_of (object all)) record { utf8 = utf8; reads = is } refl h
 
-data_given : (text : List ℕ) (d : Data) (row : Row) → IsUtf8 text → read text ≡ Some d → row_of_data d ≡ Ok row → Gives text row
+data_given : (text : List ℕ) (d : Data) (row : Row) → IsUtf8 text → read text ≡ Some d → row_of_data d ≡ Ok row → IsThisRow text row
 data_given text null row utf8 is h = absurd (err≢ok NotObject row h)
 data_given text (boolean b) row utf8 is h = absurd (err≢ok NotObject row h)
 data_given text (number n) row utf8 is h = absurd (err≢ok NotObject row h)
@@ -153,7 +153,7 @@ fault_means : (text : List ℕ) (f : RowFault) → Reading text → row_of text 
 fault_means text f (no_json none) h = subst (Refuses text) (same_fault Json f (sym (row_of-none text none) ∙ h)) none
 fault_means text f (json d utf8 is) h = data_fault text d f utf8 is (sym (row_of-some text d utf8 is) ∙ h)
 
-row_means : (text : List ℕ) (row : Row) → Reading text → row_of text ≡ Ok row → Gives text row
+row_means : (text : List ℕ) (row : Row) → Reading text → row_of text ≡ Ok row → IsThisRow text row
 row_means text row (no_json none) h = absurd (err≢ok Json row (sym (row_of-none text none) ∙ h))
 row_means text row (json d utf8 is) h = data_given text d row utf8 is (sym (row_of-some text d utf8 is) ∙ h)
 
@@ -190,7 +190,7 @@ fault_is text (Name n) h = has_fault text h.0 (Name n) h.1 h.2
 fault_is text (fault.Value n) h = has_fault text h.0 (fault.Value n) h.1 h.2
 fault_is text NoMemory h = absurd h
 
-pub rows_meaning : (text : List ℕ) (row : Row) → row_of text ≡ Ok row → Gives text row
+pub rows_meaning : (text : List ℕ) (row : Row) → row_of text ≡ Ok row → IsThisRow text row
 rows_meaning text row h = row_means text row (reading text) h
 
 pub faults_meaning : (text : List ℕ) (f : RowFault) → (row_of text ≡ Err f) ↔ Refuses text f

@@ -30,13 +30,13 @@ abbrev pub IsInteger : Data → ℤ → Type 0
 IsInteger d z = option_and_then as_i64 (as_number d) ≡ Some z
 
 -- the JSON value is this text, which has at most 65,535 bytes
-abbrev pub IsText : Data → List ℕ → Type 0
-IsText d t = (as_str d ≡ Some t) × (length t ≤ 65535)
+abbrev pub IsTextValue : Data → List ℕ → Type 0
+IsTextValue d t = (as_str d ≡ Some t) × (length t ≤ 65535)
 
 -- a cell holds what the JSON value says: an integer or a text
-abbrev pub Holds : Data → Value → Type 0
-Holds d (Int z) = IsInteger d z
-Holds d (Text t) = IsText d t
+abbrev pub HoldsValue : Data → Value → Type 0
+HoldsValue d (Int z) = IsInteger d z
+HoldsValue d (Text t) = IsTextValue d t
 
 -- the object's member `time` is this integer, from 0 on
 pub record IsTimeOf (all : Members) (time : ℤ) : Type 0 where
@@ -58,17 +58,17 @@ pub record IsOther (all : Members) (name : List ℕ) (d : Data) : Type 0 where
 -- the row of an object: its time, and each member that is neither `time` nor null is a cell, and each cell is such a member
 pub record IsRowOf (all : Members) (row : Row) : Type 0 where
   pub time : IsTimeOf all row.time
-  pub whole : (name : List ℕ) (d : Data) → IsOther all name d → (v : Value) × Contains row.cells (named_cell name v) × Holds d v
-  pub only : AllByRecursion (λ cell. (d : Data) × IsOther all cell.name d × Holds d cell.value) row.cells
+  pub whole : (name : List ℕ) (d : Data) → IsOther all name d → (v : Value) × Contains row.cells (named_cell name v) × HoldsValue d v
+  pub only : AllByRecursion (λ cell. (d : Data) × IsOther all cell.name d × HoldsValue d cell.value) row.cells
 
 -- a row may have this member: its name is that of a cell, and it is null or a value
 abbrev pub IsFine : List ℕ → Data → Type 0
-IsFine name d = (is_bad_name name ≡ false) × ((d ≡ null) ⊎ ((v : Value) × Holds d v))
+IsFine name d = (is_bad_name name ≡ false) × ((d ≡ null) ⊎ ((v : Value) × HoldsValue d v))
 
 -- the fault of a member: its name, or else its value
 abbrev pub IsFaultOf : List ℕ → Data → RowFault → Type 0
 IsFaultOf name d (Name n) = (n ≡ name) × (is_bad_name name ≡ true)
-IsFaultOf name d (fault.Value n) = (n ≡ name) × (is_bad_name name ≡ false) × (d ≢ null) × ((v : Value) → ¬ Holds d v)
+IsFaultOf name d (fault.Value n) = (n ≡ name) × (is_bad_name name ≡ false) × (d ≢ null) × ((v : Value) → ¬ HoldsValue d v)
 IsFaultOf name d Json = ⊥
 IsFaultOf name d NotObject = ⊥
 IsFaultOf name d NoTime = ⊥
@@ -91,7 +91,7 @@ pub record HasFault (all : Members) (found : RowFault) : Type 0 where
   pub fault : IsFirstFault all found
 
 -- the text is this row
-pub record Gives (text : List ℕ) (row : Row) : Type 0 where
+pub record IsThisRow (text : List ℕ) (row : Row) : Type 0 where
   pub all : Members
   pub object : IsObject text all
   pub few : cell_count all ≤ 1024

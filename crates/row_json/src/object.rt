@@ -5,7 +5,7 @@ ghost use Rattle.std.specs.List.Sorted.{IsStrictlySortedBy};
 ghost use Rattle.std.specs.Map.{keys_of};
 ghost use Rattle.serde_json.specs.View.{view, members_view};
 ghost use Rattle.leaf_model.specs.Values.{IsCell, IsRow, IsValue};
-ghost use Rattle.row_json.specs.Meaning.{Gives, Refuses};
+ghost use Rattle.row_json.specs.Meaning.{IsThisRow, Refuses};
 ghost use Rattle.row_json.specs.Row.{row_of, row_of_data, row_of_members, time_of, cell_count, cells_of, cell_of, value_of, text_of, items_of};
 
 use leaf_model::{Cell, Cells, Row, Text, Value};
@@ -56,7 +56,7 @@ pub fn row(alloc: Global, text: &[u8]) -> Result<Row, RowFault>
 /// Law: what is a row, and what each fault means, in terms of the members of the text's object.
 #[tactic(auto, using(crate::proofs::Meaning::rows_meaning, crate::proofs::Meaning::faults_meaning))]
 pub fn row_meaning()
-    ensures rows { (text : List ℕ) → (row : Row) → row_of text ≡ Ok row → Gives text row }
+    ensures rows { (text : List ℕ) → (row : Row) → row_of text ≡ Ok row → IsThisRow text row }
     ensures faults { (text : List ℕ) → (fault : RowFault) → (row_of text ≡ Err fault) ↔ Refuses text fault }
 {}
 

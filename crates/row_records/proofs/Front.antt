@@ -5,13 +5,13 @@ use Rattle.std.proofs.lemmas.List.{take_at, drop_at, take-append-drop}
 use Rattle.std.proofs.lemmas.List.Concat.{flat_map-cons}
 use Rattle.leaf_model.specs.declared.rows.Row.{Row}
 use Rattle.leaf_model.specs.Values.{IsRow}
-use Rattle.row_records.specs.Bytes.{row_bytes, rows_bytes, Begins, IsBytes, StandsInFront}
+use Rattle.row_records.specs.Bytes.{row_bytes, rows_bytes, BeginsWith, IsBytes, StandsInFront}
 use Rattle.row_records.specs.Reading.{rows_at}
 use Rattle.row_records.proofs.Fields.{some_is}
 use Rattle.row_records.proofs.Records.{rows_take, rows_again}
 
 -- what begins with more begins with less
-pub begins_within : (before added mid now : List ℕ) → mid ≡ before ++ added → Begins mid now → Begins before now
+pub begins_within : (before added mid now : List ℕ) → mid ≡ before ++ added → BeginsWith mid now → BeginsWith before now
 begins_within before added mid now e h =
     let left = drop (length mid) now in
     let parts : now ≡ before ++ (added ++ left) = sym (take-append-drop (length mid) now) ∙ ap (λ (w : List ℕ). w ++ left) (h ∙ e) ∙ append_assoc before added left in

@@ -62,5 +62,5 @@ abbrev pub IsBytes : List ℕ → Type 0
 IsBytes bytes = (i : ℕ) → get_or bytes i 0 < 256
 
 -- what stands now begins with what stood before
-abbrev pub Begins : List ℕ → List ℕ → Type 0
-Begins before now = take (length before) now ≡ before
+abbrev pub BeginsWith : List ℕ → List ℕ → Type 0
+BeginsWith before now = take (length before) now ≡ before

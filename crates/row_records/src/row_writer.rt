@@ -2,7 +2,7 @@
 ghost use Rattle.std.specs.Prelude.{◌≡◌, ◌≤◌, ◌++◌, length, OnOk, OnErr};
 ghost use Rattle.std.specs.List.{flat_map, AllByRecursion};
 ghost use Rattle.leaf_model.specs.Values.{IsValue, IsCell, IsRow};
-ghost use Rattle.row_records.specs.Bytes.{name_bytes, value_bytes, cell_bytes, row_bytes, rows_bytes, i64_bytes, u16_bytes, Begins};
+ghost use Rattle.row_records.specs.Bytes.{name_bytes, value_bytes, cell_bytes, row_bytes, rows_bytes, i64_bytes, u16_bytes, BeginsWith};
 
 use leaf_model::{Cell, Row, Value};
 use std::alloc::AllocError;
@@ -24,7 +24,7 @@ pub fn put_rows(out: &mut Vec<u8>, rows: &[Row]) -> Result<(), AllocError>
 pub(crate) fn put_name(out: &mut Vec<u8>, name: &str) -> Result<(), AllocError>
     requires { length name.now ≤ 255 }
     ensures put { OnOk result (out.new.items ≡ out.old.items ++ name_bytes name.now) }
-    ensures begins { OnErr result (Begins out.old.items out.new.items) }
+    ensures begins { OnErr result (BeginsWith out.old.items out.new.items) }
 {
     out.push(name.len() as u8)?;
     out.extend_from_slice(name.as_bytes())
@@ -33,7 +33,7 @@ pub(crate) fn put_name(out: &mut Vec<u8>, name: &str) -> Result<(), AllocError>
 fn put_value(out: &mut Vec<u8>, value: &Value) -> Result<(), AllocError>
     requires { IsValue value.now }
     ensures put { OnOk result (out.new.items ≡ out.old.items ++ value_bytes value.now) }
-    ensures begins { OnErr result (Begins out.old.items out.new.items) }
+    ensures begins { OnErr result (BeginsWith out.old.items out.new.items) }
 {
     match value {
         Value::Int(number) => {
@@ -51,7 +51,7 @@ fn put_value(out: &mut Vec<u8>, value: &Value) -> Result<(), AllocError>
 fn put_cell(out: &mut Vec<u8>, cell: &Cell) -> Result<(), AllocError>
     requires { IsCell cell.now }
     ensures put { OnOk result (out.new.items ≡ out.old.items ++ cell_bytes cell.now) }
-    ensures begins { OnErr result (Begins out.old.items out.new.items) }
+    ensures begins { OnErr result (BeginsWith out.old.items out.new.items) }
 {
     put_name(out, cell.name.as_str())?;
     put_value(out, &cell.value)
@@ -60,7 +60,7 @@ fn put_cell(out: &mut Vec<u8>, cell: &Cell) -> Result<(), AllocError>
 fn put_cells(out: &mut Vec<u8>, cells: &[Cell]) -> Result<(), AllocError>
     requires { AllByRecursion IsCell cells.now }
     ensures put { OnOk result (out.new.items ≡ out.old.items ++ flat_map cell_bytes cells.now) }
-    ensures begins { OnErr result (Begins out.old.items out.new.items) }
+    ensures begins { OnErr result (BeginsWith out.old.items out.new.items) }
 {
     for cell in cells {
         put_cell(out, cell)?;
@@ -70,7 +70,7 @@ fn put_cells(out: &mut Vec<u8>, cells: &[Cell]) -> Result<(), AllocError>
 
 fn put_row_head(out: &mut Vec<u8>, time: i64, cells: u16) -> Result<(), AllocError>
     ensures put { OnOk result (out.new.items ≡ out.old.items ++ (i64_bytes time ++ u16_bytes cells)) }
-    ensures begins { OnErr result (Begins out.old.items out.new.items) }
+    ensures begins { OnErr result (BeginsWith out.old.items out.new.items) }
 {
     out.extend_from_slice(&time.to_le_bytes())?;
     out.extend_from_slice(&cells.to_le_bytes())
@@ -79,7 +79,7 @@ fn put_row_head(out: &mut Vec<u8>, time: i64, cells: u16) -> Result<(), AllocErr
 fn put_row(out: &mut Vec<u8>, row: &Row) -> Result<(), AllocError>
     requires { IsRow row.now }
     ensures put { OnOk result (out.new.items ≡ out.old.items ++ row_bytes row.now) }
-    ensures begins { OnErr result (Begins out.old.items out.new.items) }
+    ensures begins { OnErr result (BeginsWith out.old.items out.new.items) }
 {
     let cells = row.cells.as_slice();
     put_row_head(out, row.time, cells.len() as u16)?;
@@ -89,7 +89,7 @@ fn put_row(out: &mut Vec<u8>, row: &Row) -> Result<(), AllocError>
 pub(crate) fn lay_rows(out: &mut Vec<u8>, rows: &[Row]) -> Result<(), AllocError>
     requires { AllByRecursion IsRow rows.now }
     ensures put { OnOk result (out.new.items ≡ out.old.items ++ rows_bytes rows.now) }
-    ensures begins { OnErr result (Begins out.old.items out.new.items) }
+    ensures begins { OnErr result (BeginsWith out.old.items out.new.items) }
 {
     for row in rows {
         put_row(out, row)?;

@@ -76,6 +76,6 @@ IfAt (At line why) P = P line why
 IfAt NoMemory P = Unit {0}
 
 -- What a function returned, seen by view, is what reading gives, unless memory ran out.
-abbrev pub Gives : {X Y : Type 0} → (X → Y) → Result X ScriptFault → Result Y Fault → Type 0
-Gives view (Ok x) read = read ≡ Ok (view x)
-Gives view (Err e) read = IfAt e (λ line why. read ≡ Err (line, why))
+abbrev pub ParsesAs : {X Y : Type 0} → (X → Y) → Result X ScriptFault → Result Y Fault → Type 0
+ParsesAs view (Ok x) read = read ≡ Ok (view x)
+ParsesAs view (Err e) read = IfAt e (λ line why. read ≡ Err (line, why))

@@ -8,7 +8,7 @@ ghost use Rattle.script_text.specs.Lines.{lines_of};
 ghost use Rattle.script_text.specs.Words.{words_of};
 ghost use Rattle.script_text.specs.Commands.{AddForm, add_of, add_words, capped_leaf, one_row, rows_from};
 ghost use Rattle.script_text.specs.Fits.{IsCommand};
-ghost use Rattle.script_text.specs.Script.{Gives, row_count};
+ghost use Rattle.script_text.specs.Script.{ParsesAs, row_count};
 
 use crate::command::Command;
 use crate::fault::{ScriptFault, Why, fault_at};
@@ -42,7 +42,7 @@ pub fn add(
 ) -> Result<Command, ScriptFault>
     requires few { length tables.now ≤ 16 }
     requires place { number + length after.now < 2 ^ 64 }
-    ensures exact { Gives (λ c. c) result (add_of number tables.now (add_words (words_of words.now)) (lines_of after.now)) }
+    ensures exact { ParsesAs (λ c. c) result (add_of number tables.now (add_words (words_of words.now)) (lines_of after.now)) }
     ensures is_command { IfOk result (IsCommand tables.now) }
     ensures enough { IfOk result (λ c. row_count c ≤ length (lines_of after.now)) }
 {
@@ -92,7 +92,7 @@ fn rows(alloc: Global, text: &[u8], number: u64, count: u64) -> Result<Rows, Scr
     requires few { count ≤ MAX_ROWS }
     requires enough { count ≤ length (lines_of text.now) }
     requires place { number + length text.now < 2 ^ 64 }
-    ensures exact { Gives (λ rows. rows) result (rows_from (number + 1) (take count (lines_of text.now))) }
+    ensures exact { ParsesAs (λ rows. rows) result (rows_from (number + 1) (take count (lines_of text.now))) }
     ensures are_rows { IfOk result (AllByRecursion IsRow) }
     ensures count { IfOk result (λ rows. length rows ≡ count) }
 {
@@ -108,7 +108,7 @@ fn rows(alloc: Global, text: &[u8], number: u64, count: u64) -> Result<Rows, Scr
 
 /// The row that the line of this number is.
 fn row(alloc: Global, line: &[u8], number: u64) -> Result<Row, ScriptFault>
-    ensures exact { Gives (λ row. row) result (one_row number (row_of line.now)) }
+    ensures exact { ParsesAs (λ row. row) result (one_row number (row_of line.now)) }
     ensures is_row { IfOk result IsRow }
 {
     match row_json::row(alloc, line) {

@@ -3,7 +3,7 @@ ghost use Rattle.std.specs.Prelude.{◌≡◌, ◌≤◌, ℕ, List, IfOk, IfSom
 ghost use Rattle.script_text.specs.Words.{words_of, capped};
 ghost use Rattle.script_text.specs.Commands.{DrainForm, drain_of, drain_words};
 ghost use Rattle.script_text.specs.Fits.{IsCommand};
-ghost use Rattle.script_text.specs.Script.{Gives, row_count};
+ghost use Rattle.script_text.specs.Script.{ParsesAs, row_count};
 
 use crate::add::LEAVES;
 use crate::command::Command;
@@ -23,7 +23,7 @@ struct DrainWords {
 
 /// The drain of these words, which stand on the line of this number.
 pub fn drain(words: &[u8], number: u64) -> Result<Command, ScriptFault>
-    ensures exact { Gives (λ c. c) result (drain_of number (drain_words (words_of words.now))) }
+    ensures exact { ParsesAs (λ c. c) result (drain_of number (drain_words (words_of words.now))) }
     ensures is_command { (tables : List (List ℕ)) → IfOk result (IsCommand tables) }
     ensures no_rows { IfOk result (λ c. row_count c ≡ 0) }
 {

@@ -5,7 +5,7 @@ ghost use Rattle.script_text.specs.declared.command.Command.TheVariants.{Fleet};
 ghost use Rattle.script_text.specs.Words.{words_of, first_word, is_among, may_follow, are_tables, is_table_name};
 ghost use Rattle.script_text.specs.Commands.{first_command, fleet_of, or_words, verb_of};
 ghost use Rattle.script_text.specs.Fits.{AreTables};
-ghost use Rattle.script_text.specs.Script.{Gives};
+ghost use Rattle.script_text.specs.Script.{ParsesAs};
 
 use crate::fault::{ScriptFault, Why, fault_at};
 use crate::verb::{Verb, verb_of};
@@ -18,7 +18,7 @@ const MAX_TABLES: usize = 16;
 
 /// The tables of the fleet that a line is, where no fleet was read before it. It has one machine of one leaf.
 pub fn first_command(alloc: Global, line: &[u8], number: u64) -> Result<Names, ScriptFault>
-    ensures exact { Gives (λ tables. Fleet 1 1 tables) result (first_command number line.now (verb_of (first_word line.now))) }
+    ensures exact { ParsesAs (λ tables. Fleet 1 1 tables) result (first_command number line.now (verb_of (first_word line.now))) }
     ensures are_tables { IfOk result AreTables }
 {
     let (word, words) = cut_word(line);
@@ -32,7 +32,7 @@ pub fn first_command(alloc: Global, line: &[u8], number: u64) -> Result<Names, S
 }
 
 fn fleet(alloc: Global, words: &[u8], number: u64) -> Result<Names, ScriptFault>
-    ensures exact { Gives (λ tables. Fleet 1 1 tables) result (or_words number (fleet_of (words_of words.now))) }
+    ensures exact { ParsesAs (λ tables. Fleet 1 1 tables) result (or_words number (fleet_of (words_of words.now))) }
     ensures are_tables { IfOk result AreTables }
 {
     let Some(names) = behind_sizes(words) else {

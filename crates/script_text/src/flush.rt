@@ -3,7 +3,7 @@ ghost use Rattle.std.specs.Prelude.{◌≡◌, ◌≤◌, IfOk, length, option_m
 ghost use Rattle.script_text.specs.Words.{words_of, capped};
 ghost use Rattle.script_text.specs.Commands.{FlushForm, flush_of, flush_words};
 ghost use Rattle.script_text.specs.Fits.{IsCommand};
-ghost use Rattle.script_text.specs.Script.{Gives, row_count};
+ghost use Rattle.script_text.specs.Script.{ParsesAs, row_count};
 
 use crate::add::LEAVES;
 use crate::command::Command;
@@ -21,7 +21,7 @@ struct FlushWords<'a> {
 /// The flush of these words, which stand on the line of this number.
 pub fn flush(tables: &Names, words: &[u8], number: u64) -> Result<Command, ScriptFault>
     requires few { length tables.now ≤ 16 }
-    ensures exact { Gives (λ c. c) result (flush_of number tables.now (flush_words (words_of words.now))) }
+    ensures exact { ParsesAs (λ c. c) result (flush_of number tables.now (flush_words (words_of words.now))) }
     ensures is_command { IfOk result (IsCommand tables.now) }
     ensures no_rows { IfOk result (λ c. row_count c ≡ 0) }
 {

@@ -4,7 +4,7 @@ ghost use Rattle.script_text.specs.Lines.{lines_of};
 ghost use Rattle.script_text.specs.Words.{words_of, capped};
 ghost use Rattle.script_text.specs.Commands.{command_of, leaf_of, one_number};
 ghost use Rattle.script_text.specs.Fits.{IsCommand};
-ghost use Rattle.script_text.specs.Script.{Gives, row_count};
+ghost use Rattle.script_text.specs.Script.{ParsesAs, row_count};
 
 use crate::add::{LEAVES, add};
 use crate::command::Command;
@@ -27,7 +27,7 @@ pub fn later_command(
 ) -> Result<Command, ScriptFault>
     requires few { length tables.now ≤ 16 }
     requires place { number + length after.now < 2 ^ 64 }
-    ensures exact { Gives (λ c. c) result (command_of number (Some tables.now) line.now (lines_of after.now)) }
+    ensures exact { ParsesAs (λ c. c) result (command_of number (Some tables.now) line.now (lines_of after.now)) }
     ensures is_command { IfOk result (IsCommand tables.now) }
     ensures enough { IfOk result (λ c. row_count c ≤ length (lines_of after.now)) }
 {
@@ -52,7 +52,7 @@ pub fn later_command(
 
 /// The leaf of the fleet that the one word names.
 fn leaf_of(words: &[u8], number: u64) -> Result<u32, ScriptFault>
-    ensures exact { Gives (λ leaf. leaf) result (leaf_of number (one_number (words_of words.now))) }
+    ensures exact { ParsesAs (λ leaf. leaf) result (leaf_of number (one_number (words_of words.now))) }
     ensures is_zero { IfOk result (λ leaf. leaf ≡ 0) }
 {
     let Some(leaf) = one_number(words) else {

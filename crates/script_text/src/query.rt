@@ -4,7 +4,7 @@ ghost use Rattle.query_text.specs.Grammar.{IsQuery};
 ghost use Rattle.query_text.specs.Reading.{query_of};
 ghost use Rattle.script_text.specs.Commands.{one_query, query_command};
 ghost use Rattle.script_text.specs.Fits.{IsCommand};
-ghost use Rattle.script_text.specs.Script.{Gives, row_count};
+ghost use Rattle.script_text.specs.Script.{ParsesAs, row_count};
 
 use crate::command::Command;
 use crate::fault::{ScriptFault, Why, fault_at};
@@ -21,7 +21,7 @@ pub fn query(
     number: u64,
 ) -> Result<Command, ScriptFault>
     requires few { length tables.now ≤ 16 }
-    ensures exact { Gives (λ c. c) result (query_command number tables.now (one_query number (query_of text.now))) }
+    ensures exact { ParsesAs (λ c. c) result (query_command number tables.now (one_query number (query_of text.now))) }
     ensures is_command { IfOk result (IsCommand tables.now) }
     ensures no_rows { IfOk result (λ c. row_count c ≡ 0) }
 {
@@ -34,7 +34,7 @@ pub fn query(
 
 /// The query that the line of this number holds, whatever its table is.
 fn read_query(alloc: Global, text: &[u8], number: u64) -> Result<Query, ScriptFault>
-    ensures exact { Gives (λ query. query) result (one_query number (query_of text.now)) }
+    ensures exact { ParsesAs (λ query. query) result (one_query number (query_of text.now)) }
     ensures is_query { IfOk result IsQuery }
 {
     match parse(alloc, text) {

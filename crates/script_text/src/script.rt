@@ -4,7 +4,7 @@ ghost use Rattle.script_text.specs.declared.command.Command.TheVariants.{Fleet};
 ghost use Rattle.script_text.specs.Lines.{lines_of};
 ghost use Rattle.script_text.specs.Commands.{joined};
 ghost use Rattle.script_text.specs.Fits.{AreTables, AreCommands, IsScript};
-ghost use Rattle.script_text.specs.Script.{NumberedLine, script_of, commands_from, IfAt, Gives, row_count, next_line};
+ghost use Rattle.script_text.specs.Script.{NumberedLine, script_of, commands_from, IfAt, ParsesAs, row_count, next_line};
 
 use crate::command::{Command, Commands};
 use crate::fault::ScriptFault;
@@ -59,7 +59,7 @@ fn commands_behind(
 ) -> Result<Vec<Command>, ScriptFault>
     requires tables { AreTables tables.now }
     requires place { fleet_line + length text.now < 2 ^ 64 }
-    ensures exact { Gives (λ commands. commands.items) result
+    ensures exact { ParsesAs (λ commands. commands.items) result
         (joined (Fleet 1 1 tables.now ∷ []) (commands_from 0 (fleet_line + 1) (Some tables.now) (lines_of text.now))) }
     ensures are_commands { IfOk result (λ commands. AreCommands commands.items) }
 {

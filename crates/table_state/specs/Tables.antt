@@ -28,8 +28,8 @@ abbrev pub empty_table : Table
 empty_table = record { contents = nothing; writes = 0; pending = None }
 
 -- one more accepted write of a table of this name
-abbrev pub with_write : List ℕ → Table → Write → Table
-with_write name t w = record { contents = content_after t.contents w; writes = t.writes + 1; pending = Some (with_push name w t.pending) }
+abbrev pub table_with_write : List ℕ → Table → Write → Table
+table_with_write name t w = record { contents = content_after t.contents w; writes = t.writes + 1; pending = Some (with_push name w t.pending) }
 
 -- one more accepted write, of which the disk is owed nothing
 abbrev pub replayed : Table → Write → Table
@@ -53,13 +53,13 @@ pub record MayWrite (name : List ℕ) (t : Table) : Type 0 where
 
 -- an add keeps the rows that are not late; it is refused exactly where there would be more than 2^40 rows; a refusal changes nothing
 abbrev pub Adds : List ℕ → Table → List Row → Result Added AddFault → Table → Type 0
-Adds name t rows (Ok a) now = (length t.contents.rows + kept_count t.contents rows ≤ most_rows) × (a.kept ≡ kept_count t.contents rows) × (a.late ≡ late_count t.contents rows) × (now ≡ with_write name t (Add rows))
+Adds name t rows (Ok a) now = (length t.contents.rows + kept_count t.contents rows ≤ most_rows) × (a.kept ≡ kept_count t.contents rows) × (a.late ≡ late_count t.contents rows) × (now ≡ table_with_write name t (Add rows))
 Adds name t rows (Err Full) now = (most_rows < length t.contents.rows + kept_count t.contents rows) × (now ≡ t)
 Adds name t rows (Err NoMemory) now = now ≡ t
 
 -- an expiry or a keep takes rows away; where there is no memory it changes nothing
 abbrev pub Removes : {E : Type 0} → List ℕ → Table → Write → Result ℕ E → Table → Type 0
-Removes name t w (Ok n) now = (n ≡ removed_count t.contents w) × (now ≡ with_write name t w)
+Removes name t w (Ok n) now = (n ≡ removed_count t.contents w) × (now ≡ table_with_write name t w)
 Removes name t w (Err e) now = now ≡ t
 
 -- a write that the disk has already is refused exactly where there would be more than 2^40 rows; a refusal changes nothing

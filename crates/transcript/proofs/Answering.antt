@@ -15,13 +15,13 @@ use Rattle.leaf_history.specs.Calls as call
 use Rattle.leaf_history.specs.Calls.{Call}
 use Rattle.leaf_history.specs.Replies as reply
 use Rattle.leaf_history.specs.Replies.{Reply as MadeReply}
-use Rattle.leaf_history.specs.History.{Entry, TableState, AddReply, AskReply, after, held}
-use Rattle.crash_events.specs.Left.{Tables}
+use Rattle.leaf_history.specs.History.{Entry, HistoryState, AddReply, AskReply, after, held}
+use Rattle.crash_events.specs.Left.{NamedStates}
 use Rattle.leaf_table.specs.declared.base.TableBase.{TableBase}
 use Rattle.leaf_table.specs.declared.replies.Reply.{Reply}
 use Rattle.leaf_table.specs.declared.replies.Reply.TheVariants as told
 use Rattle.leaf_table.specs.Turns.{Shared, is_founded, start_of, history, told as entry_told}
-use Rattle.leaf_table.specs.Calls.{SeatView, Replied, Answered as CallAnswered, Tells as TellsReply, base_of, entry_of, name_of, seen_of, state_before}
+use Rattle.leaf_table.specs.Calls.{SeatView, Replied, HasAnswers as CallAnswered, IsToldAs as TellsReply, base_seen, entry_seen, name_of, seen_of, state_before}
 use Rattle.leaf_steward.specs.declared.notes.Note.{Note}
 use Rattle.leaf_steward.specs.Seated.{Seated}
 use Rattle.leaf_steward.specs.Making.{WornAt}
@@ -41,8 +41,8 @@ use Rattle.script_text.specs.declared.command.Command.TheVariants as command
 use Rattle.transcript.specs.Transcript.{AnswersLine, CallLine, IsAddSaid, IsAskSaid, Played, QueryLines, WornIsLong, named, place_of, row_lines, rows_before, worn_in}
 use Rattle.transcript.specs.Base.{base_at}
 use Rattle.transcript.specs.Stage.{Leaf, IsUp, MeetAll, seated_of}
-use Rattle.transcript.specs.Steps.{AnswersWith, CallStep, QueryStep, Says, StartMoves, FlushMoves, KillMoves, DrainMoves, IsWornFor, ending_of, ending_of_flush, note_lines}
-use Rattle.transcript.specs.Session.{Answered, AreFoundedWith, AreInPlace, WornAreLong, history_at, one_leaf}
+use Rattle.transcript.specs.Steps.{AnswersWith, CallStep, QueryStep, IsReplyLine, StartMoves, FlushMoves, KillMoves, DrainMoves, IsWornFor, ending_of, ending_of_flush, note_lines}
+use Rattle.transcript.specs.Session.{HasAnswers, AreFoundedWith, AreInPlace, WornAreLong, history_at, one_leaf}
 use Rattle.transcript.proofs.Lists.{All-append, All-weaken, element_at, get_map, get_set_same, names_are, not_below, same_some}
 use Rattle.transcript.proofs.Growing.{rows_before-grows, rows_before-next}
 use Rattle.transcript.proofs.Terms.{Grow}
@@ -77,7 +77,7 @@ SeesMore v w = (more : List Entry) × (seen_of w ≡ seen_of v ++ more)
 
 replied_more : (base : Option TableBase) (v : SeatView) (c : Call) (r : Reply) (w : SeatView) → Replied base v c r w → SeesMore v w
 replied_more base v c r w h =
-    let own = entry_of v.id 0 c h.1 ∷ [] in
+    let own = entry_seen v.id 0 c h.1 ∷ [] in
     (h.2.between ++ own, h.2.seen ∙ append_assoc (seen_of v) h.2.between own)
 
 pub answered_more : (base : Option TableBase) (v : SeatView) (c : Call) (r : Reply) (w : SeatView) → CallAnswered base v c r w → SeesMore v w
@@ -98,7 +98,7 @@ set_grows (x ∷ xs) (suc place) v w at more (suc table) = set_grows xs place v 
 
 pub call_grows : (table : ℕ) (called : Call) (tables : List Shared) (callers : List SeatView) (l : Line) (callers' : List SeatView) → CallStep table called tables callers l callers' → Grow callers callers'
 call_grows table called tables callers l callers' step =
-    let more = answered_more (base_of step.shared) step.before called step.reply step.after step.answered in
+    let more = answered_more (base_seen step.shared) step.before called step.reply step.after step.answered in
     subst (λ cs. Grow callers cs) (sym step.now) (set_grows callers table step.before step.after step.was more)
 
 pub met_at : (callers callers' : List SeatView) (table : ℕ) (v c c' : SeatView) → slice_get callers table ≡ Some c → slice_get callers' table ≡ Some c' → Told c v c'
@@ -130,17 +130,17 @@ grow_on xs ys zs g h table =
 -- ---- what was answered stays answered, and who was worn stays worn
 
 -- what is asked of the lines of a query, over one history
-abbrev AnswersOver : TableState → Query → List Line → List Entry → Type 0
+abbrev AnswersOver : HistoryState → Query → List Line → List Entry → Type 0
 AnswersOver base q lines entries =
     AllByRecursion (AnswersLine (λ leaf. base) (λ leaf. entries) q (named lines)) lines × AllByRecursion (λ (l : ℕ × ℕ). l.1 - 1 ≤ length entries) (named lines)
 
-rows_grow : (base : TableState) (entries es : List Entry) (leaves : List (ℕ × ℕ))
+rows_grow : (base : HistoryState) (entries es : List Entry) (leaves : List (ℕ × ℕ))
     → AllByRecursion (λ (l : ℕ × ℕ). l.1 - 1 ≤ length entries) leaves
     → flat_map (λ (l : ℕ × ℕ). rows_before base (entries ++ es) l.1) leaves ≡ flat_map (λ (l : ℕ × ℕ). rows_before base entries l.1) leaves
 rows_grow base entries es [] a = refl
 rows_grow base entries es (l ∷ ls) a = rw (rows_before-grows base entries es l.1 a.0, rows_grow base entries es ls a.1) refl
 
-line_grows : (base : TableState) (entries es : List Entry) (q : Query) (leaves : List (ℕ × ℕ))
+line_grows : (base : HistoryState) (entries es : List Entry) (q : Query) (leaves : List (ℕ × ℕ))
     → AllByRecursion (λ (l : ℕ × ℕ). l.1 - 1 ≤ length entries) leaves
     → (l : Line) → AnswersLine (λ leaf. base) (λ leaf. entries) q leaves l → AnswersLine (λ leaf. base) (λ leaf. entries ++ es) q leaves l
 line_grows base entries es q leaves a (line.Answer count of rows) e = e ∙ sym (ap (row_lines q) (rows_grow base entries es leaves a))
@@ -148,22 +148,22 @@ line_grows base entries es q leaves a (line.Entry leaf table number said) e = e
 line_grows base entries es q leaves a (line.Worn leaf table) e = e
 line_grows base entries es q leaves a (line.Ended verb leaf ending) e = e
 
-over_grows : (base : TableState) (q : Query) (lines : List Line) (entries es : List Entry) → AnswersOver base q lines entries → AnswersOver base q lines (entries ++ es)
+over_grows : (base : HistoryState) (q : Query) (lines : List Line) (entries es : List Entry) → AnswersOver base q lines entries → AnswersOver base q lines (entries ++ es)
 over_grows base q lines entries es h = (
   All-weaken (AnswersLine (λ leaf. base) (λ leaf. entries) q (named lines)) (AnswersLine (λ leaf. base) (λ leaf. entries ++ es) q (named lines)) (line_grows base entries es q (named lines) h.1) lines h.0,
   All-weaken (λ (l : ℕ × ℕ). l.1 - 1 ≤ length entries) (λ (l : ℕ × ℕ). l.1 - 1 ≤ length (entries ++ es)) (λ l k. omega (arith, k, length-append entries es)) (named lines) h.1,
 )
 
-command_grows : (names : List (List ℕ)) (base : Tables) (callers callers' : List SeatView) (c : Command) (lines : List Line)
-    → Grow callers callers' → Answered names base (history_at callers) (record { command = c; lines = lines }) → Answered names base (history_at callers') (record { command = c; lines = lines })
+command_grows : (names : List (List ℕ)) (base : NamedStates) (callers callers' : List SeatView) (c : Command) (lines : List Line)
+    → Grow callers callers' → HasAnswers names base (history_at callers) (record { command = c; lines = lines }) → HasAnswers names base (history_at callers') (record { command = c; lines = lines })
 command_grows names base callers callers' (command.Query q) lines grow h =
     let table = place_of q.table names in
     let more = grow table in
     subst (AnswersOver (base_at names base table) q lines) (sym more.1) (over_grows (base_at names base table) q lines (history_at callers table) more.0 h)
 command_grows names base callers callers' c lines grow h = h
 
-pub answered_grows : (names : List (List ℕ)) (base : Tables) (callers callers' : List SeatView) (p : Played)
-    → Grow callers callers' → Answered names base (history_at callers) p → Answered names base (history_at callers') p
+pub answered_grows : (names : List (List ℕ)) (base : NamedStates) (callers callers' : List SeatView) (p : Played)
+    → Grow callers callers' → HasAnswers names base (history_at callers) p → HasAnswers names base (history_at callers') p
 answered_grows names base callers callers' p grow answered = command_grows names base callers callers' p.command p.lines grow answered
 
 worn_on : (callers callers' : List SeatView) (found : Option (ℕ × ℕ)) → Grow callers callers'
@@ -178,7 +178,7 @@ worn_grows callers callers' p grow worn =
 -- ---- the lines of callers' commands
 
 -- an add is not told groups
-not_groups : (s : TableState) (rows : List Row) (r : MadeReply) (made number : ℕ) (gs : List Group) → AddReply s rows r → TellsReply made r (told.Groups number gs) → ⊥
+not_groups : (s : HistoryState) (rows : List Row) (r : MadeReply) (made number : ℕ) (gs : List Group) → AddReply s rows r → TellsReply made r (told.Groups number gs) → ⊥
 not_groups s rows (reply.Added kept late) made number gs allowed tells = cc
 not_groups s rows (reply.Removed k) made number gs allowed tells = absurd allowed
 not_groups s rows (reply.Groups hs) made number gs allowed tells = absurd allowed
@@ -192,7 +192,7 @@ one_line : (l k : Line) → l ≡ k → l ∷ [] ≡ k ∷ []
 one_line l k e = ap (λ (x : Line). x ∷ []) e
 
 add_said : (base : Option TableBase) (v : SeatView) (rows : List Row) (r : Reply) (w : SeatView) (table : ℕ) (l : Line)
-    → CallAnswered base v (call.Add rows) r w → Says table r l → CallLine IsAddSaid 0 table (l ∷ [])
+    → CallAnswered base v (call.Add rows) r w → IsReplyLine table r l → CallLine IsAddSaid 0 table (l ∷ [])
 add_said base v rows (told.Added number kept late) w table l answered says = inl (number, said.Added kept late, tt, one_line l (line.Entry 0 table number (said.Added kept late)) says)
 add_said base v rows (told.Removed number k) w table l answered says = absurd says
 add_said base v rows (told.Groups number gs) w table l answered says =
@@ -204,9 +204,9 @@ add_said base v rows told.Worn w table l answered says = inr (one_line l (line.W
 
 pub add_line : (table : ℕ) (rows : List Row) (tables : List Shared) (callers : List SeatView) (l : Line) (callers' : List SeatView)
     → CallStep table (call.Add rows) tables callers l callers' → CallLine IsAddSaid 0 table (l ∷ [])
-add_line table rows tables callers l callers' step = add_said (base_of step.shared) step.before rows step.reply step.after table l step.answered step.says
+add_line table rows tables callers l callers' step = add_said (base_seen step.shared) step.before rows step.reply step.after table l step.answered step.says
 
-ask_said : (q : Query) (r : Reply) (table : ℕ) (l : Line) (rows : List (List ℕ)) → AnswersWith q r rows → Says table r l → CallLine IsAskSaid 0 table (l ∷ [])
+ask_said : (q : Query) (r : Reply) (table : ℕ) (l : Line) (rows : List (List ℕ)) → AnswersWith q r rows → IsReplyLine table r l → CallLine IsAskSaid 0 table (l ∷ [])
 ask_said q (told.Added number kept late) table l rows answers says = absurd answers
 ask_said q (told.Removed number k) table l rows answers says = absurd answers
 ask_said q (told.Groups number gs) table l rows answers says = inl (number, said.Asked, tt, one_line l (line.Entry 0 table number said.Asked) says)
@@ -235,7 +235,7 @@ pub no_lines : (q : Query) → row_lines q [] ≡ []
 no_lines q = ap (map (group_line q)) (none_taken q.limit)
 
 -- groups that are told are those of the rows just before, with the number of the entry
-groups_told : (s : TableState) (q : Query) (r : MadeReply) (made number : ℕ) (gs : List Group)
+groups_told : (s : HistoryState) (q : Query) (r : MadeReply) (made number : ℕ) (gs : List Group)
     → AskReply s q r → TellsReply made r (told.Groups number gs) → (number ≡ made) × (gs ≡ groups q (held s).rows)
 groups_told s q (reply.Groups hs) made number gs allowed tells = (let same : number ≡ made = cc in same, (let same : gs ≡ hs = cc in same) ∙ allowed.1)
 groups_told s q (reply.Added kept late) made number gs allowed tells = absurd allowed
@@ -247,7 +247,7 @@ groups_told s q (reply.Counted k) made number gs allowed tells = absurd allowed
 groups_told s q reply.Noted made number gs allowed tells = absurd allowed
 
 -- the rows before the last entry that a seat has seen
-rows_of_last : (base : TableState) (entries xs : List Entry) (e : Entry) (number : ℕ) → entries ≡ xs ++ e ∷ [] → number ≡ length entries
+rows_of_last : (base : HistoryState) (entries xs : List Entry) (e : Entry) (number : ℕ) → entries ≡ xs ++ e ∷ [] → number ≡ length entries
     → (rows_before base entries number ≡ (held (after true base xs)).rows) × (number - 1 ≤ length entries)
 rows_of_last base entries xs e number is count =
     let same = ap (λ (es : List Entry). length es) is in
@@ -256,20 +256,20 @@ rows_of_last base entries xs e number is count =
       omega (arith, count),
     )
 
-groups_answer : (base : TableState) (q : Query) (b : Option TableBase) (v w : SeatView) (number : ℕ) (gs : List Group) (rows : List (List ℕ))
+groups_answer : (base : HistoryState) (q : Query) (b : Option TableBase) (v w : SeatView) (number : ℕ) (gs : List Group) (rows : List (List ℕ))
     → is_founded b ≡ true → start_of b ≡ base
     → Replied b v (call.Ask q) (told.Groups number gs) w → rows ≡ answer_lines q gs
     → (rows ≡ row_lines q (rows_before base (seen_of w) number ++ [])) × (number - 1 ≤ length (seen_of w))
 groups_answer base q b v w number gs rows founded start h answers =
     let xs = seen_of v ++ h.2.between in
     let told_are = groups_told (state_before b v h.2.between) q h.1 (length w.seen) number gs h.2.allowed.1 h.3 in
-    let last = rows_of_last base (seen_of w) xs (entry_of v.id 0 (call.Ask q) h.1) number h.2.seen (told_are.0 ∙ sym (seen_length w)) in
+    let last = rows_of_last base (seen_of w) xs (entry_seen v.id 0 (call.Ask q) h.1) number h.2.seen (told_are.0 ∙ sym (seen_length w)) in
     let same : state_before b v h.2.between ≡ after true base xs = ap₂ (λ f s. after f s xs) founded start in
     (rw (answers, told_are.1, same, append-nil (rows_before base (seen_of w) number), last.0) refl, last.1)
 
-over_last : (base : TableState) (q : Query) (b : Option TableBase) (v w : SeatView) (r : Reply) (table count : ℕ) (l : Line) (rows : List (List ℕ))
+over_last : (base : HistoryState) (q : Query) (b : Option TableBase) (v w : SeatView) (r : Reply) (table count : ℕ) (l : Line) (rows : List (List ℕ))
     → is_founded b ≡ true → start_of b ≡ base
-    → CallAnswered b v (call.Ask q) r w → AnswersWith q r rows → Says table r l → AnswersOver base q (l ∷ line.Answer count 1 rows ∷ []) (seen_of w)
+    → CallAnswered b v (call.Ask q) r w → AnswersWith q r rows → IsReplyLine table r l → AnswersOver base q (l ∷ line.Answer count 1 rows ∷ []) (seen_of w)
 over_last base q b v w (told.Groups number gs) table count l rows founded start answered answers says =
     let over = groups_answer base q b v w number gs rows founded start answered answers in
     rw says ((tt, (over.0, tt)), (over.1, tt))
@@ -288,17 +288,17 @@ called_last table called tables callers l callers' step =
     ∙ at_table (slice_set callers table step.after) table step.after (get_set_same callers table step.before step.after step.was)
 
 -- the answer is over the rows of the table as it was before the entry
-pub query_answers : (names : List (List ℕ)) (base : Tables) (x : Seated) (q : Query) (callers : List SeatView) (lines : List Line) (callers' : List SeatView)
+pub query_answers : (names : List (List ℕ)) (base : NamedStates) (x : Seated) (q : Query) (callers : List SeatView) (lines : List Line) (callers' : List SeatView)
     → AreInPlace names x callers → AreFoundedWith base x → place_of q.table names < length names
     → QueryStep (place_of q.table names) q x.tables callers lines callers'
-    → Answered names base (history_at callers') (record { command = command.Query q; lines = lines })
+    → HasAnswers names base (history_at callers') (record { command = command.Query q; lines = lines })
 query_answers names base x q callers lines callers' in_place founded below step =
     let table = place_of q.table names in
     let calls = step.calls in
     let v = element_at x.seats table (omega (arith, below, in_place.seats)) in
     let begins = founded table calls.shared v.0 calls.at v.1 in
     let name = names_are names (map name_of x.tables) table (name_of calls.shared) in_place.named (get_map name_of x.tables table calls.shared calls.at) in
-    let over = over_last (base_at names base table) q (base_of calls.shared) calls.before calls.after calls.reply table (length (named (step.printed ∷ []))) step.printed step.rows
+    let over = over_last (base_at names base table) q (base_seen calls.shared) calls.before calls.after calls.reply table (length (named (step.printed ∷ []))) step.printed step.rows
     begins.0 (begins.1 ∙ ap base name) calls.answered step.answers calls.says in
     rw step.lines_are (subst (AnswersOver (base_at names base table) q (step.printed ∷ line.Answer (length (named (step.printed ∷ []))) 1 step.rows ∷ []))
     (sym (called_last table (call.Ask q) x.tables callers step.printed callers' calls)) over)
@@ -306,7 +306,7 @@ query_answers names base x q callers lines callers' in_place founded below step 
 -- ---- worn seats
 
 worn_said : (histories : ℕ → List Entry) (table : ℕ) (c : Command) (base : Option TableBase) (v : SeatView) (called : Call) (r : Reply) (w : SeatView) (l : Line)
-    → histories table ≡ seen_of w → CallAnswered base v called r w → Says table r l → WornIsLong (λ leaf. histories) c l
+    → histories table ≡ seen_of w → CallAnswered base v called r w → IsReplyLine table r l → WornIsLong (λ leaf. histories) c l
 worn_said histories table c base v called told.Worn w l last answered says =
     let same = ap (λ (es : List Entry). length es) last in
     let stays = ap (λ (s : SeatView). length s.seen) answered.1 in
@@ -317,7 +317,7 @@ worn_said histories table c base v called r w l last answered says = rw says tt
 pub call_worn : (table : ℕ) (c : Command) (called : Call) (tables : List Shared) (callers : List SeatView) (l : Line) (callers' : List SeatView)
     → CallStep table called tables callers l callers' → WornIsLong (λ leaf. history_at callers') c l
 call_worn table c called tables callers l callers' step =
-    worn_said (history_at callers') table c (base_of step.shared) step.before called step.reply step.after l (called_last table called tables callers l callers' step) step.answered step.says
+    worn_said (history_at callers') table c (base_seen step.shared) step.before called step.reply step.after l (called_last table called tables callers l callers' step) step.answered step.says
 
 -- the histories reach as far as the steward's seats have seen
 abbrev pub Reach : Leaf → (ℕ → List Entry) → Type 0

@@ -3,7 +3,7 @@ use Rattle.std.proofs.Common.{◌≡◌, ℕ, List, Some, sym, ap, subst, ◌∙
 use Rattle.std.specs.Prelude.{slice_get}
 use Rattle.berth_face.specs.Berth.{Meaning}
 use Rattle.leaf_opening.specs.declared.ways.Way.{Way}
-use Rattle.crash_events.specs.Left.{Tables}
+use Rattle.crash_events.specs.Left.{NamedStates}
 use Rattle.leaf_table.specs.Turns.{Shared}
 use Rattle.leaf_table.specs.Calls.{SeatView, name_of}
 use Rattle.leaf_steward.specs.Seated.{Seated}
@@ -11,7 +11,7 @@ use Rattle.script_text.specs.declared.command.Command.{Command}
 use Rattle.printed_lines.specs.declared.line.Line.{Line}
 use Rattle.transcript.specs.Life.{Life, Down, Up, Preparing}
 use Rattle.transcript.specs.Stage.{Leaf, IsDown, IsUp, IsPreparing, MeetAll, seated_of, seated_with, with_seats}
-use Rattle.transcript.specs.Session.{Answered, AreFoundedWith, AreInPlace, AtTables, FitsLife, IsStewards, Session, MetSession, TableMet, TableNow, WornAreLong, history_at}
+use Rattle.transcript.specs.Session.{HasAnswers, AreFoundedWith, AreInPlace, AtTables, FitsLife, IsStewards, Session, MetSession, TableMet, TableNow, WornAreLong, history_at}
 use Rattle.transcript.proofs.Lists.{All-weaken, element_at, within}
 use Rattle.transcript.proofs.Meeting.{met_table, now_table}
 use Rattle.transcript.proofs.Standing.{as_many, seat_there, caller_there, seats_become, stands_met, told_on}
@@ -74,7 +74,7 @@ tables_met P Q names leaf callers leaf' callers' m in_place met step tables =
     let before = seats_before names leaf callers place t in_place at in
     step place t before.steward before.caller v' c' at before.at_steward before.at_caller sat called (tables place t before.steward before.caller at before.at_steward before.at_caller))
 
-pub founded_met : (names : List (List ℕ)) (base : Tables) (leaf : Leaf) (callers : List SeatView) (leaf' : Leaf) (callers' : List SeatView) (m : Meaning)
+pub founded_met : (names : List (List ℕ)) (base : NamedStates) (leaf : Leaf) (callers : List SeatView) (leaf' : Leaf) (callers' : List SeatView) (m : Meaning)
     → AreInPlace names (seated_of leaf) callers → MeetAll leaf callers leaf' callers' m → AreFoundedWith base (seated_of leaf) → AreFoundedWith base (seated_of leaf')
 founded_met names base leaf callers leaf' callers' m in_place met founded =
     subst (λ (x : Seated). AreFoundedWith base x) (sym (met_seated leaf callers leaf' callers' m met)) (λ place t v at sat.
@@ -94,7 +94,7 @@ stewards_in P names leaf callers in_place is tables place v sat =
 -- ---- a run
 
 -- all seats meet
-pub meets : (names : List (List ℕ)) (way : Way) (base : Tables) (read : List ℕ → ℕ) (old : Meaning) (commands : List Command) (out : List Line) (leaf leaf' : Leaf) (callers callers' : List SeatView) (m : Meaning)
+pub meets : (names : List (List ℕ)) (way : Way) (base : NamedStates) (read : List ℕ → ℕ) (old : Meaning) (commands : List Command) (out : List Line) (leaf leaf' : Leaf) (callers callers' : List SeatView) (m : Meaning)
     → Session names way base read old commands out leaf callers m → MeetAll leaf callers leaf' callers' m
     → MetSession names way base read old commands out leaf' callers' m
 meets names way base read old commands out leaf leaf' callers callers' m s met =
@@ -114,7 +114,7 @@ meets names way base read old commands out leaf leaf' callers callers' m s met =
           names leaf callers leaf' callers' m s.in_place met
           (λ place t v c v' c' at sat called sat' called' now. met_table (base (name_of t)) (read (name_of t)) place s.played v c v' c' now (met.each place v c v' c' sat called sat' called'))
           s.tables;
-      answered = All-weaken (Answered names base (history_at callers)) (Answered names base (history_at callers')) (λ p. answered_grows names base callers callers' p grow) s.played s.answered;
+      answered = All-weaken (HasAnswers names base (history_at callers)) (HasAnswers names base (history_at callers')) (λ p. answered_grows names base callers callers' p grow) s.played s.answered;
       worn = All-weaken (WornAreLong (history_at callers)) (WornAreLong (history_at callers')) (λ p. worn_grows callers callers' p grow) s.played s.worn;
       fits = fits_met s.life leaf callers leaf' callers' m met s.fits;
       exact = λ calm. exact_met names base read s.played leaf callers leaf' callers' m s.in_place s.founded s.tables met (s.exact calm);
@@ -126,7 +126,7 @@ meets names way base read old commands out leaf leaf' callers callers' m s met =
     }
 
 -- and the run goes on from there
-pub goes_from : (names : List (List ℕ)) (way : Way) (base : Tables) (read : List ℕ → ℕ) (old : Meaning) (commands : List Command) (out : List Line) (leaf : Leaf) (callers : List SeatView) (m : Meaning)
+pub goes_from : (names : List (List ℕ)) (way : Way) (base : NamedStates) (read : List ℕ → ℕ) (old : Meaning) (commands : List Command) (out : List Line) (leaf : Leaf) (callers : List SeatView) (m : Meaning)
     → MetSession names way base read old commands out leaf callers m → Session names way base read old commands out leaf callers m
 goes_from names way base read old commands out leaf callers m s = record {
   played = s.played;

@@ -10,7 +10,7 @@ use Rattle.berth_face.specs.Berth.{Meaning}
 use Rattle.leaf_history.specs.Calls.{Call}
 use Rattle.leaf_history.specs.Calls as call
 use Rattle.leaf_opening.specs.declared.ways.Way.{Way}
-use Rattle.crash_events.specs.Left.{Tables}
+use Rattle.crash_events.specs.Left.{NamedStates}
 use Rattle.leaf_table.specs.declared.replies.Reply.{Reply}
 use Rattle.leaf_table.specs.declared.replies.Reply.TheVariants as told
 use Rattle.leaf_table.specs.Turns.{Shared}
@@ -20,10 +20,10 @@ use Rattle.script_text.specs.declared.command.Command.TheVariants as command
 use Rattle.printed_lines.specs.declared.line.Line.{Line}
 use Rattle.printed_lines.specs.declared.line.Line.TheVariants as line
 use Rattle.transcript.specs.Life.{Down}
-use Rattle.transcript.specs.Transcript.{Played, Prints, WornIsLong, call_of, disk_faults_in, place_of, shown_in}
+use Rattle.transcript.specs.Transcript.{Played, Prints, WornIsLong, call_shown, disk_faults_in, place_of, shown_in}
 use Rattle.transcript.specs.Stage.{Leaf, seated_of}
-use Rattle.transcript.specs.Steps.{AddStep, CallStep, QueryStep, Says}
-use Rattle.transcript.specs.Session.{Answered, AtTables, Faults, Session, TableNow, WornAreLong, history_at, one_leaf, scene_of}
+use Rattle.transcript.specs.Steps.{AddStep, CallStep, QueryStep, IsReplyLine}
+use Rattle.transcript.specs.Session.{HasAnswers, AtTables, Faults, Session, TableNow, WornAreLong, history_at, one_leaf, scene_of}
 use Rattle.transcript.proofs.Lists.{All-append, All-weaken, get_set_other, get_set_same, length_set, or_nothing, same_some}
 use Rattle.transcript.proofs.Growing.{faults_go_on, has_fault}
 use Rattle.transcript.proofs.Meeting.{call_table, other_table}
@@ -33,7 +33,7 @@ use Rattle.transcript.proofs.Going.{PrintsAll-snoc, lines-snoc}
 -- ---- the line of a reply
 
 -- it tells of no fault
-call_calm : (table : ℕ) (r : Reply) (l : Line) (tail : List Line) → Says table r l → disk_faults_in 0 (l ∷ tail) ≡ disk_faults_in 0 tail
+call_calm : (table : ℕ) (r : Reply) (l : Line) (tail : List Line) → IsReplyLine table r l → disk_faults_in 0 (l ∷ tail) ≡ disk_faults_in 0 tail
 call_calm table (told.Added number kept late) l tail is = rw is refl
 call_calm table (told.Removed number rows) l tail is = absurd is
 call_calm table (told.Groups number gs) l tail is = rw is refl
@@ -46,7 +46,7 @@ call_calm table told.Worn l tail is = rw is refl
 shows_elsewhere : (table t number : ℕ) (said : _) (c : Command) (tail : List Line) → (table ≡ t → ⊥) → shown_in 0 t c (line.Entry 0 table number said ∷ tail) ≡ shown_in 0 t c tail
 shows_elsewhere table t number said c tail other = rw (ne_eqb table t other) refl
 
-call_elsewhere : (table t : ℕ) (r : Reply) (l : Line) (c : Command) (tail : List Line) → (table ≡ t → ⊥) → Says table r l → shown_in 0 t c (l ∷ tail) ≡ shown_in 0 t c tail
+call_elsewhere : (table t : ℕ) (r : Reply) (l : Line) (c : Command) (tail : List Line) → (table ≡ t → ⊥) → IsReplyLine table r l → shown_in 0 t c (l ∷ tail) ≡ shown_in 0 t c tail
 call_elsewhere table t (told.Added number kept late) l c tail other is = rw is (shows_elsewhere table t number _ c tail other)
 call_elsewhere table t (told.Removed number rows) l c tail other is = absurd is
 call_elsewhere table t (told.Groups number gs) l c tail other is = rw is (shows_elsewhere table t number _ c tail other)
@@ -57,14 +57,14 @@ call_elsewhere table t told.Worn l c tail other is = rw is refl
 
 -- ---- one command more
 
-module _ (names : List (List ℕ)) (way : Way) (base : Tables) (read : List ℕ → ℕ) (old : Meaning) (commands : List Command) (out : List Line) (leaf : Leaf) (callers callers' : List SeatView) (m : Meaning)
+module _ (names : List (List ℕ)) (way : Way) (base : NamedStates) (read : List ℕ → ℕ) (old : Meaning) (commands : List Command) (out : List Line) (leaf : Leaf) (callers callers' : List SeatView) (m : Meaning)
     (s : Session names way base read old commands out leaf callers m) (table : ℕ) (c : Command) (called : Call) (l : Line) (tail : List Line)
     (step : CallStep table called (seated_of leaf).tables callers l callers')
-    (called_is : call_of c ≡ Some called)
+    (called_is : call_shown c ≡ Some called)
     (silent : (t : ℕ) → shown_in 0 t c tail ≡ [])
     (calm : disk_faults_in 0 tail ≡ 0)
     (prints : Prints (one_leaf names) (scene_of s.life) c (l ∷ tail) (scene_of s.life))
-    (answered : Answered names base (history_at callers') (record { command = c; lines = l ∷ tail }))
+    (answered : HasAnswers names base (history_at callers') (record { command = c; lines = l ∷ tail }))
     (worn : AllByRecursion (WornIsLong (λ leaf. history_at callers') c) tail) where
   abbrev p : Played
   p = record { command = c; lines = l ∷ tail }
@@ -122,8 +122,8 @@ module _ (names : List (List ℕ)) (way : Way) (base : Tables) (read : List ℕ 
           distinct = s.in_place.distinct;
         };
         tables = tables_then;
-        answered = All-append (Answered names base (history_at callers')) s.played (p ∷ [])
-            (All-weaken (Answered names base (history_at callers)) (Answered names base (history_at callers')) (λ q. answered_grows names base callers callers' q grow) s.played s.answered)
+        answered = All-append (HasAnswers names base (history_at callers')) s.played (p ∷ [])
+            (All-weaken (HasAnswers names base (history_at callers)) (HasAnswers names base (history_at callers')) (λ q. answered_grows names base callers callers' q grow) s.played s.answered)
             (answered, tt);
         worn = All-append (WornAreLong (history_at callers')) s.played (p ∷ [])
             (All-weaken (WornAreLong (history_at callers)) (WornAreLong (history_at callers')) (λ q. worn_grows callers callers' q grow) s.played s.worn)
@@ -138,7 +138,7 @@ module _ (names : List (List ℕ)) (way : Way) (base : Tables) (read : List ℕ 
       }
 
 -- rows are added
-pub add_on : (names : List (List ℕ)) (way : Way) (base : Tables) (read : List ℕ → ℕ) (old : Meaning) (commands : List Command) (out : List Line) (leaf : Leaf) (callers callers' : List SeatView) (m : Meaning)
+pub add_on : (names : List (List ℕ)) (way : Way) (base : NamedStates) (read : List ℕ → ℕ) (old : Meaning) (commands : List Command) (out : List Line) (leaf : Leaf) (callers callers' : List SeatView) (m : Meaning)
     (table : ℕ) (rows : List Row) (lines : List Line)
     → Session names way base read old commands out leaf callers m → AddStep table rows (seated_of leaf).tables callers lines callers'
     → Session names way base read old (commands ++ command.Add 0 table rows ∷ []) (out ++ lines) leaf callers' m
@@ -148,7 +148,7 @@ add_on names way base read old commands out leaf callers callers' m table rows l
     (add_line table rows (seated_of leaf).tables callers step.printed callers' step.calls, refl) (tt, tt) tt)
 
 -- a query is answered
-pub query_on : (names : List (List ℕ)) (way : Way) (base : Tables) (read : List ℕ → ℕ) (old : Meaning) (commands : List Command) (out : List Line) (leaf : Leaf) (callers callers' : List SeatView) (m : Meaning)
+pub query_on : (names : List (List ℕ)) (way : Way) (base : NamedStates) (read : List ℕ → ℕ) (old : Meaning) (commands : List Command) (out : List Line) (leaf : Leaf) (callers callers' : List SeatView) (m : Meaning)
     (q : Query) (lines : List Line) → place_of q.table names < length names
     → Session names way base read old commands out leaf callers m → QueryStep (place_of q.table names) q (seated_of leaf).tables callers lines callers'
     → Session names way base read old (commands ++ command.Query q ∷ []) (out ++ lines) leaf callers' m
@@ -158,4 +158,4 @@ query_on names way base read old commands out leaf callers callers' m q lines be
     subst (λ (ls : List Line). Session names way base read old (commands ++ command.Query q ∷ []) (out ++ ls) leaf callers' m) (sym step.lines_are)
     (call_on names way base read old commands out leaf callers callers' m s (place_of q.table names) (command.Query q) (call.Ask q) step.printed (line.Answer _ 1 step.rows ∷ []) step.calls refl (λ t. refl) refl
     (subst (λ (ls : List Line). Prints (one_leaf names) (scene_of s.life) (command.Query q) ls (scene_of s.life)) step.lines_are (shape, refl))
-    (subst (λ (ls : List Line). Answered names base (history_at callers') (record { command = command.Query q; lines = ls })) step.lines_are answers) (tt, tt))
+    (subst (λ (ls : List Line). HasAnswers names base (history_at callers') (record { command = command.Query q; lines = ls })) step.lines_are answers) (tt, tt))

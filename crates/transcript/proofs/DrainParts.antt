@@ -21,7 +21,7 @@ use Rattle.printed_lines.specs.declared.line.Line.TheVariants as line
 use Rattle.transcript.specs.Life.{Life, Down, Up, Preparing, Owed, Progress, BeginsAt, first_open, owed_line}
 use Rattle.transcript.specs.Life as life
 use Rattle.transcript.specs.Stage.{Leaf, IsDown, IsUp, IsPreparing, seated_of}
-use Rattle.transcript.specs.Steps.{Shuts, Part, TreatsOn, note_lines}
+use Rattle.transcript.specs.Steps.{BeginsShutting, Part, TreatsOn, note_lines}
 use Rattle.transcript.specs.Steps as steps
 use Rattle.transcript.specs.Session.{FitsLife, IsOwedAs, IsProgressOf}
 use Rattle.transcript.proofs.Rows.{lines_append, lines_owed}
@@ -37,7 +37,7 @@ pub record Begun (old : Life) (leaf : Leaf) (m : Meaning) (x : Shutting) : Type 
   pub progress : IsProgressOf x at
   pub tables : length x.serving.seated.tables ≡ length (seated_of leaf).tables
 
-pub begun : (old : Life) (leaf : Leaf) (m : Meaning) (x : Shutting) → FitsLife old leaf m → Shuts leaf x → Begun old leaf m x
+pub begun : (old : Life) (leaf : Leaf) (m : Meaning) (x : Shutting) → FitsLife old leaf m → BeginsShutting leaf x → Begun old leaf m x
 begun (Down claim) (IsDown y) m x fits shuts = absurd shuts
 begun (Down claim) (IsUp s) m x fits shuts = absurd fits
 begun (Down claim) (IsPreparing y) m x fits shuts = absurd fits

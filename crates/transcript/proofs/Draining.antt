@@ -13,13 +13,13 @@ use Rattle.printed_lines.specs.declared.line.Ending.{Ending}
 use Rattle.printed_lines.specs.declared.line.Ending.TheVariants as ending
 use Rattle.printed_lines.specs.declared.line.Line.{Line}
 use Rattle.printed_lines.specs.declared.line.Line.TheVariants as line
-use Rattle.crash_events.specs.Left.{Tables}
+use Rattle.crash_events.specs.Left.{NamedStates}
 use Rattle.leaf_steward.specs.declared.notes.Note.{Note}
 use Rattle.leaf_steward.specs.Seated.{Seated, AreFounded}
 use Rattle.leaf_steward.specs.Making.{EachNoted, IsClosedNote, IsHandedNote}
 use Rattle.leaf_machine.specs.States.{Shutting, treated}
 use Rattle.leaf_machine.specs.Prepares.{Halts, Starves, AllTreated}
-use Rattle.transcript.specs.Life.{Life, Down, Up, Preparing, Progress, Drains, MayMake, first_open, table_lines, way_stopped}
+use Rattle.transcript.specs.Life.{Life, Down, Up, Preparing, Progress, OfDrain, MayMake, first_open, table_lines, way_stopped}
 use Rattle.transcript.specs.Life as life
 use Rattle.transcript.specs.Stage.{Leaf, IsDown, IsUp, IsPreparing, Stands, seated_of}
 use Rattle.transcript.specs.Steps.{DrainMoves, TreatsOn, RegionStopped, IsDownLeaf, note_lines}
@@ -31,7 +31,7 @@ use Rattle.transcript.proofs.DrainParts.{Begun, Through, begun, treats_on, halts
 -- a drain's lines are what they may be by its life, and its life goes on as the leaf does
 abbrev Shaped : Option ℕ → Life → Leaf → List Note → Ending → Leaf → Meaning → Type 0
 Shaped stop old leaf notes ends leaf' m' =
-    (next : Life) × Drains (length (seated_of leaf).tables) 0 stop old (note_lines notes ++ line.Ended Drain 0 ends ∷ []) next × FitsLife next leaf' m'
+    (next : Life) × OfDrain (length (seated_of leaf).tables) 0 stop old (note_lines notes ++ line.Ended Drain 0 ends ∷ []) next × FitsLife next leaf' m'
 
 -- the lines of two parts' notes, before an ending
 lines_split : (xs ys : List Note) (zs : List Note) (ended : List Line) → zs ≡ xs ++ ys → note_lines zs ++ ended ≡ note_lines xs ++ (note_lines ys ++ ended)
@@ -188,10 +188,10 @@ not_up stop old m m' (IsPreparing x) fits down same = absurd down
 
 -- ---- any drain
 
-pub drain_shape : (base : Tables) (stop : Option ℕ) (life : Life) (m m' : Meaning) (leaf : Leaf) (notes : List Note) (ends : Ending) (leaf' : Leaf)
+pub drain_shape : (base : NamedStates) (stop : Option ℕ) (life : Life) (m m' : Meaning) (leaf : Leaf) (notes : List Note) (ends : Ending) (leaf' : Leaf)
     → IsTrue m.tells → AreFounded (seated_of leaf) → Stands base leaf m
     → FitsLife life leaf m → DrainMoves m m' leaf stop notes ends leaf'
-    → (life' : Life) × Drains (length (seated_of leaf).tables) 0 stop life (note_lines notes ++ line.Ended Drain 0 ends ∷ []) life' × FitsLife life' leaf' m'
+    → (life' : Life) × OfDrain (length (seated_of leaf).tables) 0 stop life (note_lines notes ++ line.Ended Drain 0 ends ∷ []) life' × FitsLife life' leaf' m'
 drain_shape base stop old m m' leaf notes ends leaf' tells founded stands fits (steps.done x y z treating handing left shuts left_is may t all part noted notes_are region ends_are leaf_is) =
     rw (ends_are, leaf_is) (drained stop old m m' leaf x y z treating handing notes left (begun old leaf m x fits shuts) left_is may t all noted notes_are (region base tells founded stands))
 drain_shape base stop old m m' leaf notes ends leaf' tells founded stands fits (steps.failed x y left shuts left_is may t all ends_are leaf_is) =

@@ -7,7 +7,7 @@ use Rattle.table_state.specs.Tables.{Table}
 use Rattle.berth_face.specs.Berth.{Meaning}
 use Rattle.leaf_history.specs.Calls as call
 use Rattle.leaf_history.specs.Replies as reply
-use Rattle.leaf_history.specs.History.{TableState, Entry, LegalFrom, after}
+use Rattle.leaf_history.specs.History.{HistoryState, Entry, LegalFrom, after}
 use Rattle.leaf_history.specs.Laws.{AreCallers}
 use Rattle.leaf_history.proofs.Histories.{LegalFrom-front, keeps_all}
 use Rattle.turnstile.specs.Seats.{Others}
@@ -15,9 +15,9 @@ use Rattle.leaf_opening.specs.declared.ways.Way.{Way}
 use Rattle.leaf_opening.specs.declared.ways.Way.TheVariants.{Memory, Disk}
 use Rattle.leaf_opening.specs.Serving as plain
 use Rattle.leaf_opening.specs.Starts.{IsCome, disk_after}
-use Rattle.crash_events.specs.Left.{Tables}
+use Rattle.crash_events.specs.Left.{NamedStates}
 use Rattle.leaf_table.specs.Turns.{Shared, Turns, told, history}
-use Rattle.leaf_table.specs.Calls.{SeatView, AreOthers, base_of, entry_of, name_of, seen_of}
+use Rattle.leaf_table.specs.Calls.{SeatView, AreOthers, base_seen, entry_seen, name_of, seen_of}
 use Rattle.leaf_table.proofs.Knowing.{callers_of}
 use Rattle.leaf_steward.specs.declared.notes.Note.{Note}
 use Rattle.leaf_steward.specs.declared.notes.What.{What}
@@ -29,7 +29,7 @@ use Rattle.leaf_machine.specs.States.{Serving}
 use Rattle.printed_lines.specs.declared.line.Ending.{Ending}
 use Rattle.transcript.specs.Base.{LogHas}
 use Rattle.transcript.specs.Transcript.{Played, OpensFlushed, as_read, is_disk_fault}
-use Rattle.transcript.specs.Stage.{Leaf, IsDown, IsUp, IsPreparing, Stands, ServingStands, AreSound, Carries, Meets, MeetAll, seated_of, with_seats}
+use Rattle.transcript.specs.Stage.{Leaf, IsDown, IsUp, IsPreparing, Stands, ServingStands, AreHandedNothing, Carries, Meets, MeetAll, seated_of, with_seats}
 use Rattle.transcript.specs.Steps.{StartMoves, StartsTold, IsDownLeaf}
 use Rattle.transcript.specs.Session.{AreAllFlushed, AreFoundedWith, AreInPlace, AtTables, IsExact, TableNow, state_read, state_with}
 use Rattle.transcript.proofs.Lists.{element_at, length_mapped, within}
@@ -42,11 +42,11 @@ use Rattle.transcript.proofs.ExactPlaces.{TablesFounded, callers_open_none, open
 -- ---- seats that have learned callers' entries
 
 -- whatever each new seat has learned, it left the table's states as callers do
-abbrev SeatsKeep : Tables → (List ℕ → ℕ) → Seated → List SeatView → Type 0
+abbrev SeatsKeep : NamedStates → (List ℕ → ℕ) → Seated → List SeatView → Type 0
 SeatsKeep base read x seats = (place : ℕ) (t : Shared) (w : SeatView) → slice_get x.tables place ≡ Some t → slice_get seats place ≡ Some w
     → (v : SeatView) × (slice_get x.seats place ≡ Some v) × BothKeep (state_with base t v) (state_read base read t v) (state_with base t w) (state_read base read t w)
 
-exact_kept : (base : Tables) (read : List ℕ → ℕ) (leaf : Leaf) (seats : List SeatView) (m : Meaning) → SeatsKeep base read (seated_of leaf) seats
+exact_kept : (base : NamedStates) (read : List ℕ → ℕ) (leaf : Leaf) (seats : List SeatView) (m : Meaning) → SeatsKeep base read (seated_of leaf) seats
     → IsExact base read leaf m → IsExact base read (with_seats leaf seats) m
 exact_kept base read (IsDown x) seats m keep exact = λ place t w at sat.
     let old = keep place t w at sat in
@@ -69,11 +69,11 @@ exact_kept base read (IsPreparing x) seats m keep exact = (
 )
 
 -- a seat that has learned nothing
-same_seen : (base : Tables) (read : List ℕ → ℕ) (t : Shared) (v w : SeatView) → seen_of w ≡ seen_of v
+same_seen : (base : NamedStates) (read : List ℕ → ℕ) (t : Shared) (v w : SeatView) → seen_of w ≡ seen_of v
     → BothKeep (state_with base t v) (state_read base read t v) (state_with base t w) (state_read base read t w)
 same_seen base read t v w same =
-    let b : TableState = base (name_of t) in
-    let k : TableState = as_read b (read (name_of t)) in
+    let b : HistoryState = base (name_of t) in
+    let k : HistoryState = as_read b (read (name_of t)) in
     subst (λ (h : List Entry). BothKeep (after true b (seen_of v)) (after true k (seen_of v)) (after true b h) (after true k h)) (sym same)
     (record { state = keeps_all (after true b (seen_of v)); read = keeps_all (after true k (seen_of v)) })
 
@@ -83,11 +83,11 @@ others_told : (v : SeatView) (es : Turns) → Others v es → AreOthers v (histo
 others_told v [] others = tt
 others_told v (e ∷ es) others = (others.0, others_told v es others.1)
 
-met_keep : (base : Tables) (read : List ℕ → ℕ) (place : ℕ) (played : List Played) (t : Shared) (v c v' c' : SeatView) → TableNow (base (name_of t)) (read (name_of t)) place played v c → Meets v c v' c'
+met_keep : (base : NamedStates) (read : List ℕ → ℕ) (place : ℕ) (played : List Played) (t : Shared) (v c v' c' : SeatView) → TableNow (base (name_of t)) (read (name_of t)) place played v c → Meets v c v' c'
     → BothKeep (state_with base t v) (state_read base read t v) (state_with base t v') (state_read base read t v')
 met_keep base read place played t v c v' c' now meets = learned_keep base read t v v' (history rest) seen_more callers (legal meets.steward.longer.one)
   where
-    b : TableState
+    b : HistoryState
     b = base (name_of t)
 
     rest : Turns
@@ -113,7 +113,7 @@ met_keep base read place played t v c v' c' now meets = learned_keep base read t
     legal (inr theirs) = legal_as c.seen now.legal theirs
 
 -- what callers add before a meeting changes nothing of it
-pub exact_met : (names : List (List ℕ)) (base : Tables) (read : List ℕ → ℕ) (played : List Played) (leaf : Leaf) (callers : List SeatView) (leaf' : Leaf) (callers' : List SeatView) (m : Meaning)
+pub exact_met : (names : List (List ℕ)) (base : NamedStates) (read : List ℕ → ℕ) (played : List Played) (leaf : Leaf) (callers : List SeatView) (leaf' : Leaf) (callers' : List SeatView) (m : Meaning)
     → AreInPlace names (seated_of leaf) callers → AreFoundedWith base (seated_of leaf)
     → AtTables (λ t place v c. TableNow (base (name_of t)) (read (name_of t)) place played v c) (seated_of leaf) callers
     → MeetAll leaf callers leaf' callers' m
@@ -133,7 +133,7 @@ exact_met names base read played leaf callers leaf' callers' m in_place founded 
         )
 
 -- nor does a meeting at which the steward's seats learn nothing
-pub exact_seen : (base : Tables) (read : List ℕ → ℕ) (leaf : Leaf) (seats : List SeatView) (m : Meaning)
+pub exact_seen : (base : NamedStates) (read : List ℕ → ℕ) (leaf : Leaf) (seats : List SeatView) (m : Meaning)
     → ((place : ℕ) (v w : SeatView) → slice_get (seated_of leaf).seats place ≡ Some v → slice_get seats place ≡ Some w → seen_of w ≡ seen_of v)
     → ((place : ℕ) (w : SeatView) → slice_get seats place ≡ Some w → (v : SeatView) × (slice_get (seated_of leaf).seats place ≡ Some v))
     → IsExact base read leaf m → IsExact base read (with_seats leaf seats) m
@@ -141,7 +141,7 @@ exact_seen base read leaf seats m same found exact =
     exact_kept base read leaf seats m (λ place t w at sat. let old = found place w sat in (old.0, old.1, same_seen base read t old.0 w (same place old.0 w old.1 sat))) exact
 
 -- a steward's command that tells of no fault of the disk keeps it, and opens a table with just the flushed writes
-pub record Exactly (base : Tables) (read : List ℕ → ℕ) (leaf leaf' : Leaf) (m' : Meaning) : Type 0 where
+pub record Exactly (base : NamedStates) (read : List ℕ → ℕ) (leaf leaf' : Leaf) (m' : Meaning) : Type 0 where
   pub exact : IsExact base read leaf' m'
   pub opens : OpensWell base read (seated_of leaf) (seated_of leaf')
 
@@ -158,13 +158,13 @@ come_count names region disk s Memory come = ap (λ (ts : List Table). length ts
 come_count names region disk s (Disk why) come = ap (λ (ts : List Table). length ts) come.1.tables_are ∙ length_mapped _ names
 
 -- a table was opened
-record IsOpened (base : Tables) (read : List ℕ → ℕ) (t : Shared) (v w : SeatView) : Type 0 where
+record IsOpened (base : NamedStates) (read : List ℕ → ℕ) (t : Shared) (v w : SeatView) : Type 0 where
   clock : ℕ
   count : ℕ
   contents : Contents
   enters : Enters base read t clock v (call.Open count contents) reply.Noted w
 
-module _ (names : List (List ℕ)) (base : Tables) (read : List ℕ → ℕ) (m m' : Meaning) (x : Seated) (callers : List SeatView) (s : Serving) (notes : List Note) (way : Way)
+module _ (names : List (List ℕ)) (base : NamedStates) (read : List ℕ → ℕ) (m m' : Meaning) (x : Seated) (callers : List SeatView) (s : Serving) (notes : List Note) (way : Way)
     (in_place : AreInPlace names x callers) (founded : AreFoundedWith base x) (stewards : AreStewards x) (makes : Makes m.clock m'.clock x notes s.seated) (told : StartsTold x m m' s notes way) where
   found_tables : TablesFounded base x
   found_tables = tables_founded names base x callers in_place founded
@@ -188,7 +188,7 @@ module _ (names : List (List ℕ)) (base : Tables) (read : List ℕ → ℕ) (m 
   opened_at : (place : ℕ) (t : Shared) (v w : SeatView) → slice_get x.tables place ≡ Some t → slice_get x.seats place ≡ Some v → slice_get s.seated.seats place ≡ Some w → IsOpened base read t v w
   opened_at place t v w at was now =
       let one : MadeAt (IsOpenedAs found) m.clock m'.clock place t v w = went.noted place t v w (omega arith) (omega (arith, within x.seats place v was, found_count, in_place.seats)) at was now in
-      let made : MadeAs (base_of t) one.clock v (Opened one.noted.0.writes) w = subst (λ (what : What). MadeAs (base_of t) one.clock v what w) one.noted.2 one.made in
+      let made : MadeAs (base_seen t) one.clock v (Opened one.noted.0.writes) w = subst (λ (what : What). MadeAs (base_seen t) one.clock v what w) one.noted.2 one.made in
       record {
         clock = one.clock;
         count = one.noted.0.writes;
@@ -223,25 +223,25 @@ module _ (names : List (List ℕ)) (base : Tables) (read : List ℕ → ℕ) (m 
           sym (entry_opened base read t one.clock v w one.count one.contents e).1
           ∙ one_count m'.held.disk (name_of t) (state_with base t w).taken (state_read base read t v).flushed taken known
           ∙ sym e.keeps.read.flushed
-          ∙ ap (λ (k : TableState). k.flushed) e.is_read in
-          let entry : Entry = entry_of v.id one.clock (call.Open one.count one.contents) reply.Noted in
+          ∙ ap (λ (k : HistoryState). k.flushed) e.is_read in
+          let entry : Entry = entry_seen v.id one.clock (call.Open one.count one.contents) reply.Noted in
           subst (λ (l : List Entry). OpensFlushed (state_read base read t v) l) (append_cancel_left (seen_of v) (e.between ++ entry ∷ []) es (sym e.seen ∙ seen))
           (Opens-append (state_read base read t v) e.between (entry ∷ []) (opens_none (state_read base read t v) e.between (callers_open_none (state_with base t v) e.between e.legal e.callers)) (last, tt))
 
 -- of a leaf that is not down it says nothing of the berth
-pub exact_up : (base : Tables) (read : List ℕ → ℕ) (leaf : Leaf) (m m' : Meaning) → (IsDownLeaf leaf → ⊥) → IsExact base read leaf m → IsExact base read leaf m'
+pub exact_up : (base : NamedStates) (read : List ℕ → ℕ) (leaf : Leaf) (m m' : Meaning) → (IsDownLeaf leaf → ⊥) → IsExact base read leaf m → IsExact base read leaf m'
 exact_up base read (IsDown x) m m' up exact = absurd (up tt)
 exact_up base read (IsUp s) m m' up exact = exact
 exact_up base read (IsPreparing x) m m' up exact = exact
 
 -- nothing was done to the leaf
-pub exact_same : (base : Tables) (read : List ℕ → ℕ) (leaf leaf' : Leaf) (m' : Meaning) → leaf' ≡ leaf → IsExact base read leaf m' → Exactly base read leaf leaf' m'
+pub exact_same : (base : NamedStates) (read : List ℕ → ℕ) (leaf leaf' : Leaf) (m' : Meaning) → leaf' ≡ leaf → IsExact base read leaf m' → Exactly base read leaf leaf' m'
 exact_same base read leaf leaf' m' same exact =
     subst (λ (l : Leaf). Exactly base read leaf l m') (sym same) (record { exact = exact; opens = opens_same base read (seated_of leaf) })
 
 -- A start opens each table with just the flushed writes. The steward's seats own its id, so that nobody else has opened one.
-pub start_exact : (names : List (List ℕ)) (base : Tables) (read : List ℕ → ℕ) (m m' : Meaning) (leaf : Leaf) (callers : List SeatView) (notes : List Note) (ends : Ending) (leaf' : Leaf)
-    → AreInPlace names (seated_of leaf) callers → AreFoundedWith base (seated_of leaf) → AreStewards (seated_of leaf) → AreSound base → IsTrue m.tells → Stands base leaf m
+pub start_exact : (names : List (List ℕ)) (base : NamedStates) (read : List ℕ → ℕ) (m m' : Meaning) (leaf : Leaf) (callers : List SeatView) (notes : List Note) (ends : Ending) (leaf' : Leaf)
+    → AreInPlace names (seated_of leaf) callers → AreFoundedWith base (seated_of leaf) → AreStewards (seated_of leaf) → AreHandedNothing base → IsTrue m.tells → Stands base leaf m
     → Carries leaf leaf' notes m m' → StartMoves m m' leaf notes ends leaf' → is_disk_fault ends ≡ false
     → IsExact base read leaf m → Exactly base read leaf leaf' m'
 start_exact names base read m m' leaf callers notes ends leaf' in_place founded stewards sound tells stands carries (StartMoves.opened x s way down none told ends_is now) calm exact =

@@ -3,15 +3,15 @@ use Rattle.std.proofs.Common.{◌≡◌, ℕ, zero, suc, true, List, [], ◌∷�
 use Rattle.std.specs.Prelude.{slice_get, IsTrue}
 use Rattle.std.specs.List.{AllByRecursion}
 use Rattle.berth_face.specs.Berth.{Meaning, Pair}
-use Rattle.crash_events.specs.Left.{Tables}
+use Rattle.crash_events.specs.Left.{NamedStates}
 use Rattle.leaf_table.specs.Turns.{Shared, is_founded}
-use Rattle.leaf_table.specs.Calls.{SeatView, base_of, name_of}
+use Rattle.leaf_table.specs.Calls.{SeatView, base_seen, name_of}
 use Rattle.leaf_machine.specs.States.{Serving}
 use Rattle.leaf_steward.specs.declared.notes.Note.{Note}
 use Rattle.leaf_steward.specs.Seated.{Seated, AreFounded, AtEach}
 use Rattle.leaf_steward.specs.Making.{EachNoted, IsClosedNote, Makes}
 use Rattle.transcript.specs.Base.{LogHas}
-use Rattle.transcript.specs.Stage.{Leaf, IsDown, IsUp, IsPreparing, AreSound, Carries, ServingStands, Stands, seated_of}
+use Rattle.transcript.specs.Stage.{Leaf, IsDown, IsUp, IsPreparing, AreHandedNothing, Carries, ServingStands, Stands, seated_of}
 use Rattle.transcript.specs.Session.{AreAllFlushed, AreFoundedWith, AreInPlace, IsExact, state_read}
 use Rattle.transcript.proofs.Exact.{Exactly}
 use Rattle.transcript.proofs.ExactStates.{AreStewards}
@@ -20,12 +20,12 @@ use Rattle.transcript.proofs.ExactEntry.{known_closed}
 use Rattle.transcript.proofs.ExactMakes.{AllNotes, AreReady, IsQuiet, Leaves, each_all, makes_leave, opens_well}
 
 -- the leaf before and behind the command, and what stands of it
-pub record Given (names : List (List ℕ)) (base : Tables) (read : List ℕ → ℕ) (m m' : Meaning) (callers : List SeatView) (notes : List Note)
+pub record Given (names : List (List ℕ)) (base : NamedStates) (read : List ℕ → ℕ) (m m' : Meaning) (callers : List SeatView) (notes : List Note)
     (leaf leaf' : Leaf) : Type 0 where
   pub in_place : AreInPlace names (seated_of leaf) callers
   pub founded : AreFoundedWith base (seated_of leaf)
   pub stewards : AreStewards (seated_of leaf)
-  pub sound : AreSound base
+  pub sound : AreHandedNothing base
   pub tells : IsTrue m.tells
   pub stands : Stands base leaf m
   pub carries : Carries leaf leaf' notes m m'
@@ -35,7 +35,7 @@ all_of : {X : Type 0} (P : X → Type 0) (xs : List X) → ((i : ℕ) (x : X) �
 all_of P [] each = tt
 all_of P (x ∷ xs) each = (each zero x refl, all_of P xs (λ i y at. each (suc i) y at))
 
-module _ (names : List (List ℕ)) (base : Tables) (read : List ℕ → ℕ) (m m' : Meaning) (callers : List SeatView) (notes : List Note) where
+module _ (names : List (List ℕ)) (base : NamedStates) (read : List ℕ → ℕ) (m m' : Meaning) (callers : List SeatView) (notes : List Note) where
   abbrev GivenOf : Leaf → Leaf → Type 0
   GivenOf leaf leaf' = Given names base read m m' callers notes leaf leaf'
 
@@ -52,7 +52,7 @@ module _ (names : List (List ℕ)) (base : Tables) (read : List ℕ → ℕ) (m 
     pub founded_of : AreFounded (seated_of leaf)
     founded_of =
         let each = tables_founded names base (seated_of leaf) callers g.in_place g.founded in
-        all_of (λ (t : Shared). is_founded (base_of t) ≡ true) (seated_of leaf).tables (λ place t at. (each place t at).0)
+        all_of (λ (t : Shared). is_founded (base_seen t) ≡ true) (seated_of leaf).tables (λ place t at. (each place t at).0)
 
     -- what stands behind it
     pub stands_behind : Stands base leaf' m'
@@ -67,13 +67,13 @@ module _ (names : List (List ℕ)) (base : Tables) (read : List ℕ → ℕ) (m 
 
 -- ---- a leaf that is left alone
 
-pub exact_held : (base : Tables) (read : List ℕ → ℕ) (leaf : Leaf) (m m' : Meaning) → m'.held ≡ m.held → IsExact base read leaf m → IsExact base read leaf m'
+pub exact_held : (base : NamedStates) (read : List ℕ → ℕ) (leaf : Leaf) (m m' : Meaning) → m'.held ≡ m.held → IsExact base read leaf m → IsExact base read leaf m'
 exact_held base read (IsDown x) m m' held exact =
     subst (λ (h : Pair). AtEach (λ place t v. LogHas h.disk (name_of t) (state_read base read t v).flushed) x) (sym held) exact
 exact_held base read (IsUp x) m m' held exact = exact
 exact_held base read (IsPreparing x) m m' held exact = exact
 
-pub left_alone : (names : List (List ℕ)) (base : Tables) (read : List ℕ → ℕ) (m m' : Meaning) (callers : List SeatView) (notes : List Note) (leaf leaf' : Leaf)
+pub left_alone : (names : List (List ℕ)) (base : NamedStates) (read : List ℕ → ℕ) (m m' : Meaning) (callers : List SeatView) (notes : List Note) (leaf leaf' : Leaf)
     → Given names base read m m' callers notes leaf leaf' → notes ≡ [] → m'.held ≡ m.held → leaf' ≡ leaf → Exactly base read leaf leaf' m'
 left_alone names base read m m' callers notes leaf leaf' g none held same =
     exactly names base read m m' callers notes leaf leaf' g (subst (AllNotes IsQuiet) (sym none) tt)
@@ -82,8 +82,8 @@ left_alone names base read m m' callers notes leaf leaf' g none held same =
 -- ---- a leaf that is killed
 
 -- it owes the log nothing, all that was taken of each table is flushed, and each table that is open is shut
-pub killed : (base : Tables) (read : List ℕ → ℕ) (s : Serving) (from to first count : ℕ) (notes : List Note) (y : Seated) (m : Meaning)
-    → AreSound base → AreReady base s.seated → Makes from to s.seated notes y → EachNoted IsClosedNote first count notes
+pub killed : (base : NamedStates) (read : List ℕ → ℕ) (s : Serving) (from to first count : ℕ) (notes : List Note) (y : Seated) (m : Meaning)
+    → AreHandedNothing base → AreReady base s.seated → Makes from to s.seated notes y → EachNoted IsClosedNote first count notes
     → s.owing.log.owed ≡ None → AreAllFlushed base read s.seated → ServingStands s m → IsExact base read (IsDown y) m
 killed base read s from to first count notes y m sound ready makes closes none all stands =
     makes_leave base IsClosedNote Had from to s.seated notes y sound leave makes (each_all IsClosedNote first count notes closes) ready had

@@ -9,9 +9,9 @@ use Rattle.leaf_history.specs.Calls as call
 use Rattle.leaf_history.specs.Replies.{Reply}
 use Rattle.leaf_history.specs.Replies as reply
 use Rattle.leaf_history.specs.History.{Entry}
-use Rattle.crash_events.specs.Left.{Tables}
+use Rattle.crash_events.specs.Left.{NamedStates}
 use Rattle.leaf_table.specs.Turns.{Shared}
-use Rattle.leaf_table.specs.Calls.{SeatView, base_of, name_of, seen_of, entry_of}
+use Rattle.leaf_table.specs.Calls.{SeatView, base_seen, name_of, seen_of, entry_seen}
 use Rattle.log_steward.specs.Owing.{Owing}
 use Rattle.leaf_machine.specs.Flushes.{OwedNotes}
 use Rattle.leaf_steward.specs.declared.notes.Note.{Note}
@@ -21,7 +21,7 @@ use Rattle.leaf_steward.specs.Seated.{Seated, AtEach}
 use Rattle.leaf_steward.specs.Making.{MadeAs, Makes, OneEntry, EachNoted, IsClosedNote, IsHandedNote}
 use Rattle.leaf_steward.proofs.Seating.{same_at, set_either}
 use Rattle.leaf_steward.proofs.Keeping.{entry_each, makes_tables, some_entry}
-use Rattle.transcript.specs.Stage.{AreSound}
+use Rattle.transcript.specs.Stage.{AreHandedNothing}
 use Rattle.transcript.specs.Session.{AreFoundedWith, IsStewards, state_with, state_read}
 use Rattle.transcript.proofs.Lists.{All-append, All-weaken}
 use Rattle.transcript.proofs.Terms.{OpensWell}
@@ -32,19 +32,19 @@ use Rattle.transcript.proofs.ExactEntry.{IsOf}
 -- ---- what is known of the seats of a leaf
 
 -- its tables are founded with the base, and each seat is the steward's
-pub record AreReady (base : Tables) (x : Seated) : Type 0 where
+pub record AreReady (base : NamedStates) (x : Seated) : Type 0 where
   pub founded : AreFoundedWith base x
   pub stewards : AreStewards x
 
-pub is_of : (base : Tables) (x : Seated) (place : ℕ) (t : Shared) (v : SeatView) → AreSound base → AreReady base x
+pub is_of : (base : NamedStates) (x : Seated) (place : ℕ) (t : Shared) (v : SeatView) → AreHandedNothing base → AreReady base x
     → slice_get x.tables place ≡ Some t → slice_get x.seats place ≡ Some v → IsOf base t
 is_of base x place t v sound ready at was = record { founded = ready.founded place t v at was; sound = sound (name_of t) }
 
-module _ (base : Tables) (clock : ℕ) (x : Seated) (note : Note) (y : Seated) (one : OneEntry clock x note y) where
+module _ (base : NamedStates) (clock : ℕ) (x : Seated) (note : Note) (y : Seated) (one : OneEntry clock x note y) where
   -- the seat has its ids still
   stays_stewards : IsStewards one.before → IsStewards one.after
   stays_stewards sits =
-      let same = (some_entry (base_of one.table) clock one.before note.what one.after one.made).made.place in
+      let same = (some_entry (base_seen one.table) clock one.before note.what one.after one.made).made.place in
       record {
         id = ap (λ (u : SeatView). u.id) same ∙ sits.id;
         share = ap (λ (u : SeatView). u.share) same ∙ sits.share;
@@ -64,7 +64,7 @@ module _ (base : Tables) (clock : ℕ) (x : Seated) (note : Note) (y : Seated) (
       by place v (inl h) = subst IsStewards (sym h.1) (stays_stewards (ready.stewards note.table one.before one.was))
       by place v (inr h) = ready.stewards place v h.1
 
-pub makes_ready : (base : Tables) (from to : ℕ) (x : Seated) (notes : List Note) (y : Seated) → Makes from to x notes y → AreReady base x → AreReady base y
+pub makes_ready : (base : NamedStates) (from to : ℕ) (x : Seated) (notes : List Note) (y : Seated) → Makes from to x notes y → AreReady base x → AreReady base y
 makes_ready base from to x notes y (Makes.none f u a ns b le is same) ready = subst (AreReady base) (sym same) ready
 makes_ready base from to x notes y (Makes.more f u a ns b clock first rest between le one makes is) ready =
     makes_ready base clock to between rest y makes (entry_ready base clock x first between one ready)
@@ -76,12 +76,12 @@ abbrev pub AllNotes : (What → Type 0) → List Note → Type 0
 AllNotes W notes = AllByRecursion (λ (n : Note). W n.what) notes
 
 -- such an entry at a table leaves it with P
-abbrev pub Leaves : Tables → (What → Type 0) → (ℕ → Shared → SeatView → Type 0) → Type 0
+abbrev pub Leaves : NamedStates → (What → Type 0) → (ℕ → Shared → SeatView → Type 0) → Type 0
 Leaves base W P = (place : ℕ) (t : Shared) (clock : ℕ) (v w : SeatView) (what : What)
-    → IsOf base t → IsStewards v → W what → MadeAs (base_of t) clock v what w → P place t v → P place t w
+    → IsOf base t → IsStewards v → W what → MadeAs (base_seen t) clock v what w → P place t v → P place t w
 
-pub makes_leave : (base : Tables) (W : What → Type 0) (P : ℕ → Shared → SeatView → Type 0) (from to : ℕ) (x : Seated) (notes : List Note) (y : Seated)
-    → AreSound base → Leaves base W P → Makes from to x notes y → AllNotes W notes → AreReady base x → AtEach P x → AtEach P y
+pub makes_leave : (base : NamedStates) (W : What → Type 0) (P : ℕ → Shared → SeatView → Type 0) (from to : ℕ) (x : Seated) (notes : List Note) (y : Seated)
+    → AreHandedNothing base → Leaves base W P → Makes from to x notes y → AllNotes W notes → AreReady base x → AtEach P x → AtEach P y
 makes_leave base W P from to x notes y sound leaves (Makes.none f u a ns b le is same) all ready each = subst (AtEach P) (sym same) each
 makes_leave base W P from to x notes y sound leaves (Makes.more f u a ns b clock first rest between le one makes is) all ready each =
     let both : AllNotes W (first ∷ rest) = subst (AllNotes W) is all in
@@ -119,17 +119,17 @@ pub record Grew (v w : SeatView) : Type 0 where
   pub seen : seen_of w ≡ seen_of v ++ more
   pub none : NoneOpen more
 
-module _ (base : Tables) (read : List ℕ → ℕ) (t : Shared) (clock : ℕ) (u v w : SeatView) where
-  grew_on : (c : Call) (r : Reply) → Enters base read t clock v c r w → Grew u v → NoneOpen (entry_of v.id clock c r ∷ []) → Grew u w
+module _ (base : NamedStates) (read : List ℕ → ℕ) (t : Shared) (clock : ℕ) (u v w : SeatView) where
+  grew_on : (c : Call) (r : Reply) → Enters base read t clock v c r w → Grew u v → NoneOpen (entry_seen v.id clock c r ∷ []) → Grew u w
   grew_on c r e g last =
-      let own = entry_of v.id clock c r ∷ [] in
+      let own = entry_seen v.id clock c r ∷ [] in
       record {
         more = g.more ++ (e.between ++ own);
         seen = e.seen ∙ (ap (λ (es : List Entry). es ++ (e.between ++ own)) g.seen ∙ append_assoc (seen_of u) g.more (e.between ++ own));
         none = All-append _ g.more (e.between ++ own) g.none (All-append _ e.between own (callers_open_none (state_with base t v) e.between e.legal e.callers) last);
       }
 
-  grew_made : (what : What) → IsOf base t → IsStewards v → IsQuiet what → MadeAs (base_of t) clock v what w → Grew u v → Grew u w
+  grew_made : (what : What) → IsOf base t → IsStewards v → IsQuiet what → MadeAs (base_seen t) clock v what w → Grew u v → Grew u w
   grew_made (Opened n) of sits quiet made g = absurd quiet
   grew_made (Took n) of sits quiet made g = grew_on call.Take (reply.Counted n) (entered base read t clock v _ _ w of.founded sits made) g (refl, tt)
   grew_made (Flushed n) of sits quiet made g = grew_on (call.Flushed n) reply.Noted (entered base read t clock v _ _ w of.founded sits made) g (refl, tt)
@@ -140,8 +140,8 @@ module _ (base : Tables) (read : List ℕ → ℕ) (t : Shared) (clock : ℕ) (u
 abbrev GrewFrom : Seated → ℕ → Shared → SeatView → Type 0
 GrewFrom x place t w = (v : SeatView) × (slice_get x.seats place ≡ Some v) × Grew v w
 
-pub opens_well : (base : Tables) (read : List ℕ → ℕ) (from to : ℕ) (x : Seated) (notes : List Note) (y : Seated)
-    → AreSound base → AreReady base x → Makes from to x notes y → AllNotes IsQuiet notes → OpensWell base read x y
+pub opens_well : (base : NamedStates) (read : List ℕ → ℕ) (from to : ℕ) (x : Seated) (notes : List Note) (y : Seated)
+    → AreHandedNothing base → AreReady base x → Makes from to x notes y → AllNotes IsQuiet notes → OpensWell base read x y
 opens_well base read from to x notes y sound ready makes quiet = λ place t v w at was now es more.
     let grew = all place t w (ap (λ (ts : List Shared). slice_get ts place) (makes_tables from to x notes y makes) ∙ at) now in
     let same : grew.0 ≡ v = same_at x.seats place grew.0 v grew.1 was in

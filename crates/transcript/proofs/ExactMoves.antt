@@ -4,7 +4,7 @@ use Rattle.std.specs.Prelude.{IsTrue}
 use Rattle.berth_face.specs.Berth.{Meaning}
 use Rattle.printed_lines.specs.declared.line.Ending.{Ending}
 use Rattle.printed_lines.specs.declared.line.Ending.TheVariants as ending
-use Rattle.crash_events.specs.Left.{Tables}
+use Rattle.crash_events.specs.Left.{NamedStates}
 use Rattle.leaf_table.specs.Calls.{SeatView}
 use Rattle.leaf_steward.specs.declared.notes.Note.{Note}
 use Rattle.leaf_steward.specs.declared.notes.What.TheVariants.{Took, Flushed}
@@ -15,8 +15,8 @@ use Rattle.leaf_machine.specs.States.{Serving, Shutting}
 use Rattle.leaf_machine.specs.Flushes.{Flushes}
 use Rattle.leaf_machine.specs.Prepares.{AllTreated}
 use Rattle.transcript.specs.Transcript.{is_disk_fault}
-use Rattle.transcript.specs.Stage.{Leaf, IsDown, IsUp, IsPreparing, Stands, AreSound, Carries, ServingStands, seated_of}
-use Rattle.transcript.specs.Steps.{FlushMoves, KillMoves, DrainMoves, Shuts, TreatsOn, ending_of_flush}
+use Rattle.transcript.specs.Stage.{Leaf, IsDown, IsUp, IsPreparing, Stands, AreHandedNothing, Carries, ServingStands, seated_of}
+use Rattle.transcript.specs.Steps.{FlushMoves, KillMoves, DrainMoves, BeginsShutting, TreatsOn, ending_of_flush}
 use Rattle.transcript.specs.Session.{AreAllFlushed, AreFoundedWith, AreInPlace, IsExact}
 use Rattle.transcript.proofs.Lists.{All-append, clash_bool}
 use Rattle.transcript.proofs.Exact.{Exactly}
@@ -26,7 +26,7 @@ use Rattle.transcript.proofs.ExactPairs.{makes_two, took_flushed}
 use Rattle.transcript.proofs.ExactGiven.{Given, exact_held, exactly, founded_of, killed, left_alone, of_leaves, ready_of, stands_behind}
 use Rattle.transcript.proofs.ExactDrain.{IsClean, IsTreatedOn, all_done, clean_first, clean_on, clean_starves, done_exact, handed_done, part_ready, quiet_on, same_seats, starves_quiet}
 
-module _ (names : List (List ℕ)) (base : Tables) (read : List ℕ → ℕ) (m m' : Meaning) (callers : List SeatView) (notes : List Note) where
+module _ (names : List (List ℕ)) (base : NamedStates) (read : List ℕ → ℕ) (m m' : Meaning) (callers : List SeatView) (notes : List Note) where
   abbrev Before : Leaf → Leaf → Type 0
   Before leaf leaf' = Given names base read m m' callers notes leaf leaf'
 
@@ -86,7 +86,7 @@ module _ (names : List (List ℕ)) (base : Tables) (read : List ℕ → ℕ) (m 
 
   module _ (leaf leaf' : Leaf) (g : Before leaf leaf') where
     -- the tables that were treated
-    treated_on : (x y : Shutting) (treating : List Note) → Shuts leaf x → TreatsOn x treating y → IsTreatedOn base read y
+    treated_on : (x y : Shutting) (treating : List Note) → BeginsShutting leaf x → TreatsOn x treating y → IsTreatedOn base read y
     treated_on x y treating shuts on =
         let ready = subst (AreReady base) (sym (same_seats leaf x shuts)) (ready_of names base read m m' callers notes leaf leaf' g) in
         clean_on base read x treating y g.sound on ready (clean_first base read leaf x m shuts g.exact)
@@ -106,7 +106,7 @@ module _ (names : List (List ℕ)) (base : Tables) (read : List ℕ → ℕ) (m 
     both_quiet x y treating more on quiet are = subst (AllNotes IsQuiet) (sym are) (All-append _ treating more (quiet_on x treating y on) quiet)
 
     -- all tables were treated, and the leaf is down
-    treated_exact : (x y : Shutting) → Shuts leaf x → TreatsOn x notes y → AllTreated y → leaf' ≡ IsDown y.serving.seated → Exactly base read leaf leaf' m'
+    treated_exact : (x y : Shutting) → BeginsShutting leaf x → TreatsOn x notes y → AllTreated y → leaf' ≡ IsDown y.serving.seated → Exactly base read leaf leaf' m'
     treated_exact x y shuts on all down =
         let now = treated_on x y notes shuts on in
         down_exact y.serving.seated (quiet_on x notes y on) down
@@ -135,9 +135,9 @@ module _ (names : List (List ℕ)) (base : Tables) (read : List ℕ → ℕ) (m 
 
 -- ---- each of them
 
-pub flush_exact : (names : List (List ℕ)) (base : Tables) (read : List ℕ → ℕ) (table : ℕ) (m m' : Meaning) (leaf : Leaf) (callers : List SeatView) (notes : List Note)
+pub flush_exact : (names : List (List ℕ)) (base : NamedStates) (read : List ℕ → ℕ) (table : ℕ) (m m' : Meaning) (leaf : Leaf) (callers : List SeatView) (notes : List Note)
     (ends : Ending) (leaf' : Leaf)
-    → AreInPlace names (seated_of leaf) callers → AreFoundedWith base (seated_of leaf) → AreStewards (seated_of leaf) → AreSound base → IsTrue m.tells
+    → AreInPlace names (seated_of leaf) callers → AreFoundedWith base (seated_of leaf) → AreStewards (seated_of leaf) → AreHandedNothing base → IsTrue m.tells
     → Stands base leaf m → Carries leaf leaf' notes m m' → FlushMoves table m m' leaf notes ends leaf' → is_disk_fault ends ≡ false
     → IsExact base read leaf m → Exactly base read leaf leaf' m'
 flush_exact names base read table m m' leaf callers notes ends leaf' in_place founded stewards sound tells stands carries moves calm exact =
@@ -145,9 +145,9 @@ flush_exact names base read table m m' leaf callers notes ends leaf' in_place fo
     record { in_place = in_place; founded = founded; stewards = stewards; sound = sound; tells = tells; stands = stands; carries = carries; exact = exact } in
     flush_moves names base read m m' callers notes table ends leaf leaf' given moves calm
 
-pub kill_exact : (names : List (List ℕ)) (base : Tables) (read : List ℕ → ℕ) (m m' : Meaning) (leaf : Leaf) (callers : List SeatView) (notes : List Note)
+pub kill_exact : (names : List (List ℕ)) (base : NamedStates) (read : List ℕ → ℕ) (m m' : Meaning) (leaf : Leaf) (callers : List SeatView) (notes : List Note)
     (ends : Ending) (leaf' : Leaf)
-    → AreInPlace names (seated_of leaf) callers → AreFoundedWith base (seated_of leaf) → AreStewards (seated_of leaf) → AreSound base → IsTrue m.tells
+    → AreInPlace names (seated_of leaf) callers → AreFoundedWith base (seated_of leaf) → AreStewards (seated_of leaf) → AreHandedNothing base → IsTrue m.tells
     → Stands base leaf m → Carries leaf leaf' notes m m' → KillMoves m m' leaf notes ends leaf'
     → IsExact base read leaf m → Exactly base read leaf leaf' m'
 kill_exact names base read m m' leaf callers notes ends leaf' in_place founded stewards sound tells stands carries moves exact =
@@ -155,9 +155,9 @@ kill_exact names base read m m' leaf callers notes ends leaf' in_place founded s
     record { in_place = in_place; founded = founded; stewards = stewards; sound = sound; tells = tells; stands = stands; carries = carries; exact = exact } in
     kill_moves names base read m m' callers notes ends leaf leaf' given moves
 
-pub drain_exact : (names : List (List ℕ)) (base : Tables) (read : List ℕ → ℕ) (stop : Option ℕ) (m m' : Meaning) (leaf : Leaf) (callers : List SeatView) (notes : List Note)
+pub drain_exact : (names : List (List ℕ)) (base : NamedStates) (read : List ℕ → ℕ) (stop : Option ℕ) (m m' : Meaning) (leaf : Leaf) (callers : List SeatView) (notes : List Note)
     (ends : Ending) (leaf' : Leaf)
-    → AreInPlace names (seated_of leaf) callers → AreFoundedWith base (seated_of leaf) → AreStewards (seated_of leaf) → AreSound base → IsTrue m.tells
+    → AreInPlace names (seated_of leaf) callers → AreFoundedWith base (seated_of leaf) → AreStewards (seated_of leaf) → AreHandedNothing base → IsTrue m.tells
     → Stands base leaf m → Carries leaf leaf' notes m m' → DrainMoves m m' leaf stop notes ends leaf' → is_disk_fault ends ≡ false
     → IsExact base read leaf m → Exactly base read leaf leaf' m'
 drain_exact names base read stop m m' leaf callers notes ends leaf' in_place founded stewards sound tells stands carries moves calm exact =

@@ -1,17 +1,17 @@
 -- A table that is taken or shut, and whose writes are then flushed: all that was taken of each table is flushed again.
 use Rattle.std.proofs.Common.{◌≡◌, ℕ, suc, ◌<◌, List, [], ◌∷◌, refl, sym, subst, ◌∙◌, arith}
 use Rattle.std.specs.Prelude.{◌≢◌}
-use Rattle.crash_events.specs.Left.{Tables}
+use Rattle.crash_events.specs.Left.{NamedStates}
 use Rattle.leaf_table.specs.Turns.{Shared}
 use Rattle.leaf_table.specs.Calls.{SeatView}
-use Rattle.leaf_machine.specs.States.{IsClosed}
+use Rattle.leaf_machine.specs.States.{IsShutAndTaken}
 use Rattle.leaf_steward.specs.declared.notes.Note.{Note}
 use Rattle.leaf_steward.specs.declared.notes.What.{What}
 use Rattle.leaf_steward.specs.declared.notes.What.TheVariants.{Took, Flushed, Closed}
 use Rattle.leaf_steward.specs.Seated.{Seated, AtEach}
 use Rattle.leaf_steward.specs.Making.{Makes, OneEntry}
 use Rattle.leaf_steward.proofs.Keeping.{entry_each}
-use Rattle.transcript.specs.Stage.{AreSound}
+use Rattle.transcript.specs.Stage.{AreHandedNothing}
 use Rattle.transcript.specs.Session.{AreAllFlushed, IsAllFlushed, state_with, state_read}
 use Rattle.transcript.proofs.ExactEntry.{IsHalf, closed_flushed, flushed_half, half_closed, half_took}
 use Rattle.transcript.proofs.ExactMakes.{AreReady, entry_ready, is_of, makes_nothing}
@@ -55,7 +55,7 @@ makes_two from to x notes y a b (Makes.more f u s ns z clock note rest between l
         let same : y ≡ between = makes_nothing clock to between rest y makes (tails note b rest [] (sym is ∙ one_is)) in
         (clock, subst (λ (n : Note). OneEntry clock x n y) (heads note b rest [] (sym is ∙ one_is)) (subst (OneEntry clock x note) (sym same) one))
 
-module _ (base : Tables) (read : List ℕ → ℕ) (x : Seated) (y : Seated) (place : ℕ) (sound : AreSound base) (ready : AreReady base x) where
+module _ (base : NamedStates) (read : List ℕ → ℕ) (x : Seated) (y : Seated) (place : ℕ) (sound : AreHandedNothing base) (ready : AreReady base x) where
   -- between the two the table is the only one that is taken and not flushed
   abbrev HalfAt : ℕ → Shared → SeatView → Type 0
   HalfAt n t v = IsHalf n (state_with base t v) (state_read base read t v)
@@ -89,11 +89,11 @@ module _ (base : Tables) (read : List ℕ → ℕ) (x : Seated) (y : Seated) (pl
 
   -- the first tables are shut
   abbrev ClosedBelow : ℕ → ℕ → Shared → SeatView → Type 0
-  ClosedBelow count p t v = FlushedAt p t v × (p < count → IsClosed (state_with base t v))
+  ClosedBelow count p t v = FlushedAt p t v × (p < count → IsShutAndTaken (state_with base t v))
 
   -- the table is shut
   abbrev ShutAt : ℕ → Shared → SeatView → Type 0
-  ShutAt n t v = HalfAt n t v × IsClosed (state_with base t v)
+  ShutAt n t v = HalfAt n t v × IsShutAndTaken (state_with base t v)
 
   pub closed_flushed_on : (closing flushing n : ℕ) → MakesTwo x (Noted (Closed n) closing) (Noted (Flushed n) flushing) y
       → AtEach (ClosedBelow place) x → AtEach (ClosedBelow (suc place)) y

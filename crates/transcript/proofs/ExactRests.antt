@@ -5,10 +5,10 @@ use Rattle.std.proofs.lemmas.List.{length-append, length-take}
 use Rattle.leaf_model.specs.declared.writes.Write.{Write}
 use Rattle.row_records.specs.Records.{LogRecord}
 use Rattle.berth_face.specs.Berth.{Meaning}
-use Rattle.leaf_history.specs.History.{TableState, after, write_count}
+use Rattle.leaf_history.specs.History.{HistoryState, after, write_count}
 use Rattle.disk_backup.specs.Settling.{with_writes}
 use Rattle.leaf_opening.specs.Backed.{HasSoundLog}
-use Rattle.crash_events.specs.Left.{Tables}
+use Rattle.crash_events.specs.Left.{NamedStates}
 use Rattle.crash_moments.specs.Watched.{IsFoundation, now_of, others_then, was_opened}
 use Rattle.crash_states.specs.Standing.{IsKept, Rests, tables_of}
 use Rattle.crash_states.proofs.Names.{each_at, named_at}
@@ -25,7 +25,7 @@ has_writes : (disk : List ℕ) (writes : List ℕ → List Write) (name : List �
 has_writes disk writes name n log count = (log.records, log.log_end, log.log, sym count ∙ ap (λ (ws : List Write). length ws) (sym (log.each name)))
 
 -- what a log has at least and at most, it has where that is all of a table
-kept_count : (least most : List Write) (s : TableState) → IsKept least most s → length least ≤ length most → s.flushed ≡ length s.writes
+kept_count : (least most : List Write) (s : HistoryState) → IsKept least most s → length least ≤ length most → s.flushed ≡ length s.writes
     → (length least ≡ s.flushed) × (length most ≡ s.flushed)
 kept_count least most s kept more all =
     let short : length least ≤ length s.writes = omega (arith, ap (λ (ws : List Write). length ws) kept.shortest, length-take (length least) s.writes) in
@@ -33,17 +33,17 @@ kept_count least most s kept more all =
     (omega (arith, short, kept.flushed, all), omega (arith, long, more, kept.flushed, all))
 
 -- all writes of the table were taken and flushed
-pub record IsWhole (s : TableState) : Type 0 where
+pub record IsWhole (s : HistoryState) : Type 0 where
   pub taken : s.taken ≡ write_count s
   pub flushed : s.flushed ≡ s.taken
 
 -- where the leaf rests, and all writes of its tables were taken and flushed, the log has them
-pub rests_has : (base : Tables) (x : Seated) (least : List ℕ → List Write) (next : Option LogRecord) (m : Meaning)
+pub rests_has : (base : NamedStates) (x : Seated) (least : List ℕ → List Write) (next : Option LogRecord) (m : Meaning)
     → AreFoundedWith base x → Rests (watched_by x) base least next m
     → AtEach (λ place t v. IsWhole (state_with base t v)) x
     → AtEach (λ place t v. LogHas m.held.disk (name_of t) (state_with base t v).taken) x
 rests_has base x least next m founded rests whole = λ place t v at was.
-    here place t v (watch_get x place t v at was) (ap (λ (b : TableState). after true b (seen_of v)) (founded place t v at was).1) (whole place t v at was)
+    here place t v (watch_get x place t v at was) (ap (λ (b : HistoryState). after true b (seen_of v)) (founded place t v at was).1) (whole place t v at was)
   where
     more : (name : List ℕ) → length (least name) ≤ length (with_writes next least name)
     more name = let extra = with_more next least name in omega (arith, ap (λ (ws : List Write). length ws) extra.1, length-append (least name) extra.0)

@@ -10,24 +10,24 @@ use Rattle.leaf_history.specs.Calls.{Call}
 use Rattle.leaf_history.specs.Calls as call
 use Rattle.leaf_history.specs.Replies.{Reply}
 use Rattle.leaf_history.specs.Replies as reply
-use Rattle.leaf_history.specs.History.{TableState, Entry, LegalFrom, Allowed, after, after_entry, changed, is_refusal}
-use Rattle.leaf_history.specs.Laws.{AreCallers, Keeps}
+use Rattle.leaf_history.specs.History.{HistoryState, Entry, LegalFrom, Allowed, after, after_entry, changed, is_refusal}
+use Rattle.leaf_history.specs.Laws.{AreCallers, CallersKeep}
 use Rattle.leaf_history.proofs.Histories.{LegalFrom-front, LegalFrom-back, after-append, others_keep}
 use Rattle.disk_backup.specs.Logs.{IsLog, is_short, is_gated, writes_of}
 use Rattle.disk_backup.specs.State.{LogState}
 use Rattle.disk_backup.specs.Settling.{HoldsOwing, with_writes}
-use Rattle.disk_backup.specs.Scanning.{Begins, begun}
+use Rattle.disk_backup.specs.Scanning.{BeginsScan, begun}
 use Rattle.disk_backup.proofs.Beginning.{begun_short, begun_long}
 use Rattle.disk_backup.proofs.Logs.{one_log, closed_is_log}
-use Rattle.crash_events.specs.Left.{Tables}
+use Rattle.crash_events.specs.Left.{NamedStates}
 use Rattle.crash_moments.specs.Watched.{Watched, now_of}
 use Rattle.crash_states.specs.Standing.{IsLogged, Runs}
 use Rattle.crash_states.proofs.States.{taken_count}
 use Rattle.leaf_table.specs.Turns.{Shared, is_founded, start_of}
-use Rattle.leaf_table.specs.Calls.{SeatView, Made, base_of, name_of, seen_of, entry_of}
+use Rattle.leaf_table.specs.Calls.{SeatView, Made, base_seen, name_of, seen_of, entry_seen}
 use Rattle.leaf_table.proofs.Knowing.{callers_of}
 use Rattle.leaf_steward.specs.Seated.{Seated}
-use Rattle.leaf_machine.specs.States.{IsClosed}
+use Rattle.leaf_machine.specs.States.{IsShutAndTaken}
 use Rattle.transcript.specs.Base.{LogHas}
 use Rattle.transcript.specs.Transcript.{as_read}
 use Rattle.transcript.specs.Session.{IsStewards, IsAllFlushed, state_with, state_read}
@@ -37,16 +37,16 @@ abbrev pub AreStewards : Seated → Type 0
 AreStewards x = (place : ℕ) (v : SeatView) → slice_get x.seats place ≡ Some v → IsStewards v
 
 -- the table is founded with this base
-abbrev pub IsFoundedWith : Tables → Shared → Type 0
-IsFoundedWith base t = (is_founded (base_of t) ≡ true) × (start_of (base_of t) ≡ base (name_of t))
+abbrev pub IsFoundedWith : NamedStates → Shared → Type 0
+IsFoundedWith base t = (is_founded (base_seen t) ≡ true) × (start_of (base_seen t) ≡ base (name_of t))
 
 -- ---- two states of a table
 
 -- they differ in nothing but how many writes are known to be flushed
-abbrev IsAlike : TableState → TableState → Type 0
+abbrev IsAlike : HistoryState → HistoryState → Type 0
 IsAlike s known = known ≡ as_read s known.flushed
 
-read_changed : (s : TableState) (n : ℕ) (c : Call) → IsAlike (changed true s c) (changed true (as_read s n) c)
+read_changed : (s : HistoryState) (n : ℕ) (c : Call) → IsAlike (changed true s c) (changed true (as_read s n) c)
 read_changed s n (call.Add rows) = refl
 read_changed s n (call.Expire horizon) = refl
 read_changed s n (call.Keep count) = refl
@@ -57,15 +57,15 @@ read_changed s n call.Shut = refl
 read_changed s n call.Done = refl
 read_changed s n (call.Open count contents) = refl
 
-read_either : (refused : Bool) (s : TableState) (n : ℕ) (c : Call) → IsAlike (if refused then s else changed true s c) (if refused then as_read s n else changed true (as_read s n) c)
+read_either : (refused : Bool) (s : HistoryState) (n : ℕ) (c : Call) → IsAlike (if refused then s else changed true s c) (if refused then as_read s n else changed true (as_read s n) c)
 read_either true s n c = refl
 read_either false s n c = read_changed s n c
 
 -- an entry leaves them so
-alike_entry : (s known : TableState) (e : Entry) → IsAlike s known → IsAlike (after_entry true s e) (after_entry true known e)
-alike_entry s known e alike = subst (λ (k : TableState). IsAlike (after_entry true s e) (after_entry true k e)) (sym alike) (read_either (is_refusal e.reply) s known.flushed e.call)
+alike_entry : (s known : HistoryState) (e : Entry) → IsAlike s known → IsAlike (after_entry true s e) (after_entry true known e)
+alike_entry s known e alike = subst (λ (k : HistoryState). IsAlike (after_entry true s e) (after_entry true k e)) (sym alike) (read_either (is_refusal e.reply) s known.flushed e.call)
 
-alike_after : (s known : TableState) (es : List Entry) → IsAlike s known → IsAlike (after true s es) (after true known es)
+alike_after : (s known : HistoryState) (es : List Entry) → IsAlike s known → IsAlike (after true s es) (after true known es)
 alike_after s known [] alike = alike
 alike_after s known (e ∷ es) alike = alike_after (after_entry true s e) (after_entry true known e) es (alike_entry s known e alike)
 
@@ -74,11 +74,11 @@ alike_after s known (e ∷ es) alike = alike_after (after_entry true s e) (after
 no_steward : (caller : ℕ) → 0 < caller → caller ≡ 0 → ⊥
 no_steward caller some none = omega (arith, some, none)
 
-either_flushed : (refused : Bool) (s now : TableState) → now.flushed ≡ s.flushed → (if refused then s else now).flushed ≡ s.flushed
+either_flushed : (refused : Bool) (s now : HistoryState) → now.flushed ≡ s.flushed → (if refused then s else now).flushed ≡ s.flushed
 either_flushed true s now same = refl
 either_flushed false s now same = same
 
-caller_flushed : (s known : TableState) (caller : ℕ) (c : Call) (r : Reply) → 0 < caller → Allowed true s caller c r → (if is_refusal r then known else changed true known c).flushed ≡ known.flushed
+caller_flushed : (s known : HistoryState) (caller : ℕ) (c : Call) (r : Reply) → 0 < caller → Allowed true s caller c r → (if is_refusal r then known else changed true known c).flushed ≡ known.flushed
 caller_flushed s known caller (call.Add rows) r some a = either_flushed (is_refusal r) known (changed true known (call.Add rows)) refl
 caller_flushed s known caller (call.Expire horizon) r some a = either_flushed (is_refusal r) known (changed true known (call.Expire horizon)) refl
 caller_flushed s known caller (call.Keep n) r some a = either_flushed (is_refusal r) known (changed true known (call.Keep n)) refl
@@ -89,94 +89,94 @@ caller_flushed s known caller call.Shut r some a = absurd (no_steward caller som
 caller_flushed s known caller call.Done r some a = absurd (no_steward caller some a.0)
 caller_flushed s known caller (call.Open n contents) r some a = absurd (no_steward caller some a.0)
 
-callers_flushed : (s known : TableState) (es : List Entry) → LegalFrom true s es → AreCallers es → (after true known es).flushed ≡ known.flushed
+callers_flushed : (s known : HistoryState) (es : List Entry) → LegalFrom true s es → AreCallers es → (after true known es).flushed ≡ known.flushed
 callers_flushed s known [] legal callers = refl
 callers_flushed s known (e ∷ es) legal callers =
     callers_flushed (after_entry true s e) (after_entry true known e) es legal.1 callers.1 ∙ caller_flushed s known e.caller e.call e.reply callers.0 legal.0
 
 -- what callers leave of both
-pub record BothKeep (s known now now_known : TableState) : Type 0 where
-  pub state : Keeps s now
-  pub read : Keeps known now_known
+pub record BothKeep (s known now now_known : HistoryState) : Type 0 where
+  pub state : CallersKeep s now
+  pub read : CallersKeep known now_known
 
-keeps_alike : (s known now now_known : TableState) → IsAlike s known → IsAlike now now_known → now_known.flushed ≡ known.flushed → Keeps s now → Keeps known now_known
+keeps_alike : (s known now now_known : HistoryState) → IsAlike s known → IsAlike now now_known → now_known.flushed ≡ known.flushed → CallersKeep s now → CallersKeep known now_known
 keeps_alike s known now now_known alike later flushed keeps = record {
-  live = ap (λ (k : TableState). k.live) later ∙ keeps.live ∙ ap (λ (k : TableState). k.live) (sym alike);
-  taken = ap (λ (k : TableState). k.taken) later ∙ keeps.taken ∙ ap (λ (k : TableState). k.taken) (sym alike);
+  live = ap (λ (k : HistoryState). k.live) later ∙ keeps.live ∙ ap (λ (k : HistoryState). k.live) (sym alike);
+  taken = ap (λ (k : HistoryState). k.taken) later ∙ keeps.taken ∙ ap (λ (k : HistoryState). k.taken) (sym alike);
   flushed = flushed;
-  handed = ap (λ (k : TableState). k.handed) later ∙ keeps.handed ∙ ap (λ (k : TableState). k.handed) (sym alike);
-  before = ap (λ (k : TableState). k.before) later ∙ keeps.before ∙ ap (λ (k : TableState). k.before) (sym alike);
-  handed_in = ap (λ (k : TableState). k.handed_in) later ∙ keeps.handed_in ∙ ap (λ (k : TableState). k.handed_in) (sym alike);
+  handed = ap (λ (k : HistoryState). k.handed) later ∙ keeps.handed ∙ ap (λ (k : HistoryState). k.handed) (sym alike);
+  before = ap (λ (k : HistoryState). k.before) later ∙ keeps.before ∙ ap (λ (k : HistoryState). k.before) (sym alike);
+  handed_in = ap (λ (k : HistoryState). k.handed_in) later ∙ keeps.handed_in ∙ ap (λ (k : HistoryState). k.handed_in) (sym alike);
   appends = (
     keeps.appends.0,
-    ap (λ (k : TableState). k.writes) later ∙ keeps.appends.1 ∙ ap (λ (k : TableState). k.writes ++ keeps.appends.0) (sym alike),
+    ap (λ (k : HistoryState). k.writes) later ∙ keeps.appends.1 ∙ ap (λ (k : HistoryState). k.writes ++ keeps.appends.0) (sym alike),
   );
   shut = λ closed.
       later
-      ∙ ap (λ (k : TableState). as_read k now_known.flushed) (keeps.shut (ap (λ (k : TableState). k.live) (sym alike) ∙ closed))
+      ∙ ap (λ (k : HistoryState). as_read k now_known.flushed) (keeps.shut (ap (λ (k : HistoryState). k.live) (sym alike) ∙ closed))
       ∙ ap (λ (n : ℕ). as_read s n) flushed
       ∙ sym alike;
 }
 
-callers_keep : (s known : TableState) (es : List Entry) → IsAlike s known → LegalFrom true s es → AreCallers es → BothKeep s known (after true s es) (after true known es)
+callers_keep : (s known : HistoryState) (es : List Entry) → IsAlike s known → LegalFrom true s es → AreCallers es → BothKeep s known (after true s es) (after true known es)
 callers_keep s known es alike legal callers = record {
   state = others_keep true s es legal callers;
   read = keeps_alike s known (after true s es) (after true known es) alike (alike_after s known es alike) (callers_flushed s known es legal callers) (others_keep true s es legal callers);
 }
 
 -- behind a history
-callers_keep_on : (b read : TableState) (xs es : List Entry) → IsAlike b read → LegalFrom true b (xs ++ es) → AreCallers es
+callers_keep_on : (b read : HistoryState) (xs es : List Entry) → IsAlike b read → LegalFrom true b (xs ++ es) → AreCallers es
     → BothKeep (after true b xs) (after true read xs) (after true b (xs ++ es)) (after true read (xs ++ es))
 callers_keep_on b read xs es alike legal callers =
-    subst (λ (s : TableState). BothKeep (after true b xs) (after true read xs) s (after true read (xs ++ es))) (sym (after-append true b xs es))
-    (subst (λ (s : TableState). BothKeep (after true b xs) (after true read xs) (after true (after true b xs) es) s) (sym (after-append true read xs es))
+    subst (λ (s : HistoryState). BothKeep (after true b xs) (after true read xs) s (after true read (xs ++ es))) (sym (after-append true b xs es))
+    (subst (λ (s : HistoryState). BothKeep (after true b xs) (after true read xs) (after true (after true b xs) es) s) (sym (after-append true read xs es))
     (callers_keep (after true b xs) (after true read xs) es (alike_after b read xs alike) (LegalFrom-back true b xs es legal) callers))
 
 -- a seat has learned callers' entries
-pub learned_keep : (base : Tables) (read : List ℕ → ℕ) (t : Shared) (v w : SeatView) (es : List Entry) → seen_of w ≡ seen_of v ++ es → AreCallers es → LegalFrom true (base (name_of t)) (seen_of w)
+pub learned_keep : (base : NamedStates) (read : List ℕ → ℕ) (t : Shared) (v w : SeatView) (es : List Entry) → seen_of w ≡ seen_of v ++ es → AreCallers es → LegalFrom true (base (name_of t)) (seen_of w)
     → BothKeep (state_with base t v) (state_read base read t v) (state_with base t w) (state_read base read t w)
 learned_keep base read t v w es seen callers legal =
-    let b : TableState = base (name_of t) in
-    let k : TableState = as_read b (read (name_of t)) in
+    let b : HistoryState = base (name_of t) in
+    let k : HistoryState = as_read b (read (name_of t)) in
     subst (λ (h : List Entry). BothKeep (after true b (seen_of v)) (after true k (seen_of v)) (after true b h) (after true k h)) (sym seen)
     (callers_keep_on b k (seen_of v) es refl (subst (λ (h : List Entry). LegalFrom true b h) seen legal) callers)
 
 -- all that was taken is flushed still
-pub all_flushed_kept : (s known now now_known : TableState) → BothKeep s known now now_known → IsAllFlushed s known → IsAllFlushed now now_known
+pub all_flushed_kept : (s known now now_known : HistoryState) → BothKeep s known now now_known → IsAllFlushed s known → IsAllFlushed now now_known
 all_flushed_kept s known now now_known both all = record {
   flushed = both.state.flushed ∙ all.flushed ∙ sym both.state.taken;
   known_is = both.read.flushed ∙ all.known_is ∙ sym both.state.taken;
 }
 
 -- a shut table of which all was taken stays so
-pub closed_kept : (s now : TableState) → Keeps s now → IsClosed s → IsClosed now
-closed_kept s now keeps closed = subst IsClosed (sym (keeps.shut closed.shut)) closed
+pub closed_kept : (s now : HistoryState) → CallersKeep s now → IsShutAndTaken s → IsShutAndTaken now
+closed_kept s now keeps closed = subst IsShutAndTaken (sym (keeps.shut closed.shut)) closed
 
 -- ---- an entry of the steward's seat
 
 -- Callers left both as they were, and then the entry did the rest.
-pub record Enters (base : Tables) (read : List ℕ → ℕ) (t : Shared) (clock : ℕ) (v : SeatView) (c : Call) (r : Reply) (w : SeatView) : Type 0 where
+pub record Enters (base : NamedStates) (read : List ℕ → ℕ) (t : Shared) (clock : ℕ) (v : SeatView) (c : Call) (r : Reply) (w : SeatView) : Type 0 where
   pub between : List Entry
   pub callers : AreCallers between
-  pub seen : seen_of w ≡ seen_of v ++ (between ++ entry_of v.id clock c r ∷ [])
-  pub before : TableState
-  pub known : TableState
+  pub seen : seen_of w ≡ seen_of v ++ (between ++ entry_seen v.id clock c r ∷ [])
+  pub before : HistoryState
+  pub known : HistoryState
   pub keeps : BothKeep (state_with base t v) (state_read base read t v) before known
   pub is_read : known ≡ after true (state_read base read t v) between
   pub legal : LegalFrom true (state_with base t v) between
-  pub now : state_with base t w ≡ after_entry true before (entry_of v.id clock c r)
-  pub now_read : state_read base read t w ≡ after_entry true known (entry_of v.id clock c r)
+  pub now : state_with base t w ≡ after_entry true before (entry_seen v.id clock c r)
+  pub now_read : state_read base read t w ≡ after_entry true known (entry_seen v.id clock c r)
 
-legal_with : (base : Tables) (t : Shared) (es : List Entry) → IsFoundedWith base t → LegalFrom (is_founded (base_of t)) (start_of (base_of t)) es → LegalFrom true (base (name_of t)) es
-legal_with base t es founded legal = subst (λ (b : TableState). LegalFrom true b es) founded.1 (subst (λ (f : Bool). LegalFrom f (start_of (base_of t)) es) founded.0 legal)
+legal_with : (base : NamedStates) (t : Shared) (es : List Entry) → IsFoundedWith base t → LegalFrom (is_founded (base_seen t)) (start_of (base_seen t)) es → LegalFrom true (base (name_of t)) es
+legal_with base t es founded legal = subst (λ (b : HistoryState). LegalFrom true b es) founded.1 (subst (λ (f : Bool). LegalFrom f (start_of (base_seen t)) es) founded.0 legal)
 
-pub entered : (base : Tables) (read : List ℕ → ℕ) (t : Shared) (clock : ℕ) (v : SeatView) (c : Call) (r : Reply) (w : SeatView)
-    → IsFoundedWith base t → IsStewards v → Made (base_of t) clock v c r w → Enters base read t clock v c r w
+pub entered : (base : NamedStates) (read : List ℕ → ℕ) (t : Shared) (clock : ℕ) (v : SeatView) (c : Call) (r : Reply) (w : SeatView)
+    → IsFoundedWith base t → IsStewards v → Made (base_seen t) clock v c r w → Enters base read t clock v c r w
 entered base read t clock v c r w founded steward made =
-    let b : TableState = base (name_of t) in
-    let k : TableState = as_read b (read (name_of t)) in
+    let b : HistoryState = base (name_of t) in
+    let k : HistoryState = as_read b (read (name_of t)) in
     let xs : List Entry = seen_of v in
-    let e : Entry = entry_of v.id clock c r in
+    let e : Entry = entry_seen v.id clock c r in
     let callers : AreCallers made.between = callers_of v made.between steward.id (omega (arith, steward.share)) made.others in
     let front : LegalFrom true b (xs ++ made.between) =
     LegalFrom-front true b (xs ++ made.between) (e ∷ []) (subst (λ (h : List Entry). LegalFrom true b h) made.seen (legal_with base t (seen_of w) founded made.legal)) in
@@ -193,16 +193,16 @@ entered base read t clock v c r w founded steward made =
       now_read = ap (λ (h : List Entry). after true k h) made.seen ∙ after-append true k (xs ++ made.between) (e ∷ []);
     }
 
-module _ (base : Tables) (read : List ℕ → ℕ) (t : Shared) (clock : ℕ) (v w : SeatView) where
+module _ (base : NamedStates) (read : List ℕ → ℕ) (t : Shared) (clock : ℕ) (v w : SeatView) where
   -- an opening: all that the table then has was taken and is flushed
   pub entry_opened : (n : ℕ) (contents : Contents) → Enters base read t clock v (call.Open n contents) reply.Noted w
       → IsAllFlushed (state_with base t w) (state_read base read t w) × ((state_with base t w).taken ≡ n)
   entry_opened n contents e = (
     record {
-      flushed = ap (λ (s : TableState). s.flushed) e.now ∙ ap (λ (s : TableState). s.taken) (sym e.now);
-      known_is = ap (λ (s : TableState). s.flushed) e.now_read ∙ ap (λ (s : TableState). s.taken) (sym e.now);
+      flushed = ap (λ (s : HistoryState). s.flushed) e.now ∙ ap (λ (s : HistoryState). s.taken) (sym e.now);
+      known_is = ap (λ (s : HistoryState). s.flushed) e.now_read ∙ ap (λ (s : HistoryState). s.taken) (sym e.now);
     },
-    ap (λ (s : TableState). s.taken) e.now,
+    ap (λ (s : HistoryState). s.taken) e.now,
   )
 
 -- ---- what the log of a disk has
@@ -223,7 +223,7 @@ has_none : (disk name : List ℕ) (a : ℕ) → length disk ≤ 1 → a ≡ 0 �
 has_none disk name a short none = ([], 0, is_short short refl refl, none)
 
 -- whatever became of its first byte while a scan began, it has the same log
-pub has_begins : (disk now name : List ℕ) (a : ℕ) → Begins (length disk) disk now → LogHas disk name a → LogHas now name a
+pub has_begins : (disk now name : List ℕ) (a : ℕ) → BeginsScan (length disk) disk now → LogHas disk name a → LogHas now name a
 has_begins disk now name a (inl same) has = subst (λ (d : List ℕ). LogHas d name a) (sym same) has
 has_begins disk now name a (inr first) has = has_none now name a (omega (arith, first.short, first.torn.no_longer)) (no_count disk name a first.short has)
 

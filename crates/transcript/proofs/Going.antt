@@ -5,11 +5,11 @@ use Rattle.std.specs.List.{flat_map}
 use Rattle.std.proofs.lemmas.Grind.{flat_map-append}
 use Rattle.std.proofs.lemmas.List.{map-append, append-nil}
 use Rattle.berth_face.specs.Berth.{Meaning}
-use Rattle.leaf_history.specs.History.{Entry, LegalFrom, TableState}
+use Rattle.leaf_history.specs.History.{Entry, LegalFrom, HistoryState}
 use Rattle.leaf_opening.specs.declared.ways.Way.{Way}
-use Rattle.crash_events.specs.Left.{Tables}
+use Rattle.crash_events.specs.Left.{NamedStates}
 use Rattle.leaf_table.specs.Turns.{Shared, is_founded, start_of}
-use Rattle.leaf_table.specs.Calls.{SeatView, base_of, name_of, seen_of}
+use Rattle.leaf_table.specs.Calls.{SeatView, base_seen, name_of, seen_of}
 use Rattle.leaf_steward.specs.declared.notes.Note.{Note}
 use Rattle.leaf_steward.specs.Seated.{Seated}
 use Rattle.leaf_steward.specs.Making.{Makes}
@@ -24,7 +24,7 @@ use Rattle.transcript.specs.Life.{Life, Down}
 use Rattle.transcript.specs.Transcript.{Played, Fleet, Scene, Prints, PrintsAll, disk_faults_in, is_disk_fault}
 use Rattle.transcript.specs.Stage.{Leaf, Carries, MeetAll, seated_of}
 use Rattle.transcript.specs.Steps.{note_lines}
-use Rattle.transcript.specs.Session.{Answered, AreFoundedWith, AreInPlace, FitsLife, IsExact, IsStewards, MetSession, TableMet, WornAreLong, history_at, one_leaf, scene_of}
+use Rattle.transcript.specs.Session.{HasAnswers, AreFoundedWith, AreInPlace, FitsLife, IsExact, IsStewards, MetSession, TableMet, WornAreLong, history_at, one_leaf, scene_of}
 use Rattle.transcript.proofs.Lists.{All-append, All-weaken, element_at, length_set, neither, within}
 use Rattle.transcript.proofs.Growing.{has_fault, faults_go_on}
 use Rattle.transcript.proofs.Noting.{legal_at, notes_at, stewards_still, steward_seen, steward_table}
@@ -63,7 +63,7 @@ made_length from to x notes y (Makes.more f t u ns w clock note rest between ord
     made_length clock to between rest y later ∙ (ap (λ (s : Seated). length s.seats) one.now ∙ length_set x.seats note.table one.after)
 
 -- the steward's part: the leaf that met, what it did, and the second meeting
-module _ (names : List (List ℕ)) (base : Tables) (met moved : Leaf) (callers : List SeatView) (notes : List Note) (m m' : Meaning) (in_place : AreInPlace names (seated_of met) callers) (carries : Carries met moved notes m m') where
+module _ (names : List (List ℕ)) (base : NamedStates) (met moved : Leaf) (callers : List SeatView) (notes : List Note) (m m' : Meaning) (in_place : AreInPlace names (seated_of met) callers) (carries : Carries met moved notes m m') where
   same_tables : (seated_of moved).tables ≡ (seated_of met).tables
   same_tables = makes_tables m.clock m'.clock (seated_of met) notes (seated_of moved) carries.made
 
@@ -94,14 +94,14 @@ pub record Shaped (names : List (List ℕ)) (life : Life) (c : Command) (lines :
   pub prints : Prints (one_leaf names) (scene_of life) c lines (scene_of next)
   pub fits : FitsLife next leaf m
 
-module _ (names : List (List ℕ)) (way : Way) (base : Tables) (read : List ℕ → ℕ) (old : Meaning) (commands : List Command) (out : List Line) (met moved leaf' : Leaf) (callers callers' : List SeatView) (m m' : Meaning)
+module _ (names : List (List ℕ)) (way : Way) (base : NamedStates) (read : List ℕ → ℕ) (old : Meaning) (commands : List Command) (out : List Line) (met moved leaf' : Leaf) (callers callers' : List SeatView) (m m' : Meaning)
     (c : Command) (verb : Verb) (notes : List Note) (ends : Ending) (lines : List Line)
     (s : MetSession names way base read old commands out met callers m) (carries : Carries met moved notes m m') (second : MeetAll moved callers leaf' callers' m')
     (lines_are : lines ≡ note_lines notes ++ line.Ended verb 0 ends ∷ [])
     (shaped : Shaped names s.life c lines moved m')
     (exactly : is_disk_fault ends ≡ false → IsExact base read met m → Exactly base read met moved m')
     (worn : (h : ℕ → List Entry) → Reach moved h → WornAreLong h (record { command = c; lines = lines }))
-    (no_answer : (h : ℕ → List Entry) → Answered names base h (record { command = c; lines = lines })) where
+    (no_answer : (h : ℕ → List Entry) → HasAnswers names base h (record { command = c; lines = lines })) where
   abbrev p : Played
   p = record { command = c; lines = lines }
 
@@ -123,13 +123,13 @@ module _ (names : List (List ℕ)) (way : Way) (base : Tables) (read : List ℕ 
       let before = seats_before names met callers place t s.in_place here in
       let known = s.tables place t before.steward c0 here before.at_steward called in
       let founded = s.founded place t before.steward here before.at_steward in
-      let legal_then : LegalFrom (is_founded (base_of t)) (start_of (base_of t)) (seen_of before.steward) =
-      subst (λ (b : Bool). LegalFrom b (start_of (base_of t)) (seen_of before.steward)) (sym founded.0)
-      (subst (λ (b : TableState). LegalFrom true b (seen_of before.steward)) (sym founded.1) (subst (λ (es : List Entry). LegalFrom true (base (name_of t)) es) (sym known.same) known.legal)) in
+      let legal_then : LegalFrom (is_founded (base_seen t)) (start_of (base_seen t)) (seen_of before.steward) =
+      subst (λ (b : Bool). LegalFrom b (start_of (base_seen t)) (seen_of before.steward)) (sym founded.0)
+      (subst (λ (b : HistoryState). LegalFrom true b (seen_of before.steward)) (sym founded.1) (subst (λ (es : List Entry). LegalFrom true (base (name_of t)) es) (sym known.same) known.legal)) in
       let legal_now = legal_at m.clock m'.clock (seated_of met) notes (seated_of moved) place t before.steward w carries.made here before.at_steward sat legal_then in
       steward_table (base (name_of t)) (read (name_of t)) place s.faulted s.played p (line.Ended verb 0 ends ∷ []) notes before.steward w c0 v' c' s.faults known lines_are
       (notes_at m.clock m'.clock (seated_of met) notes (seated_of moved) place c (line.Ended verb 0 ends ∷ []) before.steward w carries.made before.at_steward sat refl)
-      (subst (λ (b : TableState). LegalFrom true b (seen_of w)) founded.1 (subst (λ (b : Bool). LegalFrom b (start_of (base_of t)) (seen_of w)) founded.0 legal_now))
+      (subst (λ (b : HistoryState). LegalFrom true b (seen_of w)) founded.1 (subst (λ (b : Bool). LegalFrom b (start_of (base_seen t)) (seen_of w)) founded.0 legal_now))
       (second.each place w c0 v' c' sat called sat' called')
       (λ calm whole. (exactly (sym fault_is ∙ whole) (s.exact calm)).opens place t before.steward w here before.at_steward sat)
 
@@ -196,8 +196,8 @@ module _ (names : List (List ℕ)) (way : Way) (base : Tables) (read : List ℕ 
             names moved callers leaf' callers' m' there second
             (λ place t w c0 v' c' at sat called sat' called' known. table_behind place t w c0 v' c' at sat called sat' called')
             (λ place t w c0 at sat called. (sat, called));
-        answered = All-append (Answered names base (history_at callers')) s.played (p ∷ [])
-            (All-weaken (Answered names base (history_at callers)) (Answered names base (history_at callers')) (λ q. answered_grows names base callers callers' q grow) s.played s.answered)
+        answered = All-append (HasAnswers names base (history_at callers')) s.played (p ∷ [])
+            (All-weaken (HasAnswers names base (history_at callers)) (HasAnswers names base (history_at callers')) (λ q. answered_grows names base callers callers' q grow) s.played s.answered)
             (no_answer (history_at callers'), tt);
         worn = All-append (WornAreLong (history_at callers')) s.played (p ∷ [])
             (All-weaken (WornAreLong (history_at callers)) (WornAreLong (history_at callers')) (λ q. worn_grows callers callers' q grow) s.played s.worn)

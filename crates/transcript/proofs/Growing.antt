@@ -4,7 +4,7 @@ use Rattle.std.specs.Prelude.{if◌then◌else◌}
 use Rattle.std.specs.List.{AllByRecursion}
 use Rattle.std.proofs.lemmas.Bool.{eqb-true}
 use Rattle.std.proofs.lemmas.List.{append_assoc, length-append, take-append-le, take_all}
-use Rattle.leaf_history.specs.History.{Entry, TableState, after, held}
+use Rattle.leaf_history.specs.History.{Entry, HistoryState, after, held}
 use Rattle.printed_lines.specs.declared.line.Line.{Line}
 use Rattle.transcript.specs.Transcript.{Played, shown, shown_in, OpensFlushed, disk_faults_in, until_disk_fault, rows_before}
 use Rattle.transcript.specs.Session.{Faults}
@@ -56,10 +56,10 @@ fewer_before table (p ∷ ps) = by (disk_faults_in 0 p.lines == 0) (fewer_before
 
 -- ---- one table
 
-abbrev pub Opened : TableState → ℕ → List Played → List Entry → Type 0
+abbrev pub Opened : HistoryState → ℕ → List Played → List Entry → Type 0
 Opened base table ps es = OpensFlushed base (take (length (shown 0 table (until_disk_fault 0 ps))) es)
 
-pub opened_on : (base : TableState) (table : ℕ) (ps : List Played) (p : Played) (faulted : Bool) (entries es : List Entry)
+pub opened_on : (base : HistoryState) (table : ℕ) (ps : List Played) (p : Played) (faulted : Bool) (entries es : List Entry)
     → Faults faulted ps
     → length (shown 0 table ps) ≡ length entries
     → length (shown 0 table (ps ++ p ∷ [])) ≡ length (entries ++ es)
@@ -82,10 +82,10 @@ opened_on base table ps p false entries es faults count count' h more = by (disk
 -- ---- rows before an entry
 
 -- rows before an entry that was made stay as they are
-pub rows_before-grows : (base : TableState) (entries es : List Entry) (number : ℕ) → number - 1 ≤ length entries
+pub rows_before-grows : (base : HistoryState) (entries es : List Entry) (number : ℕ) → number - 1 ≤ length entries
     → rows_before base (entries ++ es) number ≡ rows_before base entries number
 rows_before-grows base entries es number l = ap (λ (xs : List Entry). (held (after true base xs)).rows) (take-append-le (number - 1) entries es l)
 
 -- the rows before the next entry are those that the table holds
-pub rows_before-next : (base : TableState) (entries : List Entry) (number : ℕ) → number ≡ suc (length entries) → rows_before base entries number ≡ (held (after true base entries)).rows
+pub rows_before-next : (base : HistoryState) (entries : List Entry) (number : ℕ) → number ≡ suc (length entries) → rows_before base entries number ≡ (held (after true base entries)).rows
 rows_before-next base entries number e = ap (λ (xs : List Entry). (held (after true base xs)).rows) (take_all (number - 1) entries (omega (arith, e)))

@@ -4,7 +4,7 @@ use Rattle.std.specs.List.{AllByRecursion}
 use Rattle.std.proofs.lemmas.Bool.{eq-eqb}
 use Rattle.std.proofs.lemmas.List.{append-nil, append_assoc, append_cancel_left, length-append, map-append, take_all}
 use mathlib.Core.List.{IsPrefix}
-use Rattle.leaf_history.specs.History.{TableState, Entry, Allowed, LegalFrom, after_entry}
+use Rattle.leaf_history.specs.History.{HistoryState, Entry, Allowed, LegalFrom, after_entry}
 use Rattle.leaf_history.specs.Calls.{Call}
 use Rattle.leaf_history.specs.Calls as call
 use Rattle.leaf_history.specs.Replies as reply
@@ -19,14 +19,14 @@ use Rattle.turnstile.proofs.Prefixes.{prefix_whole}
 use Rattle.leaf_table.specs.declared.replies.Reply.{Reply}
 use Rattle.leaf_table.specs.declared.replies.Reply.TheVariants as shared
 use Rattle.leaf_table.specs.Turns.{Shared, Turns, is_founded, start_of, told, history}
-use Rattle.leaf_table.specs.Calls.{SeatView, AreOthers, HaveIds, Made, Replied, base_of, entry_of, seen_of, Answered}
+use Rattle.leaf_table.specs.Calls.{SeatView, AreOthers, HaveIds, Made, Replied, base_seen, entry_seen, seen_of, Answered}
 use Rattle.leaf_table.specs.Calls as calls
 use Rattle.leaf_table.specs.declared.base.TableBase.{TableBase}
 use Rattle.leaf_table.proofs.Knowing.{callers_of, makers_known}
-use Rattle.transcript.specs.Transcript.{Played, Shown, Shows, OpenIs, OpensFlushed, Tells, as_read, call_of, disk_faults_in, shown, shown_in, until_disk_fault}
+use Rattle.transcript.specs.Transcript.{Played, Shown, Shows, OpenIs, OpensFlushed, Tells, as_read, call_shown, disk_faults_in, shown, shown_in, until_disk_fault}
 use Rattle.transcript.specs.Stage.{Meets}
-use Rattle.transcript.specs.Steps.{Says}
-use Rattle.transcript.specs.Session.{Faults, IsCallers, TableNow, TableMet, TellsOwn}
+use Rattle.transcript.specs.Steps.{IsReplyLine}
+use Rattle.transcript.specs.Session.{Faults, IsCallersSeat, TableNow, TableMet, TellsOwn}
 use Rattle.transcript.proofs.Lists.{All-append, length_mapped}
 use Rattle.transcript.proofs.Telling.{Tells-append, Tells-length, shown-snoc}
 use Rattle.transcript.proofs.Growing.{Opened}
@@ -35,7 +35,7 @@ use Rattle.transcript.proofs.Gaps.{AreOwn, own_append, own_same, own_tells}
 
 -- ---- callers open nothing
 
-calls_open : (s x : TableState) (caller : ℕ) (c : Call) (r : reply.Reply) → 0 < caller → Allowed true s caller c r → OpenIs x c
+calls_open : (s x : HistoryState) (caller : ℕ) (c : Call) (r : reply.Reply) → 0 < caller → Allowed true s caller c r → OpenIs x c
 calls_open s x caller (call.Add rows) r h a = tt
 calls_open s x caller (call.Expire horizon) r h a = tt
 calls_open s x caller (call.Keep n) r h a = tt
@@ -46,13 +46,13 @@ calls_open s x caller call.Shut r h a = tt
 calls_open s x caller call.Done r h a = tt
 calls_open s x caller (call.Open n contents) r h a = let none : caller ≡ 0 = a.0 in absurd (omega (arith, h, none))
 
-callers_open : (s x : TableState) (k : ℕ) (es : List Entry) → LegalFrom true s es → AreCallers es → OpensFlushed x (take k es)
+callers_open : (s x : HistoryState) (k : ℕ) (es : List Entry) → LegalFrom true s es → AreCallers es → OpensFlushed x (take k es)
 callers_open s x zero es l o = tt
 callers_open s x (suc k) [] l o = tt
 callers_open s x (suc k) (e ∷ es) l o = (calls_open s x e.caller e.call e.reply o.0 l.0, callers_open (after_entry true s e) (after_entry true x e) k es l.1 o.1)
 
 -- however many entries of a history are looked at, those of callers behind it open nothing
-opened_behind : (s x : TableState) (k : ℕ) (xs ys : List Entry) → OpensFlushed x (take k xs) → LegalFrom true s (xs ++ ys) → AreCallers ys → OpensFlushed x (take k (xs ++ ys))
+opened_behind : (s x : HistoryState) (k : ℕ) (xs ys : List Entry) → OpensFlushed x (take k xs) → LegalFrom true s (xs ++ ys) → AreCallers ys → OpensFlushed x (take k (xs ++ ys))
 opened_behind s x zero xs ys h l o = tt
 opened_behind s x (suc k) [] ys h l o = callers_open s x (suc k) ys l o
 opened_behind s x (suc k) (e ∷ es) ys h l o = (h.0, opened_behind (after_entry true s e) (after_entry true x e) k es ys h.1 l.1 o)
@@ -67,10 +67,10 @@ behind : (P : Entry → Type 0) (xs ys : List Entry) → AllByRecursion P (xs ++
 behind P [] ys h = h
 behind P (x ∷ xs) ys h = behind P xs ys h.1
 
-owns_callers : (c : SeatView) (x : ℕ) → IsCallers c → 0 < x → x < 65537 → Owns c x
+owns_callers : (c : SeatView) (x : ℕ) → IsCallersSeat c → 0 < x → x < 65537 → Owns c x
 owns_callers c x is positive small = let first = is.id in let count = is.share in inl (omega (arith, first), omega (arith, first, count))
 
-own_callers : (c : SeatView) (es : List Entry) → IsCallers c → AreCallers es → HaveIds es → AreOwn c es
+own_callers : (c : SeatView) (es : List Entry) → IsCallersSeat c → AreCallers es → HaveIds es → AreOwn c es
 own_callers c [] is o ids = tt
 own_callers c (e ∷ es) is o ids = (owns_callers c e.caller is o.0 ids.0, own_callers c es is o.1 ids.1)
 
@@ -102,7 +102,7 @@ learned v c v' since seen same begins learns =
     subst (AreOthers v) (append_cancel_left (seen_of v) (history begins.0) since split) (others_all v begins.0 (learns begins.0 (sym begins.1)))
 
 -- behind a meeting the lines tell all that was made: what came between were entries of nobody
-pub met_table : (base : TableState) (read table : ℕ) (played : List Played) (v c v' c' : SeatView)
+pub met_table : (base : HistoryState) (read table : ℕ) (played : List Played) (v c v' c' : SeatView)
     → TableNow base read table played v c → Meets v c v' c' → TableMet base read table played v' c'
 met_table base read table played v c v' c' now meets =
     let view = ap (λ (u : SeatView). u.seen) meets.steward.view in
@@ -147,7 +147,7 @@ met_table base read table played v c v' c' now meets =
         let later = own_tells c (suc (length (seen_of v))) now.later now.since own now.tells_later in
         Tells-append 1 now.told now.later (seen_of v) now.since now.tells (subst (λ k. Tells k now.later now.since) (one_more (length (seen_of v))) later)
 
-pub now_table : (base : TableState) (read table : ℕ) (played : List Played) (v c : SeatView)
+pub now_table : (base : HistoryState) (read table : ℕ) (played : List Played) (v c : SeatView)
     → TableMet base read table played v c → TableNow base read table played v c
 now_table base read table played v c met = record {
   stewards = met.stewards;
@@ -170,7 +170,7 @@ none_until [] h = refl
 none_until (q ∷ qs) h = rw h.0 (ap (λ rs. q ∷ rs) (none_until qs h.1))
 
 -- more lines leave how the table was opened, where the lines of what was seen stand already
-opened_calm : (base : TableState) (table : ℕ) (faulted : Bool) (ps : List Played) (p : Played) (es : List Entry)
+opened_calm : (base : HistoryState) (table : ℕ) (faulted : Bool) (ps : List Played) (p : Played) (es : List Entry)
     → Faults faulted ps → disk_faults_in 0 p.lines ≡ 0 → length es ≤ length (shown 0 table ps)
     → Opened base table ps es → Opened base table (ps ++ p ∷ []) es
 opened_calm base table true ps p es faults calm enough h = rw (faults (p ∷ [])) h
@@ -188,12 +188,12 @@ opened_calm base table false ps p es faults calm enough h =
     whole qs none room = ap (λ (rs : List Played). take (length (shown 0 table rs)) es) (none_until qs none) ∙ take_all (length (shown 0 table qs)) es room
 
 -- the steward's seat has seen no more than the lines tell
-seen_told : (base : TableState) (read table : ℕ) (played : List Played) (v c : SeatView) → TableNow base read table played v c → length (seen_of v) ≤ length (shown 0 table played)
+seen_told : (base : HistoryState) (read table : ℕ) (played : List Played) (v c : SeatView) → TableNow base read table played v c → length (seen_of v) ≤ length (shown 0 table played)
 seen_told base read table played v c now =
     omega (arith, Tells-length 1 now.told (seen_of v) now.tells, ap (λ (ss : List Shown). length ss) now.lines, length-append now.told now.later)
 
 -- a command that prints nothing of the table leaves what is known of it
-pub other_table : (base : TableState) (read table : ℕ) (faulted : Bool) (played : List Played) (p : Played) (v c : SeatView)
+pub other_table : (base : HistoryState) (read table : ℕ) (faulted : Bool) (played : List Played) (p : Played) (v c : SeatView)
     → Faults faulted played
     → TableNow base read table played v c → shown_in 0 table p.command p.lines ≡ [] → disk_faults_in 0 p.lines ≡ 0
     → TableNow base read table (played ++ p ∷ []) v c
@@ -230,27 +230,27 @@ last_number xs ys zs e h is = omega (
 )
 
 -- the line of a reply, and what it shows
-line_of : (table n by : ℕ) (called : Call) (c : Command) (r : reply.Reply) (x : Reply) (l : Line) → calls.Tells n r x → Says table x l → call_of c ≡ Some called
-    → (s : Said) × (l ≡ line.Entry 0 table n s) × Shows c s (entry_of by 0 called r)
-line_of table n by called c (reply.Added kept late) x l tells says is = (said.Added kept late, subst (λ y. Says table y l) tells says, (is, refl))
-line_of table n by called c (reply.Groups gs) x l tells says is = (said.Asked, subst (λ y. Says table y l) tells says, (is, (gs, refl)))
-line_of table n by called c reply.Shut x l tells says is = (said.RefusedShut, subst (λ y. Says table y l) tells says, (is, refl))
-line_of table n by called c reply.Full x l tells says is = (said.RefusedFull, subst (λ y. Says table y l) tells says, (is, refl))
-line_of table n by called c reply.NoMemory x l tells says is = (said.RefusedMemory, subst (λ y. Says table y l) tells says, (is, refl))
-line_of table n by called c (reply.Removed k) x l tells says is = absurd (subst (λ y. Says table y l) tells says)
+line_of : (table n by : ℕ) (called : Call) (c : Command) (r : reply.Reply) (x : Reply) (l : Line) → calls.Tells n r x → IsReplyLine table x l → call_shown c ≡ Some called
+    → (s : Said) × (l ≡ line.Entry 0 table n s) × Shows c s (entry_seen by 0 called r)
+line_of table n by called c (reply.Added kept late) x l tells says is = (said.Added kept late, subst (λ y. IsReplyLine table y l) tells says, (is, refl))
+line_of table n by called c (reply.Groups gs) x l tells says is = (said.Asked, subst (λ y. IsReplyLine table y l) tells says, (is, (gs, refl)))
+line_of table n by called c reply.Shut x l tells says is = (said.RefusedShut, subst (λ y. IsReplyLine table y l) tells says, (is, refl))
+line_of table n by called c reply.Full x l tells says is = (said.RefusedFull, subst (λ y. IsReplyLine table y l) tells says, (is, refl))
+line_of table n by called c reply.NoMemory x l tells says is = (said.RefusedMemory, subst (λ y. IsReplyLine table y l) tells says, (is, refl))
+line_of table n by called c (reply.Removed k) x l tells says is = absurd (subst (λ y. IsReplyLine table y l) tells says)
 line_of table n by called c (reply.Counted k) x l tells says is = absurd tells
 line_of table n by called c reply.Noted x l tells says is = absurd tells
 
 -- an entry was made and its line printed
-entry_table : (base : TableState) (read table : ℕ) (faulted : Bool) (played : List Played) (p : Played) (t : Shared) (v c c' : SeatView) (called : Call) (r : reply.Reply) (s : Said)
+entry_table : (base : HistoryState) (read table : ℕ) (faulted : Bool) (played : List Played) (p : Played) (t : Shared) (v c c' : SeatView) (called : Call) (r : reply.Reply) (s : Said)
     → Faults faulted played
     → TableNow base read table played v c
-    → is_founded (base_of t) ≡ true → start_of (base_of t) ≡ base
-    → Made (base_of t) 0 c called r c' → Shows p.command s (entry_of c.id 0 called r)
+    → is_founded (base_seen t) ≡ true → start_of (base_seen t) ≡ base
+    → Made (base_seen t) 0 c called r c' → Shows p.command s (entry_seen c.id 0 called r)
     → shown_in 0 table p.command p.lines ≡ record { number = length c'.seen; said = s; command = p.command } ∷ [] → disk_faults_in 0 p.lines ≡ 0
     → TableNow base read table (played ++ p ∷ []) v c'
 entry_table base read table faulted played p t v c c' called r s faults now founded start made shows one calm =
-    let e = entry_of c.id 0 called r in
+    let e = entry_seen c.id 0 called r in
     let own : Shown = record { number = length c'.seen; said = s; command = p.command } in
     let made_now : seen_of c' ≡ ((seen_of v ++ now.since) ++ made.between) ++ e ∷ [] = made.seen ∙ ap (λ (es : List Entry). (es ++ made.between) ++ e ∷ []) now.seen in
     let number : length c'.seen ≡ suc (length (seen_of v)) + length now.since + length made.between = last_number (seen_of v) now.since made.between e c'.seen made_now in
@@ -274,7 +274,7 @@ entry_table base read table faulted played p t v c c' called r s faults now foun
       tells_later = own_same c c' (suc (length (seen_of v))) (now.later ++ own ∷ []) (now.since ++ (made.between ++ e ∷ [])) same
           (own_append c (suc (length (seen_of v))) now.later (own ∷ []) now.since (made.between ++ e ∷ []) now.tells_later last);
       opened = opened_calm (as_read base read) table faulted played p (seen_of v) faults calm (seen_told base read table played v c now) now.opened;
-      legal = subst (λ b. LegalFrom b base (seen_of c')) founded (subst (λ (x : TableState). LegalFrom (is_founded (base_of t)) x (seen_of c')) start made.legal);
+      legal = subst (λ b. LegalFrom b base (seen_of c')) founded (subst (λ (x : HistoryState). LegalFrom (is_founded (base_seen t)) x (seen_of c')) start made.legal);
     }
 
 -- a worn seat makes no entry
@@ -288,23 +288,23 @@ worn_or_made base v c (shared.Full number) w a = inr a
 worn_or_made base v c (shared.NoMemory number) w a = inr a
 
 -- a caller's call adds the line of its entry, or that its seat is worn
-pub call_table : (base : TableState) (read table : ℕ) (faulted : Bool) (played : List Played) (p : Played) (t : Shared) (v c c' : SeatView) (called : Call) (reply : Reply) (l : Line) (tail : List Line)
+pub call_table : (base : HistoryState) (read table : ℕ) (faulted : Bool) (played : List Played) (p : Played) (t : Shared) (v c c' : SeatView) (called : Call) (reply : Reply) (l : Line) (tail : List Line)
     → Faults faulted played
     → TableNow base read table played v c
-    → is_founded (base_of t) ≡ true → start_of (base_of t) ≡ base
-    → Answered (base_of t) c called reply c' → Says table reply l → call_of p.command ≡ Some called
+    → is_founded (base_seen t) ≡ true → start_of (base_seen t) ≡ base
+    → Answered (base_seen t) c called reply c' → IsReplyLine table reply l → call_shown p.command ≡ Some called
     → p.lines ≡ l ∷ tail → shown_in 0 table p.command tail ≡ [] → disk_faults_in 0 p.lines ≡ 0
     → TableNow base read table (played ++ p ∷ []) v c'
 call_table base read table faulted played p t v c c' called reply l tail faults now founded start answered says called_is lines none calm =
-    ⊎_elim worn made (worn_or_made (base_of t) c called reply c' answered)
+    ⊎_elim worn made (worn_or_made (base_seen t) c called reply c' answered)
   where
     worn : (reply ≡ shared.Worn) × (c' ≡ c) → TableNow base read table (played ++ p ∷ []) v c'
     worn is =
-        let printed : l ≡ line.Worn 0 table = subst (λ x. Says table x l) is.0 says in
+        let printed : l ≡ line.Worn 0 table = subst (λ x. IsReplyLine table x l) is.0 says in
         let nothing : shown_in 0 table p.command p.lines ≡ [] = ap (shown_in 0 table p.command) (lines ∙ ap (λ (x : Line). x ∷ tail) printed) ∙ none in
         subst (TableNow base read table (played ++ p ∷ []) v) (sym is.1) (other_table base read table faulted played p v c faults now nothing calm)
 
-    made : Replied (base_of t) c called reply c' → TableNow base read table (played ++ p ∷ []) v c'
+    made : Replied (base_seen t) c called reply c' → TableNow base read table (played ++ p ∷ []) v c'
     made is =
         let printed = line_of table (length c'.seen) c.id called p.command is.1 reply l is.3 says called_is in
         let one = ap (shown_in 0 table p.command) (lines ∙ ap (λ (x : Line). x ∷ tail) printed.1) ∙ shows_one table (length c'.seen) printed.0 p.command tail none in

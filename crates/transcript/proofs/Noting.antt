@@ -11,12 +11,12 @@ use Rattle.leaf_history.specs.Calls.{Call}
 use Rattle.leaf_history.specs.Calls as call
 use Rattle.leaf_history.specs.Replies.{Reply}
 use Rattle.leaf_history.specs.Replies as reply
-use Rattle.leaf_history.specs.History.{TableState, Entry, LegalFrom, after}
+use Rattle.leaf_history.specs.History.{HistoryState, Entry, LegalFrom, after}
 use Rattle.script_text.specs.declared.command.Command.{Command}
 use Rattle.printed_lines.specs.declared.line.Line.{Line}
 use Rattle.leaf_table.specs.declared.base.TableBase.{TableBase}
 use Rattle.leaf_table.specs.Turns.{Shared, Turns, told, history, is_founded, start_of}
-use Rattle.leaf_table.specs.Calls.{SeatView, AreOthers, AreOwnOrStewards, OwnsTheRest, Made, base_of, entry_of, seen_of}
+use Rattle.leaf_table.specs.Calls.{SeatView, AreOthers, AreOwnOrStewards, OwnsTheRest, Made, base_seen, entry_seen, seen_of}
 use Rattle.leaf_table.proofs.Knowing.{makers_known}
 use Rattle.leaf_steward.specs.declared.notes.Note.{Note}
 use Rattle.leaf_steward.specs.declared.notes.What.{What}
@@ -26,7 +26,7 @@ use Rattle.leaf_steward.specs.Making.{Makes, MadeAs, OneEntry}
 use Rattle.transcript.specs.Transcript.{Played, Shows, Tells, OpensFlushed, as_read, shown, shown_in, until_disk_fault}
 use Rattle.transcript.specs.Stage.{Meets}
 use Rattle.transcript.specs.Steps.{said_of_note, note_lines}
-use Rattle.transcript.specs.Session.{Faults, IsStewards, IsCallers, TableMet, TellsOwn}
+use Rattle.transcript.specs.Session.{Faults, IsStewards, IsCallersSeat, TableMet, TellsOwn}
 use Rattle.transcript.proofs.Lists.{same_some, get_set_same, get_set_other}
 use Rattle.transcript.proofs.Telling.{Tells-append, Tells-length, shown-snoc}
 use Rattle.transcript.proofs.Growing.{has_fault, opened_on}
@@ -68,7 +68,7 @@ owns_back v w x same owns =
 
 -- whatever a note tells of is one entry, which its line shows
 one_made : (base : Option TableBase) (clock : ℕ) (command : Command) (v w : SeatView) (what : What) → MadeAs base clock v what w
-    → (c : Call) × (r : Reply) × Made base clock v c r w × Shows command (said_of_note what) (entry_of v.id clock c r)
+    → (c : Call) × (r : Reply) × Made base clock v c r w × Shows command (said_of_note what) (entry_seen v.id clock c r)
 one_made base clock command v w (what.Opened n) m = (call.Open n m.0, reply.Noted, m.1, (m.0, refl))
 one_made base clock command v w (what.Took n) m = (call.Take, reply.Counted n, m, (refl, refl))
 one_made base clock command v w (what.Flushed n) m = (call.Flushed n, reply.Noted, m, refl)
@@ -97,7 +97,7 @@ note_here : (place : ℕ) (c : Command) (rest : List Line) (note : Note) (notes 
 note_here place c rest note notes base clock v u w here number made more =
     let one = one_made base clock c v u note.what made in
     let m : Made base clock v one.0 one.1 u = one.2 in
-    let e : Entry = entry_of v.id clock one.0 one.1 in
+    let e : Entry = entry_seen v.id clock one.0 one.1 in
     let same : SameIds v u = same_made base clock v u one.0 one.1 m in
     let size : length (seen_of u) ≡ length u.seen = length-map u.seen told in
     let count : length (seen_of u) ≡ length (seen_of v) + length m.between + 1 = ap (λ (es : List Entry). length es) m.seen
@@ -139,18 +139,18 @@ module _ (clock : ℕ) (x : Seated) (note : Note) (y : Seated) (place : ℕ) (on
     where
       by : (b : Bool) → (note.table == place) ≡ b → Notes place c rest (note ∷ notes) v w
       by true e = subst (λ (u : SeatView). Notes place c rest (note ∷ notes) u w) (was_here v e was)
-          (note_here place c rest note notes (base_of one.table) clock one.before one.after w e one.number one.made (more one.after (now_here e)))
+          (note_here place c rest note notes (base_seen one.table) clock one.before one.after w e one.number one.made (more one.after (now_here e)))
       by false e = note_elsewhere place c rest note notes v w e (more v (now_elsewhere v e was))
 
   -- the seat has seen a legal history still
-  more_legal : (t : Shared) (v : SeatView) → slice_get x.tables place ≡ Some t → slice_get x.seats place ≡ Some v → LegalFrom (is_founded (base_of t)) (start_of (base_of t)) (seen_of v)
-      → (u : SeatView) × (slice_get y.seats place ≡ Some u) × LegalFrom (is_founded (base_of t)) (start_of (base_of t)) (seen_of u)
+  more_legal : (t : Shared) (v : SeatView) → slice_get x.tables place ≡ Some t → slice_get x.seats place ≡ Some v → LegalFrom (is_founded (base_seen t)) (start_of (base_seen t)) (seen_of v)
+      → (u : SeatView) × (slice_get y.seats place ≡ Some u) × LegalFrom (is_founded (base_seen t)) (start_of (base_seen t)) (seen_of u)
   more_legal t v at was legal = by (note.table == place) refl
     where
-      by : (b : Bool) → (note.table == place) ≡ b → (u : SeatView) × (slice_get y.seats place ≡ Some u) × LegalFrom (is_founded (base_of t)) (start_of (base_of t)) (seen_of u)
+      by : (b : Bool) → (note.table == place) ≡ b → (u : SeatView) × (slice_get y.seats place ≡ Some u) × LegalFrom (is_founded (base_seen t)) (start_of (base_seen t)) (seen_of u)
       by true e =
           let table : one.table ≡ t = same_some one.table t (sym one.at ∙ (ap (slice_get x.tables) (eqb-true note.table place e) ∙ at)) in
-          (one.after, now_here e, subst (λ (s : Shared). LegalFrom (is_founded (base_of s)) (start_of (base_of s)) (seen_of one.after)) table (made_legal (base_of one.table) clock one.before one.after note.what one.made))
+          (one.after, now_here e, subst (λ (s : Shared). LegalFrom (is_founded (base_seen s)) (start_of (base_seen s)) (seen_of one.after)) table (made_legal (base_seen one.table) clock one.before one.after note.what one.made))
       by false e = (v, now_elsewhere v e was, legal)
 
 -- ---- all notes of a command
@@ -170,11 +170,11 @@ notes_at from to x notes y place c rest v w (Makes.more f u a ns b clock note ot
 -- and the history is legal still
 pub legal_at : (from to : ℕ) (x : Seated) (notes : List Note) (y : Seated) (place : ℕ) (t : Shared) (v w : SeatView)
     → Makes from to x notes y → slice_get x.tables place ≡ Some t → slice_get x.seats place ≡ Some v → slice_get y.seats place ≡ Some w
-    → LegalFrom (is_founded (base_of t)) (start_of (base_of t)) (seen_of v)
-    → LegalFrom (is_founded (base_of t)) (start_of (base_of t)) (seen_of w)
+    → LegalFrom (is_founded (base_seen t)) (start_of (base_seen t)) (seen_of v)
+    → LegalFrom (is_founded (base_seen t)) (start_of (base_seen t)) (seen_of w)
 legal_at from to x notes y place t v w (Makes.none f u a ns b low no_note same) at was now legal =
     let stays : v ≡ w = same_some v w (sym was ∙ (ap (λ (s : Seated). slice_get s.seats place) (sym same) ∙ now)) in
-    subst (λ (s : SeatView). LegalFrom (is_founded (base_of t)) (start_of (base_of t)) (seen_of s)) stays legal
+    subst (λ (s : SeatView). LegalFrom (is_founded (base_seen t)) (start_of (base_seen t)) (seen_of s)) stays legal
 legal_at from to x notes y place t v w (Makes.more f u a ns b clock note others between low one makes all) at was now legal =
     let next = more_legal clock x note between place one t v at was legal in
     let tables : slice_get between.tables place ≡ Some t = ap (λ (s : Seated). slice_get s.tables place) one.now ∙ at in
@@ -226,7 +226,7 @@ all_back P [] ys h = h
 all_back P (x ∷ xs) ys h = all_back P xs ys h.1
 
 -- the callers' seat owns every id but the steward's, so these are the steward's
-owns_rest : (c : SeatView) → IsCallers c → OwnsTheRest c
+owns_rest : (c : SeatView) → IsCallersSeat c → OwnsTheRest c
 owns_rest c is = λ x low high. inl (omega (arith, is.id, low), omega (arith, is.id, is.share, high))
 
 stewards_own : (v c c' : SeatView) (es : List Entry) → IsStewards v → SameIds c c' → AreOthers c es → AreOwnOrStewards c' es → AllByRecursion (λ (e : Entry). Owns v e.caller) es
@@ -239,7 +239,7 @@ stewards_own v c c' (e ∷ es) is same others whose = (mine, stewards_own v c c'
         (λ none. inl (omega (arith, is.id, none), omega (arith, is.id, is.share, none)))
         whose.0
 
-callers_still : (c c' : SeatView) → SameIds c c' → IsCallers c → IsCallers c'
+callers_still : (c c' : SeatView) → SameIds c c' → IsCallersSeat c → IsCallersSeat c'
 callers_still c c' same is = record { id = same.id ∙ is.id; share = same.share ∙ is.share; taken = same.taken ∙ is.taken }
 
 pub stewards_still : (v v' : SeatView) → SameIds v v' → IsStewards v → IsStewards v'
@@ -247,7 +247,7 @@ stewards_still v v' same is = record { id = same.id ∙ is.id; share = same.shar
 
 -- so the lines tell all that the caller's seat learned
 tells_made : (table : ℕ) (p : Played) (rest : List Line) (notes : List Note) (v w c v' c' : SeatView)
-    → IsStewards v → IsCallers c → seen_of v ≡ seen_of c
+    → IsStewards v → IsCallersSeat c → seen_of v ≡ seen_of c
     → p.lines ≡ note_lines notes ++ rest
     → (made : Notes table p.command rest notes v w)
     → Meets w c v' c' → seen_of c' ≡ seen_of c ++ made.entries
@@ -262,7 +262,7 @@ tells_made table p rest notes v w c v' c' stewards callers same lines made meets
     (own_tells v (suc (length (seen_of v))) (shown_in 0 table p.command (note_lines notes ++ rest)) made.entries own made.tells))
 
 -- Behind the second meeting the lines tell all that was made: what came between the steward's entries were entries of nobody.
-pub steward_table : (base : TableState) (read table : ℕ) (faulted : Bool) (played : List Played) (p : Played) (rest : List Line) (notes : List Note) (v w c v' c' : SeatView)
+pub steward_table : (base : HistoryState) (read table : ℕ) (faulted : Bool) (played : List Played) (p : Played) (rest : List Line) (notes : List Note) (v w c v' c' : SeatView)
     → Faults faulted played
     → TableMet base read table played v c
     → p.lines ≡ note_lines notes ++ rest

@@ -3,10 +3,10 @@ use Rattle.std.proofs.Common.{◌≡◌, ℕ, zero, suc, ◌<◌, true, false, B
 use Rattle.std.specs.Prelude.{slice_get, slice_index_or, bytes_eq, if◌then◌else◌}
 use Rattle.std.proofs.lemmas.List.{append-nil}
 use Rattle.berth_face.specs.Berth.{Meaning}
-use Rattle.leaf_history.specs.History.{Entry, TableState}
+use Rattle.leaf_history.specs.History.{Entry, HistoryState}
 use Rattle.leaf_opening.specs.declared.ways.Way.{Way}
 use Rattle.turnstile.specs.Seats.{unused_seat}
-use Rattle.crash_events.specs.Left.{Tables}
+use Rattle.crash_events.specs.Left.{NamedStates}
 use Rattle.leaf_table.specs.Turns.{Shared}
 use Rattle.leaf_table.specs.Calls.{SeatView, name_of, seen_of}
 use Rattle.leaf_steward.specs.declared.notes.Note.{Note}
@@ -20,11 +20,11 @@ use Rattle.printed_lines.specs.declared.line.Verb.TheVariants.{Flush, Drain, Kil
 use Rattle.printed_lines.specs.declared.line.Ending.{Ending}
 use Rattle.printed_lines.specs.Lines.{lines_text, name_at}
 use Rattle.transcript.specs.Base.{LogHas, base_at}
-use Rattle.transcript.specs.Life.{Life, Down, Drains, Kills, Starts}
+use Rattle.transcript.specs.Life.{Life, Down, OfDrain, OfKill, OfStart}
 use Rattle.transcript.specs.Transcript.{Answers, IsHistoryOf, OpensFlushed, Played, Prints, as_read, is_disk_fault, place_of, shown, until_disk_fault}
 use Rattle.transcript.specs.Stage.{Leaf, MeetAll, seated_of}
-use Rattle.transcript.specs.Steps.{DrainStep, FlushStep, KillStep, StartStep, StewardPart, note_lines}
-use Rattle.transcript.specs.Session.{Answered, IsExact, IsStewards, MetSession, Session, TableMet, TableNow, WornAreLong, history_at, one_leaf, scene_of, state_read}
+use Rattle.transcript.specs.Steps.{DrainsLeaf, FlushStep, KillStep, StartStep, StewardPart, note_lines}
+use Rattle.transcript.specs.Session.{HasAnswers, IsExact, IsStewards, MetSession, Session, TableMet, TableNow, WornAreLong, history_at, one_leaf, scene_of, state_read}
 use Rattle.transcript.specs.Laws.{IsToldRun, SessionsBegin, SessionsGoOn, SessionsEnd}
 use Rattle.transcript.proofs.Lists.{All-weaken, clash_bool, element_at, eq_bytes, get_map, name_is, within}
 use Rattle.transcript.proofs.Shapes.{flush_shape, kill_shape, start_shape}
@@ -39,7 +39,7 @@ use Rattle.transcript.proofs.CallsOn.{add_on, query_on}
 
 -- ---- the beginning
 
-first_table : (s : TableState) (count place : ℕ) (t : Shared) → TableNow s count place [] (unused_seat t.site 0 1 1024) (unused_seat t.site 1 65536 65536)
+first_table : (s : HistoryState) (count place : ℕ) (t : Shared) → TableNow s count place [] (unused_seat t.site 0 1 1024) (unused_seat t.site 1 65536 65536)
 first_table s count place t = record {
   stewards = record { id = refl; share = refl; taken = refl };
   callers = record { id = refl; share = refl; taken = refl };
@@ -99,16 +99,16 @@ found_place name (n ∷ ns) (suc k) h e = by (bytes_eq name n) (found_place name
     by false l = omega (arith, l)
 
 -- the leaf of a fleet of one, and its only life
-one_starts : (names : List (List ℕ)) (life life' : Life) (lines : List Line) (count : ℕ) → count ≡ length names → Starts count 0 life lines life'
+one_starts : (names : List (List ℕ)) (life life' : Life) (lines : List Line) (count : ℕ) → count ≡ length names → OfStart count 0 life lines life'
     → Prints (one_leaf names) (scene_of life) (command.Start 0) lines (scene_of life')
-one_starts names life life' lines count all starts = (life, life', refl, subst (λ (n : ℕ). Starts n 0 life lines life') all starts, refl)
+one_starts names life life' lines count all starts = (life, life', refl, subst (λ (n : ℕ). OfStart n 0 life lines life') all starts, refl)
 
-fleet_starts : (names : List (List ℕ)) (machines per_machine : ℕ) (tables : List (List ℕ)) (life life' : Life) (lines : List Line) (count : ℕ) → count ≡ length names → Starts count 0 life lines life'
+fleet_starts : (names : List (List ℕ)) (machines per_machine : ℕ) (tables : List (List ℕ)) (life life' : Life) (lines : List Line) (count : ℕ) → count ≡ length names → OfStart count 0 life lines life'
     → Prints (one_leaf names) (scene_of life) (command.Fleet machines per_machine tables) lines (scene_of life')
 fleet_starts names machines per_machine tables life life' lines count all starts =
-    (lines, [], life', [], subst (λ (n : ℕ). Starts n 0 life lines life') all starts, (refl, refl), sym (append-nil lines), refl)
+    (lines, [], life', [], subst (λ (n : ℕ). OfStart n 0 life lines life') all starts, (refl, refl), sym (append-nil lines), refl)
 
-module _ (names : List (List ℕ)) (way : Way) (base : Tables) (read : List ℕ → ℕ) (old : Meaning) (commands : List Command) (out : List Line) (leaf leaf' : Leaf) (callers callers' : List SeatView) (m m' : Meaning) (lines : List Line)
+module _ (names : List (List ℕ)) (way : Way) (base : NamedStates) (read : List ℕ → ℕ) (old : Meaning) (commands : List Command) (out : List Line) (leaf leaf' : Leaf) (callers callers' : List SeatView) (m m' : Meaning) (lines : List Line)
     (s : Session names way base read old commands out leaf callers m) where
   -- the lines of a steward's part
   abbrev lines_of : List Note → Verb → Ending → List Line
@@ -122,7 +122,7 @@ module _ (names : List (List ℕ)) (way : Way) (base : Tables) (read : List ℕ 
       → Shaped names (met_at verb part).life c (lines_of part.notes verb part.ends) part.moved m'
       → (is_disk_fault part.ends ≡ false → IsExact base read part.met m → Exactly base read part.met part.moved m')
       → ((h : ℕ → List Entry) → Reach part.moved h → WornAreLong h (record { command = c; lines = lines_of part.notes verb part.ends }))
-      → ((h : ℕ → List Entry) (ls : List Line) → Answered names base h (record { command = c; lines = ls }))
+      → ((h : ℕ → List Entry) (ls : List Line) → HasAnswers names base h (record { command = c; lines = ls }))
       → Session names way base read old (commands ++ c ∷ []) (out ++ lines) leaf' callers' m'
   goes c verb part second shaped exactly worn no_answer =
       subst (λ (ls : List Line). Session names way base read old (commands ++ c ∷ []) (out ++ ls) leaf' callers' m') (sym part.lines_are)
@@ -141,8 +141,8 @@ module _ (names : List (List ℕ)) (way : Way) (base : Tables) (read : List ℕ 
       (λ t place v c known. known.stewards) (met_at verb part).tables
 
   start_on : (c : Command)
-      → ((life life' : Life) (ls : List Line) (count : ℕ) → count ≡ length names → Starts count 0 life ls life' → Prints (one_leaf names) (scene_of life) c ls (scene_of life'))
-      → ((h : ℕ → List Entry) (ls : List Line) → Answered names base h (record { command = c; lines = ls }))
+      → ((life life' : Life) (ls : List Line) (count : ℕ) → count ≡ length names → OfStart count 0 life ls life' → Prints (one_leaf names) (scene_of life) c ls (scene_of life'))
+      → ((h : ℕ → List Entry) (ls : List Line) → HasAnswers names base h (record { command = c; lines = ls }))
       → StartStep m m' leaf callers lines leaf' callers'
       → Session names way base read old (commands ++ c ∷ []) (out ++ lines) leaf' callers' m'
   start_on c prints no_answer step =
@@ -174,19 +174,19 @@ module _ (names : List (List ℕ)) (way : Way) (base : Tables) (read : List ℕ 
       let met = met_at Kill part in
       let shape = kill_shape met.life m m' part.met part.notes part.ends part.moved met.fits step.moves in
       goes (command.Kill 0) Kill part step.second
-      (record { next = shape.0; prints = (met.life, shape.0, refl, subst (λ (n : ℕ). Kills n 0 met.life (lines_of part.notes Kill part.ends) shape.0) (tables_in Kill part) shape.1, refl); fits = shape.2 })
+      (record { next = shape.0; prints = (met.life, shape.0, refl, subst (λ (n : ℕ). OfKill n 0 met.life (lines_of part.notes Kill part.ends) shape.0) (tables_in Kill part) shape.1, refl); fits = shape.2 })
       (λ calm exact. kill_exact names base read m m' part.met part.met_callers part.notes part.ends part.moved met.in_place met.founded (stewards_met Kill part) met.sound met.tells met.stands part.carries step.moves exact)
       (λ h reach. kill_worn (command.Kill 0) h m m' part.met part.notes part.ends part.moved step.moves)
       (λ h ls. (tt, tt))
 
-  drain_on : (stop : Option ℕ) → DrainStep stop m m' leaf callers lines leaf' callers' → Session names way base read old (commands ++ command.Drain 0 stop ∷ []) (out ++ lines) leaf' callers' m'
+  drain_on : (stop : Option ℕ) → DrainsLeaf stop m m' leaf callers lines leaf' callers' → Session names way base read old (commands ++ command.Drain 0 stop ∷ []) (out ++ lines) leaf' callers' m'
   drain_on stop step =
       let part = step.part in
       let met = met_at Drain part in
       let founded = founded_all names (seated_of part.met) part.met_callers met.in_place base met.founded in
       let shape = drain_shape base stop met.life m m' part.met part.notes part.ends part.moved met.tells founded met.stands met.fits step.moves in
       goes (command.Drain 0 stop) Drain part step.second
-      (record { next = shape.0; prints = (met.life, shape.0, refl, subst (λ (n : ℕ). Drains n 0 stop met.life (lines_of part.notes Drain part.ends) shape.0) (tables_in Drain part) shape.1, refl); fits = shape.2 })
+      (record { next = shape.0; prints = (met.life, shape.0, refl, subst (λ (n : ℕ). OfDrain n 0 stop met.life (lines_of part.notes Drain part.ends) shape.0) (tables_in Drain part) shape.1, refl); fits = shape.2 })
       (λ calm exact. drain_exact names base read stop m m' part.met part.met_callers part.notes part.ends part.moved met.in_place met.founded (stewards_met Drain part) met.sound met.tells met.stands part.carries step.moves calm exact)
       (λ h reach. drain_worn (command.Drain 0 stop) h stop m m' part.met part.notes part.ends part.moved step.moves)
       (λ h ls. (tt, tt))
@@ -218,7 +218,7 @@ plays_on meaning old b b' names way base read commands out leaf leaf' callers ca
 
 -- ---- the end
 
-module _ (names : List (List ℕ)) (way : Way) (base : Tables) (read : List ℕ → ℕ) (old : Meaning) (commands : List Command) (out : List Line) (leaf : Leaf) (callers : List SeatView) (m : Meaning)
+module _ (names : List (List ℕ)) (way : Way) (base : NamedStates) (read : List ℕ → ℕ) (old : Meaning) (commands : List Command) (out : List Line) (leaf : Leaf) (callers : List SeatView) (m : Meaning)
     (s : MetSession names way base read old commands out leaf callers m) where
   -- what is known of the table in that place
   known_at : (table : ℕ) → table < length names
@@ -258,7 +258,7 @@ module _ (names : List (List ℕ)) (way : Way) (base : Tables) (read : List ℕ 
       text = ap (lines_text names) (sym s.all);
       prints = s.prints;
       one_history = λ l table h below. rw (below_one l h) (history table below);
-      answers = All-weaken (Answered names base (history_at callers)) (λ (p : Played). Answers (one_leaf names) (λ leaf. base_at names base) (λ leaf. history_at callers) p.command p.lines) (λ p h. h.0) s.played s.answered;
+      answers = All-weaken (HasAnswers names base (history_at callers)) (λ (p : Played). Answers (one_leaf names) (λ leaf. base_at names base) (λ leaf. history_at callers) p.command p.lines) (λ p h. h.0) s.played s.answered;
       opened = λ l table h below. rw (below_one l h) (opened_at table below);
       worn = s.worn;
     };

@@ -17,7 +17,7 @@ use Rattle.printed_lines.specs.declared.line.Ending.{Ending}
 use Rattle.printed_lines.specs.declared.line.Ending.TheVariants as ending
 use Rattle.printed_lines.specs.declared.line.Line.{Line}
 use Rattle.printed_lines.specs.declared.line.Line.TheVariants as line
-use Rattle.crash_events.specs.Left.{Tables}
+use Rattle.crash_events.specs.Left.{NamedStates}
 use Rattle.leaf_steward.specs.declared.notes.Note.{Note}
 use Rattle.leaf_steward.specs.Seated.{Seated, AreFounded}
 use Rattle.leaf_machine.specs.declared.faults.StartFault.{StartFault}
@@ -25,7 +25,7 @@ use Rattle.leaf_machine.specs.declared.faults.StartFault.TheVariants as fault
 use Rattle.leaf_machine.specs.declared.up.FlushReply.{FlushReply}
 use Rattle.leaf_machine.specs.States.{Serving, Shutting}
 use Rattle.leaf_machine.specs.Flushes as flushing
-use Rattle.transcript.specs.Life.{Life, Down, Up, Preparing, Owed, Progress, IsDownLife, IsUpLife, IsStartRefusal, Starts, Flushes, Kills, first_open, owed_line, table_lines}
+use Rattle.transcript.specs.Life.{Life, Down, Up, Preparing, Owed, Progress, IsDownLife, IsUpLife, IsStartRefusal, OfStart, OfFlush, OfKill, first_open, owed_line, table_lines}
 use Rattle.transcript.specs.Life as life
 use Rattle.transcript.specs.Stage.{Leaf, IsDown, IsUp, IsPreparing, Stands, seated_of}
 use Rattle.transcript.specs.Steps.{StartMoves, FlushMoves, KillMoves, IsDownLeaf, IsUpLeaf, ending_of, ending_of_flush, note_lines}
@@ -126,11 +126,11 @@ refusal (fault.Stranger name) n = tt
 refusal fault.NoMemory n = tt
 refusal (fault.Worn table) n = tt
 
-pub start_shape : (base : Tables) (life : Life) (m m' : Meaning) (leaf : Leaf) (notes : List Note) (ends : Ending) (leaf' : Leaf)
+pub start_shape : (base : NamedStates) (life : Life) (m m' : Meaning) (leaf : Leaf) (notes : List Note) (ends : Ending) (leaf' : Leaf)
     → IsTrue m.tells → AreFounded (seated_of leaf) → Stands base leaf m
     → length (seated_of leaf).names ≡ length (seated_of leaf).tables
     → FitsLife life leaf m → StartMoves m m' leaf notes ends leaf'
-    → (life' : Life) × Starts (length (seated_of leaf).tables) 0 life (note_lines notes ++ line.Ended Start 0 ends ∷ []) life' × FitsLife life' leaf' m'
+    → (life' : Life) × OfStart (length (seated_of leaf).tables) 0 life (note_lines notes ++ line.Ended Start 0 ends ∷ []) life' × FitsLife life' leaf' m'
 start_shape base old m m' leaf notes ends leaf' tells founded stands count fits (steps.opened x s way is owed told ends_are next) =
     let d = down_fits old x m (subst (λ l. FitsLife old l m) is fits) in
     let begun = told tells in
@@ -161,7 +161,7 @@ start_shape base old m m' leaf notes ends leaf' tells founded stands count fits 
 
 -- what a flush of a leaf that is up comes to
 abbrev Flushed : ℕ → Life → List Line → Serving → Meaning → Type 0
-Flushed table old lines s' m' = (next : Life) × Flushes table 0 old lines next × FitsLife next (IsUp s') m'
+Flushed table old lines s' m' = (next : Life) × OfFlush table 0 old lines next × FitsLife next (IsUp s') m'
 
 some_of : (o : Option LogRecord) → IsSome o → (r : LogRecord) × (o ≡ Some r)
 some_of None h = absurd (clash_bool false h refl)
@@ -208,13 +208,13 @@ up_flushed table way (Some told) s s' m' notes r ends way_is owes (flushing.stuc
 pub flush_shape : (table : ℕ) (life : Life) (m m' : Meaning) (leaf : Leaf) (notes : List Note) (ends : Ending) (leaf' : Leaf)
     → IsTrue m.tells
     → FitsLife life leaf m → FlushMoves table m m' leaf notes ends leaf'
-    → (life' : Life) × Flushes table 0 life (note_lines notes ++ line.Ended Flush 0 ends ∷ []) life' × FitsLife life' leaf' m'
+    → (life' : Life) × OfFlush table 0 life (note_lines notes ++ line.Ended Flush 0 ends ∷ []) life' × FitsLife life' leaf' m'
 flush_shape table old m m' leaf notes ends leaf' tells fits (steps.flushed s s' r is flushes region ends_are next) =
     let u = up_fits old s m (subst (λ l. FitsLife old l m) is fits) in
     let way_is : IsWayOf m'.held.region u.0 = subst (λ bytes. IsWayOf bytes u.0) (sym (region tells)) u.3 in
     let f = up_flushed table u.0 u.1 s s' m' notes r ends way_is u.4 flushes ends_are in (
       f.0,
-      subst (λ l. Flushes table 0 l (note_lines notes ++ line.Ended Flush 0 ends ∷ []) f.0) (sym u.2) f.1,
+      subst (λ l. OfFlush table 0 l (note_lines notes ++ line.Ended Flush 0 ends ∷ []) f.0) (sym u.2) f.1,
       subst (λ l. FitsLife f.0 l m') (sym next) f.2,
     )
 flush_shape table old m m' leaf notes ends leaf' tells fits (steps.not_up not notes_are same ends_are next) = (
@@ -232,7 +232,7 @@ killed way leaf' y m m' next same is = subst (λ l. FitsLife (Down (Some way)) l
 
 pub kill_shape : (life : Life) (m m' : Meaning) (leaf : Leaf) (notes : List Note) (ends : Ending) (leaf' : Leaf)
     → FitsLife life leaf m → KillMoves m m' leaf notes ends leaf'
-    → (life' : Life) × Kills (length (seated_of leaf).tables) 0 life (note_lines notes ++ line.Ended Kill 0 ends ∷ []) life' × FitsLife life' leaf' m'
+    → (life' : Life) × OfKill (length (seated_of leaf).tables) 0 life (note_lines notes ++ line.Ended Kill 0 ends ∷ []) life' × FitsLife life' leaf' m'
 kill_shape old m m' leaf notes ends leaf' fits (steps.up s y is noted same ends_are next) =
     let u = up_fits old s m (subst (λ l. FitsLife old l m) is fits) in
     let c = lines_closed 0 (length s.seated.tables) notes noted in

@@ -4,11 +4,11 @@ use Rattle.std.specs.Prelude.{IsTrue, slice_get}
 use Rattle.std.specs.List.{AllByRecursion}
 use Rattle.std.proofs.lemmas.List.{map-append}
 use Rattle.berth_face.specs.Berth.{Meaning}
-use Rattle.leaf_history.specs.History.{Entry, TableState}
+use Rattle.leaf_history.specs.History.{Entry, HistoryState}
 use Rattle.leaf_history.specs.Laws.{AreCallers}
 use Rattle.region_layout.specs.Names.{AreNames}
 use Rattle.turnstile.specs.Seats.{Others}
-use Rattle.crash_events.specs.Left.{Tables}
+use Rattle.crash_events.specs.Left.{NamedStates}
 use Rattle.crash_moments.specs.Told as moments
 use Rattle.crash_moments.specs.Told.{SeenMore}
 use Rattle.crash_moments.specs.Watched.{Watched}
@@ -17,13 +17,13 @@ use Rattle.crash_states.proofs.Lefts.{runs_told, rests_told}
 use Rattle.crash_states.proofs.Meeting.{callers_between}
 use Rattle.crash_states.specs.Standing.{tables_of}
 use Rattle.leaf_table.specs.Turns.{Shared, Turns, history, is_founded, start_of, told}
-use Rattle.leaf_table.specs.Calls.{SeatView, AreOthers, base_of, name_of, seen_of}
+use Rattle.leaf_table.specs.Calls.{SeatView, AreOthers, base_seen, name_of, seen_of}
 use Rattle.leaf_table.proofs.Knowing.{callers_of}
 use Rattle.leaf_steward.specs.declared.notes.Note.{Note}
 use Rattle.leaf_steward.specs.Seated.{Seated, AreFounded, watch, watched_by}
 use Rattle.leaf_machine.specs.Leaving.{BeginsAgain, LeavesBegin}
 use Rattle.transcript.specs.Base.{unseen, watched_from, watched_with}
-use Rattle.transcript.specs.Stage.{Leaf, IsDown, IsUp, IsPreparing, Stands, StandsOn, AreSound, Carries, Meets, MeetAll, seated_of, seated_with, with_seats}
+use Rattle.transcript.specs.Stage.{Leaf, IsDown, IsUp, IsPreparing, Stands, StandsOn, AreHandedNothing, Carries, Meets, MeetAll, seated_of, seated_with, with_seats}
 use Rattle.transcript.specs.Session.{AreFoundedWith, AreInPlace, AtTables, IsStewards, history_at}
 use Rattle.transcript.specs.Laws.{IsNewStage, LeavesBerth}
 use Rattle.transcript.proofs.Lists.{element_at, length_mapped, same_some, within}
@@ -45,16 +45,16 @@ module _ (names : List (List ℕ)) (x : Seated) (callers : List SeatView) (in_pl
   pub caller_there : (place : ℕ) (t : Shared) → slice_get x.tables place ≡ Some t → (c : SeatView) × (slice_get callers place ≡ Some c)
   caller_there place t at = element_at callers place (omega (arith, within x.tables place t at, as_many, in_place.callers_are))
 
-  pub founded_all : (base : Tables) → AreFoundedWith base x → AreFounded x
-  founded_all base founded = all_each (λ (t : Shared). is_founded (base_of t) ≡ true) x.tables (λ place t at.
+  pub founded_all : (base : NamedStates) → AreFoundedWith base x → AreFounded x
+  founded_all base founded = all_each (λ (t : Shared). is_founded (base_seen t) ≡ true) x.tables (λ place t at.
       let seat = seat_there place t at in
       (founded place t seat.0 at seat.1).0)
 
 -- ---- the tables of a leaf as they are watched
 
 -- by their names, and what is known of each seat's history
-watch_with : (base : Tables) (histories : ℕ → List Entry) (first : ℕ) (ts : List Shared) (vs : List SeatView) → length vs ≡ length ts
-    → ((place : ℕ) (t : Shared) (v : SeatView) → slice_get ts place ≡ Some t → slice_get vs place ≡ Some v → (start_of (base_of t) ≡ base (name_of t)) × (seen_of v ≡ histories (first + place)))
+watch_with : (base : NamedStates) (histories : ℕ → List Entry) (first : ℕ) (ts : List Shared) (vs : List SeatView) → length vs ≡ length ts
+    → ((place : ℕ) (t : Shared) (v : SeatView) → slice_get ts place ≡ Some t → slice_get vs place ≡ Some v → (start_of (base_seen t) ≡ base (name_of t)) × (seen_of v ≡ histories (first + place)))
     → watch ts vs ≡ watched_from first (map name_of ts) base histories
 watch_with base histories first [] vs count each = refl
 watch_with base histories first (t ∷ ts) [] count each = absurd (omega (arith, count))
@@ -62,7 +62,7 @@ watch_with base histories first (t ∷ ts) (v ∷ vs) count each =
     let here = each zero t v refl refl in
     let seen : seen_of v ≡ histories first = here.1 ∙ ap histories (no_more first) in
     ap₂ (λ (w : Watched) (ws : List Watched). w ∷ ws)
-    (ap₂ (λ (b : TableState) (es : List Entry). record { name = name_of t; base = b; seen = es }) here.0 seen)
+    (ap₂ (λ (b : HistoryState) (es : List Entry). record { name = name_of t; base = b; seen = es }) here.0 seen)
     (watch_with base histories (suc first) ts vs (omega (arith, count)) (λ place u w at sat.
     let later = each (suc place) u w at sat in
     (later.0, later.1 ∙ ap histories (one_more first place))))
@@ -73,7 +73,7 @@ watch_with base histories first (t ∷ ts) (v ∷ vs) count each =
     one_more : (n place : ℕ) → n + suc place ≡ suc n + place
     one_more n place = omega arith
 
-watched_as : (names : List (List ℕ)) (base : Tables) (histories : ℕ → List Entry) (x : Seated) (callers : List SeatView) → AreInPlace names x callers → AreFoundedWith base x
+watched_as : (names : List (List ℕ)) (base : NamedStates) (histories : ℕ → List Entry) (x : Seated) (callers : List SeatView) → AreInPlace names x callers → AreFoundedWith base x
     → AtTables (λ t place v c. seen_of v ≡ histories place) x callers → watched_by x ≡ watched_with names base histories
 watched_as names base histories x callers in_place founded seen =
     watch_with base histories 0 x.tables x.seats (in_place.seats ∙ sym (as_many names x callers in_place)) each
@@ -82,7 +82,7 @@ watched_as names base histories x callers in_place founded seen =
     none_before : (place : ℕ) → place ≡ 0 + place
     none_before place = omega arith
 
-    each : (place : ℕ) (t : Shared) (v : SeatView) → slice_get x.tables place ≡ Some t → slice_get x.seats place ≡ Some v → (start_of (base_of t) ≡ base (name_of t)) × (seen_of v ≡ histories (0 + place))
+    each : (place : ℕ) (t : Shared) (v : SeatView) → slice_get x.tables place ≡ Some t → slice_get x.seats place ≡ Some v → (start_of (base_seen t) ≡ base (name_of t)) × (seen_of v ≡ histories (0 + place))
     each place t v at sat =
         let caller = caller_there names x callers in_place place t at in
         ((founded place t v at sat).1, seen place t v caller.0 at sat caller.1 ∙ ap histories (none_before place))
@@ -95,7 +95,7 @@ history_there (d ∷ callers) (suc place) c at = history_there callers place c a
 
 -- ---- what stands is told
 
-stands_told : (base : Tables) (leaf : Leaf) (before : List Watched) (m : Meaning) → Stands base leaf m → SeenMore m.clock m.clock before (watched_by (seated_of leaf))
+stands_told : (base : NamedStates) (leaf : Leaf) (before : List Watched) (m : Meaning) → Stands base leaf m → SeenMore m.clock m.clock before (watched_by (seated_of leaf))
     → moments.Told base before (watched_by (seated_of leaf)) m m
 stands_told base (IsDown x) before m stands more = rests_told before (watched_by x) base stands.0 stands.1 m stands.2 more
 stands_told base (IsUp x) before m stands more = runs_told before (watched_by x.seated) base x.owing.owner x.owing.log stands.0 m stands.1 more
@@ -163,7 +163,7 @@ met_more names leaf callers leaf' callers' m in_place stewards met =
         steward_learned v c.0 w c'.0 (stewards place v was) (met.each place v c.0 w c'.0 was c.1 is c'.1)
 
 -- at a meeting no time passes, and the steward's seats learn callers' entries alone
-pub stands_met : (names : List (List ℕ)) (base : Tables) (leaf : Leaf) (callers : List SeatView) (leaf' : Leaf) (callers' : List SeatView) (m : Meaning)
+pub stands_met : (names : List (List ℕ)) (base : NamedStates) (leaf : Leaf) (callers : List SeatView) (leaf' : Leaf) (callers' : List SeatView) (m : Meaning)
     → IsTrue m.tells → AreInPlace names (seated_of leaf) callers → AreFoundedWith base (seated_of leaf)
     → ((place : ℕ) (v : SeatView) → slice_get (seated_of leaf).seats place ≡ Some v → IsStewards v)
     → Stands base leaf m → MeetAll leaf callers leaf' callers' m
@@ -176,15 +176,15 @@ stands_met names base leaf callers leaf' callers' m tells in_place founded stewa
     }
 
 -- what was told up to a call and what it tells
-pub told_on : (base : Tables) (names : List (List ℕ)) (leaf leaf' : Leaf) (old m m' : Meaning)
+pub told_on : (base : NamedStates) (names : List (List ℕ)) (leaf leaf' : Leaf) (old m m' : Meaning)
     → moments.Told base (watched_with names base unseen) (watched_by (seated_of leaf)) old m → StandsOn base leaf leaf' m m'
     → moments.Told base (watched_with names base unseen) (watched_by (seated_of leaf')) old m'
 told_on base names leaf leaf' old m m' so_far on =
     told_join base (watched_with names base unseen) (watched_by (seated_of leaf)) (watched_by (seated_of leaf')) old m m' so_far on.told
 
 -- where the tables are founded with the base, they are founded
-pub stands_carried : (names : List (List ℕ)) (base : Tables) (leaf leaf' : Leaf) (callers : List SeatView) (notes : List Note) (m m' : Meaning)
-    → IsTrue m.tells → AreInPlace names (seated_of leaf) callers → AreFoundedWith base (seated_of leaf) → AreSound base
+pub stands_carried : (names : List (List ℕ)) (base : NamedStates) (leaf leaf' : Leaf) (callers : List SeatView) (notes : List Note) (m m' : Meaning)
+    → IsTrue m.tells → AreInPlace names (seated_of leaf) callers → AreFoundedWith base (seated_of leaf) → AreHandedNothing base
     → Stands base leaf m → Carries leaf leaf' notes m m' → StandsOn base leaf leaf' m m'
 stands_carried names base leaf leaf' callers notes m m' tells in_place founded sound stands carries =
     carries.stands base tells (founded_all names (seated_of leaf) callers in_place base founded) sound stands
@@ -192,7 +192,7 @@ stands_carried names base leaf leaf' callers notes m m' tells in_place founded s
 -- ---- the first moment and the last
 
 -- a run begins
-pub told_first : (names : List (List ℕ)) (base : Tables) (x : Seated) (callers : List SeatView) (m : Meaning)
+pub told_first : (names : List (List ℕ)) (base : NamedStates) (x : Seated) (callers : List SeatView) (m : Meaning)
     → AreNames names → IsNewStage names base x callers → Stands base (IsDown x) m
     → moments.Told base (watched_with names base unseen) (watched_by x) m m
 told_first names base x callers m are_names new stands =
@@ -203,15 +203,15 @@ told_first names base x callers m are_names new stands =
     (subst (λ (ws : List Watched). SeenMore m.clock m.clock ws (watched_by x)) first (none_more m.clock m.clock (watched_by x)))
 
 -- a leaf may begin again over what stands of one
-stands_begin : (base : Tables) (leaf : Leaf) (m : Meaning) → LeavesBegin m → IsTrue m.tells → AreSound base → Stands base leaf m → BeginsAgain (tables_of base (watched_by (seated_of leaf)) m) m
+stands_begin : (base : NamedStates) (leaf : Leaf) (m : Meaning) → LeavesBegin m → IsTrue m.tells → AreHandedNothing base → Stands base leaf m → BeginsAgain (tables_of base (watched_by (seated_of leaf)) m) m
 stands_begin base (IsDown x) m law tells sound stands = law.rests (watched_by x) base stands.0 stands.1 tells stands.2
 stands_begin base (IsUp x) m law tells sound stands = law.runs (watched_by x.seated) base x.owing.owner x.owing.log stands.0 tells sound stands.1
 stands_begin base (IsPreparing x) m law tells sound stands =
     law.runs (watched_by x.serving.seated) base x.serving.owing.owner x.serving.owing.log stands.0 tells sound stands.1
 
 -- it has ended, and all seats have met
-pub leaves_met : (names : List (List ℕ)) (base : Tables) (leaf : Leaf) (callers : List SeatView) (old m : Meaning)
-    → LeavesBegin m → IsTrue m.tells → AreSound base → AreInPlace names (seated_of leaf) callers → AreFoundedWith base (seated_of leaf)
+pub leaves_met : (names : List (List ℕ)) (base : NamedStates) (leaf : Leaf) (callers : List SeatView) (old m : Meaning)
+    → LeavesBegin m → IsTrue m.tells → AreHandedNothing base → AreInPlace names (seated_of leaf) callers → AreFoundedWith base (seated_of leaf)
     → AtTables (λ t place v c. seen_of v ≡ seen_of c) (seated_of leaf) callers
     → Stands base leaf m → moments.Told base (watched_with names base unseen) (watched_by (seated_of leaf)) old m
     → LeavesBerth names base (history_at callers) old m

@@ -2,7 +2,7 @@
 use Rattle.std.proofs.Common.{◌≡◌, ℕ, suc, ◌+◌, true, List, [], ◌∷◌, ◌++◌, length, refl, ap, subst, ◌∙◌, arith}
 use Rattle.std.proofs.lemmas.Grind.{flat_map-append}
 use Rattle.std.proofs.lemmas.List.{append-nil}
-use Rattle.leaf_history.specs.History.{Entry, TableState, LegalFrom, after}
+use Rattle.leaf_history.specs.History.{Entry, HistoryState, LegalFrom, after}
 use Rattle.leaf_history.proofs.Histories.{LegalFrom-append}
 use Rattle.transcript.specs.Transcript.{Played, Shown, shown, shown_in, Tells, OpensFlushed}
 
@@ -36,12 +36,12 @@ shown-snoc leaf table ps p = shown-append leaf table ps (p ∷ []) ∙ ap (λ ss
 -- ---- what a table may do
 
 -- legal, and opened with just the flushed writes
-abbrev pub Fine : TableState → List Entry → Type 0
+abbrev pub Fine : HistoryState → List Entry → Type 0
 Fine s es = LegalFrom true s es × OpensFlushed s es
 
-pub Opens-append : (s : TableState) (xs ys : List Entry) → OpensFlushed s xs → OpensFlushed (after true s xs) ys → OpensFlushed s (xs ++ ys)
+pub Opens-append : (s : HistoryState) (xs ys : List Entry) → OpensFlushed s xs → OpensFlushed (after true s xs) ys → OpensFlushed s (xs ++ ys)
 Opens-append s [] ys g h = h
 Opens-append s (x ∷ xs) ys g h = (g.0, Opens-append (after true s (x ∷ [])) xs ys g.1 h)
 
-pub Fine-append : (s : TableState) (xs ys : List Entry) → Fine s xs → Fine (after true s xs) ys → Fine s (xs ++ ys)
+pub Fine-append : (s : HistoryState) (xs ys : List Entry) → Fine s xs → Fine (after true s xs) ys → Fine s (xs ++ ys)
 Fine-append s xs ys g h = (LegalFrom-append true s xs ys g.0 h.0, Opens-append s xs ys g.1 h.1)

@@ -4,7 +4,7 @@ use Rattle.std.specs.Prelude.{slice_get}
 use Rattle.leaf_history.specs.History.{Entry}
 use Rattle.script_text.specs.declared.command.Command.{Command}
 use Rattle.printed_lines.specs.declared.line.Line.{Line}
-use Rattle.crash_events.specs.Left.{Tables}
+use Rattle.crash_events.specs.Left.{NamedStates}
 use Rattle.leaf_table.specs.Calls.{SeatView, seen_of}
 use Rattle.leaf_table.specs.Turns.{Shared}
 use Rattle.leaf_steward.specs.declared.notes.Note.{Note}
@@ -31,6 +31,6 @@ abbrev pub Grow : List SeatView → List SeatView → Type 0
 Grow callers callers' = (table : ℕ) → (more : List Entry) × (history_at callers' table ≡ history_at callers table ++ more)
 
 -- a table is opened with just the writes that are known to be flushed
-abbrev pub OpensWell : Tables → (List ℕ → ℕ) → Seated → Seated → Type 0
+abbrev pub OpensWell : NamedStates → (List ℕ → ℕ) → Seated → Seated → Type 0
 OpensWell base read x y = (place : ℕ) (t : Shared) (v w : SeatView) → slice_get x.tables place ≡ Some t → slice_get x.seats place ≡ Some v → slice_get y.seats place ≡ Some w
     → (es : List Entry) → seen_of w ≡ seen_of v ++ es → OpensFlushed (state_read base read t v) es

@@ -1,14 +1,14 @@
 -- The histories' beginnings.
 use Rattle.std.specs.Prelude.{◌≡◌, ℕ, suc, List, [], ◌∷◌, length}
-use Rattle.leaf_history.specs.History.{TableState, Entry}
+use Rattle.leaf_history.specs.History.{HistoryState, Entry}
 use Rattle.row_records.specs.Records.{LogRecord}
 use Rattle.disk_backup.specs.Logs.{IsLog, writes_of}
-use Rattle.crash_events.specs.Left.{Tables}
+use Rattle.crash_events.specs.Left.{NamedStates}
 use Rattle.crash_moments.specs.Watched.{Watched}
 use Rattle.printed_lines.specs.Lines.{name_at}
 
 -- the base of a table by its place
-abbrev pub base_at : List (List ℕ) → Tables → ℕ → TableState
+abbrev pub base_at : List (List ℕ) → NamedStates → ℕ → HistoryState
 base_at names base table = base (name_at names table)
 
 -- the log of a disk has so many writes of this name
@@ -16,11 +16,11 @@ abbrev pub LogHas : List ℕ → List ℕ → ℕ → Type 0
 LogHas disk name count = (records : List LogRecord) × (log_end : ℕ) × IsLog disk records log_end × (count ≡ length (writes_of name records))
 
 -- tables of these names, from a place on, with their histories
-abbrev pub watched_from : ℕ → List (List ℕ) → Tables → (ℕ → List Entry) → List Watched
+abbrev pub watched_from : ℕ → List (List ℕ) → NamedStates → (ℕ → List Entry) → List Watched
 watched_from place [] base histories = []
 watched_from place (n ∷ ns) base histories = record { name = n; base = base n; seen = histories place } ∷ watched_from (suc place) ns base histories
 
-abbrev pub watched_with : List (List ℕ) → Tables → (ℕ → List Entry) → List Watched
+abbrev pub watched_with : List (List ℕ) → NamedStates → (ℕ → List Entry) → List Watched
 watched_with names base histories = watched_from 0 names base histories
 
 -- before the first entry

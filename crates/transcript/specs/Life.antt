@@ -76,7 +76,7 @@ IsUpLife (Preparing way p) = ⊥
 
 -- A start of a leaf of so many tables: each is opened and the way is told, or the start is refused and nothing is claimed
 -- of the next one, or the leaf is not down.
-pub data Starts (tables leaf : ℕ) (life : Life) (lines : List Line) (next : Life) : Type 0 where
+pub data OfStart (tables leaf : ℕ) (life : Life) (lines : List Line) (next : Life) : Type 0 where
   opens : (claim : Option Way) (way : Way) (numbers writes : List ℕ)
       → life ≡ Down claim
       → IfSome claim (λ claimed. way ≡ claimed)
@@ -84,47 +84,47 @@ pub data Starts (tables leaf : ℕ) (life : Life) (lines : List Line) (next : Li
       → length writes ≡ tables
       → lines ≡ table_lines leaf 0 numbers (map Opened writes) ++ Ended Start leaf (Started way) ∷ []
       → next ≡ Up (way_after way) None
-      → Starts tables leaf life lines next
+      → OfStart tables leaf life lines next
   refuses : (claim : Option Way) (ending : Ending)
       → life ≡ Down claim
       → IsStartRefusal ending
       → lines ≡ Ended Start leaf ending ∷ []
       → next ≡ Down None
-      → Starts tables leaf life lines next
+      → OfStart tables leaf life lines next
   not_down : (IsDownLife life → ⊥)
       → lines ≡ Ended Start leaf NotDown ∷ []
       → next ≡ life
-      → Starts tables leaf life lines next
+      → OfStart tables leaf life lines next
 
 -- ---- flushes
 
 -- A flush of a table: what was owed is flushed, and then the table is taken and flushed with the same number of writes; or the disk fails, before anything
 -- was flushed or when the table was taken; or the table's seat is worn, and it is not taken; or the leaf is not up.
-pub data Flushes (table leaf : ℕ) (life : Life) (lines : List Line) (next : Life) : Type 0 where
+pub data OfFlush (table leaf : ℕ) (life : Life) (lines : List Line) (next : Life) : Type 0 where
   done : (way : Way) (owed : Option Owed) (first taking flushing count : ℕ)
       → life ≡ Up way owed
       → lines ≡ owed_line leaf first owed ++ (Entry leaf table taking (Took count) ∷ Entry leaf table flushing (Flushed count) ∷ Ended Flush leaf Done ∷ [])
       → next ≡ Up way None
-      → Flushes table leaf life lines next
+      → OfFlush table leaf life lines next
   half : (way : Way) (owed : Option Owed) (first taking count : ℕ)
       → life ≡ Up way owed
       → lines ≡ owed_line leaf first owed ++ (Entry leaf table taking (Took count) ∷ Ended Flush leaf FaultDisk ∷ [])
       → next ≡ Up way (Some (record { table = table; count = count }))
-      → Flushes table leaf life lines next
+      → OfFlush table leaf life lines next
   stuck : (way : Way) (o : Owed)
       → life ≡ Up way (Some o)
       → lines ≡ Ended Flush leaf FaultDisk ∷ []
       → next ≡ life
-      → Flushes table leaf life lines next
+      → OfFlush table leaf life lines next
   worn : (way : Way) (owed : Option Owed) (first : ℕ)
       → life ≡ Up way owed
       → lines ≡ owed_line leaf first owed ++ Ended Flush leaf Worn ∷ []
       → next ≡ Up way None
-      → Flushes table leaf life lines next
+      → OfFlush table leaf life lines next
   not_up : (IsUpLife life → ⊥)
       → lines ≡ Ended Flush leaf NotUp ∷ []
       → next ≡ life
-      → Flushes table leaf life lines next
+      → OfFlush table leaf life lines next
 
 -- ---- kills
 
@@ -133,66 +133,66 @@ abbrev pub first_open : Progress → ℕ
 first_open p = if p.shut then suc p.treated else p.treated
 
 -- A kill closes each open table, and what the next start prints stays claimed; or the leaf is down.
-pub data Kills (tables leaf : ℕ) (life : Life) (lines : List Line) (next : Life) : Type 0 where
+pub data OfKill (tables leaf : ℕ) (life : Life) (lines : List Line) (next : Life) : Type 0 where
   kills : (way : Way) (owed : Option Owed) (numbers writes : List ℕ)
       → life ≡ Up way owed
       → length numbers ≡ tables
       → length writes ≡ tables
       → lines ≡ table_lines leaf 0 numbers (map Closed writes) ++ Ended Kill leaf Done ∷ []
       → next ≡ Down (Some way)
-      → Kills tables leaf life lines next
+      → OfKill tables leaf life lines next
   kills_preparing : (way : Way) (p : Progress) (numbers writes : List ℕ)
       → life ≡ Preparing way p
       → first_open p + length numbers ≡ tables
       → length writes ≡ length numbers
       → lines ≡ table_lines leaf (first_open p) numbers (map Closed writes) ++ Ended Kill leaf Done ∷ []
       → next ≡ Down (Some way)
-      → Kills tables leaf life lines next
+      → OfKill tables leaf life lines next
   not_up : IsDownLife life
       → lines ≡ Ended Kill leaf NotUp ∷ []
       → next ≡ life
-      → Kills tables leaf life lines next
+      → OfKill tables leaf life lines next
 
 -- ---- drains
 
 -- one table more is treated: what was owed is flushed; then the next table is closed and flushed with one number of writes, where it was not shut before
-pub data Treats (leaf : ℕ) (p : Progress) (lines : List Line) (q : Progress) : Type 0 where
+pub data OfTreating (leaf : ℕ) (p : Progress) (lines : List Line) (q : Progress) : Type 0 where
   whole : (first closing flushing count : ℕ)
       → p.shut ≡ false
       → lines ≡ owed_line leaf first p.owed ++ (Entry leaf p.treated closing (Closed count) ∷ Entry leaf p.treated flushing (Flushed count) ∷ [])
       → q ≡ record { owed = None; treated = suc p.treated; shut = false }
-      → Treats leaf p lines q
+      → OfTreating leaf p lines q
   rest : (first : ℕ)
       → p.shut ≡ true
       → lines ≡ owed_line leaf first p.owed
       → q ≡ record { owed = None; treated = suc p.treated; shut = false }
-      → Treats leaf p lines q
+      → OfTreating leaf p lines q
 
 -- some tables more, of so many
-pub data TreatsOn (tables leaf : ℕ) : Progress → List Line → Progress → Type 0 where
-  none : (p : Progress) (lines : List Line) (q : Progress) → lines ≡ [] → q ≡ p → TreatsOn tables leaf p lines q
+pub data OfTreatings (tables leaf : ℕ) : Progress → List Line → Progress → Type 0 where
+  none : (p : Progress) (lines : List Line) (q : Progress) → lines ≡ [] → q ≡ p → OfTreatings tables leaf p lines q
   more : (p : Progress) (lines : List Line) (q : Progress) (first others : List Line) (between : Progress)
       → p.treated < tables
-      → Treats leaf p first between
-      → TreatsOn tables leaf between others q
+      → OfTreating leaf p first between
+      → OfTreatings tables leaf between others q
       → lines ≡ first ++ others
-      → TreatsOn tables leaf p lines q
+      → OfTreatings tables leaf p lines q
 
 -- the disk fails, before anything was flushed or when the next table was closed
-pub data Halts (leaf : ℕ) (p : Progress) (lines : List Line) (q : Progress) : Type 0 where
+pub data OfHalting (leaf : ℕ) (p : Progress) (lines : List Line) (q : Progress) : Type 0 where
   half : (first closing count : ℕ)
       → p.shut ≡ false
       → lines ≡ owed_line leaf first p.owed ++ Entry leaf p.treated closing (Closed count) ∷ []
       → q ≡ record { owed = Some (record { table = p.treated; count = count }); treated = p.treated; shut = true }
-      → Halts leaf p lines q
+      → OfHalting leaf p lines q
   stuck : (o : Owed)
       → p.owed ≡ Some o
       → lines ≡ []
       → q ≡ p
-      → Halts leaf p lines q
+      → OfHalting leaf p lines q
 
 -- there is no memory for the next table's content: what was owed is flushed
-pub record Starves (leaf : ℕ) (p : Progress) (lines : List Line) (q : Progress) : Type 0 where
+pub record OfStarving (leaf : ℕ) (p : Progress) (lines : List Line) (q : Progress) : Type 0 where
   pub first : ℕ
   pub lines_are : lines ≡ owed_line leaf first p.owed
   pub is : q ≡ record { owed = None; treated = first_open p; shut = false }
@@ -216,76 +216,76 @@ way_stopped further way = if nat_lt 1 further then Disk (why.Closed 0) else way
 -- A drain of a leaf of so many tables: each that is left is closed and flushed, then each is handed over, and the next start finds memory; or the region fails
 -- once all are flushed; or the copy has no room, or there is no memory, or the disk fails, and the leaf goes on when it is drained again; or so many steps were made as it
 -- was to make, and it is killed, so that each open table is closed; or the leaf is down.
-pub data Drains (tables leaf : ℕ) (stop : Option ℕ) (life : Life) (lines : List Line) (next : Life) : Type 0 where
+pub data OfDrain (tables leaf : ℕ) (stop : Option ℕ) (life : Life) (lines : List Line) (next : Life) : Type 0 where
   drains : (way : Way) (p q : Progress) (treating : List Line) (handings : List ℕ) (left : ℕ)
       → p.treated + left ≡ tables
       → MayMake stop (left + 4)
       → BeginsAt life way p
-      → TreatsOn tables leaf p treating q
+      → OfTreatings tables leaf p treating q
       → q.treated ≡ tables
       → length handings ≡ tables
       → lines ≡ treating ++ (table_lines leaf 0 handings (handed handings) ++ Ended Drain leaf Done ∷ [])
       → next ≡ Down (Some Memory)
-      → Drains tables leaf stop life lines next
+      → OfDrain tables leaf stop life lines next
   region_fails : (way : Way) (p q : Progress) (treating : List Line) (left : ℕ)
       → p.treated + left ≡ tables
       → MayMake stop (left + 2)
       → BeginsAt life way p
-      → TreatsOn tables leaf p treating q
+      → OfTreatings tables leaf p treating q
       → q.treated ≡ tables
       → lines ≡ treating ++ Ended Drain leaf FaultRegion ∷ []
       → next ≡ Down None
-      → Drains tables leaf stop life lines next
+      → OfDrain tables leaf stop life lines next
   no_room : (way : Way) (p q : Progress) (treating : List Line) (left : ℕ)
       → p.treated + left ≡ tables
       → MayMake stop (left + 1)
       → BeginsAt life way p
-      → TreatsOn tables leaf p treating q
+      → OfTreatings tables leaf p treating q
       → q.treated ≡ tables
       → lines ≡ treating ++ Ended Drain leaf FaultRoom ∷ []
       → next ≡ Preparing way q
-      → Drains tables leaf stop life lines next
+      → OfDrain tables leaf stop life lines next
   no_memory : (way : Way) (p q r : Progress) (treating starving : List Line) (made : ℕ)
       → p.treated + made ≡ q.treated
       → MayMake stop (suc made)
       → BeginsAt life way p
-      → TreatsOn tables leaf p treating q
-      → Starves leaf q starving r
+      → OfTreatings tables leaf p treating q
+      → OfStarving leaf q starving r
       → lines ≡ treating ++ (starving ++ Ended Drain leaf FaultMemory ∷ [])
       → next ≡ Preparing way r
-      → Drains tables leaf stop life lines next
+      → OfDrain tables leaf stop life lines next
   disk_fails : (way : Way) (p q r : Progress) (treating halting : List Line) (made : ℕ)
       → p.treated + made ≡ q.treated
       → MayMake stop (suc made)
       → BeginsAt life way p
-      → TreatsOn tables leaf p treating q
+      → OfTreatings tables leaf p treating q
       → q.treated < tables
-      → Halts leaf q halting r
+      → OfHalting leaf q halting r
       → lines ≡ treating ++ (halting ++ Ended Drain leaf FaultDisk ∷ [])
       → next ≡ Preparing way r
-      → Drains tables leaf stop life lines next
+      → OfDrain tables leaf stop life lines next
   stops_treating : (way : Way) (p q : Progress) (treating : List Line) (made : ℕ) (numbers writes : List ℕ)
       → stop ≡ Some made
       → p.treated + made ≡ q.treated
       → BeginsAt life way p
-      → TreatsOn tables leaf p treating q
+      → OfTreatings tables leaf p treating q
       → first_open q + length numbers ≡ tables
       → length writes ≡ length numbers
       → lines ≡ treating ++ (table_lines leaf (first_open q) numbers (map Closed writes) ++ Ended Drain leaf Stopped ∷ [])
       → next ≡ Down (Some way)
-      → Drains tables leaf stop life lines next
+      → OfDrain tables leaf stop life lines next
   stops_copying : (way : Way) (p q : Progress) (treating : List Line) (left further : ℕ)
       → stop ≡ Some (left + further)
       → p.treated + left ≡ tables
       → 0 < further
       → further < 4
       → BeginsAt life way p
-      → TreatsOn tables leaf p treating q
+      → OfTreatings tables leaf p treating q
       → q.treated ≡ tables
       → lines ≡ treating ++ Ended Drain leaf Stopped ∷ []
       → next ≡ Down (Some (way_stopped further way))
-      → Drains tables leaf stop life lines next
+      → OfDrain tables leaf stop life lines next
   not_up : IsDownLife life
       → lines ≡ Ended Drain leaf NotUp ∷ []
       → next ≡ life
-      → Drains tables leaf stop life lines next
+      → OfDrain tables leaf stop life lines next

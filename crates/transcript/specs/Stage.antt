@@ -6,7 +6,7 @@ use Rattle.row_records.specs.Records.{LogRecord}
 use Rattle.berth_face.specs.Berth.{Meaning}
 use Rattle.turnstile.specs.Seats.{AreIds, LearnsOthers, Told}
 use Rattle.leaf_table.specs.Calls.{SeatView}
-use Rattle.crash_events.specs.Left.{Tables}
+use Rattle.crash_events.specs.Left.{NamedStates}
 use Rattle.crash_moments.specs.Watched.{IsFoundation}
 use Rattle.crash_moments.specs.Told as moments
 use Rattle.crash_states.specs.Standing.{Runs, Rests}
@@ -46,24 +46,24 @@ abbrev pub ServingStands : Serving → Meaning → Type 0
 ServingStands x m = (writes : List ℕ → List Write) × Runs (watched_by x.seated) x.owing.owner x.owing.log writes m
 
 -- what region and disk hold; names that the leaf does not have had this base
-abbrev pub Stands : Tables → Leaf → Meaning → Type 0
+abbrev pub Stands : NamedStates → Leaf → Meaning → Type 0
 Stands base (IsDown x) m = (least : List ℕ → List Write) × (next : Option LogRecord) × Rests (watched_by x) base least next m
 Stands base (IsUp x) m = ServingStands x m
 Stands base (IsPreparing x) m = ServingStands x.serving m
 
 -- each name's base is a table that was handed in nothing
-abbrev pub AreSound : Tables → Type 0
-AreSound base = (name : List ℕ) → IsFoundation (base name)
+abbrev pub AreHandedNothing : NamedStates → Type 0
+AreHandedNothing base = (name : List ℕ) → IsFoundation (base name)
 
 -- it stands behind a call too, and at each moment a crash leaves what belongs to its tables
-pub record StandsOn (base : Tables) (leaf leaf' : Leaf) (m m' : Meaning) : Type 0 where
+pub record StandsOn (base : NamedStates) (leaf leaf' : Leaf) (m m' : Meaning) : Type 0 where
   pub stands : Stands base leaf' m'
   pub told : moments.Told base (watched_by (seated_of leaf)) (watched_by (seated_of leaf')) m m'
 
 -- The steward makes entries with these notes. Where the berth tells its contents and the tables are founded, what stood stands on.
 pub record Carries (leaf leaf' : Leaf) (notes : List Note) (m m' : Meaning) : Type 0 where
   pub made : Makes m.clock m'.clock (seated_of leaf) notes (seated_of leaf')
-  pub stands : (base : Tables) → IsTrue m.tells → AreFounded (seated_of leaf) → AreSound base → Stands base leaf m → StandsOn base leaf leaf' m m'
+  pub stands : (base : NamedStates) → IsTrue m.tells → AreFounded (seated_of leaf) → AreHandedNothing base → Stands base leaf m → StandsOn base leaf leaf' m m'
 
 -- ---- meetings
 
@@ -84,4 +84,4 @@ pub record MeetAll (leaf : Leaf) (callers : List SeatView) (leaf' : Leaf) (calle
       → slice_get seats place ≡ Some v' → slice_get callers' place ≡ Some c'
       → Meets v c v' c'
   pub count : (length seats ≡ length (seated_of leaf).seats) × (length callers' ≡ length callers)
-  pub stands : (base : Tables) → IsTrue m.tells → AreFounded (seated_of leaf) → Stands base leaf m → Stands base leaf' m
+  pub stands : (base : NamedStates) → IsTrue m.tells → AreFounded (seated_of leaf) → Stands base leaf m → Stands base leaf' m

@@ -6,15 +6,15 @@ use Rattle.berth_face.specs.Berth.{Meaning}
 use Rattle.answer_text.specs.Answer.{answer_lines}
 use Rattle.leaf_history.specs.Calls as call
 use Rattle.adopt.specs.declared.found.WhyDisk.TheVariants as why
-use Rattle.disk_backup.specs.Scanning.{Begins}
+use Rattle.disk_backup.specs.Scanning.{BeginsScan}
 use Rattle.leaf_opening.specs.declared.ways.Way.{Way}
 use Rattle.leaf_opening.specs.declared.ways.Way.TheVariants.{Memory, Disk}
 use Rattle.leaf_opening.specs.Starts.{IsWayOf}
-use Rattle.crash_events.specs.Left.{Tables}
+use Rattle.crash_events.specs.Left.{NamedStates}
 use Rattle.leaf_table.specs.declared.replies.Reply.{Reply}
 use Rattle.leaf_table.specs.declared.replies.Reply.TheVariants as told
 use Rattle.leaf_table.specs.Turns.{Shared}
-use Rattle.leaf_table.specs.Calls.{SeatView, base_of, Answered}
+use Rattle.leaf_table.specs.Calls.{SeatView, base_seen, Answered}
 use Rattle.leaf_steward.specs.declared.notes.Note.{Note}
 use Rattle.leaf_steward.specs.declared.notes.What.{What}
 use Rattle.leaf_steward.specs.declared.notes.What.TheVariants as what
@@ -25,7 +25,7 @@ use Rattle.leaf_machine.specs.declared.faults.StartFault.TheVariants as fault
 use Rattle.leaf_machine.specs.declared.up.FlushReply.{FlushReply}
 use Rattle.leaf_machine.specs.declared.up.FlushReply.TheVariants as reply
 use Rattle.leaf_machine.specs.States.{Serving, Shutting, treated}
-use Rattle.leaf_machine.specs.Starts.{Came}
+use Rattle.leaf_machine.specs.Starts.{CameUp}
 use Rattle.leaf_machine.specs.Flushes.{Flushes}
 use Rattle.leaf_machine.specs.Prepares.{Treats, Halts, Starves, AllTreated, begins}
 use Rattle.printed_lines.specs.declared.line.Said.{Said}
@@ -41,19 +41,19 @@ use Rattle.script_text.specs.declared.command.Command.TheVariants as command
 use Rattle.script_text.specs.Fits.{IsCommand}
 use Rattle.transcript.specs.Transcript.{named, place_of}
 use Rattle.transcript.specs.Life.{MayMake}
-use Rattle.transcript.specs.Stage.{Leaf, IsDown, IsUp, IsPreparing, seated_of, Stands, ServingStands, AreSound, Carries, MeetAll}
+use Rattle.transcript.specs.Stage.{Leaf, IsDown, IsUp, IsPreparing, seated_of, Stands, ServingStands, AreHandedNothing, Carries, MeetAll}
 
 -- ---- the calls of callers
 
 -- the line of a reply to an add or a query
-abbrev pub Says : ℕ → Reply → Line → Type 0
-Says table (told.Added number kept late) l = l ≡ line.Entry 0 table number (said.Added kept late)
-Says table (told.Removed number rows) l = ⊥
-Says table (told.Groups number gs) l = l ≡ line.Entry 0 table number said.Asked
-Says table (told.Shut number) l = l ≡ line.Entry 0 table number said.RefusedShut
-Says table (told.Full number) l = l ≡ line.Entry 0 table number said.RefusedFull
-Says table (told.NoMemory number) l = l ≡ line.Entry 0 table number said.RefusedMemory
-Says table told.Worn l = l ≡ line.Worn 0 table
+abbrev pub IsReplyLine : ℕ → Reply → Line → Type 0
+IsReplyLine table (told.Added number kept late) l = l ≡ line.Entry 0 table number (said.Added kept late)
+IsReplyLine table (told.Removed number rows) l = ⊥
+IsReplyLine table (told.Groups number gs) l = l ≡ line.Entry 0 table number said.Asked
+IsReplyLine table (told.Shut number) l = l ≡ line.Entry 0 table number said.RefusedShut
+IsReplyLine table (told.Full number) l = l ≡ line.Entry 0 table number said.RefusedFull
+IsReplyLine table (told.NoMemory number) l = l ≡ line.Entry 0 table number said.RefusedMemory
+IsReplyLine table told.Worn l = l ≡ line.Worn 0 table
 
 -- the lines of the answer to a query: those of the groups, or none where the table did not answer
 abbrev pub AnswersWith : Query → Reply → List (List ℕ) → Type 0
@@ -73,9 +73,9 @@ pub record CallStep (table : ℕ) (c : call.Call) (tables : List Shared) (caller
   pub reply : Reply
   pub at : slice_get tables table ≡ Some shared
   pub was : slice_get callers table ≡ Some before
-  pub answered : Answered (base_of shared) before c reply after
+  pub answered : Answered (base_seen shared) before c reply after
   pub now : callers' ≡ slice_set callers table after
-  pub says : Says table reply l
+  pub says : IsReplyLine table reply l
 
 pub record AddStep (table : ℕ) (rows : List Row) (tables : List Shared) (callers : List SeatView) (lines : List Line) (callers' : List SeatView) : Type 0 where
   pub printed : Line
@@ -144,7 +144,7 @@ IsWornFor x fault.NoMemory = ⊤
 
 -- a start that is not refused, over a berth that tells its contents
 pub record StartsTold (x : Seated) (m m' : Meaning) (s : Serving) (notes : List Note) (way : Way) : Type 0 where
-  pub came : Came x.names m m' notes s way
+  pub came : CameUp x.names m m' notes s way
   pub way_is : IsWayOf m.held.region way
 
 -- a start: each table is opened, or it is refused, or the leaf is not down
@@ -159,8 +159,8 @@ pub data StartMoves (m m' : Meaning) (leaf : Leaf) (notes : List Note) (ends : E
   refused : (x : Seated) (f : StartFault)
       → leaf ≡ IsDown x
       → IsWornFor x f
-      → ((base : Tables) → IsTrue m.tells → AreFounded x → Stands base leaf m → f ≢ fault.DiskDamaged)
-      → (IsTrue m.tells → Begins (length m.held.disk) m.held.disk m'.held.disk)
+      → ((base : NamedStates) → IsTrue m.tells → AreFounded x → Stands base leaf m → f ≢ fault.DiskDamaged)
+      → (IsTrue m.tells → BeginsScan (length m.held.disk) m.held.disk m'.held.disk)
       → notes ≡ []
       → ends ≡ ending_of f
       → leaf' ≡ leaf
@@ -229,10 +229,10 @@ pub data TreatsOn : Shutting → List Note → Shutting → Type 0 where
       → TreatsOn x notes y
 
 -- a leaf that begins to shut its tables, or goes on
-abbrev pub Shuts : Leaf → Shutting → Type 0
-Shuts (IsDown x) y = ⊥
-Shuts (IsUp s) y = y ≡ begins s
-Shuts (IsPreparing x) y = y ≡ x
+abbrev pub BeginsShutting : Leaf → Shutting → Type 0
+BeginsShutting (IsDown x) y = ⊥
+BeginsShutting (IsUp s) y = y ≡ begins s
+BeginsShutting (IsPreparing x) y = y ≡ x
 
 -- what the region is of a leaf that was killed after so many steps behind its tables': untouched, or begun and closed
 abbrev pub RegionStopped : ℕ → Meaning → Meaning → Type 0
@@ -242,7 +242,7 @@ RegionStopped further m m' = MatchBool (nat_lt 1 further) (IsWayOf m'.held.regio
 -- or the disk fails; or it has made as many steps as it was to make, while there were tables to treat or behind them, and the leaf is killed; or the leaf is down.
 pub data DrainMoves (m m' : Meaning) (leaf : Leaf) (stop : Option ℕ) (notes : List Note) (ends : Ending) (leaf' : Leaf) : Type 0 where
   done : (x y : Shutting) (z : Seated) (treating handing : List Note) (left : ℕ)
-      → Shuts leaf x
+      → BeginsShutting leaf x
       → treated x + left ≡ length x.serving.seated.tables
       → MayMake stop (left + 4)
       → TreatsOn x treating y
@@ -250,12 +250,12 @@ pub data DrainMoves (m m' : Meaning) (leaf : Leaf) (stop : Option ℕ) (notes : 
       → Part y.serving.seated handing z
       → EachNoted IsHandedNote 0 (length x.serving.seated.tables) handing
       → notes ≡ treating ++ handing
-      → ((base : Tables) → IsTrue m.tells → AreFounded (seated_of leaf) → Stands base leaf m → IsWayOf m'.held.region Memory)
+      → ((base : NamedStates) → IsTrue m.tells → AreFounded (seated_of leaf) → Stands base leaf m → IsWayOf m'.held.region Memory)
       → ends ≡ ending.Done
       → leaf' ≡ IsDown z
       → DrainMoves m m' leaf stop notes ends leaf'
   failed : (x y : Shutting) (left : ℕ)
-      → Shuts leaf x
+      → BeginsShutting leaf x
       → treated x + left ≡ length x.serving.seated.tables
       → MayMake stop (left + 2)
       → TreatsOn x notes y
@@ -264,7 +264,7 @@ pub data DrainMoves (m m' : Meaning) (leaf : Leaf) (stop : Option ℕ) (notes : 
       → leaf' ≡ IsDown y.serving.seated
       → DrainMoves m m' leaf stop notes ends leaf'
   roomless : (x y : Shutting) (left : ℕ)
-      → Shuts leaf x
+      → BeginsShutting leaf x
       → treated x + left ≡ length x.serving.seated.tables
       → MayMake stop (left + 1)
       → TreatsOn x notes y
@@ -274,7 +274,7 @@ pub data DrainMoves (m m' : Meaning) (leaf : Leaf) (stop : Option ℕ) (notes : 
       → leaf' ≡ IsPreparing y
       → DrainMoves m m' leaf stop notes ends leaf'
   starved : (x y z : Shutting) (treating starving : List Note) (made : ℕ)
-      → Shuts leaf x
+      → BeginsShutting leaf x
       → treated x + made ≡ treated y
       → MayMake stop (suc made)
       → TreatsOn x treating y
@@ -286,7 +286,7 @@ pub data DrainMoves (m m' : Meaning) (leaf : Leaf) (stop : Option ℕ) (notes : 
       → leaf' ≡ IsPreparing z
       → DrainMoves m m' leaf stop notes ends leaf'
   halted : (x y z : Shutting) (treating halting : List Note) (made : ℕ)
-      → Shuts leaf x
+      → BeginsShutting leaf x
       → treated x + made ≡ treated y
       → MayMake stop (suc made)
       → TreatsOn x treating y
@@ -298,7 +298,7 @@ pub data DrainMoves (m m' : Meaning) (leaf : Leaf) (stop : Option ℕ) (notes : 
       → leaf' ≡ IsPreparing z
       → DrainMoves m m' leaf stop notes ends leaf'
   stopped : (x y : Shutting) (z : Seated) (treating closing : List Note) (made count : ℕ)
-      → Shuts leaf x
+      → BeginsShutting leaf x
       → stop ≡ Some made
       → treated x + made ≡ treated y
       → TreatsOn x treating y
@@ -307,19 +307,19 @@ pub data DrainMoves (m m' : Meaning) (leaf : Leaf) (stop : Option ℕ) (notes : 
       → Part y.serving.seated closing z
       → notes ≡ treating ++ closing
       → (IsTrue m.tells → m'.held.region ≡ m.held.region)
-      → ((base : Tables) → IsTrue m.tells → AreFounded (seated_of leaf) → AreSound base → Stands base leaf m → ServingStands y.serving m')
+      → ((base : NamedStates) → IsTrue m.tells → AreFounded (seated_of leaf) → AreHandedNothing base → Stands base leaf m → ServingStands y.serving m')
       → ends ≡ ending.Stopped
       → leaf' ≡ IsDown z
       → DrainMoves m m' leaf stop notes ends leaf'
   stopped_copying : (x y : Shutting) (left further : ℕ)
-      → Shuts leaf x
+      → BeginsShutting leaf x
       → stop ≡ Some (left + further)
       → treated x + left ≡ length x.serving.seated.tables
       → 0 < further
       → further < 4
       → TreatsOn x notes y
       → AllTreated y
-      → ((base : Tables) → IsTrue m.tells → AreFounded (seated_of leaf) → Stands base leaf m → RegionStopped further m m')
+      → ((base : NamedStates) → IsTrue m.tells → AreFounded (seated_of leaf) → Stands base leaf m → RegionStopped further m m')
       → ends ≡ ending.Stopped
       → leaf' ≡ IsDown y.serving.seated
       → DrainMoves m m' leaf stop notes ends leaf'
@@ -359,7 +359,7 @@ pub record KillStep (m m' : Meaning) (leaf : Leaf) (callers : List SeatView) (li
   pub moves : KillMoves m m' part.met part.notes part.ends part.moved
   pub second : MeetAll part.moved part.met_callers leaf' callers' m'
 
-pub record DrainStep (stop : Option ℕ) (m m' : Meaning) (leaf : Leaf) (callers : List SeatView) (lines : List Line) (leaf' : Leaf) (callers' : List SeatView) : Type 0 where
+pub record DrainsLeaf (stop : Option ℕ) (m m' : Meaning) (leaf : Leaf) (callers : List SeatView) (lines : List Line) (leaf' : Leaf) (callers' : List SeatView) : Type 0 where
   pub part : StewardPart Drain leaf callers m m' lines
   pub moves : DrainMoves m m' part.met stop part.notes part.ends part.moved
   pub second : MeetAll part.moved part.met_callers leaf' callers' m'
@@ -382,6 +382,6 @@ Plays meaning names (command.Add l table rows) leaf callers b lines leaf' caller
 Plays meaning names (command.Query q) leaf callers b lines leaf' callers' b' =
     QueryStep (place_of q.table names) q (seated_of leaf).tables callers lines callers' × (leaf' ≡ leaf) × (b' ≡ b)
 Plays meaning names (command.Flush l table) leaf callers b lines leaf' callers' b' = FlushStep table (meaning b) (meaning b') leaf callers lines leaf' callers'
-Plays meaning names (command.Drain l stop) leaf callers b lines leaf' callers' b' = DrainStep stop (meaning b) (meaning b') leaf callers lines leaf' callers'
+Plays meaning names (command.Drain l stop) leaf callers b lines leaf' callers' b' = DrainsLeaf stop (meaning b) (meaning b') leaf callers lines leaf' callers'
 Plays meaning names (command.Kill l) leaf callers b lines leaf' callers' b' = KillStep (meaning b) (meaning b') leaf callers lines leaf' callers'
 Plays meaning names (command.Start l) leaf callers b lines leaf' callers' b' = StartStep (meaning b) (meaning b') leaf callers lines leaf' callers'

@@ -10,7 +10,7 @@ use Rattle.answer_text.specs.Answer.{answer_lines}
 use Rattle.leaf_history.specs.Calls.{Call}
 use Rattle.leaf_history.specs.Calls as call
 use Rattle.leaf_history.specs.Replies as reply
-use Rattle.leaf_history.specs.History.{Entry, TableState, Legal, after, after_entry, held}
+use Rattle.leaf_history.specs.History.{Entry, HistoryState, Legal, after, after_entry, held}
 use Rattle.script_text.specs.declared.command.Command.{Command}
 use Rattle.script_text.specs.declared.command.Command.TheVariants as command
 use Rattle.printed_lines.specs.declared.line.Said.{Said}
@@ -20,7 +20,7 @@ use Rattle.printed_lines.specs.declared.line.Ending.TheVariants.{Done, Stopped, 
 use Rattle.printed_lines.specs.declared.line.Line.{Line}
 use Rattle.printed_lines.specs.declared.line.Line.TheVariants as line
 use Rattle.printed_lines.specs.Lines.{lines_text}
-use Rattle.transcript.specs.Life.{Life, Starts, Flushes, Kills, Drains}
+use Rattle.transcript.specs.Life.{Life, OfStart, OfFlush, OfKill, OfDrain}
 
 -- ---- what was played, and by which fleet
 
@@ -39,9 +39,9 @@ place_of name [] = 0
 place_of name (n ∷ ns) = if bytes_eq name n then 0 else suc (place_of name ns)
 
 -- the fleet that a script's first command makes: none where there is no command
-abbrev pub fleet_of : List Command → Fleet
-fleet_of (command.Fleet machines per_machine tables ∷ more) = record { leaves = machines * per_machine; names = tables }
-fleet_of _ = record { leaves = 0; names = [] }
+abbrev pub script_fleet : List Command → Fleet
+script_fleet (command.Fleet machines per_machine tables ∷ more) = record { leaves = machines * per_machine; names = tables }
+script_fleet _ = record { leaves = 0; names = [] }
 
 -- what commands change: the leaves
 pub record Scene : Type 0 where
@@ -122,7 +122,7 @@ OfLeaf leaf scene next R = (life life' : Life) × (slice_get scene.lives leaf �
 abbrev pub StartsAll : ℕ → ℕ → List Life → List Line → List Life → Type 0
 StartsAll tables leaf [] lines next = (lines ≡ []) × (next ≡ [])
 StartsAll tables leaf (life ∷ lives) lines next =
-    (first rest : List Line) × (life' : Life) × (others : List Life) × Starts tables leaf life first life' × StartsAll tables (suc leaf) lives rest others
+    (first rest : List Line) × (life' : Life) × (others : List Life) × OfStart tables leaf life first life' × StartsAll tables (suc leaf) lives rest others
     × (lines ≡ first ++ rest) × (next ≡ life' ∷ others)
 
 -- The lines that a command may print, but for their numbers. A new command adds a case.
@@ -130,10 +130,10 @@ abbrev pub Prints : Fleet → Scene → Command → List Line → Scene → Type
 Prints fleet scene (command.Fleet machines per_machine tables) lines next = StartsAll (length fleet.names) 0 scene.lives lines next.lives
 Prints fleet scene (command.Add leaf table rows) lines next = CallLine IsAddSaid leaf table lines × (next ≡ scene)
 Prints fleet scene (command.Query q) lines next = QueryLines fleet q lines × (next ≡ scene)
-Prints fleet scene (command.Flush leaf table) lines next = OfLeaf leaf scene next (λ life life'. Flushes table leaf life lines life')
-Prints fleet scene (command.Kill leaf) lines next = OfLeaf leaf scene next (λ life life'. Kills (length fleet.names) leaf life lines life')
-Prints fleet scene (command.Drain leaf stop) lines next = OfLeaf leaf scene next (λ life life'. Drains (length fleet.names) leaf stop life lines life')
-Prints fleet scene (command.Start leaf) lines next = OfLeaf leaf scene next (λ life life'. Starts (length fleet.names) leaf life lines life')
+Prints fleet scene (command.Flush leaf table) lines next = OfLeaf leaf scene next (λ life life'. OfFlush table leaf life lines life')
+Prints fleet scene (command.Kill leaf) lines next = OfLeaf leaf scene next (λ life life'. OfKill (length fleet.names) leaf life lines life')
+Prints fleet scene (command.Drain leaf stop) lines next = OfLeaf leaf scene next (λ life life'. OfDrain (length fleet.names) leaf stop life lines life')
+Prints fleet scene (command.Start leaf) lines next = OfLeaf leaf scene next (λ life life'. OfStart (length fleet.names) leaf life lines life')
 
 -- commands one after another
 abbrev pub PrintsAll : Fleet → Scene → List Played → Scene → Type 0
@@ -161,22 +161,22 @@ abbrev pub shown : ℕ → ℕ → List Played → List Shown
 shown leaf table ps = flat_map (λ (p : Played). shown_in leaf table p.command p.lines) ps
 
 -- the call that a caller's command makes
-abbrev pub call_of : Command → Option Call
-call_of (command.Add leaf table rows) = Some (call.Add rows)
-call_of (command.Query q) = Some (call.Ask q)
-call_of (command.Fleet machines per_machine tables) = None
-call_of (command.Flush leaf table) = None
-call_of (command.Drain leaf stop) = None
-call_of (command.Kill leaf) = None
-call_of (command.Start leaf) = None
+abbrev pub call_shown : Command → Option Call
+call_shown (command.Add leaf table rows) = Some (call.Add rows)
+call_shown (command.Query q) = Some (call.Ask q)
+call_shown (command.Fleet machines per_machine tables) = None
+call_shown (command.Flush leaf table) = None
+call_shown (command.Drain leaf stop) = None
+call_shown (command.Kill leaf) = None
+call_shown (command.Start leaf) = None
 
 -- the entry is what the line of this command says
 abbrev pub Shows : Command → Said → Entry → Type 0
-Shows c (Added kept late) e = (call_of c ≡ Some e.call) × (e.reply ≡ reply.Added kept late)
-Shows c Asked e = (call_of c ≡ Some e.call) × ((gs : List Group) × (e.reply ≡ reply.Groups gs))
-Shows c RefusedShut e = (call_of c ≡ Some e.call) × (e.reply ≡ reply.Shut)
-Shows c RefusedFull e = (call_of c ≡ Some e.call) × (e.reply ≡ reply.Full)
-Shows c RefusedMemory e = (call_of c ≡ Some e.call) × (e.reply ≡ reply.NoMemory)
+Shows c (Added kept late) e = (call_shown c ≡ Some e.call) × (e.reply ≡ reply.Added kept late)
+Shows c Asked e = (call_shown c ≡ Some e.call) × ((gs : List Group) × (e.reply ≡ reply.Groups gs))
+Shows c RefusedShut e = (call_shown c ≡ Some e.call) × (e.reply ≡ reply.Shut)
+Shows c RefusedFull e = (call_shown c ≡ Some e.call) × (e.reply ≡ reply.Full)
+Shows c RefusedMemory e = (call_shown c ≡ Some e.call) × (e.reply ≡ reply.NoMemory)
 Shows c (Opened n) e = (contents : Contents) × (e.call ≡ call.Open n contents)
 Shows c (Took n) e = (e.call ≡ call.Take) × (e.reply ≡ reply.Counted n)
 Shows c (Flushed n) e = e.call ≡ call.Flushed n
@@ -191,16 +191,16 @@ Tells n (s ∷ ss) [] = ⊥
 Tells n (s ∷ ss) (e ∷ es) = (s.number ≡ n) × Shows s.command s.said e × Tells (suc n) ss es
 
 -- the lines of a table show each entry of one legal history, in their order and each once
-pub record IsHistoryOf (base : TableState) (lines : List Shown) (entries : List Entry) : Type 0 where
+pub record IsHistoryOf (base : HistoryState) (lines : List Shown) (entries : List Entry) : Type 0 where
   pub legal : Legal base entries
   pub tells : Tells 1 lines entries
 
 -- The state of which a table's log was read to have so many writes: just those are known to be on the disk.
-abbrev pub as_read : TableState → ℕ → TableState
+abbrev pub as_read : HistoryState → ℕ → HistoryState
 as_read s count = record s { flushed = count }
 
 -- a table is opened with just the writes that are known to be on the disk
-abbrev pub OpenIs : TableState → Call → Type 0
+abbrev pub OpenIs : HistoryState → Call → Type 0
 OpenIs s (call.Open n contents) = n ≡ s.flushed
 OpenIs s (call.Add rows) = ⊤
 OpenIs s (call.Expire horizon) = ⊤
@@ -211,14 +211,14 @@ OpenIs s (call.Flushed n) = ⊤
 OpenIs s call.Shut = ⊤
 OpenIs s call.Done = ⊤
 
-abbrev pub OpensFlushed : TableState → List Entry → Type 0
+abbrev pub OpensFlushed : HistoryState → List Entry → Type 0
 OpensFlushed s [] = ⊤
 OpensFlushed s (e ∷ es) = OpenIs s e.call × OpensFlushed (after_entry true s e) es
 
 -- ---- the answers
 
 -- the rows of a table as they are before the entry of this number
-abbrev pub rows_before : TableState → List Entry → ℕ → List Row
+abbrev pub rows_before : HistoryState → List Entry → ℕ → List Row
 rows_before base entries number = (held (after true base (take (number - 1) entries))).rows
 
 -- the lines of an answer: the groups of the passing rows, in order, cut and printed
@@ -226,14 +226,14 @@ abbrev pub row_lines : Query → List Row → List (List ℕ)
 row_lines q rows = answer_lines q (groups q rows)
 
 -- the answer is over the rows of exactly the named leaves, each before its entry
-abbrev pub AnswersLine : (ℕ → TableState) → (ℕ → List Entry) → Query → List (ℕ × ℕ) → Line → Type 0
+abbrev pub AnswersLine : (ℕ → HistoryState) → (ℕ → List Entry) → Query → List (ℕ × ℕ) → Line → Type 0
 AnswersLine bases histories q leaves (line.Answer count of rows) =
     rows ≡ row_lines q (flat_map (λ l. rows_before (bases l.0) (histories l.0) l.1) leaves)
 AnswersLine bases histories q leaves (line.Entry l t number said) = ⊤
 AnswersLine bases histories q leaves (line.Worn l t) = ⊤
 AnswersLine bases histories q leaves (line.Ended verb l ending) = ⊤
 
-abbrev pub Answers : Fleet → (ℕ → ℕ → TableState) → (ℕ → ℕ → List Entry) → Command → List Line → Type 0
+abbrev pub Answers : Fleet → (ℕ → ℕ → HistoryState) → (ℕ → ℕ → List Entry) → Command → List Line → Type 0
 Answers fleet bases histories (command.Query q) lines =
     let table = place_of q.table fleet.names in
     AllByRecursion (AnswersLine (λ leaf. bases leaf table) (λ leaf. histories leaf table) q (named lines)) lines
@@ -338,7 +338,7 @@ WornIsLong histories c l = IfSome (worn_in c l) (λ x. 2 ^ 62 ≤ length (histor
 -- ---- all of it
 
 -- The text is what these commands print over leaves and tables that begin so, of whose logs as they read so many writes of each table stand.
-pub record Transcript (fleet : Fleet) (scene : Scene) (bases : ℕ → ℕ → TableState) (read : ℕ → ℕ → ℕ) (commands : List Command) (out : List ℕ) : Type 0 where
+pub record Transcript (fleet : Fleet) (scene : Scene) (bases : ℕ → ℕ → HistoryState) (read : ℕ → ℕ → ℕ) (commands : List Command) (out : List ℕ) : Type 0 where
   pub played : List Played
   pub histories : ℕ → ℕ → List Entry
   pub scene_after : Scene

@@ -2,7 +2,7 @@ use Rattle.std.proofs.Common.{◌≡◌, rules, IsTrue, sym, subst}
 use Rattle.region_layout.specs.declared.head.Head.TheVariants.{Version}
 use Rattle.region_layout.specs.Region.{head_of}
 use Rattle.region_layout.proofs.Heads.{closed_head}
-use Rattle.adopt.specs.Adopting.{IsOpen}
+use Rattle.adopt.specs.Adopting.{IsOpenRegion}
 use Rattle.adopt.proofs.Ending.{ended_on}
 use Rattle.adopt.proofs.Moments.{adopts_stay, adopts_after}
 use Rattle.adopt.proofs.adopting.adopt.Goals as goal
@@ -49,5 +49,5 @@ returns-in-Version-clause-moments g c =
     let told_b : IsTrue b.tells = subst IsTrue (sym c.read_front.ensures.time.tells) told in
     let laws = g.met.B.Berth g.world.𝓛 g.world.𝓜 g.world.𝓡 ((λ s x. x), (λ x. x), (λ x. x), λ x. x) in
     let opened : head_of b.held.region ≡ Version c.in-Version.version = search rules in
-    let open_flag : IsOpen b.held.region = λ closed. closed_head b.held.region closed c.in-Version.version opened in
+    let open_flag : IsOpenRegion b.held.region = λ closed. closed_head b.held.region closed c.in-Version.version opened in
     adopts_after a b d (λ p left. laws.keeps_region c.args.berth.now p told left) c.read_front.ensures.time (c.read_front.ensures.stays told) (c.adopt_version.ensures.moments told_b open_flag)

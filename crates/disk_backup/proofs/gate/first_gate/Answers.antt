@@ -1,7 +1,7 @@
 use Rattle.std.proofs.Common.{rules, ◌≡◌, ℕ, IsTrue, inl, ap, subst, sym}
 use Rattle.berth_face.specs.Berth.{Pair, Torn}
 use Rattle.berth_face.specs.Moments.{Throughout}
-use Rattle.disk_backup.specs.Scanning.{StepsFrom, Begins}
+use Rattle.disk_backup.specs.Scanning.{StepsFrom, BeginsScan}
 use Rattle.disk_backup.proofs.Beginning.{gate_first, gate_begins}
 use Rattle.disk_backup.proofs.gate.first_gate.Goals as goal
 
@@ -11,7 +11,7 @@ returns-then-len-eq0-clause-moments g c =
     let old = g.B.Berth.meaning c.args.berth.now in
     let new = g.B.Berth.meaning c.put_gate.new.berth in
     let none : c.args.len ≡ 0 = search rules in
-    subst (λ (n : ℕ). Throughout (StepsFrom (Begins n) old) old new) (sym none) (gate_first old new (c.put_gate.ensures.moments told))
+    subst (λ (n : ℕ). Throughout (StepsFrom (BeginsScan n) old) old new) (sym none) (gate_first old new (c.put_gate.ensures.moments told))
 
 pub returns-then-len-eq0-clause-held : goal.returns-then-len-eq0-clause-held
 returns-then-len-eq0-clause-held g c =

@@ -1,10 +1,10 @@
 use Rattle.std.proofs.Common.{◌≡◌, ◌∙◌, List, ℕ, length, IsTrue, sym, subst}
 use Rattle.std.proofs.lemmas.Result.{err_from_is_err_and}
 use Rattle.berth_face.specs.Berth.{Pair}
-use Rattle.disk_backup.specs.Scanning.{StepsFrom, Begins}
+use Rattle.disk_backup.specs.Scanning.{StepsFrom, BeginsScan}
 use Rattle.disk_backup.proofs.Staying.{through_stay}
 use Rattle.log_recovery.specs.declared.fault.RecoveryFault.TheVariants as fault
-use Rattle.log_recovery.specs.Recovery.{IsRefusal}
+use Rattle.log_recovery.specs.Recovery.{IsRecoveryRefusal}
 use Rattle.log_recovery.proofs.Reading.{err_is, never_refused}
 use Rattle.log_recovery.proofs.recovery.recover.Goals as goal
 
@@ -17,8 +17,8 @@ returns-in_err-log-clause-sound g c =
     let told_mid : IsTrue mid.tells = subst IsTrue (sym c.begin.ensures.time.tells) told in
     let p = err_from_is_err_and c.from_residual-in_err-log.result c.from_residual-in_err-log.ensures.1 in
     let damaged : c.in_err-log.field-0.0 ≡ fault.DiskDamaged = sym p.2 ∙ err_is p.0 fault.DiskDamaged (sym p.1 ∙ e) in
-    let refused = subst (IsRefusal names mid.held.disk) damaged (c.in_err-log.ensures.refused told_mid) in
-    never_refused names old.held.disk sound (subst (λ (d : List ℕ). IsRefusal names d fault.DiskDamaged) (c.in_ok-scan.ensures.disk told) refused)
+    let refused = subst (IsRecoveryRefusal names mid.held.disk) damaged (c.in_err-log.ensures.refused told_mid) in
+    never_refused names old.held.disk sound (subst (λ (d : List ℕ). IsRecoveryRefusal names d fault.DiskDamaged) (c.in_ok-scan.ensures.disk told) refused)
 
 pub returns-in_err-log-clause-moments : goal.returns-in_err-log-clause-moments
 returns-in_err-log-clause-moments g c =
@@ -26,7 +26,7 @@ returns-in_err-log-clause-moments g c =
     let old = g.B.Berth.meaning c.args.berth.now in
     let mid = g.B.Berth.meaning c.begin.new.berth in
     let told_mid : IsTrue mid.tells = subst IsTrue (sym c.begin.ensures.time.tells) told in
-    through_stay old mid (g.B.Berth.meaning c.read_on.new.berth) (StepsFrom (Begins (length old.held.disk)) old) (c.begin.ensures.moments told) c.read_on.ensures.time (c.read_on.ensures.stays told_mid)
+    through_stay old mid (g.B.Berth.meaning c.read_on.new.berth) (StepsFrom (BeginsScan (length old.held.disk)) old) (c.begin.ensures.moments told) c.read_on.ensures.time (c.read_on.ensures.stays told_mid)
 
 pub returns-clause-moments : goal.returns-clause-moments
 returns-clause-moments g c =
@@ -34,7 +34,7 @@ returns-clause-moments g c =
     let old = g.B.Berth.meaning c.args.berth.now in
     let mid = g.B.Berth.meaning c.begin.new.berth in
     let told_mid : IsTrue mid.tells = subst IsTrue (sym c.begin.ensures.time.tells) told in
-    through_stay old mid (g.B.Berth.meaning c.read_on.new.berth) (StepsFrom (Begins (length old.held.disk)) old) (c.begin.ensures.moments told) c.read_on.ensures.time (c.read_on.ensures.stays told_mid)
+    through_stay old mid (g.B.Berth.meaning c.read_on.new.berth) (StepsFrom (BeginsScan (length old.held.disk)) old) (c.begin.ensures.moments told) c.read_on.ensures.time (c.read_on.ensures.stays told_mid)
 
 pub returns-in_err-log-clause-held : goal.returns-in_err-log-clause-held
 returns-in_err-log-clause-held g c =
@@ -42,7 +42,7 @@ returns-in_err-log-clause-held g c =
     let old = g.B.Berth.meaning c.args.berth.now in
     let mid = g.B.Berth.meaning c.begin.new.berth in
     let told_mid : IsTrue mid.tells = subst IsTrue (sym c.begin.ensures.time.tells) told in
-    subst (λ (p : Pair). Begins (length old.held.disk) old.held.disk p.disk) (sym (c.read_on.ensures.stays told_mid).held) (c.begin.ensures.held told)
+    subst (λ (p : Pair). BeginsScan (length old.held.disk) old.held.disk p.disk) (sym (c.read_on.ensures.stays told_mid).held) (c.begin.ensures.held told)
 
 pub returns-clause-held : goal.returns-clause-held
 returns-clause-held g c =
@@ -50,4 +50,4 @@ returns-clause-held g c =
     let old = g.B.Berth.meaning c.args.berth.now in
     let mid = g.B.Berth.meaning c.begin.new.berth in
     let told_mid : IsTrue mid.tells = subst IsTrue (sym c.begin.ensures.time.tells) told in
-    subst (λ (p : Pair). Begins (length old.held.disk) old.held.disk p.disk) (sym (c.read_on.ensures.stays told_mid).held) (c.begin.ensures.held told)
+    subst (λ (p : Pair). BeginsScan (length old.held.disk) old.held.disk p.disk) (sym (c.read_on.ensures.stays told_mid).held) (c.begin.ensures.held told)

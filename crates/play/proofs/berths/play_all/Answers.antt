@@ -2,7 +2,7 @@ use Rattle.std.proofs.Common.{rules, ◌≡◌, ◌++◌, ◌∷◌, [], OnOk, I
 use Rattle.std.specs.List.{AllByRecursion}
 use Rattle.std.proofs.lemmas.List.{append-nil}
 use Rattle.transcript.specs.Steps.{MayPlay}
-use Rattle.play.specs.Played.{Keeps}
+use Rattle.play.specs.Played.{KeepsCounts}
 use Rattle.play.specs.Runs.{Advances, IsRun}
 use Rattle.play.specs.declared.berths.WriteError.TheVariants.{Failed}
 use Rattle.play.proofs.Plays.{keeps_on, run_ends, run_goes_on}
@@ -52,12 +52,12 @@ returns-in-Err-Failed-clause-write_fault g c =
 
 pub returns-in-Err-Failed-clause-keeps : goal.returns-in-Err-Failed-clause-keeps
 returns-in-Err-Failed-clause-keeps g c =
-    subst (λ b. Keeps (g.B.Berth.meaning c.args.player.berth) (g.B.Berth.meaning b)) (sym c.abandon.ensures.berth)
+    subst (λ b. KeepsCounts (g.B.Berth.meaning c.args.player.berth) (g.B.Berth.meaning b)) (sym c.abandon.ensures.berth)
     (keeps_on (g.B.Berth.meaning c.args.player.berth) (g.B.Berth.meaning c.loop-command.player.berth) (g.B.Berth.meaning c.play_next-next.result.0.berth) c.loop-command.invariant.2.keeps c.play_next-next.ensures.time)
 
 pub returns-in-Err-NoMemory-clause-keeps : goal.returns-in-Err-NoMemory-clause-keeps
 returns-in-Err-NoMemory-clause-keeps g c =
-    subst (λ b. Keeps (g.B.Berth.meaning c.args.player.berth) (g.B.Berth.meaning b)) (sym c.abandon-in-Err-NoMemory.ensures.berth)
+    subst (λ b. KeepsCounts (g.B.Berth.meaning c.args.player.berth) (g.B.Berth.meaning b)) (sym c.abandon-in-Err-NoMemory.ensures.berth)
     (keeps_on (g.B.Berth.meaning c.args.player.berth) (g.B.Berth.meaning c.loop-command.player.berth) (g.B.Berth.meaning c.play_next-next.result.0.berth) c.loop-command.invariant.2.keeps c.play_next-next.ensures.time)
 
 pub returns-clause-done : goal.returns-clause-done
@@ -73,4 +73,4 @@ returns-clause-done g c =
 
 pub returns-clause-keeps : goal.returns-clause-keeps
 returns-clause-keeps g c =
-    subst (λ b. Keeps (g.B.Berth.meaning c.args.player.berth) (g.B.Berth.meaning b)) (sym c.abandon-2.ensures.berth) c.loop-command.invariant.2.keeps
+    subst (λ b. KeepsCounts (g.B.Berth.meaning c.args.player.berth) (g.B.Berth.meaning b)) (sym c.abandon-2.ensures.berth) c.loop-command.invariant.2.keeps

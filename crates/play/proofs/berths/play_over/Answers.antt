@@ -1,6 +1,6 @@
 use Rattle.std.proofs.Common.{[], sym, subst}
 use Rattle.region_layout.specs.Names.{AreNames}
-use Rattle.play.specs.Runs.{AreTables, RunSoFar}
+use Rattle.play.specs.Runs.{AreNewTables, RunSoFar}
 use Rattle.play.proofs.Beginning.{StandsFirst, alike, ready, run_begins, same_tables}
 use Rattle.play.proofs.berths.play_over.Goals as goal
 
@@ -22,7 +22,7 @@ play_all-requires-clause-begun g c κs within =
     let was = g.K.Sink.written c.args.sink.now in
     subst (λ ns. RunSoFar (g.N.Bases.base player.berth) ns m m was was [] player.leaf player.callers) c.in-Ok.ensures
     (run_begins m was player.leaf player.callers (subst AreNames (sym c.in-Ok.ensures) c.requires.names)
-    (subst (λ b. AreTables (g.N.Bases.base b) c.in-Ok.copy c.leaf.result.now c.in-Ok-leaf_tables.leaf.stewards.items c.in-Ok-leaf_tables.leaf.callers.items) (sym made.berth)
+    (subst (λ b. AreNewTables (g.N.Bases.base b) c.in-Ok.copy c.leaf.result.now c.in-Ok-leaf_tables.leaf.stewards.items c.in-Ok-leaf_tables.leaf.callers.items) (sym made.berth)
     (same_tables c.in-Ok.ensures c.leaf.ensures c.in-Ok-leaf_tables.ensures.tables))
     (g.met.N.Bases.is_base player.berth)
     made.down made.callers

@@ -3,7 +3,7 @@ use Rattle.berth_face.specs.Berth.{Passes}
 use Rattle.printed_lines.specs.declared.line.Ending.TheVariants.{Stopped}
 use Rattle.transcript.specs.Stage.{IsDown, IsPreparing}
 use Rattle.player.specs.Moves as move
-use Rattle.player.specs.Moves.{Drains, berth_left}
+use Rattle.player.specs.Moves.{DrainsWithLines, berth_left}
 use Rattle.player.proofs.Joined.{drain_copied, drain_stopped, drain_halted, drain_starved, drain_roomless, drain_keeps}
 use Rattle.player.proofs.drain.drain.Goals as goal
 
@@ -36,7 +36,7 @@ returns-in-Stopped-clause-drains g c = λ before shuts.
     let killed = c.killed-down.ensures.killed in
     let y = c.in-Stopped.leaf in
     let here = subst (λ b. move.IsKilled y.0 down.0.0 killed.0 (meaning y.1) (meaning b)) c.killed-down.ensures.berth killed.1 in
-    subst (λ b. Drains m (meaning b) before c.args.stop Stopped down.1 (IsDown down.0.0)) (sym c.killed-down.ensures.berth)
+    subst (λ b. DrainsWithLines m (meaning b) before c.args.stop Stopped down.1 (IsDown down.0.0)) (sym c.killed-down.ensures.berth)
     (drain_stopped meaning x m before c.args.stop left lines shuts y down.0.0 down.1 killed.0 shut here killed.2)
 
 pub returns-in-Stopped-clause-keeps : goal.returns-in-Stopped-clause-keeps

@@ -1,6 +1,6 @@
 use Rattle.std.proofs.Common.{◌++◌, take, subst, sym, ap, ap₂, ◌∙◌}
 use Rattle.std.specs.Int.{w64, to_le_bytes}
-use Rattle.bit_columns.specs.Number.{number, Written, AreBytes}
+use Rattle.bit_columns.specs.Number.{number, WrittenBits, AreBytes}
 use Rattle.bit_columns.proofs.Numbers.{AreBytes-append, AreBytes-take, AreBytes-to_le_bytes}
 use Rattle.bit_columns.proofs.Writing.{written_last}
 use Rattle.bit_columns.proofs.packing.BitWriter.finish.Goals as goal
@@ -12,7 +12,7 @@ returns-clause-value c =
     ∙ ap₂ (λ n word. inside.bytes.items ++ take n word) c.div_ceil-used.ensures c.to_le_bytes.ensures in
     ap number items
     ∙ written_last inside.bytes.items inside.waiting inside.count c.self.invariant.few c.self.invariant.below (AreBytes-to_le_bytes inside.waiting)
-    ∙ ap (λ (w : Written). w.value) c.self.view_is
+    ∙ ap (λ (w : WrittenBits). w.value) c.self.view_is
 
 pub returns-clause-bytes : goal.returns-clause-bytes
 returns-clause-bytes c =

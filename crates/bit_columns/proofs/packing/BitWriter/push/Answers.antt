@@ -2,7 +2,7 @@ use Rattle.std.proofs.Common.{◌≡◌, ◌+◌, ◌-◌, ◌*◌, ◌%◌, ◌
 use Rattle.std.proofs.Math.Nat.{pow-le-pow_right}
 use Rattle.std.proofs.lemmas.Nat.{shr_below}
 use Rattle.std.specs.Int.{w64, to_le_bytes}
-use Rattle.bit_columns.specs.Number.{number, Written, AreBytes}
+use Rattle.bit_columns.specs.Number.{number, WrittenBits, AreBytes}
 use Rattle.bit_columns.proofs.Numbers.{AreBytes-append, AreBytes-to_le_bytes}
 use Rattle.bit_columns.proofs.Writing.{above_lt, written_waiting, written_word}
 use Rattle.bit_columns.proofs.packing.BitWriter.push.Goals as goal
@@ -40,7 +40,7 @@ returns-then-count-lt64-clause-value c =
     let whole : c.low_word-self-inside.result ≡ value * 2 ^ inside.count + inside.waiting = omega (arith, c.low_word-self-inside.ensures, c.above-all.ensures) in
     ap (λ n. number inside.bytes.items + n * 2 ^ size) whole
     ∙ written_waiting (number inside.bytes.items) inside.waiting value inside.count size
-    ∙ ap (λ (w : Written). w.value + value * 2 ^ w.bits) c.self.view_is
+    ∙ ap (λ (w : WrittenBits). w.value + value * 2 ^ w.bits) c.self.view_is
 
 pub returns-in_ok-extend_from_slice-clause-value : goal.returns-in_ok-extend_from_slice-clause-value
 returns-in_ok-extend_from_slice-clause-value c =
@@ -54,4 +54,4 @@ returns-in_ok-extend_from_slice-clause-value c =
     ∙ written_word inside.bytes.items all
     ∙ ap (λ n. number inside.bytes.items + n * 2 ^ size) c.above-all.ensures
     ∙ written_waiting (number inside.bytes.items) inside.waiting value inside.count size
-    ∙ ap (λ (w : Written). w.value + value * 2 ^ w.bits) c.self.view_is
+    ∙ ap (λ (w : WrittenBits). w.value + value * 2 ^ w.bits) c.self.view_is

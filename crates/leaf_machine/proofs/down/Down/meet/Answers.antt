@@ -2,7 +2,7 @@ use Rattle.std.proofs.Common.{◌≡◌, ◌<◌, length, false, subst, sym, ap}
 use Rattle.leaf_history.specs.History.{LegalFrom}
 use Rattle.turnstile.specs.Seats.{IsSeatOf, LearnsOthers, Told}
 use Rattle.leaf_table.specs.Turns.{is_founded, start_of}
-use Rattle.leaf_table.specs.Calls.{SeatView, base_of, seen_of}
+use Rattle.leaf_table.specs.Calls.{SeatView, base_seen, seen_of}
 use Rattle.crash_states.specs.Standing.{Rests}
 use Rattle.leaf_steward.specs.Seated.{Seated, AreFounded, AtPlace, watched_by, with_seat}
 use Rattle.leaf_machine.proofs.UpOwing.{founded_as}
@@ -11,7 +11,7 @@ use Rattle.leaf_machine.proofs.down.Down.meet.Goals as goal
 
 pub meet-requires-clause-seat : goal.meet-requires-clause-seat
 meet-requires-clause-seat g c =
-    subst (λ s. AtPlace (λ t v. IsSeatOf c.args.seat.now t.site × LegalFrom (is_founded (base_of t)) (start_of (base_of t)) (seen_of c.args.seat.now)) s.0 c.args.table) (sym c.self.view_is) c.requires.seat
+    subst (λ s. AtPlace (λ t v. IsSeatOf c.args.seat.now t.site × LegalFrom (is_founded (base_seen t)) (start_of (base_seen t)) (seen_of c.args.seat.now)) s.0 c.args.table) (sym c.self.view_is) c.requires.seat
 
 pub invariant_of-self : goal.invariant_of-self
 invariant_of-self g c =
@@ -30,7 +30,7 @@ invariant_of-self g c =
 pub returns-clause-learns : goal.returns-clause-learns
 returns-clause-learns g c =
     subst (λ s. AtPlace (λ t v. (w : SeatView) × ((c.meet.new.self, c.self.inside.berth) ≡ (with_seat s.0 c.args.table w, s.1))
-    × Told v c.args.seat.now w × LearnsOthers v w × LegalFrom (is_founded (base_of t)) (start_of (base_of t)) (seen_of w)) s.0 c.args.table) c.self.view_is
+    × Told v c.args.seat.now w × LearnsOthers v w × LegalFrom (is_founded (base_seen t)) (start_of (base_seen t)) (seen_of w)) s.0 c.args.table) c.self.view_is
     (λ t v at sat.
     let learned = c.meet.ensures.learns t v at sat in
     (learned.0, ap (λ (s : Seated). (s, c.self.inside.berth)) learned.1, learned.2, learned.3, learned.4))
@@ -38,7 +38,7 @@ returns-clause-learns g c =
 pub returns-clause-seat : goal.returns-clause-seat
 returns-clause-seat g c =
     subst (λ s. AtPlace (λ t v. IsSeatOf c.meet.new.seat t.site × Told c.args.seat.now v c.meet.new.seat × LearnsOthers c.args.seat.now c.meet.new.seat
-    × LegalFrom (is_founded (base_of t)) (start_of (base_of t)) (seen_of c.meet.new.seat)) s.0 c.args.table) c.self.view_is c.meet.ensures.seat
+    × LegalFrom (is_founded (base_seen t)) (start_of (base_seen t)) (seen_of c.meet.new.seat)) s.0 c.args.table) c.self.view_is c.meet.ensures.seat
 
 pub returns-clause-rests : goal.returns-clause-rests
 returns-clause-rests g c = λ others least next founded rests.

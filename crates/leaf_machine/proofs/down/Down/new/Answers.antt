@@ -1,7 +1,7 @@
 use Rattle.std.proofs.Common.{◌≡◌, subst, sym}
-use Rattle.crash_events.specs.Left.{Tables}
+use Rattle.crash_events.specs.Left.{NamedStates}
 use Rattle.leaf_table.specs.Turns.{start_of}
-use Rattle.leaf_table.specs.Calls.{base_of, name_of}
+use Rattle.leaf_table.specs.Calls.{base_seen, name_of}
 use Rattle.leaf_steward.specs.Seated.{Seated, AreFounded, AtEach, IsUnused}
 use Rattle.leaf_machine.specs.States.{MayBegin}
 use Rattle.leaf_machine.proofs.DownMaking.{new_rests}
@@ -14,7 +14,7 @@ invariant_of-result g c =
     record {
       shut = λ place t v at sat. (unused place t v at sat).shut;
       stands = λ founded.
-          let ready = subst (λ (s : Seated). AreFounded s → (base : Tables) × MayBegin base m × AtEach (λ place t v. start_of (base_of t) ≡ base (name_of t)) s) (sym c.new-seats.ensures) c.requires.ready founded in
+          let ready = subst (λ (s : Seated). AreFounded s → (base : NamedStates) × MayBegin base m × AtEach (λ place t v. start_of (base_seen t) ≡ base (name_of t)) s) (sym c.new-seats.ensures) c.requires.ready founded in
           let rests = new_rests c.new-seats.result ready.0 m c.sits.ensures unused ready.1 ready.2 in
           (ready.1.0, (ready.0, rests.0, rests.1, rests.2));
     }

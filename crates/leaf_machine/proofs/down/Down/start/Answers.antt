@@ -3,7 +3,7 @@ use Rattle.std.specs.Prelude.{IsTrue, ◌≢◌, Err}
 use Rattle.leaf_model.specs.declared.writes.Write.{Write}
 use Rattle.berth_face.specs.Causes.{Rose}
 use Rattle.berth_face.specs.Berth.{Meaning}
-use Rattle.disk_backup.specs.Scanning.{Begins}
+use Rattle.disk_backup.specs.Scanning.{BeginsScan}
 use Rattle.leaf_opening.specs.Starts.{IsWayOf, Started, serving_of}
 use Rattle.leaf_table.specs.Calls.{IsFresh}
 use Rattle.crash_moments.specs.Told.{Told}
@@ -15,7 +15,7 @@ use Rattle.log_steward.specs.Owing.{Owing}
 use Rattle.leaf_machine.specs.declared.faults.StartFault.{StartFault}
 use Rattle.leaf_machine.specs.declared.faults.StartFault.TheVariants as fault
 use Rattle.leaf_machine.specs.States.{IsUp}
-use Rattle.leaf_machine.specs.Starts.{IsRefused, IsStart}
+use Rattle.leaf_machine.specs.Starts.{IsStartRefused, IsStart}
 use Rattle.leaf_machine.proofs.StartMakes.{makes_from, makes_names, makes_none}
 use Rattle.leaf_machine.proofs.StartFaults.{refused_as, start_as, told_disk, told_region}
 use Rattle.leaf_machine.proofs.StartOpening.{StartOpened, may_hand, opened_count, start_opened, start_runs}
@@ -25,7 +25,7 @@ use Rattle.leaf_machine.proofs.down.Down.start.Goals as goal
 
 -- the disk reads as before, or its first byte was written
 abbrev DiskBegins : Meaning → Meaning → Type 0
-DiskBegins m n = Begins (length m.held.disk) m.held.disk n.held.disk
+DiskBegins m n = BeginsScan (length m.held.disk) m.held.disk n.held.disk
 
 -- ---- a seat is worn
 
@@ -184,9 +184,9 @@ returns-in-Err-clause-refused g c =
     let m = g.B.Berth.meaning c.self.inside.berth in
     let n = g.B.Berth.meaning c.open_tables.new.berth in
     let told : IsTrue m.tells = subst (λ l. IsTrue (g.B.Berth.meaning l.1).tells) (sym c.self.view_is) told_now in
-    let refused : IsRefused c.names.result.now m n c.told.result = refused_as c.in-Err.fault c.told.result c.told.ensures c.names.result.now m n (c.in-Err.ensures.refused told) in
-    subst (λ l. IsRefused l.0.names (g.B.Berth.meaning l.1) n c.told.result) c.self.view_is
-    (subst (λ (names : List (List ℕ)). IsRefused names m n c.told.result) c.names.ensures refused)
+    let refused : IsStartRefused c.names.result.now m n c.told.result = refused_as c.in-Err.fault c.told.result c.told.ensures c.names.result.now m n (c.in-Err.ensures.refused told) in
+    subst (λ l. IsStartRefused l.0.names (g.B.Berth.meaning l.1) n c.told.result) c.self.view_is
+    (subst (λ (names : List (List ℕ)). IsStartRefused names m n c.told.result) c.names.ensures refused)
 
 pub returns-in-Err-clause-crash : goal.returns-in-Err-clause-crash
 returns-in-Err-clause-crash g c =

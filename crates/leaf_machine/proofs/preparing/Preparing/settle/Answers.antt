@@ -1,7 +1,7 @@
 use Rattle.std.proofs.Common.{rules, subst}
 use Rattle.std.specs.Prelude.{IsOk, IsErr}
 use Rattle.leaf_machine.specs.States.{Serving, Shutting}
-use Rattle.leaf_machine.specs.PrepParts.{IsPart}
+use Rattle.leaf_machine.specs.PrepParts.{IsPartOfStep}
 use Rattle.leaf_machine.proofs.PrepSettles.{settle_part, settle_stands, settled_is, stuck_is}
 use Rattle.leaf_machine.proofs.preparing.Preparing.settle.Goals as goal
 
@@ -21,7 +21,7 @@ returns-in_err-settle_owed-clause-part g c =
     let y : Serving = record { seated = c.settle_owed.new.seats; owing = c.settle_owed.new.self } in
     let m' = g.B.Berth.meaning c.settle_owed.new.berth in
     let says = c.settle_owed.ensures in
-    subst (λ v. IsPart v.0.serving y c.args.notes.now c.settle_owed.new.notes (g.B.Berth.meaning v.1) m') c.self.view_is
+    subst (λ v. IsPartOfStep v.0.serving y c.args.notes.now c.settle_owed.new.notes (g.B.Berth.meaning v.1) m') c.self.view_is
     (settle_part x y.seated y.owing (g.B.Berth.meaning c.self.inside.berth) m' c.args.notes.now c.settle_owed.new.notes c.settle_owed.result says.settles says.runs says.time says.region says.reads)
 
 pub invariant_of-self-2 : goal.invariant_of-self-2
@@ -40,5 +40,5 @@ returns-clause-part g c =
     let y : Serving = record { seated = c.settle_owed.new.seats; owing = c.settle_owed.new.self } in
     let m' = g.B.Berth.meaning c.settle_owed.new.berth in
     let says = c.settle_owed.ensures in
-    subst (λ v. IsPart v.0.serving y c.args.notes.now c.settle_owed.new.notes (g.B.Berth.meaning v.1) m') c.self.view_is
+    subst (λ v. IsPartOfStep v.0.serving y c.args.notes.now c.settle_owed.new.notes (g.B.Berth.meaning v.1) m') c.self.view_is
     (settle_part x y.seated y.owing (g.B.Berth.meaning c.self.inside.berth) m' c.args.notes.now c.settle_owed.new.notes c.settle_owed.result says.settles says.runs says.time says.region says.reads)

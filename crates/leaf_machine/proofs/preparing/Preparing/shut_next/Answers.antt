@@ -1,13 +1,13 @@
 use Rattle.std.proofs.Common.{rules, ◌≡◌, ◌≤◌, ◌++◌, ◌∷◌, ℕ, Bool, false, true, List, [], length, None, sym, ap, subst, ◌∙◌}
 use Rattle.std.specs.Prelude.{IsOk, IsErr}
 use Rattle.table_state.specs.Tables.{Table}
-use Rattle.leaf_table.specs.Calls.{base_of, state_seen}
+use Rattle.leaf_table.specs.Calls.{base_seen, state_seen}
 use Rattle.leaf_steward.specs.declared.notes.Note.{Note}
 use Rattle.leaf_steward.specs.Seated.{Seated, AreSeated, AtPlace}
 use Rattle.log_steward.specs.Owing.{Owing, Brings}
 use Rattle.leaf_machine.specs.States.{Serving, Shutting, IsShutting}
 use Rattle.leaf_machine.specs.Prepares.{Halts, Treats}
-use Rattle.leaf_machine.specs.PrepParts.{IsPart}
+use Rattle.leaf_machine.specs.PrepParts.{IsPartOfStep}
 use Rattle.leaf_machine.proofs.PrepJoins.{part_none}
 use Rattle.leaf_machine.proofs.PrepShuts.{brought_is, brought_part, brought_treats, count_then, halted_halts, halted_is, one_spare}
 use Rattle.leaf_machine.proofs.preparing.Preparing.shut_next.Goals as goal
@@ -16,7 +16,7 @@ pub returns-then-is_err-clause-part : goal.returns-then-is_err-clause-part
 returns-then-is_err-clause-part g c =
     let x : Serving = record { seated = c.self.inside.seats; owing = c.self.inside.log } in
     let m = g.B.Berth.meaning c.self.inside.berth in
-    subst (λ v. IsPart v.0.serving x c.args.notes.now c.args.notes.now (g.B.Berth.meaning v.1) m) c.self.view_is (part_none x c.args.notes.now m)
+    subst (λ v. IsPartOfStep v.0.serving x c.args.notes.now c.args.notes.now (g.B.Berth.meaning v.1) m) c.self.view_is (part_none x c.args.notes.now m)
 
 pub bring-brought-requires-clause-taken : goal.bring-brought-requires-clause-taken
 bring-brought-requires-clause-taken g c κs within =
@@ -31,7 +31,7 @@ bring-brought-requires-clause-taken g c κs within =
     let now : Table = c.take_pending-pending.new.self in
     let taken = c.take_pending-pending.result in
     let y : Seated = c.shut-table.new.self in
-    subst (λ (n : ℕ). AtPlace (λ u s. n ≤ (state_seen (base_of u) s).taken) y place) (sym c.writes-writes.ensures)
+    subst (λ (n : ℕ). AtPlace (λ u s. n ≤ (state_seen (base_seen u) s).taken) y place) (sym c.writes-writes.ensures)
     (count_then x m c.self.invariant sits none place shut.0 next t now taken y shut.1 c.take_pending-pending.ensures)
 
 pub bring-brought-requires-clause-spares : goal.bring-brought-requires-clause-spares
@@ -124,7 +124,7 @@ returns-then-is_err-2-clause-part g c =
     let mid : List Note = c.shut-table.new.notes in
     let new : List Note = c.bring-brought.new.notes in
     let brings = subst (λ (n : ℕ). Brings m'.clock y x.serving.owing place n taken mid result z o new) c.writes-writes.ensures c.bring-brought.ensures.brings in
-    subst (λ v. IsPart v.0.serving (record { seated = z; owing = o }) old new (g.B.Berth.meaning v.1) m') c.self.view_is
+    subst (λ v. IsPartOfStep v.0.serving (record { seated = z; owing = o }) old new (g.B.Berth.meaning v.1) m') c.self.view_is
     (brought_part x m c.self.invariant sits none place shut.0 next t now taken y shut.1 c.take_pending-pending.ensures m' z o result old mid new shut.2 brings c.bring-brought.ensures.time c.bring-brought.ensures.runs c.bring-brought.ensures.region c.bring-brought.ensures.reads)
 
 pub invariant_of-self-else-is_err-2 : goal.invariant_of-self-else-is_err-2
@@ -205,5 +205,5 @@ returns-clause-part g c =
     let mid : List Note = c.shut-table.new.notes in
     let new : List Note = c.bring-brought.new.notes in
     let brings = subst (λ (n : ℕ). Brings m'.clock y x.serving.owing place n taken mid result z o new) c.writes-writes.ensures c.bring-brought.ensures.brings in
-    subst (λ v. IsPart v.0.serving (record { seated = z; owing = o }) old new (g.B.Berth.meaning v.1) m') c.self.view_is
+    subst (λ v. IsPartOfStep v.0.serving (record { seated = z; owing = o }) old new (g.B.Berth.meaning v.1) m') c.self.view_is
     (brought_part x m c.self.invariant sits none place shut.0 next t now taken y shut.1 c.take_pending-pending.ensures m' z o result old mid new shut.2 brings c.bring-brought.ensures.time c.bring-brought.ensures.runs c.bring-brought.ensures.region c.bring-brought.ensures.reads)

@@ -1,5 +1,5 @@
 use Rattle.std.proofs.Common.{◌≤◌, rules}
-use Rattle.leaf_table.specs.Calls.{base_of, state_seen}
+use Rattle.leaf_table.specs.Calls.{base_seen, state_seen}
 use Rattle.leaf_steward.specs.declared.notes.What.TheVariants as what
 use Rattle.leaf_steward.proofs.Seating.{sits_at, there, steward_at, seated_after, enters}
 use Rattle.leaf_steward.proofs.seats.Seats.flushed.Goals as goal
@@ -11,7 +11,7 @@ pub flushed-number-requires-clause-steward : goal.flushed-number-requires-clause
 flushed-number-requires-clause-steward g c κs within = steward_at (sits_at c.self.view_is c.self.invariant _ c.index-self-place.result _ c.requires.table c.index_mut.ensures.value) c.self.view_is c.requires.spares
 
 pub flushed-number-requires-clause-taken : goal.flushed-number-requires-clause-taken
-flushed-number-requires-clause-taken g c κs within = there (λ t v. c.args.writes ≤ (state_seen (base_of t) v).taken) (sits_at c.self.view_is c.self.invariant _ c.index-self-place.result _ c.requires.table c.index_mut.ensures.value) c.self.view_is c.requires.taken
+flushed-number-requires-clause-taken g c κs within = there (λ t v. c.args.writes ≤ (state_seen (base_seen t) v).taken) (sits_at c.self.view_is c.self.invariant _ c.index-self-place.result _ c.requires.table c.index_mut.ensures.value) c.self.view_is c.requires.taken
 
 pub invariant_of-self : goal.invariant_of-self
 invariant_of-self g c = seated_after (sits_at c.self.view_is c.self.invariant _ c.index-self-place.result _ c.requires.table c.index_mut.ensures.value) c.self.invariant c.flushed-number.ensures.made

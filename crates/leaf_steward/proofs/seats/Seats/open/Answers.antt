@@ -1,6 +1,6 @@
 use Rattle.std.proofs.Common.{arith, rules}
 use Rattle.leaf_table.specs.Turns.{is_founded, MayHandIn}
-use Rattle.leaf_table.specs.Calls.{base_of, state_seen, IsFresh}
+use Rattle.leaf_table.specs.Calls.{base_seen, state_seen, IsFresh}
 use Rattle.leaf_steward.specs.declared.notes.What.TheVariants as what
 use Rattle.leaf_steward.specs.Seated.{IsOpen, IsShut, Spares}
 use Rattle.leaf_steward.proofs.Seating.{sits_at, there, there_now, fresh_at, seated_after, spares_after, enters}
@@ -18,7 +18,7 @@ reopen-requires-clause-shut g c κs within = there IsShut (sits_at c.self.view_i
 pub reopen-requires-clause-content : goal.reopen-requires-clause-content
 reopen-requires-clause-content g c κs within =
     let h = sits_at c.self.view_is c.self.invariant _ c.index-self-place.result _ c.requires.table c.index_mut.ensures.value in
-    let asked = there (λ t v. MayHandIn (is_founded (base_of t)) (state_seen (base_of t) v) c.args.content.writes c.args.content) h c.self.view_is c.requires.content in
+    let asked = there (λ t v. MayHandIn (is_founded (base_seen t)) (state_seen (base_seen t) v) c.args.content.writes c.args.content) h c.self.view_is c.requires.content in
     search rules
 
 pub unreachable-requires : goal.unreachable-requires

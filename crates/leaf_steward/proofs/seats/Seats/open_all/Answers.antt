@@ -1,7 +1,7 @@
 use Rattle.std.proofs.Common.{◌≡◌, slice_get, Some, refl, arith, rules}
 use Rattle.table_state.specs.Tables.{Table}
 use Rattle.leaf_table.specs.Turns.{is_founded, MayHandIn}
-use Rattle.leaf_table.specs.Calls.{base_of, state_seen}
+use Rattle.leaf_table.specs.Calls.{base_seen, state_seen}
 use Rattle.leaf_steward.proofs.Seating.{few_tables}
 use Rattle.leaf_steward.proofs.Passing.{IsRunning, passed_none, passed_more, passed_all, still, opened_more, opened_fit, pop_next, none_left}
 use Rattle.leaf_steward.proofs.seats.Seats.open_all.Goals as goal
@@ -17,7 +17,7 @@ loop-content-init g c = record {
 pub open-requires-clause-content : goal.open-requires-clause-content
 open-requires-clause-content g c κs within =
     let next = pop_next c.args.tables.items c.loop-content.rest.items c.pop_front.new.self.items c.loop-content.table c.in-Some.content c.loop-content.invariant.rest c.in-Some.ensures.items in
-    λ t v at seat. still IsRunning (λ p t v. (table : Table) → slice_get c.args.tables.items p ≡ Some table → MayHandIn (is_founded (base_of t)) (state_seen (base_of t) v) table.writes table)
+    λ t v at seat. still IsRunning (λ p t v. (table : Table) → slice_get c.args.tables.items p ≡ Some table → MayHandIn (is_founded (base_seen t)) (state_seen (base_seen t) v) table.writes table)
     _ 0 c.args.self.now c.loop-content.table c.loop-content.notes c.loop-content.self c.loop-content.invariant.passed (λ p t v at seat table is. c.requires.content p t v table at seat is) t v at seat c.in-Some.content next.at
 
 pub open-requires-clause-room : goal.open-requires-clause-room

@@ -1,5 +1,5 @@
 use Rattle.std.proofs.Common.{length, ap, subst, ◌∙◌, ◌≡◌, arith}
-use Rattle.crash_events.specs.Left.{Tables}
+use Rattle.crash_events.specs.Left.{NamedStates}
 use Rattle.leaf_steward.specs.Seated.{AreFounded}
 use Rattle.transcript.specs.Stage.{Stands}
 use Rattle.player.specs.Stage.{Called, berth_of, seats_of, state_of}
@@ -15,7 +15,7 @@ loop-place-preserved g c =
     record {
       met = meet_more was.place (state_of c.args.leaf.now) (state_of was.leaf) (state_of then.new.leaf) c.args.self.now.seats was.self.seats then.new.self.seats
           (g.B.Berth.meaning (berth_of c.args.leaf.now)) so_far.met then.ensures.met
-          (subst (λ b. (base : Tables) → AreFounded (seats_of was.leaf) → Stands base (state_of was.leaf) (g.B.Berth.meaning b) → Stands base (state_of then.new.leaf) (g.B.Berth.meaning b))
+          (subst (λ b. (base : NamedStates) → AreFounded (seats_of was.leaf) → Stands base (state_of was.leaf) (g.B.Berth.meaning b) → Stands base (state_of then.new.leaf) (g.B.Berth.meaning b))
           so_far.berth then.ensures.stands);
       berth = then.ensures.berth ∙ so_far.berth;
       keeps = keeps_on (seats_of c.args.leaf.now) (seats_of was.leaf) (seats_of then.new.leaf) so_far.keeps
