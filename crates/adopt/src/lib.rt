@@ -5,8 +5,6 @@ mod adopting;
 mod found;
 mod region;
 mod tables;
-#[cfg(test)]
-mod tests;
 
 pub use adopting::adopt;
 pub use found::{AdoptFault, Adopted, Found, WhyDisk};

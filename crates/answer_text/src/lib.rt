@@ -5,8 +5,6 @@ mod answer;
 mod list;
 mod order;
 mod print;
-#[cfg(test)]
-mod tests;
 
 pub use answer::lines;
 pub use list::Lines;

@@ -10,7 +10,3 @@ mod whole;
 pub use berth::FileBerth;
 pub use standard::{StdSink, StdSource};
 
-#[cfg(test)]
-mod standard_tests;
-#[cfg(test)]
-mod tests;

@@ -13,5 +13,3 @@ pub use berth::MemBerth;
 pub use faults::{Fail, Fails, Method};
 pub use stream::{MemSink, MemSource};
 
-#[cfg(test)]
-mod tests;

@@ -6,8 +6,6 @@ mod limit;
 mod packed;
 mod packing;
 mod presence;
-#[cfg(test)]
-mod tests;
 mod width;
 mod words;
 

@@ -10,16 +10,10 @@ mod integers;
 mod kind;
 mod laws;
 mod slots;
-#[cfg(test)]
-mod tests;
-#[cfg(test)]
-mod tests_read;
 mod text_codes;
 mod text_set;
 mod texts;
 mod value;
-#[cfg(test)]
-mod vectors;
 mod view;
 mod writer;
 

@@ -5,8 +5,6 @@ mod decode;
 mod difference;
 mod encode;
 mod lists;
-#[cfg(test)]
-mod tests;
 
 pub use decode::undo_all;
 pub use difference::{undo, zigzag};

@@ -9,8 +9,6 @@ mod log;
 mod reader;
 mod scan;
 mod step;
-#[cfg(test)]
-mod tests;
 
 pub use fault::{DiskFault, LogFault};
 pub use laws::logs_are_read_once;

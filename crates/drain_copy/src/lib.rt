@@ -4,8 +4,6 @@
 mod drain;
 mod region;
 mod step;
-#[cfg(test)]
-mod tests;
 
 pub use drain::Drain;
 pub use step::{DrainStep, Next, RegionFault};

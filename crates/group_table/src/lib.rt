@@ -13,5 +13,3 @@ mod tables;
 pub use fold::fold_rows;
 pub use join::merge;
 
-#[cfg(test)]
-mod tests;

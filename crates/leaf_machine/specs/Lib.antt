@@ -6,4 +6,3 @@ pub mod Prepares
 pub mod Copies
 pub mod PrepParts
 pub mod Leaving
-pub mod Trying

@@ -7,8 +7,6 @@ mod faults;
 mod laws;
 mod preparing;
 mod start;
-#[cfg(test)]
-mod tests;
 mod up;
 
 pub use copying::{Copied, Copying, RegionFault};

@@ -5,8 +5,6 @@ mod groups;
 mod queries;
 mod rows;
 mod steps;
-#[cfg(test)]
-mod tests;
 mod text;
 mod writes;
 

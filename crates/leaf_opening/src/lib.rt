@@ -3,8 +3,6 @@
 
 mod laws;
 mod opening;
-#[cfg(test)]
-mod tests;
 mod ways;
 
 pub use adopt::WhyDisk;

@@ -4,8 +4,6 @@
 mod entries;
 mod notes;
 mod seats;
-#[cfg(test)]
-mod tests;
 
 pub use notes::{Note, Notes, What};
 pub use seats::Seats;

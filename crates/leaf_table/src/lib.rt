@@ -4,15 +4,9 @@
 mod base;
 mod callers;
 mod fleet;
-#[cfg(test)]
-mod fleet_tests;
 mod replies;
 mod shared;
 mod steward;
-#[cfg(test)]
-mod tests;
-#[cfg(test)]
-mod thread_tests;
 mod turns;
 mod value;
 

@@ -5,8 +5,6 @@ mod apply;
 mod fault;
 mod recovered;
 mod recovery;
-#[cfg(test)]
-mod tests;
 
 pub use fault::RecoveryFault;
 pub use recovered::{Recovered, Tables};

@@ -14,4 +14,3 @@ pub mod NoteTables
 pub mod CommandLines
 pub mod CommandSteps
 pub mod Beginning
-pub mod Tested

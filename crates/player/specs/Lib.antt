@@ -1,4 +1,3 @@
 pub mod Steps
 pub mod Stage
 pub mod Moves
-pub mod Trying

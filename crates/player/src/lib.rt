@@ -9,7 +9,5 @@ mod entries;
 mod leaf;
 mod player;
 mod steps;
-#[cfg(test)]
-mod tests;
 
 pub use player::Player;

@@ -4,8 +4,6 @@
 mod line;
 mod parts;
 mod put;
-#[cfg(test)]
-mod tests;
 
 pub use line::{Ending, Line, Said, Verb};
 pub use put::{put_line, put_lines};

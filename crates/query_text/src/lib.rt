@@ -14,8 +14,6 @@ mod roles;
 mod scanner;
 mod spellings;
 mod steps;
-#[cfg(test)]
-mod tests;
 mod tokens;
 
 pub use fault::QueryFault;

@@ -7,8 +7,6 @@ mod image;
 mod image_reader;
 mod image_writer;
 mod laws;
-#[cfg(test)]
-mod tests;
 
 pub use head::{Head, LAYOUT, head_rest, read_head};
 pub use image::{Image, TableImage, TableImages};

@@ -2,7 +2,5 @@
 #![tactic(auto)]
 
 mod object;
-#[cfg(test)]
-mod tests;
 
 pub use object::{RowFault, row, row_meaning};

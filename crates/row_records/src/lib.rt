@@ -7,8 +7,6 @@ mod record_reader;
 mod record_writer;
 mod row_reader;
 mod row_writer;
-#[cfg(test)]
-mod tests;
 
 pub use pending::Pending;
 pub use record_reader::read_record;

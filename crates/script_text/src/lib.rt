@@ -11,8 +11,6 @@ mod later;
 mod lines;
 mod query;
 mod script;
-#[cfg(test)]
-mod tests;
 mod verb;
 mod words;
 

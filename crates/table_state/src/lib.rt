@@ -5,8 +5,6 @@ mod fault;
 mod held;
 mod parts;
 mod table;
-#[cfg(test)]
-mod tests;
 
 pub use fault::{AddFault, Added};
 pub use parts::Parts;

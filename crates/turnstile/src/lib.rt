@@ -5,8 +5,6 @@ mod object;
 mod plays;
 mod seat;
 mod steps;
-#[cfg(test)]
-mod tests;
 mod turnstile;
 mod view;
 

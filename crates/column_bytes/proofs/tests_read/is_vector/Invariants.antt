@@ -1,4 +1,0 @@
-use Rattle.column_bytes.proofs.tests_read.is_vector.Given as goal
-
-abbrev pub ghosts-is_vector_counted : goal.ghosts-is_vector_counted
-ghosts-is_vector_counted a = record { name = a.blank.name; parts = a.blank.parts }
