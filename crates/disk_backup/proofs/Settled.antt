@@ -102,11 +102,6 @@ module _ (log : LogState) (r : LogRecord) (is : IsRecord r) (owed : log.owed ≡
 
 -- ---- of a log that owes nothing
 
-pub settled_none : {T E : Type 0} (log later : LogState) (result : Result T E) (m : Meaning) → log.owed ≡ None → IsOk result → Settled log later result m m
-settled_none log later result m none good = record {
-  moments = started m (Comes log (WithOrWithout log) m) (λ p left. record { from = p; before = left; region = inl refl; disk = λ records had. inl (plain records p.disk had) });
-  ok = on_ok result (λ p left. record { from = p; before = left; region = inl refl; disk = λ records had. whole records p.disk had });
-  err = on_err_ok (EachNow (Comes log (HoldsLog later) m) m) result good;
 }
   where
     plain : (records : List LogRecord) (disk : List ℕ) → HoldsLog log records disk → ClosedLog records log.end disk
@@ -118,11 +113,6 @@ settled_none log later result m none good = record {
     whole : (records : List LogRecord) (disk : List ℕ) → HoldsLog log records disk → WithOwed log records disk
     whole records disk had =
         subst (λ (o : Option LogRecord). ClosedLog (with_owed o records) (log.end + length (pending_bytes o)) disk) (sym none) (subst (λ (e : ℕ). ClosedLog records e disk) at_end (plain records disk had))
-
--- nothing is owed where there are no bytes
-pub owes_none : (owed : Option LogRecord) → length (pending_bytes owed) ≡ 0 → owed ≡ None
-owes_none None e = refl
-owes_none (Some r) e = absurd (omega (arith, e, length-append (record_bytes r) (0 ∷ [])))
 
 -- ---- of a log that owes something, by its bytes
 
