@@ -117,8 +117,6 @@ pub marker_says : (all_there : Bool) → ((if all_there then 0 else 1) == 0) ≡
 marker_says true = refl
 marker_says false = refl
 
-}
-
 pub kind_named : (form : Form) (n : ℕ) (extra : List ℕ) (byte : ℕ) → byte ≡ kind_byte form → (if byte == 1 then kinds.Ints else kinds.Texts) ≡ kind_of (book_of form n extra)
 kind_named forms.Offset n extra byte e = ap (λ b. if b == 1 then kinds.Ints else kinds.Texts) e
 kind_named forms.Delta n extra byte e = ap (λ b. if b == 1 then kinds.Ints else kinds.Texts) e

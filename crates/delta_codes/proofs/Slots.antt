@@ -25,8 +25,6 @@ pub slot_between : (anchors : List ℤ) (codes : List ℕ) (before i : ℕ) → 
 slot_between anchors codes before zero next between = absurd (omega arith)
 slot_between anchors codes before (suc i) next between = let e : before ≡ i = omega arith in rw e (grind arith)
 
-]
-
 -- ---- what is written for values
 
 pub anchor_written : (values : List ℤ) (k : ℕ) → 64 * k < length values → slice_index_or (anchors_of values) k (pos 0) ≡ slice_index_or values (64 * k) (pos 0)

@@ -100,22 +100,6 @@ module _ (log : LogState) (r : LogRecord) (is : IsRecord r) (owed : log.owed ≡
     err = on_err result (λ p left. comes (OwingAfter later.laid (pending_bytes (Some r))) (HoldsLog later) old (still later same_owed same_end) p (now p left));
   }
 
--- ---- of a log that owes nothing
-
-}
-  where
-    plain : (records : List LogRecord) (disk : List ℕ) → HoldsLog log records disk → ClosedLog records log.end disk
-    plain records disk had = subst (λ (o : Option LogRecord). HoldsOwing o log.laid log.end records disk) none had
-
-    at_end : log.end ≡ log.end + 0
-    at_end = omega arith
-
-    whole : (records : List LogRecord) (disk : List ℕ) → HoldsLog log records disk → WithOwed log records disk
-    whole records disk had =
-        subst (λ (o : Option LogRecord). ClosedLog (with_owed o records) (log.end + length (pending_bytes o)) disk) (sym none) (subst (λ (e : ℕ). ClosedLog records e disk) at_end (plain records disk had))
-
--- ---- of a log that owes something, by its bytes
-
 module _ (log : LogState) (bytes : List ℕ) (old new : Meaning) where
   done_by : {T E : Type 0} (result : Result T E) (later : LogState) (owed : Option LogRecord) → log.owed ≡ owed → IsSome owed → IfSome owed IsRecord → bytes ≡ pending_bytes owed → IsOk result
       → Throughout (Came log.end (OwingAfter log.laid bytes) (EitherWay bytes) old) old new
