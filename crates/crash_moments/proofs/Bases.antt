@@ -1,5 +1,5 @@
 -- What every base of a berth is, and a choice that cannot be both.
-use Rattle.std.specs.Prelude.{◌≡◌, ℕ, ◌≤◌, List, length, Bool, true, false, ⊥, absurd}
+use Rattle.std.specs.Prelude.{◌≡◌, ℕ, ◌≤◌, List, length, Bool, true, false}
 use Rattle.berth_face.specs.Berth.{Pair}
 use Rattle.leaf_history.specs.History.{HistoryState}
 use Rattle.crash_moments.specs.Base.{IsBaseOf}
