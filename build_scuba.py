@@ -316,7 +316,7 @@ def by_rt(name, words, began):
             stamp = f"{TOP}/crates/{it}/out/rlib/stamp"
             if it not in told and os.path.isfile(stamp) and os.stat(stamp).st_mtime > began:
                 told.add(it)
-                say(f"{len(told)} libraries, {it} ({time.time() - began:.0f} seconds)")
+                say(f"built by rt: {len(told)}, {it} ({time.time() - began:.0f} seconds)")
     if ran.returncode or not os.path.isfile(f"{folder}/out/{name}"):
         tell_end(log)
         say(f"the build failed; the whole of what it printed is in {log}")
@@ -381,14 +381,14 @@ def main(name, *words):
             return 0
         began = time.time()
         if rt_has_built(crates) and not all(it.is_built() for it in top.below):
-            raise OtherWords("rt keeps each library that the program stands on")
+            raise OtherWords("rt keeps each library that the program stands on, so that the program alone is left")
         has_built, status = side_by_side(crates, began), 0
     except Failed as error:
         tell_end(error.crate.log)
         say(f"{error.crate.name} was not built (status {error.status}); the whole of what it printed is in {error.crate.log}")
         return 1
     except OtherWords as error:
-        say(f"{error}; so rt run builds the program, which from nothing takes about 25 minutes")
+        say(f"{error}: rt run builds the program, one crate after another (from nothing it takes about 25 minutes)")
         for it in held:
             os.close(it)
         has_built, status = True, by_rt(name, words, began)
