@@ -5,7 +5,8 @@ usage: build_scuba.py CRATE [WORD..]    CRATE is the program's name in crates.tx
 
 Each library that the program stands on is proved as the gate proves it (rattle build --statements), and so is the program. Crates are proved side by side,
 first the one with the longest chain of crates above it. The libraries stay in crates/NAME/out/rlib/statements, each beside a sum of all that it was made from,
-and one whose sum is still the same is not proved again. (rt takes files of the toolchain's kinds only from out/rlib, and removes that folder when it likes.)
+and one whose sum is still the same is not proved again. (They lie below out/rlib since rt refuses source files in any other place of out/. When rt builds the
+library itself it removes that folder, and the library is then proved again here.)
 
 The words of rattle are those that rt gives it. Where this toolchain has other words, or crates.txt says more than names, rt run builds the program.
 Exit status: 0 where the program is built, else 1."""
@@ -107,12 +108,14 @@ class Crate:
         more, uses = lines[name]
         self.folder = f"{TOP}/crates/{name}"
         self.is_program = os.path.isfile(f"{self.folder}/src/main.rt")
-        if more or os.path.isdir(f"{self.folder}/c") or not os.path.isdir(f"{self.folder}/src"):
-            raise OtherWords(f"crates.txt says more of {name} than its libraries, or it has no src/")
-        known[name] = self
+        if more or not re.fullmatch(r"\w+", name) or os.path.isdir(f"{self.folder}/c") or not os.path.isdir(f"{self.folder}/src"):
+            raise OtherWords(f"{name} is more than a folder crates/{name} and a line of crates.txt with its libraries")
+        known[name] = None
         self.name, self.kit, self.of_kit, self.uses = name, kit, ["std"], []
         for it in uses:
             if it in lines:
+                if it in known and not known[it]:
+                    raise OtherWords(f"{it} stands on itself")
                 self.uses.append(known.get(it) or Crate(it, lines, kit, known))
             elif os.path.isdir(kit.library(it)):
                 self.of_kit.append(it)
@@ -127,6 +130,7 @@ class Crate:
         if self.is_program:
             self.sum = f"{self.program}.sum"
         self.measure()
+        known[name] = self
 
     def files(self):
         for part in PARTS:
@@ -165,7 +169,7 @@ class Crate:
     def is_built(self):
         """Returns whether what stands here was made from the files as they are now."""
         try:
-            return text_of(self.sum) == self.whole(self.made_from())
+            return os.path.isfile(self.sum) and text_of(self.sum) == self.whole(self.made_from())
         except OSError:
             return False
 
@@ -270,19 +274,24 @@ def side_by_side(crates, began):
     for it in reversed(crates):
         behind[it] = it.weight + max([behind[above] for above in behind if it in above.uses], default=0)
     left.sort(key=lambda it: -behind[it])
-    whole, memory, running = sum(it.weight for it in left), 0.85 * free(), []
-    first = f"; {len(built)} of its {len(crates)} crates are as they were" if built else f", {len(crates)} crates; the first time takes about ten minutes on four processors"
-    say(f"proving and building the program{first}")
+    whole, memory, running, stale = sum(it.weight for it in left), 0.85 * free(), [], []
+    if any(os.path.isfile(it.sum) for it in crates):
+        say(f"proving and building the program: at most {len(left)} of its {len(crates)} crates, those that changed")
+    else:
+        say(f"proving and building the program, {len(crates)} crates; the first time takes about ten minutes on four processors")
     guard = Guard()
     try:
         while left or running:
             for it in [it for it in left if all(under in built for under in it.below)]:
-                room = memory - sum(run.crate.needs(run.jobs) for run in running)
-                jobs = [jobs for jobs in range(min(at_once, 8), 0, -1) if it.needs(jobs) <= room]
-                if it.is_built():
+                if it not in stale and it.is_built():
+                    # (a library below changed, and came out the same)
                     left.remove(it)
                     built.append(it)
-                elif len(running) < at_once and (jobs or not running):
+                    continue
+                stale.append(it)
+                room = memory - sum(run.crate.needs(run.jobs) for run in running)
+                jobs = [jobs for jobs in range(min(at_once, 8), 0, -1) if it.needs(jobs) <= room]
+                if len(running) < at_once and (jobs or not running):
                     left.remove(it)
                     rank = sum(behind[run.crate] > behind[it] for run in running)
                     running.append(Run(it, jobs[0] if jobs else 1, rank, guard))
@@ -367,6 +376,9 @@ def is_current(program):
 
 def main(name, *words):
     program = f"{TOP}/crates/{name}/out/{name}"
+    if not shutil.which("rt"):
+        say("the program has to be built, and rt, the command of the Rattle toolchain, is not on the PATH")
+        return 1
     _launchers, has_waited = lock([TOP], "another ./scuba in this copy of the repository to end its build")
     held, began = [], time.time()
     try:
