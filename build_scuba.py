@@ -246,6 +246,8 @@ class Run:
         if self.commands:
             self.next()
             return None
+        if not os.path.isfile(f"{crate.program}.new" if crate.is_program else f"{crate.rlib}/format"):
+            raise OtherWords(f"the toolchain left nothing for {crate.name} where it was told to (see {crate.log})")
         if crate.is_program:
             os.replace(f"{crate.program}.new", crate.program)
         # (a crate whose files changed meanwhile is built again next time)
@@ -274,7 +276,7 @@ def side_by_side(crates, began):
     for it in reversed(crates):
         behind[it] = it.weight + max([behind[above] for above in behind if it in above.uses], default=0)
     left.sort(key=lambda it: -behind[it])
-    whole, memory, running, stale = sum(it.weight for it in left), 0.85 * free(), [], []
+    whole, memory, running, stale = sum(it.weight for it in left), 0.85 * free(), [], set()
     if any(os.path.isfile(it.sum) for it in crates):
         say(f"proving and building the program: at most {len(left)} of its {len(crates)} crates, those that changed")
     else:
@@ -288,7 +290,7 @@ def side_by_side(crates, began):
                     left.remove(it)
                     built.append(it)
                     continue
-                stale.append(it)
+                stale.add(it)
                 room = memory - sum(run.crate.needs(run.jobs) for run in running)
                 jobs = [jobs for jobs in range(min(at_once, 8), 0, -1) if it.needs(jobs) <= room]
                 if len(running) < at_once and (jobs or not running):
@@ -317,8 +319,10 @@ def by_rt(name, words, began):
     folder, told = f"{TOP}/crates/{name}", set()
     log = f"{folder}/out/build.log"
     os.makedirs(f"{folder}/out", exist_ok=True)
-    with open(log, "wb") as out:
-        ran = subprocess.Popen(["rt", "run", "--", *words], cwd=folder, stdin=subprocess.DEVNULL, stdout=out, stderr=out)
+    if os.path.exists(log):
+        os.remove(log)
+    guard = Guard()
+    ran = guard.start(["rt", "run", "--", *words], folder, log, 0)
     while ran.poll() is None:
         time.sleep(0.5)
         for it in sorted(os.listdir(f"{TOP}/crates")):
@@ -326,6 +330,7 @@ def by_rt(name, words, began):
             if it not in told and os.path.isfile(stamp) and os.stat(stamp).st_mtime > began:
                 told.add(it)
                 say(f"built by rt: {len(told)}, {it} ({time.time() - began:.0f} seconds)")
+    guard.end()
     if ran.returncode or not os.path.isfile(f"{folder}/out/{name}"):
         tell_end(log)
         say(f"the build failed; the whole of what it printed is in {log}")
@@ -416,5 +421,8 @@ if __name__ == "__main__":
     signal.signal(signal.SIGTERM, signal.SIG_DFL)
     try:
         sys.exit(main(*sys.argv[1:]))
+    except OSError as error:
+        say(f"the program was not built: {error}")
+        sys.exit(1)
     except KeyboardInterrupt:
         sys.exit(130)
