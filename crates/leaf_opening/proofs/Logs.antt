@@ -6,16 +6,13 @@ use Rattle.leaf_model.specs.declared.writes.Write.{Write}
 use Rattle.leaf_model.specs.Content.{content}
 use Rattle.row_records.specs.Records.{LogRecord}
 use Rattle.table_state.specs.Tables.{most_rows}
-use Rattle.disk_backup.specs.Logs.{IsLog, is_short, is_gated, IsBounded, IsSound, ClosedLog, writes_of}
+use Rattle.disk_backup.specs.Logs.{IsLog, is_short, is_gated, IsBounded, ClosedLog, writes_of}
 use Rattle.disk_backup.specs.Scanning.{BeginsScan, begun}
 use Rattle.disk_backup.proofs.Beginning.{begun_short, begun_long}
 use Rattle.disk_backup.proofs.Logs.{one_log, closed_is_log}
 use Rattle.leaf_opening.specs.Backed.{HasSoundLog, IsShort}
 
 -- ---- how long a table grows
-
-pub short_of : (name : List ℕ) (records : List LogRecord) (taken : List Write) → IsBounded records → writes_of name records ≡ taken → IsShort taken
-short_of name records taken bounded same = λ k. subst (λ (l : List Write). length (content (take k l)).rows ≤ most_rows) same (bounded name k)
 
 pub bounded_of : (records : List LogRecord) (writes : List ℕ → List Write) → ((name : List ℕ) → writes_of name records ≡ writes name) → ((name : List ℕ) → IsShort (writes name)) → IsBounded records
 bounded_of records writes same short = λ name k. subst (λ (l : List Write). length (content (take k l)).rows ≤ most_rows) (sym (same name)) (short name k)
@@ -50,9 +47,6 @@ begun_log disk records end log = elim (cases_lt 1 (length disk)) [
 ]
 
 module _ (writes : List ℕ → List Write) (disk : List ℕ) (had : HasSoundLog writes disk) where
-  pub sound_of : IsSound disk
-  sound_of = (had.records, had.log_end, had.log, had.bounded)
-
   -- whatever became of its first byte, it has the same log
   pub sound_begins : (now : List ℕ) → BeginsScan (length disk) disk now → HasSoundLog writes now
   sound_begins now (inl same) = subst (HasSoundLog writes) (sym same) had

@@ -1,5 +1,5 @@
 -- What a crash leaves while a leaf starts, and what a start tells.
-use Rattle.std.proofs.Common.{◌≡◌, ◌⊎◌, inl, inr, ◌∙◌, ℕ, List, [], length, sym, ap, subst, arith, Result, Err}
+use Rattle.std.proofs.Common.{◌≡◌, ◌⊎◌, inl, inr, ◌∙◌, ℕ, List, [], length, refl, sym, ap, subst, arith, Result, Err}
 use Rattle.std.specs.Prelude.{◌≢◌}
 use Rattle.berth_face.specs.Berth.{Pair, Meaning, Ended, SameDisk}
 use Rattle.berth_face.specs.Moments.{Throughout}
@@ -87,6 +87,13 @@ pub never_adopting : (f : AdoptFault) → told_of_adopt f ≢ fault.DiskDamaged
 never_adopting adopting.RegionFault = λ e. absurd cc
 never_adopting (adopting.Stranger name) = λ e. absurd cc
 never_adopting adopting.NoMemory = λ e. absurd cc
+
+-- and a recovery tells one only where it found one
+pub never_damaged : (f : RecoveryFault) → f ≢ found.DiskDamaged → told_of_recovery f ≢ fault.DiskDamaged
+never_damaged found.DiskFault other = λ e. absurd cc
+never_damaged found.DiskDamaged other = λ e. other refl
+never_damaged (found.Stranger name) other = λ e. absurd cc
+never_damaged found.NoMemory other = λ e. absurd cc
 
 pub kept_adopting : (old new : Meaning) (f : AdoptFault) → Ended SameDisk old new → KeepsDisks old new (Err (told_of_adopt f))
 kept_adopting old new adopting.RegionFault kept = kept

@@ -2,4 +2,3 @@ pub mod Serving
 pub mod Backed
 pub mod Faults
 pub mod Starts
-pub mod Laws

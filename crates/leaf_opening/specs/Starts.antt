@@ -66,7 +66,7 @@ IsOpeningRefusal names old new NoMemory = new.held.region ≡ left_behind old.he
 
 -- the leaf that serves what was opened
 abbrev pub serving_of : List (List ℕ) → Opened → Serving
-serving_of names o = record { names = names; tables = o.tables.items; log = o.log; owner = 0; count = 0 }
+serving_of names o = record { names = names; tables = o.tables.items; log = o.log }
 
 -- ---- what a crash leaves while a leaf starts
 
