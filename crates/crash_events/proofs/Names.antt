@@ -9,8 +9,8 @@ use Rattle.leaf_model.specs.declared.writes.Write.{Write}
 use Rattle.region_layout.specs.Region.{AreDistinct}
 use Rattle.row_records.specs.Records.{LogRecord}
 use Rattle.disk_backup.specs.Logs.{writes_of}
-use Rattle.crash_events.specs.Left.{NamedStates, Left}
-use Rattle.crash_events.specs.Base.{IsReady}
+use Rattle.crash_moments.specs.Left.{NamedStates, Left}
+use Rattle.crash_moments.specs.Base.{IsReady}
 use Rattle.crash_events.specs.Machine.{Tracked}
 use Rattle.crash_events.specs.Fits.{IsElsewhere}
 use Rattle.crash_events.specs.Begins.{begun_tables, LeavesItself, HasNoOther, MachineBegins}

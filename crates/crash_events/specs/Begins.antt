@@ -4,8 +4,8 @@ use Rattle.berth_face.specs.Berth.{Pair, Meaning}
 use Rattle.region_layout.specs.declared.head.Head.TheVariants.{Version}
 use Rattle.region_layout.specs.declared.image.TableImage.{TableImage}
 use Rattle.region_layout.specs.Region.{IsClosed, IsImage, AreDistinct, head_of}
-use Rattle.crash_events.specs.Left.{NamedStates}
-use Rattle.crash_events.specs.Base.{IsReady}
+use Rattle.crash_moments.specs.Left.{NamedStates}
+use Rattle.crash_moments.specs.Base.{IsReady}
 use Rattle.crash_events.specs.Machine.{Machine, Tracked, Hand, Down, RegionIs, Closed, Whole, Other}
 use Rattle.crash_events.specs.Kept.{Kept}
 use Rattle.crash_events.specs.Fits.{FitsPair, IsElsewhere}

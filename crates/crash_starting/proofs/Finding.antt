@@ -27,14 +27,15 @@ use Rattle.leaf_history.specs.History.{HistoryState}
 use Rattle.leaf_opening.specs.declared.ways.Way.{Way}
 use Rattle.leaf_opening.specs.declared.ways.Way.TheVariants.{Memory, Disk}
 use Rattle.leaf_opening.specs.Serving.{Serving}
-use Rattle.leaf_opening.specs.Backed.{HasSoundLog, is_one_of}
+use Rattle.disk_backup.specs.SoundLogs.{HasSoundLog}
+use Rattle.leaf_opening.proofs.Strangers.{is_one_of}
 use Rattle.leaf_opening.specs.Starts.{IsCome, disk_after}
 use Rattle.leaf_opening.proofs.Regions.{left_closed, closed_no_image}
-use Rattle.leaf_opening.proofs.Logs.{same_writes}
+use Rattle.disk_backup.proofs.SoundLogs.{same_writes}
 use Rattle.leaf_opening.proofs.Strangers.{no_writes_there, no_writes_read}
 use Rattle.leaf_opening.proofs.Places.{table_at}
 use Rattle.leaf_opening.proofs.Origins.{log_at}
-use Rattle.crash_events.specs.Left.{NamedStates}
+use Rattle.crash_moments.specs.Left.{NamedStates}
 use Rattle.crash_moments.specs.Watched.{Watched, is_watched, now_of, others_then, was_opened}
 use Rattle.crash_states.specs.Standing.{StandsNow, Rests, RegionRests, is_closed, is_other, is_image, IsWhole, IsKept, MayHave, tables_of}
 use Rattle.crash_states.proofs.Names.{named_at}

@@ -1,5 +1,4 @@
 pub mod Regions
-pub mod Logs
 pub mod Strangers
 pub mod Places
 pub mod Origins

@@ -1,4 +1,3 @@
 pub mod Serving
-pub mod Backed
 pub mod Faults
 pub mod Starts

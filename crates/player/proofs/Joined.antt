@@ -3,7 +3,7 @@ use Rattle.std.proofs.Common.{◌≡◌, ℕ, suc, ◌+◌, List, ◌++◌, leng
 use Rattle.std.specs.Prelude.{IsTrue, IfOk}
 use Rattle.berth_face.specs.Berth.{Meaning, Passes}
 use Rattle.region_layout.specs.Images.{images_of}
-use Rattle.crash_events.specs.Left.{NamedStates}
+use Rattle.crash_moments.specs.Left.{NamedStates}
 use Rattle.crash_moments.proofs.Telling.{told_join}
 use Rattle.leaf_steward.specs.declared.notes.Note.{Note}
 use Rattle.leaf_steward.specs.Seated.{Seated, AreFounded, watched_by}

@@ -16,7 +16,7 @@ use Rattle.leaf_history.specs.Calls.{Call}
 use Rattle.leaf_history.specs.Replies as reply
 use Rattle.leaf_history.specs.Replies.{Reply as MadeReply}
 use Rattle.leaf_history.specs.History.{Entry, HistoryState, AddReply, AskReply, after, held}
-use Rattle.crash_events.specs.Left.{NamedStates}
+use Rattle.crash_moments.specs.Left.{NamedStates}
 use Rattle.leaf_table.specs.declared.base.TableBase.{TableBase}
 use Rattle.leaf_table.specs.declared.replies.Reply.{Reply}
 use Rattle.leaf_table.specs.declared.replies.Reply.TheVariants as told
