@@ -11,7 +11,7 @@ use Rattle.disk_backup.specs.Scanning.{begun}
 use Rattle.log_recovery.specs.Recovery.{IsRecovered}
 use Rattle.leaf_opening.specs.declared.ways.Way.{Way}
 use Rattle.leaf_opening.specs.declared.ways.Way.TheVariants.{Memory, Disk}
-use Rattle.leaf_opening.specs.Serving.{Serving}
+use Rattle.leaf_opening.specs.OpenedLeaf.{OpenedLeaf}
 use Rattle.leaf_opening.specs.Starts.{Started, IsCome, disk_after}
 
 -- a log that ends here and is owed nothing
@@ -19,7 +19,7 @@ abbrev pub log_at : ℕ → LogState
 log_at end = record { end = end; owed = None; laid = false }
 
 module _ (names : List (List ℕ)) (tables : List Table) (log : LogState) where
-  abbrev pub served : Serving
+  abbrev pub served : OpenedLeaf
   served = record { names = names; tables = tables; log = log }
 
   module _ (way : Way) (old new : Meaning) (region : new.held.region ≡ left_behind old.held.region) where

@@ -1,3 +1,3 @@
-pub mod Serving
+pub mod OpenedLeaf
 pub mod Faults
 pub mod Starts

@@ -6,4 +6,4 @@ mod ways;
 
 pub use adopt::WhyDisk;
 pub use opening::{Opened, open_tables};
-pub use ways::{StartFault, Way};
+pub use ways::{OpenFault, Way};
