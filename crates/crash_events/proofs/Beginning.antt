@@ -7,12 +7,11 @@ use Rattle.berth_face.specs.Berth.{Pair}
 use Rattle.leaf_history.specs.History.{HistoryState, base_of}
 use Rattle.region_layout.specs.Region.{AreDistinct}
 use Rattle.crash_moments.specs.Left.{NamedStates}
+use Rattle.crash_moments.proofs.Bases.{both, flushed_le}
 use Rattle.crash_moments.specs.Base.{IsBaseOf, IsFixed, PairsMayBegin}
-use Rattle.crash_moments.proofs.Bases.{flushed_le}
 use Rattle.crash_events.specs.Machine.{Tracked}
 use Rattle.crash_events.specs.Laws.{IsPlain}
 use Rattle.crash_events.specs.Begins.{begun_table, begun_tables}
-use Rattle.crash_events.proofs.Places.{both}
 use Rattle.crash_events.proofs.Fresh.{Fresh, IsAll, AtMostOne}
 
 -- a table that is as its base says

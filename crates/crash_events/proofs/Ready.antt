@@ -20,9 +20,9 @@ use Rattle.crash_events.specs.Machine.{Machine, Tracked, Down, RegionIs, Closed,
 use Rattle.crash_events.specs.Kept.{is_frozen}
 use Rattle.crash_events.specs.Fits.{FitsPair, RegionFits, shows_lost, shows_closed, shows_whole, shows_other, state_of, IsElsewhere}
 use Rattle.crash_events.specs.Begins.{begun_tables, begun, RegionReads, reads_closed, reads_whole, reads_other, LeavesItself, HasNoOther, MachineBegins}
-use Rattle.crash_events.proofs.Places.{no, both}
+use Rattle.crash_events.proofs.Places.{no}
+use Rattle.crash_moments.proofs.Bases.{both, flushed_le}
 use Rattle.crash_events.proofs.Fresh.{Fresh, IsAll, AtMostOne, OfLog, all_kept, no_hand, all_have}
-use Rattle.crash_moments.proofs.Bases.{flushed_le}
 use Rattle.crash_events.proofs.Beginning.{IsBegun, ButOne, are_begun, names_are, are_fresh, are_plain, but_one, at_most_one, all_one}
 
 -- what a name's log has where it has one of two lengths

@@ -123,10 +123,6 @@ met_grows leaf callers leaf' callers' m count met table = by (nat_lt table (leng
         let above = not_below table (length callers) e in
         ([], rw (no_table callers' table (omega (arith, above, met.count.1)), no_table callers table above) refl)
 
-pub grow_on : (xs ys zs : List SeatView) → Grow xs ys → Grow ys zs → Grow xs zs
-grow_on xs ys zs g h table =
-    ((g table).0 ++ (h table).0, (h table).1 ∙ (ap (λ (es : List Entry). es ++ (h table).0) (g table).1 ∙ append_assoc (history_at xs table) (g table).0 (h table).0))
-
 -- ---- what was answered stays answered, and who was worn stays worn
 
 -- what is asked of the lines of a query, over one history
