@@ -18,7 +18,7 @@ use Rattle.disk_backup.specs.State.{LogState}
 use Rattle.disk_backup.specs.Settling.{HasLog, HoldsOwing, with_writes}
 use Rattle.drain_copy.specs.declared.step.Next.{Next}
 use Rattle.drain_copy.specs.Draining.{DrainState, Draining, StandsAt}
-use Rattle.leaf_opening.specs.Backed.{AreImagesOf, IsImageOf}
+use Rattle.region_layout.specs.ImageWrites.{AreImagesOf, IsImageOf}
 use Rattle.crash_moments.specs.Watched.{Watched, is_watched, now_of}
 use Rattle.crash_states.specs.Standing.{Runs, IsLogged, IsTreated, IsContentOf}
 use Rattle.crash_draining.specs.Laws.{AreTaken, IsPlanned}

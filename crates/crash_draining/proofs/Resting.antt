@@ -11,8 +11,9 @@ use Rattle.region_layout.specs.Images.{table_named}
 use Rattle.region_layout.specs.Region.{IsClosed, IsImage}
 use Rattle.disk_backup.specs.Logs.{open_records}
 use Rattle.disk_backup.specs.Settling.{HasLog}
-use Rattle.leaf_opening.specs.Backed.{AreImagesOf, IsImageOf, IsShort}
-use Rattle.leaf_opening.proofs.Logs.{none_short}
+use Rattle.region_layout.specs.ImageWrites.{AreImagesOf, IsImageOf}
+use Rattle.disk_backup.specs.SoundLogs.{IsShort}
+use Rattle.disk_backup.proofs.SoundLogs.{none_short}
 use Rattle.crash_moments.specs.Left.{NamedStates}
 use Rattle.crash_moments.specs.Watched.{Watched, IsFoundation, IsWatched, AreWatched, is_watched, now_of, others_then, was_opened}
 use Rattle.crash_states.specs.Standing.{StandsNow, IsKept, IsTreated, IsWhole, Rests, RegionRests, is_closed, is_image, tables_of}

@@ -1,12 +1,12 @@
 -- The tables of a leaf as its steward has seen them, and where each stood at each moment of the berth's clock.
-use Rattle.std.specs.Prelude.{◌≡◌, ℕ, ◌≤◌, ◌^◌, nat_le, take, Bool, true, false, ◌&&◌, ◌==◌, List, [], ◌∷◌, length, bytes_eq, if◌then◌else◌, ⊤}
+use Rattle.std.specs.Prelude.{◌≡◌, ℕ, ◌≤◌, nat_le, Bool, true, false, ◌&&◌, ◌==◌, List, [], ◌∷◌, bytes_eq, if◌then◌else◌, ⊤}
 use Rattle.std.specs.List.{AllByRecursion, list_any}
-use Rattle.leaf_model.specs.declared.writes.Write.{Write}
-use Rattle.leaf_model.specs.Content.{content, nothing}
+use Rattle.leaf_model.specs.Content.{nothing}
 use Rattle.leaf_history.specs.Calls.{Call}
 use Rattle.leaf_history.specs.Calls as call
 use Rattle.leaf_history.specs.History.{Entry, HistoryState, LegalFrom, after, no_base}
 use Rattle.leaf_history.specs.Laws.{HasSoundCounts}
+use Rattle.disk_backup.specs.SoundLogs.{IsShort}
 use Rattle.crash_moments.specs.Left.{NamedStates}
 
 -- a table: its name, what it was founded with, and the history as far as the steward has seen it
@@ -82,10 +82,6 @@ is_watched ws name = list_any (λ (w : Watched). bytes_eq name w.name) ws
 abbrev pub Between : ℕ → ℕ → List Entry → Type 0
 Between from to [] = ⊤
 Between from to (e ∷ es) = (e.caller ≡ 0 → (from ≤ e.clock) × (e.clock ≤ to)) × Between from to es
-
--- after no write of the list has a table more than 2^40 rows
-abbrev pub IsShort : List Write → Type 0
-IsShort writes = (k : ℕ) → length (content (take k writes)).rows ≤ 2 ^ 40
 
 -- what holds of a founded table at any time: it was handed in nothing, and at no front of its writes had it more than 2^40 rows
 pub record IsFoundation (s : HistoryState) : Type 0 where

@@ -26,14 +26,15 @@ use Rattle.log_recovery.specs.Recovery as recovery
 use Rattle.leaf_history.specs.History.{HistoryState}
 use Rattle.leaf_opening.specs.declared.ways.Way.{Way}
 use Rattle.leaf_opening.specs.declared.ways.Way.TheVariants.{Memory, Disk}
-use Rattle.leaf_opening.specs.Serving.{Serving}
-use Rattle.leaf_opening.specs.Backed.{HasSoundLog, is_one_of}
+use Rattle.leaf_opening.specs.OpenedLeaf.{OpenedLeaf}
+use Rattle.disk_backup.specs.SoundLogs.{HasSoundLog}
+use Rattle.leaf_opening.proofs.Strangers.{is_one_of}
 use Rattle.leaf_opening.specs.Starts.{IsCome, disk_after}
 use Rattle.leaf_opening.proofs.Regions.{left_closed, closed_no_image}
-use Rattle.leaf_opening.proofs.Logs.{same_writes}
+use Rattle.disk_backup.proofs.SoundLogs.{same_writes}
 use Rattle.leaf_opening.proofs.Strangers.{no_writes_there, no_writes_read}
 use Rattle.leaf_opening.proofs.Places.{table_at}
-use Rattle.leaf_opening.proofs.Backing.{log_at}
+use Rattle.leaf_opening.proofs.Origins.{log_at}
 use Rattle.crash_moments.specs.Left.{NamedStates}
 use Rattle.crash_moments.specs.Watched.{Watched, is_watched, now_of, others_then, was_opened}
 use Rattle.crash_states.specs.Standing.{StandsNow, Rests, RegionRests, is_closed, is_other, is_image, IsWhole, IsKept, MayHave, tables_of}
@@ -154,7 +155,7 @@ module _ (ws : List Watched) (others : NamedStates) (least : List ℕ → List W
 
   -- ---- either way
 
-  pub found_by : (s : Serving) (way : Way) → IsCome (names_of ws) a.held.region b.held.disk s way → b.held.disk ≡ disk_after way a.held.disk → (way ≡ Memory → Ended SameDisk a b)
+  pub found_by : (s : OpenedLeaf) (way : Way) → IsCome (names_of ws) a.held.region b.held.disk s way → b.held.disk ≡ disk_after way a.held.disk → (way ≡ Memory → Ended SameDisk a b)
       → ((w : WhyDisk) → way ≡ Disk w → EachNow (λ p. p.disk ≡ b.held.disk) b) → (writes : List ℕ → List Write) × Finds ws s.log s.tables writes b
   found_by s Memory come disk kept durable = found_in_image s.log s.tables come.0 come.1 come.2 come.3 come.4 come.5 (kept refl)
   found_by s (Disk w) come disk kept durable = found_in_log s.log s.tables come.1 disk (durable w refl)

@@ -12,11 +12,11 @@ use Rattle.region_layout.specs.Region.{IsClosed, IsImage, head_of}
 use Rattle.disk_backup.specs.Scanning.{FirstByte, BeginsScan}
 use Rattle.disk_backup.specs.Settling.{HasLog, with_writes}
 use Rattle.leaf_opening.specs.declared.opening.Opened.{Opened}
-use Rattle.leaf_opening.specs.declared.ways.StartFault.{StartFault}
-use Rattle.leaf_opening.specs.declared.ways.StartFault.TheVariants as fault
-use Rattle.leaf_opening.specs.Backed.{HasSoundLog}
+use Rattle.leaf_opening.specs.declared.ways.OpenFault.{OpenFault}
+use Rattle.leaf_opening.specs.declared.ways.OpenFault.TheVariants as fault
+use Rattle.disk_backup.specs.SoundLogs.{HasSoundLog}
 use Rattle.leaf_opening.specs.Starts.{IsOpeningRefusal, OpensFrom, KeepsDisks}
-use Rattle.leaf_opening.proofs.Logs.{sound_begins}
+use Rattle.disk_backup.proofs.SoundLogs.{sound_begins}
 use Rattle.leaf_opening.proofs.Regions.{left_closed, broken_same}
 use Rattle.crash_moments.specs.Left.{NamedStates}
 use Rattle.crash_moments.specs.Watched.{Watched}
@@ -154,7 +154,7 @@ module _ (ws : List Watched) (others : NamedStates) (least : List ℕ → List W
   none_before b (inl same) none = sym same ∙ none
   none_before b (inr first) none = nil_from_length a.held.disk (omega (arith, first.torn.no_shorter, ap (λ (d : List ℕ). length d) none))
 
-  pub rests_opened : (b : Meaning) (result : Result Opened StartFault) → OpeningMade a b result → IsClosed b.held.region ⊎ ((b.held.region ≡ a.held.region) × Ended SameDisk a b) → Rests ws others least next b
+  pub rests_opened : (b : Meaning) (result : Result Opened OpenFault) → OpeningMade a b result → IsClosed b.held.region ⊎ ((b.held.region ≡ a.held.region) × Ended SameDisk a b) → Rests ws others least next b
   rests_opened b result made region =
       let came : EachNow (OpensFrom a) b = now_of a b (OpensFrom a) made.moments in
       opens_rests b made.passes.later made.stands came (λ none p left. short_open (none_before b made.held none) p (came p left)) (elim region [
@@ -164,7 +164,7 @@ module _ (ws : List Watched) (others : NamedStates) (least : List ℕ → List W
 
 -- ---- what a refusal leaves of the region
 
-pub region_refused : (names : List (List ℕ)) (a b : Meaning) (f : StartFault) → KeepsDisks a b (Err f) → IsOpeningRefusal names a b f → IsClosed b.held.region ⊎ ((b.held.region ≡ a.held.region) × Ended SameDisk a b)
+pub region_refused : (names : List (List ℕ)) (a b : Meaning) (f : OpenFault) → KeepsDisks a b (Err f) → IsOpeningRefusal names a b f → IsClosed b.held.region ⊎ ((b.held.region ≡ a.held.region) × Ended SameDisk a b)
 region_refused names a b fault.RegionFault kept refusal = elim (closed_or_open b.held.region) [
   | inl shut ↦ inl shut
   | inr opened ↦ inr (broken_same a.held.region b.held.region refusal.0 opened, kept)

@@ -2,7 +2,7 @@
 use Rattle.std.proofs.Common.{◌≡◌, ℕ, zero, suc, Bool, true, false, List, [], ◌∷◌, length, get_or, map, refl, sym, ap, subst, ◌∙◌, arith, ℤ}
 use Rattle.std.specs.Prelude.{◌≢◌, if◌then◌else◌, bytes_eq, Option, Some, unwrap_or, Contains}
 use Rattle.std.specs.List.{AllByRecursion, find}
-use Rattle.std.proofs.lemmas.Bool.{eqb-false}
+use Rattle.std.proofs.lemmas.Bool.{eqb-false, false≢true}
 use Rattle.std.proofs.lemmas.List.{take_all}
 use Rattle.std.proofs.lemmas.Option.{slice_get_within, unwrap_or-slice_get}
 use Rattle.std.proofs.lemmas.Slice.Eq.{bytes_eq-Decides}
@@ -18,10 +18,9 @@ use Rattle.row_records.specs.Records.{LogRecord}
 use Rattle.disk_backup.specs.Logs.{IsLog, ClosedLog}
 use Rattle.disk_backup.specs.Settling.{HasLog}
 use Rattle.disk_backup.proofs.Logs.{one_log, log_is_closed}
-use Rattle.leaf_opening.specs.Backed.{IsImageOf}
+use Rattle.region_layout.specs.ImageWrites.{IsImageOf}
 use Rattle.crash_moments.specs.Left.{NamedStates, Left, ImageOf, HasShutGate, RegionLeft, closed, other_version, image}
 use Rattle.crash_moments.specs.Base.{EndsAt, PairsMayBegin}
-use Rattle.crash_moments.proofs.Bases.{both}
 use Rattle.crash_moments.specs.Told.{reads_one}
 use Rattle.crash_states.specs.Standing.{RegionRests, is_closed, is_other, is_image, IsWhole}
 
@@ -68,7 +67,7 @@ named_one base (t ∷ images) name all each = by (bytes_eq t.name name) refl (λ
         → IsImageOf (base name).writes (unwrap_or (if here then Some t else find (is_named name) images) (empty_image name))
     by true e rest = subst (λ n. IsImageOf (base n).writes t) ((bytes_eq-Decides t.name name).0 e) (image_as (base t.name).writes t each.0)
     by false e rest =
-        rest (λ some. contained_later t.name (map (λ (u : TableImage). u.name) images) name (λ same. both (bytes_eq t.name name) e ((bytes_eq-Decides t.name name).1 same)) (all some))
+        rest (λ some. contained_later t.name (map (λ (u : TableImage). u.name) images) name (λ same. false≢true (sym e ∙ (bytes_eq-Decides t.name name).1 same)) (all some))
 
 -- ---- logs that end at a gate that is not open
 

@@ -1,6 +1,7 @@
 -- What the logs of a berth that is ready have: what is flushed of each name, and of one name maybe the record behind that too.
 use Rattle.std.proofs.Common.{◌≡◌, ℕ, Bool, true, false, List, [], ◌++◌, length, take, drop, Some, refl, sym, ap, subst, ◌∙◌, arith, inl, inr}
 use Rattle.std.specs.Prelude.{◌⊎◌, if◌then◌else◌, bytes_eq}
+use Rattle.std.proofs.lemmas.Bool.{false≢true}
 use Rattle.std.proofs.lemmas.List.{take_all, take-append-drop, length-take-le}
 use Rattle.std.proofs.lemmas.Slice.Eq.{bytes_eq-Decides}
 use Rattle.leaf_model.specs.declared.writes.Write.{Write}
@@ -9,10 +10,9 @@ use Rattle.berth_face.specs.Berth.{Pair}
 use Rattle.row_records.specs.Records.{LogRecord}
 use Rattle.disk_backup.specs.Logs.{writes_of}
 use Rattle.disk_backup.specs.Settling.{with_writes}
-use Rattle.leaf_opening.specs.Backed.{HasSoundLog}
+use Rattle.disk_backup.specs.SoundLogs.{HasSoundLog}
 use Rattle.crash_moments.specs.Left.{NamedStates, Left}
 use Rattle.crash_moments.specs.Base.{HasWritesOf, IsBaseOf, IsFixed, HasTwoLengths, PairsMayBegin}
-use Rattle.crash_moments.proofs.Bases.{both}
 
 -- the flushed writes of each name
 abbrev pub least_of : NamedStates → List ℕ → List Write
@@ -41,7 +41,7 @@ one_varies reads may now base begins = elim begins.one_open [
     one.0,
     record {
       two = one.1;
-      rest = λ name differs. fixed_all may name (base name) (begins.base_is name) (one.2 name (λ same. both (bytes_eq name one.0) differs ((bytes_eq-Decides name one.0).1 same)));
+      rest = λ name differs. fixed_all may name (base name) (begins.base_is name) (one.2 name (λ same. false≢true (sym differs ∙ (bytes_eq-Decides name one.0).1 same)));
     },
   )
 ]

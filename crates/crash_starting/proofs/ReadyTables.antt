@@ -1,7 +1,8 @@
--- NamedStates that their steward has not seen yet stand as their base says: shut, and sound.
+-- Tables that their steward has not seen yet stand as their base says: shut, and sound.
 use Rattle.std.proofs.Common.{◌≡◌, ℕ, zero, suc, ◌≤◌, ◌^◌, Bool, true, false, List, [], ◌∷◌, length, take, Some, refl, sym, ap, subst, ◌∙◌, arith}
 use Rattle.std.specs.Prelude.{◌||◌, slice_get, if◌then◌else◌, bytes_eq}
 use Rattle.std.specs.List.{AllByRecursion, list_any}
+use Rattle.std.proofs.lemmas.Bool.{false≢true}
 use Rattle.std.proofs.lemmas.List.{take_all, length-take-le}
 use Rattle.std.proofs.lemmas.Slice.Eq.{bytes_eq-Decides}
 use Rattle.leaf_model.specs.declared.writes.Write.{Write}
@@ -10,12 +11,12 @@ use Rattle.leaf_history.specs.History.{HistoryState, Entry, LegalFrom, after}
 use Rattle.berth_face.specs.Berth.{Pair, Meaning}
 use Rattle.row_records.specs.Records.{LogRecord}
 use Rattle.disk_backup.specs.Logs.{writes_of}
+use Rattle.disk_backup.specs.SoundLogs.{IsShort}
 use Rattle.disk_backup.proofs.Logs.{one_log}
 use Rattle.crash_moments.specs.Left.{NamedStates, Left}
 use Rattle.crash_moments.specs.Base.{HasWritesOf, IsBaseOf}
-use Rattle.crash_moments.proofs.Bases.{both}
 use Rattle.crash_moments.proofs.Bases.{flushed_le}
-use Rattle.crash_moments.specs.Watched.{Watched, IsFoundation, IsShort, IsWatched, Between, by_name, cut, is_opening, now_of, others_then, was_opened}
+use Rattle.crash_moments.specs.Watched.{Watched, IsFoundation, IsWatched, Between, by_name, cut, is_opening, now_of, others_then, was_opened}
 use Rattle.crash_states.specs.Standing.{IsKept, tables_now, tables_of}
 use Rattle.crash_starting.specs.Laws.{AreUnseen}
 
@@ -31,7 +32,7 @@ kept_one may name s most is all =
       flushed = omega (arith, long);
       shortest = ap (λ n. take n s.writes) (sym long);
       longest = all ∙ sym (take_all (length most) s.writes (omega (arith, ap (λ (ws : List Write). length ws) all)));
-      handed = λ e. both s.handed (ap (λ (t : HistoryState). t.handed) is.is) e;
+      handed = λ e. absurd (false≢true (sym (ap (λ (t : HistoryState). t.handed) is.is) ∙ e));
     }
 
 -- the pair with the longest log says that it is short

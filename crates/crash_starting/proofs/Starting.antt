@@ -8,8 +8,8 @@ use Rattle.berth_face.specs.Berth.{Meaning}
 use Rattle.disk_backup.specs.State.{LogState}
 use Rattle.leaf_history.specs.History as history
 use Rattle.leaf_opening.specs.declared.opening.Opened.{Opened}
-use Rattle.leaf_opening.specs.declared.ways.StartFault.{StartFault}
-use Rattle.leaf_opening.specs.Starts.{Started, IsOpeningRefusal, IsDurable, serving_of}
+use Rattle.leaf_opening.specs.declared.ways.OpenFault.{OpenFault}
+use Rattle.leaf_opening.specs.Starts.{Started, IsOpeningRefusal, IsDurable, opened_leaf}
 use Rattle.crash_moments.specs.Left.{NamedStates}
 use Rattle.crash_moments.specs.Watched.{Watched, IsWatched, now_of}
 use Rattle.crash_moments.specs.Told.{Told}
@@ -24,7 +24,7 @@ use Rattle.crash_starting.proofs.Finding.{found_by}
 use Rattle.crash_starting.proofs.Running.{may_open, opened_all}
 
 -- at each moment, whatever comes of it
-pub opening_told : (ws : List Watched) (others : NamedStates) (least : List ℕ → List Write) (next : Option LogRecord) (a b : Meaning) (result : Result Opened StartFault)
+pub opening_told : (ws : List Watched) (others : NamedStates) (least : List ℕ → List Write) (next : Option LogRecord) (a b : Meaning) (result : Result Opened OpenFault)
     → Rests ws others least next a → OpeningMade a b result → Told others ws ws a b
 opening_told ws others least next a b result rests made = record {
   passes = made.passes;
@@ -35,13 +35,13 @@ opening_told ws others least next a b result rests made = record {
 
 -- what is found may be opened
 pub found : (ws : List Watched) (others : NamedStates) (least : List ℕ → List Write) (next : Option LogRecord) (a b : Meaning) (o : Opened)
-    → Rests ws others least next a → OpeningMade a b (Ok o) → Started (names_of ws) a b (serving_of (names_of ws) o) o.way → IsDurable b o
+    → Rests ws others least next a → OpeningMade a b (Ok o) → Started (names_of ws) a b (opened_leaf (names_of ws) o) o.way → IsDurable b o
     → (writes : List ℕ → List Write) × Finds ws o.log o.tables.items writes b
 found ws others least next a b o rests made started durable =
-    found_by ws others least next a b rests made.passes made.stands started.region (serving_of (names_of ws) o) o.way started.come started.disk made.disks durable
+    found_by ws others least next a b rests made.passes made.stands started.region (opened_leaf (names_of ws) o) o.way started.come started.disk made.disks durable
 
 -- a refusal leaves what there was
-pub refused : (ws : List Watched) (others : NamedStates) (least : List ℕ → List Write) (next : Option LogRecord) (a b : Meaning) (fault : StartFault)
+pub refused : (ws : List Watched) (others : NamedStates) (least : List ℕ → List Write) (next : Option LogRecord) (a b : Meaning) (fault : OpenFault)
     → Rests ws others least next a → OpeningMade a b (Err fault) → IsOpeningRefusal (names_of ws) a b fault → Rests ws others least next b
 refused ws others least next a b fault rests made refusal =
     rests_opened ws others least next a rests b (Err fault) made (region_refused (names_of ws) a b fault made.disks refusal)

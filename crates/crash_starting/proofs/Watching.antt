@@ -1,4 +1,4 @@
--- NamedStates that are watched: at a later moment, by their places and by their names.
+-- Tables that are watched: at a later moment, by their places and by their names.
 use Rattle.std.proofs.Common.{◌≡◌, ◌∙◌, ℕ, ◌≤◌, Bool, List, [], ◌∷◌, Some, refl, ap, arith}
 use Rattle.std.specs.Prelude.{◌||◌, slice_get, bytes_eq, option_map}
 use Rattle.std.specs.List.{AllByRecursion, list_any}
@@ -6,7 +6,7 @@ use Rattle.std.proofs.lemmas.Option.{slice_get-map}
 use Rattle.berth_face.specs.Berth.{Meaning}
 use Rattle.leaf_history.specs.History.{Entry}
 use Rattle.crash_moments.specs.Left.{NamedStates}
-use Rattle.leaf_opening.specs.Backed.{is_one_of}
+use Rattle.leaf_opening.proofs.Strangers.{is_one_of}
 use Rattle.crash_moments.specs.Watched.{Watched, IsWatched, AreWatched, cut, is_opening, is_watched, others_then, was_opened}
 use Rattle.crash_moments.proofs.Cuts.{cut_later}
 use Rattle.crash_moments.proofs.Telling.{between_wider}

@@ -10,7 +10,7 @@ use Rattle.disk_backup.specs.State.{LogState}
 use Rattle.disk_backup.specs.Scanning.{BeginsScan}
 use Rattle.leaf_history.specs.History as history
 use Rattle.leaf_opening.specs.declared.opening.Opened.{Opened}
-use Rattle.leaf_opening.specs.declared.ways.StartFault.{StartFault}
+use Rattle.leaf_opening.specs.declared.ways.OpenFault.{OpenFault}
 use Rattle.leaf_opening.specs.Starts.{OpensFrom, KeepsDisks}
 use Rattle.crash_moments.specs.Left.{NamedStates}
 use Rattle.crash_moments.specs.Base.{IsReady}
@@ -24,7 +24,7 @@ abbrev pub names_of : List Watched → List (List ℕ)
 names_of ws = map (λ (w : Watched). w.name) ws
 
 -- what opening the tables of a leaf does to its berth, whatever comes of it
-pub record OpeningMade (a b : Meaning) (result : Result Opened StartFault) : Type 0 where
+pub record OpeningMade (a b : Meaning) (result : Result Opened OpenFault) : Type 0 where
   pub passes : Passes a b
   pub stands : StandsNow b
   pub moments : Throughout (OpensFrom a) a b

@@ -11,7 +11,7 @@ use Rattle.region_layout.specs.declared.image.TableImage.{TableImage}
 use Rattle.region_layout.specs.Region.{AreDistinct}
 use Rattle.region_layout.specs.Images.{empty_image, is_named, table_named}
 use Rattle.crash_moments.specs.Left.{NamedStates, ImageOf}
-use Rattle.leaf_opening.specs.Backed.{AreImagesOf}
+use Rattle.region_layout.specs.ImageWrites.{AreImagesOf}
 
 abbrev pub names_of : List TableImage → List (List ℕ)
 names_of images = map (λ (t : TableImage). t.name) images

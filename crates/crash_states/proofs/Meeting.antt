@@ -9,7 +9,6 @@ use Rattle.row_records.specs.Records.{LogRecord}
 use Rattle.berth_face.specs.Berth.{Meaning}
 use Rattle.disk_backup.specs.State.{LogState}
 use Rattle.disk_backup.specs.Settling.{with_writes}
-use Rattle.drain_copy.specs.Draining.{DrainState}
 use Rattle.leaf_history.specs.History.{Entry, HistoryState, LegalFrom, after}
 use Rattle.leaf_history.specs.Laws.{AreCallers, CallersKeep}
 use Rattle.leaf_history.proofs.Histories.{LegalFrom-back, after-append, others_keep}
@@ -18,7 +17,7 @@ use Rattle.crash_moments.specs.Watched.{Watched, AreApart, AreWatched, Between, 
 use Rattle.crash_moments.specs.Told.{SeenMore}
 use Rattle.crash_moments.proofs.Cuts.{cut_before, none_yet}
 use Rattle.crash_moments.proofs.Telling.{none_more, between_append}
-use Rattle.crash_states.specs.Standing.{IsLogged, IsOwned, Runs, IsKept, RegionRests, Rests, IsTreated, Copies, tables_of}
+use Rattle.crash_states.specs.Standing.{IsLogged, IsOwned, Runs, IsKept, RegionRests, Rests, tables_of}
 use Rattle.crash_states.specs.Entries.{Learns}
 use Rattle.crash_states.proofs.Names.{each_at, all_at, named_at, others_at}
 
@@ -176,26 +175,6 @@ module _ (place : ℕ) (w w' : Watched) (ws : List Watched) (at : slice_get ws p
         region = subst (λ (tables : NamedStates). RegionRests tables m) (sym same) rests.region;
       }
 
-  pub still_copies : (drain : DrainState) (writes : List ℕ → List Write) (m : Meaning) → Copies ws drain writes m → Copies ws' drain writes m
-  still_copies drain writes m copies =
-      let treated : IsTreated (writes w.name) (now_of w) = copies.each place w at in
-      let now : IsTreated (writes w'.name) (now_of w') = subst (λ (n : List ℕ). IsTreated (writes n) (now_of w')) (sym learns.name)
-      (subst (IsTreated (writes w.name)) (sym (learned_shut w w' learns treated.shut)) treated) in
-      record {
-        watched = met_watched m.clock copies.watched;
-        opened = met_opened place w w' ws at learns m.clock ∙ copies.opened;
-        stands = copies.stands;
-        images = copies.images;
-        log_end = copies.log_end;
-        image = copies.image;
-        same = copies.same;
-        logs = copies.logs;
-        draining = copies.draining;
-        closed = copies.closed;
-        each = met_each (λ (v : Watched). IsTreated (writes v.name) (now_of v)) place w' ws now copies.each;
-        others = λ name none. copies.others name (unwatched name none);
-      }
-
 pub met_runs : (place : ℕ) (w w' : Watched) (ws : List Watched) (owner : ℕ) (log : LogState) (writes : List ℕ → List Write) (m : Meaning)
     → slice_get ws place ≡ Some w → Learns w w' → Runs ws owner log writes m → Runs (slice_set ws place w') owner log writes m
 met_runs place w w' ws owner log writes m at learns runs = still_runs place w w' ws at learns owner log writes m runs
@@ -203,7 +182,3 @@ met_runs place w w' ws owner log writes m at learns runs = still_runs place w w'
 pub met_rests : (place : ℕ) (w w' : Watched) (ws : List Watched) (others : NamedStates) (least : List ℕ → List Write) (next : Option LogRecord) (m : Meaning)
     → slice_get ws place ≡ Some w → Learns w w' → Rests ws others least next m → Rests (slice_set ws place w') others least next m
 met_rests place w w' ws others least next m at learns rests = still_rests place w w' ws at learns others least next m rests
-
-pub met_copies : (place : ℕ) (w w' : Watched) (ws : List Watched) (drain : DrainState) (writes : List ℕ → List Write) (m : Meaning)
-    → slice_get ws place ≡ Some w → Learns w w' → Copies ws drain writes m → Copies (slice_set ws place w') drain writes m
-met_copies place w w' ws drain writes m at learns copies = still_copies place w w' ws at learns drain writes m copies

@@ -2,7 +2,7 @@
 use Rattle.std.proofs.Common.{◌≡◌, ◌⊎◌, inl, inr, ℕ, zero, suc, Bool, true, false, List, [], ◌∷◌, Some, refl, sym, ap, subst, ◌∙◌}
 use Rattle.std.specs.Prelude.{slice_get, bytes_eq}
 use Rattle.std.specs.List.{AllByRecursion}
-use Rattle.std.proofs.lemmas.Bool.{false≢true, cond-true, cond-false, false_from_ne_true, or_left, or_right, or_parts}
+use Rattle.std.proofs.lemmas.Bool.{false≢true, cond-true, cond-false, false_from_ne_true, or_parts}
 use Rattle.std.proofs.lemmas.Option.{same_Some}
 use Rattle.std.proofs.lemmas.Slice.Eq.{bytes_eq-Decides}
 use Rattle.leaf_history.specs.History.{HistoryState, no_base}
@@ -82,11 +82,6 @@ pub unlike_at : (name : List ℕ) (ws : List Watched) (place : ℕ) (w : Watched
 unlike_at name [] place w none at = absurd cc
 unlike_at name (v ∷ ws) zero w none at = subst (λ (u : Watched). bytes_eq name u.name ≡ false) (same_Some v w at) (or_parts (bytes_eq name v.name) (is_watched ws name) none).0
 unlike_at name (v ∷ ws) (suc place) w none at = unlike_at name ws place w (or_parts (bytes_eq name v.name) (is_watched ws name) none).1 at
-
-pub watched_at : (ws : List Watched) (place : ℕ) (w : Watched) → slice_get ws place ≡ Some w → is_watched ws w.name ≡ true
-watched_at [] place w at = absurd cc
-watched_at (v ∷ ws) zero w at = or_left (bytes_eq w.name v.name) (is_watched ws w.name) ((bytes_eq-Decides w.name v.name).1 (ap (λ (u : Watched). u.name) (sym (same_Some v w at))))
-watched_at (v ∷ ws) (suc place) w at = or_right (bytes_eq w.name v.name) (is_watched ws w.name) (watched_at ws place w at)
 
 -- its name stands where it does
 pub named_at : (state : Watched → HistoryState) (others : NamedStates) (ws : List Watched) (place : ℕ) (w : Watched) → AreApart ws → slice_get ws place ≡ Some w → by_name state others ws w.name ≡ state w

@@ -7,7 +7,8 @@ use Rattle.region_layout.specs.declared.image.TableImage.{TableImage}
 use Rattle.region_layout.specs.Region.{IsClosed, IsImage}
 use Rattle.disk_backup.specs.Logs.{writes_of}
 use Rattle.disk_backup.specs.Settling.{HasLog}
-use Rattle.leaf_opening.specs.Backed.{AreImagesOf, HasSoundLog}
+use Rattle.region_layout.specs.ImageWrites.{AreImagesOf}
+use Rattle.disk_backup.specs.SoundLogs.{HasSoundLog}
 use Rattle.crash_moments.specs.Left.{NamedStates, Left, RegionLeft, closed, image, HasShutGate}
 use Rattle.crash_moments.specs.Told.{reads_one}
 use Rattle.crash_states.proofs.States.{IsFrontOf, front_within}

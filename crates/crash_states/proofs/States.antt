@@ -8,8 +8,8 @@ use Rattle.leaf_history.specs.History.{Entry, HistoryState, LegalFrom, no_base}
 use Rattle.leaf_history.specs.Laws.{CallersKeep}
 use Rattle.leaf_history.proofs.Histories.{LegalFrom-front}
 use Rattle.disk_backup.specs.Settling.{with_writes}
-use Rattle.leaf_opening.specs.Backed.{IsShort}
-use Rattle.leaf_opening.proofs.Logs.{shorter, no_writes}
+use Rattle.disk_backup.specs.SoundLogs.{IsShort}
+use Rattle.disk_backup.proofs.SoundLogs.{shorter, no_writes}
 use Rattle.crash_moments.specs.Watched.{Watched, IsFoundation, IsWatched, cut, now_of, state_then}
 use Rattle.crash_moments.proofs.Cuts.{cut_split}
 use Rattle.crash_moments.proofs.Histories.{cut_keeps, stays_sound}

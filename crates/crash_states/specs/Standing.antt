@@ -13,7 +13,8 @@ use Rattle.region_layout.specs.Region.{IsClosed, IsImage, head_of}
 use Rattle.disk_backup.specs.State.{LogState}
 use Rattle.disk_backup.specs.Settling.{HasLog, HaveLog, with_writes}
 use Rattle.drain_copy.specs.Draining.{DrainState, Draining, AllClosed}
-use Rattle.leaf_opening.specs.Backed.{AreImagesOf, HasSoundLog}
+use Rattle.region_layout.specs.ImageWrites.{AreImagesOf}
+use Rattle.disk_backup.specs.SoundLogs.{HasSoundLog}
 use Rattle.crash_moments.specs.Left.{NamedStates}
 use Rattle.crash_moments.specs.Watched.{Watched, AreWatched, IsFoundation, by_name, is_watched, now_of, others_then, was_opened}
 

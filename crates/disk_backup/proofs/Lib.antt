@@ -7,3 +7,4 @@ pub mod Kept
 pub mod Staying
 pub mod Beginning
 pub mod Scanned
+pub mod SoundLogs

@@ -4,3 +4,4 @@ pub mod Gates
 pub mod Settling
 pub mod Came
 pub mod Scanning
+pub mod SoundLogs

@@ -10,7 +10,7 @@ use Rattle.region_layout.specs.declared.image.TableImage.{TableImage}
 use Rattle.disk_backup.specs.Logs.{writes_of}
 use Rattle.disk_backup.specs.Settling.{HasLog, with_writes}
 use Rattle.leaf_history.specs.History.{base_of}
-use Rattle.leaf_opening.specs.Backed.{HasSoundLog, IsShort}
+use Rattle.disk_backup.specs.SoundLogs.{HasSoundLog, IsShort}
 use Rattle.crash_moments.specs.Left.{NamedStates}
 use Rattle.crash_moments.specs.Watched.{Watched, IsFoundation, IsWatched, now_of, others_then, was_opened}
 use Rattle.crash_states.specs.Standing.{IsKept, IsWhole, RegionRests, is_closed, is_other, is_image, Rests, tables_of}

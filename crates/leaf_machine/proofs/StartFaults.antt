@@ -1,8 +1,8 @@
 -- How a refusal of the opening is told as one of the start.
 use Rattle.std.proofs.Common.{◌≡◌, ℕ, List, [], Err, refl, sym, subst}
 use Rattle.berth_face.specs.Berth.{Meaning}
-use Rattle.leaf_opening.specs.declared.ways.StartFault as opening
-use Rattle.leaf_opening.specs.declared.ways.StartFault.TheVariants as found
+use Rattle.leaf_opening.specs.declared.ways.OpenFault.{OpenFault}
+use Rattle.leaf_opening.specs.declared.ways.OpenFault.TheVariants as found
 use Rattle.leaf_opening.specs.Starts.{IsOpeningRefusal}
 use Rattle.leaf_table.specs.Calls.{IsFresh}
 use Rattle.leaf_steward.specs.declared.notes.Note.{Note}
@@ -12,7 +12,7 @@ use Rattle.leaf_machine.specs.declared.faults.StartFault.TheVariants.{RegionFaul
 use Rattle.leaf_machine.specs.Starts.{IsStart, IsStartRefused, told_of}
 
 -- what was found, by how it is told
-told_refused : (names : List (List ℕ)) (old new : Meaning) (f : opening.StartFault) → IsOpeningRefusal names old new f → IsStartRefused names old new (told_of f)
+told_refused : (names : List (List ℕ)) (old new : Meaning) (f : OpenFault) → IsOpeningRefusal names old new f → IsStartRefused names old new (told_of f)
 told_refused names old new found.RegionFault is = (found.RegionFault, refl, is)
 told_refused names old new found.DiskFault is = (found.DiskFault, refl, is)
 told_refused names old new found.DiskDamaged is = (found.DiskDamaged, refl, is)
@@ -20,7 +20,7 @@ told_refused names old new (found.Stranger name) is = (found.Stranger name, refl
 told_refused names old new found.NoMemory is = (found.NoMemory, refl, is)
 
 -- nothing that is found tells of a seat
-told_start : {B : Type 0} (x : Seated) (berth after : B) (notes : List Note) (f : opening.StartFault) → AtEach (λ place t v. IsFresh v) x → notes ≡ [] → IsStart x berth notes (Err ((x, after), told_of f))
+told_start : {B : Type 0} (x : Seated) (berth after : B) (notes : List Note) (f : OpenFault) → AtEach (λ place t v. IsFresh v) x → notes ≡ [] → IsStart x berth notes (Err ((x, after), told_of f))
 told_start x berth after notes found.RegionFault fresh none = (fresh, refl, none)
 told_start x berth after notes found.DiskFault fresh none = (fresh, refl, none)
 told_start x berth after notes found.DiskDamaged fresh none = (fresh, refl, none)
@@ -28,7 +28,7 @@ told_start x berth after notes (found.Stranger name) fresh none = (fresh, refl, 
 told_start x berth after notes found.NoMemory fresh none = (fresh, refl, none)
 
 -- the same of a fault that tells it
-module _ (f : opening.StartFault) (e : StartFault) (told : e ≡ told_of f) where
+module _ (f : OpenFault) (e : StartFault) (told : e ≡ told_of f) where
   pub refused_as : (names : List (List ℕ)) (old new : Meaning) → IsOpeningRefusal names old new f → IsStartRefused names old new e
   refused_as names old new is = subst (λ (x : StartFault). IsStartRefused names old new x) (sym told) (told_refused names old new f is)
 
@@ -36,21 +36,21 @@ module _ (f : opening.StartFault) (e : StartFault) (told : e ≡ told_of f) wher
   start_as x berth after notes fresh none = subst (λ (y : StartFault). IsStart x berth notes (Err ((x, after), y))) (sym told) (told_start x berth after notes f fresh none)
 
 -- each is told as itself
-pub told_damaged : (f : opening.StartFault) → told_of f ≡ DiskDamaged → f ≡ found.DiskDamaged
+pub told_damaged : (f : OpenFault) → told_of f ≡ DiskDamaged → f ≡ found.DiskDamaged
 told_damaged found.RegionFault told = absurd cc
 told_damaged found.DiskFault told = absurd cc
 told_damaged found.DiskDamaged told = refl
 told_damaged (found.Stranger name) told = absurd cc
 told_damaged found.NoMemory told = absurd cc
 
-pub told_region : (f : opening.StartFault) → told_of f ≡ RegionFault → f ≡ found.RegionFault
+pub told_region : (f : OpenFault) → told_of f ≡ RegionFault → f ≡ found.RegionFault
 told_region found.RegionFault told = refl
 told_region found.DiskFault told = absurd cc
 told_region found.DiskDamaged told = absurd cc
 told_region (found.Stranger name) told = absurd cc
 told_region found.NoMemory told = absurd cc
 
-pub told_disk : (f : opening.StartFault) → told_of f ≡ DiskFault → f ≡ found.DiskFault
+pub told_disk : (f : OpenFault) → told_of f ≡ DiskFault → f ≡ found.DiskFault
 told_disk found.RegionFault told = absurd cc
 told_disk found.DiskFault told = refl
 told_disk found.DiskDamaged told = absurd cc

@@ -13,7 +13,7 @@ use Rattle.disk_backup.specs.Scanning.{BeginsScan}
 use Rattle.leaf_history.specs.History.{HistoryState, OpenAllowed}
 use Rattle.leaf_history.specs.History as history
 use Rattle.leaf_opening.specs.declared.opening.Opened.{Opened}
-use Rattle.leaf_opening.specs.Starts.{Started, AreFresh, OpensFrom, KeepsDisks, IsDurable, serving_of}
+use Rattle.leaf_opening.specs.Starts.{Started, AreFresh, OpensFrom, KeepsDisks, IsDurable, opened_leaf}
 use Rattle.leaf_table.specs.Turns.{Shared, is_founded, MayHandIn}
 use Rattle.leaf_table.specs.Calls.{SeatView, base_seen, name_of, state_seen}
 use Rattle.crash_moments.specs.Left.{NamedStates}
@@ -36,14 +36,14 @@ use Rattle.leaf_machine.specs.States.{DownStands}
 -- what opening the tables did, where the berth tells its contents
 pub record StartOpened (x : Seated) (a b : Meaning) (o : Opened) : Type 0 where
   pub made : OpeningMade a b (Ok o)
-  pub started : Started x.names a b (serving_of x.names o) o.way
+  pub started : Started x.names a b (opened_leaf x.names o) o.way
   pub durable : IsDurable b o
 
 pub start_opened : (x : Seated) (a b : Meaning) (o : Opened) (names : List (List ℕ)) → names ≡ x.names → Passes a b → StandsNow b → Throughout (OpensFrom a) a b → KeepsDisks a b (Ok o)
-    → BeginsScan (length a.held.disk) a.held.disk b.held.disk → Started names a b (serving_of names o) o.way → IsDurable b o → StartOpened x a b o
+    → BeginsScan (length a.held.disk) a.held.disk b.held.disk → Started names a b (opened_leaf names o) o.way → IsDurable b o → StartOpened x a b o
 start_opened x a b o names same passes stands moments disks held started durable = record {
   made = record { passes = passes; stands = stands; moments = moments; disks = disks; held = held };
-  started = subst (λ (own : List (List ℕ)). Started own a b (serving_of own o) o.way) same started;
+  started = subst (λ (own : List (List ℕ)). Started own a b (opened_leaf own o) o.way) same started;
   durable = durable;
 }
 
@@ -82,7 +82,7 @@ module _ (x : Seated) (seated : AreSeated x) (a b : Meaning) (o : Opened) where
 
   pub finds : (others : NamedStates) (least : List ℕ → List Write) (next : Option LogRecord) → Rests ws others least next a → StartOpened x a b o → (writes : List ℕ → List Write) × Finds ws o.log o.tables.items writes b
   finds others least next rests opened =
-      let started : Started (names_of ws) a b (serving_of (names_of ws) o) o.way = subst (λ (names : List (List ℕ)). Started names a b (serving_of names o) o.way) (sym (watch_names x seated)) opened.started in
+      let started : Started (names_of ws) a b (opened_leaf (names_of ws) o) o.way = subst (λ (names : List (List ℕ)). Started names a b (opened_leaf names o) o.way) (sym (watch_names x seated)) opened.started in
       found ws others least next a b o rests opened.made started opened.durable
 
   -- what is found may be handed in, at each place

@@ -8,9 +8,9 @@ use Rattle.berth_face.specs.Moments.{Throughout}
 use Rattle.disk_backup.specs.Scanning.{BeginsScan}
 use Rattle.disk_backup.specs.Logs.{IsSound}
 use Rattle.disk_backup.specs.Settling.{with_writes}
-use Rattle.leaf_opening.specs.declared.ways.StartFault as opening
-use Rattle.leaf_opening.specs.declared.ways.StartFault.TheVariants as found
-use Rattle.leaf_opening.specs.Backed.{HasSoundLog}
+use Rattle.leaf_opening.specs.declared.ways.OpenFault.{OpenFault}
+use Rattle.leaf_opening.specs.declared.ways.OpenFault.TheVariants as found
+use Rattle.disk_backup.specs.SoundLogs.{HasSoundLog}
 use Rattle.leaf_opening.specs.declared.opening.Opened.{Opened}
 use Rattle.leaf_opening.specs.Starts.{IsOpeningRefusal, OpensFrom, KeepsDisks}
 use Rattle.crash_moments.specs.Left.{NamedStates}
@@ -43,16 +43,16 @@ rests_sound ws others least next m rests = one_sound least (λ name. with_writes
 -- ---- a refusal
 
 -- what refused the opening, where the berth tells its contents
-pub record StartRefused (x : Seated) (a b : Meaning) (f : opening.StartFault) : Type 0 where
+pub record StartRefused (x : Seated) (a b : Meaning) (f : OpenFault) : Type 0 where
   pub made : OpeningMade a b (Err f)
   pub refusal : IsOpeningRefusal x.names a b f
   pub sound : IsSound a.held.disk → f ≢ found.DiskDamaged
 
 -- the opening's answer
-abbrev pub failed : opening.StartFault → Result Opened opening.StartFault
+abbrev pub failed : OpenFault → Result Opened OpenFault
 failed f = Err f
 
-pub opening_refused : (x : Seated) (a b : Meaning) (f : opening.StartFault) (names : List (List ℕ)) → names ≡ x.names → Passes a b → StandsNow b → Throughout (OpensFrom a) a b → KeepsDisks a b (failed f)
+pub opening_refused : (x : Seated) (a b : Meaning) (f : OpenFault) (names : List (List ℕ)) → names ≡ x.names → Passes a b → StandsNow b → Throughout (OpensFrom a) a b → KeepsDisks a b (failed f)
     → BeginsScan (length a.held.disk) a.held.disk b.held.disk → IsOpeningRefusal names a b f → (IsSound a.held.disk → failed f ≢ failed found.DiskDamaged) → StartRefused x a b f
 opening_refused x a b f names same passes stands moments disks held refusal sound = record {
   made = record { passes = passes; stands = stands; moments = moments; disks = disks; held = held };
@@ -60,7 +60,7 @@ opening_refused x a b f names same passes stands moments disks held refusal soun
   sound = λ is damaged. sound is (ap failed damaged);
 }
 
-module _ (x : Seated) (seated : AreSeated x) (a b : Meaning) (f : opening.StartFault) where
+module _ (x : Seated) (seated : AreSeated x) (a b : Meaning) (f : OpenFault) where
   abbrev ws : List Watched
   ws = watched_by x
 

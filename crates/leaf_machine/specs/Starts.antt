@@ -4,9 +4,9 @@ use Rattle.leaf_model.specs.declared.writes.Write.{Write}
 use Rattle.row_records.specs.Records.{LogRecord}
 use Rattle.berth_face.specs.Berth.{Meaning}
 use Rattle.leaf_opening.specs.declared.ways.Way.{Way}
-use Rattle.leaf_opening.specs.declared.ways.StartFault as opening
-use Rattle.leaf_opening.specs.declared.ways.StartFault.TheVariants as found
-use Rattle.leaf_opening.specs.Serving as plain
+use Rattle.leaf_opening.specs.declared.ways.OpenFault.{OpenFault}
+use Rattle.leaf_opening.specs.declared.ways.OpenFault.TheVariants as found
+use Rattle.leaf_opening.specs.OpenedLeaf.{OpenedLeaf}
 use Rattle.leaf_opening.specs.Starts.{Started, IsOpeningRefusal}
 use Rattle.leaf_table.specs.Calls.{SeatView, IsFresh}
 use Rattle.crash_moments.specs.Left.{NamedStates}
@@ -19,7 +19,7 @@ use Rattle.leaf_machine.specs.declared.faults.StartFault.TheVariants.{RegionFaul
 use Rattle.leaf_machine.specs.States.{Serving, SeatsTold}
 
 -- how a refusal of the opening is told
-abbrev pub told_of : opening.StartFault → StartFault
+abbrev pub told_of : OpenFault → StartFault
 told_of found.RegionFault = RegionFault
 told_of found.DiskFault = DiskFault
 told_of found.DiskDamaged = DiskDamaged
@@ -49,14 +49,14 @@ IsStart x berth notes (Err ((y, b), fault)) = AtEach (λ place t v. IsFresh v) x
 
 -- where the berth tells its contents: what was found, or why it was refused
 pub record CameUp (names : List (List ℕ)) (old new : Meaning) (notes : List Note) (up : Serving) (way : Way) : Type 0 where
-  pub served : plain.Serving
+  pub served : OpenedLeaf
   pub started : Started names old new served way
   pub log : up.owing.log ≡ served.log
   pub noted : OpenedNotes 0 served.tables notes
 
 abbrev pub IsStartRefused : List (List ℕ) → Meaning → Meaning → StartFault → Type 0
 IsStartRefused names old new (Worn table) = ⊤
-IsStartRefused names old new fault = (f : opening.StartFault) × (fault ≡ told_of f) × IsOpeningRefusal names old new f
+IsStartRefused names old new fault = (f : OpenFault) × (fault ≡ told_of f) × IsOpeningRefusal names old new f
 
 -- what becomes of a leaf at rest that starts
 abbrev pub StartGoesOn : {B : Type 0} → (B → Meaning) → Seated → Meaning → NamedStates → (List ℕ → List Write) → Option LogRecord

@@ -3,6 +3,7 @@ ghost use Rattle.std.specs.Prelude.{◌≡◌};
 ghost use Rattle.leaf_machine.specs.Starts.{told_of};
 
 use leaf_model::Text;
+use leaf_opening::OpenFault;
 
 /// Why a start was refused.
 #[derive(Debug, Drop)]
@@ -21,14 +22,14 @@ pub enum StartFault {
 }
 
 /// A refusal of the opening, as one of the start.
-pub(crate) fn told(fault: leaf_opening::StartFault) -> StartFault
+pub(crate) fn told(fault: OpenFault) -> StartFault
     ensures { result ≡ told_of fault }
 {
     match fault {
-        leaf_opening::StartFault::RegionFault => StartFault::RegionFault,
-        leaf_opening::StartFault::DiskFault => StartFault::DiskFault,
-        leaf_opening::StartFault::DiskDamaged => StartFault::DiskDamaged,
-        leaf_opening::StartFault::Stranger(name) => StartFault::Stranger(name),
-        leaf_opening::StartFault::NoMemory => StartFault::NoMemory,
+        OpenFault::RegionFault => StartFault::RegionFault,
+        OpenFault::DiskFault => StartFault::DiskFault,
+        OpenFault::DiskDamaged => StartFault::DiskDamaged,
+        OpenFault::Stranger(name) => StartFault::Stranger(name),
+        OpenFault::NoMemory => StartFault::NoMemory,
     }
 }

@@ -1,11 +1,8 @@
 -- The tables at the places of their names.
-use Rattle.std.proofs.Common.{◌≡◌, ◌∙◌, ℕ, suc, ◌<◌, ◌^◌, Bool, true, false, List, [], ◌∷◌, map, Option, Some, None, option_map, refl, sym, ap}
-use Rattle.std.specs.Prelude.{◌||◌, slice_get}
-use Rattle.std.specs.List.{AllByRecursion, list_any}
-use Rattle.std.specs.Str.{bytes_eq}
-use Rattle.std.proofs.lemmas.Bool.{false≢true}
+use Rattle.std.proofs.Common.{◌≡◌, ◌∙◌, ℕ, ◌<◌, ◌^◌, List, [], ◌∷◌, map, Option, Some, None, option_map, sym, ap}
+use Rattle.std.specs.Prelude.{slice_get}
+use Rattle.std.specs.List.{AllByRecursion}
 use Rattle.std.proofs.lemmas.Option.{same_Some, slice_get-map}
-use Rattle.std.proofs.lemmas.Slice.Eq.{bytes_eq-Decides}
 use Rattle.table_state.specs.Tables.{Table}
 use Rattle.leaf_opening.specs.Starts.{AreFresh}
 
@@ -27,13 +24,3 @@ have_room (t ∷ tables) each = (each.0.1, have_room tables each.1)
 pub table_at : (make : List ℕ → Table) (names : List (List ℕ)) (tables : List Table) (place : ℕ) (name : List ℕ) (t : Table) → tables ≡ map make names → slice_get names place ≡ Some name → slice_get tables place ≡ Some t → t ≡ make name
 table_at make names tables place name t is named found =
     same_Some t (make name) (sym found ∙ ap (λ (ts : List Table). slice_get ts place) is ∙ slice_get-map make names place ∙ ap (λ (o : Option (List ℕ)). option_map make o) named)
-
--- ---- the place of a name
-
-pub place_of : (names : List (List ℕ)) (name : List ℕ) → list_any (bytes_eq name) names ≡ true → (place : ℕ) × (slice_get names place ≡ Some name)
-place_of [] name e = absurd (false≢true e)
-place_of (n ∷ ns) name e = step (place_of ns name) (bytes_eq name n) refl e
-  where
-    step : (list_any (bytes_eq name) ns ≡ true → (place : ℕ) × (slice_get ns place ≡ Some name)) → (b : Bool) → bytes_eq name n ≡ b → (b || list_any (bytes_eq name) ns) ≡ true → (place : ℕ) × (slice_get (n ∷ ns) place ≡ Some name)
-    step next true same e = (0, ap Some (sym ((bytes_eq-Decides name n).0 same)))
-    step next false same e = let rest = next e in (suc rest.0, rest.1)

@@ -1,5 +1,5 @@
 -- What a crash leaves while a leaf starts, and what a start tells.
-use Rattle.std.proofs.Common.{◌≡◌, ◌⊎◌, inl, inr, ◌∙◌, ℕ, List, [], length, sym, ap, subst, arith, Result, Err}
+use Rattle.std.proofs.Common.{◌≡◌, ◌⊎◌, inl, inr, ◌∙◌, ℕ, List, [], length, refl, sym, ap, subst, arith, Result, Err}
 use Rattle.std.specs.Prelude.{◌≢◌}
 use Rattle.berth_face.specs.Berth.{Pair, Meaning, Ended, SameDisk}
 use Rattle.berth_face.specs.Moments.{Throughout}
@@ -11,8 +11,8 @@ use Rattle.adopt.specs.declared.found.AdoptFault.TheVariants as adopting
 use Rattle.disk_backup.specs.Scanning.{StepsFrom, BeginsScan}
 use Rattle.log_recovery.specs.declared.fault.RecoveryFault.{RecoveryFault}
 use Rattle.log_recovery.specs.declared.fault.RecoveryFault.TheVariants as found
-use Rattle.leaf_opening.specs.declared.ways.StartFault.{StartFault}
-use Rattle.leaf_opening.specs.declared.ways.StartFault.TheVariants as fault
+use Rattle.leaf_opening.specs.declared.ways.OpenFault.{OpenFault}
+use Rattle.leaf_opening.specs.declared.ways.OpenFault.TheVariants as fault
 use Rattle.leaf_opening.specs.declared.opening.Opened.{Opened}
 use Rattle.leaf_opening.specs.Faults.{told_of_adopt, told_of_recovery}
 use Rattle.leaf_opening.specs.Starts.{OpensFrom, KeepsDisks}
@@ -69,24 +69,31 @@ module _ (old mid : Meaning) (so_far : Throughout (AdoptsFrom old) old mid) wher
 
 -- ---- of the fault that a start tells
 
-abbrev refused : StartFault → Result Opened StartFault
+abbrev refused : OpenFault → Result Opened OpenFault
 refused e = Err e
 
-same_fault : (e f : StartFault) → refused e ≡ refused f → e ≡ f
+same_fault : (e f : OpenFault) → refused e ≡ refused f → e ≡ f
 same_fault e f same = cc
 
-module _ (result : Result Opened StartFault) (e told : StartFault) (is : result ≡ refused e) (same : e ≡ told) where
+module _ (result : Result Opened OpenFault) (e told : OpenFault) (is : result ≡ refused e) (same : e ≡ told) where
   pub never_told : told ≢ fault.DiskDamaged → result ≢ refused fault.DiskDamaged
   never_told other = λ damaged. other (sym same ∙ same_fault e fault.DiskDamaged (sym is ∙ damaged))
 
   pub kept_as : (old new : Meaning) → KeepsDisks old new (Err told) → KeepsDisks old new result
-  kept_as old new kept = subst (λ (r : Result Opened StartFault). KeepsDisks old new r) (sym (is ∙ ap refused same)) kept
+  kept_as old new kept = subst (λ (r : Result Opened OpenFault). KeepsDisks old new r) (sym (is ∙ ap refused same)) kept
 
 -- an adoption tells no damage
 pub never_adopting : (f : AdoptFault) → told_of_adopt f ≢ fault.DiskDamaged
 never_adopting adopting.RegionFault = λ e. absurd cc
 never_adopting (adopting.Stranger name) = λ e. absurd cc
 never_adopting adopting.NoMemory = λ e. absurd cc
+
+-- and a recovery tells one only where it found one
+pub never_damaged : (f : RecoveryFault) → f ≢ found.DiskDamaged → told_of_recovery f ≢ fault.DiskDamaged
+never_damaged found.DiskFault other = λ e. absurd cc
+never_damaged found.DiskDamaged other = λ e. other refl
+never_damaged (found.Stranger name) other = λ e. absurd cc
+never_damaged found.NoMemory other = λ e. absurd cc
 
 pub kept_adopting : (old new : Meaning) (f : AdoptFault) → Ended SameDisk old new → KeepsDisks old new (Err (told_of_adopt f))
 kept_adopting old new adopting.RegionFault kept = kept

@@ -13,7 +13,11 @@ use Rattle.adopt.specs.Found.{is_stranger, stranger_of}
 use Rattle.disk_backup.specs.Logs.{writes_of}
 use Rattle.log_recovery.specs.Recovery.{stranger_in}
 use Rattle.log_recovery.specs.Recovery as recovery
-use Rattle.leaf_opening.specs.Backed.{AreImagesOf, is_one_of}
+use Rattle.region_layout.specs.ImageWrites.{AreImagesOf}
+
+-- one of the names
+abbrev pub is_one_of : List (List ℕ) → List ℕ → Bool
+is_one_of names name = list_any (bytes_eq name) names
 
 none_of : {X : Type 0} (f : X → List ℕ) (o : Option X) → option_map f o ≡ None → o ≡ None
 none_of f None e = refl

@@ -3,15 +3,15 @@ use Rattle.adopt.specs.declared.found.AdoptFault.{AdoptFault}
 use Rattle.adopt.specs.declared.found.AdoptFault.TheVariants as adopting
 use Rattle.log_recovery.specs.declared.fault.RecoveryFault.{RecoveryFault}
 use Rattle.log_recovery.specs.declared.fault.RecoveryFault.TheVariants as recovery
-use Rattle.leaf_opening.specs.declared.ways.StartFault.{StartFault}
-use Rattle.leaf_opening.specs.declared.ways.StartFault.TheVariants.{RegionFault, DiskFault, DiskDamaged, Stranger, NoMemory}
+use Rattle.leaf_opening.specs.declared.ways.OpenFault.{OpenFault}
+use Rattle.leaf_opening.specs.declared.ways.OpenFault.TheVariants.{RegionFault, DiskFault, DiskDamaged, Stranger, NoMemory}
 
-abbrev pub told_of_adopt : AdoptFault → StartFault
+abbrev pub told_of_adopt : AdoptFault → OpenFault
 told_of_adopt adopting.RegionFault = RegionFault
 told_of_adopt (adopting.Stranger name) = Stranger name
 told_of_adopt adopting.NoMemory = NoMemory
 
-abbrev pub told_of_recovery : RecoveryFault → StartFault
+abbrev pub told_of_recovery : RecoveryFault → OpenFault
 told_of_recovery recovery.DiskFault = DiskFault
 told_of_recovery recovery.DiskDamaged = DiskDamaged
 told_of_recovery (recovery.Stranger name) = Stranger name

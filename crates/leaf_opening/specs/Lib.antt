@@ -1,5 +1,3 @@
-pub mod Serving
-pub mod Backed
+pub mod OpenedLeaf
 pub mod Faults
 pub mod Starts
-pub mod Laws

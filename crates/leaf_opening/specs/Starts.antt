@@ -16,10 +16,10 @@ use Rattle.log_recovery.specs.Recovery as recovery
 use Rattle.log_recovery.specs.declared.fault.RecoveryFault.TheVariants as found
 use Rattle.leaf_opening.specs.declared.ways.Way.{Way}
 use Rattle.leaf_opening.specs.declared.ways.Way.TheVariants.{Memory, Disk}
-use Rattle.leaf_opening.specs.declared.ways.StartFault.{StartFault}
-use Rattle.leaf_opening.specs.declared.ways.StartFault.TheVariants.{RegionFault, DiskFault, DiskDamaged, Stranger, NoMemory}
+use Rattle.leaf_opening.specs.declared.ways.OpenFault.{OpenFault}
+use Rattle.leaf_opening.specs.declared.ways.OpenFault.TheVariants.{RegionFault, DiskFault, DiskDamaged, Stranger, NoMemory}
 use Rattle.leaf_opening.specs.declared.opening.Opened.{Opened}
-use Rattle.leaf_opening.specs.Serving.{Serving}
+use Rattle.leaf_opening.specs.OpenedLeaf.{OpenedLeaf}
 
 -- the way of a start that finds these bytes and is not refused
 abbrev pub IsWayOf : List ℕ → Way → Type 0
@@ -35,7 +35,7 @@ way_after (Disk (why.OtherVersion version)) = Disk (why.Closed 0)
 way_after (Disk why.NoImage) = Disk (why.Closed 0)
 
 -- how a leaf of these names comes to its tables and its log: those of the region's image; or those of the disk, as it reads then
-abbrev pub IsCome : List (List ℕ) → List ℕ → List ℕ → Serving → Way → Type 0
+abbrev pub IsCome : List (List ℕ) → List ℕ → List ℕ → OpenedLeaf → Way → Type 0
 IsCome names region disk s Memory = (images : List TableImage) × (log_end : ℕ) × IsImage 1 region images log_end × (stranger_of names images ≡ None)
     × (s.tables ≡ tables_of names images) × (s.log ≡ record { end = log_end; owed = None; laid = false })
 IsCome names region disk s (Disk w) = IsWhy region w × IsRecovered names disk s.tables s.log
@@ -46,7 +46,7 @@ disk_after Memory disk = disk
 disk_after (Disk w) disk = begun disk
 
 -- a start that came to its end
-pub record Started (names : List (List ℕ)) (old new : Meaning) (s : Serving) (way : Way) : Type 0 where
+pub record Started (names : List (List ℕ)) (old new : Meaning) (s : OpenedLeaf) (way : Way) : Type 0 where
   pub come : IsCome names old.held.region new.held.disk s way
   pub region : new.held.region ≡ left_behind old.held.region
   pub disk : new.held.disk ≡ disk_after way old.held.disk
@@ -56,7 +56,7 @@ abbrev pub AreFresh : List Table → Type 0
 AreFresh tables = AllByRecursion (λ (t : Table). t.pending ≡ None) tables
 
 -- why a start was refused, and what it leaves of the region
-abbrev pub IsOpeningRefusal : List (List ℕ) → Meaning → Meaning → StartFault → Type 0
+abbrev pub IsOpeningRefusal : List (List ℕ) → Meaning → Meaning → OpenFault → Type 0
 IsOpeningRefusal names old new RegionFault = IsBroken old.held.region new.held.region × (new.held.disk ≡ old.held.disk)
 IsOpeningRefusal names old new DiskFault = new.held.region ≡ left_behind old.held.region
 IsOpeningRefusal names old new DiskDamaged = (new.held.region ≡ left_behind old.held.region) × recovery.IsRecoveryRefusal names new.held.disk found.DiskDamaged
@@ -65,8 +65,8 @@ IsOpeningRefusal names old new (Stranger name) = (new.held.region ≡ left_behin
 IsOpeningRefusal names old new NoMemory = new.held.region ≡ left_behind old.held.region
 
 -- the leaf that serves what was opened
-abbrev pub serving_of : List (List ℕ) → Opened → Serving
-serving_of names o = record { names = names; tables = o.tables.items; log = o.log; owner = 0; count = 0 }
+abbrev pub opened_leaf : List (List ℕ) → Opened → OpenedLeaf
+opened_leaf names o = record { names = names; tables = o.tables.items; log = o.log }
 
 -- ---- what a crash leaves while a leaf starts
 
@@ -79,7 +79,7 @@ pub record OpensFrom (old : Meaning) (p : Pair) : Type 0 where
   pub disk : (p.disk ≡ from.disk) ⊎ (IsClosed p.region × BeginsScan (length old.held.disk) from.disk p.disk)
 
 -- the disks are those of before where nothing of the disk was called: an image was adopted, or the region failed
-abbrev pub KeepsDisks : Meaning → Meaning → Result Opened StartFault → Type 0
+abbrev pub KeepsDisks : Meaning → Meaning → Result Opened OpenFault → Type 0
 KeepsDisks old new (Ok o) = o.way ≡ Memory → Ended SameDisk old new
 KeepsDisks old new (Err RegionFault) = Ended SameDisk old new
 KeepsDisks old new (Err fault) = ⊤

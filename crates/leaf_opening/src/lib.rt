@@ -1,11 +1,9 @@
 //! How a leaf comes to its tables: from its region, or from its log.
 #![tactic(auto)]
 
-mod laws;
 mod opening;
 mod ways;
 
 pub use adopt::WhyDisk;
-pub use laws::leaves_rest;
 pub use opening::{Opened, open_tables};
-pub use ways::{StartFault, Way};
+pub use ways::{OpenFault, Way};

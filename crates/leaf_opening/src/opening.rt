@@ -1,7 +1,6 @@
 // The tables of a leaf that starts.
-ghost use Rattle.std.specs.Prelude.{◌≡◌, ◌≢◌, ◌<◌, ◌^◌, ℕ, List, None, Err, false, length, IfOk, IfErr, IsTrue};
+ghost use Rattle.std.specs.Prelude.{◌≡◌, ◌≢◌, ◌<◌, ◌^◌, None, Err, false, length, IfOk, IfErr, IsTrue};
 ghost use Rattle.std.specs.List.{AllByRecursion};
-ghost use Rattle.leaf_model.specs.declared.writes.Write.{Write};
 ghost use Rattle.berth_face.specs.Causes.{Rose};
 ghost use Rattle.berth_face.specs.Berth.{Passes};
 ghost use Rattle.berth_face.specs.Moments.{Throughout};
@@ -9,11 +8,10 @@ ghost use Rattle.disk_backup.specs.Logs.{IsSound};
 ghost use Rattle.disk_backup.specs.Scanning.{BeginsScan};
 ghost use Rattle.region_layout.specs.Names.{AreNames};
 ghost use Rattle.leaf_opening.specs.declared.ways.Way.TheVariants as way;
-ghost use Rattle.leaf_opening.specs.declared.ways.StartFault.TheVariants as fault;
-ghost use Rattle.leaf_opening.specs.Backed.{Backed, Rests};
-ghost use Rattle.leaf_opening.specs.Starts.{Started, IsOpeningRefusal, IsWayOf, AreFresh, OpensFrom, KeepsDisks, IsDurable, serving_of};
+ghost use Rattle.leaf_opening.specs.declared.ways.OpenFault.TheVariants as fault;
+ghost use Rattle.leaf_opening.specs.Starts.{Started, IsOpeningRefusal, IsWayOf, AreFresh, OpensFrom, KeepsDisks, IsDurable, opened_leaf};
 
-use crate::ways::{StartFault, Way};
+use crate::ways::{OpenFault, Way};
 use adopt::{Adopted, Found, WhyDisk, adopt};
 use berth_face::Berth;
 use disk_backup::BackupLog;
@@ -36,19 +34,15 @@ pub fn open_tables<B: Berth>(
     alloc: Global,
     names: &Names,
     berth: &mut B,
-) -> Result<Opened, StartFault>
+) -> Result<Opened, OpenFault>
     requires names { AreNames names.now }
     ensures one { IfOk result (λ o. length o.tables.items ≡ length names.now) }
     ensures fresh { IfOk result (λ o. AreFresh o.tables.items × (o.log.owed ≡ None)) }
     ensures room { IfOk result (λ o. AllByRecursion (λ t. t.writes < 2 ^ 63) o.tables.items) }
-    // Where the berth tells its contents: on any bytes, and where they are what a leaf left.
-    ensures told { IsTrue (B.meaning berth.old).tells → IfOk result (λ o. Started names.now (B.meaning berth.old) (B.meaning berth.new) (serving_of names.now o) o.way) }
+    // Where the berth tells its contents.
+    ensures told { IsTrue (B.meaning berth.old).tells → IfOk result (λ o. Started names.now (B.meaning berth.old) (B.meaning berth.new) (opened_leaf names.now o) o.way) }
     ensures way { IsTrue (B.meaning berth.old).tells → IfOk result (λ o. IsWayOf (B.meaning berth.old).held.region o.way) }
     ensures refused { IsTrue (B.meaning berth.old).tells → IfErr result (IsOpeningRefusal names.now (B.meaning berth.old) (B.meaning berth.new)) }
-    ensures backed { (writes : List ℕ → List Write) → IsTrue (B.meaning berth.old).tells → Rests writes (B.meaning berth.old)
-        → IfOk result (λ o. Backed writes (serving_of names.now o) (B.meaning berth.new)) }
-    ensures rests { (writes : List ℕ → List Write) → IsTrue (B.meaning berth.old).tells → Rests writes (B.meaning berth.old)
-        → IfErr result (λ e. Rests writes (B.meaning berth.new) × (e ≢ fault.DiskDamaged)) }
     // A log that is sound is never damaged.
     ensures sound { IsTrue (B.meaning berth.old).tells → IsSound (B.meaning berth.old).held.disk → result ≢ Err fault.DiskDamaged }
     // What a crash leaves at each moment, and behind the call.

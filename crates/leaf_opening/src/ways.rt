@@ -17,7 +17,7 @@ pub enum Way {
 
 /// Why a start was refused.
 #[derive(Debug, Drop)]
-pub enum StartFault {
+pub enum OpenFault {
     /// A call on the region failed.
     RegionFault,
     /// A call on the disk failed.
@@ -29,27 +29,27 @@ pub enum StartFault {
     NoMemory,
 }
 
-impl From<AdoptFault> for StartFault {
+impl From<AdoptFault> for OpenFault {
     ghost from_gives = { λ f e. e ≡ told_of_adopt f };
 
-    fn from(fault: AdoptFault) -> StartFault {
+    fn from(fault: AdoptFault) -> OpenFault {
         match fault {
-            AdoptFault::RegionFault => StartFault::RegionFault,
-            AdoptFault::Stranger(name) => StartFault::Stranger(name),
-            AdoptFault::NoMemory => StartFault::NoMemory,
+            AdoptFault::RegionFault => OpenFault::RegionFault,
+            AdoptFault::Stranger(name) => OpenFault::Stranger(name),
+            AdoptFault::NoMemory => OpenFault::NoMemory,
         }
     }
 }
 
-impl From<RecoveryFault> for StartFault {
+impl From<RecoveryFault> for OpenFault {
     ghost from_gives = { λ f e. e ≡ told_of_recovery f };
 
-    fn from(fault: RecoveryFault) -> StartFault {
+    fn from(fault: RecoveryFault) -> OpenFault {
         match fault {
-            RecoveryFault::DiskFault => StartFault::DiskFault,
-            RecoveryFault::DiskDamaged => StartFault::DiskDamaged,
-            RecoveryFault::Stranger(name) => StartFault::Stranger(name),
-            RecoveryFault::NoMemory => StartFault::NoMemory,
+            RecoveryFault::DiskFault => OpenFault::DiskFault,
+            RecoveryFault::DiskDamaged => OpenFault::DiskDamaged,
+            RecoveryFault::Stranger(name) => OpenFault::Stranger(name),
+            RecoveryFault::NoMemory => OpenFault::NoMemory,
         }
     }
 }

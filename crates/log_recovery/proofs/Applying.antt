@@ -1,5 +1,5 @@
 -- One record more, for the tables of all names.
-use Rattle.std.proofs.Common.{◌≡◌, ℕ, zero, suc, ◌+◌, ◌-◌, ◌<◌, ◌≤◌, ◌^◌, inl, inr, Bool, true, false, cond, not, List, [], ◌∷◌, ◌++◌, length, take, get_or, set, find, Option, Some, None, option_map, refl, sym, ap, ap₂, subst, ◌∙◌, append_assoc, append-nil, length-append, arith}
+use Rattle.std.proofs.Common.{◌≡◌, ℕ, zero, suc, ◌+◌, ◌-◌, ◌<◌, ◌≤◌, ◌^◌, inl, inr, Bool, true, false, cond, not, List, [], ◌∷◌, ◌++◌, length, take, get_or, set, find, Option, Some, None, option_map, refl, sym, ap, ap₂, subst, ◌∙◌, append-nil, length-append, arith}
 use Rattle.std.specs.Prelude.{◌≢◌, Err}
 use Rattle.std.specs.List.{AllByRecursion, list_any}
 use Rattle.std.specs.Str.{bytes_eq}
@@ -15,21 +15,13 @@ use Rattle.table_state.specs.declared.fault.AddFault.{AddFault}
 use Rattle.table_state.specs.declared.fault.AddFault.TheVariants as add
 use Rattle.log_recovery.specs.Faults.{told_of_add}
 use Rattle.disk_backup.specs.Logs.{IsBounded, writes_of}
+use Rattle.disk_backup.proofs.SoundLogs.{writes_append}
 use Rattle.log_recovery.specs.Recovery.{AreDistinct, table_of, tables_of, is_stranger, stranger_in, IsTooLong}
 use Rattle.log_recovery.specs.Applying.{Applies, HasApplied, ReplaysAll, count_of}
 use Rattle.log_recovery.proofs.Replaying.{table_after}
 use Rattle.log_recovery.proofs.Places.{StandsAt, differ}
 
 -- ---- the writes of one name
-
-pub writes_append : (name : List ℕ) (a b : List LogRecord) → writes_of name (a ++ b) ≡ writes_of name a ++ writes_of name b
-writes_append name [] b = refl
-writes_append name (s ∷ a) b = step (bytes_eq name s.name) (writes_append name a b)
-  where
-    step : (same : Bool) → writes_of name (a ++ b) ≡ writes_of name a ++ writes_of name b
-        → cond same (s.writes ++ writes_of name (a ++ b)) (writes_of name (a ++ b)) ≡ cond same (s.writes ++ writes_of name a) (writes_of name a) ++ writes_of name b
-    step true e = ap (λ (l : List Write). s.writes ++ l) e ∙ sym (append_assoc s.writes (writes_of name a) (writes_of name b))
-    step false e = e
 
 pub few_writes : (name : List ℕ) (records : List LogRecord) → length (writes_of name records) ≤ count_of records
 few_writes name [] = omega arith

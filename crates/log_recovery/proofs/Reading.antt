@@ -20,7 +20,8 @@ use Rattle.log_recovery.specs.declared.fault.RecoveryFault.{RecoveryFault}
 use Rattle.log_recovery.specs.declared.fault.RecoveryFault.TheVariants.{DiskDamaged}
 use Rattle.log_recovery.specs.Recovery.{IsTooLong, IsRecoveryRefusal, tables_of}
 use Rattle.log_recovery.specs.Applying.{HasApplied, Reached, count_of}
-use Rattle.log_recovery.proofs.Applying.{writes_append, few_writes, count_more}
+use Rattle.disk_backup.proofs.SoundLogs.{writes_append}
+use Rattle.log_recovery.proofs.Applying.{few_writes, count_more}
 
 module _ (names : List (List ℕ)) (tells : Bool) (disk : List ℕ) where
   -- ---- the first gate

@@ -2,3 +2,4 @@ pub mod Region
 pub mod Names
 pub mod Images
 pub mod Reading
+pub mod ImageWrites

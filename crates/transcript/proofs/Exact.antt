@@ -13,7 +13,7 @@ use Rattle.leaf_history.proofs.Histories.{LegalFrom-front, keeps_all}
 use Rattle.turnstile.specs.Seats.{Others}
 use Rattle.leaf_opening.specs.declared.ways.Way.{Way}
 use Rattle.leaf_opening.specs.declared.ways.Way.TheVariants.{Memory, Disk}
-use Rattle.leaf_opening.specs.Serving as plain
+use Rattle.leaf_opening.specs.OpenedLeaf.{OpenedLeaf}
 use Rattle.leaf_opening.specs.Starts.{IsCome, disk_after}
 use Rattle.crash_moments.specs.Left.{NamedStates}
 use Rattle.leaf_table.specs.Turns.{Shared, Turns, told, history}
@@ -153,7 +153,7 @@ has_after Memory disk name a has = has
 has_after (Disk why) disk name a has = has_begun disk name a has
 
 -- as many tables are found as there are names
-come_count : (names : List (List ℕ)) (region disk : List ℕ) (s : plain.Serving) (way : Way) → IsCome names region disk s way → length s.tables ≡ length names
+come_count : (names : List (List ℕ)) (region disk : List ℕ) (s : OpenedLeaf) (way : Way) → IsCome names region disk s way → length s.tables ≡ length names
 come_count names region disk s Memory come = ap (λ (ts : List Table). length ts) come.4 ∙ length_mapped _ names
 come_count names region disk s (Disk why) come = ap (λ (ts : List Table). length ts) come.1.tables_are ∙ length_mapped _ names
 

@@ -8,7 +8,7 @@ use Rattle.region_layout.specs.Images as images
 use Rattle.log_recovery.specs.Recovery as recovery
 use Rattle.leaf_opening.specs.declared.ways.Way.{Way}
 use Rattle.leaf_opening.specs.declared.ways.Way.TheVariants.{Memory, Disk}
-use Rattle.leaf_opening.specs.Serving as plain
+use Rattle.leaf_opening.specs.OpenedLeaf.{OpenedLeaf}
 use Rattle.leaf_opening.specs.Starts.{IsCome, IsWayOf, way_after}
 use Rattle.printed_lines.specs.declared.line.Said.TheVariants as said
 use Rattle.printed_lines.specs.declared.line.Verb.{Verb}
@@ -113,7 +113,7 @@ claimed None region way is h = tt
 claimed (Some v) region way is h = same_way region way v is h
 
 -- a leaf comes to a table for each name
-come_length : (names : List (List ℕ)) (region disk : List ℕ) (s : plain.Serving) (way : Way)
+come_length : (names : List (List ℕ)) (region disk : List ℕ) (s : OpenedLeaf) (way : Way)
     → IsCome names region disk s way → length s.tables ≡ length names
 come_length names region disk s Memory h = ap length h.4 ∙ length_mapped (λ name. images.table_of (images.table_named h.0 name)) names
 come_length names region disk s (Disk w) h = ap length h.1.tables_are ∙ length_mapped (recovery.table_of h.1.records) names

@@ -10,21 +10,10 @@ use Rattle.log_recovery.specs.declared.fault.RecoveryFault.{RecoveryFault}
 use Rattle.leaf_opening.specs.Faults.{told_of_adopt, told_of_recovery}
 use Rattle.leaf_opening.specs.Starts.{IsWayOf}
 use Rattle.leaf_opening.proofs.Places.{AreSettled, are_fresh, have_room}
-use Rattle.leaf_opening.proofs.Backing.{started_by_memory, started_by_disk, backed_by_memory, backed_by_disk, recovered_as, not_by_memory}
-use Rattle.leaf_opening.proofs.Refusing.{told_as, rests_adopt, rests_read, never_damaged}
+use Rattle.leaf_opening.proofs.Origins.{started_by_memory, started_by_disk, recovered_as, not_by_memory}
 use Rattle.leaf_opening.proofs.Regions.{left_closed}
-use Rattle.leaf_opening.proofs.Starting.{opens_adopting, opens_reading, held_on, never_told, never_adopting, kept_as, kept_adopting, kept_reading}
+use Rattle.leaf_opening.proofs.Starting.{opens_adopting, opens_reading, held_on, never_told, never_adopting, never_damaged, kept_as, kept_adopting, kept_reading}
 use Rattle.leaf_opening.proofs.opening.open_tables.Goals as goal
-
-pub returns-in_err-found-clause-rests : goal.returns-in_err-found-clause-rests
-returns-in_err-found-clause-rests g c =
-    λ writes told rests.
-    let old = g.B.Berth.meaning c.args.berth.now in
-    let new = g.B.Berth.meaning c.adopt.new.berth in
-    let fault = c.in_err-found.field-0.0 in
-    let p = err_from_is_err_and c.from_residual.result c.from_residual.ensures.1 in
-    told_as writes new c.from_residual.result p.0 (told_of_adopt fault) p.1 p.2
-    (rests_adopt writes old new rests (c.adopt.ensures.disk told) (c.adopt.ensures.disks told) c.args.names.now fault (c.in_err-found.ensures.told told))
 
 pub returns-in_err-found-clause-sound : goal.returns-in_err-found-clause-sound
 returns-in_err-found-clause-sound g c =
@@ -48,21 +37,6 @@ returns-in_err-found-clause-disks g c =
 
 pub returns-in_err-found-clause-held : goal.returns-in_err-found-clause-held
 returns-in_err-found-clause-held g c = λ told. inl (c.adopt.ensures.disk told)
-
-pub returns-in_err-recovered-in-NoTables-clause-rests :
-    goal.returns-in_err-recovered-in-NoTables-clause-rests
-returns-in_err-recovered-in-NoTables-clause-rests g c =
-    λ writes told rests.
-    let old = g.B.Berth.meaning c.args.berth.now in
-    let mid = g.B.Berth.meaning c.adopt.new.berth in
-    let new = g.B.Berth.meaning c.recover.new.berth in
-    let told_mid : IsTrue mid.tells = subst IsTrue (sym c.adopt.ensures.time.tells) told in
-    let fault = c.in_err-recovered-in-NoTables.field-0.0 in
-    let result = c.from_residual-in_err-recovered-in-NoTables.result in
-    let p = err_from_is_err_and result c.from_residual-in_err-recovered-in-NoTables.ensures.1 in
-    told_as writes new result p.0 (told_of_recovery fault) p.1 p.2
-    (rests_read writes old mid new rests (c.adopt.ensures.disk told) (c.in_ok-found.ensures.told told).1 (c.recover.ensures.region told_mid) (c.recover.ensures.held told_mid) fault
-    (λ sound e. c.in_err-recovered-in-NoTables.ensures.sound told_mid sound (ap (λ (f : RecoveryFault). Err f) e)))
 
 pub returns-in_err-recovered-in-NoTables-clause-sound :
     goal.returns-in_err-recovered-in-NoTables-clause-sound
@@ -144,22 +118,6 @@ returns-in-Tables-clause-way g c =
     let found = subst (IsFound c.args.names.now region) c.in-Tables.is (c.in_ok-found.ensures.told told).0 in
     subst (IsWayOf region) (sym c.from_image.ensures.way) (found.0, c.in-Tables.adopted.log_end, found.1)
 
-pub returns-in-Tables-clause-backed : goal.returns-in-Tables-clause-backed
-returns-in-Tables-clause-backed g c =
-    λ writes told rests.
-    let names = c.args.names.now in
-    let old = g.B.Berth.meaning c.args.berth.now in
-    let new = g.B.Berth.meaning c.adopt.new.berth in
-    let law = (g.met.B.Berth g.world.𝓛 g.world.𝓜 g.world.𝓡 ((λ s x. x), (λ x. x), (λ x. x), λ x. x)) in
-    let told_now : IsTrue new.tells = subst IsTrue (sym c.adopt.ensures.time.tells) told in
-    let opened = c.from_image.result in
-    let are = c.from_image.ensures.tables in
-    let adopted = subst (AreAdopted (length names)) c.in-Tables.is c.in_ok-found.ensures.adopted in
-    let answer = c.in_ok-found.ensures.told told in
-    let found = subst (IsFound names old.held.region) c.in-Tables.is answer.0 in
-    backed_by_memory names opened.tables.items opened.log writes old new rests (ap (λ (ts : List Table). length ts) are ∙ adopted.0) (law.stands c.adopt.new.berth told_now) answer.1
-    c.in-Tables.adopted found are c.from_image.ensures.log (c.adopt.ensures.disks told)
-
 pub returns-in-Tables-clause-moments : goal.returns-in-Tables-clause-moments
 returns-in-Tables-clause-moments g c =
     λ told. opens_adopting (g.B.Berth.meaning c.args.berth.now) (g.B.Berth.meaning c.adopt.new.berth) (c.adopt.ensures.moments told)
@@ -221,26 +179,6 @@ returns-in_ok-recovered-in-NoTables-clause-way g c =
     λ told.
     let region = (g.B.Berth.meaning c.args.berth.now).held.region in
     subst (IsWayOf region) (sym c.from_log.ensures.way) (subst (IsFound c.args.names.now region) c.in-NoTables.is (c.in_ok-found.ensures.told told).0)
-
-pub returns-in_ok-recovered-in-NoTables-clause-backed :
-    goal.returns-in_ok-recovered-in-NoTables-clause-backed
-returns-in_ok-recovered-in-NoTables-clause-backed g c =
-    λ writes told rests.
-    let names = c.args.names.now in
-    let old = g.B.Berth.meaning c.args.berth.now in
-    let mid = g.B.Berth.meaning c.adopt.new.berth in
-    let new = g.B.Berth.meaning c.recover.new.berth in
-    let law = (g.met.B.Berth g.world.𝓛 g.world.𝓜 g.world.𝓡 ((λ s x. x), (λ x. x), (λ x. x), λ x. x)) in
-    let told_mid : IsTrue mid.tells = subst IsTrue (sym c.adopt.ensures.time.tells) told in
-    let told_now : IsTrue new.tells = subst IsTrue (sym c.recover.ensures.time.tells) told_mid in
-    let opened = c.from_log.result in
-    let said = c.in_ok-recovered-in-NoTables.ensures in
-    let are = c.from_log.ensures.tables in
-    let read = recovered_as names new.held.disk (sym are) (sym c.from_log.ensures.log) (said.told told_mid) in
-    let one = ap (λ (ts : List Table). length ts) are ∙ said.one in
-    let disk : new.held.disk ≡ begun old.held.disk = said.disk told_mid ∙ ap begun (c.adopt.ensures.disk told) in
-    let region = c.recover.ensures.region told_mid ∙ (c.in_ok-found.ensures.told told).1 in
-    backed_by_disk names opened.tables.items opened.log writes old new rests one (law.stands c.recover.new.berth told_now) region read disk (said.durable told_mid)
 
 pub returns-in_ok-recovered-in-NoTables-clause-reads :
     goal.returns-in_ok-recovered-in-NoTables-clause-reads

@@ -4,7 +4,7 @@ use Rattle.leaf_model.specs.declared.writes.Write.{Write}
 use Rattle.berth_face.specs.Causes.{Rose}
 use Rattle.berth_face.specs.Berth.{Meaning}
 use Rattle.disk_backup.specs.Scanning.{BeginsScan}
-use Rattle.leaf_opening.specs.Starts.{IsWayOf, Started, serving_of}
+use Rattle.leaf_opening.specs.Starts.{IsWayOf, Started, opened_leaf}
 use Rattle.leaf_table.specs.Calls.{IsFresh}
 use Rattle.crash_moments.specs.Told.{Told}
 use Rattle.crash_states.specs.Standing.{Rests, Runs, StandsNow}
@@ -107,8 +107,8 @@ returns-in-Ok-clause-came g c =
     let opened : StartOpened x m n o =
     start_opened x m n o c.names.result.now c.names.ensures opening.time stands (opening.moments told) (opening.disks told) (opening.held told) (opening.told told) (opening.durable told) in
     record {
-      served = serving_of c.args.self.0.names o;
-      started = subst (λ l. Started l.0.names (g.B.Berth.meaning l.1) n (serving_of l.0.names o) o.way) c.self.view_is opened.started;
+      served = opened_leaf c.args.self.0.names o;
+      started = subst (λ l. Started l.0.names (g.B.Berth.meaning l.1) n (opened_leaf l.0.names o) o.way) c.self.view_is opened.started;
       log = ap (λ (log : Owing). log.log) c.of.ensures;
       noted = search rules;
     }

@@ -1,31 +1,39 @@
--- A disk's log while a recovery begins, and how long its tables grow.
-use Rattle.std.proofs.Common.{◌≡◌, inl, inr, ℕ, ◌≤◌, ◌∙◌, List, [], ◌++◌, length, take, min, sym, ap, subst, arith}
+-- What sound logs have of each name, how long the tables of their writes grow, and that the beginning of a recovery leaves a log.
+use Rattle.std.proofs.Common.{◌≡◌, inl, inr, ℕ, ◌≤◌, ◌^◌, ◌∙◌, Bool, true, false, cond, List, [], ◌∷◌, ◌++◌, length, take, min, refl, sym, ap, subst, arith, append_assoc}
+use Rattle.std.specs.Str.{bytes_eq}
 use Rattle.std.proofs.lemmas.Bool.{cases_lt}
 use Rattle.std.proofs.lemmas.List.{take-append-le, take_all, take_min}
 use Rattle.leaf_model.specs.declared.writes.Write.{Write}
 use Rattle.leaf_model.specs.Content.{content}
 use Rattle.row_records.specs.Records.{LogRecord}
-use Rattle.table_state.specs.Tables.{most_rows}
-use Rattle.disk_backup.specs.Logs.{IsLog, is_short, is_gated, IsBounded, IsSound, ClosedLog, writes_of}
+use Rattle.disk_backup.specs.Logs.{IsLog, is_short, is_gated, IsBounded, ClosedLog, writes_of}
 use Rattle.disk_backup.specs.Scanning.{BeginsScan, begun}
+use Rattle.disk_backup.specs.SoundLogs.{HasSoundLog, IsShort}
 use Rattle.disk_backup.proofs.Beginning.{begun_short, begun_long}
 use Rattle.disk_backup.proofs.Logs.{one_log, closed_is_log}
-use Rattle.leaf_opening.specs.Backed.{HasSoundLog, IsShort}
+
+-- ---- the writes of one name
+
+pub writes_append : (name : List ℕ) (a b : List LogRecord) → writes_of name (a ++ b) ≡ writes_of name a ++ writes_of name b
+writes_append name [] b = refl
+writes_append name (s ∷ a) b = step (bytes_eq name s.name) (writes_append name a b)
+  where
+    step : (same : Bool) → writes_of name (a ++ b) ≡ writes_of name a ++ writes_of name b
+        → cond same (s.writes ++ writes_of name (a ++ b)) (writes_of name (a ++ b)) ≡ cond same (s.writes ++ writes_of name a) (writes_of name a) ++ writes_of name b
+    step true e = ap (λ (l : List Write). s.writes ++ l) e ∙ sym (append_assoc s.writes (writes_of name a) (writes_of name b))
+    step false e = e
 
 -- ---- how long a table grows
 
-pub short_of : (name : List ℕ) (records : List LogRecord) (taken : List Write) → IsBounded records → writes_of name records ≡ taken → IsShort taken
-short_of name records taken bounded same = λ k. subst (λ (l : List Write). length (content (take k l)).rows ≤ most_rows) same (bounded name k)
-
 pub bounded_of : (records : List LogRecord) (writes : List ℕ → List Write) → ((name : List ℕ) → writes_of name records ≡ writes name) → ((name : List ℕ) → IsShort (writes name)) → IsBounded records
-bounded_of records writes same short = λ name k. subst (λ (l : List Write). length (content (take k l)).rows ≤ most_rows) (sym (same name)) (short name k)
+bounded_of records writes same short = λ name k. subst (λ (l : List Write). length (content (take k l)).rows ≤ 2 ^ 40) (sym (same name)) (short name k)
 
 -- the first of the writes
 pub shorter : (a b : List Write) → IsShort (a ++ b) → IsShort a
 shorter a b short = λ k.
     let m = min k (length a) in
     let front : take m (a ++ b) ≡ take k a = take-append-le m a b (omega arith) ∙ take_min k a in
-    subst (λ (l : List Write). length (content l).rows ≤ most_rows) front (short m)
+    subst (λ (l : List Write). length (content l).rows ≤ 2 ^ 40) front (short m)
 
 abbrev pub no_writes : List Write
 no_writes = []
@@ -33,7 +41,7 @@ no_writes = []
 pub none_short : IsShort no_writes
 none_short = λ k.
     let none : take k no_writes ≡ no_writes = take_all k no_writes (omega arith) in
-    subst (λ (l : List Write). length (content l).rows ≤ most_rows) (sym none) (omega arith)
+    subst (λ (l : List Write). length (content l).rows ≤ 2 ^ 40) (sym none) (omega arith)
 
 -- ---- a disk of at most one byte
 
@@ -50,9 +58,6 @@ begun_log disk records end log = elim (cases_lt 1 (length disk)) [
 ]
 
 module _ (writes : List ℕ → List Write) (disk : List ℕ) (had : HasSoundLog writes disk) where
-  pub sound_of : IsSound disk
-  sound_of = (had.records, had.log_end, had.log, had.bounded)
-
   -- whatever became of its first byte, it has the same log
   pub sound_begins : (now : List ℕ) → BeginsScan (length disk) disk now → HasSoundLog writes now
   sound_begins now (inl same) = subst (HasSoundLog writes) (sym same) had

@@ -1,0 +1,44 @@
+-- Where what is opened comes from.
+use Rattle.std.proofs.Common.{◌≡◌, ◌∙◌, ℕ, false, List, None, sym, subst}
+use Rattle.berth_face.specs.Berth.{Meaning}
+use Rattle.table_state.specs.Tables.{Table}
+use Rattle.adopt.specs.declared.found.Adopted.{Adopted}
+use Rattle.adopt.specs.declared.found.Found.TheVariants.{Tables}
+use Rattle.adopt.specs.declared.found.WhyDisk.{WhyDisk}
+use Rattle.adopt.specs.Found.{IsFound, IsWhy, left_behind}
+use Rattle.disk_backup.specs.State.{LogState}
+use Rattle.disk_backup.specs.Scanning.{begun}
+use Rattle.log_recovery.specs.Recovery.{IsRecovered}
+use Rattle.leaf_opening.specs.declared.ways.Way.{Way}
+use Rattle.leaf_opening.specs.declared.ways.Way.TheVariants.{Memory, Disk}
+use Rattle.leaf_opening.specs.OpenedLeaf.{OpenedLeaf}
+use Rattle.leaf_opening.specs.Starts.{Started, IsCome, disk_after}
+
+-- a log that ends here and is owed nothing
+abbrev pub log_at : ℕ → LogState
+log_at end = record { end = end; owed = None; laid = false }
+
+module _ (names : List (List ℕ)) (tables : List Table) (log : LogState) where
+  abbrev pub served : OpenedLeaf
+  served = record { names = names; tables = tables; log = log }
+
+  module _ (way : Way) (old new : Meaning) (region : new.held.region ≡ left_behind old.held.region) where
+    started_by : (w : Way) → way ≡ w → IsCome names old.held.region new.held.disk served w → new.held.disk ≡ disk_after w old.held.disk → Started names old new served way
+    started_by w is come disk = subst (λ (v : Way). Started names old new served v) (sym is) (record { come = come; region = region; disk = disk })
+
+    pub started_by_memory : (a : Adopted) → IsFound names old.held.region (Tables a) → tables ≡ a.tables.items → log ≡ log_at a.log_end → way ≡ Memory → new.held.disk ≡ old.held.disk → Started names old new served way
+    started_by_memory a found are at is disk = started_by Memory is (found.0, a.log_end, found.1, found.2, are ∙ found.3, at) disk
+
+    pub started_by_disk : (w : WhyDisk) → IsWhy old.held.region w → IsRecovered names new.held.disk tables log → way ≡ Disk w → new.held.disk ≡ begun old.held.disk → Started names old new served way
+    started_by_disk w why read is disk = started_by (Disk w) is (why, read) disk
+
+-- the same tables and the same log were recovered
+pub recovered_as : (names : List (List ℕ)) (disk : List ℕ) {ts us : List Table} {l k : LogState} → ts ≡ us → l ≡ k → IsRecovered names disk ts l → IsRecovered names disk us k
+recovered_as names disk {ts} {us} {l} {k} are is read = subst (λ (log : LogState). IsRecovered names disk us log) is (subst (λ (tables : List Table). IsRecovered names disk tables l) are read)
+
+-- a start by the log is none by the region
+pub not_by_memory : (way : Way) (w : WhyDisk) → way ≡ Disk w → way ≡ Memory → ⊥
+not_by_memory way w is other = by w (sym is ∙ other)
+  where
+    by : (w : WhyDisk) → Disk w ≡ Memory → ⊥
+    by w e = absurd cc

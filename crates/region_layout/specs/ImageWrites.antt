@@ -1,0 +1,15 @@
+-- Which writes an image has of each name.
+use Rattle.std.specs.Prelude.{◌≡◌, ℕ, List, length}
+use Rattle.leaf_model.specs.declared.writes.Write.{Write}
+use Rattle.leaf_model.specs.Content.{content}
+use Rattle.region_layout.specs.declared.image.TableImage.{TableImage}
+use Rattle.region_layout.specs.Images.{contents_of, table_named}
+
+-- the table of that name in an image has these writes
+pub record IsImageOf (writes : List Write) (t : TableImage) : Type 0 where
+  pub contents : contents_of t ≡ content writes
+  pub count : t.writes ≡ length writes
+
+-- an image has just these writes of each name
+abbrev pub AreImagesOf : (List ℕ → List Write) → List TableImage → Type 0
+AreImagesOf writes images = (name : List ℕ) → IsImageOf (writes name) (table_named images name)
