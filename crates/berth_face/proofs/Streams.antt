@@ -21,22 +21,6 @@ appends_kept (Some is) None c xs first kept = absurd first
 appends_kept (Some is) (Some bs) None xs first kept = absurd kept
 appends_kept (Some is) (Some bs) (Some cs) xs first kept = kept ∙ first
 
-pub consumes_none : (o : Option (List ℕ)) → Consumes o o []
-consumes_none None = tt
-consumes_none (Some xs) = refl
-
-pub consumes_more : (a b c : Option (List ℕ)) (xs ys : List ℕ) → Consumes a b xs → Consumes b c ys → Consumes a c (xs ++ ys)
-consumes_more None b c xs ys first second = tt
-consumes_more (Some is) None c xs ys first second = absurd first
-consumes_more (Some is) (Some bs) None xs ys first second = absurd second
-consumes_more (Some is) (Some bs) (Some cs) xs ys first second = first ∙ ap (λ r. xs ++ r) second ∙ sym (append_assoc xs ys cs)
-
-pub consumes_kept : (a b c : Option (List ℕ)) (xs : List ℕ) → Consumes a b xs → Keeps b c → Consumes a c xs
-consumes_kept None b c xs first kept = tt
-consumes_kept (Some is) None c xs first kept = absurd first
-consumes_kept (Some is) (Some bs) None xs first kept = absurd kept
-consumes_kept (Some is) (Some bs) (Some cs) xs first kept = first ∙ ap (λ r. xs ++ r) (sym kept)
-
 pub written_start : (o : Option (List ℕ)) (piece : List ℕ) → Written o o piece piece
 written_start o piece = record { front = []; is = refl; bytes = appends_none o }
 
@@ -62,8 +46,3 @@ written_all {a} {b} {piece} {rest} w h =
     let all : w.front ≡ piece = sym (w.is ∙ ap (λ r. w.front ++ r) (nothing rest h) ∙ append-nil w.front) in
     let P : List ℕ → Type 0 = λ p. Appends a b p in
     subst P all w.bytes
-
--- so many bytes, and then as many as there is room for
-pub takes_more : (a b c : Option (List ℕ)) (old : List ℕ) (room most : ℕ) → Consumes a b old → TakesAtMost b c room → length old + room ≤ most → TakesAtMost a c most
-takes_more a b c old room most first takes within =
-    (old ++ takes.0, consumes_more a b c old takes.0 first takes.1, omega (arith, length-append old takes.0, takes.2))

@@ -19,7 +19,3 @@ pub record GivesSome (at : ℕ) (content buf : List ℕ) (n : ℕ) : Type 0 wher
   pub within : n ≤ length content - at
   pub some : 0 < length buf → 0 < length content - at → 0 < n
   pub bytes : take n buf ≡ take n (drop at content)
-
--- a file that tells these bytes, which are on the device
-abbrev pub told_file : List ℕ → FileContents
-told_file bytes = record { tells = true; holds = bytes; keeps = bytes }

@@ -83,12 +83,6 @@ odd_at [] region disk disks (suc k) d p here had = absurd had
 odd_at (c ∷ calls) region disk disks zero d p here had = more c (region_before (c ∷ calls) region) d disks p here had
 odd_at (c ∷ calls) region disk disks (suc k) d p here had = odd_at calls region disk (disks_after c (disk_before calls disk) disks) k d p here had
 
--- a pair inside the k-th call, as that call makes it
-pub breaks_in : (calls : List Call) (k : ℕ) (c : Call) (rest : List Call) (region from : List ℕ) (p : Pair) → drop k calls ≡ c ∷ rest
-    → during c (region_before (drop k calls) region) (λ d. d ≡ from) p → breaks_at (drop k calls) region from p
-breaks_in calls k c rest region from p is =
-    subst (λ (l : List Call). during c (region_before l region) (λ d. d ≡ from) p → breaks_at l region from p) (sym is) (λ had. had)
-
 pub even_leaves : (calls : List Call) (region disk : List ℕ) (t j : ℕ) (p : Pair) → t ≤ moments calls → t % 2 ≡ 0 → j ≤ t / 2 → Unsynced (take (t / 2 - j) (drop j calls))
     → p.region ≡ region_before (drop (t / 2) calls) region → p.disk ≡ disk_before (drop j calls) disk → leaves_at calls region disk (λ d. d ≡ disk_before calls disk) t p
 even_leaves calls region disk t j p le even from all r d =

@@ -41,12 +41,6 @@ bits_from-is bytes h from (suc w) =
     ∙ ap (λ n. (n % 2 ^ w) * 2 + number bytes / 2 ^ from % 2) shifted in
     omega arith
 
--- a code is below the power of its width
-pub bits_from-lt : (bytes : List ℕ) → AreBytes bytes → (from w : ℕ) → bits_from bytes from w < 2 ^ w
-bits_from-lt bytes h from w =
-    let below = mod_below (number bytes / 2 ^ from) (2 ^ w) (pow_pos w) in
-    omega (arith, bits_from-is bytes h from w)
-
 -- the bits from a place on, cut out of m bytes that hold them
 pub bits_from-window : (bytes : List ℕ) (at skipped from w m : ℕ) → AreBytes bytes → from ≡ 8 * at + skipped → skipped + w ≤ 8 * m
     → number (take m (drop at bytes)) / 2 ^ skipped % 2 ^ w ≡ bits_from bytes from w

@@ -50,13 +50,6 @@ lent_take (text ∷ texts) (suc i) = ap (λ xs. text.now ∷ xs) (lent_take text
 
 -- ---- one text more
 
-kept_if : (b : Bool) (seen : List (List ℕ)) (text : List ℕ) → AreKept seen (if b then seen else seen ++ text ∷ [])
-kept_if true seen text = λ k h. (h, refl)
-kept_if false seen text = λ k h. (omega (arith, length_push seen text), get_or_append_left seen (text ∷ []) [] k h)
-
-pub kept_with : (seen : List (List ℕ)) (text : List ℕ) → AreKept seen (with_text seen text)
-kept_with seen text = kept_if (list_any (bytes_eq text) seen) seen text
-
 texts_if : (b : Bool) (seen : List (List ℕ)) (text : List ℕ) → AreTexts seen → IsText text → AreTexts (if b then seen else seen ++ text ∷ [])
 texts_if true seen text are is = are
 texts_if false seen text are is = λ k h. elim (cases_lt k (length seen)) [
@@ -68,13 +61,6 @@ texts_if false seen text are is = λ k h. elim (cases_lt k (length seen)) [
 
 pub texts_with : (seen : List (List ℕ)) (text : List ℕ) → AreTexts seen → IsText text → AreTexts (with_text seen text)
 texts_with seen text = texts_if (list_any (bytes_eq text) seen) seen text
-
-grows_if : (b : Bool) (seen : List (List ℕ)) (text : List ℕ) → length (if b then seen else seen ++ text ∷ []) ≤ length seen + 1
-grows_if true seen text = omega arith
-grows_if false seen text = omega (arith, length_push seen text)
-
-pub grows_with : (seen : List (List ℕ)) (text : List ℕ) → length (with_text seen text) ≤ length seen + 1
-grows_with seen text = grows_if (list_any (bytes_eq text) seen) seen text
 
 pub texts_by_each : (texts : List (List ℕ)) (codes : List ℕ) (values : List (List ℕ)) → length codes ≡ length values
     → ((k : ℕ) → k < length values → slice_index_or texts (slice_index codes k) [] ≡ slice_index_or values k []) → texts_by texts codes ≡ values

@@ -117,16 +117,6 @@ pub marker_says : (all_there : Bool) → ((if all_there then 0 else 1) == 0) ≡
 marker_says true = refl
 marker_says false = refl
 
--- codes of integers are codes of the cells that these integers are
-pub coding_of : (cells : List (Option Value)) (integers : List ℤ) (list : List ℕ) (book : Codebook)
-    → AreIntegers cells integers → AreCodesOf integers list book → IsCoding cells list book
-coding_of cells integers list book are of = record {
-  same = of.same ∙ are.same;
-  each = λ i value within e.
-      let inside : i < length integers = omega (arith, are.same) in
-      ((of.each i inside).0 ∙ sym (are.each i value within e), (of.each i inside).1);
-}
-
 pub kind_named : (form : Form) (n : ℕ) (extra : List ℕ) (byte : ℕ) → byte ≡ kind_byte form → (if byte == 1 then kinds.Ints else kinds.Texts) ≡ kind_of (book_of form n extra)
 kind_named forms.Offset n extra byte e = ap (λ b. if b == 1 then kinds.Ints else kinds.Texts) e
 kind_named forms.Delta n extra byte e = ap (λ b. if b == 1 then kinds.Ints else kinds.Texts) e

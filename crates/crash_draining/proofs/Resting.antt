@@ -13,7 +13,7 @@ use Rattle.disk_backup.specs.Logs.{open_records}
 use Rattle.disk_backup.specs.Settling.{HasLog}
 use Rattle.leaf_opening.specs.Backed.{AreImagesOf, IsImageOf, IsShort}
 use Rattle.leaf_opening.proofs.Logs.{none_short}
-use Rattle.crash_events.specs.Left.{NamedStates}
+use Rattle.crash_moments.specs.Left.{NamedStates}
 use Rattle.crash_moments.specs.Watched.{Watched, IsFoundation, IsWatched, AreWatched, is_watched, now_of, others_then, was_opened}
 use Rattle.crash_states.specs.Standing.{StandsNow, IsKept, IsTreated, IsWhole, Rests, RegionRests, is_closed, is_image, tables_of}
 use Rattle.crash_states.proofs.Names.{IsOwn, IsForeign, find_name, no_others, each_at}

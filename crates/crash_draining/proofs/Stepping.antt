@@ -8,7 +8,7 @@ use Rattle.region_layout.specs.Region.{IsClosed}
 use Rattle.disk_backup.specs.Settling.{HasLog}
 use Rattle.drain_copy.specs.declared.step.Next.TheVariants as next
 use Rattle.drain_copy.specs.Draining.{DrainState, DrainsFrom, AllClosed}
-use Rattle.crash_events.specs.Left.{NamedStates, Left}
+use Rattle.crash_moments.specs.Left.{NamedStates, Left}
 use Rattle.crash_moments.specs.Watched.{Watched, IsWatched, AreWatched, Between, tables_then, was_opened}
 use Rattle.crash_moments.specs.Told.{reads_one}
 use Rattle.crash_moments.proofs.Telling.{between_wider, none_more, opened_more, then_now}

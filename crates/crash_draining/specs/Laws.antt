@@ -9,7 +9,7 @@ use Rattle.region_layout.specs.Images.{images_of}
 use Rattle.disk_backup.specs.State.{LogState}
 use Rattle.drain_copy.specs.declared.step.Next.TheVariants as next
 use Rattle.drain_copy.specs.Draining.{DrainState, DrainsFrom}
-use Rattle.crash_events.specs.Left.{NamedStates}
+use Rattle.crash_moments.specs.Left.{NamedStates}
 use Rattle.crash_moments.specs.Watched.{Watched, IsFoundation, now_of}
 use Rattle.crash_moments.specs.Told.{SeenMore}
 use Rattle.crash_states.specs.Standing.{Rests, Copies, Holds, IsContentOf, StandsNow}

@@ -4,7 +4,8 @@ use Rattle.std.specs.Prelude.{if◌then◌else◌}
 use Rattle.crash_events.specs.Machine.{Tracked, Hand, Mode, Down, Finding, Preparing, Copying, RegionIs, Closed, Whole, Either, Other}
 use Rattle.crash_events.specs.Events.{AllShut, IsSettled, AllSettled, AsRead, is_whole}
 use Rattle.crash_events.specs.Kept.{in_hand, is_frozen, is_shut, may_be_other, is_tight, has_no_hand, is_up, is_running, KeptTable, KeptIn}
-use Rattle.crash_events.proofs.Places.{Places-weaken, Places-get, Places-set, no, both, some_hand, closed_is_not_other, whole_is_not_other, with_all}
+use Rattle.crash_moments.proofs.Bases.{both}
+use Rattle.crash_events.proofs.Places.{Places-weaken, Places-get, Places-set, no, some_hand, closed_is_not_other, whole_is_not_other, with_all}
 
 pub plans : (hand : Option Hand) (ts : List Tracked) → AllShut ts → hand ≡ None → AllSettled ts → KeptIn Preparing Closed hand ts → KeptIn Copying Closed hand ts
 plans hand ts shut none settled k =

@@ -6,12 +6,12 @@ use Rattle.std.proofs.lemmas.Slice.Eq.{bytes_eq-Decides}
 use Rattle.berth_face.specs.Berth.{Pair}
 use Rattle.leaf_history.specs.History.{HistoryState, base_of}
 use Rattle.leaf_model.specs.Names.{AreDistinct}
-use Rattle.crash_events.specs.Left.{NamedStates}
-use Rattle.crash_events.specs.Base.{IsBaseOf, IsFixed, PairsMayBegin}
+use Rattle.crash_moments.specs.Left.{NamedStates}
+use Rattle.crash_moments.proofs.Bases.{both, flushed_le}
+use Rattle.crash_moments.specs.Base.{IsBaseOf, IsFixed, PairsMayBegin}
 use Rattle.crash_events.specs.Machine.{Tracked}
 use Rattle.crash_events.specs.Laws.{IsPlain}
 use Rattle.crash_events.specs.Begins.{begun_table, begun_tables}
-use Rattle.crash_events.proofs.Places.{both}
 use Rattle.crash_events.proofs.Fresh.{Fresh, IsAll, AtMostOne}
 
 -- a table that is as its base says
@@ -37,10 +37,6 @@ other_names base (n ∷ names) = ap (λ ns. n ∷ ns) (other_names base names)
 pub names_are : (base : NamedStates) (own others : List (List ℕ)) → map name_of (begun_tables base own others) ≡ own ++ others
 names_are base [] others = other_names base others
 names_are base (n ∷ own) others = ap (λ ns. n ∷ ns) (names_are base own others)
-
--- what is flushed of a base is at most what it has
-pub flushed_le : (may : Pair → Type 0) (name : List ℕ) (s : HistoryState) → IsBaseOf may name s → s.flushed ≤ length s.writes
-flushed_le may name s is = (is.between is.longest.0 s.writes is.longest.1 is.longest.2).0
 
 fresh_one : (may : Pair → Type 0) (base : NamedStates) (x : Tracked) → IsBaseOf may x.name (base x.name) → IsBegun base x → Fresh x
 fresh_one may base x is (same, sure) =

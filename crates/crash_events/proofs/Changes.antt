@@ -8,7 +8,8 @@ use Rattle.leaf_history.specs.History.{HistoryState, write_count, written}
 use Rattle.crash_events.specs.Machine.{Tracked, Hand, Mode, Down, RegionIs, Closed}
 use Rattle.crash_events.specs.Events.{hand_of}
 use Rattle.crash_events.specs.Kept.{in_hand, stays, is_shut, may_be_live, is_tight, has_no_hand, is_up, KeptTable, KeptIn}
-use Rattle.crash_events.proofs.Places.{Places-get, Places-set, no, both, some_hand, closed_is_not_other}
+use Rattle.crash_moments.proofs.Bases.{both}
+use Rattle.crash_events.proofs.Places.{Places-get, Places-set, no, some_hand, closed_is_not_other}
 
 -- the tables with one state changed, where mode, region and hand stay
 pub one_goes : (mode : Mode) (region : RegionIs) (hand : Option Hand) (ts : List Tracked) (t : ℕ) (x y : Tracked) → slice_get ts t ≡ Some x

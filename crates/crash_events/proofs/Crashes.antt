@@ -3,7 +3,7 @@ use Rattle.std.proofs.Common.{◌≡◌, ℕ, ◌+◌, Bool, true, false, List, 
 use Rattle.std.specs.Prelude.{if◌then◌else◌, bytes_eq}
 use Rattle.berth_face.specs.Berth.{Pair}
 use Rattle.row_records.specs.Records.{LogRecord}
-use Rattle.crash_events.specs.Left.{NamedStates}
+use Rattle.crash_moments.specs.Left.{NamedStates}
 use Rattle.crash_events.specs.Machine.{Machine, Tracked, Down, RegionIs, Closed, Whole, Either, Other}
 use Rattle.crash_events.specs.Events.{Resettled, AfterCrash, Step, crash}
 use Rattle.crash_events.specs.Kept.{AllPlaces}

@@ -9,8 +9,8 @@ use Rattle.leaf_history.specs.History.{no_base}
 use Rattle.region_layout.proofs.Heads.{closed_head, image_head}
 use Rattle.row_records.specs.Records.{LogRecord}
 use Rattle.disk_backup.specs.Logs.{IsLog, is_short, is_gated, writes_of}
-use Rattle.crash_events.specs.Left.{NamedStates, Left, closed}
-use Rattle.crash_events.specs.Base.{HasWritesOf, IsReady}
+use Rattle.crash_moments.specs.Left.{NamedStates, Left, closed}
+use Rattle.crash_moments.specs.Base.{HasWritesOf, IsReady}
 
 abbrev pub empty : Pair
 empty = record { region = []; disk = [] }

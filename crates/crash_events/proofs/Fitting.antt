@@ -7,7 +7,7 @@ use Rattle.berth_face.specs.Berth.{Pair}
 use Rattle.leaf_history.specs.History.{HistoryState}
 use Rattle.row_records.specs.Records.{LogRecord}
 use Rattle.disk_backup.specs.Logs.{writes_of}
-use Rattle.crash_events.specs.Left.{NamedStates, Left, RegionLeft, closed, other_version, image}
+use Rattle.crash_moments.specs.Left.{NamedStates, Left, RegionLeft, closed, other_version, image}
 use Rattle.crash_events.specs.Machine.{Machine, Tracked, RegionIs, Whole, Either, Other}
 use Rattle.crash_events.specs.Events.{IsSettled, MayBe}
 use Rattle.crash_events.specs.Kept.{KeptTable, Kept, AllPlaces, in_hand, holds_image, is_frozen, stays}

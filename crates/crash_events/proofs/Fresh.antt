@@ -9,7 +9,8 @@ use Rattle.crash_events.specs.Machine.{Machine, Tracked, Hand, Down, RegionIs}
 use Rattle.crash_events.specs.Events.{MayBe, gate_begun}
 use Rattle.crash_events.specs.Kept.{AllPlaces, KeptTable, in_hand, is_frozen}
 use Rattle.crash_events.specs.Begins.{open_of, open_hand}
-use Rattle.crash_events.proofs.Places.{no, both}
+use Rattle.crash_events.proofs.Places.{no}
+use Rattle.crash_moments.proofs.Bases.{both}
 
 -- a table of a base: shut, with nothing handed in, and all of its writes taken
 pub record Fresh (x : Tracked) : Type 0 where

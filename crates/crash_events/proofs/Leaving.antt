@@ -4,7 +4,8 @@ use Rattle.std.specs.Prelude.{◌==◌, ◌&&◌, if◌then◌else◌}
 use Rattle.crash_events.specs.Machine.{Machine, Tracked, Hand, Mode, Down, Finding, Scanning, Adopting, Opening, Up, Preparing, Copying, RegionIs, Closed, Whole, Either, Other}
 use Rattle.crash_events.specs.Events.{gate_begun, MayBe, Resettled, AfterCrash}
 use Rattle.crash_events.specs.Kept.{in_hand, AllPlaces, holds_image, stays, is_frozen, may_be_live, is_tight, is_up, is_running, is_closed, KeptTable, KeptLeaf, KeptIn, Kept}
-use Rattle.crash_events.proofs.Places.{no, both, closed_is_not_other}
+use Rattle.crash_moments.proofs.Bases.{both}
+use Rattle.crash_events.proofs.Places.{no, closed_is_not_other}
 use Rattle.crash_events.proofs.Modes.{or_left, or_false, closed_region}
 
 begun_le : (hand : Option Hand) (t : ℕ) → gate_begun hand t ≤ in_hand hand t

@@ -9,12 +9,13 @@ use Rattle.leaf_model.specs.declared.writes.Write.{Write}
 use Rattle.leaf_model.specs.Names.{AreDistinct}
 use Rattle.row_records.specs.Records.{LogRecord}
 use Rattle.disk_backup.specs.Logs.{writes_of}
-use Rattle.crash_events.specs.Left.{NamedStates, Left}
-use Rattle.crash_events.specs.Base.{IsReady}
+use Rattle.crash_moments.specs.Left.{NamedStates, Left}
+use Rattle.crash_moments.specs.Base.{IsReady}
 use Rattle.crash_events.specs.Machine.{Tracked}
 use Rattle.crash_events.specs.Fits.{IsElsewhere}
 use Rattle.crash_events.specs.Begins.{begun_tables, LeavesItself, HasNoOther, MachineBegins}
-use Rattle.crash_events.proofs.Places.{no, both}
+use Rattle.crash_events.proofs.Places.{no}
+use Rattle.crash_moments.proofs.Bases.{both}
 use Rattle.crash_events.proofs.Beginning.{ButOne, name_of, names_are, but_one}
 use Rattle.crash_events.proofs.Ready.{ready_begins}
 

@@ -6,7 +6,8 @@ use Rattle.leaf_history.specs.History.{changed}
 use Rattle.crash_events.specs.Machine.{Machine, Tracked, Hand, Mode, Down, Finding, Scanning, Adopting, Opening, Up, Preparing, Copying, RegionIs, Closed}
 use Rattle.crash_events.specs.Events.{all_own_live, emptied, forgotten, open_call, NoneElsewhere, MayOpenFrom}
 use Rattle.crash_events.specs.Kept.{AllPlaces, KeptTable, KeptLeaf, KeptIn, Kept}
-use Rattle.crash_events.proofs.Places.{Places-get, Places-set, no, both, closed_is_not_other, with_all, Places-map}
+use Rattle.crash_moments.proofs.Bases.{both}
+use Rattle.crash_events.proofs.Places.{Places-get, Places-set, no, closed_is_not_other, with_all, Places-map}
 
 opened_one : (n : ℕ) (mode : Mode) (x : Tracked) → x.own ≡ true → KeptTable mode Closed n x
     → KeptTable Opening Closed 0 (record x { state = changed true x.state (open_call x) })

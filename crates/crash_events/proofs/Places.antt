@@ -41,13 +41,6 @@ no e = absurd (clash false refl e)
     clash true f t = cc
     clash false f t = cc
 
-pub both : {A : Type 0} (b : Bool) → b ≡ false → b ≡ true → A
-both true f t = absurd (wrong f)
-  where
-    wrong : true ≡ false → ⊥
-    wrong e = cc
-both false f t = no t
-
 pub some_hand : {A : Type 0} (h : Hand) → Some h ≡ None → A
 some_hand h e = absurd (wrong e)
   where

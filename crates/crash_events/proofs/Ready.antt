@@ -15,15 +15,16 @@ use Rattle.region_layout.specs.Region.{IsImage, head_of}
 use Rattle.region_layout.proofs.Heads.{closed_head, image_head}
 use Rattle.row_records.specs.Records.{LogRecord}
 use Rattle.disk_backup.specs.Logs.{writes_of}
-use Rattle.crash_events.specs.Left.{NamedStates, Left, ImageOf, RegionLeft, closed, other_version, image}
-use Rattle.crash_events.specs.Base.{HasWritesOf, IsBaseOf, IsFixed, HasTwoLengths, PairsMayBegin, IsReady}
+use Rattle.crash_moments.specs.Left.{NamedStates, Left, ImageOf, RegionLeft, closed, other_version, image}
+use Rattle.crash_moments.specs.Base.{HasWritesOf, IsBaseOf, IsFixed, HasTwoLengths, PairsMayBegin, IsReady}
 use Rattle.crash_events.specs.Machine.{Machine, Tracked, Down, RegionIs, Closed, Whole, Either, Other}
 use Rattle.crash_events.specs.Kept.{is_frozen}
 use Rattle.crash_events.specs.Fits.{FitsPair, RegionFits, shows_lost, shows_closed, shows_whole, shows_other, state_of, IsElsewhere}
 use Rattle.crash_events.specs.Begins.{begun_tables, begun, RegionReads, reads_closed, reads_whole, reads_other, LeavesItself, HasNoOther, MachineBegins}
-use Rattle.crash_events.proofs.Places.{no, both}
+use Rattle.crash_events.proofs.Places.{no}
+use Rattle.crash_moments.proofs.Bases.{both, flushed_le}
 use Rattle.crash_events.proofs.Fresh.{Fresh, IsAll, AtMostOne, OfLog, all_kept, no_hand, all_have}
-use Rattle.crash_events.proofs.Beginning.{IsBegun, ButOne, are_begun, names_are, flushed_le, are_fresh, are_plain, but_one, at_most_one, all_one}
+use Rattle.crash_events.proofs.Beginning.{IsBegun, ButOne, are_begun, names_are, are_fresh, are_plain, but_one, at_most_one, all_one}
 
 -- what a name's log has where it has one of two lengths
 two_lengths : (may : Pair → Type 0) (base : NamedStates) (p : Pair) (name : List ℕ) (records : List LogRecord) (m : ℕ) → HasTwoLengths may name (base name) → may p

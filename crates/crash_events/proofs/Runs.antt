@@ -1,7 +1,7 @@
 -- What every event keeps, every run keeps.
 use Rattle.std.proofs.Common.{ℕ, Bool}
 use Rattle.berth_face.specs.Berth.{Pair}
-use Rattle.crash_events.specs.Left.{Left}
+use Rattle.crash_moments.specs.Left.{Left}
 use Rattle.crash_events.specs.Machine.{Machine}
 use Rattle.crash_events.specs.Events.{Reaches, here, next}
 use Rattle.crash_events.specs.Kept.{Kept}

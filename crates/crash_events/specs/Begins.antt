@@ -5,8 +5,8 @@ use Rattle.region_layout.specs.declared.head.Head.TheVariants.{Version}
 use Rattle.region_layout.specs.declared.image.TableImage.{TableImage}
 use Rattle.leaf_model.specs.Names.{AreDistinct}
 use Rattle.region_layout.specs.Region.{IsClosed, IsImage, head_of}
-use Rattle.crash_events.specs.Left.{NamedStates}
-use Rattle.crash_events.specs.Base.{IsReady}
+use Rattle.crash_moments.specs.Left.{NamedStates}
+use Rattle.crash_moments.specs.Base.{IsReady}
 use Rattle.crash_events.specs.Machine.{Machine, Tracked, Hand, Down, RegionIs, Closed, Whole, Other}
 use Rattle.crash_events.specs.Kept.{Kept}
 use Rattle.crash_events.specs.Fits.{FitsPair, IsElsewhere}

@@ -8,7 +8,7 @@ use Rattle.region_layout.specs.declared.image.TableImage.{TableImage}
 use Rattle.region_layout.specs.Region.{IsClosed, IsImage, head_of}
 use Rattle.row_records.specs.Records.{LogRecord}
 use Rattle.disk_backup.specs.Logs.{IsLog, IsBounded, writes_of}
-use Rattle.crash_events.specs.Left.{NamedStates, ImageOf, HasShutGate}
+use Rattle.crash_moments.specs.Left.{NamedStates, ImageOf, HasShutGate}
 use Rattle.crash_events.specs.Machine.{Machine, Tracked, RegionIs, Whole, Either, Other}
 use Rattle.crash_events.specs.Events.{MayBe, is_whole}
 use Rattle.crash_events.specs.Kept.{AllPlaces}

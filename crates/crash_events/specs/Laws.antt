@@ -2,7 +2,7 @@
 use Rattle.std.specs.Prelude.{◌≡◌, ℕ, Bool, List}
 use Rattle.std.specs.List.{AllByRecursion}
 use Rattle.berth_face.specs.Berth.{Pair}
-use Rattle.crash_events.specs.Left.{Left}
+use Rattle.crash_moments.specs.Left.{Left}
 use Rattle.crash_events.specs.Machine.{Machine, Tracked, Down}
 use Rattle.crash_events.specs.Events.{Reaches, Step}
 use Rattle.crash_events.specs.Kept.{Kept}

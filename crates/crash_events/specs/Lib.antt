@@ -1,5 +1,3 @@
-pub mod Left
-pub mod Base
 pub mod Machine
 pub mod Events
 pub mod Kept

@@ -7,7 +7,7 @@ use Rattle.std.proofs.lemmas.List.Folds.{list_any-append}
 use Rattle.berth_face.specs.Berth.{Meaning}
 use Rattle.berth_face.proofs.Moments.{passes_on}
 use Rattle.leaf_history.specs.History.{HistoryState, Entry, after}
-use Rattle.crash_events.specs.Left.{NamedStates, Left}
+use Rattle.crash_moments.specs.Left.{NamedStates, Left}
 use Rattle.crash_moments.specs.Watched.{Watched, Between, cut, state_then, is_opening, was_opened, others_then, by_name, tables_then}
 use Rattle.crash_moments.specs.Told.{SeenMore, Told, reads_one}
 use Rattle.crash_moments.proofs.Cuts.{made_by, none_yet, cut_before, cut_later, cut_whole, cut_on}

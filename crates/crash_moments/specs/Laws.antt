@@ -3,7 +3,7 @@ use Rattle.std.specs.Prelude.{ℕ, List, true}
 use Rattle.berth_face.specs.Berth.{Meaning}
 use Rattle.leaf_history.specs.History.{Entry, HistoryState, LegalFrom, after}
 use Rattle.leaf_history.specs.Laws.{CallersKeep}
-use Rattle.crash_events.specs.Left.{NamedStates}
+use Rattle.crash_moments.specs.Left.{NamedStates}
 use Rattle.crash_moments.specs.Watched.{Watched, IsFoundation, IsWatched, now_of, state_then}
 use Rattle.crash_moments.specs.Told.{Told}
 

@@ -1,3 +1,5 @@
+pub mod Left
+pub mod Base
 pub mod Watched
 pub mod Told
 pub mod Laws

@@ -2,7 +2,7 @@
 use Rattle.std.specs.Prelude.{◌≡◌, ℕ, ◌≤◌, ◌==◌, Bool, List, [], ◌∷◌, ◌++◌, ⊤}
 use Rattle.berth_face.specs.Berth.{Pair, Meaning, Passes}
 use Rattle.leaf_history.specs.History.{Entry}
-use Rattle.crash_events.specs.Left.{NamedStates, Left}
+use Rattle.crash_moments.specs.Left.{NamedStates, Left}
 use Rattle.crash_moments.specs.Watched.{Watched, Between, tables_then}
 
 -- images of layout 1 are read, and of no other

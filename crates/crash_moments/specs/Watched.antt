@@ -7,7 +7,7 @@ use Rattle.leaf_history.specs.Calls.{Call}
 use Rattle.leaf_history.specs.Calls as call
 use Rattle.leaf_history.specs.History.{Entry, HistoryState, LegalFrom, after, no_base}
 use Rattle.leaf_history.specs.Laws.{HasSoundCounts}
-use Rattle.crash_events.specs.Left.{NamedStates}
+use Rattle.crash_moments.specs.Left.{NamedStates}
 
 -- a table: its name, what it was founded with, and the history as far as the steward has seen it
 pub record Watched : Type 0 where

@@ -14,7 +14,7 @@ use Rattle.row_records.specs.Pending.{pending_bytes}
 use Rattle.disk_backup.specs.Logs.{open_records}
 use Rattle.disk_backup.specs.State.{LogState}
 use Rattle.disk_backup.specs.Settling.{HoldsOwing, with_writes}
-use Rattle.crash_events.specs.Left.{NamedStates}
+use Rattle.crash_moments.specs.Left.{NamedStates}
 use Rattle.crash_moments.specs.Watched.{Watched, AreApart, IsFoundation, IsWatched, is_watched, now_of, was_opened}
 use Rattle.crash_moments.specs.Told.{SeenMore}
 use Rattle.crash_moments.proofs.Telling.{none_more, opened_more}

@@ -9,7 +9,7 @@ use Rattle.region_layout.specs.Region.{IsClosed}
 use Rattle.disk_backup.specs.Logs.{ClosedLog}
 use Rattle.disk_backup.specs.State.{LogState}
 use Rattle.disk_backup.specs.Settling.{Comes, HasLog, HaveLog, HoldsOwing, HoldsLog, KeepsLog, Settled, WithOrWithout, WithOwed, end_with, with_writes}
-use Rattle.crash_events.specs.Left.{NamedStates, Left, closed}
+use Rattle.crash_moments.specs.Left.{NamedStates, Left, closed}
 use Rattle.crash_moments.specs.Watched.{Watched, AreWatched, Between, IsWatched, now_of, tables_then, was_opened}
 use Rattle.crash_moments.specs.Told.{Told, reads_one}
 use Rattle.crash_moments.proofs.Telling.{between_wider, none_more, opened_more, then_now}

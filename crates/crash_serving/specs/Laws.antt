@@ -8,7 +8,7 @@ use Rattle.leaf_history.specs.Replies as reply
 use Rattle.leaf_history.specs.History.{after, untaken}
 use Rattle.disk_backup.specs.State.{LogState}
 use Rattle.disk_backup.specs.Settling.{with_writes, end_with}
-use Rattle.crash_events.specs.Left.{NamedStates}
+use Rattle.crash_moments.specs.Left.{NamedStates}
 use Rattle.crash_moments.specs.Watched.{Watched, IsFoundation, now_of}
 use Rattle.crash_moments.specs.Told.{SeenMore, Told}
 use Rattle.crash_states.specs.Standing.{Runs, Rests}

@@ -34,7 +34,7 @@ use Rattle.leaf_opening.proofs.Logs.{same_writes}
 use Rattle.leaf_opening.proofs.Strangers.{no_writes_there, no_writes_read}
 use Rattle.leaf_opening.proofs.Places.{table_at}
 use Rattle.leaf_opening.proofs.Backing.{log_at}
-use Rattle.crash_events.specs.Left.{NamedStates}
+use Rattle.crash_moments.specs.Left.{NamedStates}
 use Rattle.crash_moments.specs.Watched.{Watched, is_watched, now_of, others_then, was_opened}
 use Rattle.crash_states.specs.Standing.{StandsNow, Rests, RegionRests, is_closed, is_other, is_image, IsWhole, IsKept, MayHave, tables_of}
 use Rattle.crash_states.proofs.Names.{named_at}

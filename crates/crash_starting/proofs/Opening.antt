@@ -18,7 +18,7 @@ use Rattle.leaf_opening.specs.Backed.{HasSoundLog}
 use Rattle.leaf_opening.specs.Starts.{IsOpeningRefusal, OpensFrom, KeepsDisks}
 use Rattle.leaf_opening.proofs.Logs.{sound_begins}
 use Rattle.leaf_opening.proofs.Regions.{left_closed, broken_same}
-use Rattle.crash_events.specs.Left.{NamedStates}
+use Rattle.crash_moments.specs.Left.{NamedStates}
 use Rattle.crash_moments.specs.Watched.{Watched}
 use Rattle.crash_states.specs.Standing.{StandsNow, Rests, RegionRests, is_closed, is_other, is_image, IsKept, tables_of}
 use Rattle.crash_states.proofs.Pairs.{lost_closed}

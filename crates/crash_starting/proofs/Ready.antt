@@ -6,8 +6,8 @@ use Rattle.leaf_history.specs.History.{HistoryState}
 use Rattle.row_records.specs.Records.{LogRecord}
 use Rattle.disk_backup.specs.Settling.{with_writes}
 use Rattle.berth_face.specs.Berth.{Pair, Meaning}
-use Rattle.crash_events.specs.Left.{NamedStates, Left}
-use Rattle.crash_events.specs.Base.{IsReady}
+use Rattle.crash_moments.specs.Left.{NamedStates, Left}
+use Rattle.crash_moments.specs.Base.{IsReady}
 use Rattle.crash_moments.specs.Watched.{Watched, IsFoundation}
 use Rattle.crash_moments.specs.Told.{reads_one}
 use Rattle.crash_states.specs.Standing.{IsKept, Rests, StandsNow, tables_of}

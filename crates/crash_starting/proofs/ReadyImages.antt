@@ -19,9 +19,9 @@ use Rattle.disk_backup.specs.Logs.{IsLog, ClosedLog}
 use Rattle.disk_backup.specs.Settling.{HasLog}
 use Rattle.disk_backup.proofs.Logs.{one_log, log_is_closed}
 use Rattle.leaf_opening.specs.Backed.{IsImageOf}
-use Rattle.crash_events.specs.Left.{NamedStates, Left, ImageOf, HasShutGate, RegionLeft, closed, other_version, image}
-use Rattle.crash_events.specs.Base.{EndsAt, PairsMayBegin}
-use Rattle.crash_events.proofs.Places.{both}
+use Rattle.crash_moments.specs.Left.{NamedStates, Left, ImageOf, HasShutGate, RegionLeft, closed, other_version, image}
+use Rattle.crash_moments.specs.Base.{EndsAt, PairsMayBegin}
+use Rattle.crash_moments.proofs.Bases.{both}
 use Rattle.crash_moments.specs.Told.{reads_one}
 use Rattle.crash_states.specs.Standing.{RegionRests, is_closed, is_other, is_image, IsWhole}
 

@@ -10,9 +10,9 @@ use Rattle.row_records.specs.Records.{LogRecord}
 use Rattle.disk_backup.specs.Logs.{writes_of}
 use Rattle.disk_backup.specs.Settling.{with_writes}
 use Rattle.leaf_opening.specs.Backed.{HasSoundLog}
-use Rattle.crash_events.specs.Left.{NamedStates, Left}
-use Rattle.crash_events.specs.Base.{HasWritesOf, IsBaseOf, IsFixed, HasTwoLengths, PairsMayBegin}
-use Rattle.crash_events.proofs.Places.{both}
+use Rattle.crash_moments.specs.Left.{NamedStates, Left}
+use Rattle.crash_moments.specs.Base.{HasWritesOf, IsBaseOf, IsFixed, HasTwoLengths, PairsMayBegin}
+use Rattle.crash_moments.proofs.Bases.{both}
 
 -- the flushed writes of each name
 abbrev pub least_of : NamedStates → List ℕ → List Write

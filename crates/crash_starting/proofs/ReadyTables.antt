@@ -11,10 +11,10 @@ use Rattle.berth_face.specs.Berth.{Pair, Meaning}
 use Rattle.row_records.specs.Records.{LogRecord}
 use Rattle.disk_backup.specs.Logs.{writes_of}
 use Rattle.disk_backup.proofs.Logs.{one_log}
-use Rattle.crash_events.specs.Left.{NamedStates, Left}
-use Rattle.crash_events.specs.Base.{HasWritesOf, IsBaseOf}
-use Rattle.crash_events.proofs.Places.{both}
-use Rattle.crash_events.proofs.Beginning.{flushed_le}
+use Rattle.crash_moments.specs.Left.{NamedStates, Left}
+use Rattle.crash_moments.specs.Base.{HasWritesOf, IsBaseOf}
+use Rattle.crash_moments.proofs.Bases.{both}
+use Rattle.crash_moments.proofs.Bases.{flushed_le}
 use Rattle.crash_moments.specs.Watched.{Watched, IsFoundation, IsShort, IsWatched, Between, by_name, cut, is_opening, now_of, others_then, was_opened}
 use Rattle.crash_states.specs.Standing.{IsKept, tables_now, tables_of}
 use Rattle.crash_starting.specs.Laws.{AreUnseen}

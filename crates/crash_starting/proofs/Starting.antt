@@ -10,7 +10,7 @@ use Rattle.leaf_history.specs.History as history
 use Rattle.leaf_opening.specs.declared.opening.Opened.{Opened}
 use Rattle.leaf_opening.specs.declared.ways.StartFault.{StartFault}
 use Rattle.leaf_opening.specs.Starts.{Started, IsOpeningRefusal, IsDurable, serving_of}
-use Rattle.crash_events.specs.Left.{NamedStates}
+use Rattle.crash_moments.specs.Left.{NamedStates}
 use Rattle.crash_moments.specs.Watched.{Watched, IsWatched, now_of}
 use Rattle.crash_moments.specs.Told.{Told}
 use Rattle.crash_moments.proofs.Telling.{none_more}

@@ -5,7 +5,7 @@ use Rattle.std.specs.List.{AllByRecursion, list_any}
 use Rattle.std.proofs.lemmas.Option.{slice_get-map}
 use Rattle.berth_face.specs.Berth.{Meaning}
 use Rattle.leaf_history.specs.History.{Entry}
-use Rattle.crash_events.specs.Left.{NamedStates}
+use Rattle.crash_moments.specs.Left.{NamedStates}
 use Rattle.leaf_opening.specs.Backed.{is_one_of}
 use Rattle.crash_moments.specs.Watched.{Watched, IsWatched, AreWatched, cut, is_opening, is_watched, others_then, was_opened}
 use Rattle.crash_moments.proofs.Cuts.{cut_later}

@@ -12,8 +12,8 @@ use Rattle.leaf_history.specs.History as history
 use Rattle.leaf_opening.specs.declared.opening.Opened.{Opened}
 use Rattle.leaf_opening.specs.declared.ways.StartFault.{StartFault}
 use Rattle.leaf_opening.specs.Starts.{OpensFrom, KeepsDisks}
-use Rattle.crash_events.specs.Left.{NamedStates}
-use Rattle.crash_events.specs.Base.{IsReady}
+use Rattle.crash_moments.specs.Left.{NamedStates}
+use Rattle.crash_moments.specs.Base.{IsReady}
 use Rattle.crash_moments.specs.Watched.{Watched, AreApart, now_of}
 use Rattle.crash_moments.specs.Told.{SeenMore, reads_one}
 use Rattle.crash_states.specs.Standing.{Runs, Rests, StandsToOpen, StandsNow}

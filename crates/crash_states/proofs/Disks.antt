@@ -9,7 +9,7 @@ use Rattle.disk_backup.specs.Logs.{IsLog, ClosedLog, open_records, writes_of}
 use Rattle.disk_backup.specs.Settling.{HasLog, HoldsOwing, LaidLog, with_writes}
 use Rattle.disk_backup.proofs.Logs.{closed_is_log, one_log, one_record_more}
 use Rattle.log_recovery.proofs.Applying.{writes_append}
-use Rattle.crash_events.specs.Left.{HasShutGate}
+use Rattle.crash_moments.specs.Left.{HasShutGate}
 use Rattle.leaf_opening.specs.Backed.{HasSoundLog, IsShort}
 use Rattle.leaf_opening.proofs.Logs.{bounded_of, shorter}
 use Rattle.crash_states.proofs.States.{with_more}

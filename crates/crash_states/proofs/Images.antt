@@ -10,7 +10,7 @@ use Rattle.leaf_model.specs.Content.{Contents, content}
 use Rattle.region_layout.specs.declared.image.TableImage.{TableImage}
 use Rattle.leaf_model.specs.Names.{AreDistinct}
 use Rattle.region_layout.specs.Images.{empty_image, is_named, table_named}
-use Rattle.crash_events.specs.Left.{NamedStates, ImageOf}
+use Rattle.crash_moments.specs.Left.{NamedStates, ImageOf}
 use Rattle.leaf_opening.specs.Backed.{AreImagesOf}
 
 abbrev pub names_of : List TableImage → List (List ℕ)

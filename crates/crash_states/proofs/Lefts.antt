@@ -16,7 +16,7 @@ use Rattle.drain_copy.specs.Draining.{DrainState}
 use Rattle.leaf_history.specs.History.{HistoryState}
 use Rattle.leaf_opening.specs.Backed.{AreImagesOf, HasSoundLog, IsShort}
 use Rattle.leaf_opening.proofs.Logs.{none_short, no_writes}
-use Rattle.crash_events.specs.Left.{NamedStates, Left, RegionLeft, closed, other_version}
+use Rattle.crash_moments.specs.Left.{NamedStates, Left, RegionLeft, closed, other_version}
 use Rattle.crash_moments.specs.Watched.{Watched, IsWatched, AreWatched, is_watched, now_of, state_then, tables_then, was_opened}
 use Rattle.crash_moments.specs.Told.{SeenMore, Told, reads_one}
 use Rattle.crash_moments.proofs.Histories.{cut_keeps}

@@ -13,7 +13,7 @@ use Rattle.drain_copy.specs.Draining.{DrainState}
 use Rattle.leaf_history.specs.History.{Entry, HistoryState, LegalFrom, after}
 use Rattle.leaf_history.specs.Laws.{AreCallers, CallersKeep}
 use Rattle.leaf_history.proofs.Histories.{LegalFrom-back, after-append, others_keep}
-use Rattle.crash_events.specs.Left.{NamedStates}
+use Rattle.crash_moments.specs.Left.{NamedStates}
 use Rattle.crash_moments.specs.Watched.{Watched, AreApart, AreWatched, Between, IsFoundation, IsWatched, by_name, cut, is_opening, is_watched, now_of, others_then, was_opened}
 use Rattle.crash_moments.specs.Told.{SeenMore}
 use Rattle.crash_moments.proofs.Cuts.{cut_before, none_yet}

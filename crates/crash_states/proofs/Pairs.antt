@@ -8,7 +8,7 @@ use Rattle.region_layout.specs.Region.{IsClosed, IsImage}
 use Rattle.disk_backup.specs.Logs.{writes_of}
 use Rattle.disk_backup.specs.Settling.{HasLog}
 use Rattle.leaf_opening.specs.Backed.{AreImagesOf, HasSoundLog}
-use Rattle.crash_events.specs.Left.{NamedStates, Left, RegionLeft, closed, image, HasShutGate}
+use Rattle.crash_moments.specs.Left.{NamedStates, Left, RegionLeft, closed, image, HasShutGate}
 use Rattle.crash_moments.specs.Told.{reads_one}
 use Rattle.crash_states.proofs.States.{IsFrontOf, front_within}
 use Rattle.crash_states.proofs.Disks.{gate_shut, same_log}

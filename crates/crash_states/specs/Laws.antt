@@ -6,7 +6,7 @@ use Rattle.berth_face.specs.Berth.{Meaning}
 use Rattle.berth_face.specs.Moments.{EachNow}
 use Rattle.disk_backup.specs.State.{LogState}
 use Rattle.drain_copy.specs.Draining.{DrainState}
-use Rattle.crash_events.specs.Left.{NamedStates, Left}
+use Rattle.crash_moments.specs.Left.{NamedStates, Left}
 use Rattle.crash_moments.specs.Watched.{Watched, tables_then}
 use Rattle.crash_moments.specs.Told.{reads_one}
 use Rattle.crash_states.specs.Standing.{Runs, Rests, Copies}

@@ -14,7 +14,7 @@ use Rattle.disk_backup.specs.State.{LogState}
 use Rattle.disk_backup.specs.Settling.{HasLog, HaveLog, with_writes}
 use Rattle.drain_copy.specs.Draining.{DrainState, Draining, AllClosed}
 use Rattle.leaf_opening.specs.Backed.{AreImagesOf, HasSoundLog}
-use Rattle.crash_events.specs.Left.{NamedStates}
+use Rattle.crash_moments.specs.Left.{NamedStates}
 use Rattle.crash_moments.specs.Watched.{Watched, AreWatched, IsFoundation, by_name, is_watched, now_of, others_then, was_opened}
 
 -- what every berth promises now: what reads give may be left, and the region is that or lost

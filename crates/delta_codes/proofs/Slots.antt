@@ -10,10 +10,6 @@ use Rattle.std.proofs.lemmas.List.FromFn.{length-map-range_with_len, get_or-map-
 use Rattle.delta_codes.specs.Slots.{zigzag, after, slot, slots, anchors_of, code_of, codes_of}
 use Rattle.delta_codes.proofs.Differences.{after_difference}
 
--- one slot for each code
-pub length_slots : (anchors : List ℤ) (codes : List ℕ) → length (slots anchors codes) ≡ length codes
-length_slots anchors codes = length-map-range_with_len (slot anchors codes) 0 (length codes)
-
 -- the i-th of the slots
 pub slots_at : (anchors : List ℤ) (codes : List ℕ) (i : ℕ) (d : ℤ) → i < length codes → slice_index_or (slots anchors codes) i d ≡ slot anchors codes i
 slots_at anchors codes i d within = get_or-map-range_with_len (slot anchors codes) 0 (length codes) i i d within (omega arith)
@@ -28,15 +24,6 @@ pub slot_between : (anchors : List ℤ) (codes : List ℕ) (before i : ℕ) → 
     → slot anchors codes i ≡ after (slot anchors codes before) (slice_index codes i)
 slot_between anchors codes before zero next between = absurd (omega arith)
 slot_between anchors codes before (suc i) next between = let e : before ≡ i = omega arith in rw e (grind arith)
-
--- the slots are i64s where the anchors are
-pub slot_fits : (anchors : List ℤ) (codes : List ℕ) → ((k : ℕ) → FitsSigned w64 (slice_index_or anchors k (pos 0)))
-    → (i : ℕ) → FitsSigned w64 (slot anchors codes i)
-slot_fits anchors codes fits zero = fits 0
-slot_fits anchors codes fits (suc i) = elim (cases_eq (suc i % 64) 0) [
-  | inl multiple ↦ rw (slot_anchored anchors codes (suc i) multiple) (fits (suc i / 64))
-  | inr between ↦ rw (slot_between anchors codes i (suc i) (omega arith) between) (SFits-int_wrap w64 _)
-]
 
 -- ---- what is written for values
 

@@ -32,17 +32,6 @@ gate_first a b all = throughout_map a b (StepsFrom (Torn 0 1) a) (StepsFrom (Beg
   disk = inr (record { short = omega arith; synced = λ e. absurd (omega (arith, e)); torn = came.disk });
 }) all
 
--- and where a sync came before
-pub gate_synced : (n : ℕ) (a b c : Meaning) → n ≤ 1 → Throughout (StepsFrom (BeginsScan n) a) a b → ((p : Pair) → b.leaves b.clock p → a.leaves a.clock p × (length p.disk ≤ 1)) → Throughout (StepsFrom (Torn 0 1) b) b c → Throughout (StepsFrom (BeginsScan n) a) a c
-gate_synced n a b c few so_far were all = throughout_join a b c (StepsFrom (BeginsScan n) a) so_far (throughout_map b c (StepsFrom (Torn 0 1) b) (StepsFrom (BeginsScan n) a) (λ p came.
-    let was = were came.from came.was in
-    record {
-      from = came.from;
-      was = was.0;
-      region = came.region;
-      disk = inr (record { short = few; synced = λ e. was.1; torn = came.disk });
-    }) all)
-
 -- a call before that changed nothing
 pub begins_after : (n : ℕ) (a b c : Meaning) → Passes a b → Stays a b → Throughout (StepsFrom (BeginsScan n) b) b c → Throughout (StepsFrom (BeginsScan n) a) a c
 begins_after n a b c time stays all =

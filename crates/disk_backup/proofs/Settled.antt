@@ -100,32 +100,6 @@ module _ (log : LogState) (r : LogRecord) (is : IsRecord r) (owed : log.owed ≡
     err = on_err result (λ p left. comes (OwingAfter later.laid (pending_bytes (Some r))) (HoldsLog later) old (still later same_owed same_end) p (now p left));
   }
 
--- ---- of a log that owes nothing
-
-pub settled_none : {T E : Type 0} (log later : LogState) (result : Result T E) (m : Meaning) → log.owed ≡ None → IsOk result → Settled log later result m m
-settled_none log later result m none good = record {
-  moments = started m (Comes log (WithOrWithout log) m) (λ p left. record { from = p; before = left; region = inl refl; disk = λ records had. inl (plain records p.disk had) });
-  ok = on_ok result (λ p left. record { from = p; before = left; region = inl refl; disk = λ records had. whole records p.disk had });
-  err = on_err_ok (EachNow (Comes log (HoldsLog later) m) m) result good;
-}
-  where
-    plain : (records : List LogRecord) (disk : List ℕ) → HoldsLog log records disk → ClosedLog records log.end disk
-    plain records disk had = subst (λ (o : Option LogRecord). HoldsOwing o log.laid log.end records disk) none had
-
-    at_end : log.end ≡ log.end + 0
-    at_end = omega arith
-
-    whole : (records : List LogRecord) (disk : List ℕ) → HoldsLog log records disk → WithOwed log records disk
-    whole records disk had =
-        subst (λ (o : Option LogRecord). ClosedLog (with_owed o records) (log.end + length (pending_bytes o)) disk) (sym none) (subst (λ (e : ℕ). ClosedLog records e disk) at_end (plain records disk had))
-
--- nothing is owed where there are no bytes
-pub owes_none : (owed : Option LogRecord) → length (pending_bytes owed) ≡ 0 → owed ≡ None
-owes_none None e = refl
-owes_none (Some r) e = absurd (omega (arith, e, length-append (record_bytes r) (0 ∷ [])))
-
--- ---- of a log that owes something, by its bytes
-
 module _ (log : LogState) (bytes : List ℕ) (old new : Meaning) where
   done_by : {T E : Type 0} (result : Result T E) (later : LogState) (owed : Option LogRecord) → log.owed ≡ owed → IsSome owed → IfSome owed IsRecord → bytes ≡ pending_bytes owed → IsOk result
       → Throughout (Came log.end (OwingAfter log.laid bytes) (EitherWay bytes) old) old new

@@ -3,7 +3,7 @@ use Rattle.std.proofs.Common.{◌≡◌, ℕ, Bool, true, false, List, sym, subs
 use Rattle.berth_face.specs.Berth.{Meaning}
 use Rattle.leaf_history.specs.History.{no_base}
 use Rattle.leaf_opening.proofs.Logs.{none_short}
-use Rattle.crash_events.specs.Left.{NamedStates, Left}
+use Rattle.crash_moments.specs.Left.{NamedStates, Left}
 use Rattle.crash_moments.specs.Watched.{Watched, IsFoundation, by_name, others_then, state_then, was_opened}
 use Rattle.crash_moments.specs.Told.{reads_one}
 use Rattle.crash_states.specs.Laws.{IsLeftNow}

@@ -9,7 +9,7 @@ use Rattle.region_layout.specs.Images.{table_named}
 use Rattle.disk_backup.specs.Settling.{with_writes}
 use Rattle.leaf_history.specs.History.{HistoryState}
 use Rattle.leaf_opening.specs.Backed.{IsImageOf}
-use Rattle.crash_events.specs.Left.{NamedStates}
+use Rattle.crash_moments.specs.Left.{NamedStates}
 use Rattle.crash_moments.specs.Watched.{Watched}
 use Rattle.crash_states.specs.Standing.{IsKept, IsWhole, RegionRests, is_closed, is_other, is_image, Rests, tables_of}
 use Rattle.crash_starting.specs.Laws.{AreUnseen}

@@ -11,7 +11,7 @@ use Rattle.disk_backup.specs.Logs.{writes_of}
 use Rattle.disk_backup.specs.Settling.{HasLog, with_writes}
 use Rattle.leaf_history.specs.History.{base_of}
 use Rattle.leaf_opening.specs.Backed.{HasSoundLog, IsShort}
-use Rattle.crash_events.specs.Left.{NamedStates}
+use Rattle.crash_moments.specs.Left.{NamedStates}
 use Rattle.crash_moments.specs.Watched.{Watched, IsFoundation, IsWatched, now_of, others_then, was_opened}
 use Rattle.crash_states.specs.Standing.{IsKept, IsWhole, RegionRests, is_closed, is_other, is_image, Rests, tables_of}
 use Rattle.crash_states.proofs.Names.{IsOwn, IsForeign, find_name, each_at, others_at}

@@ -9,7 +9,7 @@ use Rattle.leaf_history.specs.Replies as reply
 use Rattle.leaf_history.specs.History.{Entry, LegalFrom, HistoryState, after, write_count}
 use Rattle.leaf_history.proofs.Histories.{LegalFrom-append, after-append}
 use Rattle.disk_backup.specs.State.{LogState}
-use Rattle.crash_events.specs.Left.{NamedStates}
+use Rattle.crash_moments.specs.Left.{NamedStates}
 use Rattle.crash_moments.specs.Watched.{Watched, IsFoundation, IsWatched, by_name, now_of, others_then, was_opened}
 use Rattle.crash_moments.proofs.Telling.{opened_more}
 use Rattle.crash_states.specs.Standing.{Runs, tables_of}

@@ -110,14 +110,6 @@ module _ (x : Shutting) (m : Meaning) (is : IsShutting x m) (sits : AreSeated x.
       (flushed_holds x.closed x.serving.seated (holds_of x m is) sits x.serving.owing.owner one.table one.before one.after clock x.serving.owing.count one.at one.was one.made
       (owner_open one.table one.before one.at one.was) (owner_shut one.table one.before one.at one.was))
 
--- nothing was owed, so that no table was shut whose record is
-none_shut : (x : Shutting) (m : Meaning) → IsShutting x m → x.serving.owing.log.owed ≡ None → x.shut ≡ false
-none_shut x m is none = by x.shut refl
-  where
-    by : (b : Bool) → x.shut ≡ b → x.shut ≡ false
-    by true shut = none_owed x.serving.owing.log.owed none (is.last shut).0
-    by false open_ = open_
-
 module _ (x : Shutting) (m m' : Meaning) (is : IsShutting x m) (sits : AreSeated x.serving.seated) {T E : Type 0} (clock : ℕ) (before : List Note) (result : Result T E)
     (y : Seated) (o : Owing) (after : List Note) where
   pub settled_is : SettlesOwed clock x.serving.seated x.serving.owing before result y o after → IsOk result → UpStands (record { seated = y; owing = o }) m'

@@ -13,7 +13,7 @@ use Rattle.table_state.specs.Tables.{Table, Takes}
 use Rattle.leaf_table.specs.Turns.{Shared, is_founded, start_of}
 use Rattle.leaf_table.specs.Turns as turns
 use Rattle.leaf_table.specs.Calls.{base_seen, name_of, seen_of, state_before, state_seen}
-use Rattle.crash_events.specs.Left.{NamedStates}
+use Rattle.crash_moments.specs.Left.{NamedStates}
 use Rattle.crash_moments.specs.Watched.{Watched}
 use Rattle.crash_moments.specs.Told.{SeenMore, Told}
 use Rattle.crash_moments.proofs.Telling.{more_on}

@@ -16,7 +16,7 @@ use Rattle.leaf_opening.specs.declared.opening.Opened.{Opened}
 use Rattle.leaf_opening.specs.Starts.{Started, AreFresh, OpensFrom, KeepsDisks, IsDurable, serving_of}
 use Rattle.leaf_table.specs.Turns.{Shared, is_founded, MayHandIn}
 use Rattle.leaf_table.specs.Calls.{SeatView, base_seen, name_of, state_seen}
-use Rattle.crash_events.specs.Left.{NamedStates}
+use Rattle.crash_moments.specs.Left.{NamedStates}
 use Rattle.crash_moments.specs.Watched.{Watched, now_of}
 use Rattle.crash_moments.specs.Told.{Told}
 use Rattle.crash_moments.proofs.Telling.{told_join}

@@ -13,7 +13,7 @@ use Rattle.leaf_opening.specs.declared.ways.StartFault.TheVariants as found
 use Rattle.leaf_opening.specs.Backed.{HasSoundLog}
 use Rattle.leaf_opening.specs.declared.opening.Opened.{Opened}
 use Rattle.leaf_opening.specs.Starts.{IsOpeningRefusal, OpensFrom, KeepsDisks}
-use Rattle.crash_events.specs.Left.{NamedStates}
+use Rattle.crash_moments.specs.Left.{NamedStates}
 use Rattle.crash_moments.specs.Watched.{Watched}
 use Rattle.crash_moments.specs.Told.{Told}
 use Rattle.crash_moments.proofs.Telling.{none_more}

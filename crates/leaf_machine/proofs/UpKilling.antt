@@ -4,7 +4,7 @@ use Rattle.leaf_model.specs.declared.writes.Write.{Write}
 use Rattle.berth_face.specs.Berth.{Meaning}
 use Rattle.leaf_history.specs.History.{no_base}
 use Rattle.leaf_opening.proofs.Logs.{none_short}
-use Rattle.crash_events.specs.Left.{NamedStates, Left}
+use Rattle.crash_moments.specs.Left.{NamedStates, Left}
 use Rattle.crash_moments.specs.Watched.{Watched, IsFoundation, others_then, by_name, state_then, tables_then, was_opened}
 use Rattle.crash_moments.specs.Told.{reads_one}
 use Rattle.crash_moments.proofs.Telling.{opened_more}

@@ -9,7 +9,7 @@ use Rattle.turnstile.specs.Seats.{LearnsOthers, Others, Told}
 use Rattle.leaf_history.specs.History.{Entry, HistoryState, LegalFrom, after}
 use Rattle.leaf_history.specs.Laws.{CallersKeep}
 use Rattle.leaf_history.proofs.Histories.{LegalFrom-back, after-append, others_keep}
-use Rattle.crash_events.specs.Left.{NamedStates}
+use Rattle.crash_moments.specs.Left.{NamedStates}
 use Rattle.leaf_table.specs.Turns.{Shared, Turns, told, history, is_founded, start_of}
 use Rattle.leaf_table.specs.Calls.{SeatView, AreOthers, base_seen, name_of, seen_of, state_seen}
 use Rattle.leaf_table.proofs.Knowing.{callers_of}

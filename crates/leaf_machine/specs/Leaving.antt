@@ -5,7 +5,7 @@ use Rattle.row_records.specs.Records.{LogRecord}
 use Rattle.berth_face.specs.Berth.{Meaning}
 use Rattle.leaf_history.specs.History.{HistoryState, base_of}
 use Rattle.disk_backup.specs.State.{LogState}
-use Rattle.crash_events.specs.Left.{NamedStates}
+use Rattle.crash_moments.specs.Left.{NamedStates}
 use Rattle.crash_moments.specs.Watched.{Watched, IsFoundation}
 use Rattle.crash_states.specs.Standing.{Runs, Rests, tables_of}
 use Rattle.leaf_machine.specs.States.{MayBegin}

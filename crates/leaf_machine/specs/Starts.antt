@@ -9,7 +9,7 @@ use Rattle.leaf_opening.specs.declared.ways.StartFault.TheVariants as found
 use Rattle.leaf_opening.specs.Serving as plain
 use Rattle.leaf_opening.specs.Starts.{Started, IsOpeningRefusal}
 use Rattle.leaf_table.specs.Calls.{SeatView, IsFresh}
-use Rattle.crash_events.specs.Left.{NamedStates}
+use Rattle.crash_moments.specs.Left.{NamedStates}
 use Rattle.crash_states.specs.Standing.{Runs, Rests}
 use Rattle.leaf_steward.specs.declared.notes.Note.{Note}
 use Rattle.leaf_steward.specs.Seated.{Seated, AtEach, watched_by}

@@ -8,7 +8,7 @@ use Rattle.table_state.specs.Tables.{Table}
 use Rattle.drain_copy.specs.declared.step.Next.TheVariants.{Nothing}
 use Rattle.drain_copy.specs.Draining.{DrainState}
 use Rattle.leaf_table.specs.Calls.{base_seen, state_seen}
-use Rattle.crash_events.specs.Left.{NamedStates}
+use Rattle.crash_moments.specs.Left.{NamedStates}
 use Rattle.crash_moments.specs.Told.{Told}
 use Rattle.crash_moments.specs.Watched.{IsFoundation}
 use Rattle.crash_states.specs.Standing.{Runs, Rests, Copies}

@@ -7,7 +7,7 @@ ghost use Rattle.region_layout.specs.Names.{AreNames};
 ghost use Rattle.turnstile.specs.Seats.{IsSeatOf, LearnsOthers, Told};
 ghost use Rattle.leaf_table.specs.Turns.{is_founded, start_of};
 ghost use Rattle.leaf_table.specs.Calls.{base_seen, name_of, seen_of};
-ghost use Rattle.crash_events.specs.Left.{NamedStates};
+ghost use Rattle.crash_moments.specs.Left.{NamedStates};
 ghost use Rattle.crash_states.specs.Standing.{Rests};
 ghost use Rattle.leaf_steward.specs.Seated.{AreAlike, AreFounded, AtEach, AtPlace, IsUnused, watched_by, with_seat};
 ghost use Rattle.leaf_machine.specs.States.{MayBegin};

@@ -1,6 +1,6 @@
 // Over which berths a leaf may begin.
-ghost use Rattle.crash_events.specs.Base.{IsReady};
-ghost use Rattle.crash_events.specs.Left.{NamedStates};
+ghost use Rattle.crash_moments.specs.Base.{IsReady};
+ghost use Rattle.crash_moments.specs.Left.{NamedStates};
 ghost use Rattle.crash_moments.specs.Told.{reads_one};
 ghost use Rattle.leaf_machine.specs.States.{MayBegin};
 ghost use Rattle.leaf_machine.specs.Leaving.{LeavesBegin};

@@ -7,7 +7,7 @@ ghost use Rattle.berth_face.specs.Berth.{Passes};
 ghost use Rattle.disk_backup.specs.Scanning.{BeginsScan};
 ghost use Rattle.leaf_opening.specs.declared.ways.Way.TheVariants as way;
 ghost use Rattle.leaf_opening.specs.Starts.{IsWayOf};
-ghost use Rattle.crash_events.specs.Left.{NamedStates};
+ghost use Rattle.crash_moments.specs.Left.{NamedStates};
 ghost use Rattle.crash_states.specs.Standing.{Rests};
 ghost use Rattle.leaf_steward.specs.Seated.{AreFounded, watched_by};
 ghost use Rattle.leaf_steward.specs.Making.{Makes};

@@ -59,9 +59,9 @@ AreFresh tables = AllByRecursion (λ (t : Table). t.pending ≡ None) tables
 abbrev pub IsOpeningRefusal : List (List ℕ) → Meaning → Meaning → StartFault → Type 0
 IsOpeningRefusal names old new RegionFault = IsBroken old.held.region new.held.region × (new.held.disk ≡ old.held.disk)
 IsOpeningRefusal names old new DiskFault = new.held.region ≡ left_behind old.held.region
-IsOpeningRefusal names old new DiskDamaged = (new.held.region ≡ left_behind old.held.region) × recovery.IsRefusal names new.held.disk found.DiskDamaged
+IsOpeningRefusal names old new DiskDamaged = (new.held.region ≡ left_behind old.held.region) × recovery.IsRecoveryRefusal names new.held.disk found.DiskDamaged
 IsOpeningRefusal names old new (Stranger name) = (new.held.region ≡ left_behind old.held.region)
-    × (IsStranger names old.held.region name ⊎ recovery.IsRefusal names new.held.disk (found.Stranger name))
+    × (IsStranger names old.held.region name ⊎ recovery.IsRecoveryRefusal names new.held.disk (found.Stranger name))
 IsOpeningRefusal names old new NoMemory = new.held.region ≡ left_behind old.held.region
 
 -- the leaf that serves what was opened

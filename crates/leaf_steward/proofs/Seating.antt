@@ -108,9 +108,6 @@ spares_less t clock n v w c r m spares = let room = m.room.1 in omega (arith, ro
 pub may_enter : (t : Shared) (v : SeatView) → IsSeated t v → Spares 1 t v → IsSteward v
 may_enter t v s spares = let share = s.share in (s.id, omega (arith, share, spares))
 
-pub fresh_spares : (t : Shared) (v : SeatView) → IsSeated t v → IsFresh v → Spares 1024 t v
-fresh_spares t v s fresh = s.room fresh
-
 -- of two legal histories that a seat is told it has seen one
 pub told_legal : (t : Shared) (v u w : SeatView) → LegalFrom (is_founded (base_seen t)) (start_of (base_seen t)) (seen_of v) → LegalFrom (is_founded (base_seen t)) (start_of (base_seen t)) (seen_of u) → Told v u w
     → LegalFrom (is_founded (base_seen t)) (start_of (base_seen t)) (seen_of w)
@@ -252,9 +249,6 @@ worn_at {x} {now} {place} {t} {v} h is worn = (v, ap (λ (y : Seated). slice_get
 -- no entry was made: the seat is as it was
 pub same_with : {x now : Seated} {place : ℕ} {t : Shared} {v : SeatView} → SitsAt x place t v → x ≡ now → (w : SeatView) → w ≡ v → with_seat x place w ≡ now
 same_with {x} {now} {place} {t} {v} h is w same = ap (λ (l : List SeatView). record { names = x.names; tables = x.tables; seats = l }) (set_same x.seats place w (h.sat ∙ ap (λ (s : SeatView). Some s) (sym same))) ∙ is
-
-pub seated_same : {x : Seated} {place : ℕ} {t : Shared} {v : SeatView} → SitsAt x place t v → AreSeated x → (w : SeatView) → w ≡ v → AreSeated (with_seat x place w)
-seated_same {x} {place} {t} {v} h s w same = seated_with x place t w s h.at (subst (λ y. IsSeated t y) (sym same) h.seated)
 
 -- a fresh seat may enter
 pub fresh_at : {x now : Seated} {place : ℕ} {t : Shared} {v : SeatView} → SitsAt x place t v → x ≡ now → AtPlace (λ u s. IsFresh s) now place → IsSteward v

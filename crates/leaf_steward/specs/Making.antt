@@ -68,10 +68,6 @@ OpenedNotes place [] notes = notes ≡ []
 OpenedNotes place (t ∷ ts) [] = ⊥
 OpenedNotes place (t ∷ ts) (note ∷ notes) = (note.table ≡ place) × (note.what ≡ Opened t.writes) × OpenedNotes (suc place) ts notes
 
--- the record of what was not taken just before the entry, and what the table held then
-abbrev pub pending_before : {base : Option TableBase} → {clock : ℕ} → {v w : SeatView} → {c : call.Call} → {r : reply.Reply} → List ℕ → Made base clock v c r w → Option LogRecord
-pending_before {base} {clock} {v} {w} {c} {r} name m = untaken_record name (state_before base v m.between)
-
 -- the table in that place was taken: so many writes were accepted, and this is the record of those that were not taken before
 pub record TakesAt (clock : ℕ) (x : Seated) (place number n : ℕ) (pending : Option LogRecord) (y : Seated) : Type 0 where
   pub table : Shared

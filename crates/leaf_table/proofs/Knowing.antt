@@ -154,10 +154,6 @@ steward_knows = λ base clock v w c r m. record { others = others_kept base cloc
 pub same_seat : (base : Option TableBase) (clock : ℕ) (v w : SeatView) (c : Call) (r : Reply) → Made base clock v c r w → SameSeat v w
 same_seat base clock v w c r m = let room = m.room.1 in record { id = ap (λ (u : SeatView). u.id) m.place; share = ap (λ (u : SeatView). u.share) m.place; room = omega (arith, room) }
 
-pub unused_shut : (base : Option TableBase) → (start_of base).live ≡ false
-unused_shut (Some b) = refl
-unused_shut None = refl
-
 opened_live : (founded : Bool) (s : HistoryState) (n : ℕ) (contents : Contents) → (opened founded s n contents).live ≡ true
 opened_live true s n contents = refl
 opened_live false s n contents = refl

@@ -1,7 +1,7 @@
 // What a table begins with. Contracts alone see it.
 ghost use Rattle.std.specs.Prelude.{◌≡◌, IfOk};
 
-use founding::{Founding, Pick};
+use crate::founding::{Founding, Pick};
 use leaf_model::{Text, Writes};
 use std::alloc::{AllocError, Global};
 use std::marker::{Brand, PhantomData};

@@ -4,6 +4,7 @@
 mod base;
 mod callers;
 mod fleet;
+mod founding;
 mod replies;
 mod shared;
 mod steward;

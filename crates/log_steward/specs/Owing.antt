@@ -4,7 +4,7 @@ use Rattle.leaf_model.specs.declared.writes.Write.{Write}
 use Rattle.row_records.specs.Records.{LogRecord}
 use Rattle.berth_face.specs.Berth.{Meaning}
 use Rattle.disk_backup.specs.State.{LogState}
-use Rattle.crash_events.specs.Left.{NamedStates}
+use Rattle.crash_moments.specs.Left.{NamedStates}
 use Rattle.crash_moments.specs.Told.{Told}
 use Rattle.crash_states.specs.Standing.{Runs}
 use Rattle.crash_serving.specs.Laws.{settled_log, owing_log, Owes}

@@ -5,7 +5,7 @@ use Rattle.std.specs.List.{AllByRecursion}
 use Rattle.std.proofs.lemmas.List.{length-map}
 use Rattle.berth_face.specs.Berth.{Meaning}
 use Rattle.region_layout.specs.Names.{AreNames}
-use Rattle.crash_events.specs.Left.{NamedStates}
+use Rattle.crash_moments.specs.Left.{NamedStates}
 use Rattle.leaf_table.specs.Turns.{Shared, is_founded, start_of}
 use Rattle.leaf_table.specs.Calls.{SeatView, base_seen, name_of}
 use Rattle.leaf_steward.specs.Seated.{AreAlike, AreFounded, AtEach}

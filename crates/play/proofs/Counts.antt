@@ -25,19 +25,8 @@ counted : (range : Range) (n : ℕ) (row : Row) (rows : Result (List Row) LineFa
 counted range n row (Ok rows) = ap Ok (sum_by-cons _ row rows)
 counted range n row (Err found) = refl
 
-pub count_row : (range : Range) (n : ℕ) (text piece rest : List ℕ) (row : Row) → lines text ≡ piece ∷ lines rest → is_blank (without_return piece) ≡ false → row_of (without_return piece) ≡ Ok row → count_after range n text ≡ more_by (cond (is_in range row) 1 0) (count_after range (n + 1) rest)
-count_row range n text piece rest row cut blank is = rw (cut, blank, is) (counted range (n + 1) row (rows_of_lines (n + 1 + 1) (map without_return (lines rest))))
-
 pub count_fault : (range : Range) (n : ℕ) (text piece rest : List ℕ) (fault : RowFault) → lines text ≡ piece ∷ lines rest → is_blank (without_return piece) ≡ false → row_of (without_return piece) ≡ Err fault → count_after range n text ≡ Err (record { line = n + 1; fault = fault })
 count_fault range n text piece rest fault cut blank is = rw (cut, blank, is)
-
-more_more : (m n : ℕ) (r : Result ℕ LineFault) → more_by m (more_by n r) ≡ more_by (m + n) r
-more_more m n (Ok k) = ap Ok (sym (add_assoc m n k))
-more_more m n (Err found) = refl
-
--- the count so far, and one more line
-pub counts_on : (whole later rest : Result ℕ LineFault) (count one now : ℕ) → whole ≡ more_by count later → later ≡ more_by one rest → now ≡ count + one → whole ≡ more_by now rest
-counts_on whole later rest count one now first second is = rw (first, second, is) (more_more count one rest)
 
 from_none : (r : Result ℕ LineFault) → r ≡ more_by 0 r
 from_none (Ok k) = ap Ok (sym (zero-add k))
@@ -47,7 +36,3 @@ from_none (Err found) = refl
 pub count_start : (range : Range) (text : List ℕ) → count_of range text ≡ more_by 0 (count_after range 0 text)
 unfolding rows_of
 count_start range text = from_none (count_of range text)
-
-pub count_end : (range : Range) (n : ℕ) (rest : List ℕ) (count : ℕ) → length rest ≡ 0 → more_by count (count_after range n rest) ≡ Ok count
-count_end range n [] count h = ap Ok (add-zero count)
-count_end range n (x ∷ xs) count h = absurd (omega arith)

@@ -14,7 +14,7 @@ use Rattle.berth_mem.specs.Record.{meaning_of}
 use Rattle.disk_backup.specs.Logs.{is_short}
 use Rattle.region_layout.specs.Region.{IsClosed}
 use Rattle.leaf_opening.specs.Backed.{HasSoundLog}
-use Rattle.crash_events.specs.Left.{NamedStates}
+use Rattle.crash_moments.specs.Left.{NamedStates}
 use Rattle.crash_states.specs.Standing.{Rests, is_closed}
 use Rattle.play.specs.Played.{IsBase}
 

@@ -5,7 +5,7 @@ use Rattle.berth_face.specs.Berth.{Meaning}
 use Rattle.berth_face.specs.Streams.{ReadsAll}
 use Rattle.leaf_opening.specs.declared.ways.Way.{Way}
 use Rattle.leaf_opening.specs.Starts.{IsWayOf}
-use Rattle.crash_events.specs.Left.{NamedStates}
+use Rattle.crash_moments.specs.Left.{NamedStates}
 use Rattle.leaf_history.specs.History.{base_of}
 use Rattle.leaf_machine.specs.States.{MayBegin}
 use Rattle.script_text.specs.declared.command.Command.{Command}

@@ -8,7 +8,7 @@ use std::marker::Brand;
 /// A program cannot find a base out, since no read tells what a crash would leave.
 pub trait Bases<B: Berth> {
     ghost use Rattle.std.specs.Prelude.{Option, IfSome};
-    ghost use Rattle.crash_events.specs.Left.{NamedStates};
+    ghost use Rattle.crash_moments.specs.Left.{NamedStates};
     ghost use Rattle.play.specs.Played.{IsBase};
 
     ghost base: { B → Option NamedStates };

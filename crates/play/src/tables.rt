@@ -26,7 +26,7 @@ pub struct LeafTables {
 /// The base of one leaf's tables. Contracts alone see it.
 trait LeafBase {
     ghost use Rattle.std.specs.Prelude.{Option};
-    ghost use Rattle.crash_events.specs.Left.{NamedStates};
+    ghost use Rattle.crash_moments.specs.Left.{NamedStates};
 
     ghost base: { Option NamedStates };
 }

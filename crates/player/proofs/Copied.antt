@@ -16,7 +16,7 @@ use Rattle.drain_copy.specs.declared.step.RegionFault.{RegionFault}
 use Rattle.drain_copy.specs.Draining.{StandsAt}
 use Rattle.leaf_opening.specs.declared.ways.Way.TheVariants.{Disk}
 use Rattle.leaf_opening.specs.Starts.{IsWayOf}
-use Rattle.crash_events.specs.Left.{NamedStates}
+use Rattle.crash_moments.specs.Left.{NamedStates}
 use Rattle.crash_moments.specs.Told as moments
 use Rattle.crash_moments.proofs.Telling.{none_more, told_join}
 use Rattle.crash_states.specs.Standing.{Copies}

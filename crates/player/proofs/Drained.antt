@@ -90,7 +90,7 @@ fewer_left meaning leaf more notes some stepped =
 module _ {B E : Type 0} (meaning : B → Meaning) (x : Shutting) (m : Meaning) (stop left left' : Option ℕ) (leaf : Shutting × B)
     (before : Result (Vec Line Global) E) (so_far : SoFar x m stop leaf.0 (meaning leaf.1) left before) where
   -- no step is left
-  pub shut_stopped : Spends left false left' → move.Shuts meaning x m stop (how.Stopped leaf) left' before
+  pub shut_stopped : Spends left false left' → move.ShutsTables meaning x m stop (how.Stopped leaf) left' before
   shut_stopped spends = record {
     notes = so_far.notes;
     ends = record {
@@ -136,7 +136,7 @@ module _ {B E : Type 0} (meaning : B → Meaning) (x : Shutting) (m : Meaning) (
     }
 
     -- all are treated, and the copy is planned
-    pub shut_ready : (copy : Copying × B) → Stepped meaning leaf.0 (meaning leaf.1) notes (ready_step copy) → move.Shuts meaning x m stop (how.Ready copy) left' after
+    pub shut_ready : (copy : Copying × B) → Stepped meaning leaf.0 (meaning leaf.1) notes (ready_step copy) → move.ShutsTables meaning x m stop (how.Ready copy) left' after
     shut_ready copy stepped = record {
       notes = so_far.notes ++ notes;
       ends = record {
@@ -175,7 +175,7 @@ module _ {B E : Type 0} (meaning : B → Meaning) (x : Shutting) (m : Meaning) (
       half_carries : Carries (IsPreparing x) (IsPreparing half.0) (so_far.notes ++ notes) m (meaning half.1)
       half_carries = far_carries x half.0 (so_far.notes ++ notes) m (meaning half.1) half_far
 
-      pub shut_halted : f ≡ fault.DiskFault → move.Shuts meaning x m stop (how.Halted half) left' after
+      pub shut_halted : f ≡ fault.DiskFault → move.ShutsTables meaning x m stop (how.Halted half) left' after
       shut_halted e =
           let one : IsTreatingStep leaf.0 notes (failed_step half fault.DiskFault) = subst (λ (g : PrepareFault). IsTreatingStep leaf.0 notes (failed_step half g)) e stepped.one in
           record {
@@ -197,7 +197,7 @@ module _ {B E : Type 0} (meaning : B → Meaning) (x : Shutting) (m : Meaning) (
             told = shut_told;
           }
 
-      pub shut_starved : f ≡ fault.NoMemory → move.Shuts meaning x m stop (how.Starved half) left' after
+      pub shut_starved : f ≡ fault.NoMemory → move.ShutsTables meaning x m stop (how.Starved half) left' after
       shut_starved e =
           let one : IsTreatingStep leaf.0 notes (failed_step half fault.NoMemory) = subst (λ (g : PrepareFault). IsTreatingStep leaf.0 notes (failed_step half g)) e stepped.one in
           record {
@@ -219,7 +219,7 @@ module _ {B E : Type 0} (meaning : B → Meaning) (x : Shutting) (m : Meaning) (
             told = shut_told;
           }
 
-      pub shut_roomless : f ≡ fault.NoRoom → move.Shuts meaning x m stop (how.Roomless half) left' after
+      pub shut_roomless : f ≡ fault.NoRoom → move.ShutsTables meaning x m stop (how.Roomless half) left' after
       shut_roomless e =
           let one : IsTreatingStep leaf.0 notes (failed_step half fault.NoRoom) = subst (λ (g : PrepareFault). IsTreatingStep leaf.0 notes (failed_step half g)) e stepped.one in
           let stays : leaf.0 ≡ half.0 = sym one.3 in

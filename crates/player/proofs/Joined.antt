@@ -3,7 +3,7 @@ use Rattle.std.proofs.Common.{◌≡◌, ℕ, suc, ◌+◌, List, ◌++◌, leng
 use Rattle.std.specs.Prelude.{IsTrue, IfOk}
 use Rattle.berth_face.specs.Berth.{Meaning, Passes}
 use Rattle.region_layout.specs.Images.{images_of}
-use Rattle.crash_events.specs.Left.{NamedStates}
+use Rattle.crash_moments.specs.Left.{NamedStates}
 use Rattle.crash_moments.proofs.Telling.{told_join}
 use Rattle.leaf_steward.specs.declared.notes.Note.{Note}
 use Rattle.leaf_steward.specs.Seated.{Seated, AreFounded, watched_by}
@@ -105,7 +105,7 @@ module _ (x : Shutting) (m n o : Meaning) (leaf : Leaf) (stop left : Option ℕ)
 module _ {B E : Type 0} (meaning : B → Meaning) (x : Shutting) (m : Meaning) (leaf : Leaf) (stop left : Option ℕ) (before : Result (Vec Line Global) E) (shuts : BeginsShutting leaf x) where
   -- all tables were copied, or the region failed, or no step was left for the copy
   pub drain_copied : (o : Meaning) (copy : Copying × B) (z : Seated) (ends : Ending) (after : Result (Vec Line Global) E) (notes : List Note)
-      → move.Shuts meaning x m stop (how.Ready copy) left before → Passes m (meaning copy.1)
+      → move.ShutsTables meaning x m stop (how.Ready copy) left before → Passes m (meaning copy.1)
       → CopyEnds copy.0 left (meaning copy.1) o notes ends z → CopyRests copy.0 z notes (meaning copy.1) o
       → IfOk after (λ lines. AreAdded before notes lines.items)
       → DrainsWithLines m o leaf stop ends after (IsDown z)
@@ -119,7 +119,7 @@ module _ {B E : Type 0} (meaning : B → Meaning) (x : Shutting) (m : Meaning) (
 
   -- no step was left for a table or the copy, and the leaf was killed
   pub drain_stopped : (y : Shutting × B) (z : Seated) (after : Result (Vec Line Global) E) (closing : List Note)
-      → move.Shuts meaning x m stop (how.Stopped y) left before → IsKilled y.0 z closing (meaning y.1) (meaning y.1)
+      → move.ShutsTables meaning x m stop (how.Stopped y) left before → IsKilled y.0 z closing (meaning y.1) (meaning y.1)
       → IfOk after (λ lines. AreAdded before closing lines.items)
       → DrainsWithLines m (meaning y.1) leaf stop ending.Stopped after (IsDown z)
   drain_stopped y z after closing shut killed added = record {
@@ -135,7 +135,7 @@ module _ {B E : Type 0} (meaning : B → Meaning) (x : Shutting) (m : Meaning) (
   }
 
   -- the disk failed
-  pub drain_halted : (half : Shutting × B) → move.Shuts meaning x m stop (how.Halted half) left before → DrainsWithLines m (meaning half.1) leaf stop ending.FaultDisk before (IsPreparing half.0)
+  pub drain_halted : (half : Shutting × B) → move.ShutsTables meaning x m stop (how.Halted half) left before → DrainsWithLines m (meaning half.1) leaf stop ending.FaultDisk before (IsPreparing half.0)
   drain_halted half shut = record {
     notes = shut.notes;
     moves = step.halted x shut.ends.half half.0 shut.ends.treating shut.ends.halting shut.ends.made shuts shut.ends.count shut.ends.may shut.ends.treats shut.ends.more
@@ -145,7 +145,7 @@ module _ {B E : Type 0} (meaning : B → Meaning) (x : Shutting) (m : Meaning) (
   }
 
   -- there was no memory for a table's content, or for the copy
-  pub drain_starved : (half : Shutting × B) → move.Shuts meaning x m stop (how.Starved half) left before → DrainsWithLines m (meaning half.1) leaf stop ending.FaultMemory before (IsPreparing half.0)
+  pub drain_starved : (half : Shutting × B) → move.ShutsTables meaning x m stop (how.Starved half) left before → DrainsWithLines m (meaning half.1) leaf stop ending.FaultMemory before (IsPreparing half.0)
   drain_starved half shut = record {
     notes = shut.notes;
     moves = step.starved x shut.ends.half half.0 shut.ends.treating shut.ends.starving shut.ends.made shuts shut.ends.count shut.ends.may shut.ends.treats shut.ends.starves
@@ -155,7 +155,7 @@ module _ {B E : Type 0} (meaning : B → Meaning) (x : Shutting) (m : Meaning) (
   }
 
   -- the copy has no room
-  pub drain_roomless : (whole : Shutting × B) → move.Shuts meaning x m stop (how.Roomless whole) left before → DrainsWithLines m (meaning whole.1) leaf stop ending.FaultRoom before (IsPreparing whole.0)
+  pub drain_roomless : (whole : Shutting × B) → move.ShutsTables meaning x m stop (how.Roomless whole) left before → DrainsWithLines m (meaning whole.1) leaf stop ending.FaultRoom before (IsPreparing whole.0)
   drain_roomless whole shut = record {
     notes = shut.notes;
     moves = step.roomless x whole.0 shut.ends.tables shuts shut.ends.count shut.ends.may shut.ends.treats shut.ends.all shut.ends.region refl refl;

@@ -8,7 +8,7 @@ use Rattle.leaf_history.specs.History.{LegalFrom}
 use Rattle.turnstile.specs.Seats.{IsSeatOf, LearnsOthers, Told}
 use Rattle.leaf_table.specs.Turns.{Shared, is_founded, start_of}
 use Rattle.leaf_table.specs.Calls.{SeatView, base_seen, seen_of}
-use Rattle.crash_events.specs.Left.{NamedStates}
+use Rattle.crash_moments.specs.Left.{NamedStates}
 use Rattle.crash_states.specs.Standing.{Rests, Runs}
 use Rattle.leaf_steward.specs.Seated.{Seated, AreFounded, AtPlace, watched_by, with_seat}
 use Rattle.leaf_machine.specs.States.{Serving, Shutting}

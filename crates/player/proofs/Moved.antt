@@ -8,7 +8,7 @@ use Rattle.berth_face.specs.Berth.{Meaning}
 use Rattle.disk_backup.specs.Scanning.{BeginsScan}
 use Rattle.leaf_opening.specs.declared.ways.Way.{Way}
 use Rattle.leaf_opening.specs.Starts.{IsWayOf}
-use Rattle.crash_events.specs.Left.{NamedStates}
+use Rattle.crash_moments.specs.Left.{NamedStates}
 use Rattle.crash_states.specs.Standing.{Rests, Runs}
 use Rattle.leaf_steward.specs.declared.notes.Note.{Note}
 use Rattle.leaf_steward.specs.Seated.{Seated, AreFounded, watched_by}

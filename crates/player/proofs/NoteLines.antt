@@ -12,9 +12,6 @@ no_more : (ls : List Line) → ls ++ [] ≡ ls
 no_more [] = refl
 no_more (l ∷ ls) = ap (λ (rest : List Line). l ∷ rest) (no_more ls)
 
-pub first_none : (notes : List Note) (old : List Line) → AreFirst notes old 0 old
-first_none notes old = sym (no_more old)
-
 take_next : (notes : List Note) (i : ℕ) (n : Note) → slice_get notes i ≡ Some n → note_lines (take (suc i) notes) ≡ note_lines (take i notes) ++ note_line n ∷ []
 take_next [] i n at = absurd cc
 take_next (m ∷ ms) zero n at =
@@ -32,6 +29,3 @@ first_next notes old i lines lines' n l so_far at line_is pushed =
 take_all : (notes : List Note) → take (length notes) notes ≡ notes
 take_all [] = refl
 take_all (n ∷ ns) = ap (λ (ms : List Note). n ∷ ms) (take_all ns)
-
-pub first_all : (notes : List Note) (old : List Line) (i : ℕ) (lines : List Line) → AreFirst notes old i lines → i ≡ length notes → lines ≡ old ++ note_lines notes
-first_all notes old i lines so_far all = so_far ∙ ap (λ (ms : List Note). old ++ note_lines ms) (ap (λ (k : ℕ). take k notes) all ∙ take_all notes)

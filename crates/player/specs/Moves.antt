@@ -10,7 +10,7 @@ use Rattle.drain_copy.specs.declared.step.Next.TheVariants as next
 use Rattle.drain_copy.specs.Draining.{StandsAt}
 use Rattle.leaf_opening.specs.declared.ways.Way.TheVariants.{Memory}
 use Rattle.leaf_opening.specs.Starts.{IsWayOf}
-use Rattle.crash_events.specs.Left.{NamedStates}
+use Rattle.crash_moments.specs.Left.{NamedStates}
 use Rattle.crash_moments.specs.Told as moments
 use Rattle.crash_states.specs.Standing.{Copies}
 use Rattle.leaf_table.specs.Calls.{SeatView}
@@ -119,7 +119,7 @@ pub record CarriesCopy (x : Shutting) (c : Copying) (notes : List Note) (m m' : 
 -- a leaf that copied its tables comes to rest
 pub record CopyRests (c : Copying) (y : Seated) (notes : List Note) (m m' : Meaning) : Type 0 where
   pub made : Makes m.clock m'.clock c.seated notes y
-  pub stands : (base : NamedStates) → IsTrue m.tells → AreFounded c.seated → stage.AreSound base → CopyStands c m
+  pub stands : (base : NamedStates) → IsTrue m.tells → AreFounded c.seated → stage.AreHandedNothing base → CopyStands c m
       → Stands base (IsDown y) m' × moments.Told base (watched_by c.seated) (watched_by y) m m'
 
 -- the region is as it was

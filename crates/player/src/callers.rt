@@ -6,7 +6,7 @@ ghost use Rattle.leaf_history.specs.Calls as call;
 ghost use Rattle.leaf_table.specs.Turns.{Shared};
 ghost use Rattle.leaf_table.specs.Calls.{SeatView};
 ghost use Rattle.player.specs.Stage.{Calls, IsAnswer, IsCallersAt, IsKnown, KeepsSeats, berth_of, seats_of, state_of};
-ghost use Rattle.crash_events.specs.Left.{NamedStates};
+ghost use Rattle.crash_moments.specs.Left.{NamedStates};
 ghost use Rattle.leaf_steward.specs.Seated.{AreFounded};
 ghost use Rattle.transcript.specs.Stage.{MeetAll, Stands};
 ghost use Rattle.player.specs.Moves.{MeetsAt};

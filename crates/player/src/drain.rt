@@ -42,7 +42,7 @@ pub fn drain<'t, R: Wait, B: Berth, G: Gate>(
     leaf: Preparing<'t, B>,
     stop: Option<u32>,
 ) -> (OneLeaf<'t, B>, Ending, Result<Vec<Line>, AllocError>)
-    ensures drains { (before : Leaf) → step.Shuts before leaf.entry.0 → DrainsWithLines (B.meaning leaf.entry.1) (B.meaning (berth_of result.0)) before stop result.1 result.2 (state_of result.0) }
+    ensures drains { (before : Leaf) → step.BeginsShutting before leaf.entry.0 → DrainsWithLines (B.meaning leaf.entry.1) (B.meaning (berth_of result.0)) before stop result.1 result.2 (state_of result.0) }
     ensures keeps { KeepsSeats leaf.entry.0.serving.seated (seats_of result.0) }
     ensures time { Passes (B.meaning leaf.entry.1) (B.meaning (berth_of result.0)) }
     ensures cause { FaultRose result.1 (B.meaning leaf.entry.1) (B.meaning (berth_of result.0)) }
@@ -74,7 +74,7 @@ fn shut_all<'t, R: Wait, B: Berth, G: Gate>(
     leaf: Preparing<'t, B>,
     steps: &mut Steps,
 ) -> (Shut<'t, B>, Result<Vec<Line>, AllocError>)
-    ensures shuts { move.Shuts B.meaning leaf.entry.0 (B.meaning leaf.entry.1) steps.old.left result.0 steps.new.left result.1 }
+    ensures shuts { move.ShutsTables B.meaning leaf.entry.0 (B.meaning leaf.entry.1) steps.old.left result.0 steps.new.left result.1 }
     ensures time { Passes (B.meaning leaf.entry.1) (B.meaning (berth_left result.0)) }
     ensures cause { RoseShut (B.meaning leaf.entry.1).disk_faults (B.meaning (berth_left result.0)).disk_faults result.0 }
 {

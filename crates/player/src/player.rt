@@ -3,7 +3,7 @@ ghost use Rattle.std.specs.Prelude.{◌≡◌, ◌≤◌, ◌+◌, ◌-◌, ◌^
 ghost use Rattle.std.specs.List.{AllByRecursion};
 ghost use Rattle.berth_face.specs.Berth.{Passes};
 ghost use Rattle.region_layout.specs.Names.{AreNames};
-ghost use Rattle.crash_events.specs.Left.{NamedStates};
+ghost use Rattle.crash_moments.specs.Left.{NamedStates};
 ghost use Rattle.leaf_table.specs.Turns.{Shared, start_of};
 ghost use Rattle.leaf_table.specs.Calls.{SeatView, base_seen, name_of};
 ghost use Rattle.leaf_steward.specs.Seated.{AreAlike, AreFounded, AtEach, IsUnused};

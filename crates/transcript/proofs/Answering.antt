@@ -16,7 +16,7 @@ use Rattle.leaf_history.specs.Calls.{Call}
 use Rattle.leaf_history.specs.Replies as reply
 use Rattle.leaf_history.specs.Replies.{Reply as MadeReply}
 use Rattle.leaf_history.specs.History.{Entry, HistoryState, AddReply, AskReply, after, held}
-use Rattle.crash_events.specs.Left.{NamedStates}
+use Rattle.crash_moments.specs.Left.{NamedStates}
 use Rattle.leaf_table.specs.declared.base.TableBase.{TableBase}
 use Rattle.leaf_table.specs.declared.replies.Reply.{Reply}
 use Rattle.leaf_table.specs.declared.replies.Reply.TheVariants as told
@@ -122,10 +122,6 @@ met_grows leaf callers leaf' callers' m count met table = by (nat_lt table (leng
     by false e =
         let above = not_below table (length callers) e in
         ([], rw (no_table callers' table (omega (arith, above, met.count.1)), no_table callers table above) refl)
-
-pub grow_on : (xs ys zs : List SeatView) → Grow xs ys → Grow ys zs → Grow xs zs
-grow_on xs ys zs g h table =
-    ((g table).0 ++ (h table).0, (h table).1 ∙ (ap (λ (es : List Entry). es ++ (h table).0) (g table).1 ∙ append_assoc (history_at xs table) (g table).0 (h table).0))
 
 -- ---- what was answered stays answered, and who was worn stays worn
 

@@ -10,7 +10,7 @@ use Rattle.berth_face.specs.Berth.{Meaning}
 use Rattle.leaf_history.specs.Calls.{Call}
 use Rattle.leaf_history.specs.Calls as call
 use Rattle.leaf_opening.specs.declared.ways.Way.{Way}
-use Rattle.crash_events.specs.Left.{NamedStates}
+use Rattle.crash_moments.specs.Left.{NamedStates}
 use Rattle.leaf_table.specs.declared.replies.Reply.{Reply}
 use Rattle.leaf_table.specs.declared.replies.Reply.TheVariants as told
 use Rattle.leaf_table.specs.Turns.{Shared}

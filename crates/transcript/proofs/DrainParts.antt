@@ -110,7 +110,7 @@ lines_of owed o ns first more is noted e =
 abbrev pub next_progress : Progress → Progress
 next_progress p = record { owed = None; treated = suc p.treated; shut = false }
 
-pub treats : (x y : Shutting) (ns : List Note) (p : Progress) → IsProgressOf x p → Treats x y ns → life.Treats 0 p (note_lines ns) (next_progress p) × IsProgressOf y (next_progress p)
+pub treats : (x y : Shutting) (ns : List Note) (p : Progress) → IsProgressOf x p → Treats x y ns → life.OfTreating 0 p (note_lines ns) (next_progress p) × IsProgressOf y (next_progress p)
 treats x y ns p at (prepares.whole first closing flushing n content open_ noted ns_are closed shut none) =
     let place : length x.closed ≡ p.treated = at.closed ∙ open_whole p (at.shut ∙ open_) in
     let told = lines_of p.owed x.serving.owing ns first _ at.owed noted ns_are in (
@@ -129,7 +129,7 @@ treats x y ns p at (prepares.rest half noted closed shut none) =
 
 pub record Through (tables : ℕ) (ns : List Note) (p : Progress) (y : Shutting) : Type 0 where
   pub q : Progress
-  pub treats : life.TreatsOn tables 0 p (note_lines ns) q
+  pub treats : life.OfTreatings tables 0 p (note_lines ns) q
   pub progress : IsProgressOf y q
   pub size : length y.serving.seated.tables ≡ tables
 
@@ -168,7 +168,7 @@ owed_same : (told : Option Owed) (o o' : Owing) → o'.log.owed ≡ o.log.owed �
 owed_same None o o' log owner count is = log ∙ is
 owed_same (Some w) o o' log owner count is = (is.0, log ∙ is.1, owner ∙ is.2, count ∙ is.3)
 
-pub halts : (y z : Shutting) (ns : List Note) (q : Progress) → IsProgressOf y q → Halts y z ns → (r : Progress) × life.Halts 0 q (note_lines ns) r × IsProgressOf z r
+pub halts : (y z : Shutting) (ns : List Note) (q : Progress) → IsProgressOf y q → Halts y z ns → (r : Progress) × life.OfHalting 0 q (note_lines ns) r × IsProgressOf z r
 halts y z ns q at (prepares.half first closing n content open_ noted ns_are closed half owes owner count) =
     let place : length y.closed ≡ q.treated = at.closed ∙ open_whole q (at.shut ∙ open_) in
     let told = lines_of q.owed y.serving.owing ns first _ at.owed noted ns_are in
@@ -197,7 +197,7 @@ halts y z ns q at (prepares.stuck ns_are owes seated log owner count closed shut
       },
     )
 
-pub starves : (y z : Shutting) (ns : List Note) (q : Progress) → IsProgressOf y q → Starves y z ns → (r : Progress) × life.Starves 0 q (note_lines ns) r × IsProgressOf z r
+pub starves : (y z : Shutting) (ns : List Note) (q : Progress) → IsProgressOf y q → Starves y z ns → (r : Progress) × life.OfStarving 0 q (note_lines ns) r × IsProgressOf z r
 starves y z ns q at s =
     let told = lines_owed q.owed y.serving.owing ns at.owed s.noted in (
       record { owed = None; treated = first_open q; shut = false },

@@ -15,7 +15,7 @@ use Rattle.leaf_opening.specs.declared.ways.Way.{Way}
 use Rattle.leaf_opening.specs.declared.ways.Way.TheVariants.{Memory, Disk}
 use Rattle.leaf_opening.specs.Serving as plain
 use Rattle.leaf_opening.specs.Starts.{IsCome, disk_after}
-use Rattle.crash_events.specs.Left.{NamedStates}
+use Rattle.crash_moments.specs.Left.{NamedStates}
 use Rattle.leaf_table.specs.Turns.{Shared, Turns, told, history}
 use Rattle.leaf_table.specs.Calls.{SeatView, AreOthers, base_seen, entry_seen, name_of, seen_of}
 use Rattle.leaf_table.proofs.Knowing.{callers_of}

@@ -7,7 +7,7 @@ use Rattle.leaf_history.specs.Replies as reply
 use Rattle.leaf_history.specs.History.{Entry, HistoryState, LegalFrom, Allowed, after, after_entry, write_count}
 use Rattle.leaf_history.specs.Laws.{HasSoundCounts, CallersKeep}
 use Rattle.leaf_history.proofs.Histories.{LegalFrom-front, LegalFrom-back, after-append, counts_stay, others_keep}
-use Rattle.crash_events.specs.Left.{NamedStates}
+use Rattle.crash_moments.specs.Left.{NamedStates}
 use Rattle.crash_moments.specs.Watched.{IsFoundation}
 use Rattle.leaf_table.specs.Turns.{Shared, is_founded, start_of}
 use Rattle.leaf_table.specs.Calls.{SeatView, Made, base_seen, name_of, entry_seen, seen_of}

@@ -3,7 +3,7 @@ use Rattle.std.proofs.Common.{◌≡◌, ℕ, zero, suc, true, List, [], ◌∷�
 use Rattle.std.specs.Prelude.{slice_get, IsTrue}
 use Rattle.std.specs.List.{AllByRecursion}
 use Rattle.berth_face.specs.Berth.{Meaning, Pair}
-use Rattle.crash_events.specs.Left.{NamedStates}
+use Rattle.crash_moments.specs.Left.{NamedStates}
 use Rattle.leaf_table.specs.Turns.{Shared, is_founded}
 use Rattle.leaf_table.specs.Calls.{SeatView, base_seen, name_of}
 use Rattle.leaf_machine.specs.States.{Serving}

@@ -8,7 +8,7 @@ use Rattle.berth_face.specs.Berth.{Meaning}
 use Rattle.leaf_history.specs.History.{HistoryState, after, write_count}
 use Rattle.disk_backup.specs.Settling.{with_writes}
 use Rattle.leaf_opening.specs.Backed.{HasSoundLog}
-use Rattle.crash_events.specs.Left.{NamedStates}
+use Rattle.crash_moments.specs.Left.{NamedStates}
 use Rattle.crash_moments.specs.Watched.{IsFoundation, now_of, others_then, was_opened}
 use Rattle.crash_states.specs.Standing.{IsKept, Rests, tables_of}
 use Rattle.crash_states.proofs.Names.{each_at, named_at}

@@ -19,7 +19,7 @@ use Rattle.disk_backup.specs.Settling.{HoldsOwing, with_writes}
 use Rattle.disk_backup.specs.Scanning.{BeginsScan, begun}
 use Rattle.disk_backup.proofs.Beginning.{begun_short, begun_long}
 use Rattle.disk_backup.proofs.Logs.{one_log, closed_is_log}
-use Rattle.crash_events.specs.Left.{NamedStates}
+use Rattle.crash_moments.specs.Left.{NamedStates}
 use Rattle.crash_moments.specs.Watched.{Watched, now_of}
 use Rattle.crash_states.specs.Standing.{IsLogged, Runs}
 use Rattle.crash_states.proofs.States.{taken_count}

@@ -21,9 +21,6 @@ same_some x y e = cc
 pub clash_bool : (b : Bool) → b ≡ true → b ≡ false → ⊥
 clash_bool b t f = cc
 
-pub clash_some : {X : Type 0} (x : X) → Some x ≡ None → ⊥
-clash_some x e = cc
-
 pub get_set_same : {X : Type 0} (xs : List X) (i : ℕ) (x y : X) → slice_get xs i ≡ Some x → slice_get (slice_set xs i y) i ≡ Some y
 get_set_same [] i x y h = cc
 get_set_same (z ∷ zs) zero x y h = refl
@@ -41,12 +38,6 @@ length_set [] i y = refl
 length_set (z ∷ zs) zero y = refl
 length_set (z ∷ zs) (suc i) y = ap suc (length_set zs i y)
 
--- a number at its place
-pub index_found : (ns : List ℕ) (i n : ℕ) → slice_get ns i ≡ Some n → slice_index ns i ≡ n
-index_found [] i n h = cc
-index_found (m ∷ ms) zero n h = same_some m n h
-index_found (m ∷ ms) (suc i) n h = index_found ms i n h
-
 -- a place below the length has an element, and only such a place has
 pub element_at : {X : Type 0} (xs : List X) (i : ℕ) → i < length xs → (x : X) × (slice_get xs i ≡ Some x)
 element_at [] i h = absurd (omega (arith, h))
@@ -57,18 +48,6 @@ pub within : {X : Type 0} (xs : List X) (i : ℕ) (x : X) → slice_get xs i ≡
 within [] i x h = cc
 within (y ∷ ys) zero x h = omega arith
 within (y ∷ ys) (suc i) x h = let below = within ys i x h in omega (arith, below)
-
--- a place behind some elements
-pub get_drop : {X : Type 0} (xs : List X) (k i : ℕ) (x : X) → slice_get xs (k + i) ≡ Some x → slice_get (drop k xs) i ≡ Some x
-get_drop xs zero i x h = subst (λ n. slice_get xs n ≡ Some x) (zero_plus i) h
-  where
-    zero_plus : (n : ℕ) → 0 + n ≡ n
-    zero_plus n = omega arith
-get_drop [] (suc k) i x h = cc
-get_drop (y ∷ ys) (suc k) i x h = get_drop ys k i x (subst (λ n. slice_get (y ∷ ys) n ≡ Some x) (suc_plus k i) h)
-  where
-    suc_plus : (a b : ℕ) → suc a + b ≡ suc (a + b)
-    suc_plus a b = omega arith
 
 -- what holds of the one place and of every other holds of each
 pub each_of : (P : ℕ → Type 0) (here : ℕ) → P here → ((t : ℕ) → (t ≡ here → ⊥) → P t) → (t : ℕ) → P t
@@ -95,51 +74,16 @@ eq_bytes a b e = (bytes_eq-Decides a b).1 e
 pub same_bytes : (a b : List ℕ) → bytes_eq a b ≡ true → a ≡ b
 same_bytes a b e = (bytes_eq-Decides a b).0 e
 
-pub ne_bytes : (a b : List ℕ) → (a ≡ b → ⊥) → bytes_eq a b ≡ false
-ne_bytes a b n = by (bytes_eq a b) refl
-  where
-    by : (x : Bool) → bytes_eq a b ≡ x → x ≡ false
-    by true e = absurd (n ((bytes_eq-Decides a b).0 e))
-    by false e = refl
-
-pub not_again : (name : List ℕ) (names : List (List ℕ)) (i : ℕ) → AllByRecursion (λ other. other ≡ name → ⊥) names → i < length names → name ≡ name_at names i → ⊥
-not_again name [] i h below e = absurd (omega (arith, below))
-not_again name (n ∷ ns) zero h below e = h.0 (sym e)
-not_again name (n ∷ ns) (suc i) h below e = not_again name ns i h.1 (omega (arith, below)) e
-
--- distinct names differ at different places
-pub names_differ : (names : List (List ℕ)) (i j : ℕ) → AreDistinct names → i < length names → j < length names → (i ≡ j → ⊥) → name_at names i ≡ name_at names j → ⊥
-names_differ [] i j d a b n e = absurd (omega (arith, a))
-names_differ (m ∷ ms) zero zero d a b n e = n refl
-names_differ (m ∷ ms) zero (suc j) d a b n e = not_again m ms j d.0 (omega (arith, b)) e
-names_differ (m ∷ ms) (suc i) zero d a b n e = not_again m ms i d.0 (omega (arith, a)) (sym e)
-names_differ (m ∷ ms) (suc i) (suc j) d a b n e = names_differ ms i j d.1 (omega (arith, a)) (omega (arith, b)) (λ s. n (ap suc s)) e
-
 -- ... of a list of names that is the same
 pub names_are : (names ns : List (List ℕ)) (i : ℕ) (name : List ℕ) → ns ≡ names → slice_get ns i ≡ Some name → name ≡ name_at names i
 names_are names ns i name e h = name_is names i name (ap (λ xs. slice_get xs i) (sym e) ∙ h)
 
 -- ---- tests of places
 
-pub lt_true : (a b : ℕ) → a < b → nat_lt a b ≡ true
-lt_true a b h = lt-ltb a b h
-
-pub lt_false : (a b : ℕ) → b ≤ a → nat_lt a b ≡ false
-lt_false a b h = by (nat_lt a b) refl
-  where
-    by : (x : Bool) → nat_lt a b ≡ x → x ≡ false
-    by true e = let below : a < b = ltb-true a b e in absurd (omega (arith, below, h))
-    by false e = refl
-
 pub not_below : (a b : ℕ) → nat_lt a b ≡ false → b ≤ a
 not_below a b e = ltb-false a b e
 
 -- ---- more of lists
-
-pub All_at : {X : Type 0} (P : X → Type 0) (xs : List X) (i : ℕ) (x : X) → AllByRecursion P xs → slice_get xs i ≡ Some x → P x
-All_at P [] i x h at = cc
-All_at P (y ∷ ys) zero x h at = subst P (same_some y x at) h.0
-All_at P (y ∷ ys) (suc i) x h at = All_at P ys i x h.1 at
 
 -- an element of a mapped list
 pub get_map : {X Y : Type 0} (f : X → Y) (xs : List X) (i : ℕ) (x : X) → slice_get xs i ≡ Some x → slice_get (map f xs) i ≡ Some (f x)

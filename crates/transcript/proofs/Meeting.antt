@@ -230,7 +230,7 @@ last_number xs ys zs e h is = omega (
 )
 
 -- the line of a reply, and what it shows
-line_of : (table n by : ℕ) (called : Call) (c : Command) (r : reply.Reply) (x : Reply) (l : Line) → calls.Tells n r x → IsReplyLine table x l → call_shown c ≡ Some called
+line_of : (table n by : ℕ) (called : Call) (c : Command) (r : reply.Reply) (x : Reply) (l : Line) → calls.IsToldAs n r x → IsReplyLine table x l → call_shown c ≡ Some called
     → (s : Said) × (l ≡ line.Entry 0 table n s) × Shows c s (entry_seen by 0 called r)
 line_of table n by called c (reply.Added kept late) x l tells says is = (said.Added kept late, subst (λ y. IsReplyLine table y l) tells says, (is, refl))
 line_of table n by called c (reply.Groups gs) x l tells says is = (said.Asked, subst (λ y. IsReplyLine table y l) tells says, (is, (gs, refl)))

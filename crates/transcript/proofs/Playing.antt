@@ -6,7 +6,7 @@ use Rattle.berth_face.specs.Berth.{Meaning}
 use Rattle.leaf_history.specs.History.{Entry, HistoryState}
 use Rattle.leaf_opening.specs.declared.ways.Way.{Way}
 use Rattle.turnstile.specs.Seats.{unused_seat}
-use Rattle.crash_events.specs.Left.{NamedStates}
+use Rattle.crash_moments.specs.Left.{NamedStates}
 use Rattle.leaf_table.specs.Turns.{Shared}
 use Rattle.leaf_table.specs.Calls.{SeatView, name_of, seen_of}
 use Rattle.leaf_steward.specs.declared.notes.Note.{Note}

@@ -8,7 +8,7 @@ use Rattle.leaf_history.specs.History.{Entry, HistoryState}
 use Rattle.leaf_history.specs.Laws.{AreCallers}
 use Rattle.region_layout.specs.Names.{AreNames}
 use Rattle.turnstile.specs.Seats.{Others}
-use Rattle.crash_events.specs.Left.{NamedStates}
+use Rattle.crash_moments.specs.Left.{NamedStates}
 use Rattle.crash_moments.specs.Told as moments
 use Rattle.crash_moments.specs.Told.{SeenMore}
 use Rattle.crash_moments.specs.Watched.{Watched}

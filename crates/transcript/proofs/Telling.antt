@@ -35,13 +35,6 @@ shown-snoc leaf table ps p = shown-append leaf table ps (p ∷ []) ∙ ap (λ ss
 
 -- ---- what a table may do
 
--- legal, and opened with just the flushed writes
-abbrev pub Fine : HistoryState → List Entry → Type 0
-Fine s es = LegalFrom true s es × OpensFlushed s es
-
 pub Opens-append : (s : HistoryState) (xs ys : List Entry) → OpensFlushed s xs → OpensFlushed (after true s xs) ys → OpensFlushed s (xs ++ ys)
 Opens-append s [] ys g h = h
 Opens-append s (x ∷ xs) ys g h = (g.0, Opens-append (after true s (x ∷ [])) xs ys g.1 h)
-
-pub Fine-append : (s : HistoryState) (xs ys : List Entry) → Fine s xs → Fine (after true s xs) ys → Fine s (xs ++ ys)
-Fine-append s xs ys g h = (LegalFrom-append true s xs ys g.0 h.0, Opens-append s xs ys g.1 h.1)

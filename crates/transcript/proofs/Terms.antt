@@ -4,7 +4,7 @@ use Rattle.std.specs.Prelude.{slice_get}
 use Rattle.leaf_history.specs.History.{Entry}
 use Rattle.script_text.specs.declared.command.Command.{Command}
 use Rattle.printed_lines.specs.declared.line.Line.{Line}
-use Rattle.crash_events.specs.Left.{NamedStates}
+use Rattle.crash_moments.specs.Left.{NamedStates}
 use Rattle.leaf_table.specs.Calls.{SeatView, seen_of}
 use Rattle.leaf_table.specs.Turns.{Shared}
 use Rattle.leaf_steward.specs.declared.notes.Note.{Note}

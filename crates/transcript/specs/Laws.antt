@@ -8,7 +8,7 @@ use Rattle.leaf_opening.specs.declared.ways.Way.{Way}
 use Rattle.leaf_opening.specs.Starts.{IsWayOf}
 use Rattle.turnstile.specs.Seats.{unused_seat}
 use Rattle.leaf_table.specs.Calls.{SeatView}
-use Rattle.crash_events.specs.Left.{NamedStates}
+use Rattle.crash_moments.specs.Left.{NamedStates}
 use Rattle.crash_moments.specs.Told as moments
 use Rattle.leaf_steward.specs.Seated.{Seated}
 use Rattle.leaf_machine.specs.States.{MayBegin}

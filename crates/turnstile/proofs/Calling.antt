@@ -25,10 +25,6 @@ found_some x y cs ds e f = sym (ap first_value f) ∙ ap first_value e
 pub is_some : {O : Type 0} (x : Option O) (y : O) → x ≡ Some y → IsSome x
 is_some x y e = subst IsSome (sym e) refl
 
-pub longer_length : {A : Type 0} (xs ys zs : List A) → LongerOf xs ys zs → max (length xs) (length ys) ≡ length zs
-longer_length xs ys zs l = let a = prefix_length xs zs l.own in let b = prefix_length ys zs l.theirs in
-    ⊎_elim (λ (e : zs ≡ xs). let n : length zs ≡ length xs = ap length e in omega arith) (λ (e : zs ≡ ys). let n : length zs ≡ length ys = ap length e in omega arith) l.one
-
 -- the longer of xs and of the longer of both is that too
 pub longer_again : {A : Type 0} (xs ys zs ws : List A) → LongerOf ys xs zs → LongerOf xs zs ws → (LongerOf xs ys ws) × (ws ≡ zs)
 longer_again xs ys zs ws l m =

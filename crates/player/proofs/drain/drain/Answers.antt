@@ -14,7 +14,7 @@ returns-in-Ready-clause-drains g c = λ before shuts.
     let m = meaning c.args.leaf.1 in
     let left = c.shut_all-shut.new.steps.left in
     let lines = c.shut_all-shut.result.1 in
-    let shut = subst (λ r. move.Shuts meaning x m c.args.stop r left lines) c.in-Ready.is c.shut_all-shut.ensures.shuts in
+    let shut = subst (λ r. move.ShutsTables meaning x m c.args.stop r left lines) c.in-Ready.is c.shut_all-shut.ensures.shuts in
     let passes = subst (λ r. Passes m (meaning (berth_left r))) c.in-Ready.is c.shut_all-shut.ensures.time in
     let down = c.copy_all-down.result in
     drain_copied meaning x m before c.args.stop left lines shuts (meaning down.0.1) c.in-Ready.leaf down.0.0 down.1 c.with_notes-lines.result c.copy_all-down.new.notes
@@ -31,7 +31,7 @@ returns-in-Stopped-clause-drains g c = λ before shuts.
     let m = meaning c.args.leaf.1 in
     let left = c.shut_all-shut.new.steps.left in
     let lines = c.shut_all-shut.result.1 in
-    let shut = subst (λ r. move.Shuts meaning x m c.args.stop r left lines) c.in-Stopped.is c.shut_all-shut.ensures.shuts in
+    let shut = subst (λ r. move.ShutsTables meaning x m c.args.stop r left lines) c.in-Stopped.is c.shut_all-shut.ensures.shuts in
     let down = c.killed-down.result in
     let killed = c.killed-down.ensures.killed in
     let y = c.in-Stopped.leaf in
@@ -50,7 +50,7 @@ returns-in-Halted-clause-drains g c = λ before shuts.
     let m = meaning c.args.leaf.1 in
     let left = c.shut_all-shut.new.steps.left in
     let lines = c.shut_all-shut.result.1 in
-    let shut = subst (λ r. move.Shuts meaning x m c.args.stop r left lines) c.in-Halted.is c.shut_all-shut.ensures.shuts in
+    let shut = subst (λ r. move.ShutsTables meaning x m c.args.stop r left lines) c.in-Halted.is c.shut_all-shut.ensures.shuts in
     drain_halted meaning x m before c.args.stop left lines shuts c.in-Halted.leaf shut
 
 pub returns-in-Halted-clause-keeps : goal.returns-in-Halted-clause-keeps
@@ -64,7 +64,7 @@ returns-in-Starved-clause-drains g c = λ before shuts.
     let m = meaning c.args.leaf.1 in
     let left = c.shut_all-shut.new.steps.left in
     let lines = c.shut_all-shut.result.1 in
-    let shut = subst (λ r. move.Shuts meaning x m c.args.stop r left lines) c.in-Starved.is c.shut_all-shut.ensures.shuts in
+    let shut = subst (λ r. move.ShutsTables meaning x m c.args.stop r left lines) c.in-Starved.is c.shut_all-shut.ensures.shuts in
     drain_starved meaning x m before c.args.stop left lines shuts c.in-Starved.leaf shut
 
 pub returns-in-Starved-clause-keeps : goal.returns-in-Starved-clause-keeps
@@ -78,7 +78,7 @@ returns-in-Roomless-clause-drains g c = λ before shuts.
     let m = meaning c.args.leaf.1 in
     let left = c.shut_all-shut.new.steps.left in
     let lines = c.shut_all-shut.result.1 in
-    let shut = subst (λ r. move.Shuts meaning x m c.args.stop r left lines) c.in-Roomless.is c.shut_all-shut.ensures.shuts in
+    let shut = subst (λ r. move.ShutsTables meaning x m c.args.stop r left lines) c.in-Roomless.is c.shut_all-shut.ensures.shuts in
     drain_roomless meaning x m before c.args.stop left lines shuts c.in-Roomless.leaf shut
 
 pub returns-in-Roomless-clause-keeps : goal.returns-in-Roomless-clause-keeps

@@ -1,5 +1,5 @@
 use Rattle.std.proofs.Common.{◌≡◌, subst, sym}
-use Rattle.crash_events.specs.Left.{NamedStates}
+use Rattle.crash_moments.specs.Left.{NamedStates}
 use Rattle.leaf_table.specs.Turns.{start_of}
 use Rattle.leaf_table.specs.Calls.{base_seen, name_of}
 use Rattle.leaf_steward.specs.Seated.{Seated, AreFounded, AtEach, IsUnused}

@@ -1,5 +1,5 @@
 use Rattle.std.proofs.Common.{length, ap, subst, ◌∙◌, ◌≡◌, arith}
-use Rattle.crash_events.specs.Left.{NamedStates}
+use Rattle.crash_moments.specs.Left.{NamedStates}
 use Rattle.leaf_steward.specs.Seated.{AreFounded}
 use Rattle.transcript.specs.Stage.{Stands}
 use Rattle.player.specs.Stage.{Called, berth_of, seats_of, state_of}

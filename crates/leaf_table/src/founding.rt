@@ -1,5 +1,4 @@
-//! A value of no bytes that contracts alone see: a proof picks it when it is made.
-#![tactic(auto)]
+// A value of no bytes that contracts alone see: a proof picks it when it is made.
 
 ghost use Rattle.std.specs.Prelude.{◌≡◌, IfOk};
 

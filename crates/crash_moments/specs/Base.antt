@@ -7,7 +7,7 @@ use Rattle.region_layout.specs.declared.image.TableImage.{TableImage}
 use Rattle.region_layout.specs.Region.{IsImage}
 use Rattle.row_records.specs.Records.{LogRecord}
 use Rattle.disk_backup.specs.Logs.{IsLog, writes_of}
-use Rattle.crash_events.specs.Left.{NamedStates, Left, HasShutGate}
+use Rattle.crash_moments.specs.Left.{NamedStates, Left, HasShutGate}
 
 -- the writes of a name in a disk's log
 abbrev pub HasWritesOf : List ℕ → List ℕ → List Write → Type 0

@@ -1,0 +1,124 @@
+# shellcheck shell=bash disable=SC2034
+# What the measuring scripts share; each of them sources it. Nothing here measures by itself.
+set -u
+export LC_ALL=C
+bench=$(cd "$(dirname "${BASH_SOURCE[0]}")" && pwd)
+top=$(dirname "$bench")
+out=$bench/out
+mkdir -p "$out" || exit 1
+
+# fail WORDS..: says why no more is measured, and ends the script
+fail() {
+  echo "bench: $*" >&2
+  exit 1
+}
+
+# needs COMMAND: ends the script with status 3 where a command is not there
+needs() {
+  command -v "$1" >/dev/null 2>&1 && return
+  echo "bench: $(basename "$0") is skipped: $1 is not there, and nothing can be measured without it" >&2
+  exit 3
+}
+
+# has COMMAND PEER: whether a command is there; where it is not, says that the peer is skipped
+has() {
+  command -v "$1" >/dev/null 2>&1 || { echo "$2: skipped, since $1 is not there"; return 1; }
+}
+
+# find_scuba: the program to measure is $scuba; the launcher builds it where it is missing or older than its sources
+find_scuba() {
+  "$top/scuba" mem count 0 0 </dev/null >/dev/null || exit 1
+  scuba=$top/crates/scuba_cli/out/scuba_cli
+}
+
+# rust PEER: builds peers/PEER.rs as $out/PEER
+rust() {
+  rustc -O --edition 2021 -o "$out/$1" "$bench/peers/$1.rs" || fail "peers/$1.rs could not be built"
+}
+
+# crates_under CRATE..: these crates of the repository and all that they stand on, lowest first
+crates_under() {
+  awk -v wanted="$*" '
+    BEGIN { n = split(wanted, names, " "); for (i = 1; i <= n; i++) is_wanted[names[i]] = 1 }
+    { sub(/#.*/, "") }
+    /^[^ ]+:/ { name = $1; sub(/:$/, "", name); listed[++count] = name; line[name] = $0 }
+    END {
+      for (i = count; i > 0; i--) if (listed[i] in is_wanted) { n = split(line[listed[i]], names, " "); for (j = 2; j <= n; j++) is_wanted[names[j]] = 1 }
+      for (i = 1; i <= count; i++) if (listed[i] in is_wanted) print listed[i]
+    }' "$top/crates.txt"
+}
+
+# build_measured NAME CRATES WORDS..: builds the program of the folder bench/NAME, which stands on these crates, as $out/NAME, where that is missing or older
+# than its sources; its first run has these words and the input. It is no crate of this repository, which a source that ends in .rt would have to be of: its
+# sources end in .in, and are built in a scratch folder over copies of the crates.
+build_measured() {
+  local name=$1 stands_on=$2 program=$out/$1 log=$out/$1.log began=$SECONDS crates crate part source scratch
+  shift 2
+  mapfile -t crates < <(crates_under "$stands_on")
+  if [ -x "$program" ] &&
+    [ -z "$(find "$bench/$name" "${crates[@]/#/$top/crates/}" -name out -prune -o -newer "$program" -type f -print -quit)" ]; then return; fi
+  needs rt
+  scratch=$(mktemp -d) || exit 1
+  cp "$top/HANDLES" "$scratch/"
+  for crate in "${crates[@]}"; do
+    mkdir -p "$scratch/crates/$crate"
+    for part in src specs proofs; do
+      if [ -d "$top/crates/$crate/$part" ]; then cp -r "$top/crates/$crate/$part" "$scratch/crates/$crate/"; fi
+    done
+    grep "^$crate:" "$top/crates.txt" >>"$scratch/crates.txt"
+  done
+  echo "$name: $stands_on" >>"$scratch/crates.txt"
+  cp -r "$bench/$name" "$scratch/crates/"
+  find "$scratch/crates/$name" -name '*.in' | while read -r source; do mv "$source" "${source%.in}"; done
+  echo "bench: proving and building the measured program; the first time takes some minutes" >&2
+  if ! (cd "$scratch/crates/$name" && rt run -- "$@") >"$log" 2>&1; then
+    tail -n 20 "$log" >&2
+    fail "the build failed; the whole of what it printed is in $log, and the scratch folder is $scratch"
+  fi
+  cp "$scratch/crates/$name/out/$name" "$program" && touch "$program" || exit 1
+  rm -rf "$scratch"
+  echo "bench: built in $((SECONDS - began)) seconds" >&2
+}
+
+# adds ROWS FORM: a script that adds so many rows to the table t, at most 100,000 at a time; the same at each run, the time of a row and its code put into the form
+adds() {
+  awk -v rows="$1" -v form="$2" 'BEGIN {
+    print "fleet 1 1 t"
+    for (i = 0; i < rows; i++) {
+      if (i % 100000 == 0) print "add 0 t " (rows - i < 100000 ? rows - i : 100000)
+      printf form "\n", i, (i * 7919) % 600
+    }
+  }'
+}
+
+# once NAME INPUT COMMAND..: runs a command over an input; adds its processor seconds and its peak memory in KiB to the runs of that name, and keeps its answer
+once() {
+  local name=$1 input=$2
+  shift 2
+  /usr/bin/time -o "$out/time" -f '%U %S %M' "$@" <"$input" >"$out/$name.answer" 2>"$out/error" || fail "$name failed: $(tail -n 1 "$out/error")"
+  awk '{ print $1 + $2, $3 }' "$out/time" >>"$out/$name.times"
+}
+
+# median NAME [COLUMN]: of the figures of its runs, of their first column where none is named
+median() {
+  local column=${2-1}
+  sort -g -k "$column,$column" "$out/$1.times" | awk -v column="$column" '{ figure[NR] = $column } END { print figure[int((NR + 1) / 2)] }'
+}
+
+# most NAME COLUMN: the greatest figure of its runs in that column
+most() {
+  sort -g -k "$2,$2" "$out/$1.times" | awk -v column="$2" '{ figure = $column } END { print figure }'
+}
+
+# at_least FIGURE LEAST: whether a figure is at least so great
+at_least() {
+  awk -v figure="$1" -v least="$2" 'BEGIN { exit !(figure + 0 >= least + 0) }'
+}
+
+# doubled FROM TEST WORDS..: the first of FROM, twice FROM, four times FROM, .. for which the test holds; it is the first word behind the test's name
+doubled() {
+  local n=$1 test=$2
+  shift 2
+  until "$test" "$n" "$@"; do n=$((2 * n)); done
+  echo "$n"
+}
