@@ -1,6 +1,6 @@
 -- Names of tables, one after another.
 use Rattle.std.proofs.Common.{◌≡◌, ◌<◌, ◌≤◌, ◌+◌, ◌&&◌, ◌||◌, ◌++◌, ℕ, List, [], ◌∷◌, length, refl, sym, ◌∙◌, arith, Bool, true, false, not, subst, true≢false, ltb, leb, length-append}
-use Rattle.std.proofs.lemmas.Bool.{and_parts, or_parts, not-true}
+use Rattle.std.proofs.lemmas.Bool.{and_parts, or_parts, not-true, false_from_ne_true}
 use Rattle.std.proofs.lemmas.Bool.Decides.{nat_tests}
 use Rattle.std.proofs.lemmas.List.Folds.{list_any-append, list_all-append}
 use Rattle.std.proofs.lemmas.Slice.Eq.{bytes_eq-Decides}
@@ -11,7 +11,6 @@ use Rattle.script_text.specs.Words.{are_tables, may_follow}
 use Rattle.leaf_model.specs.Names.{is_table_name, is_name_byte, is_among, are_distinct}
 use Rattle.leaf_model.proofs.Distinct.{distinct_names}
 use Rattle.script_text.specs.Fits.{IsTableName, AreTables}
-use Rattle.script_text.proofs.Cut.{is_false}
 use Rattle.script_text.proofs.Names.{name_utf8}
 
 -- what holds of 1 to 16 distinct names of tables
@@ -63,7 +62,7 @@ distinct_more (x ∷ xs) word distinct new =
     let parts = and_parts (not (is_among xs x)) (are_distinct xs) distinct in
     let news = or_parts (bytes_eq x word) (is_among xs word) new in
     let none : is_among xs x ≡ false = not-true _ parts.0 in
-    let other : bytes_eq word x ≡ false = is_false _ (λ is. true≢false (sym ((bytes_eq-Decides x word).1 (sym ((bytes_eq-Decides word x).0 is))) ∙ news.0)) in
+    let other : bytes_eq word x ≡ false = false_from_ne_true _ (λ is. true≢false (sym ((bytes_eq-Decides x word).1 (sym ((bytes_eq-Decides word x).0 is))) ∙ news.0)) in
     let still : is_among (xs ++ word ∷ []) x ≡ false = rw (list_any-append (λ other. bytes_eq other x) xs (word ∷ []), none, other) in
     rw (still, distinct_more xs word parts.1 news.1)
 
@@ -87,12 +86,12 @@ followed names word may each distinct =
 
 -- where a name may not follow, the whole is no list of tables
 pub refused : (names : List (List ℕ)) (word : List ℕ) (rest words : List (List ℕ)) → names ++ word ∷ rest ≡ words → may_follow names word ≡ false → are_tables words ≡ false
-refused names word rest words is refused_it = is_false _ (λ are.
+refused names word rest words is refused_it = false_from_ne_true _ (λ are.
     let f = fit (names ++ word ∷ rest) (subst (λ ws. are_tables ws ≡ true) (sym is) are) in
     let long : length (names ++ word ∷ rest) ≡ length names + length (word ∷ rest) = length-append names (word ∷ rest) in
     let short : ltb (length names) 16 ≡ true = grind (arith, nat_tests, f.few, long) in
     let named : is_table_name word ≡ true = (and_parts _ _ (and_parts (list_all is_table_name names) (list_all is_table_name (word ∷ rest)) (sym (list_all-append is_table_name names (word ∷ rest)) ∙ f.each)).1).0 in
-    let new : is_among names word ≡ false = is_false _ (λ among. distinct_again names word rest among f.distinct) in
+    let new : is_among names word ≡ false = false_from_ne_true _ (λ among. distinct_again names word rest among f.distinct) in
     let may : may_follow names word ≡ true = rw (short, named, new) in
     true≢false (sym may ∙ refused_it))
 
