@@ -1,10 +1,10 @@
 -- A table that is read is the table that was written, and what was written is read again.
-use Rattle.std.proofs.Common.{◌≡◌, ℕ, zero, suc, ◌^◌, ◌-◌, ◌<◌, ◌≤◌, ◌&&◌, ◌||◌, Bool, true, false, not, cond, ltb, List, [], ◌∷◌, ◌++◌, length, take, drop, Some, None, refl, sym, ap, subst, ◌∙◌, append_assoc, arith}
+use Rattle.std.proofs.Common.{◌≡◌, ℕ, zero, suc, ◌^◌, ◌-◌, ◌<◌, ◌≤◌, ◌&&◌, ◌||◌, true, false, not, cond, ltb, List, [], ◌∷◌, ◌++◌, length, take, drop, Some, None, refl, sym, ap, subst, ◌∙◌, append_assoc, arith}
 use Rattle.std.specs.Prelude.{ℤ, slice_index_or}
 use Rattle.std.specs.List.{flat_map, list_all, list_any, AllByRecursion}
 use Rattle.std.specs.Str.{IsUtf8, bytes_eq}
 use Rattle.std.specs.Int.{w64}
-use Rattle.std.proofs.lemmas.Bool.{ltb-false, ltb-true, le-ltb, lt-ltb}
+use Rattle.std.proofs.lemmas.Bool.{and_parts, ltb-false, ltb-true, le-ltb, lt-ltb}
 use Rattle.std.proofs.lemmas.List.{take_all}
 use Rattle.std.proofs.lemmas.List.Concat.{flat_map-cons}
 use Rattle.leaf_model.specs.declared.rows.Row.{Row}
@@ -17,12 +17,8 @@ use Rattle.row_records.proofs.Records.{rows_take, rows_again}
 use Rattle.region_layout.specs.declared.image.TableImage.{TableImage}
 use Rattle.table_state.specs.Tables.{IsHeldRow}
 use Rattle.region_layout.specs.Images.{is_named}
-use Rattle.region_layout.specs.Region.{IsTableImage, names_of, table_bytes}
+use Rattle.region_layout.specs.Region.{IsTableImage, image_names, table_bytes}
 use Rattle.region_layout.specs.Reading.{below_2_63_at, is_kept, held_rows_at, table_at, tables_at}
-
-pub both_true : (a b : Bool) → (a && b) ≡ true → (a ≡ true) × (b ≡ true)
-both_true true b e = (refl, e)
-both_true false b e = absurd cc
 
 -- ---- numbers
 
@@ -52,7 +48,7 @@ all_kept horizon (row ∷ rows) each = rw (each.0.1, all_kept horizon rows each.
 each_held : (horizon : ℤ) (rows : List Row) → AllByRecursion IsRow rows → list_all (is_kept horizon) rows ≡ true → AllByRecursion (IsHeldRow horizon) rows
 each_held horizon [] each kept = tt
 each_held horizon (row ∷ rows) each kept =
-    let both = both_true (is_kept horizon row) (list_all (is_kept horizon) rows) kept in
+    let both = and_parts (is_kept horizon row) (list_all (is_kept horizon) rows) kept in
     ((each.0, both.0), each_held horizon rows each.1 both.1)
 
 held_rows_take : (horizon : ℤ) (bytes : List ℕ) (x : List Row × List ℕ) → IsBytes bytes → held_rows_at horizon bytes ≡ Some x
@@ -139,7 +135,7 @@ tables_again (t ∷ tables) rest each =
 
 -- ---- names
 
-among_names : (name : List ℕ) (tables : List TableImage) → list_any (is_named name) tables ≡ is_among (names_of tables) name
+among_names : (name : List ℕ) (tables : List TableImage) → list_any (is_named name) tables ≡ is_among (image_names tables) name
 among_names name [] = refl
 among_names name (t ∷ tables) = ap (λ b. bytes_eq t.name name || b) (among_names name tables)
 
@@ -148,16 +144,16 @@ abbrev behind : List TableImage → List TableImage
 behind tables = take (length tables - 1) (drop 1 tables)
 
 by_first : (tables : List TableImage) (first : TableImage) (name : List ℕ) → 0 < length tables → first ≡ slice_index_or tables 0 first → name ≡ first.name
-    → are_distinct (names_of tables) ≡ (not (list_any (is_named name) (behind tables)) && are_distinct (names_of (behind tables)))
+    → are_distinct (image_names tables) ≡ (not (list_any (is_named name) (behind tables)) && are_distinct (image_names (behind tables)))
 by_first [] first name some is same = absurd (omega (arith, some))
 by_first (t ∷ ts) first name some is same =
     let all : take (suc (length ts) - 1) ts ≡ ts = take_all (suc (length ts) - 1) ts (omega arith) in
     rw (all, same, is, among_names t.name ts) refl
 
 pub first_alone : (tables : List TableImage) (first : TableImage) (name : List ℕ) → 0 < length tables → first ≡ slice_index_or tables 0 first → name ≡ first.name
-    → list_any (is_named name) (behind tables) ≡ false → are_distinct (names_of (behind tables)) ≡ are_distinct (names_of tables)
-first_alone tables first name some is same alone = sym (by_first tables first name some is same ∙ ap (λ b. not b && are_distinct (names_of (behind tables))) alone)
+    → list_any (is_named name) (behind tables) ≡ false → are_distinct (image_names (behind tables)) ≡ are_distinct (image_names tables)
+first_alone tables first name some is same alone = sym (by_first tables first name some is same ∙ ap (λ b. not b && are_distinct (image_names (behind tables))) alone)
 
 pub first_again : (tables : List TableImage) (first : TableImage) (name : List ℕ) → 0 < length tables → first ≡ slice_index_or tables 0 first → name ≡ first.name
-    → list_any (is_named name) (behind tables) ≡ true → false ≡ are_distinct (names_of tables)
-first_again tables first name some is same again = sym (by_first tables first name some is same ∙ ap (λ b. not b && are_distinct (names_of (behind tables))) again)
+    → list_any (is_named name) (behind tables) ≡ true → false ≡ are_distinct (image_names tables)
+first_again tables first name some is same again = sym (by_first tables first name some is same ∙ ap (λ b. not b && are_distinct (image_names (behind tables))) again)

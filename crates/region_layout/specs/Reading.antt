@@ -8,7 +8,7 @@ use Rattle.leaf_model.specs.Names.{are_distinct}
 use Rattle.row_records.specs.Reading.{◌>>=◌, byte_at, number_at, name_at, time_at, rows_at}
 use Rattle.region_layout.specs.declared.image.TableImage.{TableImage}
 use Rattle.region_layout.specs.declared.image.Image.{Image}
-use Rattle.region_layout.specs.Region.{head_bytes, names_of}
+use Rattle.region_layout.specs.Region.{head_bytes, image_names}
 
 -- a number below 2^63
 unfoldable pub below_2_63_at : List ℕ → Option (ℕ × List ℕ)
@@ -47,7 +47,7 @@ tables_at (suc n) bytes = do
 unfoldable pub directory_at : List ℕ → Option (List TableImage)
 directory_at bytes = do
   count ← byte_at bytes
-  if nat_lt 16 count.0 then None else (tables_at count.0 count.1 >>= λ tables. if (length tables.1 == 0) && are_distinct (names_of tables.0) then Some tables.0 else None)
+  if nat_lt 16 count.0 then None else (tables_at count.0 count.1 >>= λ tables. if (length tables.1 == 0) && are_distinct (image_names tables.0) then Some tables.0 else None)
 
 -- what follows an open head of version 1 with the place 16
 unfoldable pub head_at : List ℕ → Option (List ℕ)

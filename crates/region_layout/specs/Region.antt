@@ -35,9 +35,9 @@ table_bytes t = name_bytes t.name ++ (i64_bytes t.horizon ++ u64_bytes t.writes 
 abbrev pub layout_1_bytes : List TableImage → ℕ → List ℕ
 layout_1_bytes tables log_end = head_bytes 1 16 ++ u64_bytes log_end ++ (length tables ∷ flat_map table_bytes tables)
 
--- the names of tables
-abbrev pub names_of : List TableImage → List (List ℕ)
-names_of tables = map (λ (t : TableImage). t.name) tables
+-- the names of the tables of an image
+abbrev pub image_names : List TableImage → List (List ℕ)
+image_names tables = map (λ (t : TableImage). t.name) tables
 
 -- a name of at most 255 bytes of UTF-8, and at most 2^40 rows, none of them below the horizon
 pub record IsTableImage (t : TableImage) : Type 0 where

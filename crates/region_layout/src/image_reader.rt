@@ -5,7 +5,7 @@ ghost use Rattle.leaf_model.specs.Names.{are_distinct};
 ghost use Rattle.row_records.specs.Reading.{ReadsAs};
 ghost use Rattle.region_layout.specs.declared.image.Image.{Image};
 ghost use Rattle.region_layout.specs.Images.{is_named};
-ghost use Rattle.region_layout.specs.Region.{IsImage, names_of};
+ghost use Rattle.region_layout.specs.Region.{IsImage, image_names};
 ghost use Rattle.region_layout.specs.Reading.{below_2_63_at, head_at, is_kept, held_rows_at, table_at, tables_at, directory_at, image_at};
 
 use crate::head::LAYOUT;
@@ -126,7 +126,7 @@ fn has_name(tables: &[TableImage], name: &str) -> bool
 
 /// Whether no name stands twice.
 fn are_distinct(tables: &[TableImage]) -> bool
-    ensures { result ≡ are_distinct (names_of tables.now) }
+    ensures { result ≡ are_distinct (image_names tables.now) }
 {
     match tables {
         [] => true,
