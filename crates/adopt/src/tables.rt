@@ -3,7 +3,8 @@ ghost use Rattle.std.specs.Prelude.{◌≡◌, None, Some, IfOk, IfErr, OnOk};
 ghost use Rattle.std.specs.List.{AllByRecursion, list_any, position};
 ghost use Rattle.std.specs.Str.{bytes_eq};
 ghost use Rattle.region_layout.specs.Images.{is_named, table_named, table_of, tables_of};
-ghost use Rattle.region_layout.specs.Region.{AreDistinct, IsTableImage};
+ghost use Rattle.leaf_model.specs.Names.{AreDistinct};
+ghost use Rattle.region_layout.specs.Region.{IsTableImage};
 ghost use Rattle.adopt.specs.Found.{is_stranger, stranger_of};
 ghost use Rattle.adopt.specs.Adopting.{Arranges, without};
 

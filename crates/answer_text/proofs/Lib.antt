@@ -1,4 +1,4 @@
-pub mod KeyOrder
+pub mod GroupOrder
 pub mod Sorting
 pub mod Parts
 pub mod Samples

@@ -5,7 +5,7 @@ use Rattle.std.specs.List.{AllByRecursion}
 use Rattle.std.proofs.lemmas.Slice.Eq.{bytes_eq-Decides}
 use Rattle.berth_face.specs.Berth.{Pair}
 use Rattle.leaf_history.specs.History.{HistoryState, base_of}
-use Rattle.region_layout.specs.Region.{AreDistinct}
+use Rattle.leaf_model.specs.Names.{AreDistinct}
 use Rattle.crash_moments.specs.Left.{NamedStates}
 use Rattle.crash_moments.proofs.Bases.{both, flushed_le}
 use Rattle.crash_moments.specs.Base.{IsBaseOf, IsFixed, PairsMayBegin}

@@ -10,7 +10,8 @@ use Rattle.leaf_model.specs.Content.{content}
 use Rattle.leaf_history.specs.History.{HistoryState, base_of, no_base}
 use Rattle.region_layout.specs.declared.head.Head.TheVariants.{Version}
 use Rattle.region_layout.specs.declared.image.TableImage.{TableImage}
-use Rattle.region_layout.specs.Region.{AreDistinct, IsImage, head_of}
+use Rattle.leaf_model.specs.Names.{AreDistinct}
+use Rattle.region_layout.specs.Region.{IsImage, head_of}
 use Rattle.region_layout.proofs.Heads.{closed_head, image_head}
 use Rattle.row_records.specs.Records.{LogRecord}
 use Rattle.disk_backup.specs.Logs.{writes_of}

@@ -14,7 +14,7 @@ use Rattle.leaf_model.specs.declared.groups.Group.{Group}
 use Rattle.leaf_model.specs.Groups.{keys_cmp, keys_of, passes, with_keys, with_keys_at, distinct_keys, group_of, rows_with, fold_of, agg_ints, groups}
 use Rattle.group_table.specs.Joined.{joined_group, joined, joined_from, next_of}
 use Rattle.group_table.specs.Table.{keys_in, Above, Ascends, IsTable}
-use Rattle.group_table.proofs.KeyOrder.{keys_cmp_total, exact_keys}
+use Rattle.leaf_model.proofs.KeyOrder.{keys_cmp_total, exact_keys}
 use Rattle.group_table.proofs.Monoid.{group_assoc, group_comm, group_of-append}
 
 -- a list of groups with one more

@@ -12,4 +12,3 @@ mod tables;
 
 pub use fold::fold_rows;
 pub use join::merge;
-

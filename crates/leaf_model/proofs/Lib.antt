@@ -1,2 +1,4 @@
+pub mod Distinct
 mod Ends
+pub mod KeyOrder
 mod Samples

@@ -1,3 +1,4 @@
 pub mod Values
 pub mod Content
 pub mod Groups
+pub mod Names

@@ -5,6 +5,7 @@ mod groups;
 mod queries;
 mod rows;
 mod steps;
+mod table_names;
 mod text;
 mod writes;
 
@@ -12,5 +13,6 @@ pub use groups::{Fold, Folds, Group, Groups, Key, Keys};
 pub use queries::{Agg, Aggs, Cond, Conds, Op, Query};
 pub use rows::{Cell, Cells, Row, Rows, TableRows, Value};
 pub use steps::Steps;
+pub use table_names::is_table_name;
 pub use text::{Names, Text, Texts};
 pub use writes::{Write, Writes};

@@ -15,8 +15,9 @@ use Rattle.table_state.specs.declared.fault.AddFault.{AddFault}
 use Rattle.table_state.specs.declared.fault.AddFault.TheVariants as add
 use Rattle.log_recovery.specs.Faults.{told_of_add}
 use Rattle.disk_backup.specs.Logs.{IsBounded, writes_of}
+use Rattle.leaf_model.specs.Names.{AreDistinct}
 use Rattle.disk_backup.proofs.SoundLogs.{writes_append}
-use Rattle.log_recovery.specs.Recovery.{AreDistinct, table_of, tables_of, is_stranger, stranger_in, IsTooLong}
+use Rattle.log_recovery.specs.Recovery.{table_of, tables_of, is_stranger, stranger_in, IsTooLong}
 use Rattle.log_recovery.specs.Applying.{Applies, HasApplied, ReplaysAll, count_of}
 use Rattle.log_recovery.proofs.Replaying.{table_after}
 use Rattle.log_recovery.proofs.Places.{StandsAt, differ}

@@ -1,6 +1,6 @@
 -- The tables that a log gives back.
-use Rattle.std.specs.Prelude.{◌≡◌, ◌≢◌, ◌⊎◌, ℕ, ◌<◌, ◌^◌, Bool, false, not, List, [], ◌∷◌, ◌++◌, length, map, take, Option, None, option_map, ⊤, bytes_eq}
-use Rattle.std.specs.List.{AllByRecursion, find, list_any}
+use Rattle.std.specs.Prelude.{◌≡◌, ◌⊎◌, ℕ, ◌<◌, ◌^◌, Bool, false, not, List, [], ◌∷◌, ◌++◌, length, map, take, Option, None, option_map, ⊤, bytes_eq}
+use Rattle.std.specs.List.{find, list_any}
 use Rattle.leaf_model.specs.Content.{content}
 use Rattle.row_records.specs.Records.{LogRecord}
 use Rattle.table_state.specs.Tables.{Table}
@@ -9,11 +9,6 @@ use Rattle.disk_backup.specs.State.{LogState}
 use Rattle.disk_backup.specs.Scanning.{Scanned, Damaged}
 use Rattle.log_recovery.specs.declared.fault.RecoveryFault.{RecoveryFault}
 use Rattle.log_recovery.specs.declared.fault.RecoveryFault.TheVariants.{DiskFault, DiskDamaged, Stranger, NoMemory}
-
--- no name stands twice
-abbrev pub AreDistinct : List (List ℕ) → Type 0
-AreDistinct [] = ⊤
-AreDistinct (name ∷ names) = AllByRecursion (λ other. other ≢ name) names × AreDistinct names
 
 -- a table of this name after the writes of the records
 abbrev pub table_of : List LogRecord → List ℕ → Table

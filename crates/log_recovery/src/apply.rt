@@ -4,7 +4,8 @@ ghost use Rattle.std.specs.List.{AllByRecursion, position};
 ghost use Rattle.leaf_model.specs.Values.{IsWrite};
 ghost use Rattle.row_records.specs.Records.{LogRecord, IsRecord};
 ghost use Rattle.disk_backup.specs.Scanning.{record_is};
-ghost use Rattle.log_recovery.specs.Recovery.{AreDistinct, tables_of};
+ghost use Rattle.leaf_model.specs.Names.{AreDistinct};
+ghost use Rattle.log_recovery.specs.Recovery.{tables_of};
 ghost use Rattle.log_recovery.specs.Applying.{Applies, HasApplied, MayApply, ReplaysAll};
 
 use crate::fault::RecoveryFault;

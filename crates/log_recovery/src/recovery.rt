@@ -7,7 +7,8 @@ ghost use Rattle.berth_face.specs.Moments.{EachNow, Throughout};
 ghost use Rattle.disk_backup.specs.Logs.{IsSound};
 ghost use Rattle.disk_backup.specs.Scanning.{StepsFrom, BeginsScan, begun};
 ghost use Rattle.log_recovery.specs.declared.fault.RecoveryFault.TheVariants as fault;
-ghost use Rattle.log_recovery.specs.Recovery.{AreDistinct, IsRecovered, IsRecoveryRefusal, tables_of};
+ghost use Rattle.leaf_model.specs.Names.{AreDistinct};
+ghost use Rattle.log_recovery.specs.Recovery.{IsRecovered, IsRecoveryRefusal, tables_of};
 
 use crate::apply::{apply, empty_tables};
 use crate::fault::RecoveryFault;

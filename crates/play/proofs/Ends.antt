@@ -4,14 +4,12 @@ use Rattle.std.specs.Prelude.{IfSome, slice_index_or}
 use Rattle.std.specs.List.{AllByRecursion, remove}
 use Rattle.std.proofs.lemmas.List.{take_all}
 use Rattle.berth_face.specs.Berth.{Meaning}
-use Rattle.region_layout.specs.Region.{AreDistinct}
 use Rattle.region_layout.specs.Names.{AreNames, IsName}
 use Rattle.crash_moments.specs.Left.{NamedStates}
 use Rattle.crash_states.proofs.Lefts.{rests_told}
 use Rattle.script_text.specs.declared.command.Command.{Command}
 use Rattle.script_text.specs.declared.command.Command.TheVariants as command
 use Rattle.script_text.specs.Fits.{AreTables, IsTableName, IsCommand, AreCommands}
-use Rattle.script_text.specs.Fits as fits
 use Rattle.transcript.specs.Life.{Down}
 use Rattle.transcript.specs.Laws.{IsToldRun, LeavesBerth}
 use Rattle.transcript.specs.Steps.{MayPlay}
@@ -24,16 +22,12 @@ use Rattle.play.proofs.Plays.{appends_nothing}
 
 -- ---- names
 
-distinct_names : (names : List (List ℕ)) → fits.AreDistinct names → AreDistinct names
-distinct_names [] d = tt
-distinct_names (n ∷ ns) d = (d.0, distinct_names ns d.1)
-
 tables_are_names : (names : List (List ℕ)) → AreTables names → AreNames names
 tables_are_names names t = record {
   some = t.some;
   few = t.few;
   each = All-weaken IsTableName IsName (λ name n. (n.utf8, omega (arith, n.short))) names t.names;
-  distinct = distinct_names names t.distinct;
+  distinct = t.distinct;
 }
 
 pub names_are : (commands : List Command) → AreCommands commands → 0 < length commands → AreNames (names_in commands)

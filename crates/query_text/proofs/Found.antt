@@ -19,7 +19,8 @@ use Rattle.query_text.specs.declared.places.Kind.TheVariants as kind
 use Rattle.query_text.specs.declared.places.Place.{Place}
 use Rattle.query_text.specs.declared.places.Place.TheVariants.{Select, Item, Opening, AggEnd, NextAgg, CondEnd, GroupEnd, OrderAgg, Ordered}
 use Rattle.query_text.specs.declared.places.Move.TheVariants.{On}
-use Rattle.query_text.specs.Roles.{name_of, const_of, kind_of, is_table_name, is_keyword, has_kind, is_orderable, place_from, agg_inside}
+use Rattle.leaf_model.specs.Names.{is_table_name}
+use Rattle.query_text.specs.Roles.{name_of, const_of, kind_of, is_keyword, has_kind, is_orderable, place_from, agg_inside}
 use Rattle.query_text.specs.Reading.{goes_on, may_end, order_or_limit, nothing_read, with_agg, with_order, with_table, with_low, with_high}
 use Rattle.query_text.specs.Printing.{ordering_agg}
 use Rattle.query_text.specs.Grammar.{Sign, Says, Spells, TheName, Exactly, keyword, int, IsOrder, IsSpelled, agg_signs, names_signs, more_aggs_signs, aggs_signs, range_signs, conds_signs, more_names_signs, group_signs, order_signs, limit_signs, const_sign}

@@ -17,7 +17,8 @@ use Rattle.query_text.specs.declared.places.Kind.TheVariants as kind
 use Rattle.query_text.specs.declared.places.Place.{Place}
 use Rattle.query_text.specs.declared.places.Move.{Move}
 use Rattle.query_text.specs.declared.places.Move.TheVariants.{On, Stuck}
-use Rattle.query_text.specs.Roles.{name_of, const_of, kind_of, op_of, int_of, limit_from, table_of, is_word, is_open, is_close, is_star, is_comma, is_table_name, same_agg, agg_inside, agg_named, agg_with}
+use Rattle.leaf_model.specs.Names.{is_table_name}
+use Rattle.query_text.specs.Roles.{name_of, const_of, kind_of, op_of, int_of, limit_from, table_of, is_word, is_open, is_close, is_star, is_comma, same_agg, agg_inside, agg_named, agg_with}
 use Rattle.query_text.specs.Reading.{goes_on, may_end, on_if, sign_fits}
 use Rattle.query_text.specs.Grammar.{Sign, Says, Spells, agg_signs, const_sign}
 use Rattle.query_text.proofs.Plain.{reads, moved}

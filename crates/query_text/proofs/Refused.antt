@@ -22,7 +22,7 @@ use Rattle.query_text.specs.declared.places.Move.TheVariants.{On, Stuck}
 use Rattle.query_text.specs.Tokens.{Placed, tokens_of}
 use Rattle.query_text.specs.Roles.{name_of, const_of, kind_of, op_of, int_of, limit_from, table_of, is_word, is_open, is_close, is_comma, is_int, has_kind, is_orderable, place_in, agg_inside}
 use Rattle.query_text.specs.Reading.{read_from, query_of, nothing_read, led, fault_of, plain_fault, takes_int, is_in_range, goes_on, may_end, on_if, order_or_limit, has_keys, kind_goes_on, key_goes_on, agg_goes_on, table_goes_on, low_goes_on, high_goes_on, cond_goes_on, op_goes_on, const_goes_on, kind_goes_on_if, order_goes_on, limit_goes_on, sign_fits, is_key, with_agg, with_order, with_low, with_high, with_cond, with_limit}
-use Rattle.query_text.specs.Grammar.{IsBegun, IsStuck, IsQueryRefused, IsSize, IsFault, place_of, behind_from, is_ranging, plain_tokens}
+use Rattle.query_text.specs.Grammar.{IsBegun, IsStuck, IsQueryRefused, IsSize, IsFault, next_offset, behind_from, is_ranging, plain_tokens}
 use Rattle.query_text.proofs.Plain.{reads, moved}
 use Rattle.query_text.proofs.Found.{found, None≢Some}
 use Rattle.query_text.proofs.Only.{only}
@@ -273,7 +273,7 @@ unwanted : (before : List Token) (r : Query) (there : Place) → takes_int there
     → (n : ℤ) → IsBegun (before ++ (token.Int (Some n) ∷ [])) → ⊥
 unwanted before r there takes same n = stuck_by before (record { at = 0; token = token.Int (Some n) } ∷ []) r there (int_stuck r there n takes) same
 
-plain_kind : (b : Bool) (before : List Token) (rest : List Placed) (end at : ℕ) (fault : QueryFault) → at ≡ place_of end rest → (IsSize before rest → ⊥) → is_ranging (behind_from before) ≡ b
+plain_kind : (b : Bool) (before : List Token) (rest : List Placed) (end at : ℕ) (fault : QueryFault) → at ≡ next_offset end rest → (IsSize before rest → ⊥) → is_ranging (behind_from before) ≡ b
     → fault ≡ (if b then NoTime else Syntax at) → IsFault fault before rest end
 plain_kind true before rest end at fault is none range h = rw h (none, range)
 plain_kind false before rest end at fault is none range h = rw h (is, (none, range))

@@ -1,9 +1,8 @@
 -- The text that a query is written as is cut into tokens that spell the query.
-use Rattle.std.proofs.Common.{◌≡◌, ℕ, suc, zero, ◌≤◌, true, ◌&&◌, ◌||◌, List, [], ◌∷◌, ◌++◌, length, Option, Some, None, Ok, refl, sym, ap, ◌∙◌, pos, arith, nat_le, subst}
+use Rattle.std.proofs.Common.{◌≡◌, ℕ, suc, zero, ◌≤◌, true, ◌&&◌, List, [], ◌∷◌, ◌++◌, length, Option, Some, None, Ok, refl, sym, ap, ◌∙◌, pos, arith, nat_le, subst}
 use Rattle.std.specs.Prelude.{codes, decimal, slice_get}
 use Rattle.std.specs.Fmt.{signed_decimal}
-use Rattle.std.specs.Bool.{◌==◌}
-use Rattle.std.specs.Char.{is_ascii_digit, is_ascii_lowercase}
+use Rattle.std.specs.Char.{is_ascii_lowercase}
 use Rattle.std.specs.List.{list_all, AllByRecursion}
 use Rattle.std.proofs.lemmas.Bool.{false≢true, and_parts, true≢false}
 use Rattle.std.proofs.lemmas.Bool.Decides.{nat_tests}
@@ -16,7 +15,7 @@ use Rattle.leaf_model.specs.declared.queries.Agg.TheVariants as agg
 use Rattle.leaf_model.specs.declared.queries.Query.{Query}
 use Rattle.query_text.specs.declared.tokens.Token.TheVariants as token
 use Rattle.query_text.specs.Tokens.{begins_word, goes_on_word}
-use Rattle.query_text.specs.Roles.{is_table_name}
+use Rattle.leaf_model.specs.Names.{is_name_byte, is_table_name}
 use Rattle.query_text.specs.Reading.{query_of}
 use Rattle.query_text.specs.Printing.{printed, name_text, op_text, value_text, agg_then, names_then, more_aggs_then, aggs_then, range_then, conds_then, more_names_then, group_then, ordering_agg, order_then}
 use Rattle.query_text.specs.Grammar.{Sign, Spells, TheName, Exactly, IsQuery, IsOrder, agg_signs, names_signs, more_aggs_signs, aggs_signs, range_signs, conds_signs, more_names_signs, group_signs, order_signs, limit_signs, query_signs, const_sign}
@@ -78,20 +77,20 @@ aggs_written (a ∷ aggs) further S good h = agg_written a (more_aggs_then aggs 
 lower_begins : (b : ℕ) → is_ascii_lowercase b ≡ true → begins_word b ≡ true
 lower_begins b h = grind (arith, nat_tests)
 
-table_byte : (b : ℕ) → (is_ascii_lowercase b || (is_ascii_digit b || b == 95)) ≡ true → goes_on_word b ≡ true
+table_byte : (b : ℕ) → is_name_byte b ≡ true → goes_on_word b ≡ true
 table_byte b h = grind (arith, nat_tests)
 
-table_word : (bs : List ℕ) → list_all (λ c. is_ascii_lowercase c || (is_ascii_digit c || c == 95)) bs ≡ true → list_all goes_on_word bs ≡ true
+table_word : (bs : List ℕ) → list_all is_name_byte bs ≡ true → list_all goes_on_word bs ≡ true
 table_word [] h = refl
 table_word (b ∷ bs) h =
-    let both = and_parts (is_ascii_lowercase b || (is_ascii_digit b || b == 95)) (list_all (λ c. is_ascii_lowercase c || (is_ascii_digit c || c == 95)) bs) h in
+    let both = and_parts (is_name_byte b) (list_all is_name_byte bs) h in
     rw (table_byte b both.0, table_word bs both.1) refl
 
 lexed_table : (table next : List ℕ) → is_table_name table ≡ true → stops next ≡ true → lexed 0 (table ++ next) ≡ token.Word table ∷ lexed 0 next
 lexed_table [] next h end = absurd (false≢true h)
 lexed_table (b ∷ bs) next h end =
-    let first = and_parts (is_ascii_lowercase b) (nat_le (length bs) 63 && list_all (λ c. is_ascii_lowercase c || (is_ascii_digit c || c == 95)) bs) h in
-    let rest = and_parts (nat_le (length bs) 63) (list_all (λ c. is_ascii_lowercase c || (is_ascii_digit c || c == 95)) bs) first.1 in
+    let first = and_parts (is_ascii_lowercase b) (nat_le (length bs) 63 && list_all is_name_byte bs) h in
+    let rest = and_parts (nat_le (length bs) 63) (list_all is_name_byte bs) first.1 in
     lexed_word b bs next (lower_begins b first.0) (table_word bs rest.1) end
 
 range_written : (q : Query) (further : List ℕ) (S : List Sign) → is_table_name q.table ≡ true → IsI64 q.from → IsI64 q.to → stops further ≡ true

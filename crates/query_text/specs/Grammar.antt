@@ -12,7 +12,8 @@ use Rattle.query_text.specs.declared.tokens.Token.TheVariants as token
 use Rattle.query_text.specs.declared.fault.QueryFault.{QueryFault}
 use Rattle.query_text.specs.declared.fault.QueryFault.TheVariants.{Syntax, NoTime, TooLarge, NoMemory}
 use Rattle.query_text.specs.Tokens.{Placed, tokens_of}
-use Rattle.query_text.specs.Roles.{name_of, is_word, is_int, is_table_name, is_orderable, place_from}
+use Rattle.leaf_model.specs.Names.{is_table_name}
+use Rattle.query_text.specs.Roles.{name_of, is_word, is_int, is_orderable, place_from}
 use Rattle.query_text.specs.Printing.{ordering_agg}
 
 -- ---- what is written at one place
@@ -151,9 +152,9 @@ IsStuck before [] = (q : Query) → IsSpelled q before → ⊥
 IsStuck before (p ∷ ps) = IsBegun (before ++ (p.token ∷ [])) → ⊥
 
 -- the offset of the next token, or the text's end
-abbrev pub place_of : ℕ → List Placed → ℕ
-place_of end [] = end
-place_of end (p ∷ ps) = p.at
+abbrev pub next_offset : ℕ → List Placed → ℕ
+next_offset end [] = end
+next_offset end (p ∷ ps) = p.at
 
 -- an integer stands where some integer may stand
 abbrev pub IsSize : List Token → List Placed → Type 0
@@ -172,9 +173,9 @@ is_ranging (Some n) = nat_lt 0 n && nat_lt n 9
 
 -- the fault by what stands before and what is left
 abbrev pub IsFault : QueryFault → List Token → List Placed → ℕ → Type 0
-IsFault (TooLarge at) before rest end = (at ≡ place_of end rest) × IsSize before rest
+IsFault (TooLarge at) before rest end = (at ≡ next_offset end rest) × IsSize before rest
 IsFault NoTime before rest end = (IsSize before rest → ⊥) × (is_ranging (behind_from before) ≡ true)
-IsFault (Syntax at) before rest end = (at ≡ place_of end rest) × ((IsSize before rest → ⊥) × (is_ranging (behind_from before) ≡ false))
+IsFault (Syntax at) before rest end = (at ≡ next_offset end rest) × ((IsSize before rest → ⊥) × (is_ranging (behind_from before) ≡ false))
 IsFault NoMemory before rest end = ⊥
 
 -- the tokens before the fault begin some query, with what stands there none goes on, and the fault is told by these

@@ -1,13 +1,11 @@
 -- What a token may stand for: a keyword, a name, an aggregate's kind, a table, a comparison, a constant.
 use Rattle.std.specs.Prelude.{ℕ, ◌+◌, Bool, true, false, ◌&&◌, ◌||◌, List, [], ◌∷◌, length, ℤ, pos, Option, Some, None, if◌then◌else◌, nat_lt, nat_le, codes, bytes_eq}
-use Rattle.std.specs.List.{list_all}
-use Rattle.std.specs.Bool.{◌==◌}
-use Rattle.std.specs.Char.{is_ascii_digit, is_ascii_lowercase}
 use Rattle.leaf_model.specs.declared.rows.Value.{Value}
 use Rattle.leaf_model.specs.declared.rows.Value.TheVariants as value
 use Rattle.leaf_model.specs.declared.queries.Op.{Op}
 use Rattle.leaf_model.specs.declared.queries.Agg.{Agg}
 use Rattle.leaf_model.specs.declared.queries.Agg.TheVariants as agg
+use Rattle.leaf_model.specs.Names.{is_table_name}
 use Rattle.query_text.specs.declared.tokens.Token.{Token}
 use Rattle.query_text.specs.declared.tokens.Token.TheVariants as token
 use Rattle.query_text.specs.declared.places.Kind.{Kind}
@@ -40,11 +38,6 @@ kind_of (token.Word w) =
     else (if bytes_eq w (codes "MAX") then Some Max
     else (if bytes_eq w (codes "AVG") then Some Avg else None))))
 kind_of other = None
-
--- a letter a to z, and then up to 63 of a to z, 0 to 9 and `_`
-abbrev pub is_table_name : List ℕ → Bool
-is_table_name [] = false
-is_table_name (b ∷ bs) = is_ascii_lowercase b && (nat_le (length bs) 63 && list_all (λ c. is_ascii_lowercase c || (is_ascii_digit c || c == 95)) bs)
 
 -- a word that fits a table's name
 abbrev pub table_of : Token → Option (List ℕ)

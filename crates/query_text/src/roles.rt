@@ -1,20 +1,14 @@
 // What a token may stand for.
-ghost use Rattle.std.specs.Prelude.{◌≡◌, ◌||◌};
-ghost use Rattle.std.specs.List.{list_all};
-ghost use Rattle.std.specs.Bool.{◌==◌};
-ghost use Rattle.std.specs.Char.{is_ascii_digit, is_ascii_lowercase};
+ghost use Rattle.std.specs.Prelude.{◌≡◌};
 ghost use Rattle.query_text.specs.declared.tokens.Token.TheVariants as token;
-ghost use Rattle.query_text.specs.Roles.{is_keyword, is_word, name_of, kind_of, is_table_name, table_of, is_open, is_close, is_star, is_comma, is_int, op_of, int_of, const_of, limit_from};
+ghost use Rattle.query_text.specs.Roles.{is_keyword, is_word, name_of, kind_of, table_of, is_open, is_close, is_star, is_comma, is_int, op_of, int_of, const_of, limit_from};
 
 use crate::places::Kind;
 use crate::tokens::Token;
-use leaf_model::{Op, Text, Value};
+use leaf_model::{Op, Text, Value, is_table_name};
 
 /// The most bytes of a name.
 const MAX_NAME: usize = 255;
-
-/// The most bytes of a table's name behind its first.
-const MAX_TABLE_REST: usize = 63;
 
 /// The greatest limit.
 const MAX_LIMIT: i64 = 100_000;
@@ -116,36 +110,13 @@ pub fn kind_in(token: &Token) -> Option<Kind>
     }
 }
 
-fn all_fit(rest: &[u8]) -> bool
-    ensures { result ≡ list_all (λ c. is_ascii_lowercase c || (is_ascii_digit c || c == 95)) rest.now }
-{
-    for b in rest {
-        if !(b.is_ascii_lowercase() || b.is_ascii_digit() || *b == b'_') {
-            return false;
-        }
-    }
-    true
-}
-
-/// A letter a to z, and then up to 63 of a to z, 0 to 9 and `_`.
-fn fits_table(name: &[u8]) -> bool
-    ensures { result ≡ is_table_name name.now }
-{
-    match name {
-        [] => false,
-        [first, rest @ ..] => {
-            first.is_ascii_lowercase() && rest.len() <= MAX_TABLE_REST && all_fit(rest)
-        }
-    }
-}
-
 /// A word that fits a table's name.
 pub fn take_table(token: Token) -> Option<Text>
     ensures { result ≡ table_of token }
 {
     match token {
         Token::Word(word) => {
-            if fits_table(word.as_str().as_bytes()) {
+            if is_table_name(word.as_str().as_bytes()) {
                 Some(word)
             } else {
                 None

@@ -2,7 +2,7 @@
 use Rattle.std.proofs.Common.{◌≡◌, ℕ, ◌≤◌, ◌&&◌, false, cond, ltb, eqb, List, [], ◌∷◌, ◌++◌, length, take, drop, Some, None, refl, sym, ap, subst, ◌∙◌, append-nil, arith}
 use Rattle.std.specs.List.{flat_map, AllByRecursion}
 use Rattle.std.specs.Str.{bytes_eq}
-use Rattle.std.proofs.lemmas.Bool.{ltb-false, le-ltb, eqb-true}
+use Rattle.std.proofs.lemmas.Bool.{and_parts, ltb-false, le-ltb, eqb-true}
 use Rattle.std.proofs.lemmas.List.{nil_from_length, take-append-drop}
 use Rattle.std.proofs.lemmas.Slice.Eq.{bytes_eq-Decides}
 use Rattle.row_records.specs.Bytes.{u64_bytes, IsBytes}
@@ -10,9 +10,11 @@ use Rattle.row_records.specs.Reading.{◌>>=◌, byte_at}
 use Rattle.row_records.proofs.Fields.{IsBytes-drop, bind_some, passed, held, some_is, Takes, byte_takes}
 use Rattle.region_layout.specs.declared.image.TableImage.{TableImage}
 use Rattle.region_layout.specs.declared.image.Image.{Image}
-use Rattle.region_layout.specs.Region.{head_bytes, table_bytes, layout_1_bytes, IsTableImage, AreDistinct, IsImage}
-use Rattle.region_layout.specs.Reading.{below_2_63_at, tables_at, are_distinct, directory_at, head_at, image_at}
-use Rattle.region_layout.proofs.Tables.{both_true, low_takes, low_again, tables_take, tables_again, names_of, distinct_are, are_distinct_again}
+use Rattle.leaf_model.specs.Names.{AreDistinct, are_distinct}
+use Rattle.leaf_model.proofs.Distinct.{distinct_names, are_distinct-from}
+use Rattle.region_layout.specs.Region.{head_bytes, table_bytes, layout_1_bytes, IsTableImage, IsImage, image_names}
+use Rattle.region_layout.specs.Reading.{below_2_63_at, tables_at, directory_at, head_at, image_at}
+use Rattle.region_layout.proofs.Tables.{low_takes, low_again, tables_take, tables_again}
 
 -- ---- the head
 
@@ -31,28 +33,28 @@ head_again rest = refl
 -- ---- the tables behind their number
 
 directory_takes : (bytes : List ℕ) (tables : List TableImage) → IsBytes bytes → directory_at bytes ≡ Some tables
-    → (bytes ≡ length tables ∷ flat_map table_bytes tables) × (length tables ≤ 16) × AllByRecursion IsTableImage tables × AreDistinct (names_of tables)
+    → (bytes ≡ length tables ∷ flat_map table_bytes tables) × (length tables ≤ 16) × AllByRecursion IsTableImage tables × AreDistinct (image_names tables)
 unfolding directory_at
 directory_takes bytes tables fits e =
-    let a = bind_some (byte_at bytes) (λ count. cond (ltb 16 count.0) None (tables_at count.0 count.1 >>= λ tables. cond (eqb (length tables.1) 0 && are_distinct tables.0) (Some tables.0) None)) tables e in
-    let g = passed (ltb 16 a.0.0) (tables_at a.0.0 a.0.1 >>= λ tables. cond (eqb (length tables.1) 0 && are_distinct tables.0) (Some tables.0) None) tables a.2 in
-    let b = bind_some (tables_at a.0.0 a.0.1) (λ tables. cond (eqb (length tables.1) 0 && are_distinct tables.0) (Some tables.0) None) tables g.1 in
-    let h = held (eqb (length b.0.1) 0 && are_distinct b.0.0) (Some b.0.0) tables b.2 in
-    let both = both_true (eqb (length b.0.1) 0) (are_distinct b.0.0) h.0 in
+    let a = bind_some (byte_at bytes) (λ count. cond (ltb 16 count.0) None (tables_at count.0 count.1 >>= λ tables. cond (eqb (length tables.1) 0 && are_distinct (image_names tables.0)) (Some tables.0) None)) tables e in
+    let g = passed (ltb 16 a.0.0) (tables_at a.0.0 a.0.1 >>= λ tables. cond (eqb (length tables.1) 0 && are_distinct (image_names tables.0)) (Some tables.0) None) tables a.2 in
+    let b = bind_some (tables_at a.0.0 a.0.1) (λ tables. cond (eqb (length tables.1) 0 && are_distinct (image_names tables.0)) (Some tables.0) None) tables g.1 in
+    let h = held (eqb (length b.0.1) 0 && are_distinct (image_names b.0.0)) (Some b.0.0) tables b.2 in
+    let both = and_parts (eqb (length b.0.1) 0) (are_distinct (image_names b.0.0)) h.0 in
     let first = byte_takes bytes a.0 fits a.1 in
     let second = tables_take a.0.0 a.0.1 b.0 first.0.rest_fits b.1 in
     let none : b.0.1 ≡ [] = nil_from_length b.0.1 (eqb-true _ _ both.0) in
     let whole : a.0.1 ≡ flat_map table_bytes b.0.0 = second.0.parts ∙ ap (λ (w : List ℕ). flat_map table_bytes b.0.0 ++ w) none ∙ append-nil (flat_map table_bytes b.0.0) in
     let parts : bytes ≡ length b.0.0 ∷ flat_map table_bytes b.0.0 = first.0.parts ∙ ap (λ (w : List ℕ). a.0.0 ∷ w) whole ∙ ap (λ (k : ℕ). k ∷ flat_map table_bytes b.0.0) (sym second.1) in
-    subst (λ (ts : List TableImage). (bytes ≡ length ts ∷ flat_map table_bytes ts) × (length ts ≤ 16) × AllByRecursion IsTableImage ts × AreDistinct (names_of ts)) (some_is b.0.0 tables h.1)
-    (parts, omega (arith, second.1, ltb-false 16 a.0.0 g.0), second.2, distinct_are b.0.0 both.1)
+    subst (λ (ts : List TableImage). (bytes ≡ length ts ∷ flat_map table_bytes ts) × (length ts ≤ 16) × AllByRecursion IsTableImage ts × AreDistinct (image_names ts)) (some_is b.0.0 tables h.1)
+    (parts, omega (arith, second.1, ltb-false 16 a.0.0 g.0), second.2, distinct_names (image_names b.0.0) both.1)
 
-directory_again : (tables : List TableImage) → length tables ≤ 16 → AllByRecursion IsTableImage tables → AreDistinct (names_of tables) → directory_at (length tables ∷ flat_map table_bytes tables) ≡ Some tables
+directory_again : (tables : List TableImage) → length tables ≤ 16 → AllByRecursion IsTableImage tables → AreDistinct (image_names tables) → directory_at (length tables ∷ flat_map table_bytes tables) ≡ Some tables
 unfolding directory_at
 directory_again tables few each distinct =
     let low : ltb 16 (length tables) ≡ false = le-ltb _ _ few in
     let all : tables_at (length tables) (flat_map table_bytes tables) ≡ Some (tables, []) = ap (tables_at (length tables)) (sym (append-nil (flat_map table_bytes tables))) ∙ tables_again tables [] each in
-    rw (low, all, are_distinct_again tables distinct) refl
+    rw (low, all, are_distinct-from (image_names tables) distinct) refl
 
 -- ---- an image
 

@@ -1,25 +1,24 @@
 -- A table that is read is the table that was written, and what was written is read again.
-use Rattle.std.proofs.Common.{◌≡◌, ℕ, zero, suc, ◌^◌, ◌<◌, ◌≤◌, ◌&&◌, Bool, true, false, cond, ltb, not, List, [], ◌∷◌, ◌++◌, length, map, Some, None, refl, sym, ap, subst, ◌∙◌, append_assoc, arith}
-use Rattle.std.specs.Prelude.{◌≢◌, ℤ}
-use Rattle.std.specs.List.{flat_map, list_all, AllByRecursion}
+use Rattle.std.proofs.Common.{◌≡◌, ℕ, zero, suc, ◌^◌, ◌-◌, ◌<◌, ◌≤◌, ◌&&◌, ◌||◌, true, false, not, cond, ltb, List, [], ◌∷◌, ◌++◌, length, take, drop, Some, None, refl, sym, ap, subst, ◌∙◌, append_assoc, arith}
+use Rattle.std.specs.Prelude.{ℤ, slice_index_or}
+use Rattle.std.specs.List.{flat_map, list_all, list_any, AllByRecursion}
 use Rattle.std.specs.Str.{IsUtf8, bytes_eq}
 use Rattle.std.specs.Int.{w64}
-use Rattle.std.proofs.lemmas.Bool.{ltb-false, ltb-true, le-ltb, lt-ltb}
+use Rattle.std.proofs.lemmas.Bool.{and_parts, ltb-false, ltb-true, le-ltb, lt-ltb}
+use Rattle.std.proofs.lemmas.List.{take_all}
 use Rattle.std.proofs.lemmas.List.Concat.{flat_map-cons}
-use Rattle.std.proofs.lemmas.Slice.Eq.{bytes_eq-Decides}
 use Rattle.leaf_model.specs.declared.rows.Row.{Row}
 use Rattle.leaf_model.specs.Values.{IsRow, IsTime}
+use Rattle.leaf_model.specs.Names.{is_among, are_distinct}
 use Rattle.row_records.specs.Bytes.{name_bytes, i64_bytes, u64_bytes, rows_bytes, IsBytes}
 use Rattle.row_records.specs.Reading.{◌>>=◌, number_at, name_at, time_at, rows_at}
 use Rattle.row_records.proofs.Fields.{bind_some, passed, held, some_is, Takes, Takes-then, wide64, number_takes, number_again, name_takes, name_again, time_takes, time_again}
 use Rattle.row_records.proofs.Records.{rows_take, rows_again}
 use Rattle.region_layout.specs.declared.image.TableImage.{TableImage}
-use Rattle.region_layout.specs.Region.{IsHeldRow, IsTableImage, AreDistinct, table_bytes}
-use Rattle.region_layout.specs.Reading.{below_2_63_at, is_kept, held_rows_at, table_at, tables_at, has_other_name, are_distinct}
-
-pub both_true : (a b : Bool) → (a && b) ≡ true → (a ≡ true) × (b ≡ true)
-both_true true b e = (refl, e)
-both_true false b e = absurd cc
+use Rattle.table_state.specs.Tables.{IsHeldRow}
+use Rattle.region_layout.specs.Images.{is_named}
+use Rattle.region_layout.specs.Region.{IsTableImage, image_names, table_bytes}
+use Rattle.region_layout.specs.Reading.{below_2_63_at, is_kept, held_rows_at, table_at, tables_at}
 
 -- ---- numbers
 
@@ -49,7 +48,7 @@ all_kept horizon (row ∷ rows) each = rw (each.0.1, all_kept horizon rows each.
 each_held : (horizon : ℤ) (rows : List Row) → AllByRecursion IsRow rows → list_all (is_kept horizon) rows ≡ true → AllByRecursion (IsHeldRow horizon) rows
 each_held horizon [] each kept = tt
 each_held horizon (row ∷ rows) each kept =
-    let both = both_true (is_kept horizon row) (list_all (is_kept horizon) rows) kept in
+    let both = and_parts (is_kept horizon row) (list_all (is_kept horizon) rows) kept in
     ((each.0, both.0), each_held horizon rows each.1 both.1)
 
 held_rows_take : (horizon : ℤ) (bytes : List ℕ) (x : List Row × List ℕ) → IsBytes bytes → held_rows_at horizon bytes ≡ Some x
@@ -136,40 +135,25 @@ tables_again (t ∷ tables) rest each =
 
 -- ---- names
 
--- the names of tables
-abbrev pub names_of : List TableImage → List (List ℕ)
-names_of tables = map (λ (t : TableImage). t.name) tables
+among_names : (name : List ℕ) (tables : List TableImage) → list_any (is_named name) tables ≡ is_among (image_names tables) name
+among_names name [] = refl
+among_names name (t ∷ tables) = ap (λ b. bytes_eq t.name name || b) (among_names name tables)
 
-is_other : (a b : List ℕ) (r : Bool) → bytes_eq a b ≡ r → not r ≡ true → a ≢ b
-is_other a b true e other = absurd cc
-is_other a b false e other = λ same. no_both (bytes_eq a b) e ((bytes_eq-Decides a b).1 same)
-  where
-    no_both : (r : Bool) → r ≡ false → r ≡ true → ⊥
-    no_both true f t = absurd cc
-    no_both false f t = absurd cc
+-- the tables behind the first
+abbrev behind : List TableImage → List TableImage
+behind tables = take (length tables - 1) (drop 1 tables)
 
-other_is : (a b : List ℕ) (r : Bool) → bytes_eq a b ≡ r → a ≢ b → not r ≡ true
-other_is a b true e other = absurd (other ((bytes_eq-Decides a b).0 e))
-other_is a b false e other = refl
+by_first : (tables : List TableImage) (first : TableImage) (name : List ℕ) → 0 < length tables → first ≡ slice_index_or tables 0 first → name ≡ first.name
+    → are_distinct (image_names tables) ≡ (not (list_any (is_named name) (behind tables)) && are_distinct (image_names (behind tables)))
+by_first [] first name some is same = absurd (omega (arith, some))
+by_first (t ∷ ts) first name some is same =
+    let all : take (suc (length ts) - 1) ts ≡ ts = take_all (suc (length ts) - 1) ts (omega arith) in
+    rw (all, same, is, among_names t.name ts) refl
 
-others_are : (name : List ℕ) (tables : List TableImage) → list_all (has_other_name name) tables ≡ true → AllByRecursion (λ other. other ≢ name) (names_of tables)
-others_are name [] e = tt
-others_are name (t ∷ tables) e =
-    let both = both_true (has_other_name name t) (list_all (has_other_name name) tables) e in
-    (is_other t.name name (bytes_eq t.name name) refl both.0, others_are name tables both.1)
+pub first_alone : (tables : List TableImage) (first : TableImage) (name : List ℕ) → 0 < length tables → first ≡ slice_index_or tables 0 first → name ≡ first.name
+    → list_any (is_named name) (behind tables) ≡ false → are_distinct (image_names (behind tables)) ≡ are_distinct (image_names tables)
+first_alone tables first name some is same alone = sym (by_first tables first name some is same ∙ ap (λ b. not b && are_distinct (image_names (behind tables))) alone)
 
-are_others : (name : List ℕ) (tables : List TableImage) → AllByRecursion (λ other. other ≢ name) (names_of tables) → list_all (has_other_name name) tables ≡ true
-are_others name [] each = refl
-are_others name (t ∷ tables) each = rw (other_is t.name name (bytes_eq t.name name) refl each.0, are_others name tables each.1) refl
-
-pub distinct_are : (tables : List TableImage) → are_distinct tables ≡ true → AreDistinct (names_of tables)
-unfolding are_distinct
-distinct_are [] e = tt
-distinct_are (t ∷ tables) e =
-    let both = both_true (list_all (has_other_name t.name) tables) (are_distinct tables) e in
-    (others_are t.name tables both.0, distinct_are tables both.1)
-
-pub are_distinct_again : (tables : List TableImage) → AreDistinct (names_of tables) → are_distinct tables ≡ true
-unfolding are_distinct
-are_distinct_again [] each = refl
-are_distinct_again (t ∷ tables) each = rw (are_others t.name tables each.0, are_distinct_again tables each.1) refl
+pub first_again : (tables : List TableImage) (first : TableImage) (name : List ℕ) → 0 < length tables → first ≡ slice_index_or tables 0 first → name ≡ first.name
+    → list_any (is_named name) (behind tables) ≡ true → false ≡ are_distinct (image_names tables)
+first_again tables first name some is same again = sym (by_first tables first name some is same ∙ ap (λ b. not b && are_distinct (image_names (behind tables))) again)

@@ -9,7 +9,8 @@ use Rattle.leaf_model.specs.declared.rows.Row.{Row}
 use Rattle.row_records.specs.Bytes.{name_bytes, i64_bytes, u64_bytes, rows_bytes}
 use Rattle.table_state.specs.Tables.{Table, IsHeld}
 use Rattle.region_layout.specs.declared.image.TableImage.{TableImage}
-use Rattle.region_layout.specs.Region.{IsTableImage, IsImage, AreDistinct, head_bytes, table_bytes}
+use Rattle.leaf_model.specs.Names.{AreDistinct}
+use Rattle.region_layout.specs.Region.{IsTableImage, IsImage, head_bytes, table_bytes}
 use Rattle.region_layout.specs.Names.{IsName, AreNames}
 use Rattle.region_layout.specs.Images.{image_of, images_of}
 

@@ -1,25 +1,14 @@
 -- Reading an image from left to right: each field is a value and the bytes after it, or nothing.
-use Rattle.std.specs.Prelude.{◌≡◌, ℕ, zero, suc, ◌^◌, ℤ, List, [], ◌∷◌, length, take, drop, Bool, true, not, ◌&&◌, ◌==◌, nat_lt, int_le, if◌then◌else◌, Option, Some, None, Result, Ok, Err}
+use Rattle.std.specs.Prelude.{ℕ, zero, suc, ◌^◌, ℤ, List, [], ◌∷◌, length, take, drop, Bool, ◌&&◌, ◌==◌, nat_lt, int_le, if◌then◌else◌, Option, Some, None}
 use Rattle.std.specs.Str.{bytes_eq}
 use Rattle.std.specs.List.{list_all}
 use Rattle.std.specs.Int.{w64}
 use Rattle.leaf_model.specs.declared.rows.Row.{Row}
+use Rattle.leaf_model.specs.Names.{are_distinct}
 use Rattle.row_records.specs.Reading.{◌>>=◌, byte_at, number_at, name_at, time_at, rows_at}
 use Rattle.region_layout.specs.declared.image.TableImage.{TableImage}
 use Rattle.region_layout.specs.declared.image.Image.{Image}
-use Rattle.region_layout.specs.declared.fault.ReadError.{ReadError}
-use Rattle.region_layout.specs.declared.fault.ReadError.TheVariants as errors
-use Rattle.region_layout.specs.Region.{head_bytes}
-
--- A failure is want of memory, or there is nothing to be read.
-abbrev pub Fails : {Y : Type 0} → ReadError → Option Y → Type 0
-Fails errors.Memory read = Unit {0}
-Fails errors.Broken read = read ≡ None
-
--- What a function returned, seen by view, is what reading gives, unless memory ran out.
-abbrev pub Gives : {X Y : Type 0} → (X → Y) → Result X ReadError → Option Y → Type 0
-Gives view (Ok x) read = read ≡ Some (view x)
-Gives view (Err e) read = Fails e read
+use Rattle.region_layout.specs.Region.{head_bytes, image_names}
 
 -- a number below 2^63
 unfoldable pub below_2_63_at : List ℕ → Option (ℕ × List ℕ)
@@ -54,20 +43,11 @@ tables_at (suc n) bytes = do
   others ← tables_at n first.1
   Some (first.0 ∷ others.0, others.1)
 
--- the table has another name
-abbrev pub has_other_name : List ℕ → TableImage → Bool
-has_other_name name t = not (bytes_eq t.name name)
-
--- no name stands twice
-unfoldable pub are_distinct : List TableImage → Bool
-are_distinct [] = true
-are_distinct (t ∷ ts) = list_all (has_other_name t.name) ts && are_distinct ts
-
 -- at most 16 tables behind their number, with distinct names, and nothing after them
 unfoldable pub directory_at : List ℕ → Option (List TableImage)
 directory_at bytes = do
   count ← byte_at bytes
-  if nat_lt 16 count.0 then None else (tables_at count.0 count.1 >>= λ tables. if (length tables.1 == 0) && are_distinct tables.0 then Some tables.0 else None)
+  if nat_lt 16 count.0 then None else (tables_at count.0 count.1 >>= λ tables. if (length tables.1 == 0) && are_distinct (image_names tables.0) then Some tables.0 else None)
 
 -- what follows an open head of version 1 with the place 16
 unfoldable pub head_at : List ℕ → Option (List ℕ)

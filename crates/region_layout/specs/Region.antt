@@ -1,10 +1,11 @@
 -- A region: its head, and the image of its tables.
-use Rattle.std.specs.Prelude.{◌≡◌, ◌≢◌, ◌⊎◌, ℕ, ◌<◌, ◌≤◌, ◌^◌, List, [], ◌∷◌, ◌++◌, length, take, drop, map, slice_index, if◌then◌else◌, nat_lt, ◌==◌, IsUtf8, codes, ℤ, int_le, true, ⊤}
+use Rattle.std.specs.Prelude.{◌≡◌, ◌≢◌, ◌⊎◌, ℕ, ◌<◌, ◌≤◌, ◌^◌, List, ◌∷◌, ◌++◌, length, take, drop, map, slice_index, if◌then◌else◌, nat_lt, ◌==◌, IsUtf8, codes}
 use Rattle.std.specs.List.{flat_map, AllByRecursion}
 use Rattle.std.specs.Int.{w32, from_le_bytes}
-use Rattle.leaf_model.specs.declared.rows.Row.{Row}
-use Rattle.leaf_model.specs.Values.{IsTime, IsRow}
+use Rattle.leaf_model.specs.Values.{IsTime}
+use Rattle.leaf_model.specs.Names.{AreDistinct}
 use Rattle.row_records.specs.Bytes.{name_bytes, u32_bytes, u64_bytes, i64_bytes, rows_bytes}
+use Rattle.table_state.specs.Tables.{IsHeldRow}
 use Rattle.region_layout.specs.declared.head.Head.{Head}
 use Rattle.region_layout.specs.declared.head.Head.TheVariants.{NoHead, Closed, Version}
 use Rattle.region_layout.specs.declared.image.TableImage.{TableImage}
@@ -34,9 +35,9 @@ table_bytes t = name_bytes t.name ++ (i64_bytes t.horizon ++ u64_bytes t.writes 
 abbrev pub layout_1_bytes : List TableImage → ℕ → List ℕ
 layout_1_bytes tables log_end = head_bytes 1 16 ++ u64_bytes log_end ++ (length tables ∷ flat_map table_bytes tables)
 
--- a row that a table may hold: it is at or after the horizon
-abbrev pub IsHeldRow : ℤ → Row → Type 0
-IsHeldRow horizon row = IsRow row × (int_le horizon row.time ≡ true)
+-- the names of the tables of an image
+abbrev pub image_names : List TableImage → List (List ℕ)
+image_names tables = map (λ (t : TableImage). t.name) tables
 
 -- a name of at most 255 bytes of UTF-8, and at most 2^40 rows, none of them below the horizon
 pub record IsTableImage (t : TableImage) : Type 0 where
@@ -46,11 +47,6 @@ pub record IsTableImage (t : TableImage) : Type 0 where
   pub writes : t.writes < 2 ^ 63
   pub few : length t.rows ≤ 2 ^ 40
   pub each : AllByRecursion (IsHeldRow t.horizon) t.rows
-
--- no name stands twice
-abbrev pub AreDistinct : List (List ℕ) → Type 0
-AreDistinct [] = ⊤
-AreDistinct (name ∷ names) = AllByRecursion (λ other. other ≢ name) names × AreDistinct names
 
 -- at most 16 tables with distinct names, and an end of the log below 2^63
 pub record MayBeImage (tables : List TableImage) (log_end : ℕ) : Type 0 where

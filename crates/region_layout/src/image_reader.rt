@@ -1,17 +1,17 @@
 // Reading an image, field by field from the left: each field is a value and the bytes after it.
 ghost use Rattle.std.specs.Prelude.{◌≡◌, IfOk, IfSome, Some};
-ghost use Rattle.std.specs.Int.{w64};
-ghost use Rattle.std.specs.List.{list_all};
-ghost use Rattle.row_records.specs.Reading.{number_at, byte_at, text_at, name_at, time_at, rows_at};
+ghost use Rattle.std.specs.List.{list_all, list_any};
+ghost use Rattle.leaf_model.specs.Names.{are_distinct};
+ghost use Rattle.row_records.specs.Reading.{ReadsAs};
 ghost use Rattle.region_layout.specs.declared.image.Image.{Image};
-ghost use Rattle.region_layout.specs.Region.{IsImage};
-ghost use Rattle.region_layout.specs.Reading.{Gives, below_2_63_at, head_at, is_kept, held_rows_at, table_at, tables_at, has_other_name, are_distinct, directory_at, image_at};
+ghost use Rattle.region_layout.specs.Images.{is_named};
+ghost use Rattle.region_layout.specs.Region.{IsImage, image_names};
+ghost use Rattle.region_layout.specs.Reading.{below_2_63_at, head_at, is_kept, held_rows_at, table_at, tables_at, directory_at, image_at};
 
-use crate::fault::ReadError;
 use crate::head::LAYOUT;
 use crate::image::{Image, TableImage, TableImages};
-use leaf_model::{Row, TableRows, Text};
-use row_records::read_rows;
+use leaf_model::{Row, TableRows};
+use row_records::{ReadError, name_of, rows_in_front, time_of, u8_at, u64_at};
 use std::alloc::{AllocError, Global};
 
 /// An open flag, the three letters, the version, and the place 16.
@@ -49,80 +49,16 @@ pub fn read_image(alloc: Global, region: &[u8]) -> Result<Option<Image>, AllocEr
     }
 }
 
-fn u8_at(bytes: &[u8]) -> Result<(u8, &[u8]), ReadError>
-    ensures { Gives (λ x. (x.0, x.1.now)) result (byte_at bytes.now) }
-{
-    match bytes {
-        [] => Err(ReadError::Broken),
-        [first, rest @ ..] => Ok((*first, rest)),
-    }
-}
-
-fn u64_at(bytes: &[u8]) -> Result<(u64, &[u8]), ReadError>
-    ensures { Gives (λ x. (x.0, x.1.now)) result (number_at w64 bytes.now) }
-{
-    match bytes.split_first_chunk::<8>() {
-        Some((front, rest)) => Ok((u64::from_le_bytes(*front), rest)),
-        None => Err(ReadError::Broken),
-    }
-}
-
 /// A number below 2^63.
 #[tactic(auto, unfolding(crate::specs::Reading::below_2_63_at))]
 fn below_2_63_of(bytes: &[u8]) -> Result<(u64, &[u8]), ReadError>
-    ensures { Gives (λ x. (x.0, x.1.now)) result (below_2_63_at bytes.now) }
+    ensures { ReadsAs (λ x. (x.0, x.1.now)) result (below_2_63_at bytes.now) }
 {
     let (number, rest) = u64_at(bytes)?;
     if number >= 1 << 63 {
         return Err(ReadError::Broken);
     }
     Ok((number, rest))
-}
-
-#[tactic(auto, unfolding(row_records::specs::Reading::time_at))]
-fn time_of(bytes: &[u8]) -> Result<(i64, &[u8]), ReadError>
-    ensures { Gives (λ x. (x.0, x.1.now)) result (time_at bytes.now) }
-{
-    let (number, rest) = u64_at(bytes)?;
-    if number >= 1 << 63 {
-        return Err(ReadError::Broken);
-    }
-    Ok((number as i64, rest))
-}
-
-#[tactic(auto, unfolding(row_records::specs::Reading::text_at))]
-fn text_of(alloc: Global, len: usize, bytes: &[u8]) -> Result<(Text, &[u8]), ReadError>
-    ensures { Gives (λ x. (x.0, x.1.now)) result (text_at len bytes.now) }
-{
-    if bytes.len() < len {
-        return Err(ReadError::Broken);
-    }
-    let (front, rest) = bytes.split_at(len);
-    match std::str::from_utf8(front) {
-        Ok(text) => Ok((Text::of(String::from_str(alloc, text)?), rest)),
-        Err(_) => Err(ReadError::Broken),
-    }
-}
-
-#[tactic(auto, unfolding(row_records::specs::Reading::name_at))]
-fn name_of(alloc: Global, bytes: &[u8]) -> Result<(Text, &[u8]), ReadError>
-    ensures { Gives (λ x. (x.0, x.1.now)) result (name_at bytes.now) }
-{
-    let (len, rest) = u8_at(bytes)?;
-    text_of(alloc, len as usize, rest)
-}
-
-fn rows_of(alloc: Global, count: u64, bytes: &[u8]) -> Result<(Vec<Row>, &[u8]), ReadError>
-    ensures { Gives (λ x. (x.0.items, x.1.now)) result (rows_at count bytes.now) }
-{
-    match read_rows(alloc, bytes, count) {
-        Ok(Some((rows, taken))) => {
-            let (_, rest) = bytes.split_at(taken);
-            Ok((rows, rest))
-        }
-        Ok(None) => Err(ReadError::Broken),
-        Err(AllocError) => Err(ReadError::Memory),
-    }
 }
 
 /// Whether no row is below the horizon.
@@ -135,13 +71,13 @@ fn are_kept(horizon: i64, rows: &[Row]) -> bool
 /// At most 2^40 rows behind their number, none of them below the horizon.
 #[tactic(auto, unfolding(crate::specs::Reading::held_rows_at))]
 fn held_rows_of(alloc: Global, horizon: i64, bytes: &[u8]) -> Result<(Vec<Row>, &[u8]), ReadError>
-    ensures { Gives (λ x. (x.0.items, x.1.now)) result (held_rows_at horizon bytes.now) }
+    ensures { ReadsAs (λ x. (x.0.items, x.1.now)) result (held_rows_at horizon bytes.now) }
 {
     let (count, rest) = u64_at(bytes)?;
     if count > 1 << 40 {
         return Err(ReadError::Broken);
     }
-    let (rows, rest) = rows_of(alloc, count, rest)?;
+    let (rows, rest) = rows_in_front(alloc, count, rest)?;
     if !are_kept(horizon, &rows) {
         return Err(ReadError::Broken);
     }
@@ -150,7 +86,7 @@ fn held_rows_of(alloc: Global, horizon: i64, bytes: &[u8]) -> Result<(Vec<Row>, 
 
 #[tactic(auto, unfolding(crate::specs::Reading::table_at))]
 fn table_of(alloc: Global, bytes: &[u8]) -> Result<(TableImage, &[u8]), ReadError>
-    ensures { Gives (λ x. (x.0, x.1.now)) result (table_at bytes.now) }
+    ensures { ReadsAs (λ x. (x.0, x.1.now)) result (table_at bytes.now) }
 {
     let (name, rest) = name_of(alloc, bytes)?;
     let (horizon, rest) = time_of(rest)?;
@@ -169,7 +105,7 @@ fn table_of(alloc: Global, bytes: &[u8]) -> Result<(TableImage, &[u8]), ReadErro
 }
 
 fn tables_of(alloc: Global, count: u8, bytes: &[u8]) -> Result<(Vec<TableImage>, &[u8]), ReadError>
-    ensures { Gives (λ x. (x.0.items, x.1.now)) result (tables_at count bytes.now) }
+    ensures { ReadsAs (λ x. (x.0.items, x.1.now)) result (tables_at count bytes.now) }
 {
     let mut tables = Vec::new(alloc);
     let mut rest = bytes;
@@ -181,28 +117,27 @@ fn tables_of(alloc: Global, count: u8, bytes: &[u8]) -> Result<(Vec<TableImage>,
     Ok((tables, rest))
 }
 
-/// Whether no table has this name.
-fn have_other_names(name: &str, tables: &[TableImage]) -> bool
-    ensures { result ≡ list_all (has_other_name name.now) tables.now }
+/// Whether a table has this name.
+fn has_name(tables: &[TableImage], name: &str) -> bool
+    ensures { result ≡ list_any (is_named name.now) tables.now }
 {
-    tables.iter().all(|table| table.name.as_str() != name)
+    tables.iter().any(|table| table.name.as_str() == name)
 }
 
 /// Whether no name stands twice.
-#[tactic(auto, unfolding(crate::specs::Reading::are_distinct))]
 fn are_distinct(tables: &[TableImage]) -> bool
-    ensures { result ≡ are_distinct tables.now }
+    ensures { result ≡ are_distinct (image_names tables.now) }
 {
     match tables {
         [] => true,
-        [first, rest @ ..] => { have_other_names(first.name.as_str(), rest) && are_distinct(rest) }
+        [first, rest @ ..] => !has_name(rest, first.name.as_str()) && are_distinct(rest),
     }
 }
 
 /// At most 16 tables behind their number, with distinct names, to the end of the bytes.
 #[tactic(auto, unfolding(crate::specs::Reading::directory_at))]
 fn directory_of(alloc: Global, bytes: &[u8]) -> Result<Vec<TableImage>, ReadError>
-    ensures { Gives (λ x. x.items) result (directory_at bytes.now) }
+    ensures { ReadsAs (λ x. x.items) result (directory_at bytes.now) }
 {
     let (count, rest) = u8_at(bytes)?;
     if count > 16 {
@@ -218,7 +153,7 @@ fn directory_of(alloc: Global, bytes: &[u8]) -> Result<Vec<TableImage>, ReadErro
 /// What follows an open head of this layout.
 #[tactic(auto, unfolding(crate::specs::Reading::head_at))]
 fn after_head(bytes: &[u8]) -> Result<&[u8], ReadError>
-    ensures { Gives (λ x. x.now) result (head_at bytes.now) }
+    ensures { ReadsAs (λ x. x.now) result (head_at bytes.now) }
 {
     match bytes.strip_prefix(&HEAD) {
         Some(rest) => Ok(rest),
@@ -228,7 +163,7 @@ fn after_head(bytes: &[u8]) -> Result<&[u8], ReadError>
 
 #[tactic(auto, unfolding(crate::specs::Reading::image_at))]
 fn image_of(alloc: Global, bytes: &[u8]) -> Result<Image, ReadError>
-    ensures { Gives (λ x. x) result (image_at bytes.now) }
+    ensures { ReadsAs (λ x. x) result (image_at bytes.now) }
 {
     let rest = after_head(bytes)?;
     let (log_end, rest) = below_2_63_of(rest)?;

@@ -1,7 +1,6 @@
 //! The region of a leaf: its head, and the image of its tables.
 #![tactic(auto)]
 
-mod fault;
 mod head;
 mod image;
 mod image_reader;

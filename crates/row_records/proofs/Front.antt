@@ -28,6 +28,14 @@ rows_size (row ∷ rows) = omega (arith, ap length (flat_map-cons row_bytes row 
 pub too_many : (count : ℕ) (bytes : List ℕ) (rows : List Row) (rest : List ℕ) → length rows ≡ count → bytes ≡ rows_bytes rows ++ rest → length bytes / 10 < count → ⊥
 too_many count bytes rows rest n e lt = omega (arith, n, lt, rows_size rows, ap length e, length-append (rows_bytes rows) rest)
 
+-- so few bytes are not so many rows
+pub too_few : (count : ℕ) (bytes : List ℕ) → IsBytes bytes → length bytes / 10 < count → rows_at count bytes ≡ None
+too_few count bytes fits lt = by (rows_at count bytes) refl
+  where
+    by : (read : Option (List Row × List ℕ)) → rows_at count bytes ≡ read → read ≡ None
+    by None e = refl
+    by (Some x) e = let read = rows_take count bytes x fits e in absurd (too_many count bytes x.0 x.1 read.1 read.0.parts lt)
+
 pub front_parts : (count : ℕ) (bytes : List ℕ) (rows : List Row) (rest : List ℕ) → IsBytes bytes → rows_at count bytes ≡ Some (rows, rest) → bytes ≡ rows_bytes rows ++ rest
 front_parts count bytes rows rest fits e = (rows_take count bytes (rows, rest) fits e).0.parts
 

@@ -6,7 +6,7 @@ use Rattle.leaf_model.specs.declared.rows.Cell.{Cell}
 use Rattle.leaf_model.specs.declared.writes.Write.{Write}
 use Rattle.row_records.specs.declared.fault.ReadError.{ReadError}
 use Rattle.row_records.specs.declared.fault.ReadError.TheVariants as errors
-use Rattle.row_records.specs.Reading.{◌>>=◌, Fails, cell_at, cells_at, row_at, rows_at, write_at, writes_at, last_name}
+use Rattle.row_records.specs.Reading.{◌>>=◌, ReadFails, cell_at, cells_at, row_at, rows_at, write_at, writes_at, last_name}
 
 -- what was read before, and what is still read
 abbrev pub with_front : {A : Type 0} → List A → Option (List A × List ℕ) → Option (List A × List ℕ)
@@ -25,17 +25,17 @@ pub goes_on : {A : Type 0} (front : List A) (n : A) (now after total : Option (L
 goes_on front n now after total one so_far = sym (ap (with_front front) one ∙ regroup front n after) ∙ so_far
 
 -- what is left to read is not there
-pub ends : {A : Type 0} (e : ReadError) (front : List A) (now total : Option (List A × List ℕ)) → Fails e now → with_front front now ≡ total → Fails e total
+pub ends : {A : Type 0} (e : ReadError) (front : List A) (now total : Option (List A × List ℕ)) → ReadFails e now → with_front front now ≡ total → ReadFails e total
 ends errors.Memory front now total h so_far = tt
 ends errors.Broken front now total h so_far = sym so_far ∙ ap (with_front front) h
 
 pub is_done : {A : Type 0} (front : List A) (bytes : List ℕ) (now total : Option (List A × List ℕ)) → now ≡ Some ([], bytes) → with_front front now ≡ total → total ≡ Some (front, bytes)
 is_done {A} front bytes now total h so_far = sym so_far ∙ ap (with_front front) h ∙ ap (λ (ns : List A). Some (ns, bytes)) (append-nil front)
 
-one_more : (count i : ℕ) → i < count → count - i ≡ suc (count - (i + 1))
+pub one_more : (count i : ℕ) → i < count → count - i ≡ suc (count - (i + 1))
 one_more count i lt = omega arith
 
-no_more : (count i : ℕ) → count ≤ i → count - i ≡ 0
+pub no_more : (count i : ℕ) → count ≤ i → count - i ≡ 0
 no_more count i le = omega arith
 
 -- ---- cells
@@ -44,7 +44,7 @@ pub cell_read : (count i : ℕ) (last bytes : List ℕ) (c : Cell) (after : List
 unfolding cells_at
 cell_read count i last bytes c after lt h = rw (one_more count i lt, h) refl
 
-pub cell_fails : (e : ReadError) (count i : ℕ) (last bytes : List ℕ) → i < count → Fails e (cell_at last bytes) → Fails e (cells_at (count - i) last bytes)
+pub cell_fails : (e : ReadError) (count i : ℕ) (last bytes : List ℕ) → i < count → ReadFails e (cell_at last bytes) → ReadFails e (cells_at (count - i) last bytes)
 unfolding cells_at
 cell_fails errors.Memory count i last bytes lt h = tt
 cell_fails errors.Broken count i last bytes lt h = rw (one_more count i lt, h) refl
@@ -64,7 +64,7 @@ pub row_read : (count i : ℕ) (bytes : List ℕ) (row : Row) (after : List ℕ)
 unfolding rows_at
 row_read count i bytes row after lt h = rw (one_more count i lt, h) refl
 
-pub row_fails : (e : ReadError) (count i : ℕ) (bytes : List ℕ) → i < count → Fails e (row_at bytes) → Fails e (rows_at (count - i) bytes)
+pub row_fails : (e : ReadError) (count i : ℕ) (bytes : List ℕ) → i < count → ReadFails e (row_at bytes) → ReadFails e (rows_at (count - i) bytes)
 unfolding rows_at
 row_fails errors.Memory count i bytes lt h = tt
 row_fails errors.Broken count i bytes lt h = rw (one_more count i lt, h) refl
@@ -79,7 +79,7 @@ pub write_read : (count i : ℕ) (bytes : List ℕ) (write : Write) (after : Lis
 unfolding writes_at
 write_read count i bytes write after lt h = rw (one_more count i lt, h) refl
 
-pub write_fails : (e : ReadError) (count i : ℕ) (bytes : List ℕ) → i < count → Fails e (write_at bytes) → Fails e (writes_at (count - i) bytes)
+pub write_fails : (e : ReadError) (count i : ℕ) (bytes : List ℕ) → i < count → ReadFails e (write_at bytes) → ReadFails e (writes_at (count - i) bytes)
 unfolding writes_at
 write_fails errors.Memory count i bytes lt h = tt
 write_fails errors.Broken count i bytes lt h = rw (one_more count i lt, h) refl

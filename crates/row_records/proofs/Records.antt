@@ -24,7 +24,7 @@ use Rattle.leaf_model.specs.declared.writes.Write.TheVariants.{Add, Expire, Keep
 use Rattle.row_records.specs.Bytes.{name_bytes, value_bytes, cell_bytes, row_bytes, rows_bytes, write_bytes, i64_bytes, IsBytes}
 use Rattle.leaf_model.specs.Values.{time_name, IsValue, IsCell, IsRow, IsWrite}
 use Rattle.row_records.specs.Records.{LogRecord, IsRecord, record_body, record_bytes, flush_of}
-use Rattle.row_records.specs.Reading.{◌>>=◌, number_at, text_at, name_at, time_at, value_at, may_follow, cell_at, cells_at, row_at, rows_at, add_at, write_at, writes_at, flush_at, body_of, record_of, Gives}
+use Rattle.row_records.specs.Reading.{◌>>=◌, number_at, text_at, name_at, time_at, value_at, may_follow, cell_at, cells_at, row_at, rows_at, add_at, write_at, writes_at, flush_at, body_of, record_of, ReadsAs}
 use Rattle.row_records.proofs.Fields.{IsBytes-rest, bind_some, passed, held, some_is, Takes, Takes-then, wide16, wide32, wide64, number_takes, number_again, text_takes, text_again, name_takes, name_again, time_takes, time_again, cast_fits, unsigned_below}
 
 -- ---- values
@@ -360,6 +360,6 @@ unfolding record_of
 record_again r is =
     rw (number_again w64 (2 ^ 64) wide64 (length (record_body r)) (record_body r) is.whole, eq-eqb (length (record_body r)) (length (record_body r)) refl) (body_again r is)
 
-pub is_found : (bytes : List ℕ) (r : Result (List ℕ × List Write) ReadError) → IsBytes bytes → Gives flush_of r (record_of bytes) → IfOk r (λ flush. IsRecord (flush_of flush) × (bytes ≡ record_bytes (flush_of flush)))
+pub is_found : (bytes : List ℕ) (r : Result (List ℕ × List Write) ReadError) → IsBytes bytes → ReadsAs flush_of r (record_of bytes) → IfOk r (λ flush. IsRecord (flush_of flush) × (bytes ≡ record_bytes (flush_of flush)))
 is_found bytes (Ok flush) fits given = record_found bytes (flush_of flush) fits given
 is_found bytes (Err e) fits given = tt

@@ -22,14 +22,14 @@ abbrev pub ◌>>=◌ : {A B : Type 0} → Option A → (A → Option B) → Opti
 None >>= f = None
 
 -- A failure is want of memory, or there is nothing to be read.
-abbrev pub Fails : {Y : Type 0} → ReadError → Option Y → Type 0
-Fails errors.Memory read = Unit {0}
-Fails errors.Broken read = read ≡ None
+abbrev pub ReadFails : {Y : Type 0} → ReadError → Option Y → Type 0
+ReadFails errors.Memory read = Unit {0}
+ReadFails errors.Broken read = read ≡ None
 
 -- What a function returned, seen by view, is what reading gives, unless memory ran out.
-abbrev pub Gives : {X Y : Type 0} → (X → Y) → Result X ReadError → Option Y → Type 0
-Gives view (Ok x) read = read ≡ Some (view x)
-Gives view (Err e) read = Fails e read
+abbrev pub ReadsAs : {X Y : Type 0} → (X → Y) → Result X ReadError → Option Y → Type 0
+ReadsAs view (Ok x) read = read ≡ Some (view x)
+ReadsAs view (Err e) read = ReadFails e read
 
 -- a byte
 abbrev pub byte_at : List ℕ → Option (ℕ × List ℕ)

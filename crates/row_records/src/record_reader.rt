@@ -1,7 +1,7 @@
 // Reading a record: the table's name and its writes.
 ghost use Rattle.std.specs.Prelude.{◌≡◌, IfOk, IfSome, Some, option_map};
 ghost use Rattle.row_records.specs.Records.{LogRecord, IsRecord, record_bytes, flush_of};
-ghost use Rattle.row_records.specs.Reading.{Gives, add_at, write_at, writes_at, flush_at, body_of, record_of};
+ghost use Rattle.row_records.specs.Reading.{ReadsAs, add_at, write_at, writes_at, flush_at, body_of, record_of};
 
 use crate::fault::ReadError;
 use crate::row_reader::{name_of, rows_of, time_of, u32_at, u64_at};
@@ -10,7 +10,7 @@ use std::alloc::{AllocError, Global};
 
 #[tactic(auto, unfolding(crate::specs::Reading::add_at))]
 fn add_of(alloc: Global, bytes: &[u8]) -> Result<(Write, &[u8]), ReadError>
-    ensures { Gives (λ x. (x.0, x.1.now)) result (add_at bytes.now) }
+    ensures { ReadsAs (λ x. (x.0, x.1.now)) result (add_at bytes.now) }
 {
     let (count, rest) = u32_at(bytes)?;
     if count > 100_000 {
@@ -23,7 +23,7 @@ fn add_of(alloc: Global, bytes: &[u8]) -> Result<(Write, &[u8]), ReadError>
 
 #[tactic(auto, unfolding(crate::specs::Reading::write_at))]
 fn write_of(alloc: Global, bytes: &[u8]) -> Result<(Write, &[u8]), ReadError>
-    ensures { Gives (λ x. (x.0, x.1.now)) result (write_at bytes.now) }
+    ensures { ReadsAs (λ x. (x.0, x.1.now)) result (write_at bytes.now) }
 {
     match bytes {
         [1, rest @ ..] => add_of(alloc, rest),
@@ -40,7 +40,7 @@ fn write_of(alloc: Global, bytes: &[u8]) -> Result<(Write, &[u8]), ReadError>
 }
 
 fn writes_of(alloc: Global, count: u64, bytes: &[u8]) -> Result<(Vec<Write>, &[u8]), ReadError>
-    ensures { Gives (λ x. (x.0.items, x.1.now)) result (writes_at count bytes.now) }
+    ensures { ReadsAs (λ x. (x.0.items, x.1.now)) result (writes_at count bytes.now) }
 {
     let mut writes = Vec::new(alloc);
     let mut rest = bytes;
@@ -54,7 +54,7 @@ fn writes_of(alloc: Global, count: u64, bytes: &[u8]) -> Result<(Vec<Write>, &[u
 
 #[tactic(auto, unfolding(crate::specs::Reading::flush_at))]
 fn flush_of(alloc: Global, bytes: &[u8]) -> Result<((Text, Writes), &[u8]), ReadError>
-    ensures { Gives (λ x. (flush_of x.0, x.1.now)) result (flush_at bytes.now) }
+    ensures { ReadsAs (λ x. (flush_of x.0, x.1.now)) result (flush_at bytes.now) }
 {
     let (name, rest) = name_of(alloc, bytes)?;
     let (count, rest) = u64_at(rest)?;
@@ -68,7 +68,7 @@ fn flush_of(alloc: Global, bytes: &[u8]) -> Result<((Text, Writes), &[u8]), Read
 
 #[tactic(auto, unfolding(crate::specs::Reading::body_of))]
 fn body_of(alloc: Global, bytes: &[u8]) -> Result<(Text, Writes), ReadError>
-    ensures { Gives flush_of result (body_of bytes.now) }
+    ensures { ReadsAs flush_of result (body_of bytes.now) }
 {
     match bytes {
         [1, rest @ ..] => {
@@ -84,7 +84,7 @@ fn body_of(alloc: Global, bytes: &[u8]) -> Result<(Text, Writes), ReadError>
 
 #[tactic(auto, unfolding(crate::specs::Reading::record_of))]
 fn record_of(alloc: Global, bytes: &[u8]) -> Result<(Text, Writes), ReadError>
-    ensures { Gives flush_of result (record_of bytes.now) }
+    ensures { ReadsAs flush_of result (record_of bytes.now) }
 {
     let (len, rest) = u64_at(bytes)?;
     if len != rest.len() as u64 {

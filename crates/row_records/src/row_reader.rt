@@ -1,11 +1,12 @@
 // Reading rows, field by field from the left: each field is a value and the bytes after it.
-ghost use Rattle.std.specs.Prelude.{◌≡◌, ◌++◌, ◌*◌, ◌<◌, List, ℕ, [], length, IfOk, IfSome, MatchOption, Ok, None};
+ghost use Rattle.std.specs.Prelude.{◌≡◌, ◌++◌, ◌*◌, ◌<◌, List, ℕ, [], length, IfOk, IfSome, MatchOption, Ok, Err, None};
 ghost use Rattle.std.specs.Int.{w16, w32, w64};
 ghost use Rattle.std.specs.List.{AllByRecursion};
 ghost use Rattle.leaf_model.specs.declared.rows.Row.{Row};
 ghost use Rattle.leaf_model.specs.Values.{IsRow};
+ghost use Rattle.row_records.specs.declared.fault.ReadError.TheVariants.{Broken};
 ghost use Rattle.row_records.specs.Bytes.{rows_bytes, StandsInFront};
-ghost use Rattle.row_records.specs.Reading.{Gives, number_at, byte_at, text_at, name_at, time_at, value_at, may_follow, cell_at, cells_at, row_at, rows_at, last_name};
+ghost use Rattle.row_records.specs.Reading.{ReadsAs, number_at, byte_at, text_at, name_at, time_at, value_at, may_follow, cell_at, cells_at, row_at, rows_at, last_name};
 
 use crate::fault::ReadError;
 use leaf_model::{Cell, Cells, Row, Text, Value};
@@ -26,18 +27,31 @@ pub fn read_rows(
     // Each row takes ten bytes at least.
     ensures far { length bytes.now < 10 * count → result ≡ Ok None }
 {
-    if count > bytes.len() as u64 / 10 {
-        return Ok(None);
-    }
-    match rows_of(alloc, count, bytes) {
+    match rows_in_front(alloc, count, bytes) {
         Ok((rows, rest)) => Ok(Some((rows, bytes.len() - rest.len()))),
         Err(ReadError::Broken) => Ok(None),
         Err(ReadError::Memory) => Err(AllocError),
     }
 }
 
-pub(crate) fn u8_at(bytes: &[u8]) -> Result<(u8, &[u8]), ReadError>
-    ensures { Gives (λ x. (x.0, x.1.now)) result (byte_at bytes.now) }
+/// So many rows, and the bytes after them. A count that is too great for the bytes takes no memory.
+pub fn rows_in_front(
+    alloc: Global,
+    count: u64,
+    bytes: &[u8],
+) -> Result<(Vec<Row>, &[u8]), ReadError>
+    ensures given { ReadsAs (λ x. (x.0.items, x.1.now)) result (rows_at count bytes.now) }
+    // Each row takes ten bytes at least.
+    ensures far { length bytes.now < 10 * count → result ≡ Err Broken }
+{
+    if count > bytes.len() as u64 / 10 {
+        return Err(ReadError::Broken);
+    }
+    rows_of(alloc, count, bytes)
+}
+
+pub fn u8_at(bytes: &[u8]) -> Result<(u8, &[u8]), ReadError>
+    ensures { ReadsAs (λ x. (x.0, x.1.now)) result (byte_at bytes.now) }
 {
     match bytes {
         [] => Err(ReadError::Broken),
@@ -46,7 +60,7 @@ pub(crate) fn u8_at(bytes: &[u8]) -> Result<(u8, &[u8]), ReadError>
 }
 
 fn u16_at(bytes: &[u8]) -> Result<(u16, &[u8]), ReadError>
-    ensures { Gives (λ x. (x.0, x.1.now)) result (number_at w16 bytes.now) }
+    ensures { ReadsAs (λ x. (x.0, x.1.now)) result (number_at w16 bytes.now) }
 {
     match bytes.split_first_chunk::<2>() {
         Some((front, rest)) => Ok((u16::from_le_bytes(*front), rest)),
@@ -55,7 +69,7 @@ fn u16_at(bytes: &[u8]) -> Result<(u16, &[u8]), ReadError>
 }
 
 pub(crate) fn u32_at(bytes: &[u8]) -> Result<(u32, &[u8]), ReadError>
-    ensures { Gives (λ x. (x.0, x.1.now)) result (number_at w32 bytes.now) }
+    ensures { ReadsAs (λ x. (x.0, x.1.now)) result (number_at w32 bytes.now) }
 {
     match bytes.split_first_chunk::<4>() {
         Some((front, rest)) => Ok((u32::from_le_bytes(*front), rest)),
@@ -63,8 +77,8 @@ pub(crate) fn u32_at(bytes: &[u8]) -> Result<(u32, &[u8]), ReadError>
     }
 }
 
-pub(crate) fn u64_at(bytes: &[u8]) -> Result<(u64, &[u8]), ReadError>
-    ensures { Gives (λ x. (x.0, x.1.now)) result (number_at w64 bytes.now) }
+pub fn u64_at(bytes: &[u8]) -> Result<(u64, &[u8]), ReadError>
+    ensures { ReadsAs (λ x. (x.0, x.1.now)) result (number_at w64 bytes.now) }
 {
     match bytes.split_first_chunk::<8>() {
         Some((front, rest)) => Ok((u64::from_le_bytes(*front), rest)),
@@ -74,7 +88,7 @@ pub(crate) fn u64_at(bytes: &[u8]) -> Result<(u64, &[u8]), ReadError>
 
 #[tactic(auto, unfolding(crate::specs::Reading::text_at))]
 fn text_of(alloc: Global, len: usize, bytes: &[u8]) -> Result<(Text, &[u8]), ReadError>
-    ensures { Gives (λ x. (x.0, x.1.now)) result (text_at len bytes.now) }
+    ensures { ReadsAs (λ x. (x.0, x.1.now)) result (text_at len bytes.now) }
 {
     if bytes.len() < len {
         return Err(ReadError::Broken);
@@ -87,16 +101,16 @@ fn text_of(alloc: Global, len: usize, bytes: &[u8]) -> Result<(Text, &[u8]), Rea
 }
 
 #[tactic(auto, unfolding(crate::specs::Reading::name_at))]
-pub(crate) fn name_of(alloc: Global, bytes: &[u8]) -> Result<(Text, &[u8]), ReadError>
-    ensures { Gives (λ x. (x.0, x.1.now)) result (name_at bytes.now) }
+pub fn name_of(alloc: Global, bytes: &[u8]) -> Result<(Text, &[u8]), ReadError>
+    ensures { ReadsAs (λ x. (x.0, x.1.now)) result (name_at bytes.now) }
 {
     let (len, rest) = u8_at(bytes)?;
     text_of(alloc, len as usize, rest)
 }
 
 #[tactic(auto, unfolding(crate::specs::Reading::time_at))]
-pub(crate) fn time_of(bytes: &[u8]) -> Result<(i64, &[u8]), ReadError>
-    ensures { Gives (λ x. (x.0, x.1.now)) result (time_at bytes.now) }
+pub fn time_of(bytes: &[u8]) -> Result<(i64, &[u8]), ReadError>
+    ensures { ReadsAs (λ x. (x.0, x.1.now)) result (time_at bytes.now) }
 {
     let (number, rest) = u64_at(bytes)?;
     if number >= 1 << 63 {
@@ -107,7 +121,7 @@ pub(crate) fn time_of(bytes: &[u8]) -> Result<(i64, &[u8]), ReadError>
 
 #[tactic(auto, unfolding(crate::specs::Reading::value_at))]
 fn value_of(alloc: Global, bytes: &[u8]) -> Result<(Value, &[u8]), ReadError>
-    ensures { Gives (λ x. (x.0, x.1.now)) result (value_at bytes.now) }
+    ensures { ReadsAs (λ x. (x.0, x.1.now)) result (value_at bytes.now) }
 {
     match bytes {
         [1, rest @ ..] => {
@@ -133,7 +147,7 @@ fn may_follow(last: &[u8], name: &str) -> bool
 
 #[tactic(auto, unfolding(crate::specs::Reading::cell_at))]
 fn cell_of<'a>(alloc: Global, last: &[u8], bytes: &'a [u8]) -> Result<(Cell, &'a [u8]), ReadError>
-    ensures { Gives (λ x. (x.0, x.1.now)) result (cell_at last.now bytes.now) }
+    ensures { ReadsAs (λ x. (x.0, x.1.now)) result (cell_at last.now bytes.now) }
 {
     let (name, rest) = name_of(alloc, bytes)?;
     if !may_follow(last, name.as_str()) {
@@ -154,7 +168,7 @@ fn last_name(cells: &[Cell]) -> &[u8]
 }
 
 fn cells_of(alloc: Global, count: u16, bytes: &[u8]) -> Result<(Vec<Cell>, &[u8]), ReadError>
-    ensures { Gives (λ x. (x.0.items, x.1.now)) result (cells_at count [] bytes.now) }
+    ensures { ReadsAs (λ x. (x.0.items, x.1.now)) result (cells_at count [] bytes.now) }
 {
     let mut cells = Vec::new(alloc);
     let mut rest = bytes;
@@ -168,7 +182,7 @@ fn cells_of(alloc: Global, count: u16, bytes: &[u8]) -> Result<(Vec<Cell>, &[u8]
 
 #[tactic(auto, unfolding(crate::specs::Reading::row_at))]
 fn row_of(alloc: Global, bytes: &[u8]) -> Result<(Row, &[u8]), ReadError>
-    ensures { Gives (λ x. (x.0, x.1.now)) result (row_at bytes.now) }
+    ensures { ReadsAs (λ x. (x.0, x.1.now)) result (row_at bytes.now) }
 {
     let (time, rest) = time_of(bytes)?;
     let (count, rest) = u16_at(rest)?;
@@ -185,7 +199,7 @@ pub(crate) fn rows_of(
     count: u64,
     bytes: &[u8],
 ) -> Result<(Vec<Row>, &[u8]), ReadError>
-    ensures given { Gives (λ x. (x.0.items, x.1.now)) result (rows_at count bytes.now) }
+    ensures given { ReadsAs (λ x. (x.0.items, x.1.now)) result (rows_at count bytes.now) }
     ensures count { IfOk result (λ x. length x.0.items ≡ count) }
 {
     let mut rows = Vec::new(alloc);

@@ -1,19 +1,16 @@
 -- A text cut at a byte.
 use Rattle.std.proofs.Common.{◌≡◌, ◌<◌, ◌≤◌, ◌+◌, ◌-◌, ℕ, zero, suc, List, [], ◌∷◌, length, take, drop, get_or, refl, ap, sym, arith, Bool, true, false, eqb, add-one, map}
 use Rattle.std.proofs.Math.Seq.{take-length, drop-length}
+use Rattle.std.proofs.lemmas.Bool.{false_from_ne_true}
 use Rattle.std.proofs.lemmas.List.{length-drop, drop-drop}
 use Rattle.script_text.specs.Lines.{pieces, before, behind, lines, lines_of, without_return}
-
-pub is_false : (b : Bool) → (b ≡ true → ⊥) → b ≡ false
-is_false true h = absurd (h refl)
-is_false false h = refl
 
 -- what stands before the first such byte
 before_first : (at : ℕ) (text : List ℕ) (end : ℕ) → end < length text → eqb (get_or text end 0) at ≡ true → ((j : ℕ) → j < end → eqb (get_or text j 0) at ≡ true → ⊥) → before at text ≡ take end text
 before_first at [] end within is none = absurd (omega arith)
 before_first at (b ∷ bs) zero within is none = rw is
 before_first at (b ∷ bs) (suc e) within is none =
-    let here : eqb b at ≡ false = is_false _ (none 0 (omega arith)) in
+    let here : eqb b at ≡ false = false_from_ne_true _ (none 0 (omega arith)) in
     let later = before_first at bs e (omega arith) is (λ j below. none (suc j) (omega arith)) in
     rw (here, later)
 
@@ -21,7 +18,7 @@ behind_first : (at : ℕ) (text : List ℕ) (end : ℕ) → end < length text �
 behind_first at [] end within is none = absurd (omega arith)
 behind_first at (b ∷ bs) zero within is none = rw is
 behind_first at (b ∷ bs) (suc e) within is none =
-    let here : eqb b at ≡ false = is_false _ (none 0 (omega arith)) in
+    let here : eqb b at ≡ false = false_from_ne_true _ (none 0 (omega arith)) in
     let later = behind_first at bs e (omega arith) is (λ j below. none (suc j) (omega arith)) in
     rw (here, later)
 
@@ -39,14 +36,14 @@ behind_found at text end within is none =
 before_all : (at : ℕ) (text : List ℕ) → ((j : ℕ) → j < length text → eqb (get_or text j 0) at ≡ true → ⊥) → before at text ≡ text
 before_all at [] none = refl
 before_all at (b ∷ bs) none =
-    let here : eqb b at ≡ false = is_false _ (none 0 (omega arith)) in
+    let here : eqb b at ≡ false = false_from_ne_true _ (none 0 (omega arith)) in
     let later = before_all at bs (λ j below. none (suc j) (omega arith)) in
     rw (here, later)
 
 behind_all : (at : ℕ) (text : List ℕ) → ((j : ℕ) → j < length text → eqb (get_or text j 0) at ≡ true → ⊥) → behind at text ≡ []
 behind_all at [] none = refl
 behind_all at (b ∷ bs) none =
-    let here : eqb b at ≡ false = is_false _ (none 0 (omega arith)) in
+    let here : eqb b at ≡ false = false_from_ne_true _ (none 0 (omega arith)) in
     let later = behind_all at bs (λ j below. none (suc j) (omega arith)) in
     rw (here, later)
 

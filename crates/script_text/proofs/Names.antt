@@ -2,14 +2,15 @@
 use Rattle.std.proofs.Common.{◌≡◌, ◌<◌, ◌≤◌, ◌&&◌, ℕ, zero, suc, List, [], ◌∷◌, length, refl, ap, sym, ◌∙◌, arith, Bool, true, false, cond, true≢false, subst, Some, None, Result, Ok, Err, ◌^◌, min, ltb, leb}
 use Rattle.std.proofs.lemmas.Bool.Decides.{nat_tests}
 use Rattle.std.proofs.lemmas.Str.{IsUtf8-from_ascii}
-use Rattle.std.specs.Char.{is_ascii_digit}
+use Rattle.std.specs.Char.{is_ascii_digit, is_ascii_lowercase}
 use Rattle.std.specs.List.{list_all}
 use Rattle.std.specs.Str.{IsUtf8, IsAscii, all_ascii_digits}
 use Rattle.std.specs.Str.Parse.{ParsesUnsigned, digits_value}
 use Rattle.std.specs.Result.{OkIff, result_unwrap_or}
 use Rattle.std.specs.Option.{option_map}
 use Rattle.std.proofs.lemmas.Str.Parse.{IsNumeralModel, numerals_by_value, tells_all_ascii_digits, parse_digits}
-use Rattle.script_text.specs.Words.{is_number, number_of, capped, is_letter, is_name_byte, is_table_name}
+use Rattle.leaf_model.specs.Names.{is_table_name, is_name_byte}
+use Rattle.script_text.specs.Words.{is_number, number_of, capped}
 
 -- bytes that pass a test of bytes below 128 are ASCII
 ascii_all : (test : ℕ → Bool) → ((b : ℕ) → test b ≡ true → b < 128) → (word : List ℕ) → list_all test word ≡ true → IsAscii word
@@ -23,7 +24,7 @@ digit_low b is = grind (arith, nat_tests, is)
 name_byte_low : (b : ℕ) → is_name_byte b ≡ true → b < 128
 name_byte_low b is = grind (arith, nat_tests, is)
 
-letter_low : (b : ℕ) → is_letter b ≡ true → b < 128
+letter_low : (b : ℕ) → is_ascii_lowercase b ≡ true → b < 128
 letter_low b is = grind (arith, nat_tests, is)
 
 pub digits_utf8 : (word : List ℕ) → list_all is_ascii_digit word ≡ true → IsUtf8 word

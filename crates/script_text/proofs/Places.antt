@@ -4,7 +4,8 @@ use Rattle.std.proofs.lemmas.Slice.Eq.{bytes_eq-Decides}
 use Rattle.std.specs.List.{list_any, position_from, Contains}
 use Rattle.std.specs.Option.{is_some}
 use Rattle.std.specs.Str.{bytes_eq}
-use Rattle.script_text.specs.Words.{place_of, is_among}
+use Rattle.leaf_model.specs.Names.{is_among}
+use Rattle.script_text.specs.Words.{place_of}
 use Rattle.std.specs.Prelude.{slice_index_or}
 
 some_by : {X : Type 0} (test : X → Bool) (i : ℕ) (x : X) (xs : List X) (is : Bool) → test x ≡ is → is_some (position_from test (i + 1) xs) ≡ list_any test xs → is_some (position_from test i (x ∷ xs)) ≡ list_any test (x ∷ xs)

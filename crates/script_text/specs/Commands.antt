@@ -14,7 +14,8 @@ use Rattle.script_text.specs.declared.fault.Why.{Why}
 use Rattle.script_text.specs.declared.fault.Why.TheVariants as why
 use Rattle.script_text.specs.declared.verb.Verb.{Verb}
 use Rattle.script_text.specs.declared.verb.Verb.TheVariants as verb
-use Rattle.script_text.specs.Words.{words_of, first_word, behind_word, trimmed, number_of, capped, is_table_name, are_tables, place_of}
+use Rattle.leaf_model.specs.Names.{is_table_name}
+use Rattle.script_text.specs.Words.{words_of, first_word, behind_word, trimmed, number_of, capped, are_tables, place_of}
 
 -- a line's number, and its first fault
 abbrev pub Fault : Type 0

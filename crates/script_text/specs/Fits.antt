@@ -1,13 +1,13 @@
 -- What a caller knows of a script that was read.
-use Rattle.std.specs.Prelude.{◌≡◌, ◌<◌, ◌≤◌, ◌≢◌, ℕ, List, [], ◌∷◌, length, true, IsUtf8, IfSome}
+use Rattle.std.specs.Prelude.{◌≡◌, ◌<◌, ◌≤◌, ℕ, List, [], ◌∷◌, length, true, IsUtf8, IfSome}
 use Rattle.std.specs.List.{AllByRecursion, Contains}
 use Rattle.leaf_model.specs.Values.{IsRow}
+use Rattle.leaf_model.specs.Names.{AreDistinct, is_table_name}
 use Rattle.query_text.specs.Grammar.{IsQuery}
 use Rattle.script_text.specs.declared.command.Command.{Command}
 use Rattle.script_text.specs.declared.command.Command.TheVariants.{Fleet, Add, Flush, Drain, Kill, Start}
 use Rattle.script_text.specs.declared.command.Command.TheVariants as command
 use Rattle.script_text.specs.declared.script.Script.{Script}
-use Rattle.script_text.specs.Words.{is_table_name}
 
 -- a table's name, which is UTF-8 of 1 to 64 bytes
 pub record IsTableName (name : List ℕ) : Type 0 where
@@ -15,11 +15,6 @@ pub record IsTableName (name : List ℕ) : Type 0 where
   pub utf8 : IsUtf8 name
   pub some : 0 < length name
   pub short : length name ≤ 64
-
--- no name stands twice
-abbrev pub AreDistinct : List (List ℕ) → Type 0
-AreDistinct [] = Unit {0}
-AreDistinct (name ∷ names) = AllByRecursion (λ other. other ≢ name) names × AreDistinct names
 
 -- 1 to 16 distinct names
 pub record AreTables (tables : List (List ℕ)) : Type 0 where

@@ -1,9 +1,10 @@
 -- The words of a line, and what they may be.
-use Rattle.std.specs.Prelude.{ℕ, ◌-◌, ◌^◌, min, ◌==◌, ◌&&◌, ◌||◌, List, [], ◌∷◌, length, nat_lt, nat_le, Bool, true, false, not, if◌then◌else◌, Option, Some, None}
+use Rattle.std.specs.Prelude.{ℕ, ◌-◌, ◌^◌, min, ◌==◌, ◌&&◌, List, [], ◌∷◌, length, nat_lt, nat_le, Bool, true, not, if◌then◌else◌, Option, Some, None}
 use Rattle.std.specs.Char.{is_ascii_digit}
 use Rattle.std.specs.List.{filter, list_all, list_any, position_from}
 use Rattle.std.specs.Str.{bytes_eq}
 use Rattle.std.specs.Str.Parse.{digits_value}
+use Rattle.leaf_model.specs.Names.{is_table_name, is_among, are_distinct}
 use Rattle.script_text.specs.Lines.{pieces, before, behind, is_blank}
 
 -- the words of a line: its pieces between spaces, but for the empty ones
@@ -40,31 +41,9 @@ number_of word = if is_number word then Some (digits_value 10 word) else None
 abbrev pub capped : ℕ → ℕ
 capped n = min n (2 ^ 64 - 1)
 
--- a letter from a to z
-abbrev pub is_letter : ℕ → Bool
-is_letter b = nat_le 97 b && nat_le b 122
-
--- a to z, 0 to 9 and `_`
-abbrev pub is_name_byte : ℕ → Bool
-is_name_byte b = is_letter b || is_ascii_digit b || (b == 95)
-
--- what may be a table's name: a letter, and up to 63 of a to z, 0 to 9 and `_`
-abbrev pub is_table_name : List ℕ → Bool
-is_table_name [] = false
-is_table_name (b ∷ bs) = is_letter b && list_all is_name_byte bs && nat_le (length bs) 63
-
--- a name is one of the names
-abbrev pub is_among : List (List ℕ) → List ℕ → Bool
-is_among names name = list_any (λ other. bytes_eq other name) names
-
 -- the place of a name among the names, from 0
 abbrev pub place_of : List (List ℕ) → List ℕ → Option ℕ
 place_of names name = position_from (λ other. bytes_eq other name) 0 names
-
--- no name stands twice
-abbrev pub are_distinct : List (List ℕ) → Bool
-are_distinct [] = true
-are_distinct (name ∷ names) = not (is_among names name) && are_distinct names
 
 -- 1 to 16 distinct names of tables
 abbrev pub are_tables : List (List ℕ) → Bool

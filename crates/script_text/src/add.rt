@@ -13,8 +13,8 @@ ghost use Rattle.script_text.specs.Script.{ParsesAs, row_count};
 use crate::command::Command;
 use crate::fault::{ScriptFault, Why, fault_at};
 use crate::lines::{behind_lines, cut_line, without_return};
-use crate::words::{is_table_name, next_word, number_of, place_of};
-use leaf_model::{Names, Row, Rows};
+use crate::words::{next_word, number_of, place_of};
+use leaf_model::{Names, Row, Rows, is_table_name};
 use row_json::RowFault;
 use std::alloc::Global;
 

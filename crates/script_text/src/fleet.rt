@@ -2,15 +2,16 @@
 ghost use Rattle.std.specs.Prelude.{◌≡◌, ◌&&◌, ◌<◌, ◌^◌, length, true, not, Some, None, IfOk, IfSome, option_and_then, if◌then◌else◌};
 ghost use Rattle.std.specs.Str.{IsUtf8};
 ghost use Rattle.script_text.specs.declared.command.Command.TheVariants.{Fleet};
-ghost use Rattle.script_text.specs.Words.{words_of, first_word, is_among, may_follow, are_tables, is_table_name};
+ghost use Rattle.leaf_model.specs.Names.{is_table_name, is_among};
+ghost use Rattle.script_text.specs.Words.{words_of, first_word, may_follow, are_tables};
 ghost use Rattle.script_text.specs.Commands.{first_command, fleet_of, or_words, verb_of};
 ghost use Rattle.script_text.specs.Fits.{AreTables};
 ghost use Rattle.script_text.specs.Script.{ParsesAs};
 
 use crate::fault::{ScriptFault, Why, fault_at};
 use crate::verb::{Verb, verb_of};
-use crate::words::{cut_word, is_table_name, next_word, number_of, place_of};
-use leaf_model::{Names, Text};
+use crate::words::{cut_word, next_word, number_of, place_of};
+use leaf_model::{Names, Text, is_table_name};
 use std::alloc::{AllocError, Global};
 
 /// The most tables of a fleet.

@@ -8,8 +8,8 @@ ghost use Rattle.script_text.specs.Script.{ParsesAs, row_count};
 use crate::add::LEAVES;
 use crate::command::Command;
 use crate::fault::{ScriptFault, Why, fault_at};
-use crate::words::{is_table_name, next_word, number_of, place_of};
-use leaf_model::Names;
+use crate::words::{next_word, number_of, place_of};
+use leaf_model::{Names, is_table_name};
 
 /// The words of a flush. A leaf's number that is greater than a `u64` can hold is the greatest `u64`.
 #[derive(Clone, Copy)]

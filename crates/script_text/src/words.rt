@@ -3,7 +3,7 @@ ghost use Rattle.std.specs.Prelude.{◌≡◌, ◌==◌, slice_index, ◌<◌, �
 ghost use Rattle.std.specs.Char.{is_ascii_digit};
 ghost use Rattle.std.specs.List.{list_all};
 ghost use Rattle.script_text.specs.Lines.{before, behind};
-ghost use Rattle.script_text.specs.Words.{words_of, unindented, first_word, behind_word, trimmed, is_number, number_of, capped, is_letter, is_name_byte, is_table_name, place_of, is_among};
+ghost use Rattle.script_text.specs.Words.{words_of, unindented, first_word, behind_word, trimmed, is_number, number_of, capped, place_of};
 
 use crate::lines::cut_at;
 use leaf_model::Text;
@@ -83,34 +83,6 @@ fn has_digits_alone(word: &[u8]) -> bool
     ensures { result ≡ list_all is_ascii_digit word.now }
 {
     word.iter().all(|byte| byte.is_ascii_digit())
-}
-
-/// Whether a word may be a table's name: a letter from a to z, and then up to 63 of a to z, 0 to 9 and `_`.
-pub fn is_table_name(word: &[u8]) -> bool
-    ensures { result ≡ is_table_name word.now }
-{
-    match word {
-        [first, rest @ ..] => is_letter(*first) && has_name_bytes_alone(rest) && rest.len() <= 63,
-        [] => false,
-    }
-}
-
-fn has_name_bytes_alone(word: &[u8]) -> bool
-    ensures { result ≡ list_all is_name_byte word.now }
-{
-    word.iter().all(|byte| is_name_byte(*byte))
-}
-
-fn is_letter(byte: u8) -> bool
-    ensures { result ≡ is_letter byte }
-{
-    b'a' <= byte && byte <= b'z'
-}
-
-fn is_name_byte(byte: u8) -> bool
-    ensures { result ≡ is_name_byte byte }
-{
-    is_letter(byte) || byte.is_ascii_digit() || byte == b'_'
 }
 
 /// The place of a name among the names.

@@ -5,7 +5,7 @@ use Rattle.std.specs.List.{flat_map, AllByRecursion}
 use Rattle.row_records.specs.Records.{LogRecord}
 use Rattle.berth_face.specs.Berth.{Meaning}
 use Rattle.leaf_history.specs.History.{HistoryState, Entry, LegalFrom, after}
-use Rattle.region_layout.specs.Region.{AreDistinct}
+use Rattle.leaf_model.specs.Names.{AreDistinct}
 use Rattle.script_text.specs.declared.command.Command.{Command}
 use Rattle.script_text.specs.declared.command.Command.TheVariants as command
 use Rattle.leaf_opening.specs.declared.ways.Way.{Way}

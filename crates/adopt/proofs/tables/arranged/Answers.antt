@@ -4,7 +4,8 @@ use Rattle.std.proofs.lemmas.Grind.{common_steps}
 use Rattle.std.proofs.lemmas.List.{drop_more}
 use Rattle.table_state.specs.Tables.{Table}
 use Rattle.region_layout.specs.Images.{tables_of}
-use Rattle.region_layout.specs.Region.{AreDistinct, IsTableImage}
+use Rattle.leaf_model.specs.Names.{AreDistinct}
+use Rattle.region_layout.specs.Region.{IsTableImage}
 use Rattle.region_layout.specs.declared.image.TableImage.{TableImage}
 use Rattle.adopt.specs.Adopting.{without}
 use Rattle.adopt.proofs.Taking.{each_without, one_more}

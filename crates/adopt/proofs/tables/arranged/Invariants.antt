@@ -1,7 +1,8 @@
 use Rattle.std.proofs.Common.{◌≡◌, ◌++◌, drop}
 use Rattle.std.specs.List.{AllByRecursion}
 use Rattle.region_layout.specs.Images.{tables_of}
-use Rattle.region_layout.specs.Region.{AreDistinct, IsTableImage}
+use Rattle.leaf_model.specs.Names.{AreDistinct}
+use Rattle.region_layout.specs.Region.{IsTableImage}
 use Rattle.adopt.proofs.tables.arranged.Given as goal
 
 -- the tables so far, and then those of the names that are left, are all tables

@@ -1,5 +1,5 @@
 use Rattle.answer_text.specs.Answer.{group_cmp}
-use Rattle.answer_text.proofs.KeyOrder.{group_cmp_total}
+use Rattle.answer_text.proofs.GroupOrder.{group_cmp_total}
 use Rattle.answer_text.proofs.Sorting.{same_in_order, sorted_in_order}
 use Rattle.answer_text.proofs.order.order_meaning.Goals as goal
 

@@ -4,7 +4,7 @@ use Rattle.std.proofs.lemmas.Fn.{always_returns_same}
 use Rattle.std.proofs.lemmas.List.Sorted.{ranks_by}
 use Rattle.std.proofs.lemmas.Result.{on_ok_weaker}
 use Rattle.answer_text.specs.Answer.{group_cmp}
-use Rattle.answer_text.proofs.KeyOrder.{group_cmp_total}
+use Rattle.answer_text.proofs.GroupOrder.{group_cmp_total}
 use Rattle.answer_text.proofs.Sorting.{sorted_as}
 use Rattle.answer_text.proofs.order.sort.Goals as goal
 

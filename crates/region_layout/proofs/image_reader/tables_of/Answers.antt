@@ -1,8 +1,8 @@
 use Rattle.std.proofs.Common.{◌+◌, ◌-◌}
 use Rattle.std.proofs.lemmas.Result.{err_from_is_err_and}
-use Rattle.row_records.proofs.Loop.{goes_on, is_done}
+use Rattle.row_records.proofs.Loop.{goes_on, ends, is_done}
 use Rattle.region_layout.specs.Reading.{tables_at}
-use Rattle.region_layout.proofs.Loop.{ends, table_read, table_fails, tables_done}
+use Rattle.region_layout.proofs.Loop.{table_read, table_fails, tables_done}
 use Rattle.region_layout.proofs.image_reader.tables_of.Goals as goal
 
 pub returns-in_err-table : goal.returns-in_err-table

@@ -1,6 +1,6 @@
 use Rattle.std.proofs.Common.{◌≡◌, ◌+◌, [], ◌-◌, ◌∙◌, ap, subst, ℕ, List, Some}
 use Rattle.std.proofs.lemmas.Result.{err_from_is_err_and}
-use Rattle.row_records.specs.Reading.{Fails, cell_at, cells_at, last_name}
+use Rattle.row_records.specs.Reading.{ReadFails, cell_at, cells_at, last_name}
 use Rattle.row_records.proofs.Loop.{goes_on, ends, is_done, cell_read, cell_fails, cells_done, last_of}
 use Rattle.row_records.proofs.row_reader.cells_of.Goals as goal
 
@@ -9,7 +9,7 @@ returns-in_err-cell c =
     let p = err_from_is_err_and c.from_residual.result c.from_residual.ensures.1 in
     let front = c.loop.cells.items in
     let left = cells_at (c.args.count - c.loop.counter) (last_name front) c.loop.rest.now in
-    let fails = cell_fails c.in_err-cell.field-0.0 c.args.count c.loop.counter (last_name front) c.loop.rest.now c.loop-test.true (subst (λ (n : List ℕ). Fails c.in_err-cell.field-0.0 (cell_at n c.loop.rest.now)) (c.last_name.ensures ∙ ap last_name c.deref.ensures.value) c.in_err-cell.ensures) in
+    let fails = cell_fails c.in_err-cell.field-0.0 c.args.count c.loop.counter (last_name front) c.loop.rest.now c.loop-test.true (subst (λ (n : List ℕ). ReadFails c.in_err-cell.field-0.0 (cell_at n c.loop.rest.now)) (c.last_name.ensures ∙ ap last_name c.deref.ensures.value) c.in_err-cell.ensures) in
     rw (p.1, p.2) (ends c.in_err-cell.field-0.0 front left (cells_at c.args.count [] c.args.bytes.now) fails c.loop.invariant)
 
 pub loop-preserved : goal.loop-preserved

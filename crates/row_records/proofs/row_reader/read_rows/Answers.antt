@@ -1,12 +1,9 @@
 use Rattle.std.proofs.Common.{◌-◌, arith, refl, subst, length, ap, length-append}
 use Rattle.row_records.specs.declared.fault.ReadError.{ReadError}
 use Rattle.row_records.specs.Bytes.{rows_bytes}
-use Rattle.row_records.specs.Reading.{Fails, rows_at}
-use Rattle.row_records.proofs.Front.{too_many, front_parts, in_front, same_front, no_front}
+use Rattle.row_records.specs.Reading.{ReadFails, rows_at}
+use Rattle.row_records.proofs.Front.{front_parts, in_front, same_front, no_front}
 use Rattle.row_records.proofs.row_reader.read_rows.Goals as goal
-
-pub returns-then-count-bytes-clause-only : goal.returns-then-count-bytes-clause-only
-returns-then-count-bytes-clause-only c = λ rows rest fits n e. too_many c.args.count c.args.bytes.now rows rest n e c.if-count-bytes.true
 
 pub overflow_sub-result : goal.overflow_sub-result
 overflow_sub-result c =
@@ -23,4 +20,4 @@ returns-in-Ok-clause-only c = λ rows rest fits n e. same_front c.args.count c.a
 
 pub returns-in-Err-Broken-clause-only : goal.returns-in-Err-Broken-clause-only
 returns-in-Err-Broken-clause-only c = λ rows rest fits n e.
-    no_front c.args.count c.args.bytes.now rows rest (subst (λ (w : ReadError). Fails w (rows_at c.args.count c.args.bytes.now)) c.in-Err-Broken.field-0-is c.in-Err-Broken.ensures.given) fits n e
+    no_front c.args.count c.args.bytes.now rows rest (subst (λ (w : ReadError). ReadFails w (rows_at c.args.count c.args.bytes.now)) c.in-Err-Broken.field-0-is c.in-Err-Broken.ensures.given) fits n e
