@@ -3,7 +3,7 @@ ghost use Rattle.std.specs.Prelude.{◌≤◌, ◌<◌, ◌^◌, length};
 ghost use Rattle.std.specs.List.{All};
 
 use bit_columns::{Packed, PresenceBits, pack, pack_bits, width_of};
-use delta_codes::{delta, undo, zigzag};
+use delta_codes::{delta, undo, undo_all, zigzag};
 use std::alloc::{AllocError, Global};
 use std::test::Fail;
 
@@ -86,7 +86,7 @@ fn differences_have_codes(rt: HostRuntime) {
 }
 
 #[test]
-fn values_have_anchors_and_codes(rt: HostRuntime) -> Result<(), Fail> {
+fn values_have_anchors_and_codes_and_are_had_back(rt: HostRuntime) -> Result<(), Fail> {
     let long = [7; 130];
     for (values, anchors, codes) in [
         ([].as_slice(), [].as_slice(), [].as_slice()),
@@ -105,6 +105,9 @@ fn values_have_anchors_and_codes(rt: HostRuntime) -> Result<(), Fail> {
         let deltas = delta(rt.alloc(), values)?;
         assert_eq!(rt; deltas.anchors.as_slice(), anchors);
         assert_eq!(rt; deltas.codes.as_slice(), codes);
+        let mut out = vec![in rt.alloc(); 0; values.len()]?;
+        undo_all(deltas.anchors.as_slice(), deltas.codes.as_slice(), &mut out);
+        assert_eq!(rt; out.as_slice(), values);
     }
     Ok(())
 }
