@@ -35,24 +35,28 @@ fn read(berth: &mut FileBerth, at: u64) -> Result<([u8; 6], [u8; 6]), Failed> {
     Ok((region, disk))
 }
 
+/// Whether region and disk hold so many bytes each, and none from each of these places on.
+fn holds(berth: &mut FileBerth, len: u64, ends: &[u64]) -> bool {
+    let mut nothing = true;
+    for at in ends {
+        nothing = nothing && read(berth, *at) == Ok(([9; 6], [9; 6]));
+    }
+    nothing && look(berth) == Ok((len, len))
+}
+
 #[test]
 fn two_files_of_one_folder_hold_what_was_written(rt: HostRuntime) -> Result<(), Fail> {
     let _ = fs::remove_dir_all(&rt, "berth");
     fs::create_dir(&rt, "berth")?;
     let mut berth = FileBerth::new(rt, "berth", 3)?;
     // No call but a write makes a file.
-    assert!(rt; look(&mut berth) == Ok((0, 0)));
-    assert!(rt; read(&mut berth, 0) == Ok(([9; 6], [9; 6])));
+    assert!(rt; holds(&mut berth, 0, &[0]));
     assert!(rt; !fs::exists(&rt, "berth/leaf-3.region")?);
     assert!(rt; !fs::exists(&rt, "berth/leaf-3.disk")?);
-    assert!(rt; lay(&mut berth).is_ok());
     // A write that comes to 2^63 changes nothing.
-    assert!(rt; berth.disk_write((1 << 63) - 1, &[8]).is_err());
-    assert!(rt; look(&mut berth) == Ok((4, 4)));
+    assert!(rt; lay(&mut berth).is_ok() && berth.disk_write((1 << 63) - 1, &[8]).is_err());
     // A read past the end gives nothing, wherever it begins or would end.
-    for at in [4, (1 << 63) - 3, u64::MAX] {
-        assert!(rt; read(&mut berth, at) == Ok(([9; 6], [9; 6])));
-    }
+    assert!(rt; holds(&mut berth, 4, &[4, (1 << 63) - 3, u64::MAX]));
     // The next berth of the leaf finds the files.
     let mut next = FileBerth::new(rt, "berth", 3)?;
     assert!(rt; read(&mut next, 1) == Ok(([0, 5, 6, 9, 9, 9], [2, 0, 0, 9, 9, 9])));

@@ -1,7 +1,7 @@
 // The berth in memory: its fuse, and the images that its picker offers of a crash.
 use berth_face::Berth;
 use berth_mem::MemBerth;
-use std::alloc::AllocError;
+use std::alloc::{AllocError, Global};
 use std::test::Fail;
 
 // Whether each call on the region fails.
@@ -49,11 +49,17 @@ fn images_with(berth: &MemBerth, moment: u64, disk: &[u8], whole: bool) -> Resul
     Ok(found)
 }
 
+// A berth on one byte of region and one of disk, over which four were written and synced.
+fn written_and_synced(alloc: Global) -> Result<MemBerth, AllocError> {
+    let mut berth = MemBerth::new(vec![in alloc; 9u8]?, vec![in alloc; 0u8]?);
+    let _ = berth.disk_write(0, &[1, 2, 3, 4]);
+    let _ = berth.disk_sync();
+    Ok(berth)
+}
+
 #[test]
 fn a_write_may_be_torn_and_lost_until_a_sync(rt: HostRuntime) -> Result<(), Fail> {
-    let alloc = rt.alloc();
-    let mut berth = MemBerth::new(vec![in alloc; 9u8]?, vec![in alloc; 0u8]?);
-    assert!(rt; berth.disk_write(0, &[1, 2, 3, 4]).is_ok() && berth.disk_sync().is_ok());
+    let berth = written_and_synced(rt.alloc())?;
     assert_eq!(rt; berth.moments(), 5);
     for (moment, disk, count) in [
         (0, [0u8].as_slice(), 2),
@@ -66,23 +72,34 @@ fn a_write_may_be_torn_and_lost_until_a_sync(rt: HostRuntime) -> Result<(), Fail
         (4, &[0], 0),
         (4, &[1, 2, 3, 4], 2),
     ] {
-        assert_eq!(rt; images_with(&berth, moment, disk, true)?, count);
-        assert_eq!(rt; images_with(&berth, moment, disk, false)?, count);
+        let whole = images_with(&berth, moment, disk, true)?;
+        let bare = images_with(&berth, moment, disk, false)?;
+        assert_eq!(rt; (whole, bare), (count, count));
     }
     Ok(())
 }
 
+// A record and then its gate, written to an empty log, with or without a sync between.
+fn record_and_gate(alloc: Global, synced: bool) -> Result<MemBerth, AllocError> {
+    let mut berth = MemBerth::new(Vec::new(alloc), vec![in alloc; 0u8]?);
+    let _ = berth.disk_write(1, &[7]);
+    if synced {
+        let _ = berth.disk_sync();
+    }
+    let _ = berth.disk_write(0, &[1]);
+    Ok(berth)
+}
+
 #[test]
 fn a_missing_sync_shows(rt: HostRuntime) -> Result<(), Fail> {
-    let alloc = rt.alloc();
-    let mut berth = MemBerth::new(Vec::new(alloc), vec![in alloc; 0u8]?);
-    assert!(rt; berth.disk_write(1, &[7]).is_ok() && berth.disk_write(0, &[1]).is_ok());
+    // An open gate before nothing may be left without the sync, and never with it.
+    let berth = record_and_gate(rt.alloc(), false)?;
     assert!(rt; images_with(&berth, 3, &[1], false)? > 0);
-    let mut synced = MemBerth::new(Vec::new(alloc), vec![in alloc; 0u8]?);
-    assert!(rt; synced.disk_write(1, &[7]).is_ok() && synced.disk_sync().is_ok());
-    assert!(rt; synced.disk_write(0, &[1]).is_ok());
+    let berth = record_and_gate(rt.alloc(), true)?;
+    assert_eq!(rt; berth.disk(), [1, 7].as_slice());
+    assert_eq!(rt; berth.moments(), 7);
     for moment in 0..7 {
-        assert_eq!(rt; images_with(&synced, moment, &[1], false)?, 0);
+        assert_eq!(rt; images_with(&berth, moment, &[1], false)?, 0);
     }
     Ok(())
 }

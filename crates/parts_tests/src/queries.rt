@@ -59,8 +59,9 @@ fn is_printed_so(alloc: Global, text: &str, want: &str) -> Result<bool, AllocErr
 fn each_query_has_one_text_that_reads_back(rt: HostRuntime) -> Result<(), Fail> {
     let alloc = rt.alloc();
     for (text, want) in PRINTED {
-        assert!(rt; is_printed_so(alloc, text, want)?, "{text}");
-        assert!(rt; is_printed_so(alloc, want, want)?, "{want}");
+        let once = is_printed_so(alloc, text, want)?;
+        let again = is_printed_so(alloc, want, want)?;
+        assert!(rt; once && again, "{text}");
     }
     Ok(())
 }
@@ -69,13 +70,32 @@ fn each_query_has_one_text_that_reads_back(rt: HostRuntime) -> Result<(), Fail> 
 const ROWS: &[u8] =
     b"\x01\0\0\0\0\0\0\0\x02\0\x04host\x02\x01\0a\x01v\x01\x02\0\0\0\0\0\0\0\x02\0\0\0\0\0\0\0\x01\0\x01v\x01\x03\0\0\0\0\0\0\0\x03\0\0\0\0\0\0\0\x01\0\x04host\x02\x01\0a\x04\0\0\0\0\0\0\0\x02\0\x04host\x02\x01\0B\x01v\x02\x01\0x\x05\0\0\0\0\0\0\0\x02\0\x04host\x01\0\0\0\0\0\0\0\0\x01v\x01\xf9\xff\xff\xff\xff\xff\xff\xff\x06\0\0\0\0\0\0\0\x02\0\x04host\x01\xfb\xff\xff\xff\xff\xff\xff\xff\x01v\x01\x01\0\0\0\0\0\0\0\x07\0\0\0\0\0\0\0\x02\0\x04host\x02\x02\0ab\x01v\x02\x01\0y\x08\0\0\0\0\0\0\0\x02\0\x04host\x01\0\0\0\0\0\0\0\0\x01v\x01\xf7\xff\xff\xff\xff\xff\xff\xff";
 
-// The eight rows, from their bytes.
-fn eight_rows(alloc: Global) -> Result<Rows, AllocError>
+// So many rows, from their bytes.
+fn rows_of(alloc: Global, bytes: &[u8], count: u64) -> Result<Rows, AllocError>
     ensures { IfOk result (λ rows. AllByRecursion IsRow rows) }
 {
-    match read_rows(alloc, ROWS, 8)? {
+    match read_rows(alloc, bytes, count)? {
         Some((rows, _taken)) => Ok(Rows::of(rows)),
         None => Ok(Rows::of(Vec::new(alloc))),
+    }
+}
+
+// Whether the copies of so many rows have the rows' bytes.
+fn are_copied(alloc: Global, bytes: &[u8], count: u64) -> Result<bool, AllocError> {
+    let rows = rows_of(alloc, bytes, count)?.copy()?;
+    let mut out = Vec::new(alloc);
+    put_rows(&mut out, rows.as_slice())?;
+    Ok(out.as_slice() == bytes)
+}
+
+// Whether the copy of a query has the query's text.
+fn is_copied(alloc: Global, text: &str) -> Result<bool, AllocError> {
+    match read(alloc, text)? {
+        Some(query) => {
+            let copy = query.copy()?;
+            Ok(print(alloc, &copy)?.as_str() == text)
+        }
+        None => Ok(false),
     }
 }
 
@@ -84,16 +104,8 @@ const ASKED: &str =
 
 #[test]
 fn copies_are_had(rt: HostRuntime) -> Result<(), Fail> {
-    let alloc = rt.alloc();
-    let rows = eight_rows(alloc)?.copy()?;
-    let mut out = Vec::new(alloc);
-    put_rows(&mut out, rows.as_slice())?;
-    assert_eq!(rt; out.as_slice(), ROWS);
-    let Some(query) = read(alloc, ASKED)? else {
-        panic!(rt; "no query");
-    };
-    let copy = query.copy()?;
-    assert_eq!(rt; print(alloc, &copy)?.as_str(), ASKED);
+    assert!(rt; are_copied(rt.alloc(), ROWS, 8)?);
+    assert!(rt; is_copied(rt.alloc(), ASKED)?);
     Ok(())
 }
 
@@ -104,27 +116,35 @@ fn merged(alloc: Global, query: &Query, xs: &[Row], ys: &[Row]) -> Result<Groups
     merge(alloc, mine, theirs)
 }
 
+const BY_HOST: &str = "SELECT host, SUM(v) FROM t WHERE time >= 0 AND time <= 9 GROUP BY host";
+
 // Keys ascend: missing, integers, texts. The sum takes the integers of each group alone.
-const BY_HOST: &str =
+const GROUPS: &str =
     "[Group { keys: Keys { inner: [Missing] }, count: 1, folds: Folds { inner: [Fold { seen: 1, sum: 3, min: Some(3), max: Some(3) }] } }, Group { keys: Keys { inner: [Int(-5)] }, count: 1, folds: Folds { inner: [Fold { seen: 1, sum: 1, min: Some(1), max: Some(1) }] } }, Group { keys: Keys { inner: [Int(0)] }, count: 2, folds: Folds { inner: [Fold { seen: 2, sum: -16, min: Some(-9), max: Some(-7) }] } }, Group { keys: Keys { inner: [Text(Text { inner: \"B\" })] }, count: 1, folds: Folds { inner: [Fold { seen: 0, sum: 0, min: None, max: None }] } }, Group { keys: Keys { inner: [Text(Text { inner: \"a\" })] }, count: 2, folds: Folds { inner: [Fold { seen: 1, sum: 2, min: Some(2), max: Some(2) }] } }, Group { keys: Keys { inner: [Text(Text { inner: \"ab\" })] }, count: 1, folds: Folds { inner: [Fold { seen: 0, sum: 0, min: None, max: None }] } }]";
+
+// Whether the groups of the rows before a place and of those from it on are, merged, shown so.
+fn are_merged_so(
+    alloc: Global,
+    query: &Query,
+    rows: &[Row],
+    cut: usize,
+    want: &str,
+) -> Result<bool, AllocError> {
+    let (xs, ys) = rows.split_at(cut.min(rows.len()));
+    let groups = merged(alloc, query, xs, ys)?;
+    Ok(format!(in alloc; "{:?}", groups.as_slice())?.as_str() == want)
+}
 
 #[test]
 fn two_tables_are_one(rt: HostRuntime) -> Result<(), Fail> {
     let alloc = rt.alloc();
-    let rows = eight_rows(alloc)?;
-    let Some(query) = read(
-        alloc,
-        "SELECT host, SUM(v) FROM t WHERE time >= 0 AND time <= 9 GROUP BY host",
-    )?
-    else {
+    let rows = rows_of(alloc, ROWS, 8)?;
+    let Some(query) = read(alloc, BY_HOST)? else {
         panic!(rt; "no query");
     };
     for cut in 0..9 {
-        let (xs, ys) = rows.as_slice().split_at(cut.min(rows.as_slice().len()));
-        let groups = merged(alloc, &query, xs, ys)?;
-        assert_eq!(rt;
-            format!(in alloc; "{:?}", groups.as_slice())?.as_str(),
-            BY_HOST,
+        assert!(rt;
+            are_merged_so(alloc, &query, rows.as_slice(), cut, GROUPS)?,
             "cut at {cut}"
         );
     }
