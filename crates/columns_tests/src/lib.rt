@@ -1,0 +1,11 @@
+//! Tests of the public calls of `bit_columns`, `delta_codes` and `column_bytes`.
+#![tactic(auto)]
+
+#[cfg(test)]
+mod codes;
+#[cfg(test)]
+mod encoding;
+#[cfg(test)]
+mod reading;
+#[cfg(test)]
+mod vectors;
