@@ -42,9 +42,12 @@ pub fn played<R: Wait>(
     let mut berths = Vec::new(alloc);
     berths.push(berth)?;
     let status = run_line(rt, alloc, "play", &mut source, &mut sink, &mut berths)?;
-    match (status, berths.pop()) {
-        (Status::Done, Some(left)) => Ok(Some((left, sink))),
-        _ => Ok(None),
+    if !matches!(status, Status::Done) {
+        return Ok(None);
+    }
+    match berths.pop() {
+        Some(left) => Ok(Some((left, sink))),
+        None => Ok(None),
     }
 }
 
