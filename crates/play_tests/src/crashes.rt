@@ -27,7 +27,7 @@ fn writes_opened<R: Wait>(
     berth: MemBerth,
 ) -> Result<Option<u8>, AllocError> {
     match played(rt, alloc, berth, "fleet 1 1 errors\n")? {
-        Some((_left, sink)) => Ok(opened(sink.bytes())),
+        Some((_left, lines)) => Ok(opened(lines.as_bytes())),
         None => Ok(None),
     }
 }
@@ -50,7 +50,7 @@ fn a_crash_at_any_moment_leaves_what_was_flushed(rt: HostRuntime) -> Result<(), 
     let mut ended = 0;
     for (command, least, most) in LIFE {
         script.push_str(command)?;
-        let (berth, _sink) = played(&rt, alloc, empty_berth(alloc), script.as_str())?.expect(
+        let (berth, _lines) = played(&rt, alloc, empty_berth(alloc), script.as_str())?.expect(
             &rt,
             "a play that is done",
         );
@@ -76,7 +76,7 @@ fn a_crash_at_any_moment_leaves_what_was_flushed(rt: HostRuntime) -> Result<(), 
 fn a_drained_leaf_is_adopted_by_the_next_run(rt: HostRuntime) -> Result<(), Fail> {
     let alloc = rt.alloc();
     let script = "fleet 1 1 errors\nadd 0 errors 1\n{\"time\":5}\ndrain 0\n";
-    let (drained, _sink) = played(&rt, alloc, empty_berth(alloc), script)?.expect(
+    let (drained, _lines) = played(&rt, alloc, empty_berth(alloc), script)?.expect(
         &rt,
         "a play that is done",
     );
@@ -97,8 +97,8 @@ fn a_drained_leaf_is_adopted_by_the_next_run(rt: HostRuntime) -> Result<(), Fail
         let region = drained.region().to_vec(alloc)?;
         let disk = drained.disk().to_vec(alloc)?;
         let berth = MemBerth::failing(region, disk, only(alloc, method, 1)?);
-        let (_left, sink) = played(&rt, alloc, berth, script)?.expect(&rt, "a play that is done");
-        assert_eq!(rt; sink.bytes(), want.as_bytes());
+        let (_left, lines) = played(&rt, alloc, berth, script)?.expect(&rt, "a play that is done");
+        assert_eq!(rt; lines.as_str(), want);
     }
 
     // A crash after the drain may lose the region, and then the log has the row.
@@ -110,11 +110,11 @@ fn a_drained_leaf_is_adopted_by_the_next_run(rt: HostRuntime) -> Result<(), Fail
         } else {
             "0 errors #1 opened 1\nstart 0 memory\n"
         };
-        let (_left, sink) = played(&rt, alloc, picked, "fleet 1 1 errors\n")?.expect(
+        let (_left, lines) = played(&rt, alloc, picked, "fleet 1 1 errors\n")?.expect(
             &rt,
             "a play that is done",
         );
-        assert_eq!(rt; sink.bytes(), want.as_bytes(), "image {image}");
+        assert_eq!(rt; lines.as_str(), want, "image {image}");
     }
     Ok(())
 }

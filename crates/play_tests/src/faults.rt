@@ -96,11 +96,11 @@ fn each_failing_call_is_told(rt: HostRuntime) -> Result<(), Fail> {
     ] {
         for (method, count) in calls {
             let berth = failing(alloc, *method, *count)?;
-            let (left, sink) = played(&rt, alloc, berth, script)?.expect(
+            let (left, lines) = played(&rt, alloc, berth, script)?.expect(
                 &rt,
                 "a play that is done",
             );
-            assert_eq!(rt; sink.bytes(), want.as_bytes(), "at {method:?} {count}");
+            assert_eq!(rt; lines.as_str(), want, "at {method:?} {count}");
             assert_eq!(rt; left.disk(), disk, "at {method:?} {count}");
         }
     }
@@ -151,8 +151,8 @@ fn what_the_disk_refused_is_made_good(rt: HostRuntime) -> Result<(), Fail> {
         ),
     ] {
         let berth = failing(alloc, method, count)?;
-        let (_left, sink) = played(&rt, alloc, berth, script)?.expect(&rt, "a play that is done");
-        assert_eq!(rt; sink.bytes(), want.as_bytes(), "at {script}");
+        let (_left, lines) = played(&rt, alloc, berth, script)?.expect(&rt, "a play that is done");
+        assert_eq!(rt; lines.as_str(), want, "at {script}");
     }
     Ok(())
 }

@@ -30,13 +30,13 @@ pub fn run_line<R: Wait, S: Source, K: Sink>(
     ))
 }
 
-/// The berth that a play of the script over this one leaves, and what was written; none where the play is not done.
+/// The berth that a play of the script over this one leaves, and its lines; none where the play is not done.
 pub fn played<R: Wait>(
     rt: &R,
     alloc: Global,
     berth: MemBerth,
     script: &str,
-) -> Result<Option<(MemBerth, MemSink)>, AllocError> {
+) -> Result<Option<(MemBerth, String)>, AllocError> {
     let mut source = MemSource::new(script.as_bytes().to_vec(alloc)?);
     let mut sink = MemSink::new(alloc);
     let mut berths = Vec::new(alloc);
@@ -45,9 +45,9 @@ pub fn played<R: Wait>(
     if !matches!(status, Status::Done) {
         return Ok(None);
     }
-    match berths.pop() {
-        Some(left) => Ok(Some((left, sink))),
-        None => Ok(None),
+    match (berths.pop(), String::from_utf8(sink.bytes().to_vec(alloc)?)) {
+        (Some(left), Ok(lines)) => Ok(Some((left, lines))),
+        _ => Ok(None),
     }
 }
 
