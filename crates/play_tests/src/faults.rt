@@ -2,6 +2,7 @@
 use crate::plays::{only, played};
 use berth_mem::{MemBerth, Method};
 use std::alloc::{AllocError, Global};
+use std::sync::Wait;
 use std::test::*;
 
 /// The log of a flush of one row with the time 1 in the table errors, which is of one accepted write.
@@ -15,10 +16,17 @@ const LOG: [u8; 41] = [
     0, // a gate that is not open
 ];
 
-/// An empty berth of which that call fails.
-fn failing(alloc: Global, method: Method, count: u64) -> Result<MemBerth, AllocError> {
+/// The berth that a play of the script over an empty one leaves of which that call fails, and its lines.
+fn played_failing<R: Wait>(
+    rt: &R,
+    alloc: Global,
+    method: Method,
+    count: u64,
+    script: &str,
+) -> Result<Option<(MemBerth, String)>, AllocError> {
     let fails = only(alloc, method, count)?;
-    Ok(MemBerth::failing(Vec::new(alloc), Vec::new(alloc), fails))
+    let berth = MemBerth::failing(Vec::new(alloc), Vec::new(alloc), fails);
+    played(rt, alloc, berth, script)
 }
 
 #[test]
@@ -95,8 +103,7 @@ fn each_failing_call_is_told(rt: HostRuntime) -> Result<(), Fail> {
         ),
     ] {
         for (method, count) in calls {
-            let berth = failing(alloc, *method, *count)?;
-            let (left, lines) = played(&rt, alloc, berth, script)?.expect(
+            let (left, lines) = played_failing(&rt, alloc, *method, *count, script)?.expect(
                 &rt,
                 "a play that is done",
             );
@@ -150,8 +157,10 @@ fn what_the_disk_refused_is_made_good(rt: HostRuntime) -> Result<(), Fail> {
             "start 0 fault disk\n0 errors #1 opened 0\nstart 0 disk nohead\n",
         ),
     ] {
-        let berth = failing(alloc, method, count)?;
-        let (_left, lines) = played(&rt, alloc, berth, script)?.expect(&rt, "a play that is done");
+        let (_left, lines) = played_failing(&rt, alloc, method, count, script)?.expect(
+            &rt,
+            "a play that is done",
+        );
         assert_eq!(rt; lines.as_str(), want, "at {script}");
     }
     Ok(())
