@@ -1,0 +1,62 @@
+// What the tests share: a run with its words, and a play over one berth.
+use berth_face::{OpenGate, Sink, Source};
+use berth_mem::{Fail, Fails, MemBerth, MemSink, MemSource, Method};
+use play::{Status, run};
+use std::alloc::{AllocError, Global};
+use std::marker::Brand;
+use std::sync::Wait;
+
+/// Runs what the line's words say.
+pub fn run_line<R: Wait, S: Source, K: Sink>(
+    rt: &R,
+    alloc: Global,
+    line: &str,
+    source: &mut S,
+    sink: &mut K,
+    berths: &mut Vec<MemBerth>,
+) -> Result<Status, AllocError> {
+    let mut words = Vec::new(alloc);
+    for word in line.split_whitespace() {
+        words.push(String::from_str(alloc, word)?)?;
+    }
+    Ok(run::<Brand, R, S, K, MemBerth, OpenGate>(
+        rt,
+        alloc,
+        words.as_slice(),
+        source,
+        sink,
+        berths,
+        &OpenGate,
+    ))
+}
+
+/// The berth that a play of the script over this one leaves, and its lines; none where the play is not done.
+pub fn played<R: Wait>(
+    rt: &R,
+    alloc: Global,
+    berth: MemBerth,
+    script: &str,
+) -> Result<Option<(MemBerth, String)>, AllocError> {
+    let mut source = MemSource::new(script.as_bytes().to_vec(alloc)?);
+    let mut sink = MemSink::new(alloc);
+    let mut berths = Vec::new(alloc);
+    berths.push(berth)?;
+    let status = run_line(rt, alloc, "play", &mut source, &mut sink, &mut berths)?;
+    if !matches!(status, Status::Done) {
+        return Ok(None);
+    }
+    match (berths.pop(), String::from_utf8(sink.bytes().to_vec(alloc)?)) {
+        (Some(left), Ok(lines)) => Ok(Some((left, lines))),
+        _ => Ok(None),
+    }
+}
+
+/// An empty berth.
+pub fn empty_berth(alloc: Global) -> MemBerth {
+    MemBerth::new(Vec::new(alloc), Vec::new(alloc))
+}
+
+/// That one call, for a list of the calls that fail.
+pub fn only(alloc: Global, method: Method, count: u64) -> Result<Fails, AllocError> {
+    Ok(Fails::of(vec![in alloc; Fail { method, count }]?))
+}

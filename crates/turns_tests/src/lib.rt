@@ -1,0 +1,5 @@
+//! Tests of a table that its callers and its steward share by turns.
+#![tactic(auto)]
+
+#[cfg(test)]
+mod lives;
