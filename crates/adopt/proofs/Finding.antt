@@ -24,10 +24,6 @@ never_read bytes found none only tables log_end is =
     nothing None e f = absurd cc
     nothing (Some y) e f = absurd cc
 
--- the tables of an image are what is found in its bytes
-pub tables_found : (names : List (List ℕ)) (bytes : List ℕ) (image : Image) (a : Adopted) → IsImage 1 bytes image.tables image.log_end → Arranges names image (Ok a) → IsFound names bytes (Tables a)
-tables_found names bytes image a is arranges = (image.tables, subst (IsImage 1 bytes image.tables) (sym arranges.2) is, arranges.0, arranges.1)
-
 pub tables_adopted : (names : List (List ℕ)) (bytes : List ℕ) (image : Image) (a : Adopted) → IsImage 1 bytes image.tables image.log_end → Arranges names image (Ok a) → AreAdopted (length names) (Tables a)
 tables_adopted names bytes image a is arranges = (
   ap length arranges.1 ∙ tables_size names image.tables,
@@ -40,16 +36,6 @@ pub refused : (names : List (List ℕ)) (bytes : List ℕ) (image : Image) (e : 
 refused names bytes image RegionFault is arranges = tt
 refused names bytes image (Stranger name) is arranges = (image.tables, image.log_end, is, arranges)
 refused names bytes image NoMemory is arranges = tt
-
-pub refused_by_no_region : (names : List (List ℕ)) (image : Image) (e : AdoptFault) → Arranges names image (Err e) → e ≡ RegionFault → ⊥
-refused_by_no_region names image RegionFault arranges same = arranges
-refused_by_no_region names image (Stranger name) arranges same = absurd cc
-refused_by_no_region names image NoMemory arranges same = absurd cc
-
-pub nobody_answers : (names : List (List ℕ)) (region : List ℕ) (e : AdoptFault) → NamesNobody e → AnswersAdoption names region (Err e)
-nobody_answers names region RegionFault nobody = tt
-nobody_answers names region (Stranger name) nobody = absurd nobody
-nobody_answers names region NoMemory nobody = tt
 
 -- after the flag was closed nothing else changes
 pub adopts_on : (names : List (List ℕ)) (region now : List ℕ) (version : ℕ) (result : Result Found AdoptFault) → head_of region ≡ head.Version version → now ≡ closed_flag region

@@ -17,29 +17,6 @@ long_by false opened byte version other e = refl
 pub head_long : (region : List ℕ) (version : ℕ) → head_of region ≡ Version version → 16 ≤ length region
 head_long region version e = ltb-false (length region) 16 (long_by (ltb (length region) 16) (eqb (slice_index region 0) 1) (slice_index region 0) (version_of region) version e)
 
-front_long : (region : List ℕ) → 16 ≤ length region → head_of (take 16 region) ≡ head_of region
-front_long [] long = absurd (omega (arith, long))
-front_long (a ∷ []) long = absurd (omega (arith, long))
-front_long (a ∷ b ∷ []) long = absurd (omega (arith, long))
-front_long (a ∷ b ∷ c ∷ []) long = absurd (omega (arith, long))
-front_long (a ∷ b ∷ c ∷ d ∷ []) long = absurd (omega (arith, long))
-front_long (a ∷ b ∷ c ∷ d ∷ e ∷ []) long = absurd (omega (arith, long))
-front_long (a ∷ b ∷ c ∷ d ∷ e ∷ f ∷ []) long = absurd (omega (arith, long))
-front_long (a ∷ b ∷ c ∷ d ∷ e ∷ f ∷ g ∷ []) long = absurd (omega (arith, long))
-front_long (a ∷ b ∷ c ∷ d ∷ e ∷ f ∷ g ∷ h ∷ rest) long =
-    let whole = a ∷ b ∷ c ∷ d ∷ e ∷ f ∷ g ∷ h ∷ rest in
-    let size = length-take 16 whole in
-    let one : ltb (length (take 16 whole)) 16 ≡ false = le-ltb _ _ (omega (arith, size, long)) in
-    let two : ltb (length whole) 16 ≡ false = le-ltb _ _ long in
-    rw (one, two) refl
-
--- the first 16 bytes say all
-pub front_head : (region : List ℕ) → head_of (take 16 region) ≡ head_of region
-front_head region = elim (cases_lt (length region) 16) [
-  | inl short ↦ ap head_of (take_all 16 region (omega (arith, short)))
-  | inr long ↦ front_long region long
-]
-
 behind : (region : List ℕ) → 16 ≤ length region → drop 16 (closed_flag region) ≡ drop 16 region
 behind [] long = absurd (omega (arith, long))
 behind (x ∷ xs) long = refl

@@ -63,14 +63,6 @@ put_into g [] (suc i) d h = cc
 put_into g (a ∷ gs) zero d h = rw h refl
 put_into g (a ∷ gs) (suc i) d h = ap (λ hs. a ∷ hs) (put_into g gs i d h)
 
--- any other goes in before
-before-all : (g : Group) (gs : List Group) → is_first g.keys gs ≡ false → g ∷ gs ≡ put_first g gs
-before-all g [] h = refl
-before-all g (a ∷ gs) h = rw h refl
-
-pub put_before : (g : Group) (gs : List Group) (i : ℕ) → is_first g.keys (drop i gs) ≡ false → insert gs i g ≡ take i gs ++ put_first g (drop i gs)
-put_before g gs i h = ap (λ hs. take i gs ++ hs) (before-all g (drop i gs) h)
-
 is_equal : (o : Ordering) → is_eq o ≡ true → o ≡ Equal
 is_equal Less h = cc
 is_equal Equal h = refl

@@ -112,6 +112,3 @@ settled_all n q gs hs split = record {
   within_others = tt;
   within = subst (AllByRecursion (IsWithin n)) (sym (joined-nil (joined gs hs))) split.within;
 }
-
-pub no_split : (q : Query) → IsSplit 0 q [] []
-no_split q = record { mine = none_made q; others = none_made q; within_mine = tt; within_others = tt; within = tt }

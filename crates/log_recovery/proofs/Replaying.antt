@@ -29,15 +29,6 @@ pub record Replayed (from : Table) (all rest : List Write) (now : Table) : Type 
 abbrev pub with_both : Table → Contents → ℕ → Table
 with_both t c n = record t { contents = c; writes = n }
 
-pub replayed_none : (t : Table) (all : List Write) → length t.contents.rows ≤ 2 ^ 40 → AllByRecursion IsWrite all → Replayed t all all t
-replayed_none t all few each = record {
-  done = [];
-  is = refl;
-  within = λ k. subst (λ (l : List Write). length (content_from t.contents l).rows ≤ 2 ^ 40) (sym (take_all k [] (omega arith))) few;
-  now_is = let n : t.writes ≡ t.writes + 0 = omega arith in ap (with_both t t.contents) n;
-  each = each;
-}
-
 module _ (from : Table) (all rest : List Write) (w : Write) (mid : Table) (so_far : Replayed from all (w ∷ rest) mid) where
   abbrev pub next_done : List Write
   next_done = so_far.done ++ w ∷ []

@@ -19,19 +19,6 @@ tokens_behind zero at text h = ap (λ k. tokens_from 0 k text) (omega arith)
 tokens_behind (suc n) at [] h = absurd (omega arith)
 tokens_behind (suc n) at (b ∷ text) h = tokens_behind n (at + 1) text (omega arith) ∙ ap (λ k. tokens_from 0 k (drop n text)) (omega arith)
 
-pub behind_byte : (bs : List ℕ) (n b : ℕ) (q : Option Quote) → behind bs n (with_byte b q) ≡ behind (bs ++ (b ∷ [])) (n + 1) q
-behind_byte bs n b None = refl
-behind_byte bs n b (Some q) =
-    let inside = sym (append_assoc bs (b ∷ []) q.inside) in
-    let long : n + (q.long + 1) ≡ (n + 1) + q.long = omega arith in
-    λ i. Some (record { inside = inside i; long = long i })
-
-pub behind_end : (bs : List ℕ) (n : ℕ) (q : Option Quote) → behind bs n (with_end q) ≡ behind bs (n + 1) q
-behind_end bs n None = refl
-behind_end bs n (Some q) =
-    let long : n + (q.long + 1) ≡ (n + 1) + q.long = omega arith in
-    λ i. Some (record { inside = bs ++ q.inside; long = long i })
-
 pub rest_is : (xs : List ℕ) (i : ℕ) → i < length xs → drop i xs ≡ get_or xs i 0 ∷ drop (i + 1) xs
 rest_is xs i h = rw (add-one, drop-cons xs i 0) refl
 
@@ -73,15 +60,6 @@ one_token text i found here solid is short =
     let unfolded : tokens_from 0 i (b ∷ rest) ≡ record { at = i; token = found.token } ∷ tokens_from found.more (i + 1) rest =
     rw (solid, ← is) refl in
     ap (tokens_from 0 i) cut ∙ unfolded ∙ ap (λ ps. record { at = i; token = found.token } ∷ ps) after
-
--- a blank is passed
-pub one_blank : (text : List ℕ) (i : ℕ) → i < length text → is_blank (get_or text i 0) ≡ true
-    → tokens_from 0 i (drop i text) ≡ tokens_from 0 (i + 1) (drop (i + 1) text)
-one_blank text i here blank =
-    let b = get_or text i 0 in
-    let rest = drop (i + 1) text in
-    let unfolded : tokens_from 0 i (b ∷ rest) ≡ tokens_from 0 (i + 1) rest = rw blank refl in
-    ap (tokens_from 0 i) (rest_is text i here) ∙ unfolded
 
 take_all : (xs : List ℕ) → take (length xs) xs ≡ xs
 take_all [] = refl

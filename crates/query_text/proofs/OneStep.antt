@@ -10,7 +10,3 @@ use Rattle.query_text.specs.Reading.{read_from, goes_on, led, fault_of}
 pub goes_further : (end at : ℕ) (q r : Query) (place next : Place) (t : Token) (ps : List Placed) → On r next ≡ goes_on q place t
     → read_from end q place (record { at = at; token = t } ∷ ps) ≡ read_from end r next ps
 goes_further end at q r place next t ps h = ap (λ m. led m (λ r next. read_from end r next ps) (fault_of place at t)) (sym h)
-
-pub gets_stuck : (end at : ℕ) (q : Query) (place : Place) (t : Token) (ps : List Placed) → Stuck ≡ goes_on q place t
-    → read_from end q place (record { at = at; token = t } ∷ ps) ≡ Err (fault_of place at t)
-gets_stuck end at q place t ps h = ap (λ m. led m (λ r next. read_from end r next ps) (fault_of place at t)) (sym h)

@@ -19,13 +19,6 @@ pub joined_more : {X : Type 0} (first : List X) (x : X) (others : Result (List X
 joined_more first x (Ok others) = ap Ok (sym (append_assoc first (x ∷ []) others))
 joined_more first x (Err found) = refl
 
-pub joined_fault : {X : Type 0} (first : List X) (found : Fault) (others : Result (List X) Fault) → joined first (with_first (Err found) others) ≡ Err found
-joined_fault first found others = refl
-
-pub joined_none : {X : Type 0} (others : Result (List X) Fault) → others ≡ joined [] others
-joined_none (Ok others) = refl
-joined_none (Err found) = refl
-
 pub AllByRecursion-more : {X : Type 0} (P : X → Type 0) (xs : List X) (x : X) → AllByRecursion P xs → P x → AllByRecursion P (xs ++ x ∷ [])
 AllByRecursion-more P [] x all is = (is, tt)
 AllByRecursion-more P (y ∷ ys) x all is = (all.0, AllByRecursion-more P ys x all.1 is)
@@ -66,9 +59,6 @@ begun tables commands is = record { later = []; all = is; each = tt }
 
 pub begun_more : (tables : List (List ℕ)) (commands : List Command) (c : Command) (more : List Command) → more ≡ commands ++ c ∷ [] → Begun tables commands → IsCommand tables c → Begun tables more
 begun_more tables commands c more is b fits = record { later = b.later ++ c ∷ []; all = is ∙ ap (λ cs. cs ++ c ∷ []) b.all; each = AllByRecursion-more (IsCommand tables) b.later c b.each fits }
-
-pub begun_fits : (tables : List (List ℕ)) (commands : List Command) → AreTables tables → Begun tables commands → AreCommands commands
-begun_fits tables commands are b = subst AreCommands (sym b.all) (refl, refl, are, b.each)
 
 -- one more command behind a fleet, with the rows that it takes
 pub commands_step : (tables : List (List ℕ)) (n : ℕ) (lines : List (List ℕ)) (line : NumberedLine) (c : Command) → Some line ≡ next_line n lines → command_of line.number (Some tables) line.bytes line.after ≡ Ok c → commands_from 0 n (Some tables) lines ≡ with_first (Ok c) (commands_from 0 (line.number + row_count c + 1) (Some tables) (drop (row_count c) line.after))

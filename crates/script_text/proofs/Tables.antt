@@ -29,12 +29,6 @@ fit names is =
     let high : leb (length names) 16 ≡ true = d.1 in
     record { some = grind (arith, nat_tests, low); few = grind (arith, nat_tests, high); each = b.1; distinct = a.1 }
 
-pub are_tables-from : (names : List (List ℕ)) → 0 < length names → length names ≤ 16 → list_all is_table_name names ≡ true → are_distinct names ≡ true → are_tables names ≡ true
-are_tables-from names some few each distinct =
-    let low : ltb 0 (length names) ≡ true = grind (arith, nat_tests, some) in
-    let high : leb (length names) 16 ≡ true = grind (arith, nat_tests, few) in
-    rw (low, high, each, distinct)
-
 or_true : (b : Bool) → (b || true) ≡ true
 or_true true = refl
 or_true false = refl

@@ -55,11 +55,3 @@ held_expired h now rows held time = record {
   few = let shorter = few_from now rows in omega (arith, shorter, held.few);
   each = each_from now rows (rows_held h rows held.each);
 }
-
--- and a keep
-pub held_last : (h : ℤ) (n : ℕ) (rows : List Row) → IsHeld (record { rows = rows; horizon = h }) → IsHeld (record { rows = last_rows n rows; horizon = h })
-held_last h n rows held = record {
-  horizon = held.horizon;
-  few = let shorter = length-drop (length rows - n) rows in omega (arith, shorter, held.few);
-  each = each-drop (IsHeldRow h) (length rows - n) rows held.each;
-}
