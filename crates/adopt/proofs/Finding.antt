@@ -3,7 +3,7 @@ use Rattle.std.proofs.Common.{◌≡◌, ℕ, List, ◌<◌, ◌^◌, length, Op
 use Rattle.std.specs.List.{AllByRecursion}
 use Rattle.region_layout.specs.declared.head.Head.TheVariants as head
 use Rattle.region_layout.specs.declared.image.Image.{Image}
-use Rattle.region_layout.specs.Region.{IsImage, head_of}
+use Rattle.region_layout.specs.Region.{IsImage, head_of, layout}
 use Rattle.adopt.specs.declared.found.Adopted.{Adopted}
 use Rattle.adopt.specs.declared.found.Found.{Found}
 use Rattle.adopt.specs.declared.found.Found.TheVariants.{Tables}
@@ -15,7 +15,7 @@ use Rattle.adopt.proofs.Heads.{left_open, closed_breaks}
 use Rattle.adopt.proofs.Taking.{each_adopted, tables_size}
 
 -- where nothing was read the bytes are no image
-pub never_read : (bytes : List ℕ) (found : Option Image) → found ≡ None → ((image : Image) → IsImage 1 bytes image.tables image.log_end → found ≡ Some image) → IsNoImage bytes
+pub never_read : (bytes : List ℕ) (found : Option Image) → found ≡ None → ((image : Image) → IsImage layout bytes image.tables image.log_end → found ≡ Some image) → IsNoImage bytes
 never_read bytes found none only tables log_end is =
     let image : Image = record { log_end = log_end; tables = tables } in
     nothing found none (only image is)
@@ -24,7 +24,7 @@ never_read bytes found none only tables log_end is =
     nothing None e f = absurd cc
     nothing (Some y) e f = absurd cc
 
-pub tables_adopted : (names : List (List ℕ)) (bytes : List ℕ) (image : Image) (a : Adopted) → IsImage 1 bytes image.tables image.log_end → Arranges names image (Ok a) → AreAdopted (length names) (Tables a)
+pub tables_adopted : (names : List (List ℕ)) (bytes : List ℕ) (image : Image) (a : Adopted) → IsImage layout bytes image.tables image.log_end → Arranges names image (Ok a) → AreAdopted (length names) (Tables a)
 tables_adopted names bytes image a is arranges = (
   ap length arranges.1 ∙ tables_size names image.tables,
   subst (AllByRecursion (λ t. (t.pending ≡ None) × (t.writes < 2 ^ 63))) (sym arranges.1) (each_adopted names image.tables is.1.fits.each),
@@ -32,7 +32,7 @@ tables_adopted names bytes image a is arranges = (
 )
 
 -- why they were not arranged is why nothing was adopted
-pub refused : (names : List (List ℕ)) (bytes : List ℕ) (image : Image) (e : AdoptFault) → IsImage 1 bytes image.tables image.log_end → Arranges names image (Err e) → AnswersAdoption names bytes (Err e)
+pub refused : (names : List (List ℕ)) (bytes : List ℕ) (image : Image) (e : AdoptFault) → IsImage layout bytes image.tables image.log_end → Arranges names image (Err e) → AnswersAdoption names bytes (Err e)
 refused names bytes image RegionFault is arranges = tt
 refused names bytes image (Stranger name) is arranges = (image.tables, image.log_end, is, arranges)
 refused names bytes image NoMemory is arranges = tt

@@ -6,7 +6,7 @@ use Rattle.berth_face.specs.Berth.{Pair, Meaning}
 use Rattle.region_layout.specs.declared.head.Head.{Head}
 use Rattle.region_layout.specs.declared.head.Head.TheVariants as head
 use Rattle.region_layout.specs.declared.image.TableImage.{TableImage}
-use Rattle.region_layout.specs.Region.{IsClosed, IsImage, head_of}
+use Rattle.region_layout.specs.Region.{IsClosed, IsImage, head_of, layout}
 use Rattle.region_layout.specs.Images.{tables_of}
 use Rattle.adopt.specs.declared.found.WhyDisk.{WhyDisk}
 use Rattle.adopt.specs.declared.found.WhyDisk.TheVariants as why
@@ -39,19 +39,19 @@ left_behind region = after_head (head_of region) region
 
 -- no image of this layout has these bytes
 abbrev pub IsNoImage : List ℕ → Type 0
-IsNoImage region = (images : List TableImage) (log_end : ℕ) → IsImage 1 region images log_end → ⊥
+IsNoImage region = (images : List TableImage) (log_end : ℕ) → IsImage layout region images log_end → ⊥
 
 -- the region is no image, for that reason
 abbrev pub IsWhy : List ℕ → WhyDisk → Type 0
 IsWhy region why.NoHead = head_of region ≡ head.NoHead
 IsWhy region (why.Closed flag) = head_of region ≡ head.Closed flag
-IsWhy region (why.OtherVersion version) = (head_of region ≡ head.Version version) × (version ≢ 1)
-IsWhy region why.NoImage = (head_of region ≡ head.Version 1) × IsNoImage region
+IsWhy region (why.OtherVersion version) = (head_of region ≡ head.Version version) × (version ≢ layout)
+IsWhy region why.NoImage = (head_of region ≡ head.Version layout) × IsNoImage region
 
 -- the tables of these names out of the region's image, none of whose tables has another name; or the region is none
 abbrev pub IsFound : List (List ℕ) → List ℕ → Found → Type 0
 IsFound names region (NoTables w) = IsWhy region w
-IsFound names region (Tables a) = (images : List TableImage) × IsImage 1 region images a.log_end × (stranger_of names images ≡ None) × (a.tables.items ≡ tables_of names images)
+IsFound names region (Tables a) = (images : List TableImage) × IsImage layout region images a.log_end × (stranger_of names images ≡ None) × (a.tables.items ≡ tables_of names images)
 
 -- after a fault of the region: it has its length and its bytes, but for the flag where that was open
 pub record IsBroken (old new : List ℕ) : Type 0 where
@@ -61,7 +61,7 @@ pub record IsBroken (old new : List ℕ) : Type 0 where
 
 -- the image has a table of this name, and the leaf has none; it is the first such
 abbrev pub IsStranger : List (List ℕ) → List ℕ → List ℕ → Type 0
-IsStranger names region name = (images : List TableImage) × (log_end : ℕ) × IsImage 1 region images log_end × (stranger_of names images ≡ Some name)
+IsStranger names region name = (images : List TableImage) × (log_end : ℕ) × IsImage layout region images log_end × (stranger_of names images ≡ Some name)
 
 -- what is found in a region, and what that leaves there
 abbrev pub Adopts : List (List ℕ) → List ℕ → List ℕ → Result Found AdoptFault → Type 0

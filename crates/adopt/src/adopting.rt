@@ -5,7 +5,7 @@ ghost use Rattle.berth_face.specs.Moments.{Throughout};
 ghost use Rattle.berth_face.specs.Causes.{Rose, HasCause};
 ghost use Rattle.region_layout.specs.declared.head.Head.TheVariants.{Version};
 ghost use Rattle.leaf_model.specs.Names.{AreDistinct};
-ghost use Rattle.region_layout.specs.Region.{head_of};
+ghost use Rattle.region_layout.specs.Region.{head_of, layout};
 ghost use Rattle.adopt.specs.declared.found.AdoptFault.TheVariants as fault;
 ghost use Rattle.adopt.specs.Found.{Adopts, AdoptsFrom, AreAdopted, closed_flag};
 ghost use Rattle.adopt.specs.Adopting.{AnswersAdoption, IsOpenRegion};
@@ -89,7 +89,7 @@ fn adopt_image<B: Berth>(
     berth: &mut B,
 ) -> Result<Found, AdoptFault>
     requires distinct { AreDistinct names.now }
-    ensures told { (region : List ℕ) → IsTrue (B.meaning berth.old).tells → (B.meaning berth.old).held.region ≡ closed_flag region → head_of region ≡ Version 1 → front.now ≡ take 16 region → AnswersAdoption names.now region result }
+    ensures told { (region : List ℕ) → IsTrue (B.meaning berth.old).tells → (B.meaning berth.old).held.region ≡ closed_flag region → head_of region ≡ Version layout → front.now ≡ take 16 region → AnswersAdoption names.now region result }
     ensures held { IsTrue (B.meaning berth.old).tells → (B.meaning berth.new).held ≡ (B.meaning berth.old).held }
     ensures disks { IsTrue (B.meaning berth.old).tells → Ended SameDisk (B.meaning berth.old) (B.meaning berth.new) }
     ensures stays { IsTrue (B.meaning berth.old).tells → Stays (B.meaning berth.old) (B.meaning berth.new) }
@@ -105,7 +105,7 @@ fn adopt_image<B: Berth>(
 /// What these bytes, whose flag is open, have of tables.
 fn found_in(alloc: Global, names: &[Text], bytes: &[u8]) -> Result<Found, AdoptFault>
     requires distinct { AreDistinct names.now }
-    ensures answer { head_of bytes.now ≡ Version 1 → AnswersAdoption names.now bytes.now result }
+    ensures answer { head_of bytes.now ≡ Version layout → AnswersAdoption names.now bytes.now result }
     ensures adopted { IfOk result (AreAdopted (length names.now)) }
     ensures no_fault { result ≢ Err fault.RegionFault }
 {

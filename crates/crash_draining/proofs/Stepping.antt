@@ -4,13 +4,12 @@ use Rattle.std.specs.List.{AllByRecursion}
 use Rattle.leaf_model.specs.declared.writes.Write.{Write}
 use Rattle.berth_face.specs.Berth.{Pair, Meaning}
 use Rattle.berth_face.specs.Moments.{EachNow}
-use Rattle.region_layout.specs.Region.{IsClosed}
+use Rattle.region_layout.specs.Region.{IsClosed, reads}
 use Rattle.disk_backup.specs.Settling.{HasLog}
 use Rattle.drain_copy.specs.declared.step.Next.TheVariants as next
 use Rattle.drain_copy.specs.Draining.{DrainState, DrainsFrom, AllClosed}
 use Rattle.crash_moments.specs.Left.{NamedStates, Left}
 use Rattle.crash_moments.specs.Watched.{Watched, IsWatched, AreWatched, Between, tables_then, was_opened}
-use Rattle.crash_moments.specs.Told.{reads_one}
 use Rattle.crash_moments.proofs.Telling.{between_wider, none_more, opened_more, then_now}
 use Rattle.crash_states.specs.Standing.{StandsNow, Copies, Holds}
 use Rattle.crash_states.proofs.Lefts.{copies_left, holds_left}
@@ -46,7 +45,7 @@ just_stands clock p = record { reads = refl; regions = just_each (λ q. (q.regio
 
 module _ (ws : List Watched) (others : NamedStates) (drain : DrainState) (writes : List ℕ → List Write) (a : Meaning) (copies : Copies ws drain writes a) (p : Pair) (log : HasLog writes copies.log_end p.disk) where
   -- a pair with the log and a closed region is of a copy that was not begun
-  closed_left : IsClosed p.region → Left reads_one (tables_then others a.clock ws) p
+  closed_left : IsClosed p.region → Left reads (tables_then others a.clock ws) p
   closed_left closed =
       let begun : DrainState = record { image = drain.image; next = next.Begin } in
       let still : Copies ws begun writes (just a.clock p) = record {
@@ -66,7 +65,7 @@ module _ (ws : List Watched) (others : NamedStates) (drain : DrainState) (writes
       copies_left ws others begun writes (just a.clock p) still p refl
 
   -- and one with the whole image is of a copy that was made
-  whole_left : p.region ≡ drain.image → Left reads_one (tables_then others a.clock ws) p
+  whole_left : p.region ≡ drain.image → Left reads (tables_then others a.clock ws) p
   whole_left whole =
       let made : Holds ws drain.image writes (just a.clock p) = record {
         watched = copies.watched;
@@ -90,11 +89,11 @@ module _ (ws : List Watched) (drain : DrainState) (writes : List ℕ → List Wr
   same_log p came = subst (λ (disk : List ℕ). HasLog writes copies.log_end disk) (sym came.disk) (copies.logs came.from came.was)
 
   -- a pair of any moment belongs to the tables as they stood then
-  pub step_left : (others : NamedStates) (t : ℕ) (p : Pair) → a.clock ≤ t → DrainsFrom drain a p → Left reads_one (tables_then others t ws) p
+  pub step_left : (others : NamedStates) (t : ℕ) (p : Pair) → a.clock ≤ t → DrainsFrom drain a p → Left reads (tables_then others t ws) p
   step_left others t p from came =
-      subst (λ (tables : NamedStates). Left reads_one tables p) (sym (then_now others a.clock t ws from (all_made a.clock ws copies.watched.each))) (by came.region)
+      subst (λ (tables : NamedStates). Left reads tables p) (sym (then_now others a.clock t ws from (all_made a.clock ws copies.watched.each))) (by came.region)
     where
-      by : IsClosed p.region ⊎ ((drain.next ≡ next.Flag) × (p.region ≡ drain.image)) → Left reads_one (tables_then others a.clock ws) p
+      by : IsClosed p.region ⊎ ((drain.next ≡ next.Flag) × (p.region ≡ drain.image)) → Left reads (tables_then others a.clock ws) p
       by (inl closed) = closed_left ws others drain writes a copies p (same_log p came) closed
       by (inr whole) = whole_left ws others drain writes a copies p (same_log p came) whole.1
 

@@ -1,5 +1,6 @@
 -- What calls tell, one after the other, and what stays as it was.
 use Rattle.std.proofs.Common.{◌≡◌, ℕ, zero, suc, ◌<◌, ◌≤◌, Bool, true, false, List, [], ◌∷◌, ◌++◌, Some, refl, sym, ap, subst, ◌∙◌, arith, inl, inr, append_assoc, append-nil}
+use Rattle.region_layout.specs.Region.{reads}
 use Rattle.std.specs.Prelude.{◌||◌, slice_get, bytes_eq, if◌then◌else◌, ⊤}
 use Rattle.std.specs.List.{AllByRecursion, list_any}
 use Rattle.std.proofs.lemmas.Bool.{cases_lt, or_left, or_right}
@@ -9,7 +10,7 @@ use Rattle.berth_face.proofs.Moments.{passes_on}
 use Rattle.leaf_history.specs.History.{HistoryState, Entry, after}
 use Rattle.crash_moments.specs.Left.{NamedStates, Left}
 use Rattle.crash_moments.specs.Watched.{Watched, Between, cut, state_then, is_opening, was_opened, others_then, by_name, tables_then}
-use Rattle.crash_moments.specs.Told.{SeenMore, Told, reads_one}
+use Rattle.crash_moments.specs.Told.{SeenMore, Told}
 use Rattle.crash_moments.proofs.Cuts.{made_by, none_yet, cut_before, cut_later, cut_whole, cut_on}
 
 -- ---- what is cut alike stands alike
@@ -105,7 +106,7 @@ told_join others xs ys zs a b c first second = record {
   more = more_on a.clock b.clock c.clock xs ys zs first.passes.later second.passes.later first.more second.more;
   left = λ t p from to left. elim (cases_lt t b.clock) [
     | inl before ↦
-        subst (λ (tables : NamedStates). Left reads_one tables p) (sym (same_then others t b.clock c.clock ys zs before second.more))
+        subst (λ (tables : NamedStates). Left reads tables p) (sym (same_then others t b.clock c.clock ys zs before second.more))
         (first.left t p from (omega (arith, before)) ((second.passes.past t p (omega (arith, before))).0 left))
     | inr not_before ↦ second.left t p not_before to left
   ];

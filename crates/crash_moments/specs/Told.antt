@@ -1,13 +1,10 @@
 -- What a call of a leaf tells of a crash at any moment of it.
 use Rattle.std.specs.Prelude.{◌≡◌, ℕ, ◌≤◌, ◌==◌, Bool, List, [], ◌∷◌, ◌++◌, ⊤}
+use Rattle.region_layout.specs.Region.{reads}
 use Rattle.berth_face.specs.Berth.{Pair, Meaning, Passes}
 use Rattle.leaf_history.specs.History.{Entry}
 use Rattle.crash_moments.specs.Left.{NamedStates, Left}
 use Rattle.crash_moments.specs.Watched.{Watched, Between, tables_then}
-
--- images of layout 1 are read, and of no other
-abbrev pub reads_one : ℕ → Bool
-reads_one version = version == 1
 
 -- each seat has seen more: what came since has only steward's entries of these moments
 abbrev pub SeenMore : ℕ → ℕ → List Watched → List Watched → Type 0
@@ -20,4 +17,4 @@ SeenMore from to (x ∷ xs) (y ∷ ys) = (y.name ≡ x.name) × (y.base ≡ x.ba
 pub record Told (others : NamedStates) (before now : List Watched) (old new : Meaning) : Type 0 where
   pub passes : Passes old new
   pub more : SeenMore old.clock new.clock before now
-  pub left : (t : ℕ) (p : Pair) → old.clock ≤ t → t ≤ new.clock → new.leaves t p → Left reads_one (tables_then others t now) p
+  pub left : (t : ℕ) (p : Pair) → old.clock ≤ t → t ≤ new.clock → new.leaves t p → Left reads (tables_then others t now) p

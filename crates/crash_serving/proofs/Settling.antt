@@ -5,13 +5,13 @@ use Rattle.leaf_model.specs.declared.writes.Write.{Write}
 use Rattle.row_records.specs.Records.{LogRecord}
 use Rattle.berth_face.specs.Berth.{Pair, Meaning, Passes}
 use Rattle.berth_face.specs.Moments.{EachNow}
-use Rattle.region_layout.specs.Region.{IsClosed}
+use Rattle.region_layout.specs.Region.{IsClosed, reads}
 use Rattle.disk_backup.specs.Logs.{ClosedLog}
 use Rattle.disk_backup.specs.State.{LogState}
 use Rattle.disk_backup.specs.Settling.{Comes, HasLog, HaveLog, HoldsOwing, HoldsLog, KeepsLog, Settled, WithOrWithout, WithOwed, end_with, with_writes}
 use Rattle.crash_moments.specs.Left.{NamedStates, Left, closed}
 use Rattle.crash_moments.specs.Watched.{Watched, AreWatched, Between, IsWatched, now_of, tables_then, was_opened}
-use Rattle.crash_moments.specs.Told.{Told, reads_one}
+use Rattle.crash_moments.specs.Told.{Told}
 use Rattle.crash_moments.proofs.Telling.{between_wider, none_more, opened_more, then_now}
 use Rattle.crash_states.specs.Standing.{IsLogged, IsOwned, Runs, StandsNow}
 use Rattle.crash_states.proofs.States.{with_owed, without_owed}
@@ -31,7 +31,7 @@ both_err (Err y) f p q = f p q
 
 -- each pair with that log, with or without what was owed, belongs to the tables as they stand
 log_left : (ws : List Watched) (owner : ℕ) (log : LogState) (writes : List ℕ → List Write) (m : Meaning) → Runs ws owner log writes m → (others : NamedStates) (p : Pair) → IsClosed p.region
-    → HasLog writes log.end p.disk ⊎ HasLog (with_writes log.owed writes) (end_with log) p.disk → Left reads_one (tables_then others m.clock ws) p
+    → HasLog writes log.end p.disk ⊎ HasLog (with_writes log.owed writes) (end_with log) p.disk → Left reads (tables_then others m.clock ws) p
 log_left ws owner log writes m runs others p shut (inl without) =
     let short = taken_short ws owner log writes m runs in
     left_by (tables_then others m.clock ws) writes p (sound_log writes log.end p.disk without (λ name. short_without log.owed writes name (short name)))
@@ -65,7 +65,7 @@ module _ (ws : List Watched) (owner : ℕ) (log log' : LogState) (writes : List 
     left = λ t p from to left.
         let shut = came_closed (WithOrWithout log) p (settled.moments.each t p from to left) in
         let same : tables_then others t ws ≡ tables_then others a.clock ws = then_now others a.clock t ws from (each_more (IsWatched a.clock) (λ (w : Watched). Between 0 a.clock w.seen) (λ w watched. watched.made) ws runs.watched.each) in
-        subst (λ (tables : NamedStates). Left reads_one tables p) (sym same) (log_left ws owner log writes a runs others p shut (keeps.moments.each t p from to left));
+        subst (λ (tables : NamedStates). Left reads tables p) (sym same) (log_left ws owner log writes a runs others p shut (keeps.moments.each t p from to left));
   }
 
   module _ (stands : StandsNow b) where

@@ -12,7 +12,7 @@ use Rattle.region_layout.specs.declared.image.Image.{Image}
 use Rattle.region_layout.specs.declared.image.TableImage.{TableImage}
 use Rattle.region_layout.specs.Images.{table_of, table_named}
 use Rattle.region_layout.specs.Images as image
-use Rattle.region_layout.specs.Region.{IsClosed, IsImage}
+use Rattle.region_layout.specs.Region.{IsClosed, IsImage, layout}
 use Rattle.region_layout.proofs.Heads.{image_head}
 use Rattle.region_layout.proofs.Images.{one_image}
 use Rattle.adopt.specs.declared.found.WhyDisk.{WhyDisk}
@@ -70,7 +70,7 @@ may_have_all least most s kept = record {
 same_version : (u v : ℕ) → Version u ≡ Version v → u ≡ v
 same_version u v same = cc
 
-whole_image : (tables : NamedStates) (m : Meaning) (images : List TableImage) (log_end : ℕ) → IsImage 1 m.held.region images log_end → RegionRests tables m → IsWhole tables images log_end m
+whole_image : (tables : NamedStates) (m : Meaning) (images : List TableImage) (log_end : ℕ) → IsImage layout m.held.region images log_end → RegionRests tables m → IsWhole tables images log_end m
 whole_image tables m images log_end is (is_closed closed) = absurd (closed_no_image m.held.region closed images log_end is)
 whole_image tables m images log_end is (is_other version head other) = absurd (other (same_version version 1 (sym head ∙ image_head m.held.region images 1 log_end is)))
 whole_image tables m images log_end is (is_image those those_end is_those whole) =
@@ -117,7 +117,7 @@ module _ (ws : List Watched) (others : NamedStates) (least : List ℕ → List W
       let had = whole.logs came.0 came.1 in
       (had.0, subst (λ (d : List ℕ). ClosedLog had.0 log_end d) (sym came.2) had.1, had.2)
 
-  found_in_image : (log : LogState) (opened : List Table) (images : List TableImage) (log_end : ℕ) → IsImage 1 a.held.region images log_end → stranger_of (names_of ws) images ≡ None
+  found_in_image : (log : LogState) (opened : List Table) (images : List TableImage) (log_end : ℕ) → IsImage layout a.held.region images log_end → stranger_of (names_of ws) images ≡ None
       → opened ≡ image.tables_of (names_of ws) images → log ≡ log_at log_end → Ended SameDisk a b → (writes : List ℕ → List Write) × Finds ws log opened writes b
   found_in_image log opened images log_end is known are log_is disks =
       let writes : List ℕ → List Write = λ name. (tables name).writes in

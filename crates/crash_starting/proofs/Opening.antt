@@ -8,7 +8,7 @@ use Rattle.row_records.specs.Records.{LogRecord}
 use Rattle.berth_face.specs.Berth.{Pair, Meaning, Ended, SameDisk}
 use Rattle.berth_face.specs.Moments.{EachNow}
 use Rattle.berth_face.proofs.Moments.{now_of}
-use Rattle.region_layout.specs.Region.{IsClosed, IsImage, head_of}
+use Rattle.region_layout.specs.Region.{IsClosed, IsImage, head_of, layout}
 use Rattle.disk_backup.specs.Scanning.{FirstByte, BeginsScan}
 use Rattle.disk_backup.specs.Settling.{HasLog, with_writes}
 use Rattle.leaf_opening.specs.declared.opening.Opened.{Opened}
@@ -48,7 +48,7 @@ region_stays : (tables : NamedStates) (a b : Meaning) → b.held.region ≡ a.he
 region_stays tables a b same disks (is_closed closed) = is_closed (subst IsClosed (sym same) closed)
 region_stays tables a b same disks (is_other version head other) = is_other version (ap head_of same ∙ head) other
 region_stays tables a b same disks (is_image images log_end is whole) =
-    is_image images log_end (subst (λ (r : List ℕ). IsImage 1 r images log_end) (sym same) is) (record {
+    is_image images log_end (subst (λ (r : List ℕ). IsImage layout r images log_end) (sym same) is) (record {
       same = whole.same;
       logs = λ p left.
           let came = disks p left in

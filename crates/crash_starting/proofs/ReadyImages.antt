@@ -13,7 +13,7 @@ use Rattle.leaf_history.specs.History.{HistoryState}
 use Rattle.berth_face.specs.Berth.{Pair, Meaning}
 use Rattle.region_layout.specs.declared.image.TableImage.{TableImage}
 use Rattle.region_layout.specs.Images.{empty_image, is_named, table_named}
-use Rattle.region_layout.specs.Region.{IsImage}
+use Rattle.region_layout.specs.Region.{IsImage, reads}
 use Rattle.row_records.specs.Records.{LogRecord}
 use Rattle.disk_backup.specs.Logs.{IsLog, ClosedLog}
 use Rattle.disk_backup.specs.Settling.{HasLog}
@@ -21,7 +21,6 @@ use Rattle.disk_backup.proofs.Logs.{one_log, log_is_closed}
 use Rattle.region_layout.specs.ImageWrites.{IsImageOf}
 use Rattle.crash_moments.specs.Left.{NamedStates, Left, ImageOf, HasShutGate, RegionLeft, closed, other_version, image}
 use Rattle.crash_moments.specs.Base.{EndsAt, PairsMayBegin}
-use Rattle.crash_moments.specs.Told.{reads_one}
 use Rattle.crash_states.specs.Standing.{RegionRests, is_closed, is_other, is_image, IsWhole}
 
 -- ---- the table of a name in an image
@@ -89,19 +88,19 @@ log_whole reads base p end l flushed ((others, log), gate) =
 -- ---- the region as it reads
 
 -- the image has all of the tables, and so has each log
-whole : (base tables : NamedStates) (m : Meaning) (version : ℕ) (images : List TableImage) (end : ℕ) → PairsMayBegin reads_one (m.leaves m.clock) m.held base → ((name : List ℕ) → tables name ≡ base name)
-    → reads_one version ≡ true → IsImage version m.held.region images end → ImageOf base images → IsWhole tables images end m
+whole : (base tables : NamedStates) (m : Meaning) (version : ℕ) (images : List TableImage) (end : ℕ) → PairsMayBegin reads (m.leaves m.clock) m.held base → ((name : List ℕ) → tables name ≡ base name)
+    → reads version ≡ true → IsImage version m.held.region images end → ImageOf base images → IsWhole tables images end m
 whole base tables m version images end begins same reads is of =
     let all = begins.image version images end reads is in
     record {
       same = λ name. subst (λ (s : HistoryState). IsImageOf s.writes (table_named images name)) (sym (same name)) (named_one base images name (of.all name) of.each);
       logs = λ p left.
-          let has : HasLog (λ name. (base name).writes) end p.disk = log_whole reads_one base p end (begins.left p left) all.0 (all.1 p left) in
+          let has : HasLog (λ name. (base name).writes) end p.disk = log_whole reads base p end (begins.left p left) all.0 (all.1 p left) in
           (has.0, has.1, λ name. has.2 name ∙ sym (ap (λ (s : HistoryState). s.writes) (same name)));
     }
 
-pub region_is : (base tables : NamedStates) (m : Meaning) (records : List LogRecord) (end : ℕ) → PairsMayBegin reads_one (m.leaves m.clock) m.held base → ((name : List ℕ) → tables name ≡ base name)
-    → RegionLeft reads_one base m.held records end → RegionRests tables m
+pub region_is : (base tables : NamedStates) (m : Meaning) (records : List LogRecord) (end : ℕ) → PairsMayBegin reads (m.leaves m.clock) m.held base → ((name : List ℕ) → tables name ≡ base name)
+    → RegionLeft reads base m.held records end → RegionRests tables m
 region_is base tables m records end begins same (closed shut) = is_closed shut
 region_is base tables m records end begins same (other_version version head not) = is_other version head (eqb-false version 1 not)
 region_is base tables m records end begins same (image version images reads is of all gate) = is_image images end (refl, is.1) (whole base tables m version images end begins same reads is of)

@@ -1,5 +1,6 @@
 -- Laws of a leaf that starts, as statements.
 use Rattle.std.specs.Prelude.{◌≡◌, ℕ, ◌<◌, List, [], length, slice_get, map, Option, Some, Result}
+use Rattle.region_layout.specs.Region.{reads}
 use Rattle.leaf_model.specs.declared.writes.Write.{Write}
 use Rattle.leaf_model.specs.Content.{content}
 use Rattle.row_records.specs.Records.{LogRecord}
@@ -15,7 +16,7 @@ use Rattle.leaf_opening.specs.Starts.{OpensFrom, KeepsDisks}
 use Rattle.crash_moments.specs.Left.{NamedStates}
 use Rattle.crash_moments.specs.Base.{IsReady}
 use Rattle.crash_moments.specs.Watched.{Watched, AreApart, now_of}
-use Rattle.crash_moments.specs.Told.{SeenMore, reads_one}
+use Rattle.crash_moments.specs.Told.{SeenMore}
 use Rattle.crash_states.specs.Standing.{Runs, Rests, StandsToOpen, StandsNow}
 use Rattle.crash_states.specs.Entries.{OpensAll}
 
@@ -53,7 +54,7 @@ pub record AreUnseen (base : NamedStates) (ws : List Watched) : Type 0 where
 
 -- over a berth that is ready a leaf rests with its base
 abbrev pub ReadyRests : Meaning → Type 0
-ReadyRests m = (base : NamedStates) (ws : List Watched) → IsReady reads_one m base → AreUnseen base ws → (least : List ℕ → List Write) × (next : Option LogRecord) × Rests ws base least next m
+ReadyRests m = (base : NamedStates) (ws : List Watched) → IsReady reads m base → AreUnseen base ws → (least : List ℕ → List Write) × (next : Option LogRecord) × Rests ws base least next m
 
 -- what is found may be opened, each table with the writes that its logs have, and opened it runs
 pub record FoundRuns (m : Meaning) : Type 0 where

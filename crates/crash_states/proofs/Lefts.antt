@@ -9,7 +9,7 @@ use Rattle.berth_face.specs.Berth.{Pair, Meaning}
 use Rattle.berth_face.specs.Moments.{EachNow}
 use Rattle.berth_face.proofs.Moments.{passes_none}
 use Rattle.region_layout.specs.declared.image.TableImage.{TableImage}
-use Rattle.region_layout.specs.Region.{IsClosed, IsImage, head_of}
+use Rattle.region_layout.specs.Region.{IsClosed, IsImage, head_of, reads, layout}
 use Rattle.disk_backup.specs.State.{LogState}
 use Rattle.disk_backup.specs.Settling.{HasLog, with_writes}
 use Rattle.drain_copy.specs.Draining.{DrainState}
@@ -19,7 +19,7 @@ use Rattle.disk_backup.specs.SoundLogs.{HasSoundLog, IsShort}
 use Rattle.disk_backup.proofs.SoundLogs.{none_short, no_writes}
 use Rattle.crash_moments.specs.Left.{NamedStates, Left, RegionLeft, closed, other_version}
 use Rattle.crash_moments.specs.Watched.{Watched, IsWatched, AreWatched, is_watched, now_of, state_then, tables_then, was_opened}
-use Rattle.crash_moments.specs.Told.{SeenMore, Told, reads_one}
+use Rattle.crash_moments.specs.Told.{SeenMore, Told}
 use Rattle.crash_moments.proofs.Histories.{cut_keeps}
 use Rattle.crash_states.specs.Standing.{IsLogged, Runs, IsKept, RegionRests, is_closed, is_other, is_image, Rests, IsTreated, Copies, Holds, tables_of}
 use Rattle.crash_states.specs.Laws.{IsLeftNow}
@@ -94,18 +94,18 @@ module _ (ws : List Watched) (others : NamedStates) (least : List ℕ → List W
       (kept_least (least name) most (tables_then others m.clock ws name) kept, kept_most (least name) most (tables_then others m.clock ws name) kept (with_owed next least name).no_less)
 
   -- what may be left of a region that rests
-  pub rests_region : (held : List ℕ → List Write) (p : Pair) (log : HasSoundLog held p.disk) → m.leaves m.clock p → RegionLeft reads_one (tables_then others m.clock ws) p log.records log.log_end
+  pub rests_region : (held : List ℕ → List Write) (p : Pair) (log : HasSoundLog held p.disk) → m.leaves m.clock p → RegionLeft reads (tables_then others m.clock ws) p log.records log.log_end
   rests_region held p log left = elim (rests.stands.regions p left) [
     | inl same ↦ as_it_reads same rests.region
     | inr none ↦ lost_left (tables_then others m.clock ws) p log.records log.log_end none
   ]
     where
-      as_it_reads : p.region ≡ m.held.region → RegionRests (tables_of others ws m) m → RegionLeft reads_one (tables_then others m.clock ws) p log.records log.log_end
+      as_it_reads : p.region ≡ m.held.region → RegionRests (tables_of others ws m) m → RegionLeft reads (tables_then others m.clock ws) p log.records log.log_end
       as_it_reads same (is_closed shut) = closed (subst IsClosed (sym same) shut)
       as_it_reads same (is_other version head not_one) = other_version version (ap (λ (l : List ℕ). head_of l) same ∙ head) (ne_eqb version 1 not_one)
       as_it_reads same (is_image images log_end is whole) =
           image_left (tables_then others m.clock ws) (λ name. (tables_of others ws m name).writes) held p log images log_end (λ name. ap (λ (s : HistoryState). s.writes) (rests_then name))
-          (subst (λ (l : List ℕ). IsImage 1 l images log_end) (sym same) is) whole.same (whole.logs p left)
+          (subst (λ (l : List ℕ). IsImage layout l images log_end) (sym same) is) whole.same (whole.logs p left)
 
 pub rests_left : (ws : List Watched) (others : NamedStates) (least : List ℕ → List Write) (next : Option LogRecord) (m : Meaning) → Rests ws others least next m → IsLeftNow ws others m
 rests_left ws others least next m rests p left =
@@ -152,12 +152,12 @@ module _ (ws : List Watched) (writes : List ℕ → List Write) (m : Meaning) (a
       by (inr foreign) = subst IsShort (sym (are.others name foreign.unwatched)) none_short
 
   -- a pair belongs to them whose region is closed, or an image with their writes
-  pub treated_closed : (others : NamedStates) (p : Pair) (log_end : ℕ) → HasLog writes log_end p.disk → IsClosed p.region → Left reads_one (tables_then others m.clock ws) p
+  pub treated_closed : (others : NamedStates) (p : Pair) (log_end : ℕ) → HasLog writes log_end p.disk → IsClosed p.region → Left reads (tables_then others m.clock ws) p
   treated_closed others p log_end had shut =
       left_by (tables_then others m.clock ws) writes p (sound_log writes log_end p.disk had treated_short) (λ name. treated_front (writes name) (tables_then others m.clock ws name) (treated_then others name)) (closed shut)
 
-  pub treated_image : (others : NamedStates) (p : Pair) (images : List TableImage) (log_end : ℕ) → HasLog writes log_end p.disk → IsImage 1 p.region images log_end → AreImagesOf writes images
-      → Left reads_one (tables_then others m.clock ws) p
+  pub treated_image : (others : NamedStates) (p : Pair) (images : List TableImage) (log_end : ℕ) → HasLog writes log_end p.disk → IsImage layout p.region images log_end → AreImagesOf writes images
+      → Left reads (tables_then others m.clock ws) p
   treated_image others p images log_end had is same =
       let log : HasSoundLog writes p.disk = sound_log writes log_end p.disk had treated_short in
       left_by (tables_then others m.clock ws) writes p log (λ name. treated_front (writes name) (tables_then others m.clock ws name) (treated_then others name))
@@ -177,7 +177,7 @@ holds_left ws others image writes m holds p left =
     let treated : AreTreated ws writes m = holds_treated ws image writes m holds in
     let had : HasLog writes holds.log_end p.disk = holds.logs p left in
     elim (holds.stands.regions p left) [
-      | inl same ↦ treated_image ws writes m treated others p holds.images holds.log_end had (subst (λ (l : List ℕ). IsImage 1 l holds.images holds.log_end) (sym (same ∙ holds.region)) holds.is) holds.same
+      | inl same ↦ treated_image ws writes m treated others p holds.images holds.log_end had (subst (λ (l : List ℕ). IsImage layout l holds.images holds.log_end) (sym (same ∙ holds.region)) holds.is) holds.same
       | inr none ↦ treated_closed ws writes m treated others p holds.log_end had (lost_closed p none)
     ]
 
@@ -190,7 +190,7 @@ told_now ws ws' others m now more = record {
   more = more;
   left = λ t p from to left.
       let here : t ≡ m.clock = omega (arith, from, to) in
-      subst (λ (u : ℕ). Left reads_one (tables_then others u ws') p) (sym here) (now p (subst (λ (u : ℕ). m.leaves u p) here left));
+      subst (λ (u : ℕ). Left reads (tables_then others u ws') p) (sym here) (now p (subst (λ (u : ℕ). m.leaves u p) here left));
 }
 
 -- entries were made while no call on the berth went on

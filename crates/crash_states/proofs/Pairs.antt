@@ -4,19 +4,18 @@ use Rattle.leaf_model.specs.declared.writes.Write.{Write}
 use Rattle.row_records.specs.Records.{LogRecord}
 use Rattle.berth_face.specs.Berth.{Pair}
 use Rattle.region_layout.specs.declared.image.TableImage.{TableImage}
-use Rattle.region_layout.specs.Region.{IsClosed, IsImage}
+use Rattle.region_layout.specs.Region.{IsClosed, IsImage, reads, layout}
 use Rattle.disk_backup.specs.Logs.{writes_of}
 use Rattle.disk_backup.specs.Settling.{HasLog}
 use Rattle.region_layout.specs.ImageWrites.{AreImagesOf}
 use Rattle.disk_backup.specs.SoundLogs.{HasSoundLog}
 use Rattle.crash_moments.specs.Left.{NamedStates, Left, RegionLeft, closed, image, HasShutGate}
-use Rattle.crash_moments.specs.Told.{reads_one}
 use Rattle.crash_states.proofs.States.{IsFrontOf, front_within}
 use Rattle.crash_states.proofs.Disks.{gate_shut, same_log}
 use Rattle.crash_states.proofs.Images.{image_of_tables}
 
 pub left_by : (tables : NamedStates) (held : List ℕ → List Write) (p : Pair) (log : HasSoundLog held p.disk) → ((name : List ℕ) → IsFrontOf (held name) (tables name))
-    → RegionLeft reads_one tables p log.records log.log_end → Left reads_one tables p
+    → RegionLeft reads tables p log.records log.log_end → Left reads tables p
 left_by tables held p log fronts region = record {
   records = log.records;
   end = log.log_end;
@@ -30,11 +29,11 @@ left_by tables held p log fronts region = record {
 
 -- the region is an image of the tables, and the log has all of their writes
 pub image_left : (tables : NamedStates) (writes held : List ℕ → List Write) (p : Pair) (log : HasSoundLog held p.disk) (images : List TableImage) (log_end : ℕ)
-    → ((name : List ℕ) → (tables name).writes ≡ writes name) → IsImage 1 p.region images log_end → AreImagesOf writes images → HasLog writes log_end p.disk
-    → RegionLeft reads_one tables p log.records log.log_end
+    → ((name : List ℕ) → (tables name).writes ≡ writes name) → IsImage layout p.region images log_end → AreImagesOf writes images → HasLog writes log_end p.disk
+    → RegionLeft reads tables p log.records log.log_end
 image_left tables writes held p log images log_end same is are had =
     let one = same_log writes held log_end p.disk had log in
-    image 1 images refl (subst (λ (end : ℕ). IsImage 1 p.region images end) (sym one.1) is) (image_of_tables writes tables same images are is.1.fits.distinct)
+    image 1 images refl (subst (λ (end : ℕ). IsImage layout p.region images end) (sym one.1) is) (image_of_tables writes tables same images are is.1.fits.distinct)
     (λ name. ap (λ (records : List LogRecord). writes_of name records) one.0 ∙ had.2 name ∙ sym (same name))
     (subst (λ (end : ℕ). HasShutGate p.disk end) (sym one.1) (gate_shut had.0 log_end p.disk had.1))
 
@@ -42,5 +41,5 @@ image_left tables writes held p log images log_end same is are had =
 pub lost_closed : (p : Pair) → p.region ≡ [] → IsClosed p.region
 lost_closed p none = inl (omega (arith, ap (λ (l : List ℕ). length l) none))
 
-pub lost_left : (tables : NamedStates) (p : Pair) (records : List LogRecord) (end : ℕ) → p.region ≡ [] → RegionLeft reads_one tables p records end
+pub lost_left : (tables : NamedStates) (p : Pair) (records : List LogRecord) (end : ℕ) → p.region ≡ [] → RegionLeft reads tables p records end
 lost_left tables p records end none = closed (lost_closed p none)

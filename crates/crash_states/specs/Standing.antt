@@ -9,7 +9,7 @@ use Rattle.berth_face.specs.Berth.{Meaning}
 use Rattle.berth_face.specs.Moments.{EachNow}
 use Rattle.region_layout.specs.declared.head.Head.TheVariants.{Version}
 use Rattle.region_layout.specs.declared.image.TableImage.{TableImage}
-use Rattle.region_layout.specs.Region.{IsClosed, IsImage, head_of}
+use Rattle.region_layout.specs.Region.{IsClosed, IsImage, head_of, layout}
 use Rattle.disk_backup.specs.State.{LogState}
 use Rattle.disk_backup.specs.Settling.{HasLog, HaveLog, with_writes}
 use Rattle.drain_copy.specs.Draining.{DrainState, Draining, AllClosed}
@@ -74,8 +74,8 @@ pub record IsWhole (tables : NamedStates) (images : List TableImage) (log_end : 
 -- the region as it reads: closed, or of another version, or an image of the tables
 pub data RegionRests (tables : NamedStates) (m : Meaning) : Type 0 where
   is_closed : IsClosed m.held.region → RegionRests tables m
-  is_other : (version : ℕ) → head_of m.held.region ≡ Version version → version ≢ 1 → RegionRests tables m
-  is_image : (images : List TableImage) (log_end : ℕ) → IsImage 1 m.held.region images log_end → IsWhole tables images log_end m → RegionRests tables m
+  is_other : (version : ℕ) → head_of m.held.region ≡ Version version → version ≢ layout → RegionRests tables m
+  is_image : (images : List TableImage) (log_end : ℕ) → IsImage layout m.held.region images log_end → IsWhole tables images log_end m → RegionRests tables m
 
 -- Each disk that a crash may leave has a log with the least writes of each name, or with those of the next record too. Each table is shut.
 -- Names that the leaf does not have stand as `others` say until it was first opened.
@@ -105,7 +105,7 @@ pub record Copies (ws : List Watched) (drain : DrainState) (writes : List ℕ �
   pub stands : StandsNow m
   pub images : List TableImage
   pub log_end : ℕ
-  pub image : IsImage 1 drain.image images log_end
+  pub image : IsImage layout drain.image images log_end
   pub same : AreImagesOf writes images
   pub logs : EachNow (λ p. HasLog writes log_end p.disk) m
   pub draining : Draining drain m.held.region
@@ -125,7 +125,7 @@ pub record Holds (ws : List Watched) (image : List ℕ) (writes : List ℕ → L
   pub stands : StandsNow m
   pub images : List TableImage
   pub log_end : ℕ
-  pub is : IsImage 1 image images log_end
+  pub is : IsImage layout image images log_end
   pub same : AreImagesOf writes images
   pub logs : EachNow (λ p. HasLog writes log_end p.disk) m
   pub region : m.held.region ≡ image

@@ -4,7 +4,7 @@ ghost use Rattle.std.specs.List.{AllByRecursion};
 ghost use Rattle.berth_face.specs.Berth.{Passes, Ended, SameDisk};
 ghost use Rattle.berth_face.specs.Moments.{Throughout};
 ghost use Rattle.berth_face.specs.Causes.{HasCause};
-ghost use Rattle.region_layout.specs.Region.{IsClosed, IsImage};
+ghost use Rattle.region_layout.specs.Region.{IsClosed, IsImage, layout};
 ghost use Rattle.region_layout.specs.Names.{AreNames};
 ghost use Rattle.region_layout.specs.Images.{images_of};
 ghost use Rattle.drain_copy.specs.declared.step.Next.TheVariants as next;
@@ -49,7 +49,7 @@ impl Drain {
         requires count { length tables.now ≡ length names.now }
         requires writes { AllByRecursion (λ t. t.writes < 2 ^ 63) tables.now }
         requires log_end { log_end < 2 ^ 63 }
-        ensures image { IfOk result (λ d. IsImage 1 d.image (images_of names.now tables.now) log_end) }
+        ensures image { IfOk result (λ d. IsImage layout d.image (images_of names.now tables.now) log_end) }
         ensures next { IfOk result (λ d. d.next ≡ next.Begin) }
     {
         Ok(Drain {

@@ -4,7 +4,7 @@ use Rattle.std.specs.Prelude.{◌≢◌, IsTrue}
 use Rattle.leaf_model.specs.declared.writes.Write.{Write}
 use Rattle.berth_face.specs.Berth.{Meaning, Passes}
 use Rattle.berth_face.specs.Moments.{Throughout}
-use Rattle.region_layout.specs.Region.{IsClosed, IsImage}
+use Rattle.region_layout.specs.Region.{IsClosed, IsImage, layout}
 use Rattle.drain_copy.specs.declared.step.Next.{Next}
 use Rattle.drain_copy.specs.declared.step.Next.TheVariants as next
 use Rattle.drain_copy.specs.declared.step.DrainStep.{DrainStep}
@@ -121,7 +121,7 @@ module _ (x : Seated) (drain : DrainState) (a b : Meaning) where
     copy_last made whole writes copies =
         let region : b.held.region ≡ drain.image = whole copies.draining in
         let holds : Holds ws drain.image writes b = step_last ws drain writes a b copies (stepped writes copies made) region in
-        (handed_rests writes copies made holds, (copies.images, copies.log_end, subst (λ (bytes : List ℕ). IsImage 1 bytes copies.images copies.log_end) (sym region) copies.image))
+        (handed_rests writes copies made holds, (copies.images, copies.log_end, subst (λ (bytes : List ℕ). IsImage layout bytes copies.images copies.log_end) (sym region) copies.image))
 
 -- the copy is given up
 pub copy_left : (x : Seated) (drain : DrainState) (m : Meaning) (writes : List ℕ → List Write) → Copies (watched_by x) drain writes m → RestsOn x x m m

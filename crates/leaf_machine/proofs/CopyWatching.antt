@@ -1,11 +1,11 @@
 -- Names that a leaf does not have, once it has opened a table.
 use Rattle.std.proofs.Common.{◌≡◌, ℕ, Bool, true, false, List, sym, subst, refl, arith}
+use Rattle.region_layout.specs.Region.{reads}
 use Rattle.berth_face.specs.Berth.{Meaning}
 use Rattle.leaf_history.specs.History.{no_base}
 use Rattle.disk_backup.proofs.SoundLogs.{none_short}
 use Rattle.crash_moments.specs.Left.{NamedStates, Left}
 use Rattle.crash_moments.specs.Watched.{Watched, IsFoundation, by_name, others_then, state_then, was_opened}
-use Rattle.crash_moments.specs.Told.{reads_one}
 use Rattle.crash_states.specs.Laws.{IsLeftNow}
 
 -- names of which nothing stands
@@ -22,4 +22,4 @@ others_gone others false is = absurd cc
 
 pub left_others : (ws : List Watched) (others : NamedStates) (m : Meaning) → was_opened m.clock ws ≡ true → IsLeftNow ws no_others m → IsLeftNow ws others m
 left_others ws others m opened now = λ p left.
-    subst (λ (outside : NamedStates). Left reads_one (by_name (state_then m.clock) outside ws) p) (sym (others_gone others (was_opened m.clock ws) opened)) (now p left)
+    subst (λ (outside : NamedStates). Left reads (by_name (state_then m.clock) outside ws) p) (sym (others_gone others (was_opened m.clock ws) opened)) (now p left)

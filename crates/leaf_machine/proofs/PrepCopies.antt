@@ -9,7 +9,7 @@ use Rattle.leaf_model.specs.Content.{Contents, content_from}
 use Rattle.berth_face.specs.Berth.{Meaning}
 use Rattle.leaf_history.specs.History.{HistoryState, write_count}
 use Rattle.table_state.specs.Tables.{Table}
-use Rattle.region_layout.specs.Region.{IsImage}
+use Rattle.region_layout.specs.Region.{IsImage, layout}
 use Rattle.region_layout.specs.Images.{images_of}
 use Rattle.drain_copy.specs.declared.step.Next.TheVariants as next
 use Rattle.drain_copy.specs.Draining.{DrainState}
@@ -86,7 +86,7 @@ all_taken : (s : HistoryState) → IsFoundation s → s.taken ≡ write_count s 
 all_taken s sound taken = omega (arith, taken, sound.handed_in)
 
 module _ (x : Shutting) (m : Meaning) (is : IsShutting x m) (sits : AreSeated x.serving.seated) (all : length x.closed ≡ length x.serving.seated.tables) (none : x.serving.owing.log.owed ≡ None)
-    (drain : DrainState) (image : IsImage 1 drain.image (images_of x.serving.seated.names x.closed) x.serving.owing.log.end) (begin : drain.next ≡ next.Begin) where
+    (drain : DrainState) (image : IsImage layout drain.image (images_of x.serving.seated.names x.closed) x.serving.owing.log.end) (begin : drain.next ≡ next.Begin) where
   abbrev ws : List Watched
   ws = watched_by x.serving.seated
 
@@ -128,7 +128,7 @@ module _ (x : Shutting) (m : Meaning) (is : IsShutting x m) (sits : AreSeated x.
   copies founded writes runs =
       planned ws x.serving.owing.owner x.closed x.serving.owing.log drain writes m runs none (taken founded writes runs)
       (record {
-        image = subst (λ (names : List (List ℕ)). IsImage 1 drain.image (images_of names x.closed) x.serving.owing.log.end) (sym (watch_names x.serving.seated sits)) image;
+        image = subst (λ (names : List (List ℕ)). IsImage layout drain.image (images_of names x.closed) x.serving.owing.log.end) (sym (watch_names x.serving.seated sits)) image;
         begins = begin;
       })
 

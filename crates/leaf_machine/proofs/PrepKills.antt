@@ -1,5 +1,6 @@
 -- The open tables are shut, and the leaf rests.
 use Rattle.std.proofs.Common.{◌≡◌, ℕ, ◌+◌, ◌<◌, ◌≤◌, Bool, true, List, length, refl, sym, ap, subst, ◌∙◌, arith, inl, inr}
+use Rattle.region_layout.specs.Region.{reads}
 use Rattle.std.specs.Prelude.{slice_get}
 use Rattle.std.proofs.lemmas.Bool.{cases_lt}
 use Rattle.leaf_model.specs.declared.writes.Write.{Write}
@@ -9,7 +10,7 @@ use Rattle.disk_backup.proofs.SoundLogs.{none_short}
 use Rattle.leaf_table.specs.Turns.{Shared}
 use Rattle.crash_moments.specs.Left.{NamedStates, Left}
 use Rattle.crash_moments.specs.Watched.{Watched, IsFoundation, by_name, others_then, state_then, tables_then, was_opened}
-use Rattle.crash_moments.specs.Told.{Told, reads_one}
+use Rattle.crash_moments.specs.Told.{Told}
 use Rattle.crash_moments.proofs.Telling.{opened_more}
 use Rattle.crash_states.specs.Standing.{Rests, Runs}
 use Rattle.crash_states.specs.Entries.{ShutsAll}
@@ -41,7 +42,7 @@ any_others a b before now m opened told = record {
       let then : was_opened t now ≡ true = subst (λ (u : ℕ). was_opened u now ≡ true) here opened in
       let same : tables_then a t now ≡ tables_then b t now =
       ap (λ (o : Bool). by_name (state_then t) (others_then o a) now) then ∙ sym (ap (λ (o : Bool). by_name (state_then t) (others_then o b) now) then) in
-      subst (λ (tables : NamedStates). Left reads_one tables p) same (told.left t p from to left);
+      subst (λ (tables : NamedStates). Left reads tables p) same (told.left t p from to left);
 }
 
 module _ (x : Shutting) (m : Meaning) (is : IsShutting x m) (sits : AreSeated x.serving.seated) (first : ℕ) (here : first ≡ length x.closed) (notes : List Note) (y : Seated)

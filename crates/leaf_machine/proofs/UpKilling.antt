@@ -1,12 +1,12 @@
 -- A leaf that serves its tables is killed: it rests.
 use Rattle.std.proofs.Common.{◌≡◌, ℕ, ◌+◌, ◌<◌, true, Bool, List, length, refl, sym, ap, subst, ◌∙◌, arith, le_refl}
+use Rattle.region_layout.specs.Region.{reads}
 use Rattle.leaf_model.specs.declared.writes.Write.{Write}
 use Rattle.berth_face.specs.Berth.{Meaning}
 use Rattle.leaf_history.specs.History.{no_base}
 use Rattle.disk_backup.proofs.SoundLogs.{none_short}
 use Rattle.crash_moments.specs.Left.{NamedStates, Left}
 use Rattle.crash_moments.specs.Watched.{Watched, IsFoundation, others_then, by_name, state_then, tables_then, was_opened}
-use Rattle.crash_moments.specs.Told.{reads_one}
 use Rattle.crash_moments.proofs.Telling.{opened_more}
 use Rattle.crash_states.specs.Standing.{Runs, Rests}
 use Rattle.crash_states.specs.Entries.{ShutsAll}
@@ -49,7 +49,7 @@ module _ (first : ℕ) (x : Serving) (y : Seated) (m : Meaning) (notes : List No
         next = x.owing.log.owed;
         rests = killed.rests;
         told = λ others. told_now ws ws' others m
-            (λ p left. subst (λ (tables : NamedStates). Left reads_one tables p) (same_others m.clock ws' others opened) (rests_left ws' no_tables writes x.owing.log.owed m rests p left)) killed.more;
+            (λ p left. subst (λ (tables : NamedStates). Left reads tables p) (same_others m.clock ws' others opened) (rests_left ws' no_tables writes x.owing.log.owed m rests p left)) killed.more;
       }
 
   pub kill_down : UpStands x m → AtEach (λ place t v. IsShut t v) y → IsDown y m

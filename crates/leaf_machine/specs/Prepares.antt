@@ -5,7 +5,7 @@ use Rattle.leaf_model.specs.declared.writes.Write.{Write}
 use Rattle.berth_face.specs.Berth.{Meaning}
 use Rattle.berth_face.specs.Causes.{Rose}
 use Rattle.table_state.specs.Tables.{Table}
-use Rattle.region_layout.specs.Region.{IsImage}
+use Rattle.region_layout.specs.Region.{IsImage, layout}
 use Rattle.region_layout.specs.Images.{images_of}
 use Rattle.drain_copy.specs.declared.step.Next.TheVariants as next
 use Rattle.crash_states.specs.Standing.{Runs}
@@ -81,7 +81,7 @@ HasTooManyWrites x = (t : Table) × ((place : ℕ) × (slice_get x.closed place 
 -- the copy of a leaf all of whose tables are treated: it is an image of them, and nothing of it is in the region yet
 pub record IsCopyOf (x : Shutting) (c : Copying) : Type 0 where
   pub seated : c.seated ≡ x.serving.seated
-  pub image : IsImage 1 c.drain.image (images_of x.serving.seated.names x.closed) x.serving.owing.log.end
+  pub image : IsImage layout c.drain.image (images_of x.serving.seated.names x.closed) x.serving.owing.log.end
   pub next : c.drain.next ≡ next.Begin
   pub room : AllByRecursion (λ (t : Table). t.writes < 2 ^ 63) x.closed
 

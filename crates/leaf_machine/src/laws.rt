@@ -1,7 +1,7 @@
 // Over which berths a leaf may begin.
 ghost use Rattle.crash_moments.specs.Base.{IsReady};
+ghost use Rattle.region_layout.specs.Region.{reads};
 ghost use Rattle.crash_moments.specs.Left.{NamedStates};
-ghost use Rattle.crash_moments.specs.Told.{reads_one};
 ghost use Rattle.leaf_machine.specs.States.{MayBegin};
 ghost use Rattle.leaf_machine.specs.Leaving.{LeavesBegin};
 
@@ -9,7 +9,7 @@ use berth_face::Berth;
 
 /// Over a berth that is ready with a base, a leaf with that base may begin.
 pub fn begins_where_ready<B: Berth>(berth: &B)
-    ensures { (base : NamedStates) → IsReady reads_one (B.meaning berth.now) base → MayBegin base (B.meaning berth.now) }
+    ensures { (base : NamedStates) → IsReady reads (B.meaning berth.now) base → MayBegin base (B.meaning berth.now) }
 {}
 
 /// Over a berth that a leaf at rest leaves, or one that serves its tables or shuts them, another leaf may begin: its base has a front of the writes of

@@ -4,7 +4,7 @@ use Rattle.std.specs.Prelude.{slice_index}
 use Rattle.std.proofs.lemmas.Bool.{ltb-true, eqb-false, cases_lt, cases_eq}
 use Rattle.region_layout.specs.declared.head.Head.TheVariants.{NoHead, Closed, Version}
 use Rattle.region_layout.specs.declared.image.TableImage.{TableImage}
-use Rattle.region_layout.specs.Region.{IsClosed, IsImage, version_of}
+use Rattle.region_layout.specs.Region.{IsClosed, IsImage, version_of, layout}
 use Rattle.region_layout.proofs.Heads.{image_head, closed_head}
 use Rattle.adopt.specs.Found.{IsBroken, after_head, left_behind}
 
@@ -20,7 +20,7 @@ pub left_closed : (region : List ℕ) → IsClosed (left_behind region)
 left_closed region = closed_by region (ltb (length region) 16) (eqb (slice_index region 0) 1) refl refl
 
 -- a closed region is no image
-pub closed_no_image : (region : List ℕ) → IsClosed region → (images : List TableImage) (log_end : ℕ) → IsImage 1 region images log_end → ⊥
+pub closed_no_image : (region : List ℕ) → IsClosed region → (images : List TableImage) (log_end : ℕ) → IsImage layout region images log_end → ⊥
 closed_no_image region closed images log_end is = closed_head region closed 1 (image_head region images 1 log_end is)
 
 -- ---- after a fault an open region is the same

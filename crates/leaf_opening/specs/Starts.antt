@@ -5,7 +5,7 @@ use Rattle.berth_face.specs.Berth.{Meaning, Pair, Ended, SameDisk}
 use Rattle.berth_face.specs.Moments.{EachNow}
 use Rattle.table_state.specs.Tables.{Table}
 use Rattle.region_layout.specs.declared.image.TableImage.{TableImage}
-use Rattle.region_layout.specs.Region.{IsClosed, IsImage}
+use Rattle.region_layout.specs.Region.{IsClosed, IsImage, layout}
 use Rattle.region_layout.specs.Images.{tables_of}
 use Rattle.adopt.specs.declared.found.WhyDisk.{WhyDisk}
 use Rattle.adopt.specs.declared.found.WhyDisk.TheVariants as why
@@ -23,7 +23,7 @@ use Rattle.leaf_opening.specs.OpenedLeaf.{OpenedLeaf}
 
 -- the way of a start that finds these bytes and is not refused
 abbrev pub IsWayOf : List ℕ → Way → Type 0
-IsWayOf region Memory = (images : List TableImage) × (log_end : ℕ) × IsImage 1 region images log_end
+IsWayOf region Memory = (images : List TableImage) × (log_end : ℕ) × IsImage layout region images log_end
 IsWayOf region (Disk w) = IsWhy region w
 
 -- the way of the next start of a leaf that came this way and was not drained
@@ -36,7 +36,7 @@ way_after (Disk why.NoImage) = Disk (why.Closed 0)
 
 -- how a leaf of these names comes to its tables and its log: those of the region's image; or those of the disk, as it reads then
 abbrev pub IsCome : List (List ℕ) → List ℕ → List ℕ → OpenedLeaf → Way → Type 0
-IsCome names region disk s Memory = (images : List TableImage) × (log_end : ℕ) × IsImage 1 region images log_end × (stranger_of names images ≡ None)
+IsCome names region disk s Memory = (images : List TableImage) × (log_end : ℕ) × IsImage layout region images log_end × (stranger_of names images ≡ None)
     × (s.tables ≡ tables_of names images) × (s.log ≡ record { end = log_end; owed = None; laid = false })
 IsCome names region disk s (Disk w) = IsWhy region w × IsRecovered names disk s.tables s.log
 

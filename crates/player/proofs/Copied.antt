@@ -8,7 +8,7 @@ use Rattle.berth_face.specs.Berth.{Meaning, Passes}
 use Rattle.berth_face.proofs.Moments.{passes_none, passes_on}
 use Rattle.region_layout.specs.declared.head.Head.TheVariants as head
 use Rattle.region_layout.specs.declared.image.TableImage.{TableImage}
-use Rattle.region_layout.specs.Region.{IsImage, head_of}
+use Rattle.region_layout.specs.Region.{IsImage, head_of, layout}
 use Rattle.adopt.specs.declared.found.WhyDisk.TheVariants as why
 use Rattle.drain_copy.specs.declared.step.Next.{Next}
 use Rattle.drain_copy.specs.declared.step.Next.TheVariants as next
@@ -170,12 +170,12 @@ closed_at_zero rest enough =
     let long : ltb (length (0 ∷ rest)) 16 ≡ false = le-ltb _ _ (omega (arith, enough)) in
     rw long refl
 
-long_image : (image : List ℕ) (images : List TableImage) (log_end : ℕ) → IsImage 1 image images log_end → 16 ≤ length image
+long_image : (image : List ℕ) (images : List TableImage) (log_end : ℕ) → IsImage layout image images log_end → 16 ≤ length image
 long_image image images log_end is = subst (λ (l : List ℕ). 16 ≤ length l) (sym is.1.bytes) (omega arith)
 
 -- it is as it was before the first step, and closed behind that
 pub region_stopped : (at : Next) (image region before : List ℕ) (images : List TableImage) (log_end : ℕ)
-    → steps_before at < 3 → IsImage 1 image images log_end → StandsAt at image region → (at ≡ next.Begin → region ≡ before)
+    → steps_before at < 3 → IsImage layout image images log_end → StandsAt at image region → (at ≡ next.Begin → region ≡ before)
     → MatchBool (nat_lt 1 (suc (steps_before at))) (IsWayOf region (Disk (why.Closed 0))) (region ≡ before)
 region_stopped next.Begin image region before images log_end few is stands untouched = untouched refl
 region_stopped next.Write image region before images log_end few is stands untouched = subst (λ (r : List ℕ). head_of r ≡ head.Closed 0) (sym stands) refl

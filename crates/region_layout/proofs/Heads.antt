@@ -5,9 +5,9 @@ use Rattle.std.proofs.lemmas.Bool.{ltb-true, ltb-false, le-ltb, eqb-true, eqb-fa
 use Rattle.region_layout.specs.declared.head.Head.{Head}
 use Rattle.region_layout.specs.declared.head.Head.TheVariants.{NoHead, Closed, Version}
 use Rattle.region_layout.specs.declared.image.TableImage.{TableImage}
-use Rattle.region_layout.specs.Region.{IsClosed, IsImage, head_of, version_of, layout_1_bytes}
+use Rattle.region_layout.specs.Region.{IsClosed, IsImage, head_of, version_of, layout_1_bytes, layout}
 
-head_is : (tables : List TableImage) (log_end : ℕ) → head_of (layout_1_bytes tables log_end) ≡ Version 1
+head_is : (tables : List TableImage) (log_end : ℕ) → head_of (layout_1_bytes tables log_end) ≡ Version layout
 head_is tables log_end =
     let long : ltb (length (layout_1_bytes tables log_end)) 16 ≡ false = le-ltb _ _ (omega arith) in
     rw long refl

@@ -12,7 +12,7 @@ use Rattle.region_layout.specs.declared.image.TableImage.{TableImage}
 use Rattle.region_layout.specs.declared.image.Image.{Image}
 use Rattle.leaf_model.specs.Names.{AreDistinct, are_distinct}
 use Rattle.leaf_model.proofs.Distinct.{distinct_names, are_distinct-from}
-use Rattle.region_layout.specs.Region.{head_bytes, table_bytes, layout_1_bytes, IsTableImage, IsImage, image_names}
+use Rattle.region_layout.specs.Region.{head_bytes, table_bytes, layout_1_bytes, IsTableImage, IsImage, image_names, layout}
 use Rattle.region_layout.specs.Reading.{below_2_63_at, tables_at, directory_at, head_at, image_at}
 use Rattle.region_layout.proofs.Tables.{low_takes, low_again, tables_take, tables_again}
 
@@ -58,7 +58,7 @@ directory_again tables few each distinct =
 
 -- ---- an image
 
-pub image_found : (bytes : List ℕ) (image : Image) → IsBytes bytes → image_at bytes ≡ Some image → IsImage 1 bytes image.tables image.log_end
+pub image_found : (bytes : List ℕ) (image : Image) → IsBytes bytes → image_at bytes ≡ Some image → IsImage layout bytes image.tables image.log_end
 unfolding image_at
 image_found bytes image fits e =
     let a = bind_some (head_at bytes) (λ rest. below_2_63_at rest >>= λ log_end. directory_at log_end.1 >>= λ tables. Some (record { log_end = log_end.0; tables = tables })) image e in
@@ -70,10 +70,10 @@ image_found bytes image fits e =
     let parts : bytes ≡ layout_1_bytes c.0 b.0.0 =
     first.parts ∙ ap (λ (w : List ℕ). head_bytes 1 16 ++ w) (second.0.parts ∙ ap (λ (w : List ℕ). u64_bytes b.0.0 ++ w) third.0) in
     let made : Image = record { log_end = b.0.0; tables = c.0 } in
-    subst (λ (i : Image). IsImage 1 bytes i.tables i.log_end) (some_is made image c.2)
+    subst (λ (i : Image). IsImage layout bytes i.tables i.log_end) (some_is made image c.2)
     (refl, record { bytes = parts; fits = record { few = third.1; each = third.2; distinct = third.3; log_end_fits = second.1 } })
 
-pub image_again : (bytes : List ℕ) (image : Image) → IsImage 1 bytes image.tables image.log_end → image_at bytes ≡ Some image
+pub image_again : (bytes : List ℕ) (image : Image) → IsImage layout bytes image.tables image.log_end → image_at bytes ≡ Some image
 unfolding image_at
 image_again bytes image is =
     let fits = is.1.fits in
@@ -82,5 +82,5 @@ image_again bytes image is =
     ap image_at parts ∙ rw (head_again (u64_bytes image.log_end ++ directory), low_again image.log_end directory fits.log_end_fits, directory_again image.tables fits.few fits.each fits.distinct) refl
 
 -- two images of the same bytes are one
-pub one_image : (bytes : List ℕ) (a b : Image) → IsImage 1 bytes a.tables a.log_end → IsImage 1 bytes b.tables b.log_end → a ≡ b
+pub one_image : (bytes : List ℕ) (a b : Image) → IsImage layout bytes a.tables a.log_end → IsImage layout bytes b.tables b.log_end → a ≡ b
 one_image bytes a b is other = some_is a b (sym (image_again bytes a is) ∙ image_again bytes b other)

@@ -10,7 +10,7 @@ use Rattle.row_records.specs.Bytes.{name_bytes, i64_bytes, u64_bytes, rows_bytes
 use Rattle.table_state.specs.Tables.{Table, IsHeld}
 use Rattle.region_layout.specs.declared.image.TableImage.{TableImage}
 use Rattle.leaf_model.specs.Names.{AreDistinct}
-use Rattle.region_layout.specs.Region.{IsTableImage, IsImage, head_bytes, table_bytes}
+use Rattle.region_layout.specs.Region.{IsTableImage, IsImage, head_bytes, table_bytes, layout}
 use Rattle.region_layout.specs.Names.{IsName, AreNames}
 use Rattle.region_layout.specs.Images.{image_of, images_of}
 
@@ -101,7 +101,7 @@ images_fit (name ∷ names) (t ∷ tables) named writes held =
 pub image_put : (names : List (List ℕ)) (tables : List Table) (log_end : ℕ) (front out : List ℕ)
     → AreNames names → length tables ≡ length names → AllByRecursion (λ (t : Table). t.writes < 2 ^ 63) tables → AllByRecursion (λ (t : Table). IsHeld t.contents) tables → log_end < 2 ^ 63
     → front ≡ head_bytes 1 16 ++ (u64_bytes log_end ++ (length tables ∷ [])) → out ≡ front ++ flat_map table_bytes (images_of names tables)
-    → IsImage 1 out (images_of names tables) log_end
+    → IsImage layout out (images_of names tables) log_end
 image_put names tables log_end front out are same writes held low begins put =
     let images = images_of names tables in
     let count : length tables ≡ length images = omega (arith, same, images_count names tables same) in

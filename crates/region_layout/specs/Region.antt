@@ -1,5 +1,5 @@
 -- A region: its head, and the image of its tables.
-use Rattle.std.specs.Prelude.{◌≡◌, ◌≢◌, ◌⊎◌, ℕ, ◌<◌, ◌≤◌, ◌^◌, List, ◌∷◌, ◌++◌, length, take, drop, map, slice_index, if◌then◌else◌, nat_lt, ◌==◌, IsUtf8, codes}
+use Rattle.std.specs.Prelude.{◌≡◌, ◌≢◌, ◌⊎◌, ℕ, ◌<◌, ◌≤◌, ◌^◌, List, ◌∷◌, ◌++◌, length, take, drop, map, slice_index, if◌then◌else◌, nat_lt, ◌==◌, IsUtf8, codes, Bool}
 use Rattle.std.specs.List.{flat_map, AllByRecursion}
 use Rattle.std.specs.Int.{w32, from_le_bytes}
 use Rattle.leaf_model.specs.Values.{IsTime}
@@ -13,6 +13,13 @@ use Rattle.region_layout.specs.declared.image.TableImage.{TableImage}
 -- shorter than a head, or its flag is not open
 abbrev pub IsClosed : List ℕ → Type 0
 IsClosed region = (length region < 16) ⊎ (slice_index region 0 ≢ 1)
+
+-- the layout in which a region is written, and those that a start reads
+abbrev pub layout : ℕ
+layout = 1
+
+abbrev pub reads : ℕ → Bool
+reads version = version == layout
 
 -- the four bytes after the flag and the letters
 abbrev pub version_of : List ℕ → ℕ
@@ -62,4 +69,4 @@ pub record IsLayout1 (region : List ℕ) (tables : List TableImage) (log_end : �
 
 -- the bytes are an image of this version
 abbrev pub IsImage : ℕ → List ℕ → List TableImage → ℕ → Type 0
-IsImage version region tables log_end = (version ≡ 1) × IsLayout1 region tables log_end
+IsImage version region tables log_end = (version ≡ layout) × IsLayout1 region tables log_end

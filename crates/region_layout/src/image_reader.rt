@@ -5,7 +5,7 @@ ghost use Rattle.leaf_model.specs.Names.{are_distinct};
 ghost use Rattle.row_records.specs.Reading.{ReadsAs};
 ghost use Rattle.region_layout.specs.declared.image.Image.{Image};
 ghost use Rattle.region_layout.specs.Images.{is_named};
-ghost use Rattle.region_layout.specs.Region.{IsImage, image_names};
+ghost use Rattle.region_layout.specs.Region.{IsImage, image_names, layout};
 ghost use Rattle.region_layout.specs.Reading.{below_2_63_at, head_at, is_kept, held_rows_at, table_at, tables_at, directory_at, image_at};
 
 use crate::head::LAYOUT;
@@ -38,9 +38,9 @@ pub(crate) const HEAD: [u8; 16] = [
 /// A count of rows that is too great for the bytes takes no memory.
 pub fn read_image(alloc: Global, region: &[u8]) -> Result<Option<Image>, AllocError>
     // What is read is an image of the bytes.
-    ensures found { IfOk result (λ found. IfSome found (λ image. IsImage 1 region.now image.tables image.log_end)) }
+    ensures found { IfOk result (λ found. IfSome found (λ image. IsImage layout region.now image.tables image.log_end)) }
     // What the bytes are an image of is read, unless memory runs out.
-    ensures only { (image : Image) → IsImage 1 region.now image.tables image.log_end → IfOk result (λ found. found ≡ Some image) }
+    ensures only { (image : Image) → IsImage layout region.now image.tables image.log_end → IfOk result (λ found. found ≡ Some image) }
 {
     match image_of(alloc, region) {
         Ok(image) => Ok(Some(image)),

@@ -3,7 +3,7 @@ ghost use Rattle.std.specs.Prelude.{◌≡◌, ◌<◌, ◌≤◌, ◌^◌, ◌+
 ghost use Rattle.std.specs.List.{flat_map, AllByRecursion};
 ghost use Rattle.row_records.specs.Bytes.{name_bytes, i64_bytes, u64_bytes, rows_bytes};
 ghost use Rattle.table_state.specs.Tables.{IsHeld};
-ghost use Rattle.region_layout.specs.Region.{IsImage, head_bytes, table_bytes};
+ghost use Rattle.region_layout.specs.Region.{IsImage, head_bytes, table_bytes, layout};
 ghost use Rattle.region_layout.specs.Names.{AreNames, IsName};
 ghost use Rattle.region_layout.specs.Images.{image_of, images_of};
 
@@ -24,7 +24,7 @@ pub fn write_image(
     requires count { length tables.now ≡ length names.now }
     requires writes { AllByRecursion (λ t. t.writes < 2 ^ 63) tables.now }
     requires log_end { log_end < 2 ^ 63 }
-    ensures { IfOk result (λ bytes. IsImage 1 bytes.items (images_of names.now tables.now) log_end) }
+    ensures { IfOk result (λ bytes. IsImage layout bytes.items (images_of names.now tables.now) log_end) }
 {
     let mut out = Vec::new(alloc);
     put_front(&mut out, tables, log_end)?;

@@ -4,7 +4,7 @@ use Rattle.std.specs.Prelude.{nat_lt, slice_index, if◌then◌else◌}
 use Rattle.region_layout.specs.declared.head.Head.{Head}
 use Rattle.region_layout.specs.declared.head.Head.TheVariants as head
 use Rattle.region_layout.specs.declared.image.TableImage.{TableImage}
-use Rattle.region_layout.specs.Region.{IsImage, head_of, version_of}
+use Rattle.region_layout.specs.Region.{IsImage, head_of, version_of, layout}
 use Rattle.region_layout.proofs.Heads.{image_head}
 use Rattle.adopt.specs.declared.found.WhyDisk.{WhyDisk}
 use Rattle.adopt.specs.declared.found.WhyDisk.TheVariants as why
@@ -13,18 +13,18 @@ use Rattle.leaf_opening.specs.declared.ways.Way.{Way}
 use Rattle.leaf_opening.specs.declared.ways.Way.TheVariants.{Memory, Disk}
 use Rattle.leaf_opening.specs.Starts.{IsWayOf, way_after}
 
-no_why : (region : List ℕ) (images : List TableImage) (log_end : ℕ) → IsImage 1 region images log_end → (w : WhyDisk) → IsWhy region w → ⊥
+no_why : (region : List ℕ) (images : List TableImage) (log_end : ℕ) → IsImage layout region images log_end → (w : WhyDisk) → IsWhy region w → ⊥
 no_why region images log_end is why.NoHead h = clash (head_of region) (image_head region images 1 log_end is) h
   where
-    clash : (x : Head) → x ≡ head.Version 1 → x ≡ head.NoHead → ⊥
+    clash : (x : Head) → x ≡ head.Version layout → x ≡ head.NoHead → ⊥
     clash x e f = cc
 no_why region images log_end is (why.Closed b) h = clash (head_of region) (image_head region images 1 log_end is) h
   where
-    clash : (x : Head) → x ≡ head.Version 1 → x ≡ head.Closed b → ⊥
+    clash : (x : Head) → x ≡ head.Version layout → x ≡ head.Closed b → ⊥
     clash x e f = cc
 no_why region images log_end is (why.OtherVersion v) h = h.1 (same (head_of region) h.0 (image_head region images 1 log_end is))
   where
-    same : (x : Head) → x ≡ head.Version v → x ≡ head.Version 1 → v ≡ 1
+    same : (x : Head) → x ≡ head.Version v → x ≡ head.Version layout → v ≡ layout
     same x e f = cc
 no_why region images log_end is why.NoImage h = h.1 images log_end is
 
@@ -37,7 +37,7 @@ same_why region why.NoHead (why.OtherVersion n) g h = absurd (clash (head_of reg
     clash x e f = cc
 same_why region why.NoHead why.NoImage g h = absurd (clash (head_of region) g h.0)
   where
-    clash : (x : Head) → x ≡ head.NoHead → x ≡ head.Version 1 → ⊥
+    clash : (x : Head) → x ≡ head.NoHead → x ≡ head.Version layout → ⊥
     clash x e f = cc
 same_why region (why.Closed a) why.NoHead g h = absurd (clash (head_of region) g h)
   where
@@ -53,7 +53,7 @@ same_why region (why.Closed a) (why.OtherVersion n) g h = absurd (clash (head_of
     clash x e f = cc
 same_why region (why.Closed a) why.NoImage g h = absurd (clash (head_of region) g h.0)
   where
-    clash : (x : Head) → x ≡ head.Closed a → x ≡ head.Version 1 → ⊥
+    clash : (x : Head) → x ≡ head.Closed a → x ≡ head.Version layout → ⊥
     clash x e f = cc
 same_why region (why.OtherVersion m) why.NoHead g h = absurd (clash (head_of region) g.0 h)
   where
@@ -69,19 +69,19 @@ same_why region (why.OtherVersion m) (why.OtherVersion n) g h = ap why.OtherVers
     same x e f = cc
 same_why region (why.OtherVersion m) why.NoImage g h = absurd (g.1 (same (head_of region) g.0 h.0))
   where
-    same : (x : Head) → x ≡ head.Version m → x ≡ head.Version 1 → m ≡ 1
+    same : (x : Head) → x ≡ head.Version m → x ≡ head.Version layout → m ≡ layout
     same x e f = cc
 same_why region why.NoImage why.NoHead g h = absurd (clash (head_of region) g.0 h)
   where
-    clash : (x : Head) → x ≡ head.Version 1 → x ≡ head.NoHead → ⊥
+    clash : (x : Head) → x ≡ head.Version layout → x ≡ head.NoHead → ⊥
     clash x e f = cc
 same_why region why.NoImage (why.Closed b) g h = absurd (clash (head_of region) g.0 h)
   where
-    clash : (x : Head) → x ≡ head.Version 1 → x ≡ head.Closed b → ⊥
+    clash : (x : Head) → x ≡ head.Version layout → x ≡ head.Closed b → ⊥
     clash x e f = cc
 same_why region why.NoImage (why.OtherVersion n) g h = absurd (h.1 (same (head_of region) h.0 g.0))
   where
-    same : (x : Head) → x ≡ head.Version n → x ≡ head.Version 1 → n ≡ 1
+    same : (x : Head) → x ≡ head.Version n → x ≡ head.Version layout → n ≡ layout
     same x e f = cc
 same_why region why.NoImage why.NoImage g h = refl
 

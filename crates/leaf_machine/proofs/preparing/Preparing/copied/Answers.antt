@@ -2,7 +2,7 @@ use Rattle.std.proofs.Common.{◌≡◌, ◌<◌, ℕ, true, false, List, refl, 
 use Rattle.std.specs.List.{AllByRecursion, list_any}
 use Rattle.leaf_model.specs.declared.writes.Write.{Write}
 use Rattle.table_state.specs.Tables.{Table}
-use Rattle.region_layout.specs.Region.{IsImage}
+use Rattle.region_layout.specs.Region.{IsImage, layout}
 use Rattle.region_layout.specs.Images.{images_of}
 use Rattle.drain_copy.specs.Draining.{DrainState}
 use Rattle.crash_states.specs.Standing.{Runs}
@@ -37,7 +37,7 @@ invariant_of-result g c =
     let whole : IsAllTreated x = subst (λ v. IsAllTreated v.0) (sym c.self.view_is) c.requires.all in
     let drain : DrainState = c.in-Ok.drain in
     let names : c.names.result.now ≡ x.serving.seated.names = c.names.ensures in
-    let here : IsImage 1 drain.image (images_of x.serving.seated.names x.closed) x.serving.owing.log.end = rw (← names, ← c.deref-2.ensures.value, ← c.end.ensures.place) c.in-Ok.ensures.image in
+    let here : IsImage layout drain.image (images_of x.serving.seated.names x.closed) x.serving.owing.log.end = rw (← names, ← c.deref-2.ensures.value, ← c.end.ensures.place) c.in-Ok.ensures.image in
     copied_is x m c.self.invariant c.sits.ensures whole.all whole.none drain here c.in-Ok.ensures.next
 
 pub returns-in-Ok-clause-step : goal.returns-in-Ok-clause-step
@@ -47,7 +47,7 @@ returns-in-Ok-clause-step g c =
     let whole : IsAllTreated x = subst (λ v. IsAllTreated v.0) (sym c.self.view_is) c.requires.all in
     let drain : DrainState = c.in-Ok.drain in
     let names : c.names.result.now ≡ x.serving.seated.names = c.names.ensures in
-    let here : IsImage 1 drain.image (images_of x.serving.seated.names x.closed) x.serving.owing.log.end = rw (← names, ← c.deref-2.ensures.value, ← c.end.ensures.place) c.in-Ok.ensures.image in
+    let here : IsImage layout drain.image (images_of x.serving.seated.names x.closed) x.serving.owing.log.end = rw (← names, ← c.deref-2.ensures.value, ← c.end.ensures.place) c.in-Ok.ensures.image in
     let few : list_any is_too_many x.closed ≡ false = ap (λ (l : List Table). list_any is_too_many l) (sym c.deref.ensures.value) ∙ sym c.has_too_many.ensures ∙ c.if-has_too_many.false in
     let copy : Copying = record { seated = x.serving.seated; drain = drain } in
     (all_treated c.args.self.0 c.requires.all, refl, subst (λ v. IsCopyOf v.0 copy) c.self.view_is (is_copy x m c.self.invariant c.sits.ensures whole.all whole.none drain here c.in-Ok.ensures.next few))
@@ -59,7 +59,7 @@ returns-in-Ok-clause-crash g c =
     let whole : IsAllTreated x = subst (λ v. IsAllTreated v.0) (sym c.self.view_is) c.requires.all in
     let drain : DrainState = c.in-Ok.drain in
     let names : c.names.result.now ≡ x.serving.seated.names = c.names.ensures in
-    let here : IsImage 1 drain.image (images_of x.serving.seated.names x.closed) x.serving.owing.log.end = rw (← names, ← c.deref-2.ensures.value, ← c.end.ensures.place) c.in-Ok.ensures.image in
+    let here : IsImage layout drain.image (images_of x.serving.seated.names x.closed) x.serving.owing.log.end = rw (← names, ← c.deref-2.ensures.value, ← c.end.ensures.place) c.in-Ok.ensures.image in
     let copy : Copying = record { seated = x.serving.seated; drain = drain } in
     subst (λ v. AreFounded v.0.serving.seated → (writes : List ℕ → List Write) → Runs (watched_by v.0.serving.seated) v.0.serving.owing.owner v.0.serving.owing.log writes (g.B.Berth.meaning v.1)
     → GoesOnCopying v.0.serving.seated copy (g.B.Berth.meaning v.1) m) c.self.view_is
