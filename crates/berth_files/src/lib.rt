@@ -9,4 +9,3 @@ mod whole;
 
 pub use berth::FileBerth;
 pub use standard::{StdSink, StdSource};
-

@@ -12,4 +12,3 @@ mod stream;
 pub use berth::MemBerth;
 pub use faults::{Fail, Fails, Method};
 pub use stream::{MemSink, MemSource};
-

@@ -12,7 +12,6 @@ ghost use Rattle.leaf_steward.specs.Seated.{AreFounded, AtPlace, Spares, watched
 ghost use Rattle.leaf_steward.specs.Making.{OneEntry};
 ghost use Rattle.log_steward.specs.Owing.{Brings, HasJustTaken, IsOwed, RunsTo, SettlesOwed, flushed_note};
 
-
 use berth_face::{Berth, Gate};
 use disk_backup::{BackupLog, DiskFault};
 use leaf_steward::{Notes, Seats};
