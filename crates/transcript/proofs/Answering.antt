@@ -21,7 +21,7 @@ use Rattle.leaf_table.specs.declared.base.TableBase.{TableBase}
 use Rattle.leaf_table.specs.declared.replies.Reply.{Reply}
 use Rattle.leaf_table.specs.declared.replies.Reply.TheVariants as told
 use Rattle.leaf_table.specs.Turns.{Shared, is_founded, start_of, history, told as entry_told}
-use Rattle.leaf_table.specs.Calls.{SeatView, Replied, HasAnswers as CallAnswered, IsToldAs as TellsReply, base_seen, entry_seen, name_of, seen_of, state_before}
+use Rattle.leaf_table.specs.Calls.{SeatView, Replied, Answered as CallAnswered, IsToldAs as TellsReply, base_seen, entry_seen, name_of, seen_of, state_before}
 use Rattle.leaf_steward.specs.declared.notes.Note.{Note}
 use Rattle.leaf_steward.specs.Seated.{Seated}
 use Rattle.leaf_steward.specs.Making.{WornAt}
