@@ -70,19 +70,19 @@ fn each_query_has_one_text_that_reads_back(rt: HostRuntime) -> Result<(), Fail> 
 const ROWS: &[u8] =
     b"\x01\0\0\0\0\0\0\0\x02\0\x04host\x02\x01\0a\x01v\x01\x02\0\0\0\0\0\0\0\x02\0\0\0\0\0\0\0\x01\0\x01v\x01\x03\0\0\0\0\0\0\0\x03\0\0\0\0\0\0\0\x01\0\x04host\x02\x01\0a\x04\0\0\0\0\0\0\0\x02\0\x04host\x02\x01\0B\x01v\x02\x01\0x\x05\0\0\0\0\0\0\0\x02\0\x04host\x01\0\0\0\0\0\0\0\0\x01v\x01\xf9\xff\xff\xff\xff\xff\xff\xff\x06\0\0\0\0\0\0\0\x02\0\x04host\x01\xfb\xff\xff\xff\xff\xff\xff\xff\x01v\x01\x01\0\0\0\0\0\0\0\x07\0\0\0\0\0\0\0\x02\0\x04host\x02\x02\0ab\x01v\x02\x01\0y\x08\0\0\0\0\0\0\0\x02\0\x04host\x01\0\0\0\0\0\0\0\0\x01v\x01\xf7\xff\xff\xff\xff\xff\xff\xff";
 
-// So many rows, from their bytes.
-fn rows_of(alloc: Global, bytes: &[u8], count: u64) -> Result<Rows, AllocError>
+// Eight rows, from their bytes.
+fn eight_rows(alloc: Global, bytes: &[u8]) -> Result<Rows, AllocError>
     ensures { IfOk result (λ rows. AllByRecursion IsRow rows) }
 {
-    match read_rows(alloc, bytes, count)? {
+    match read_rows(alloc, bytes, 8)? {
         Some((rows, _taken)) => Ok(Rows::of(rows)),
         None => Ok(Rows::of(Vec::new(alloc))),
     }
 }
 
-// Whether the copies of so many rows have the rows' bytes.
-fn are_copied(alloc: Global, bytes: &[u8], count: u64) -> Result<bool, AllocError> {
-    let rows = rows_of(alloc, bytes, count)?.copy()?;
+// Whether the copies of eight rows have the bytes of the rows.
+fn are_copied(alloc: Global, bytes: &[u8]) -> Result<bool, AllocError> {
+    let rows = eight_rows(alloc, bytes)?.copy()?;
     let mut out = Vec::new(alloc);
     put_rows(&mut out, rows.as_slice())?;
     Ok(out.as_slice() == bytes)
@@ -104,7 +104,7 @@ const ASKED: &str =
 
 #[test]
 fn copies_are_had(rt: HostRuntime) -> Result<(), Fail> {
-    assert!(rt; are_copied(rt.alloc(), ROWS, 8)?);
+    assert!(rt; are_copied(rt.alloc(), ROWS)?);
     assert!(rt; is_copied(rt.alloc(), ASKED)?);
     Ok(())
 }
@@ -138,7 +138,7 @@ fn are_merged_so(
 #[test]
 fn two_tables_are_one(rt: HostRuntime) -> Result<(), Fail> {
     let alloc = rt.alloc();
-    let rows = rows_of(alloc, ROWS, 8)?;
+    let rows = eight_rows(alloc, ROWS)?;
     let Some(query) = read(alloc, BY_HOST)? else {
         panic!(rt; "no query");
     };
