@@ -90,8 +90,8 @@ log_whole reads base p end l flushed ((others, log), gate) =
 -- the image has all of the tables, and so has each log
 whole : (base tables : NamedStates) (m : Meaning) (version : ℕ) (images : List TableImage) (end : ℕ) → PairsMayBegin reads (m.leaves m.clock) m.held base → ((name : List ℕ) → tables name ≡ base name)
     → reads version ≡ true → IsImage version m.held.region images end → ImageOf base images → IsWhole tables images end m
-whole base tables m version images end begins same reads is of =
-    let all = begins.image version images end reads is in
+whole base tables m version images end begins same may is of =
+    let all = begins.image version images end may is in
     record {
       same = λ name. subst (λ (s : HistoryState). IsImageOf s.writes (table_named images name)) (sym (same name)) (named_one base images name (of.all name) of.each);
       logs = λ p left.
