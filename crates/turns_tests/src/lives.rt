@@ -24,6 +24,21 @@ const AT_FIVE: &[u8] = b"\x05\0\0\0\0\0\0\0\0\0";
 /// A row with the time 6 and no cells.
 const AT_SIX: &[u8] = b"\x06\0\0\0\0\0\0\0\0\0";
 
+/// The numbers of the first asking, of the opening and of the add, with the rows kept and late.
+type Begun = (u64, u64, (u64, u64, u64));
+
+/// The numbers of the taking and of the flush, and the writes as counted by table and record.
+type Flushed = (u64, u64, u64, u64);
+
+/// The number of the shutting with the table's writes, and those of the refused add and of the handing over.
+type Ended = ((u64, u64), u64, u64);
+
+/// The number of an asking, how many groups there are, and the count of the first.
+type Counted = (u64, usize, u64);
+
+/// The numbers of two removals, each with its rows.
+type Removed = ((u64, u64), (u64, u64));
+
 /// One row, from its bytes.
 fn one_row(alloc: Global, bytes: &[u8]) -> Result<Rows, AllocError>
     ensures { IfOk result (λ rows. AllByRecursion IsRow rows) }
@@ -50,6 +65,32 @@ fn count_all(alloc: Global) -> Result<Query, AllocError> {
     })
 }
 
+/// The number of a reply that the table is shut, and 0 of another.
+fn shut_number(reply: &Reply) -> u64 {
+    match reply {
+        Reply::Shut { number } => *number,
+        Reply::Added { .. }
+        | Reply::Removed { .. }
+        | Reply::Groups { .. }
+        | Reply::Full { .. }
+        | Reply::NoMemory { .. }
+        | Reply::Worn => 0,
+    }
+}
+
+/// Number, kept and late rows of a reply to an add, and (0, 0, 0) of another.
+fn added(reply: &Reply) -> (u64, u64, u64) {
+    match reply {
+        Reply::Added { number, kept, late } => (*number, *kept, *late),
+        Reply::Removed { .. }
+        | Reply::Groups { .. }
+        | Reply::Shut { .. }
+        | Reply::Full { .. }
+        | Reply::NoMemory { .. }
+        | Reply::Worn => (0, 0, 0),
+    }
+}
+
 /// Opens a table that is not founded with nothing in it. The number of the entry.
 fn open_empty<R: Wait>(
     rt: &R,
@@ -72,13 +113,13 @@ fn open_empty<R: Wait>(
     }
 }
 
-/// Takes what was not taken, and flushes that. The numbers of both entries, and the writes as counted by table and record.
+/// Takes what was not taken, and flushes that.
 fn take_and_flush<R: Wait>(
     rt: &R,
     shared: &SharedTable,
     steward: &mut Seat,
     berth: &MemBerth,
-) -> Result<(u64, u64, u64, u64), AllocError>
+) -> Result<Flushed, AllocError>
     requires seat { IsSeatOf steward.old shared.now.site }
     requires steward { (steward.old.id ≡ 0) × (steward.old.share ≡ 1) × (7 ≤ steward.old.room) }
     requires open { SeesOpen shared.now steward.old }
@@ -99,43 +140,85 @@ fn take_and_flush<R: Wait>(
     }
 }
 
+/// Asks a table that is shut, opens it with nothing in it, and adds a row.
+fn begin<R: Wait>(
+    rt: &R,
+    alloc: Global,
+    shared: &SharedTable,
+    steward: &mut Seat,
+    seat: &mut Seat,
+    berth: &MemBerth,
+) -> Result<Begun, AllocError>
+    requires caller { IsSeatOf seat.old shared.now.site × IsCaller seat.old }
+    requires seat { IsSeatOf steward.old shared.now.site }
+    requires steward { (steward.old.id ≡ 0) × (steward.old.share ≡ 1) × (8 ≤ steward.old.room) }
+    requires shut { SeesShut shared.now steward.old }
+    requires founded { base_seen shared.now ≡ None }
+    ensures caller { IsSeatOf seat.new shared.now.site × IsCaller seat.new }
+    ensures seat { IsSeatOf steward.new shared.now.site }
+    ensures steward { (steward.new.id ≡ 0) × (steward.new.share ≡ 1) × (7 ≤ steward.new.room) }
+    ensures open { OnOk result (SeesOpen shared.now steward.new) }
+{
+    let query = count_all(alloc)?;
+    let rows = one_row(alloc, AT_FIVE)?;
+    let asked = shared.ask(rt, seat, &query, &OpenGate);
+    let opened = open_empty(rt, alloc, shared, steward, berth)?;
+    let reply = shared.add(rt, seat, rows, &OpenGate);
+    Ok((shut_number(&asked), opened, added(&reply)))
+}
+
+/// Shuts the table, adds a row to it, and hands it over.
+fn end<R: Wait>(
+    rt: &R,
+    alloc: Global,
+    shared: &SharedTable,
+    steward: &mut Seat,
+    seat: &mut Seat,
+    berth: &MemBerth,
+) -> Result<Ended, AllocError>
+    requires caller { IsSeatOf seat.old shared.now.site × IsCaller seat.old }
+    requires seat { IsSeatOf steward.old shared.now.site }
+    requires steward { (steward.old.id ≡ 0) × (steward.old.share ≡ 1) × (5 ≤ steward.old.room) }
+    requires open { SeesOpen shared.now steward.old }
+    ensures caller { IsSeatOf seat.new shared.now.site }
+    ensures seat { IsSeatOf steward.new shared.now.site }
+{
+    let rows = one_row(alloc, AT_SIX)?;
+    let closed = shared.shut(rt, steward, berth, &OpenGate);
+    let late = shared.add(rt, seat, rows, &OpenGate);
+    let done = shared.done(rt, steward, berth, &OpenGate);
+    Ok(((closed.number, closed.writes), shut_number(&late), done))
+}
+
+/// Lives the life of a table. What its parts tell, and how many entries the caller and the steward have then seen.
+fn live<R: Wait>(
+    rt: &R,
+    alloc: Global,
+    berth: &MemBerth,
+) -> Result<(Begun, Flushed, Ended, (u64, u64)), AllocError> {
+    let name = Text::of(String::from_str(alloc, "t")?);
+    let (shared, mut steward, mut seat) = SharedTable::new::<Brand>(alloc, 0, 0, &name, 2)?;
+    let begun = begin(rt, alloc, &shared, &mut steward, &mut seat, berth)?;
+    let flushed = take_and_flush(rt, &shared, &mut steward, berth)?;
+    let ended = end(rt, alloc, &shared, &mut steward, &mut seat, berth)?;
+    shared.meet(&mut seat, &mut steward)?;
+    Ok((begun, flushed, ended, (seat.seen(), steward.seen())))
+}
+
 #[test]
 fn one_life(rt: HostRuntime) -> Result<(), Fail> {
     let alloc = rt.alloc();
-    let name = Text::of(String::from_str(alloc, "t")?);
-    let (shared, mut steward, mut seat) = SharedTable::new::<Brand>(alloc, 0, 0, &name, 2)?;
     let berth = MemBerth::new(Vec::new(alloc), Vec::new(alloc));
-    let asked = shared.ask(&rt, &mut seat, &count_all(alloc)?, &OpenGate);
-    assert!(rt; matches!(asked, Reply::Shut { number: 1 }));
-    assert_eq!(rt; open_empty(&rt, alloc, &shared, &mut steward, &berth)?, 2);
-    let added = shared.add(&rt, &mut seat, one_row(alloc, AT_FIVE)?, &OpenGate);
-    assert!(rt;
-        matches!(
-            added,
-            Reply::Added {
-                number: 3,
-                kept: 1,
-                late: 0
-            }
-        )
-    );
-    assert_eq!(rt;
-        take_and_flush(&rt, &shared, &mut steward, &berth)?,
-        (4, 5, 1, 1)
-    );
-    let closed = shared.shut(&rt, &mut steward, &berth, &OpenGate);
-    assert_eq!(rt; (closed.number, closed.writes), (6, 1));
-    let late = shared.add(&rt, &mut seat, one_row(alloc, AT_SIX)?, &OpenGate);
-    assert!(rt; matches!(late, Reply::Shut { number: 7 }));
-    assert_eq!(rt; shared.done(&rt, &mut steward, &berth, &OpenGate), 8);
-    shared.meet(&mut seat, &mut steward)?;
-    assert_eq!(rt; (seat.seen(), steward.seen()), (8, 8));
-    assert_eq!(rt; shared.name().as_str(), "t");
+    let (begun, flushed, ended, seen) = live(&rt, alloc, &berth)?;
+    assert_eq!(rt; begun, (1, 2, (3, 1, 0)));
+    assert_eq!(rt; flushed, (4, 5, 1, 1));
+    assert_eq!(rt; ended, ((6, 1), 7, 8));
+    assert_eq!(rt; seen, (8, 8));
     Ok(())
 }
 
-/// Adds in a thread that owns its seat.
-fn adder<R: Wait>(rt: &R, shared: &SharedTable, seat: Seat, rows: Rows) -> (Seat, Reply)
+/// Adds in a thread that owns its seat. The number of the entry.
+fn adder<R: Wait>(rt: &R, shared: &SharedTable, seat: Seat, rows: Rows) -> (Seat, u64)
     requires seat { IsSeatOf seat shared.now.site }
     requires caller { IsCaller seat }
     requires rows { AllByRecursion IsRow rows }
@@ -143,10 +226,10 @@ fn adder<R: Wait>(rt: &R, shared: &SharedTable, seat: Seat, rows: Rows) -> (Seat
 {
     let mut seat = seat;
     let reply = shared.add(rt, &mut seat, rows, &OpenGate);
-    (seat, reply)
+    (seat, added(&reply).0)
 }
 
-/// Two threads add, and their seats are joined.
+/// Two threads add, and their seats are joined. The numbers of both entries.
 fn add_both<R: Threads + Wait + Sync>(
     rt: &R,
     shared: &SharedTable,
@@ -154,7 +237,7 @@ fn add_both<R: Threads + Wait + Sync>(
     second: Seat,
     rows: Rows,
     more: Rows,
-) -> (Seat, Reply, Reply)
+) -> (Seat, u64, u64)
     requires first { IsSeatOf first shared.now.site × IsCaller first × AllByRecursion IsRow rows }
     requires second { IsSeatOf second shared.now.site × IsCaller second × AllByRecursion IsRow more }
     ensures seat { IsSeatOf result.0 shared.now.site × IsCaller result.0 }
@@ -174,38 +257,83 @@ fn add_both<R: Threads + Wait + Sync>(
     (one, a, b)
 }
 
-#[test]
-fn two_threads_add_with_two_numbers(rt: HostRuntime) -> Result<(), Fail> {
-    let alloc = rt.alloc();
-    let name = Text::of(String::from_str(alloc, "t")?);
-    let (shared, mut steward, mut seat) = SharedTable::new::<Brand>(alloc, 0, 0, &name, 2)?;
-    let berth = MemBerth::new(Vec::new(alloc), Vec::new(alloc));
-    assert_eq!(rt; open_empty(&rt, alloc, &shared, &mut steward, &berth)?, 1);
-    let other = shared.split(&mut seat, 1)?;
-    let rows = one_row(alloc, AT_FIVE)?;
-    let more = one_row(alloc, AT_SIX)?;
-    let (mut joined, a, b) = add_both(&rt, &shared, seat, other, rows, more);
-    let first = matches!(a, Reply::Added { number: 2, .. })
-        && matches!(b, Reply::Added { number: 3, .. });
-    let second = matches!(a, Reply::Added { number: 3, .. })
-        && matches!(b, Reply::Added { number: 2, .. });
-    assert!(rt; first || second);
-    match shared.ask(&rt, &mut joined, &count_all(alloc)?, &OpenGate) {
+/// Counts the rows.
+fn count<R: Wait>(
+    rt: &R,
+    alloc: Global,
+    shared: &SharedTable,
+    seat: &mut Seat,
+) -> Result<Counted, AllocError>
+    requires seat { IsSeatOf seat.old shared.now.site × IsCaller seat.old }
+    ensures seat { IsSeatOf seat.new shared.now.site × IsCaller seat.new }
+{
+    let query = count_all(alloc)?;
+    match shared.ask(rt, seat, &query, &OpenGate) {
         Reply::Groups { number, groups } => {
-            assert_eq!(rt; number, 4);
-            assert_eq!(rt; groups.as_slice().len(), 1);
-            assert_eq!(rt; groups.as_slice()[0].count, 2);
+            let groups = groups.as_slice();
+            Ok(match groups.first() {
+                Some(group) => (number, groups.len(), group.count),
+                None => (number, 0, 0),
+            })
         }
         Reply::Added { .. }
         | Reply::Removed { .. }
         | Reply::Shut { .. }
         | Reply::Full { .. }
         | Reply::NoMemory { .. }
-        | Reply::Worn => assert!(rt; false),
+        | Reply::Worn => Ok((0, 0, 0)),
     }
-    let removed = shared.expire(&rt, &mut joined, 6, &OpenGate);
-    assert!(rt; matches!(removed, Reply::Removed { number: 5, rows: 1 }));
-    let removed = shared.keep(&rt, &mut joined, 0, &OpenGate);
-    assert!(rt; matches!(removed, Reply::Removed { number: 6, rows: 1 }));
+}
+
+/// The number of a reply to a removal with its rows, and (0, 0) of another.
+fn removed(reply: &Reply) -> (u64, u64) {
+    match reply {
+        Reply::Removed { number, rows } => (*number, *rows),
+        Reply::Added { .. }
+        | Reply::Groups { .. }
+        | Reply::Shut { .. }
+        | Reply::Full { .. }
+        | Reply::NoMemory { .. }
+        | Reply::Worn => (0, 0),
+    }
+}
+
+/// Removes the rows before the time 6, and then all but none.
+fn remove<R: Wait>(rt: &R, shared: &SharedTable, seat: &mut Seat) -> Removed
+    requires seat { IsSeatOf seat.old shared.now.site × IsCaller seat.old }
+    ensures seat { IsSeatOf seat.new shared.now.site }
+{
+    let first = shared.expire(rt, seat, 6, &OpenGate);
+    let second = shared.keep(rt, seat, 0, &OpenGate);
+    (removed(&first), removed(&second))
+}
+
+/// Opens a table, lets two threads add a row each, and counts and removes what is there with the joined seat. The numbers of
+/// the threads' entries, and what the others tell.
+fn live_by_two<R: Threads + Wait + Sync>(
+    rt: &R,
+    alloc: Global,
+    berth: &MemBerth,
+) -> Result<((u64, u64), Counted, Removed), AllocError> {
+    let name = Text::of(String::from_str(alloc, "t")?);
+    let rows = one_row(alloc, AT_FIVE)?;
+    let more = one_row(alloc, AT_SIX)?;
+    let (shared, mut steward, mut seat) = SharedTable::new::<Brand>(alloc, 0, 0, &name, 2)?;
+    open_empty(rt, alloc, &shared, &mut steward, berth)?;
+    let other = shared.split(&mut seat, 1)?;
+    let (mut joined, first, second) = add_both(rt, &shared, seat, other, rows, more);
+    let counted = count(rt, alloc, &shared, &mut joined)?;
+    let removed = remove(rt, &shared, &mut joined);
+    Ok(((first, second), counted, removed))
+}
+
+#[test]
+fn two_threads_add_with_two_numbers(rt: HostRuntime) -> Result<(), Fail> {
+    let alloc = rt.alloc();
+    let berth = MemBerth::new(Vec::new(alloc), Vec::new(alloc));
+    let (numbers, counted, removed) = live_by_two(&rt, alloc, &berth)?;
+    assert!(rt; numbers == (2, 3) || numbers == (3, 2));
+    assert_eq!(rt; counted, (4, 1, 2));
+    assert_eq!(rt; removed, ((5, 1), (6, 1)));
     Ok(())
 }
