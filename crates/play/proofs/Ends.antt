@@ -7,6 +7,7 @@ use Rattle.berth_face.specs.Berth.{Meaning}
 use Rattle.region_layout.specs.Names.{AreNames, IsName}
 use Rattle.crash_moments.specs.Left.{NamedStates}
 use Rattle.crash_states.proofs.Lefts.{rests_told}
+use Rattle.crash_states.proofs.Whole.{rests_whole}
 use Rattle.script_text.specs.declared.command.Command.{Command}
 use Rattle.script_text.specs.declared.command.Command.TheVariants as command
 use Rattle.script_text.specs.Fits.{AreTables, IsTableName, IsCommand, AreCommands}
@@ -67,6 +68,7 @@ all_may_play (command.Start leaf ∷ more) c = absurd c
 nothing_left : (b : NamedStates) (m : Meaning) → IsBase b m → LeavesBerth [] b (λ table. []) m m
 nothing_left b m based = record {
   crash = rests_told [] [] b based.begins.1.0 based.begins.1.1 m based.begins.1.2 tt;
+  left = rests_whole [] b based.begins.1.0 based.begins.1.1 m based.begins.1.2;
   begins = record {
     base = b;
     is = based.is;
@@ -92,6 +94,7 @@ nothing_told (Some b) m is = λ way read way_is has. record {
   };
   lines_are = refl;
   leaves = nothing_left b m is;
+  region = (way_is, tt);
 }
 
 nothing_over : {B : Type 0} (base : B → Option NamedStates) (meaning : B → Meaning) (berths : List B) → ((b : B) → IfSome (base b) (λ t. IsBase t (meaning b))) → OverFirst base meaning [] [] berths berths
@@ -104,7 +107,7 @@ nothing_written base meaning commands was berths are e = rw e (record {
   lines = [];
   written = appends_nothing was;
   transcript = nothing_over base meaning berths are;
-  empty = λ none. refl;
+  empty = λ none. (refl, refl);
 })
 
 -- ---- a run over the first berth

@@ -53,12 +53,12 @@ OverFirst base meaning commands lines (old ∷ olds) (new ∷ news) =
     × WereCounted (meaning old).region_faults (meaning new).region_faults (region_faults_in 0 lines)
     × WereCounted (meaning old).disk_faults (meaning new).disk_faults (disk_faults_in 0 lines)
 
--- The text of these lines was written, which are a transcript of the commands.
+-- The text of these lines was written, which are a transcript of the commands. Of no command there is no line, and no berth is touched.
 pub record IsWritten {B : Type 0} (base : B → Option NamedStates) (meaning : B → Meaning) (commands : List Command) (was now : Option (List ℕ)) (old new : List B) : Type 0 where
   pub lines : List Line
   pub written : Appends was now (lines_text (names_in commands) lines)
   pub transcript : OverFirst base meaning commands lines old new
-  pub empty : commands ≡ [] → lines ≡ []
+  pub empty : commands ≡ [] → (lines ≡ []) × (new ≡ old)
 
 -- The source was read to its end, its text is a script, and what was written is a transcript of it.
 pub record IsPlayed {B : Type 0} (base : B → Option NamedStates) (meaning : B → Meaning) (before after was now : Option (List ℕ)) (old new : List B) : Type 0 where

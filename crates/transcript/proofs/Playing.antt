@@ -1,10 +1,11 @@
 -- A run begins, goes on by one command, and ends.
 use Rattle.std.proofs.Common.{◌≡◌, ℕ, zero, suc, ◌<◌, true, false, Bool, List, [], ◌∷◌, ◌++◌, length, take, Option, Some, refl, sym, ap, subst, ◌∙◌, arith}
-use Rattle.std.specs.Prelude.{slice_get, slice_index_or, bytes_eq, if◌then◌else◌}
+use Rattle.std.specs.Prelude.{slice_get, slice_index_or, bytes_eq, if◌then◌else◌, IfSome}
 use Rattle.std.proofs.lemmas.List.{append-nil}
 use Rattle.berth_face.specs.Berth.{Meaning}
 use Rattle.leaf_history.specs.History.{Entry, HistoryState}
 use Rattle.leaf_opening.specs.declared.ways.Way.{Way}
+use Rattle.leaf_opening.specs.Starts.{IsWayOf}
 use Rattle.turnstile.specs.Seats.{unused_seat}
 use Rattle.crash_moments.specs.Left.{NamedStates}
 use Rattle.leaf_table.specs.Turns.{Shared}
@@ -20,11 +21,11 @@ use Rattle.printed_lines.specs.declared.line.Verb.TheVariants.{Flush, Drain, Kil
 use Rattle.printed_lines.specs.declared.line.Ending.{Ending}
 use Rattle.printed_lines.specs.Lines.{lines_text, name_at}
 use Rattle.transcript.specs.Base.{LogHas, base_at}
-use Rattle.transcript.specs.Life.{Life, Down, OfDrain, OfKill, OfStart}
+use Rattle.transcript.specs.Life.{Life, Down, Up, Preparing, OfDrain, OfKill, OfStart, claim_of}
 use Rattle.transcript.specs.Transcript.{Answers, IsHistoryOf, OpensFlushed, Played, Prints, as_read, is_disk_fault, place_of, shown, until_disk_fault}
-use Rattle.transcript.specs.Stage.{Leaf, MeetAll, seated_of}
+use Rattle.transcript.specs.Stage.{Leaf, IsDown, IsUp, IsPreparing, MeetAll, seated_of}
 use Rattle.transcript.specs.Steps.{DrainsLeaf, FlushStep, KillStep, StartStep, StewardPart, note_lines}
-use Rattle.transcript.specs.Session.{HasAnswers, IsExact, IsStewards, MetSession, Session, TableMet, TableNow, WornAreLong, history_at, one_leaf, scene_of, state_read}
+use Rattle.transcript.specs.Session.{FitsLife, HasAnswers, IsExact, IsStewards, MetSession, Session, TableMet, TableNow, WornAreLong, history_at, one_leaf, scene_of, state_read}
 use Rattle.transcript.specs.Laws.{IsToldRun, SessionsBegin, SessionsGoOn, SessionsEnd}
 use Rattle.transcript.proofs.Lists.{All-weaken, clash_bool, element_at, eq_bytes, get_map, name_is, within}
 use Rattle.transcript.proofs.Shapes.{flush_shape, kill_shape, start_shape}
@@ -218,6 +219,18 @@ plays_on meaning old b b' names way base read commands out leaf leaf' callers ca
 
 -- ---- the end
 
+-- the region is what the leaf's life claims
+region_is : (life : Life) (leaf : Leaf) (m : Meaning) → FitsLife life leaf m → IfSome (claim_of life) (IsWayOf m.held.region)
+region_is (Down claim) (IsDown x) m fits = fits
+region_is (Down claim) (IsUp x) m fits = absurd fits
+region_is (Down claim) (IsPreparing x) m fits = absurd fits
+region_is (Up way owed) (IsDown x) m fits = absurd fits
+region_is (Up way owed) (IsUp x) m fits = fits.0
+region_is (Up way owed) (IsPreparing x) m fits = absurd fits
+region_is (Preparing way p) (IsDown x) m fits = absurd fits
+region_is (Preparing way p) (IsUp x) m fits = absurd fits
+region_is (Preparing way p) (IsPreparing x) m fits = fits.0
+
 module _ (names : List (List ℕ)) (way : Way) (base : NamedStates) (read : List ℕ → ℕ) (old : Meaning) (commands : List Command) (out : List Line) (leaf : Leaf) (callers : List SeatView) (m : Meaning)
     (s : MetSession names way base read old commands out leaf callers m) where
   -- what is known of the table in that place
@@ -264,6 +277,7 @@ module _ (names : List (List ℕ)) (way : Way) (base : NamedStates) (read : List
     };
     lines_are = s.all;
     leaves = leaves_met names base leaf callers old m law s.tells s.sound s.in_place s.founded (λ place t v c at sat called. (s.tables place t v c at sat called).same) s.stands s.told;
+    region = (region_is s.life leaf m s.fits, tt);
   }
     where
       below_one : (l : ℕ) → l < 1 → l ≡ 0

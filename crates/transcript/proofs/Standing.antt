@@ -4,16 +4,19 @@ use Rattle.std.specs.Prelude.{IsTrue, slice_get}
 use Rattle.std.specs.List.{AllByRecursion}
 use Rattle.std.proofs.lemmas.List.{map-append}
 use Rattle.berth_face.specs.Berth.{Meaning}
+use Rattle.berth_face.specs.Moments.{EachNow}
 use Rattle.leaf_history.specs.History.{Entry, HistoryState}
 use Rattle.leaf_history.specs.Laws.{AreCallers}
 use Rattle.region_layout.specs.Names.{AreNames}
+use Rattle.region_layout.specs.Region.{reads}
 use Rattle.turnstile.specs.Seats.{Others}
-use Rattle.crash_moments.specs.Left.{NamedStates}
+use Rattle.crash_moments.specs.Left.{NamedStates, Left}
 use Rattle.crash_moments.specs.Told as moments
 use Rattle.crash_moments.specs.Told.{SeenMore}
 use Rattle.crash_moments.specs.Watched.{Watched}
 use Rattle.crash_moments.proofs.Telling.{none_more, told_join}
 use Rattle.crash_states.proofs.Lefts.{runs_told, rests_told}
+use Rattle.crash_states.proofs.Whole.{runs_whole, rests_whole}
 use Rattle.crash_states.proofs.Meeting.{callers_between}
 use Rattle.crash_states.specs.Standing.{tables_of}
 use Rattle.leaf_table.specs.Turns.{Shared, Turns, history, is_founded, start_of, told}
@@ -209,6 +212,12 @@ stands_begin base (IsUp x) m law tells sound stands = law.runs (watched_by x.sea
 stands_begin base (IsPreparing x) m law tells sound stands =
     law.runs (watched_by x.serving.seated) base x.serving.owing.owner x.serving.owing.log stands.0 tells sound stands.1
 
+-- what a crash leaves now belongs to its tables with all their entries
+stands_whole : (base : NamedStates) (leaf : Leaf) (m : Meaning) → Stands base leaf m → EachNow (λ p. Left reads (tables_of base (watched_by (seated_of leaf)) m) p) m
+stands_whole base (IsDown x) m stands = rests_whole (watched_by x) base stands.0 stands.1 m stands.2
+stands_whole base (IsUp x) m stands = runs_whole (watched_by x.seated) base x.owing.owner x.owing.log stands.0 m stands.1
+stands_whole base (IsPreparing x) m stands = runs_whole (watched_by x.serving.seated) base x.serving.owing.owner x.serving.owing.log stands.0 m stands.1
+
 -- it has ended, and all seats have met
 pub leaves_met : (names : List (List ℕ)) (base : NamedStates) (leaf : Leaf) (callers : List SeatView) (old m : Meaning)
     → LeavesBegin m → IsTrue m.tells → AreHandedNothing base → AreInPlace names (seated_of leaf) callers → AreFoundedWith base (seated_of leaf)
@@ -221,5 +230,6 @@ leaves_met names base leaf callers old m law tells sound in_place founded same s
     (λ place t v c at sat called. same place t v c at sat called ∙ sym (history_there callers place c called)) in
     record {
       crash = subst (λ (ws : List Watched). moments.Told base (watched_with names base unseen) ws old m) last so_far;
+      left = subst (λ (ws : List Watched). EachNow (λ p. Left reads (tables_of base ws m) p) m) last (stands_whole base leaf m stands);
       begins = subst (λ (ws : List Watched). BeginsAgain (tables_of base ws m) m) last (stands_begin base leaf m law tells sound stands);
     }

@@ -1,14 +1,16 @@
 -- Laws of runs, as statements.
-use Rattle.std.specs.Prelude.{◌≡◌, ℕ, List, [], ◌∷◌, ◌++◌, Some}
-use Rattle.std.specs.List.{flat_map}
+use Rattle.std.specs.Prelude.{◌≡◌, ℕ, List, [], ◌∷◌, ◌++◌, Some, IfSome}
+use Rattle.std.specs.List.{flat_map, AllByRecursion}
 use Rattle.berth_face.specs.Berth.{Meaning}
+use Rattle.berth_face.specs.Moments.{EachNow}
 use Rattle.leaf_history.specs.History.{Entry}
 use Rattle.region_layout.specs.Names.{AreNames}
+use Rattle.region_layout.specs.Region.{reads}
 use Rattle.leaf_opening.specs.declared.ways.Way.{Way}
 use Rattle.leaf_opening.specs.Starts.{IsWayOf}
 use Rattle.turnstile.specs.Seats.{unused_seat}
 use Rattle.leaf_table.specs.Calls.{SeatView}
-use Rattle.crash_moments.specs.Left.{NamedStates}
+use Rattle.crash_moments.specs.Left.{NamedStates, Left}
 use Rattle.crash_moments.specs.Told as moments
 use Rattle.leaf_steward.specs.Seated.{Seated}
 use Rattle.leaf_machine.specs.States.{MayBegin}
@@ -18,7 +20,7 @@ use Rattle.script_text.specs.declared.command.Command.{Command}
 use Rattle.printed_lines.specs.declared.line.Line.{Line}
 use Rattle.printed_lines.specs.Lines.{lines_text, name_at}
 use Rattle.transcript.specs.Base.{LogHas, base_at, unseen, watched_with}
-use Rattle.transcript.specs.Life.{Down}
+use Rattle.transcript.specs.Life.{Life, Down, claim_of}
 use Rattle.transcript.specs.Stage.{Leaf, IsDown, Stands, MeetAll}
 use Rattle.transcript.specs.Steps.{MayPlay, Plays}
 use Rattle.transcript.specs.Transcript.{Transcript, Played, Fleet}
@@ -46,16 +48,22 @@ SessionsGoOn meaning old b b' = (names : List (List ℕ)) (way : Way) (base : Na
     → Session names way base read old (commands ++ c ∷ []) (out ++ lines) leaf' callers' (meaning b')
 
 -- What a run did to the berth and left of it, by the histories of the leaf's tables: at every moment since it began, each region and disk that a crash may leave belong to the tables as they
--- stood then, each cut behind the last entry that the steward had made; and a run may begin over the berth again.
+-- stood then, each cut behind the last entry that the steward had made; now they belong to the tables with all their entries; and a run may begin over the berth again.
 pub record LeavesBerth (names : List (List ℕ)) (base : NamedStates) (histories : ℕ → List Entry) (old new : Meaning) : Type 0 where
   pub crash : moments.Told base (watched_with names base unseen) (watched_with names base histories) old new
+  pub left : EachNow (λ p. Left reads (tables_of base (watched_with names base histories) new) p) new
   pub begins : BeginsAgain (tables_of base (watched_with names base histories) new) new
+
+-- the region is what the next start of each leaf would print, where that is claimed
+abbrev pub LeavesRegion : List Life → Meaning → Type 0
+LeavesRegion lives m = AllByRecursion (λ life. IfSome (claim_of life) (IsWayOf m.held.region)) lives
 
 -- The text of these lines is a transcript of the commands, and the berth is left so. `read` are the numbers of writes that the log as it reads has of each name.
 pub record IsToldRun (fleet : Fleet) (way : Way) (base : NamedStates) (read : List ℕ → ℕ) (commands : List Command) (out : List Line) (old new : Meaning) : Type 0 where
   pub transcript : Transcript fleet (scene_of (Down (Some way))) (λ leaf. base_at fleet.names base) (λ leaf table. read (name_at fleet.names table)) commands (lines_text fleet.names out)
   pub lines_are : flat_map (λ (p : Played). p.lines) transcript.played ≡ out
   pub leaves : LeavesBerth fleet.names base (transcript.histories 0) old new
+  pub region : LeavesRegion transcript.scene_after.lives new
 
 -- what was written of a run is a transcript, once all its seats have met again
 abbrev pub SessionsEnd : Meaning → Meaning → Type 0

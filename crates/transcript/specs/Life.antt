@@ -31,6 +31,12 @@ pub data Life : Type 0 where
   Up : (way : Way) (owed : Option Owed) → Life
   Preparing : (way : Way) (at : Progress) → Life
 
+-- what its next start prints unless it is drained first, where that is claimed
+abbrev pub claim_of : Life → Option Way
+claim_of (Down claim) = claim
+claim_of (Up way owed) = Some way
+claim_of (Preparing way p) = Some way
+
 -- one line for each table in order, from a place on
 abbrev pub table_lines : ℕ → ℕ → List ℕ → List Said → List Line
 table_lines leaf place [] saids = []

@@ -1,0 +1,86 @@
+-- Each pair that a crash may leave now belongs to the tables with all their entries, not only with those up to the steward's last.
+use Rattle.std.proofs.Common.{◌≡◌, ◌⊎◌, inl, inr, ℕ, true, false, List, [], length, take, Option, Some, refl, sym, ap, subst, ◌∙◌, arith}
+use Rattle.std.specs.Prelude.{slice_get}
+use Rattle.std.proofs.lemmas.Bool.{ne_eqb}
+use Rattle.std.proofs.lemmas.List.{take_all}
+use Rattle.leaf_model.specs.declared.writes.Write.{Write}
+use Rattle.row_records.specs.Records.{LogRecord}
+use Rattle.berth_face.specs.Berth.{Pair, Meaning}
+use Rattle.berth_face.specs.Moments.{EachNow}
+use Rattle.berth_face.proofs.Moments.{passes_none}
+use Rattle.region_layout.specs.declared.image.TableImage.{TableImage}
+use Rattle.region_layout.specs.Region.{IsClosed, IsImage, head_of, reads, layout}
+use Rattle.disk_backup.specs.State.{LogState}
+use Rattle.disk_backup.specs.Settling.{HasLog, with_writes}
+use Rattle.drain_copy.specs.Draining.{DrainState}
+use Rattle.leaf_history.specs.History.{HistoryState}
+use Rattle.region_layout.specs.ImageWrites.{AreImagesOf}
+use Rattle.disk_backup.specs.SoundLogs.{HasSoundLog, IsShort}
+use Rattle.disk_backup.proofs.SoundLogs.{none_short, no_writes}
+use Rattle.crash_moments.specs.Left.{NamedStates, Left, RegionLeft, closed, other_version}
+use Rattle.crash_moments.specs.Watched.{Watched, IsWatched, AreWatched, is_watched, now_of, state_then, tables_then, was_opened}
+use Rattle.crash_moments.specs.Told.{SeenMore, Told}
+use Rattle.crash_moments.proofs.Histories.{cut_keeps}
+use Rattle.crash_states.specs.Standing.{IsLogged, Runs, IsKept, RegionRests, is_closed, is_other, is_image, Rests, IsTreated, Copies, Holds, tables_of}
+use Rattle.crash_states.specs.Laws.{IsLeftNow}
+use Rattle.crash_states.proofs.Names.{IsOwn, IsForeign, find_name, same_by_name, others_at, no_others, each_at, named_at}
+use Rattle.crash_states.proofs.States.{IsFrontOf, IsBetween, front_short, no_front, front_before, shut_then, now_sound, then_sound, without_owed, with_owed, between_few, logged_front, kept_least, kept_most, treated_front, treated_none}
+use Rattle.crash_states.proofs.Disks.{sound_owing, sound_log}
+use Rattle.crash_states.proofs.Pairs.{left_by, image_left, lost_closed, lost_left}
+use Rattle.crash_states.proofs.Lefts.{taken_short, runs_logs}
+
+-- ---- a leaf that serves or shuts its tables
+
+module _ (ws : List Watched) (owner : ℕ) (log : LogState) (writes : List ℕ → List Write) (m : Meaning) (runs : Runs ws owner log writes m) where
+  -- what lies between the log and what was taken is a front of each table's writes as they are now
+  front_now : (others : NamedStates) (held : List ℕ → List Write) → ((name : List ℕ) → IsBetween (writes name) (with_writes log.owed writes name) (held name)) → (name : List ℕ)
+      → IsFrontOf (held name) (tables_of others ws m name)
+  front_now others held between name = by (find_name ws name)
+    where
+      by : IsOwn ws name ⊎ IsForeign ws name → IsFrontOf (held name) (tables_of others ws m name)
+      by (inl own) =
+          let w : Watched = own.table in
+          let logged : IsLogged (writes name) (with_writes log.owed writes name) (now_of w) =
+          subst (λ (n : List ℕ). IsLogged (writes n) (with_writes log.owed writes n) (now_of w)) own.named (runs.each own.place w own.at) in
+          subst (IsFrontOf (held name)) (sym (own.stands now_of (others_at others m.clock ws)))
+          (logged_front (writes name) (with_writes log.owed writes name) (held name) (now_of w) logged (between name))
+      by (inr foreign) =
+          let nothing_taken : with_writes log.owed writes name ≡ [] = runs.others name foreign.unwatched in
+          let none : held name ≡ [] = (between name).front ∙ ap (λ (l : List Write). take (length (held name)) l) nothing_taken ∙ take_all (length (held name)) no_writes (omega arith) in
+          subst (IsFrontOf (held name)) (sym (foreign.stands now_of (others_at others m.clock ws) ∙ no_others (was_opened m.clock ws) others name runs.opened))
+          (no_front (held name) none)
+
+pub runs_whole : (ws : List Watched) (others : NamedStates) (owner : ℕ) (log : LogState) (writes : List ℕ → List Write) (m : Meaning) → Runs ws owner log writes m
+    → EachNow (λ p. Left reads (tables_of others ws m) p) m
+runs_whole ws others owner log writes m runs p left =
+    let front = front_now ws owner log writes m runs others in
+    elim (runs_logs ws owner log writes m runs p left) [
+      | inl without ↦ left_by (tables_of others ws m) writes p without (front writes (without_owed log.owed writes)) (closed (runs.closed p left))
+      | inr more ↦ left_by (tables_of others ws m) (with_writes log.owed writes) p more (front (with_writes log.owed writes) (with_owed log.owed writes)) (closed (runs.closed p left))
+    ]
+
+-- ---- a leaf at rest
+
+module _ (ws : List Watched) (others : NamedStates) (least : List ℕ → List Write) (next : Option LogRecord) (m : Meaning) (rests : Rests ws others least next m) where
+  region_now : (held : List ℕ → List Write) (p : Pair) (log : HasSoundLog held p.disk) → m.leaves m.clock p → RegionLeft reads (tables_of others ws m) p log.records log.log_end
+  region_now held p log left = elim (rests.stands.regions p left) [
+    | inl same ↦ as_it_reads same rests.region
+    | inr none ↦ lost_left (tables_of others ws m) p log.records log.log_end none
+  ]
+    where
+      as_it_reads : p.region ≡ m.held.region → RegionRests (tables_of others ws m) m → RegionLeft reads (tables_of others ws m) p log.records log.log_end
+      as_it_reads same (is_closed shut) = closed (subst IsClosed (sym same) shut)
+      as_it_reads same (is_other version head not_one) = other_version version (ap (λ (l : List ℕ). head_of l) same ∙ head) (ne_eqb version layout not_one)
+      as_it_reads same (is_image images log_end is whole) =
+          image_left (tables_of others ws m) (λ name. (tables_of others ws m name).writes) held p log images log_end (λ name. refl)
+          (subst (λ (l : List ℕ). IsImage layout l images log_end) (sym same) is) whole.same (whole.logs p left)
+
+pub rests_whole : (ws : List Watched) (others : NamedStates) (least : List ℕ → List Write) (next : Option LogRecord) (m : Meaning) → Rests ws others least next m
+    → EachNow (λ p. Left reads (tables_of others ws m) p) m
+rests_whole ws others least next m rests p left =
+    let most : (name : List ℕ) → IsFrontOf (with_writes next least name) (tables_of others ws m name) =
+    λ name. kept_most (least name) (with_writes next least name) (tables_of others ws m name) (rests.each name) (with_owed next least name).no_less in
+    elim (rests.logs p left) [
+      | inl shortest ↦ left_by (tables_of others ws m) least p shortest (λ name. kept_least (least name) (with_writes next least name) (tables_of others ws m name) (rests.each name)) (region_now ws others least next m rests least p shortest left)
+      | inr longest ↦ left_by (tables_of others ws m) (with_writes next least) p longest most (region_now ws others least next m rests (with_writes next least) p longest left)
+    ]
