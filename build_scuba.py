@@ -280,7 +280,7 @@ def side_by_side(crates, began):
     if any(os.path.isfile(it.sum) for it in crates):
         say(f"proving and building the program: at most {len(left)} of its {len(crates)} crates, those that changed")
     else:
-        say(f"proving and building the program, {len(crates)} crates; the first time takes about ten minutes on four processors")
+        say(f"proving and building the program, {len(crates)} crates; the first time takes about 20 minutes on four processors")
     guard = Guard()
     try:
         while left or running:
