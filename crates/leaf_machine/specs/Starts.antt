@@ -1,5 +1,5 @@
 -- What a start finds, which entries it makes, and what it leaves.
-use Rattle.std.specs.Prelude.{◌≡◌, ◌≢◌, ℕ, ◌<◌, List, [], slice_get, Option, Some, None, Result, Ok, Err, ⊤}
+use Rattle.std.specs.Prelude.{◌≡◌, ◌≢◌, ℕ, ◌<◌, List, [], length, slice_get, Option, Some, None, Result, Ok, Err, ⊤}
 use Rattle.leaf_model.specs.declared.writes.Write.{Write}
 use Rattle.row_records.specs.Records.{LogRecord}
 use Rattle.berth_face.specs.Berth.{Meaning}
@@ -12,8 +12,10 @@ use Rattle.leaf_table.specs.Calls.{SeatView, IsFresh}
 use Rattle.crash_moments.specs.Left.{NamedStates}
 use Rattle.crash_states.specs.Standing.{Runs, Rests}
 use Rattle.leaf_steward.specs.declared.notes.Note.{Note}
+use Rattle.leaf_steward.specs.declared.notes.What.{What}
+use Rattle.leaf_steward.specs.declared.notes.What.TheVariants.{Opened, Took, Flushed, Closed, Handed}
 use Rattle.leaf_steward.specs.Seated.{Seated, AtEach, watched_by}
-use Rattle.leaf_steward.specs.Making.{OpenedNotes, WornAt}
+use Rattle.leaf_steward.specs.Making.{EachNoted, OpenedNotes, WornAt}
 use Rattle.leaf_machine.specs.declared.faults.StartFault.{StartFault}
 use Rattle.leaf_machine.specs.declared.faults.StartFault.TheVariants.{RegionFault, DiskFault, DiskDamaged, Stranger, NoMemory, Worn}
 use Rattle.leaf_machine.specs.States.{Serving, SeatsTold}
@@ -41,9 +43,17 @@ pub record IsFirstWorn (x : Seated) (table : ℕ) : Type 0 where
   pub worn : WornAt x table
   pub first : (place : ℕ) (v : SeatView) → place < table → slice_get x.seats place ≡ Some v → IsFresh v
 
+abbrev pub IsOpenedNote : What → Type 0
+IsOpenedNote (Opened n) = ⊤
+IsOpenedNote (Took n) = ⊥
+IsOpenedNote (Flushed n) = ⊥
+IsOpenedNote (Closed n) = ⊥
+IsOpenedNote Handed = ⊥
+
 -- A start opens each table with what it finds; or it is refused, before anything is touched since a seat is worn, or for what it finds, and makes no entry.
 abbrev pub IsStart : {B : Type 0} → Seated → B → List Note → Result ((Serving × B) × Way) ((Seated × B) × StartFault) → Type 0
 IsStart x berth notes (Ok ((up, b), way)) = AtEach (λ place t v. IsFresh v) x × (up.seated.names ≡ x.names) × (up.seated.tables ≡ x.tables) × (up.owing.log.owed ≡ None)
+    × EachNoted IsOpenedNote 0 (length x.tables) notes
 IsStart x berth notes (Err ((y, b), Worn table)) = IsFirstWorn x table × (y ≡ x) × (b ≡ berth) × (notes ≡ [])
 IsStart x berth notes (Err ((y, b), fault)) = AtEach (λ place t v. IsFresh v) x × (y ≡ x) × (notes ≡ [])
 

@@ -14,7 +14,7 @@ use Rattle.leaf_table.specs.Lists.{lists_in, row}
 use Rattle.leaf_table.specs.Fleet.{IsAt, IsNewFleet, IsShortName}
 use Rattle.leaf_steward.specs.Seated.{IsUnused}
 use Rattle.printed_lines.specs.Lines.{name_at}
-use Rattle.transcript.proofs.Lists.{All-weaken, name_is, same_some, within}
+use Rattle.sessions.proofs.Lists.{All-weaken, name_is, same_some, within}
 use Rattle.player.specs.Stage.{IsUnusedCaller}
 use Rattle.play.specs.Played.{AreShut, IsBase}
 use Rattle.play.specs.Runs.{AreFirsts, AreNewTables, IsEachOne}

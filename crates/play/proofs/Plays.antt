@@ -1,13 +1,12 @@
 -- A play goes on by one command.
 use Rattle.std.proofs.Common.{◌≡◌, ℕ, ◌+◌, ◌==◌, ◌&&◌, Bool, List, [], ◌∷◌, ◌++◌, refl, sym, ap, subst, ◌∙◌, arith, Option, Some, None}
-use Rattle.std.specs.Prelude.{IfSome, if◌then◌else◌}
+use Rattle.std.specs.Prelude.{if◌then◌else◌, IfOk, IsOk, OnOk, Result, Ok, Err, Vec}
+use Rattle.std.specs.Global.{Global}
 use Rattle.std.specs.Io.KnownBytes.{Appends}
 use Rattle.std.proofs.lemmas.Grind.{flat_map-append}
-use Rattle.std.proofs.lemmas.List.{append-nil, append_assoc}
+use Rattle.std.proofs.lemmas.List.{append-nil, append_assoc, map-append}
 use Rattle.berth_face.specs.Berth.{Meaning, Passes}
 use Rattle.crash_moments.specs.Left.{NamedStates}
-use Rattle.leaf_opening.specs.declared.ways.Way.{Way}
-use Rattle.leaf_opening.specs.Starts.{IsWayOf}
 use Rattle.leaf_table.specs.Calls.{SeatView}
 use Rattle.leaf_machine.specs.Leaving.{LeavesBegin}
 use Rattle.leaf_machine.proofs.LeaveRests.{rests_begin}
@@ -15,18 +14,16 @@ use Rattle.leaf_machine.proofs.LeaveRuns.{runs_begin}
 use Rattle.script_text.specs.declared.command.Command.{Command}
 use Rattle.printed_lines.specs.declared.line.Ending.{Ending}
 use Rattle.printed_lines.specs.declared.line.Line.{Line}
-use Rattle.printed_lines.specs.declared.line.Line.TheVariants as line
 use Rattle.printed_lines.specs.Lines.{line_text, lines_text}
-use Rattle.transcript.specs.Base.{LogHas}
-use Rattle.transcript.specs.Laws.{IsToldRun}
-use Rattle.transcript.specs.Session.{one_leaf}
+use Rattle.transcript.specs.Pieces.{Deed, Piece, Called, Worn, Acted, Says, Played, all_lines, lines_in, pieces_in}
+use Rattle.transcript.specs.Counts.{Counted, IsCounted, deeds_in, disk_faults_in, disk_reads_in, is_disk_fault, is_region_fault, reads_disk, region_faults_in}
 use Rattle.transcript.specs.Stage.{Leaf}
-use Rattle.transcript.specs.Steps.{MayPlay, Plays}
-use Rattle.transcript.specs.Transcript.{is_region_fault, is_disk_fault, endings_in, region_faults_in, disk_faults_in}
-use Rattle.transcript.proofs.Playing.{ended, plays_on}
-use Rattle.player.specs.Stage.{HasMet}
-use Rattle.play.specs.Played.{WereCounted, KeepsCounts}
-use Rattle.play.specs.Runs.{Advances, IsRun, RunSoFar, TellsSoFar}
+use Rattle.transcript.specs.Steps.{MayPlay, this_leaf}
+use Rattle.sessions.proofs.Ended.{ended}
+use Rattle.sessions.proofs.Playing.{plays_on}
+use Rattle.player.specs.Stage.{HasMet, PlaysWith}
+use Rattle.play.specs.Played.{KeepsCounts}
+use Rattle.play.specs.Runs.{Advances, IsRun, RunSoFar}
 
 -- ---- bytes
 
@@ -40,25 +37,41 @@ appends_on (Some front) None c xs ys g h = absurd g
 appends_on (Some front) (Some bs) None xs ys g h = absurd h
 appends_on (Some front) (Some bs) (Some cs) xs ys g h = h ∙ (ap (λ zs. zs ++ ys) g ∙ append_assoc front xs ys)
 
--- ---- faults
+-- ---- counts
 
-endings_append : (test : Ending → Bool) (xs ys : List Line) → endings_in test 0 (xs ++ ys) ≡ endings_in test 0 xs + endings_in test 0 ys
-endings_append test [] ys = none (endings_in test 0 ys)
+deeds_append : (test : Deed → Ending → Bool) (leaf : ℕ) (xs ys : List Piece) → deeds_in test leaf (xs ++ ys) ≡ deeds_in test leaf xs + deeds_in test leaf ys
+deeds_append test leaf [] ys = none (deeds_in test leaf ys)
   where
     none : (n : ℕ) → n ≡ 0 + n
     none n = omega arith
-endings_append test (line.Ended verb l ending ∷ xs) ys =
-    ap (λ n. (if (l == 0) && test ending then 1 else 0) + n) (endings_append test xs ys)
-    ∙ sum (if (l == 0) && test ending then 1 else 0) (endings_in test 0 xs) (endings_in test 0 ys)
+deeds_append test leaf (Acted l deed notes ending ∷ xs) ys =
+    ap (λ n. (if (l == leaf) && test deed ending then 1 else 0) + n) (deeds_append test leaf xs ys)
+    ∙ sum (if (l == leaf) && test deed ending then 1 else 0) (deeds_in test leaf xs) (deeds_in test leaf ys)
   where
     sum : (a b c : ℕ) → a + (b + c) ≡ a + b + c
     sum a b c = omega arith
-endings_append test (line.Entry l t number said ∷ xs) ys = endings_append test xs ys
-endings_append test (line.Worn l t ∷ xs) ys = endings_append test xs ys
-endings_append test (line.Answer n leaves rows ∷ xs) ys = endings_append test xs ys
+deeds_append test leaf (Called l t c number said ∷ xs) ys = deeds_append test leaf xs ys
+deeds_append test leaf (Worn l t ∷ xs) ys = deeds_append test leaf xs ys
+deeds_append test leaf (Says line ∷ xs) ys = deeds_append test leaf xs ys
 
-counted_on : (a b c m n k : ℕ) → k ≡ m + n → WereCounted a b m → WereCounted b c n → WereCounted a c k
-counted_on a b c m n k e g h = omega (arith, e, g, h)
+counted_faults : (a b c m n k : ℕ) → k ≡ m + n → Counted a b m → Counted b c n → Counted a c k
+counted_faults a b c m n k e g h = omega (arith, e, g, h)
+
+counted_reads : (a b c m n k : ℕ) → k ≡ m + n → (m ≡ 0 → b ≡ a) → (n ≡ 0 → c ≡ b) → k ≡ 0 → c ≡ a
+counted_reads a b c m n k e g h none = h (omega (arith, e, none)) ∙ g (omega (arith, e, none))
+
+pub counted_on : (leaf : ℕ) (xs ys : List Piece) (a b c : Meaning) → IsCounted leaf xs a b → IsCounted leaf ys b c → IsCounted leaf (xs ++ ys) a c
+counted_on leaf xs ys a b c g h = record {
+  region = counted_faults a.region_faults b.region_faults c.region_faults (region_faults_in leaf xs) (region_faults_in leaf ys) (region_faults_in leaf (xs ++ ys))
+      (deeds_append (λ deed ending. is_region_fault ending) leaf xs ys) g.region h.region;
+  disk = counted_faults a.disk_faults b.disk_faults c.disk_faults (disk_faults_in leaf xs) (disk_faults_in leaf ys) (disk_faults_in leaf (xs ++ ys))
+      (deeds_append (λ deed ending. is_disk_fault ending) leaf xs ys) g.disk h.disk;
+  reads = counted_reads a.disk_reads b.disk_reads c.disk_reads (disk_reads_in leaf xs) (disk_reads_in leaf ys) (disk_reads_in leaf (xs ++ ys))
+      (deeds_append reads_disk leaf xs ys) g.reads h.reads;
+}
+
+pub counted_nothing : (leaf : ℕ) (m : Meaning) → IsCounted leaf [] m m
+counted_nothing leaf m = record { region = omega arith; disk = omega arith; reads = λ none. refl }
 
 -- ---- berths
 
@@ -74,13 +87,11 @@ keeps_on a b c k p = record {
 
 -- ---- runs
 
-goes_on : (base : Option NamedStates) (names : List (List ℕ)) {B : Type 0} (meaning : B → Meaning) (old : Meaning) (now new : B) (commands : List Command) (out lines : List Line)
-    (leaf leaf' : Leaf) (callers callers' : List SeatView) (c : Command)
-    → MayPlay names c → TellsSoFar base names old (meaning now) commands out leaf callers → Plays meaning names c leaf callers now lines leaf' callers' new
-    → TellsSoFar base names old (meaning new) (commands ++ c ∷ []) (out ++ lines) leaf' callers'
-goes_on None names meaning old now new commands out lines leaf leaf' callers callers' c may told plays = tt
-goes_on (Some b) names meaning old now new commands out lines leaf leaf' callers callers' c may told plays = λ way read way_is has.
-    plays_on meaning old now new names way b read commands out leaf leaf' callers callers' c lines may (told way read way_is has) plays
+pieces_snoc : (ps : List Played) (p : Played) → pieces_in (ps ++ p ∷ []) ≡ pieces_in ps ++ p.pieces
+pieces_snoc ps p = flat_map-append (λ (q : Played). q.pieces) ps (p ∷ []) ∙ ap (λ xs. pieces_in ps ++ xs) (append-nil p.pieces)
+
+lines_snoc : (ps : List Played) (p : Played) → all_lines (ps ++ p ∷ []) ≡ all_lines ps ++ lines_in p.pieces
+lines_snoc ps p = flat_map-append (λ (q : Played). lines_in q.pieces) ps (p ∷ []) ∙ ap (λ xs. all_lines ps ++ xs) (append-nil (lines_in p.pieces))
 
 pub run_goes_on : (base : Option NamedStates) (names : List (List ℕ)) {B : Type 0} (meaning : B → Meaning) (old : Meaning) (now new : B) (was written after : Option (List ℕ)) (commands : List Command)
     (leaf leaf' : Leaf) (callers callers' : List SeatView) (c : Command)
@@ -89,15 +100,35 @@ pub run_goes_on : (base : Option NamedStates) (names : List (List ℕ)) {B : Typ
     → Advances meaning names now new written after c leaf callers leaf' callers'
     → Passes (meaning now) (meaning new)
     → RunSoFar base names old (meaning new) was after (commands ++ c ∷ []) leaf' callers'
-run_goes_on base names meaning old now new was written after commands leaf leaf' callers callers' c run may step passes = record {
-  lines = run.lines ++ step.lines;
-  text = subst (Appends was after) (sym (flat_map-append (line_text names) run.lines step.lines)) (appends_on was written after (lines_text names run.lines) (lines_text names step.lines) run.text step.text);
-  region_counted = counted_on old.region_faults (meaning now).region_faults (meaning new).region_faults (region_faults_in 0 run.lines) (region_faults_in 0 step.lines) (region_faults_in 0 (run.lines ++ step.lines))
-      (endings_append is_region_fault run.lines step.lines) run.region_counted step.region_counted;
-  disk_counted = counted_on old.disk_faults (meaning now).disk_faults (meaning new).disk_faults (disk_faults_in 0 run.lines) (disk_faults_in 0 step.lines) (disk_faults_in 0 (run.lines ++ step.lines))
-      (endings_append is_disk_fault run.lines step.lines) run.disk_counted step.disk_counted;
-  keeps = keeps_on old (meaning now) (meaning new) run.keeps passes;
-  session = goes_on base names meaning old now new commands run.lines step.lines leaf leaf' callers callers' c may run.session step.plays;
+run_goes_on base names meaning old now new was written after commands leaf leaf' callers callers' c run may step passes =
+    let p : Played = record { command = c; pieces = step.pieces } in
+    let text : Appends was after (lines_text names (all_lines run.played ++ lines_in step.pieces)) =
+    subst (Appends was after) (sym (flat_map-append (line_text names) (all_lines run.played) (lines_in step.pieces)))
+    (appends_on was written after (lines_text names (all_lines run.played)) (lines_text names (lines_in step.pieces)) run.text step.text) in
+    record {
+      played = run.played ++ p ∷ [];
+      commands_are = map-append (λ (q : Played). q.command) run.played (p ∷ []) ∙ ap (λ cs. cs ++ c ∷ []) run.commands_are;
+      text = subst (λ ls. Appends was after (lines_text names ls)) (sym (lines_snoc run.played p)) text;
+      counted = subst (λ ps. IsCounted this_leaf ps old (meaning new)) (sym (pieces_snoc run.played p))
+          (counted_on this_leaf (pieces_in run.played) step.pieces old (meaning now) (meaning new) run.counted step.counted);
+      keeps = keeps_on old (meaning now) (meaning new) run.keeps passes;
+      session = λ known is. plays_on meaning old now new names known run.played leaf leaf' callers callers' c step.pieces may (run.session known is) step.plays;
+    }
+
+-- what a command did, once its lines were written
+pub advances : {B E F : Type 0} (meaning : B → Meaning) (names : List (List ℕ)) {c : Command} {leaf leaf' : Leaf} {callers callers' : List SeatView} {old new : B} (was now : Option (List ℕ))
+    (lines : Result (Vec Line Global) E) (written : Result (Unit {0}) F)
+    → PlaysWith meaning names c leaf callers old lines leaf' callers' new
+    → OnOk written (IsOk lines)
+    → OnOk written (IfOk lines (λ ls. Appends was now (lines_text names ls.items)))
+    → OnOk written (Advances meaning names old new was now c leaf callers leaf' callers')
+advances meaning names was now lines (Err e) played made text = tt
+advances meaning names was now (Err e) (Ok x) played made text = absurd cc
+advances meaning names was now (Ok ls) (Ok x) played made text = record {
+  pieces = played.pieces;
+  plays = played.plays;
+  text = subst (λ ks. Appends was now (lines_text names ks)) played.lines_are text;
+  counted = played.counted;
 }
 
 -- another leaf may begin over the berth
@@ -107,20 +138,13 @@ leaves m = record {
   runs = λ ws others owner log writes tells sound runs. runs_begin ws others owner log writes m runs tells sound;
 }
 
-ends_told : (base : Option NamedStates) (names : List (List ℕ)) (old m : Meaning) (commands : List Command) (out : List Line) (leaf : Leaf) (callers : List SeatView)
-    → TellsSoFar base names old m commands out leaf callers → HasMet leaf callers m
-    → IfSome base (λ tables. (way : Way) (read : List ℕ → ℕ) → IsWayOf old.held.region way → ((name : List ℕ) → LogHas old.held.disk name (read name)) → IsToldRun (one_leaf names) way tables read commands out old m)
-ends_told None names old m commands out leaf callers told met = tt
-ends_told (Some b) names old m commands out leaf callers told met = λ way read way_is has.
-    ended old m (leaves m) names way b read commands out leaf met.leaf_then callers met.callers_then (told way read way_is has) met.met
-
 -- once all seats have met again, the run is told
 pub run_ends : (base : Option NamedStates) (names : List (List ℕ)) (old m : Meaning) (was now : Option (List ℕ)) (commands : List Command) (leaf : Leaf) (callers : List SeatView)
     → RunSoFar base names old m was now commands leaf callers → HasMet leaf callers m → IsRun base names old m was now commands
 run_ends base names old m was now commands leaf callers run met = record {
-  lines = run.lines;
+  played = run.played;
+  commands_are = run.commands_are;
   text = run.text;
-  region_counted = run.region_counted;
-  disk_counted = run.disk_counted;
-  told = ends_told base names old m commands run.lines leaf callers run.session met;
+  counted = run.counted;
+  told = λ known is. ended old m (leaves m) names known run.played leaf met.leaf_then callers met.callers_then (run.session known is) met.met;
 }

@@ -1,7 +1,7 @@
 -- The base of a berth in memory that holds nothing, and to which nothing was ever written.
-use Rattle.std.specs.Prelude.{◌≡◌, ℕ, zero, suc, ◌≤◌, ◌^◌, List, [], ◌∷◌, length, take, Option, Some, None, IfSome, refl}
+use Rattle.std.specs.Prelude.{◌≡◌, ℕ, ◌≤◌, ◌^◌, List, [], ◌∷◌, length, take, None, refl}
 use mathlib.Core.Logic.{inl, inr}
-use Rattle.std.proofs.Common.{ap₂, sym, subst, ◌∙◌, arith, lit<, lit≤}
+use Rattle.std.proofs.Common.{ap, sym, subst, ◌∙◌, arith, lit<, lit≤}
 use Rattle.std.proofs.lemmas.List.{length-take, nil_from_length}
 use Rattle.leaf_model.specs.declared.writes.Write.{Write}
 use Rattle.leaf_model.specs.Content.{content}
@@ -10,7 +10,7 @@ use Rattle.berth_face.specs.Berth.{Pair, Meaning, OpenedOn}
 use Rattle.berth_mem.specs.declared.record.Call.{Call}
 use Rattle.berth_mem.specs.declared.berth.MemBerth.{MemBerth}
 use Rattle.berth_mem.specs.Forms.{FreshOn, meaning}
-use Rattle.berth_mem.specs.Record.{meaning_of}
+use Rattle.berth_mem.specs.Record.{meaning_of, moments}
 use Rattle.disk_backup.specs.Logs.{is_short}
 use Rattle.region_layout.specs.Region.{IsClosed}
 use Rattle.disk_backup.specs.SoundLogs.{HasSoundLog}
@@ -21,17 +21,6 @@ use Rattle.play.specs.Played.{IsBase}
 -- no name has writes
 abbrev pub nothing_kept : NamedStates
 nothing_kept name = no_base
-
--- of a berth that holds so much, and of which so many moments passed
-abbrev base_on : List ℕ → List ℕ → ℕ → Option NamedStates
-base_on [] [] zero = Some nothing_kept
-base_on [] [] (suc clock) = None
-base_on [] (byte ∷ disk) clock = None
-base_on (byte ∷ region) disk clock = None
-
--- nothing is kept of it where it holds nothing, and no call has changed it
-abbrev pub empty_base : MemBerth → Option NamedStates
-empty_base berth = base_on (meaning berth).held.region (meaning berth).held.disk (meaning berth).clock
 
 -- ---- a leaf may begin over it
 
@@ -66,20 +55,18 @@ rests_empty m o there = record {
       | inr e ↦ e
     ]
 
-base_fits : (region disk : List ℕ) (calls : List Call) (region_faults disk_faults disk_reads : ℕ)
-    → IfSome (base_on region disk (meaning_of region disk calls region_faults disk_faults disk_reads).clock) (λ tables. IsBase tables (meaning_of region disk calls region_faults disk_faults disk_reads))
-base_fits [] [] [] rf df dr = record {
+based : (region disk : List ℕ) (calls : List Call) (region_faults disk_faults disk_reads : ℕ) → region ≡ [] → disk ≡ [] → moments calls ≡ 0
+    → IsBase nothing_kept (meaning_of region disk calls region_faults disk_faults disk_reads)
+based [] [] [] rf df dr e f g = record {
   begins = (refl, (none_written, None, rests_empty (meaning_of [] [] [] rf df dr) (record { tells = refl; held = refl; pairs = λ p left. left }) (inl refl, refl)));
   is = λ name. refl;
 }
-base_fits [] [] (call ∷ calls) rf df dr = tt
-base_fits [] (byte ∷ disk) calls rf df dr = tt
-base_fits (byte ∷ region) disk calls rf df dr = tt
+based [] [] (call ∷ calls) rf df dr e f g = absurd (omega (arith, g))
+based [] (byte ∷ disk) calls rf df dr e f g = absurd cc
+based (byte ∷ region) disk calls rf df dr e f g = absurd cc
 
-pub is_empty_base : (berth : MemBerth) → IfSome (empty_base berth) (λ tables. IsBase tables (meaning berth))
-is_empty_base berth = base_fits berth.region.items berth.disk.items berth.calls.items berth.region_faults berth.disk_faults berth.disk_reads
-
--- a berth that was just made on nothing has that base
-pub fresh_base : (berth : MemBerth) → FreshOn [] [] berth → empty_base berth ≡ Some nothing_kept
-fresh_base berth f =
-    ap₂ (λ (held : Pair) (clock : ℕ). base_on held.region held.disk clock) f.opened.held f.clock
+-- a leaf may begin over a berth that was just made on nothing, and no name has writes there
+pub is_fresh_base : (berth : MemBerth) → FreshOn [] [] berth → IsBase nothing_kept (meaning berth)
+is_fresh_base berth f =
+    based berth.region.items berth.disk.items berth.calls.items berth.region_faults berth.disk_faults berth.disk_reads
+    (ap (λ (held : Pair). held.region) f.opened.held) (ap (λ (held : Pair). held.disk) f.opened.held) f.clock

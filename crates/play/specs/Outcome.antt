@@ -12,7 +12,7 @@ use Rattle.script_text.specs.declared.script.Script.{Script}
 use Rattle.script_text.specs.Commands.{Fault}
 use Rattle.script_text.specs.Script.{script_of}
 use Rattle.play.specs.Count.{rows_of, count_of}
-use Rattle.play.specs.Played.{IsPlayed, leaf_count}
+use Rattle.play.specs.Played.{IsPlayed, leaves_in}
 use Rattle.play.specs.Source.{longest_text, most_taken}
 use Rattle.play.specs.declared.count.LineFault.{LineFault}
 use Rattle.play.specs.declared.status.Status.{Status}
@@ -41,7 +41,7 @@ IsCutShort range before after was now = (count : ℕ) × IsCountOf range before 
 -- ---- what was done
 
 -- all was done that the request asks for
-abbrev pub IsDone : {B : Type 0} → (B → Option NamedStates) → (B → Meaning) → Option Request → Option (List ℕ) → Option (List ℕ) → Option (List ℕ) → Option (List ℕ) → List B → List B → Type 0
+abbrev pub IsDone : {B : Type 0} → (ℕ → Option NamedStates) → (B → Meaning) → Option Request → Option (List ℕ) → Option (List ℕ) → Option (List ℕ) → Option (List ℕ) → List B → List B → Type 0
 IsDone base meaning None before after was now old new = ⊥
 IsDone base meaning (Some (Count range)) before after was now old new = IsCounted range before after was now
 IsDone base meaning (Some Play) before after was now old new = IsPlayed base meaning before after was now old new
@@ -73,7 +73,7 @@ IsNoScript before after line fault = (text : List ℕ) × ReadsAll before after 
 -- the source was read to its end, and its fleet, which stands on that line, has more leaves than there are berths
 abbrev pub HasTooManyLeaves : ℕ → Option (List ℕ) → Option (List ℕ) → ℕ → Type 0
 HasTooManyLeaves berths before after line =
-    (text : List ℕ) × (script : Script) × ReadsAll before after text × (script_of text ≡ Ok script) × (line ≡ script.fleet_line) × (nat_lt berths (leaf_count script.commands) ≡ true)
+    (text : List ℕ) × (script : Script) × ReadsAll before after text × (script_of text ≡ Ok script) × (line ≡ script.fleet_line) × (nat_lt berths (leaves_in script.commands) ≡ true)
 
 -- of a script
 abbrev pub IsNoPlay : ℕ → Option (List ℕ) → Option (List ℕ) → ℕ → Why → Type 0
@@ -112,7 +112,7 @@ status_of (Err found) = Status.Script found.line (why.Row found.fault)
 
 -- the status of a text that is a script, or has a first fault
 abbrev pub status_played : ℕ → Result Script Fault → Status
-status_played berths (Ok script) = if nat_lt berths (leaf_count script.commands) then Status.Script script.fleet_line why.NoBerth else Status.Done
+status_played berths (Ok script) = if nat_lt berths (leaves_in script.commands) then Status.Script script.fleet_line why.NoBerth else Status.Done
 status_played berths (Err found) = Status.Script found.0 found.1
 
 -- the status of a text of which a fault was found

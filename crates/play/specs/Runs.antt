@@ -3,23 +3,22 @@ use Rattle.std.specs.Prelude.{◌≡◌, ℕ, List, length, map, slice_get, Opti
 use Rattle.std.specs.List.{AllByRecursion}
 use Rattle.std.specs.Io.KnownBytes.{Appends}
 use Rattle.berth_face.specs.Berth.{Meaning}
-use Rattle.leaf_opening.specs.declared.ways.Way.{Way}
-use Rattle.leaf_opening.specs.Starts.{IsWayOf}
 use Rattle.crash_moments.specs.Left.{NamedStates}
 use Rattle.leaf_table.specs.Turns.{Shared, is_founded, start_of}
 use Rattle.leaf_table.specs.Calls.{SeatView, base_seen, name_of}
 use Rattle.leaf_steward.specs.Seated.{Seated, AtEach, IsUnused}
 use Rattle.script_text.specs.declared.command.Command.{Command}
-use Rattle.printed_lines.specs.declared.line.Line.{Line}
 use Rattle.printed_lines.specs.Lines.{lines_text}
-use Rattle.transcript.specs.Base.{LogHas}
-use Rattle.transcript.specs.Laws.{IsToldRun}
+use Rattle.transcript.specs.Pieces.{Piece, Played, all_lines, commands_in, lines_in, pieces_in}
+use Rattle.transcript.specs.Counts.{IsCounted}
+use Rattle.transcript.specs.Transcript.{Known}
+use Rattle.transcript.specs.Leaving.{IsKnown}
 use Rattle.transcript.specs.Stage.{Leaf}
-use Rattle.transcript.specs.Steps.{Plays}
-use Rattle.transcript.specs.Transcript.{region_faults_in, disk_faults_in}
-use Rattle.transcript.specs.Session.{Session, one_leaf}
+use Rattle.transcript.specs.Steps.{Plays, this_leaf}
+use Rattle.sessions.specs.Session.{Session}
+use Rattle.sessions.specs.Laws.{IsToldLeaf}
 use Rattle.player.specs.Stage.{IsUnusedCaller}
-use Rattle.play.specs.Played.{WereCounted, KeepsCounts}
+use Rattle.play.specs.Played.{KeepsCounts}
 use Rattle.play.specs.declared.status.Status.{Status}
 
 -- a leaf's tables, and the steward's seats at them
@@ -45,36 +44,29 @@ pub record AreFirsts {A : Type 0} (rows : List (List A)) (firsts : List A) : Typ
   pub count : length firsts ≡ length rows
   pub each : (place : ℕ) (xs : List A) → slice_get rows place ≡ Some xs → slice_get firsts place ≡ slice_get xs 0
 
--- what was written of a run over a berth with this base is a transcript so far
-abbrev pub TellsSoFar : Option NamedStates → List (List ℕ) → Meaning → Meaning → List Command → List Line → Leaf → List SeatView → Type 0
-TellsSoFar base names old now commands lines leaf callers = IfSome base (λ tables. (way : Way) (read : List ℕ → ℕ) → IsWayOf old.held.region way → ((name : List ℕ) → LogHas old.held.disk name (read name))
-    → Session names way tables read old commands lines leaf callers now)
-
--- What holds after these commands, whose lines were written: over a berth that meant `old` when the run began, and means `now` since.
+-- What holds after these commands, whose lines were written: over a berth with this base that meant `old` when the run began, and means `now` since.
 pub record RunSoFar (base : Option NamedStates) (names : List (List ℕ)) (old now : Meaning) (was written : Option (List ℕ)) (commands : List Command) (leaf : Leaf) (callers : List SeatView) : Type 0 where
-  pub lines : List Line
-  pub text : Appends was written (lines_text names lines)
-  pub region_counted : WereCounted old.region_faults now.region_faults (region_faults_in 0 lines)
-  pub disk_counted : WereCounted old.disk_faults now.disk_faults (disk_faults_in 0 lines)
+  pub played : List Played
+  pub commands_are : commands_in played ≡ commands
+  pub text : Appends was written (lines_text names (all_lines played))
+  pub counted : IsCounted this_leaf (pieces_in played) old now
   pub keeps : KeepsCounts old now
-  pub session : TellsSoFar base names old now commands lines leaf callers
+  pub session : (known : ℕ → Option Known) → IsKnown base old (known this_leaf) → Session names known old played leaf callers now
 
 -- one command more, whose lines were written
 pub record Advances {B : Type 0} (meaning : B → Meaning) (names : List (List ℕ)) (old new : B) (was written : Option (List ℕ)) (c : Command) (leaf : Leaf) (callers : List SeatView) (leaf' : Leaf) (callers' : List SeatView) : Type 0 where
-  pub lines : List Line
-  pub plays : Plays meaning names c leaf callers old lines leaf' callers' new
-  pub text : Appends was written (lines_text names lines)
-  pub region_counted : WereCounted (meaning old).region_faults (meaning new).region_faults (region_faults_in 0 lines)
-  pub disk_counted : WereCounted (meaning old).disk_faults (meaning new).disk_faults (disk_faults_in 0 lines)
+  pub pieces : List Piece
+  pub plays : Plays meaning names c leaf callers old pieces leaf' callers' new
+  pub text : Appends was written (lines_text names (lines_in pieces))
+  pub counted : IsCounted this_leaf pieces (meaning old) (meaning new)
 
 -- a run of all the commands
 pub record IsRun (base : Option NamedStates) (names : List (List ℕ)) (old now : Meaning) (was written : Option (List ℕ)) (commands : List Command) : Type 0 where
-  pub lines : List Line
-  pub text : Appends was written (lines_text names lines)
-  pub region_counted : WereCounted old.region_faults now.region_faults (region_faults_in 0 lines)
-  pub disk_counted : WereCounted old.disk_faults now.disk_faults (disk_faults_in 0 lines)
-  pub told : IfSome base (λ tables. (way : Way) (read : List ℕ → ℕ) → IsWayOf old.held.region way → ((name : List ℕ) → LogHas old.held.disk name (read name))
-      → IsToldRun (one_leaf names) way tables read commands lines old now)
+  pub played : List Played
+  pub commands_are : commands_in played ≡ commands
+  pub text : Appends was written (lines_text names (all_lines played))
+  pub counted : IsCounted this_leaf (pieces_in played) old now
+  pub told : (known : ℕ → Option Known) → IsKnown base old (known this_leaf) → IsToldLeaf names known played old now
 
 -- how a play ends
 abbrev pub IsEnd : Status → Type 0

@@ -7,8 +7,9 @@ ghost use Rattle.berth_face.specs.Causes.{Rose};
 ghost use Rattle.region_layout.specs.Names.{AreNames};
 ghost use Rattle.script_text.specs.Fits.{AreCommands};
 ghost use Rattle.printed_lines.specs.Lines.{lines_text, IsOf};
-ghost use Rattle.transcript.specs.Steps.{MayPlay};
-ghost use Rattle.play.specs.Played.{IsWritten, LeavesBerths, KeepsCounts, leaf_count, names_in};
+ghost use Rattle.transcript.specs.Steps.{MayPlay, this_leaf};
+ghost use Rattle.transcript.specs.Leaving.{IsWritten};
+ghost use Rattle.play.specs.Played.{AreBases, IsBaseOf, LeavesBerths, KeepsCounts, leaves_in, names_in};
 ghost use Rattle.play.specs.Runs.{Advances, IsRun, IsEnd, RunSoFar};
 
 use crate::bases::Bases;
@@ -34,7 +35,7 @@ enum WriteError {
 /// How many leaves the fleet of these commands has.
 pub fn leaf_count(commands: &Commands) -> usize
     requires { AreCommands commands.now }
-    ensures { result ≡ leaf_count commands.now }
+    ensures { result ≡ leaves_in commands.now }
 {
     match commands.as_slice() {
         [
@@ -63,7 +64,7 @@ fn names_of(commands: &Commands) -> Result<Option<Names>, AllocError>
 }
 
 /// Plays a script's commands over the first berth, and puts that back in its place.
-pub fn play_commands<N: Bases<B>, R: Wait, K: Sink, B: Berth, G: Gate>(
+pub fn play_commands<N: Bases, R: Wait, K: Sink, B: Berth, G: Gate>(
     rt: &R,
     alloc: Global,
     commands: Commands,
@@ -72,8 +73,9 @@ pub fn play_commands<N: Bases<B>, R: Wait, K: Sink, B: Berth, G: Gate>(
     gate: &G,
 ) -> Status
     requires commands { AreCommands commands }
-    requires enough { leaf_count commands ≤ length berths.old.items }
-    ensures done { result ≡ Status.Done → IsWritten N.base B.meaning commands (K.written sink.old) (K.written sink.new) berths.old.items berths.new.items }
+    requires enough { leaves_in commands ≤ length berths.old.items }
+    requires bases { AreBases N.base B.meaning berths.old.items }
+    ensures done { result ≡ Status.Done → IsWritten B.meaning berths.old.items berths.new.items N.base commands (K.written sink.old) (K.written sink.new) }
     ensures ends { IsEnd result }
     ensures write_fault { result ≡ Status.WriteFault → Rose (K.faults sink.old) (K.faults sink.new) }
     ensures berths { LeavesBerths B.meaning berths.old.items berths.new.items }
@@ -101,7 +103,7 @@ fn put_first<B>(berths: &mut Vec<B>, berth: B)
 }
 
 /// Plays commands over a berth, and gives that back.
-fn play_over<N: Bases<B>, R: Wait, K: Sink, B: Berth, G: Gate>(
+fn play_over<N: Bases, R: Wait, K: Sink, B: Berth, G: Gate>(
     rt: &R,
     alloc: Global,
     names: Names,
@@ -112,7 +114,8 @@ fn play_over<N: Bases<B>, R: Wait, K: Sink, B: Berth, G: Gate>(
 ) -> (B, Status)
     requires names { AreNames names }
     requires may_play { AllByRecursion (MayPlay names) commands }
-    ensures done { result.1 ≡ Status.Done → IsRun (N.base berth) names (B.meaning berth) (B.meaning result.0) (K.written sink.old) (K.written sink.new) commands }
+    requires base { IsBaseOf (N.base this_leaf) (B.meaning berth) }
+    ensures done { result.1 ≡ Status.Done → IsRun (N.base this_leaf) names (B.meaning berth) (B.meaning result.0) (K.written sink.old) (K.written sink.new) commands }
     ensures ends { IsEnd result.1 }
     ensures write_fault { result.1 ≡ Status.WriteFault → Rose (K.faults sink.old) (K.faults sink.new) }
     ensures keeps { KeepsCounts (B.meaning berth) (B.meaning result.0) }
@@ -120,7 +123,7 @@ fn play_over<N: Bases<B>, R: Wait, K: Sink, B: Berth, G: Gate>(
     let Ok(copy) = names.copy() else {
         return (berth, Status::NoMemory);
     };
-    let Ok(leaf) = leaf_tables::<N, B>(alloc, &names, &berth) else {
+    let Ok(leaf) = leaf_tables::<N>(alloc, &names) else {
         return (berth, Status::NoMemory);
     };
     let LeafTables {
@@ -143,7 +146,7 @@ fn play_over<N: Bases<B>, R: Wait, K: Sink, B: Berth, G: Gate>(
 }
 
 /// Plays commands one after another, writes the lines of each, and gives the berth back.
-fn play_all<'t, N: Bases<B>, R: Wait, K: Sink, B: Berth, G: Gate>(
+fn play_all<'t, N: Bases, R: Wait, K: Sink, B: Berth, G: Gate>(
     rt: &R,
     alloc: Global,
     names: &Names,
@@ -154,8 +157,8 @@ fn play_all<'t, N: Bases<B>, R: Wait, K: Sink, B: Berth, G: Gate>(
 ) -> (B, Status)
     requires names { player.names ≡ names.now }
     requires may_play { AllByRecursion (MayPlay names.now) commands.items }
-    requires begun { RunSoFar (N.base player.berth) names.now (B.meaning player.berth) (B.meaning player.berth) (K.written sink.old) (K.written sink.old) [] player.leaf player.callers }
-    ensures done { result.1 ≡ Status.Done → IsRun (N.base player.entry.berth) names.now (B.meaning player.entry.berth) (B.meaning result.0) (K.written sink.old) (K.written sink.new) commands.items }
+    requires begun { RunSoFar (N.base this_leaf) names.now (B.meaning player.berth) (B.meaning player.berth) (K.written sink.old) (K.written sink.old) [] player.leaf player.callers }
+    ensures done { result.1 ≡ Status.Done → IsRun (N.base this_leaf) names.now (B.meaning player.entry.berth) (B.meaning result.0) (K.written sink.old) (K.written sink.new) commands.items }
     ensures ends { IsEnd result.1 }
     ensures write_fault { result.1 ≡ Status.WriteFault → Rose (K.faults sink.old) (K.faults sink.new) }
     ensures keeps { KeepsCounts (B.meaning player.entry.berth) (B.meaning result.0) }

@@ -3,7 +3,7 @@ ghost use Rattle.std.specs.Prelude.{◌≡◌, ◌↔◌, None, IfSome, length, 
 ghost use Rattle.berth_face.specs.Causes.{Rose};
 ghost use Rattle.berth_face.specs.Streams.{TakesAtMost};
 ghost use Rattle.play.specs.Outcome.{IsDone, IsCutShort, IfScript, IsTextRefused, IfCount, UnlessCutOff, UnlessPlayed, UnlessWritten, TakesText, verdict};
-ghost use Rattle.play.specs.Played.{LeavesBerths};
+ghost use Rattle.play.specs.Played.{AreBases, LeavesBerths};
 ghost use Rattle.play.specs.Source.{most_taken};
 ghost use Rattle.play.specs.Words.{request_of};
 
@@ -16,8 +16,8 @@ use berth_face::{Berth, Gate, Sink, Source};
 use std::alloc::Global;
 use std::sync::Wait;
 
-/// Does all that the program does, over what is handed in. Leaf L uses berth L, whose base N says where it is known.
-pub fn run<N: Bases<B>, R: Wait, S: Source, K: Sink, B: Berth, G: Gate>(
+/// Does all that the program does, over what is handed in.
+pub fn run<N: Bases, R: Wait, S: Source, K: Sink, B: Berth, G: Gate>(
     rt: &R,
     alloc: Global,
     words: &[String],
@@ -26,6 +26,9 @@ pub fn run<N: Bases<B>, R: Wait, S: Source, K: Sink, B: Berth, G: Gate>(
     berths: &mut Vec<B>,
     gate: &G,
 ) -> Status
+    // Leaf L uses berth L. N says of which the base is known; a leaf with that base may begin there.
+    requires bases { AreBases N.base B.meaning berths.old.items }
+
     ensures done { result ≡ Status.Done → IsDone N.base B.meaning (request_of (map string_bytes words.now))
         (S.left source.old) (S.left source.new) (K.written sink.old) (K.written sink.new) berths.old.items berths.new.items }
 

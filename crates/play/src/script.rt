@@ -3,7 +3,7 @@ ghost use Rattle.std.specs.Prelude.{◌≡◌, ◌≢◌, ◌<◌, ◌∷◌, []
 ghost use Rattle.berth_face.specs.Causes.{Rose};
 ghost use Rattle.berth_face.specs.Streams.{TakesAtMost};
 ghost use Rattle.play.specs.Outcome.{IsNoPlay, IfScript, UnlessCutOff, UnlessPlayed, TakesText, play_verdict, status_of_fault};
-ghost use Rattle.play.specs.Played.{IsPlayed, LeavesBerths};
+ghost use Rattle.play.specs.Played.{AreBases, IsPlayed, LeavesBerths};
 ghost use Rattle.play.specs.Source.{most_taken};
 
 use crate::bases::Bases;
@@ -16,7 +16,7 @@ use std::alloc::Global;
 use std::sync::Wait;
 
 /// Reads a source that is a script, and plays it.
-pub fn play_source<N: Bases<B>, R: Wait, S: Source, K: Sink, B: Berth, G: Gate>(
+pub fn play_source<N: Bases, R: Wait, S: Source, K: Sink, B: Berth, G: Gate>(
     rt: &R,
     alloc: Global,
     source: &mut S,
@@ -24,6 +24,7 @@ pub fn play_source<N: Bases<B>, R: Wait, S: Source, K: Sink, B: Berth, G: Gate>(
     berths: &mut Vec<B>,
     gate: &G,
 ) -> Status
+    requires { AreBases N.base B.meaning berths.old.items }
     ensures done { result ≡ Status.Done → IsPlayed N.base B.meaning (S.left source.old) (S.left source.new) (K.written sink.old) (K.written sink.new) berths.old.items berths.new.items }
     ensures known_words { result ≢ Status.Words }
     ensures script { IfScript result (IsNoPlay (length berths.old.items) (S.left source.old) (S.left source.new)) }

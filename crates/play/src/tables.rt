@@ -2,11 +2,11 @@
 ghost use Rattle.std.specs.Prelude.{◌≡◌, ◌<◌, length, slice_get, Some, IfOk, IfSome};
 ghost use Rattle.region_layout.specs.Names.{AreNames};
 ghost use Rattle.leaf_table.specs.Lists.{lists_in, row};
+ghost use Rattle.transcript.specs.Steps.{this_leaf};
 ghost use Rattle.play.specs.Played.{AreShut};
 ghost use Rattle.play.specs.Runs.{AreFirsts, AreNewTables, IsEachOne};
 
 use crate::bases::Bases;
-use berth_face::Berth;
 use leaf_model::Names;
 use leaf_table::{FleetTables, Seat};
 use std::alloc::{AllocError, Global};
@@ -23,43 +23,12 @@ pub struct LeafTables {
     pub callers: Vec<Seat>,
 }
 
-/// The base of one leaf's tables. Contracts alone see it.
-trait LeafBase {
-    ghost use Rattle.std.specs.Prelude.{Option};
-    ghost use Rattle.crash_moments.specs.Left.{NamedStates};
-
-    ghost base: { Option NamedStates };
-}
-
-impl LeafBase for Brand {
-    ghost use Rattle.std.specs.Prelude.{None};
-
-    ghost base = { None };
-}
-
-/// New tables of these names for the leaf that uses this berth. Where N knows the berth's base they are founded with it.
-pub fn leaf_tables<N: Bases<B>, B: Berth>(
-    alloc: Global,
-    names: &Names,
-    berth: &B,
-) -> Result<LeafTables, AllocError>
+/// New tables of these names for the one leaf. Where N knows the base of its berth they are founded with it.
+pub fn leaf_tables<N: Bases>(alloc: Global, names: &Names) -> Result<LeafTables, AllocError>
     requires names { AreNames names.now }
+    requires base { IfSome (N.base this_leaf) AreShut }
     ensures count { IfOk result (λ leaf. length leaf.tables ≡ 1) }
-    ensures tables { IfOk result (λ leaf. AreNewTables (N.base berth.now) names.now (row leaf.tables 0) leaf.stewards.items leaf.callers.items) }
-{
-    founded_tables::<Brand, B>(alloc, names, berth)
-}
-
-/// New tables of these names for one leaf, founded with the base that P picks where it picks one.
-fn founded_tables<P: LeafBase, B>(
-    alloc: Global,
-    names: &Names,
-    _berth: &B,
-) -> Result<LeafTables, AllocError>
-    requires names { AreNames names.now }
-    requires base { IfSome P.base AreShut }
-    ensures count { IfOk result (λ leaf. length leaf.tables ≡ 1) }
-    ensures tables { IfOk result (λ leaf. AreNewTables P.base names.now (row leaf.tables 0) leaf.stewards.items leaf.callers.items) }
+    ensures tables { IfOk result (λ leaf. AreNewTables (N.base this_leaf) names.now (row leaf.tables 0) leaf.stewards.items leaf.callers.items) }
 {
     let (tables, stewards, callers) = FleetTables::new::<Brand>(alloc, 1, names, SHARE)?;
     Ok(LeafTables {

@@ -41,7 +41,7 @@ use Rattle.player.proofs.Counted.{none_made, spent, may_make, all_made}
 abbrev pub CopyTold : Copying → Copying → Meaning → Meaning → Type 0
 CopyTold c d m n = CopyStands d n × ((base : NamedStates) → moments.Told base (watched_by c.seated) (watched_by d.seated) m n)
 
--- As many steps were made as come before the next, none of them the last, and nothing was noted.
+-- As many steps were made as come before the next, none of them the last, nothing was noted, and the disk was not read.
 pub record CopiedSoFar (c : Copying) (m : Meaning) (stop : Option ℕ) (d : Copying) (n : Meaning) (left : Option ℕ) (notes : List Note) : Type 0 where
   pub seated : d.seated ≡ c.seated
   pub image : d.drain.image ≡ c.drain.image
@@ -50,6 +50,7 @@ pub record CopiedSoFar (c : Copying) (m : Meaning) (stop : Option ℕ) (d : Copy
   pub none : notes ≡ []
   pub untouched : d.drain.next ≡ next.Begin → n.held.region ≡ m.held.region
   pub copies : IsTrue m.tells → AreFounded c.seated → CopyStands c m → CopyTold c d m n
+  pub reads : n.disk_reads ≡ m.disk_reads
   pub passes : Passes m n
 
 copy_told : (base : NamedStates) (c : Copying) (m : Meaning) → CopyStands c m → moments.Told base (watched_by c.seated) (watched_by c.seated) m m
@@ -64,6 +65,7 @@ copied_none c m stop notes first empty = record {
   none = empty;
   untouched = λ e. refl;
   copies = λ tells founded stands. (stands, λ base. copy_told base c m stands);
+  reads = refl;
   passes = passes_none m;
 }
 
@@ -72,6 +74,7 @@ pub record CopySteps {B : Type 0} (meaning : B → Meaning) (d : Copying) (n : M
   pub one : IsCopyStep d notes r
   pub made : Makes n.clock (meaning (berth_of_copy r)).clock d.seated notes (seats_of_copy r)
   pub crash : IsTrue n.tells → AreFounded d.seated → CopyGoesOn meaning d n r
+  pub reads : (meaning (berth_of_copy r)).disk_reads ≡ n.disk_reads
   pub time : Passes n (meaning (berth_of_copy r))
 
 abbrev pub more_copy : {B : Type 0} → Copying × B → Result (Copied B) ((Seated × B) × RegionFault)
@@ -106,10 +109,11 @@ module _ (c : Copying) (m : Meaning) (stop left left' : Option ℕ) (d : Copying
       so_far.untouched refl
 
   -- a leaf that the copy left at rest
-  rests_then : (y : Seated) (notes : List Note) (o : Meaning) → Passes n o → Makes n.clock o.clock d.seated notes y
+  rests_then : (y : Seated) (notes : List Note) (o : Meaning) → Passes n o → o.disk_reads ≡ n.disk_reads → Makes n.clock o.clock d.seated notes y
       → (IsTrue n.tells → AreFounded d.seated → (writes : List ℕ → List Write) → Copies (watched_by d.seated) d.drain writes n → RestsOn d.seated y n o) → CopyRests c y notes m o
-  rests_then y notes o time made rests = record {
+  rests_then y notes o time same made rests = record {
     made = makes_since m.clock n.clock o.clock c.seated notes y so_far.passes.later (subst (λ (s : Seated). Makes n.clock o.clock s notes y) so_far.seated made);
+    reads = same ∙ so_far.reads;
     stands = λ base tells founded sound stands.
         let now : CopyTold c d m n = so_far.copies tells founded stands in
         let on : RestsOn d.seated y n o = rests (tells_still tells) (founded_still founded) now.0.0 now.0.1 in
@@ -119,16 +123,16 @@ module _ (c : Copying) (m : Meaning) (stop left left' : Option ℕ) (d : Copying
   -- it is given up
   pub stopped_rests : ((writes : List ℕ → List Write) → AreFounded d.seated → Copies (watched_by d.seated) d.drain writes n → RestsOn d.seated d.seated n n) → CopyRests c d.seated before m n
   stopped_rests rests =
-      rests_then d.seated before n (passes_none n) (Makes.none n.clock n.clock d.seated before d.seated (le_refl n.clock) so_far.none refl) (λ tells founded writes copies. rests writes founded copies)
+      rests_then d.seated before n (passes_none n) refl (Makes.none n.clock n.clock d.seated before d.seated (le_refl n.clock) so_far.none refl) (λ tells founded writes copies. rests writes founded copies)
 
   -- all is copied
   pub done_rests : {B : Type 0} (meaning : B → Meaning) (notes : List Note) (down : Seated × B) → CopySteps meaning d n notes (last_copy down) → CopyRests c down.0 notes m (meaning down.1)
-  done_rests meaning notes down steps = rests_then down.0 notes (meaning down.1) steps.time steps.made (λ tells founded writes copies. (steps.crash tells founded writes copies).0)
+  done_rests meaning notes down steps = rests_then down.0 notes (meaning down.1) steps.time steps.reads steps.made (λ tells founded writes copies. (steps.crash tells founded writes copies).0)
 
   -- the region failed
   pub failed_rests : {B : Type 0} (meaning : B → Meaning) (notes : List Note) (down : Seated × B) (fault : RegionFault) → CopySteps meaning d n notes (failed_copy down fault)
       → CopyRests c down.0 notes m (meaning down.1)
-  failed_rests meaning notes down fault steps = rests_then down.0 notes (meaning down.1) steps.time steps.made steps.crash
+  failed_rests meaning notes down fault steps = rests_then down.0 notes (meaning down.1) steps.time steps.reads steps.made steps.crash
 
   module _ {B : Type 0} (meaning : B → Meaning) (notes : List Note) (spends : Spends left true left') where
     made_now : AreLeft stop (suc (steps_before d.drain.next)) left'
@@ -147,6 +151,7 @@ module _ (c : Copying) (m : Meaning) (stop left left' : Option ℕ) (d : Copying
           let now : CopyTold c d m n = so_far.copies tells founded stands in
           let on : GoesOnCopying d.seated later.0 n (meaning later.1) = steps.crash (tells_still tells) (founded_still founded) now.0.0 now.0.1 in
           ((on.writes, on.copies), λ base. told_join base (watched_by c.seated) (watched_by d.seated) (watched_by later.0.seated) m n (meaning later.1) (now.1 base) (on.told base));
+      reads = steps.reads ∙ so_far.reads;
       passes = passes_on m n (meaning later.1) so_far.passes steps.time;
     }
       where

@@ -1,7 +1,6 @@
 -- What a drain's parts come to.
 use Rattle.std.proofs.Common.{◌≡◌, ℕ, suc, ◌+◌, ◌-◌, ◌<◌, true, false, List, [], ◌++◌, length, Option, Result, Ok, Err, Vec, Global, refl, sym, ap, subst, ◌∙◌, arith}
 use Rattle.std.specs.Prelude.{IsTrue, IfOk}
-use Rattle.std.proofs.lemmas.List.{map-append}
 use Rattle.berth_face.specs.Berth.{Meaning, Passes}
 use Rattle.leaf_model.specs.declared.writes.Write.{Write}
 use Rattle.crash_moments.proofs.Telling.{told_join}
@@ -20,12 +19,14 @@ use Rattle.leaf_machine.proofs.UpMaking.{makes_join}
 use Rattle.printed_lines.specs.declared.line.Line.{Line}
 use Rattle.transcript.specs.Stage.{IsPreparing, Carries}
 use Rattle.transcript.specs.Steps as step
-use Rattle.transcript.specs.Steps.{Part, TreatsOn, note_line, note_lines}
+use Rattle.transcript.specs.Steps.{Part, TreatsOn}
 use Rattle.player.specs.declared.drain.Shut.TheVariants as how
 use Rattle.player.specs.Steps.{AreLeft, Spends}
+use Rattle.player.specs.Lines.{AreTold, AreAdded, note_lines}
 use Rattle.player.specs.Moves as move
-use Rattle.player.specs.Moves.{AreTold, AreAdded, CarriesCopy, IsKilled}
+use Rattle.player.specs.Moves.{CarriesCopy, IsKilled}
 use Rattle.player.proofs.Counted.{none_made, spent, may_make, all_made}
+use Rattle.player.proofs.NoteLines.{lines_append}
 use Rattle.player.proofs.Treated.{GoesFar, treats_more, treats_still, one_treated, far_none, far_on, far_tables, far_founded, far_tells, far_carries}
 
 -- ---- lines
@@ -34,7 +35,7 @@ use Rattle.player.proofs.Treated.{GoesFar, treats_more, treats_still, one_treate
 pub told_more : {E : Type 0} (a b : List Note) (before after : Result (Vec Line Global) E)
     → AreTold a before → IfOk after (λ lines. AreAdded before b lines.items) → AreTold (a ++ b) after
 told_more a b (Ok before) (Ok after) told added =
-    added ∙ ap (λ (ls : List Line). ls ++ note_lines b) told ∙ sym (map-append note_line a b)
+    added ∙ ap (λ (ls : List Line). ls ++ note_lines b) told ∙ sym (lines_append a b)
 told_more a b (Err e) (Ok after) told added = absurd added
 told_more a b before (Err e) told added = tt
 
@@ -77,6 +78,7 @@ pub record Stepped {B : Type 0} (meaning : B → Meaning) (y : Shutting) (n : Me
   pub made : Makes n.clock (meaning (berth_of_step r)).clock y.serving.seated notes (seats_of_step r)
   pub crash : IsTrue n.tells → AreFounded y.serving.seated → StepGoesOn meaning y n r
   pub region : IsTrue n.tells → (meaning (berth_of_step r)).held.region ≡ n.held.region
+  pub reads : (meaning (berth_of_step r)).disk_reads ≡ n.disk_reads
   pub time : Passes n (meaning (berth_of_step r))
 
 -- one table fewer is left behind a step
@@ -101,6 +103,7 @@ module _ {B E : Type 0} (meaning : B → Meaning) (x : Shutting) (m : Meaning) (
       carries = far_carries x leaf.0 so_far.notes m (meaning leaf.1) so_far.far;
       region = so_far.far.region;
     };
+    reads = so_far.far.reads;
     told = so_far.told;
   }
 
@@ -132,7 +135,7 @@ module _ {B E : Type 0} (meaning : B → Meaning) (x : Shutting) (m : Meaning) (
         part = record { from = (meaning leaf.1).clock; to = (meaning more.1).clock; made = stepped.made };
       });
       told = shut_told;
-      far = far_then more.0 (meaning more.1) (record { made = stepped.made; goes = stepped.crash; region = stepped.region; passes = stepped.time });
+      far = far_then more.0 (meaning more.1) (record { made = stepped.made; goes = stepped.crash; region = stepped.region; reads = stepped.reads; passes = stepped.time });
     }
 
     -- all are treated, and the copy is planned
@@ -150,6 +153,7 @@ module _ {B E : Type 0} (meaning : B → Meaning) (x : Shutting) (m : Meaning) (
         carries = copy_carries;
         region = λ tells. stepped.region (tells_then tells) ∙ so_far.far.region tells;
       };
+      reads = stepped.reads ∙ so_far.far.reads;
       told = shut_told;
     }
       where
@@ -170,7 +174,7 @@ module _ {B E : Type 0} (meaning : B → Meaning) (x : Shutting) (m : Meaning) (
     -- the step failed
     module _ (half : Shutting × B) (f : PrepareFault) (stepped : Stepped meaning leaf.0 (meaning leaf.1) notes (failed_step half f)) where
       half_far : GoesFar x half.0 (so_far.notes ++ notes) m (meaning half.1)
-      half_far = far_then half.0 (meaning half.1) (record { made = stepped.made; goes = stepped.crash; region = stepped.region; passes = stepped.time })
+      half_far = far_then half.0 (meaning half.1) (record { made = stepped.made; goes = stepped.crash; region = stepped.region; reads = stepped.reads; passes = stepped.time })
 
       half_carries : Carries (IsPreparing x) (IsPreparing half.0) (so_far.notes ++ notes) m (meaning half.1)
       half_carries = far_carries x half.0 (so_far.notes ++ notes) m (meaning half.1) half_far
@@ -194,6 +198,7 @@ module _ {B E : Type 0} (meaning : B → Meaning) (x : Shutting) (m : Meaning) (
               carries = half_carries;
               region = half_far.region;
             };
+            reads = half_far.reads;
             told = shut_told;
           }
 
@@ -216,6 +221,7 @@ module _ {B E : Type 0} (meaning : B → Meaning) (x : Shutting) (m : Meaning) (
               carries = half_carries;
               region = half_far.region;
             };
+            reads = half_far.reads;
             told = shut_told;
           }
 
@@ -234,6 +240,7 @@ module _ {B E : Type 0} (meaning : B → Meaning) (x : Shutting) (m : Meaning) (
               carries = half_carries;
               region = half_far.region;
             };
+            reads = half_far.reads;
             told = shut_told;
           }
 

@@ -21,8 +21,9 @@ use Rattle.transcript.specs.Steps.{Part, BeginsShutting, TreatsOn, DrainMoves, R
 use Rattle.player.specs.declared.drain.Shut.TheVariants as how
 use Rattle.player.specs.Stage.{KeepsSeats}
 use Rattle.player.specs.Steps.{steps_before}
+use Rattle.player.specs.Lines.{AreAdded}
 use Rattle.player.specs.Moves as move
-use Rattle.player.specs.Moves.{AreAdded, CarriesCopy, CopyEnds, CopyRests, CopyStands, DrainsWithLines, IsKilled, IsCopyReady}
+use Rattle.player.specs.Moves.{CarriesCopy, CopyEnds, CopyRests, CopyStands, DrainsWithLines, IsKilled, IsCopyReady}
 use Rattle.player.proofs.Carrying.{carries_on, founded_on, makes_keeps}
 use Rattle.player.proofs.Counted.{may_make_more, all_made}
 use Rattle.player.proofs.Copied.{region_stopped}
@@ -114,6 +115,7 @@ module _ {B E : Type 0} (meaning : B → Meaning) (x : Shutting) (m : Meaning) (
     moves = copy_moves x m (meaning copy.1) o leaf stop left shut.notes notes copy.0 z ends shuts shut.ends passes rests copied;
     carries = begins_carries leaf x (IsDown z) (shut.notes ++ notes) m o shuts
         (copy_carries x m (meaning copy.1) o leaf stop left shut.notes notes copy.0 z ends shuts shut.ends passes rests);
+    reads = rests.reads ∙ shut.reads;
     told = told_more shut.notes notes before after shut.told added;
   }
 
@@ -131,6 +133,7 @@ module _ {B E : Type 0} (meaning : B → Meaning) (x : Shutting) (m : Meaning) (
         refl refl;
     carries = begins_carries leaf x (IsDown z) (shut.notes ++ closing) m (meaning y.1) shuts
         (carries_on (IsPreparing x) (IsPreparing y.0) (IsDown z) shut.notes closing m (meaning y.1) (meaning y.1) shut.ends.carries killed.carries);
+    reads = shut.reads;
     told = told_more shut.notes closing before after shut.told added;
   }
 
@@ -141,6 +144,7 @@ module _ {B E : Type 0} (meaning : B → Meaning) (x : Shutting) (m : Meaning) (
     moves = step.halted x shut.ends.half half.0 shut.ends.treating shut.ends.halting shut.ends.made shuts shut.ends.count shut.ends.may shut.ends.treats shut.ends.more
         shut.ends.halts shut.ends.notes_are shut.ends.region refl refl;
     carries = begins_carries leaf x (IsPreparing half.0) shut.notes m (meaning half.1) shuts shut.ends.carries;
+    reads = shut.reads;
     told = shut.told;
   }
 
@@ -151,6 +155,7 @@ module _ {B E : Type 0} (meaning : B → Meaning) (x : Shutting) (m : Meaning) (
     moves = step.starved x shut.ends.half half.0 shut.ends.treating shut.ends.starving shut.ends.made shuts shut.ends.count shut.ends.may shut.ends.treats shut.ends.starves
         shut.ends.part shut.ends.notes_are shut.ends.region refl refl;
     carries = begins_carries leaf x (IsPreparing half.0) shut.notes m (meaning half.1) shuts shut.ends.carries;
+    reads = shut.reads;
     told = shut.told;
   }
 
@@ -160,6 +165,7 @@ module _ {B E : Type 0} (meaning : B → Meaning) (x : Shutting) (m : Meaning) (
     notes = shut.notes;
     moves = step.roomless x whole.0 shut.ends.tables shuts shut.ends.count shut.ends.may shut.ends.treats shut.ends.all shut.ends.region refl refl;
     carries = begins_carries leaf x (IsPreparing whole.0) shut.notes m (meaning whole.1) shuts shut.ends.carries;
+    reads = shut.reads;
     told = shut.told;
   }
 

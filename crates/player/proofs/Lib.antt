@@ -13,4 +13,6 @@ pub mod NamePlaces
 pub mod NoteTables
 pub mod CommandLines
 pub mod CommandSteps
+pub mod CallSteps
+pub mod Playing
 pub mod Beginning

@@ -1,5 +1,5 @@
 -- Meetings of the steward's seats and the callers'.
-use Rattle.std.proofs.Common.{◌≡◌, ℕ, ◌<◌, List, length, Some, sym, ap, subst, arith}
+use Rattle.std.proofs.Common.{◌≡◌, ℕ, zero, suc, ◌<◌, List, [], ◌∷◌, length, Some, refl, sym, ap, subst, arith}
 use Rattle.std.specs.Prelude.{slice_get, slice_set, Option}
 use Rattle.leaf_model.specs.declared.writes.Write.{Write}
 use Rattle.row_records.specs.Records.{LogRecord}
@@ -13,7 +13,6 @@ use Rattle.crash_states.specs.Standing.{Rests, Runs}
 use Rattle.leaf_steward.specs.Seated.{Seated, AreFounded, AtPlace, watched_by, with_seat}
 use Rattle.leaf_machine.specs.States.{Serving, Shutting}
 use Rattle.transcript.specs.Stage.{IsDown, IsUp, IsPreparing, Stands, with_seats}
-use Rattle.transcript.proofs.Lists.{element_at}
 use Rattle.player.specs.declared.leaf.OneLeaf.{OneLeaf}
 use Rattle.player.specs.declared.leaf.OneLeaf.TheVariants as one
 use Rattle.player.specs.Stage.{state_of, berth_of, seats_of}
@@ -32,6 +31,12 @@ pub record IsThere (x : Seated) (table : ℕ) : Type 0 where
   pub seat : SeatView
   pub at : slice_get x.tables table ≡ Some shared
   pub was : slice_get x.seats table ≡ Some seat
+
+-- a place below the length has an element
+element_at : {A : Type 0} (xs : List A) (i : ℕ) → i < length xs → (x : A) × (slice_get xs i ≡ Some x)
+element_at [] i within = absurd (omega (arith, within))
+element_at (x ∷ xs) zero within = (x, refl)
+element_at (x ∷ xs) (suc i) within = element_at xs i (omega (arith, within))
 
 pub is_there : (x : Seated) (table : ℕ) → table < length x.tables → length x.seats ≡ length x.tables → IsThere x table
 is_there x table within count =

@@ -1,5 +1,5 @@
 -- What a start, a flush and a kill make of one leaf.
-use Rattle.std.proofs.Common.{◌≡◌, ℕ, ◌+◌, List, [], length, Option, Ok, Err, refl, sym, ap, subst}
+use Rattle.std.proofs.Common.{◌≡◌, ℕ, ◌+◌, false, List, [], length, Option, Ok, Err, refl, sym, ap, subst, ◌∙◌}
 use Rattle.std.specs.Prelude.{IsTrue, Vec}
 use Rattle.std.specs.Global.{Global}
 use Rattle.leaf_model.specs.declared.writes.Write.{Write}
@@ -7,7 +7,10 @@ use Rattle.row_records.specs.Records.{LogRecord}
 use Rattle.berth_face.specs.Berth.{Meaning}
 use Rattle.disk_backup.specs.Scanning.{BeginsScan}
 use Rattle.leaf_opening.specs.declared.ways.Way.{Way}
-use Rattle.leaf_opening.specs.Starts.{IsWayOf}
+use Rattle.leaf_opening.specs.declared.ways.Way.TheVariants.{Memory, Disk}
+use Rattle.leaf_opening.specs.declared.ways.OpenFault.{OpenFault}
+use Rattle.leaf_opening.specs.declared.ways.OpenFault.TheVariants as found
+use Rattle.leaf_opening.specs.Starts.{IsWayOf, IsOpeningRefusal}
 use Rattle.crash_moments.specs.Left.{NamedStates}
 use Rattle.crash_states.specs.Standing.{Rests, Runs}
 use Rattle.leaf_steward.specs.declared.notes.Note.{Note}
@@ -17,12 +20,14 @@ use Rattle.leaf_machine.specs.declared.faults.StartFault.{StartFault}
 use Rattle.leaf_machine.specs.declared.faults.StartFault.TheVariants as fault
 use Rattle.leaf_machine.specs.declared.up.FlushReply.{FlushReply}
 use Rattle.leaf_machine.specs.States.{Serving, Shutting, GoesOn, RestsOn, GoesOnServing}
-use Rattle.leaf_machine.specs.Starts.{CameUp, IsStart, StartGoesOn}
+use Rattle.leaf_machine.specs.Starts.{CameUp, IsStart, IsStartRefused, StartGoesOn, told_of}
 use Rattle.leaf_machine.specs.Flushes.{Flushes}
 use Rattle.printed_lines.specs.declared.line.Ending.TheVariants as ending
 use Rattle.printed_lines.specs.declared.line.Line.{Line}
+use Rattle.transcript.specs.Pieces.{Starts}
+use Rattle.transcript.specs.Counts.{reads_disk}
 use Rattle.transcript.specs.Stage.{Leaf, IsDown, IsUp, IsPreparing, Stands, Carries, seated_of}
-use Rattle.transcript.specs.Steps.{StartMoves, FlushMoves, KillMoves, DrainMoves, IsWornFor, ending_of, ending_of_flush}
+use Rattle.transcript.specs.Steps.{StartMoves, FlushMoves, KillMoves, DrainMoves, IsWornFor, RegionRefused, ending_of, ending_of_flush}
 use Rattle.player.specs.declared.leaf.OneLeaf.{OneLeaf}
 use Rattle.player.specs.declared.leaf.OneLeaf.TheVariants as one
 use Rattle.player.specs.Stage.{KeepsSeats, state_of, berth_of, seats_of}
@@ -65,6 +70,38 @@ refused x b notes y (fault.Stranger name) start = record { worn = tt; same = sta
 refused x b notes y fault.NoMemory start = record { worn = tt; same = start.1; none = start.2 }
 refused x b notes y (fault.Worn table) start = record { worn = start.0.worn; same = start.1; none = start.3 }
 
+-- what the opening left of the region
+opening_left : (names : List (List ℕ)) (old new : Meaning) (o : OpenFault) (f : StartFault) → f ≡ told_of o → IsOpeningRefusal names old new o → RegionRefused f old new
+opening_left names old new found.RegionFault f e is = subst (λ (g : StartFault). RegionRefused g old new) (sym e) is.0
+opening_left names old new found.DiskFault f e is = subst (λ (g : StartFault). RegionRefused g old new) (sym e) is
+opening_left names old new found.DiskDamaged f e is = subst (λ (g : StartFault). RegionRefused g old new) (sym e) is.0
+opening_left names old new (found.Stranger name) f e is = subst (λ (g : StartFault). RegionRefused g old new) (sym e) is.0
+opening_left names old new found.NoMemory f e is = subst (λ (g : StartFault). RegionRefused g old new) (sym e) is
+
+-- for a worn seat nothing was touched
+region_refused : {B : Type 0} (meaning : B → Meaning) (x : Seated) (b : B) (notes : List Note) (y : Seated × B) (f : StartFault) → IsStart x b notes (Err (y, f))
+    → IsStartRefused x.names (meaning b) (meaning y.1) f → RegionRefused f (meaning b) (meaning y.1)
+region_refused meaning x b notes y fault.RegionFault start why = opening_left x.names (meaning b) (meaning y.1) why.0 fault.RegionFault why.1 why.2
+region_refused meaning x b notes y fault.DiskFault start why = opening_left x.names (meaning b) (meaning y.1) why.0 fault.DiskFault why.1 why.2
+region_refused meaning x b notes y fault.DiskDamaged start why = opening_left x.names (meaning b) (meaning y.1) why.0 fault.DiskDamaged why.1 why.2
+region_refused meaning x b notes y (fault.Stranger name) start why = opening_left x.names (meaning b) (meaning y.1) why.0 (fault.Stranger name) why.1 why.2
+region_refused meaning x b notes y fault.NoMemory start why = opening_left x.names (meaning b) (meaning y.1) why.0 fault.NoMemory why.1 why.2
+region_refused {B} meaning x b notes y (fault.Worn table) start why = ap (λ (c : B). (meaning c).held.region) start.2
+
+-- a start that does not read the disk came from memory
+from_memory : (way : Way) → reads_disk Starts (ending.Started way) ≡ false → way ≡ Memory
+from_memory Memory none = refl
+from_memory (Disk w) none = absurd cc
+
+-- one that is refused does
+refusal_reads : (f : StartFault) → reads_disk Starts (ending_of f) ≡ false → ⊥
+refusal_reads fault.RegionFault none = absurd cc
+refusal_reads fault.DiskFault none = absurd cc
+refusal_reads fault.DiskDamaged none = absurd cc
+refusal_reads (fault.Stranger name) none = absurd cc
+refusal_reads fault.NoMemory none = absurd cc
+refusal_reads (fault.Worn table) none = absurd cc
+
 module _ {B : Type 0} (meaning : B → Meaning) where
   -- ---- nothing is done
 
@@ -83,7 +120,7 @@ module _ {B : Type 0} (meaning : B → Meaning) where
       → StartMoves (meaning (berth_of self)) (meaning s.1) (state_of self) notes (ending.Started way) (IsUp s.0)
   start_opens self x s way notes is start came found =
       subst (λ (l : OneLeaf B). StartMoves (meaning (berth_of l)) (meaning s.1) (state_of l) notes (ending.Started way) (IsUp s.0)) (sym is)
-      (StartMoves.opened x.0 s.0 way refl start.3 (λ tells. record { came = came tells; way_is = found tells }) refl refl)
+      (StartMoves.opened x.0 s.0 way refl start.3 start.4 (λ tells. record { came = came tells; way_is = found tells }) refl refl)
 
   pub start_carries : (self : OneLeaf B) (x : Seated × B) (s : Serving × B) (way : Way) (notes : List Note) → self ≡ one.Down x
       → Makes (meaning x.1).clock (meaning s.1).clock x.0 notes s.0.seated
@@ -100,15 +137,18 @@ module _ {B : Type 0} (meaning : B → Meaning) where
 
   pub start_refused : (self : OneLeaf B) (x y : Seated × B) (f : StartFault) (notes : List Note) (ends : ending.the_data) → self ≡ one.Down x
       → IsStart x.0 x.1 notes (Err (y, f))
+      → (IsTrue (meaning x.1).tells → IsStartRefused x.0.names (meaning x.1) (meaning y.1) f)
       → (IsTrue (meaning x.1).tells → BeginsScan (length (meaning x.1).held.disk) (meaning x.1).held.disk (meaning y.1).held.disk)
       → ((others : NamedStates) (least : List ℕ → List Write) (next : Option LogRecord) → IsTrue (meaning x.1).tells → AreFounded x.0 → Rests (watched_by x.0) others least next (meaning x.1)
       → StartGoesOn meaning x.0 (meaning x.1) others least next (Err (y, f)))
       → ends ≡ ending_of f
       → StartMoves (meaning (berth_of self)) (meaning y.1) (state_of self) notes ends (IsDown y.0)
-  start_refused self x y f notes ends is start disk crash told =
+  start_refused self x y f notes ends is start why disk crash told =
       let was : Refused x.0 notes y.0 f = refused x.0 x.1 notes y f start in
       subst (λ (l : OneLeaf B). StartMoves (meaning (berth_of l)) (meaning y.1) (state_of l) notes ends (IsDown y.0)) (sym is)
-      (StartMoves.refused x.0 f refl was.worn (λ base tells founded stands. (crash base stands.0 stands.1 tells founded stands.2).2) disk was.none told (ap IsDown was.same))
+      (StartMoves.refused x.0 f refl was.worn (λ base tells founded stands. (crash base stands.0 stands.1 tells founded stands.2).2)
+      (λ tells. record { why = why tells; region = region_refused meaning x.0 x.1 notes y f start (why tells); disk = disk tells })
+      was.none told (ap IsDown was.same))
 
   pub refusal_carries : (self : OneLeaf B) (x y : Seated × B) (f : StartFault) (notes : List Note) → self ≡ one.Down x
       → Makes (meaning x.1).clock (meaning y.1).clock x.0 notes y.0
@@ -122,6 +162,15 @@ module _ {B : Type 0} (meaning : B → Meaning) where
             let on = crash base stands.0 stands.1 tells founded stands.2 in
             record { stands = (stands.0, stands.1, on.0); told = on.1 };
       })
+
+  pub start_reads : (self : OneLeaf B) (x : Seated × B) (s : Serving × B) (way : Way) → self ≡ one.Down x
+      → (way ≡ Memory → (meaning s.1).disk_reads ≡ (meaning x.1).disk_reads)
+      → reads_disk Starts (ending.Started way) ≡ false → (meaning s.1).disk_reads ≡ (meaning (berth_of self)).disk_reads
+  start_reads self x s way is same none = same (from_memory way none) ∙ ap (λ (l : OneLeaf B). (meaning (berth_of l)).disk_reads) (sym is)
+
+  pub refusal_read : (self : OneLeaf B) (y : Seated × B) (f : StartFault) (ends : ending.the_data) → ends ≡ ending_of f
+      → reads_disk Starts ends ≡ false → (meaning y.1).disk_reads ≡ (meaning (berth_of self)).disk_reads
+  refusal_read self y f ends told none = absurd (refusal_reads f (subst (λ (e : ending.the_data). reads_disk Starts e ≡ false) told none))
 
   -- ---- a flush
 
@@ -190,6 +239,7 @@ module _ {B : Type 0} (meaning : B → Meaning) where
         notes = [];
         moves = DrainMoves.not_up tt refl refl refl refl;
         carries = carries_none (IsDown x.0) (meaning x.1);
+        reads = refl;
         told = none;
       })
 

@@ -4,7 +4,7 @@ use Rattle.std.specs.Prelude.{slice_index_or}
 use Rattle.std.specs.List.{position_or_len}
 use Rattle.std.proofs.lemmas.Slice.Eq.{bytes_eq-Decides}
 use Rattle.std.specs.Str.{bytes_eq}
-use Rattle.transcript.specs.Transcript.{place_of}
+use Rattle.transcript.specs.Pieces.{place_of}
 
 place_is : (name : List ℕ) (names : List (List ℕ)) → place_of name names ≡ position_or_len (bytes_eq name) names
 place_is name [] = refl

@@ -2,7 +2,7 @@
 use Rattle.std.proofs.Common.{◌≡◌, ℕ, zero, suc, List, [], ◌∷◌, ◌++◌, length, take, slice_get, Some, refl, sym, ap, ◌∙◌, append_assoc}
 use Rattle.leaf_steward.specs.declared.notes.Note.{Note}
 use Rattle.printed_lines.specs.declared.line.Line.{Line}
-use Rattle.transcript.specs.Steps.{note_line, note_lines}
+use Rattle.player.specs.Lines.{note_line, note_lines}
 
 -- the lines of the first i notes stand behind those that there were
 abbrev pub AreFirst : List Note → List Line → ℕ → List Line → Type 0
@@ -25,6 +25,10 @@ pub first_next : (notes : List Note) (old : List Line) (i : ℕ) (lines lines' :
 first_next notes old i lines lines' n l so_far at line_is pushed =
     pushed ∙ ap (λ (x : Line). lines ++ x ∷ []) line_is ∙ ap (λ (ls : List Line). ls ++ note_line n ∷ []) so_far
     ∙ append_assoc old (note_lines (take i notes)) (note_line n ∷ []) ∙ ap (λ (ls : List Line). old ++ ls) (sym (take_next notes i n at))
+
+pub lines_append : (a b : List Note) → note_lines (a ++ b) ≡ note_lines a ++ note_lines b
+lines_append [] b = refl
+lines_append (n ∷ ns) b = ap (λ (ls : List Line). note_line n ∷ ls) (lines_append ns b)
 
 take_all : (notes : List Note) → take (length notes) notes ≡ notes
 take_all [] = refl

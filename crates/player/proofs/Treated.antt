@@ -66,11 +66,12 @@ goes_join s t u a b c first second writes runs =
       told = λ others. told_join others (watched_by s.seated) (watched_by t.seated) (watched_by u.seated) a b c (one.told others) (two.told others);
     }
 
--- the steward made entries with these notes, the leaf went on, and the region is as it was
+-- the steward made entries with these notes, the leaf went on, the region is as it was, and the disk was not read
 pub record GoesFar (x y : Shutting) (notes : List Note) (m n : Meaning) : Type 0 where
   pub made : Makes m.clock n.clock x.serving.seated notes y.serving.seated
   pub goes : IsTrue m.tells → AreFounded x.serving.seated → GoesOn x.serving y.serving m n
   pub region : SameRegion m n
+  pub reads : n.disk_reads ≡ m.disk_reads
   pub passes : Passes m n
 
 pub far_none : (x : Shutting) (m : Meaning) → GoesFar x x [] m m
@@ -78,6 +79,7 @@ far_none x m = record {
   made = Makes.none m.clock m.clock x.serving.seated [] x.serving.seated (le_refl m.clock) refl refl;
   goes = λ tells founded. goes_none x.serving m;
   region = λ tells. refl;
+  reads = refl;
   passes = passes_none m;
 }
 
@@ -97,6 +99,7 @@ module _ (x y : Shutting) (first : List Note) (a b : Meaning) (far : GoesFar x y
     made = makes_join a.clock b.clock c.clock x.serving.seated y.serving.seated z.serving.seated first second far.made later.made;
     goes = λ tells founded. goes_join x.serving y.serving z.serving a b c (far.goes tells founded) (later.goes (far_tells tells) (far_founded founded));
     region = λ tells. later.region (far_tells tells) ∙ far.region tells;
+    reads = later.reads ∙ far.reads;
     passes = passes_on a b c far.passes later.passes;
   }
 

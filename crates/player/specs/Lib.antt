@@ -1,3 +1,4 @@
 pub mod Steps
 pub mod Stage
+pub mod Lines
 pub mod Moves

@@ -1,5 +1,5 @@
--- What the leaf's methods do, with the notes that they make and the lines of those.
-use Rattle.std.specs.Prelude.{◌≡◌, ℕ, suc, ◌+◌, ◌^◌, ◌-◌, ◌<◌, ◌≤◌, min, List, [], ◌++◌, length, slice_get, slice_set, Option, Some, Result, Ok, Err, Vec, IsTrue, ⊤}
+-- What the leaf's methods do, with the notes that they make.
+use Rattle.std.specs.Prelude.{◌≡◌, ℕ, suc, ◌+◌, ◌<◌, ◌≤◌, List, [], ◌++◌, length, slice_get, slice_set, Option, Some, Result, Vec, IsTrue, ⊤}
 use Rattle.std.specs.Global.{Global}
 use Rattle.std.specs.List.{AllByRecursion}
 use Rattle.leaf_model.specs.declared.writes.Write.{Write}
@@ -22,33 +22,22 @@ use Rattle.leaf_machine.specs.Prepares.{Halts, Starves, AllTreated, IsCopyOf}
 use Rattle.printed_lines.specs.declared.line.Ending.{Ending}
 use Rattle.printed_lines.specs.declared.line.Ending.TheVariants as ending
 use Rattle.printed_lines.specs.declared.line.Line.{Line}
-use Rattle.printed_lines.specs.Lines.{IsOf}
 use Rattle.transcript.specs.Life.{MayMake}
-use Rattle.transcript.specs.Transcript.{region_faults_in, disk_faults_in}
 use Rattle.transcript.specs.Stage as stage
 use Rattle.transcript.specs.Stage.{Leaf, IsDown, IsPreparing, Stands, Carries, Meets, seated_of, with_seats}
-use Rattle.transcript.specs.Steps.{Part, TreatsOn, DrainMoves, note_lines}
+use Rattle.transcript.specs.Steps.{Part, TreatsOn, DrainMoves}
 use Rattle.player.specs.declared.drain.Shut.{Shut}
 use Rattle.player.specs.declared.drain.Shut.TheVariants as shut
+use Rattle.player.specs.Lines.{AreTold}
 use Rattle.player.specs.Steps.{AreLeft, steps_before}
 
--- ---- notes, and their lines
+-- ---- notes
 
 -- each note is of a table among so many
 abbrev pub ArePlaces : ℕ → List Note → Type 0
 ArePlaces count notes = AllByRecursion (λ (n : Note). n.table < count) notes
 
--- the lines are those of the notes, unless there was no memory for a line
-abbrev pub AreTold : {E : Type 0} → List Note → Result (Vec Line Global) E → Type 0
-AreTold notes (Ok lines) = lines.items ≡ note_lines notes
-AreTold notes (Err e) = ⊤
-
--- the lines of the notes stand behind those that there were, which were not refused
-abbrev pub AreAdded : {E : Type 0} → Result (Vec Line Global) E → List Note → List Line → Type 0
-AreAdded (Ok before) notes lines = lines ≡ before.items ++ note_lines notes
-AreAdded (Err e) notes lines = ⊥
-
--- ---- what callers know of a command's lines
+-- ---- what callers know of how a command ended
 
 -- a fault of the region or of the disk is told only where the count of its faults rose
 abbrev pub FaultRose : Ending → Meaning → Meaning → Type 0
@@ -65,18 +54,6 @@ FaultRose ending.Stopped m m' = ⊤
 FaultRose ending.NotUp m m' = ⊤
 FaultRose ending.NotDown m m' = ⊤
 FaultRose (ending.Started way) m m' = ⊤
-
--- the lines tell of no more faults than were counted, and their tables are the leaf's
-pub record AreSound (names : List (List ℕ)) (m m' : Meaning) (lines : List Line) : Type 0 where
-  pub region_faults : min (m.region_faults + region_faults_in 0 lines) (2 ^ 64 - 1) ≤ m'.region_faults
-  pub disk_faults : min (m.disk_faults + disk_faults_in 0 lines) (2 ^ 64 - 1) ≤ m'.disk_faults
-  pub fit : AllByRecursion (IsOf names) lines
-
--- the lines tell of no fault, and their tables are the leaf's
-pub record IsCalm (names : List (List ℕ)) (lines : List Line) : Type 0 where
-  pub region_faults : region_faults_in 0 lines ≡ 0
-  pub disk_faults : disk_faults_in 0 lines ≡ 0
-  pub fit : AllByRecursion (IsOf names) lines
 
 -- ---- meetings
 
@@ -116,9 +93,10 @@ pub record CarriesCopy (x : Shutting) (c : Copying) (notes : List Note) (m m' : 
   pub stands : (base : NamedStates) → IsTrue m.tells → AreFounded x.serving.seated → Stands base (IsPreparing x) m
       → CopyStands c m' × moments.Told base (watched_by x.serving.seated) (watched_by c.seated) m m'
 
--- a leaf that copied its tables comes to rest
+-- a leaf that copied its tables comes to rest; its disk was not read
 pub record CopyRests (c : Copying) (y : Seated) (notes : List Note) (m m' : Meaning) : Type 0 where
   pub made : Makes m.clock m'.clock c.seated notes y
+  pub reads : m'.disk_reads ≡ m.disk_reads
   pub stands : (base : NamedStates) → IsTrue m.tells → AreFounded c.seated → stage.AreHandedNothing base → CopyStands c m
       → Stands base (IsDown y) m' × moments.Told base (watched_by c.seated) (watched_by y) m m'
 
@@ -211,11 +189,12 @@ RoseShut before now (shut.Halted leaf) = Rose before now
 RoseShut before now (shut.Starved leaf) = ⊤
 RoseShut before now (shut.Roomless leaf) = ⊤
 
--- tables were shut, with these lines, and how that ended
+-- tables were shut, with these lines, and how that ended; the disk was not read
 pub record ShutsTables {B E : Type 0} (meaning : B → Meaning) (x : Shutting) (m : Meaning) (stop : Option ℕ)
     (result : Shut B) (left : Option ℕ) (lines : Result (Vec Line Global) E) : Type 0 where
   pub notes : List Note
   pub ends : ShutEnds meaning x m stop notes result left
+  pub reads : (meaning (berth_left result)).disk_reads ≡ m.disk_reads
   pub told : AreTold notes lines
 
 -- How a copy ends: each table is handed over, and the region is the image; or the region failed; or as many steps were made as may be, none of them the last.
@@ -247,9 +226,10 @@ pub record IsKilled (x : Shutting) (y : Seated) (notes : List Note) (m m' : Mean
   pub each : EachNoted IsClosedNote (length x.closed) count notes
   pub carries : Carries (IsPreparing x) (IsDown y) notes m m'
 
--- what a drain does to a leaf, with the lines of its notes
+-- what a drain does to a leaf, with the lines of its notes; it does not read the disk
 pub record DrainsWithLines {E : Type 0} (m m' : Meaning) (leaf : Leaf) (stop : Option ℕ) (ends : Ending) (lines : Result (Vec Line Global) E) (leaf' : Leaf) : Type 0 where
   pub notes : List Note
   pub moves : DrainMoves m m' leaf stop notes ends leaf'
   pub carries : Carries leaf leaf' notes m m'
+  pub reads : m'.disk_reads ≡ m.disk_reads
   pub told : AreTold notes lines

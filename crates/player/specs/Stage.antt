@@ -1,5 +1,7 @@
 -- One leaf and its callers' seats, as callers of the player see them.
-use Rattle.std.specs.Prelude.{◌≡◌, ℕ, List, length, map, slice_get, slice_set, Some, ⊤}
+use Rattle.std.specs.Prelude.{◌≡◌, ℕ, List, length, map, slice_get, slice_set, Some, Result, Vec, IfOk, ⊤}
+use Rattle.std.specs.Global.{Global}
+use Rattle.std.specs.List.{AllByRecursion}
 use Rattle.berth_face.specs.Berth.{Meaning}
 use Rattle.region_layout.specs.Names.{AreNames}
 use Rattle.leaf_history.specs.Calls.{Call}
@@ -12,7 +14,12 @@ use Rattle.leaf_table.specs.Calls.{SeatView, Answered, IsCaller, base_seen, name
 use Rattle.leaf_steward.specs.Seated.{Seated}
 use Rattle.script_text.specs.declared.command.Command.{Command}
 use Rattle.script_text.specs.declared.command.Command.TheVariants as command
+use Rattle.printed_lines.specs.declared.line.Line.{Line}
+use Rattle.printed_lines.specs.Lines.{IsOf}
+use Rattle.transcript.specs.Pieces.{Piece, lines_in}
+use Rattle.transcript.specs.Counts.{IsCounted}
 use Rattle.transcript.specs.Stage.{Leaf, IsDown, IsUp, IsPreparing, MeetAll, seated_of}
+use Rattle.transcript.specs.Steps.{Plays, this_leaf}
 use Rattle.player.specs.declared.leaf.OneLeaf.{OneLeaf}
 use Rattle.player.specs.declared.leaf.OneLeaf.TheVariants as one
 
@@ -121,6 +128,15 @@ pub record HasMet (leaf : Leaf) (callers : List SeatView) (m : Meaning) : Type 0
   pub leaf_then : Leaf
   pub callers_then : List SeatView
   pub met : MeetAll leaf callers leaf_then callers_then m
+
+-- what a command did, with its pieces, also where there was no memory for their lines
+pub record PlaysWith {B E : Type 0} (meaning : B → Meaning) (names : List (List ℕ)) (c : Command) (leaf : Leaf) (callers : List SeatView) (b : B)
+    (result : Result (Vec Line Global) E) (leaf' : Leaf) (callers' : List SeatView) (b' : B) : Type 0 where
+  pub pieces : List Piece
+  pub plays : Plays meaning names c leaf callers b pieces leaf' callers' b'
+  pub counted : IsCounted this_leaf pieces (meaning b) (meaning b')
+  pub fit : AllByRecursion (IsOf names) (lines_in pieces)
+  pub lines_are : IfOk result (λ lines. lines.items ≡ lines_in pieces)
 
 -- a command of a caller, which does not touch the leaf
 abbrev pub IsCall : Command → Type 0

@@ -1,14 +1,17 @@
-// A query's table, and its answer.
-ghost use Rattle.std.specs.Prelude.{◌≡◌, ◌<◌, ◌^◌, length, IfOk};
+// A query's table, and its lines.
+ghost use Rattle.std.specs.Prelude.{◌≡◌, ◌∷◌, [], ◌<◌, ◌^◌, length, IfOk};
 ghost use Rattle.std.specs.List.{position};
 ghost use Rattle.std.specs.Str.{bytes_eq};
-ghost use Rattle.transcript.specs.Steps.{AnswersWith};
-ghost use Rattle.transcript.specs.Transcript.{place_of};
-ghost use Rattle.player.specs.Stage.{IsAnswer, named_by_reply};
+ghost use Rattle.printed_lines.specs.declared.line.Line.TheVariants.{Answer};
+ghost use Rattle.transcript.specs.Pieces.{place_of};
+ghost use Rattle.player.specs.Stage.{IsAnswer, IsKnown, named_by_reply};
+ghost use Rattle.player.specs.Lines.{reply_line, rows_of_reply};
 
+use crate::entries::call_line;
 use answer_text::lines;
 use leaf_model::{Names, Query, Text, Texts};
 use leaf_table::Reply;
+use printed_lines::Line;
 use std::alloc::{AllocError, Global};
 
 /// The place of the first table of that name, or the number of tables.
@@ -29,10 +32,32 @@ fn position_of(names: &[Text], name: &str) -> Option<usize>
     names.iter().position(|other| name == other.as_str())
 }
 
+/// The lines of a query of that table that had this reply: that of its entry, and the answer.
+pub fn query_lines(
+    alloc: Global,
+    table: u32,
+    query: &Query,
+    reply: &Reply,
+) -> Result<Vec<Line>, AllocError>
+    requires known { IsKnown reply.now }
+    requires answer { IsAnswer reply.now }
+    ensures { IfOk result (λ lines. lines.items ≡ reply_line table reply.now ∷ Answer (named_by_reply reply.now) 1 (rows_of_reply query.now reply.now) ∷ []) }
+{
+    let rows = answer_rows(alloc, query, reply)?;
+    let mut lines = Vec::new(alloc);
+    lines.push(call_line(table, reply))?;
+    lines.push(Line::Answer {
+        named: named(reply),
+        leaves: 1,
+        rows,
+    })?;
+    Ok(lines)
+}
+
 /// The lines of the answer to a query that had this reply: none where the table did not answer.
-pub fn answer_rows(alloc: Global, query: &Query, reply: &Reply) -> Result<Texts, AllocError>
+fn answer_rows(alloc: Global, query: &Query, reply: &Reply) -> Result<Texts, AllocError>
     requires { IsAnswer reply.now }
-    ensures { IfOk result (AnswersWith query.now reply.now) }
+    ensures { IfOk result (λ rows. rows ≡ rows_of_reply query.now reply.now) }
 {
     match reply {
         Reply::Groups { groups, .. } => Ok(Texts::of(lines(alloc, query, groups)?.into_inner())),
@@ -42,7 +67,7 @@ pub fn answer_rows(alloc: Global, query: &Query, reply: &Reply) -> Result<Texts,
 }
 
 /// How many leaves answered with this reply.
-pub fn named(reply: &Reply) -> u64
+fn named(reply: &Reply) -> u64
     ensures { result ≡ named_by_reply reply.now }
 {
     match reply {

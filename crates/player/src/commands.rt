@@ -1,16 +1,16 @@
 // What each command does to a leaf and its callers' seats, and the lines that it prints.
-ghost use Rattle.std.specs.Prelude.{◌≡◌, ◌<◌, ◌≤◌, length, IfOk};
+ghost use Rattle.std.specs.Prelude.{◌≡◌, ◌<◌, ◌≤◌, length};
 ghost use Rattle.std.specs.List.{AllByRecursion};
 ghost use Rattle.berth_face.specs.Berth.{Passes};
 ghost use Rattle.leaf_model.specs.Values.{IsRow};
-ghost use Rattle.transcript.specs.Steps.{StartStep, FlushStep, KillStep, DrainsLeaf, AddStep, QueryStep, MayPlay, Plays};
-ghost use Rattle.transcript.specs.Transcript.{place_of};
-ghost use Rattle.player.specs.Stage.{FitsTogether, IsCall, berth_of, seats_of, state_of};
-ghost use Rattle.player.specs.Moves.{AreSound, IsCalm};
+ghost use Rattle.transcript.specs.Pieces.{Starts, Flushes, Drains, Kills, place_of};
+ghost use Rattle.transcript.specs.Steps.{AddStep, QueryStep, MayPlay};
+ghost use Rattle.player.specs.Stage.{FitsTogether, IsCall, PlaysWith, berth_of, seats_of, state_of};
+ghost use Rattle.player.specs.Lines.{ActsWith, CallsWith};
 
-use crate::answer::{answer_rows, named, place_of};
+use crate::answer::{place_of, query_lines};
 use crate::callers::Callers;
-use crate::entries::{call_line, steward_lines, with_ending};
+use crate::entries::{add_lines, steward_lines, with_ending};
 use crate::leaf::OneLeaf;
 use berth_face::{Berth, Gate};
 use leaf_machine::Notes;
@@ -33,10 +33,9 @@ pub fn play_command<'t, R: Wait, B: Berth, G: Gate>(
     requires fit { FitsTogether names.now (seats_of leaf) callers.old }
     requires may { MayPlay names.now command }
     ensures fits { FitsTogether names.now (seats_of result.0) callers.new }
-    ensures plays { IfOk result.1 (λ lines. Plays B.meaning names.now command (state_of leaf.entry) callers.old.seats (berth_of leaf.entry) lines.items (state_of result.0) callers.new.seats (berth_of result.0)) }
+    ensures plays { PlaysWith B.meaning names.now command (state_of leaf.entry) callers.old.seats (berth_of leaf.entry) result.1 (state_of result.0) callers.new.seats (berth_of result.0) }
     ensures time { Passes (B.meaning (berth_of leaf.entry)) (B.meaning (berth_of result.0)) }
     ensures kept { IsCall command → berth_of result.0 ≡ berth_of leaf.entry }
-    ensures sound { IfOk result.1 (λ lines. AreSound names.now (B.meaning (berth_of leaf.entry)) (B.meaning (berth_of result.0)) lines.items) }
 {
     match command {
         Command::Fleet {
@@ -76,9 +75,8 @@ fn start<'t, R: Wait, B: Berth, G: Gate>(
 ) -> (OneLeaf<'t, B>, Result<Vec<Line>, AllocError>)
     requires { FitsTogether names.now (seats_of leaf) callers.old }
     ensures fits { FitsTogether names.now (seats_of result.0) callers.new }
-    ensures starts { IfOk result.1 (λ lines. StartStep (B.meaning (berth_of leaf.entry)) (B.meaning (berth_of result.0)) (state_of leaf.entry) callers.old.seats lines.items (state_of result.0) callers.new.seats) }
+    ensures acts { ActsWith B.meaning names.now Starts (state_of leaf.entry) callers.old.seats (berth_of leaf.entry) result.1 (state_of result.0) callers.new.seats (berth_of result.0) }
     ensures time { Passes (B.meaning (berth_of leaf.entry)) (B.meaning (berth_of result.0)) }
-    ensures sound { IfOk result.1 (λ lines. AreSound names.now (B.meaning (berth_of leaf.entry)) (B.meaning (berth_of result.0)) lines.items) }
 {
     let mut leaf = leaf;
     callers.meet(&mut leaf);
@@ -102,9 +100,8 @@ fn flush<'t, R: Wait, B: Berth, G: Gate>(
     requires fit { FitsTogether names.now (seats_of leaf) callers.old }
     requires table { table < length names.now }
     ensures fits { FitsTogether names.now (seats_of result.0) callers.new }
-    ensures flushes { IfOk result.1 (λ lines. FlushStep table (B.meaning (berth_of leaf.entry)) (B.meaning (berth_of result.0)) (state_of leaf.entry) callers.old.seats lines.items (state_of result.0) callers.new.seats) }
+    ensures acts { ActsWith B.meaning names.now (Flushes table) (state_of leaf.entry) callers.old.seats (berth_of leaf.entry) result.1 (state_of result.0) callers.new.seats (berth_of result.0) }
     ensures time { Passes (B.meaning (berth_of leaf.entry)) (B.meaning (berth_of result.0)) }
-    ensures sound { IfOk result.1 (λ lines. AreSound names.now (B.meaning (berth_of leaf.entry)) (B.meaning (berth_of result.0)) lines.items) }
 {
     let mut leaf = leaf;
     callers.meet(&mut leaf);
@@ -126,9 +123,8 @@ fn kill<'t, R: Wait, B: Berth, G: Gate>(
 ) -> (OneLeaf<'t, B>, Result<Vec<Line>, AllocError>)
     requires { FitsTogether names.now (seats_of leaf) callers.old }
     ensures fits { FitsTogether names.now (seats_of result.0) callers.new }
-    ensures kills { IfOk result.1 (λ lines. KillStep (B.meaning (berth_of leaf.entry)) (B.meaning (berth_of result.0)) (state_of leaf.entry) callers.old.seats lines.items (state_of result.0) callers.new.seats) }
+    ensures acts { ActsWith B.meaning names.now Kills (state_of leaf.entry) callers.old.seats (berth_of leaf.entry) result.1 (state_of result.0) callers.new.seats (berth_of result.0) }
     ensures time { Passes (B.meaning (berth_of leaf.entry)) (B.meaning (berth_of result.0)) }
-    ensures sound { IfOk result.1 (λ lines. AreSound names.now (B.meaning (berth_of leaf.entry)) (B.meaning (berth_of result.0)) lines.items) }
 {
     let mut leaf = leaf;
     callers.meet(&mut leaf);
@@ -151,9 +147,8 @@ fn drain<'t, R: Wait, B: Berth, G: Gate>(
 ) -> (OneLeaf<'t, B>, Result<Vec<Line>, AllocError>)
     requires { FitsTogether names.now (seats_of leaf) callers.old }
     ensures fits { FitsTogether names.now (seats_of result.0) callers.new }
-    ensures drains { IfOk result.1 (λ lines. DrainsLeaf stop (B.meaning (berth_of leaf.entry)) (B.meaning (berth_of result.0)) (state_of leaf.entry) callers.old.seats lines.items (state_of result.0) callers.new.seats) }
+    ensures acts { ActsWith B.meaning names.now (Drains stop) (state_of leaf.entry) callers.old.seats (berth_of leaf.entry) result.1 (state_of result.0) callers.new.seats (berth_of result.0) }
     ensures time { Passes (B.meaning (berth_of leaf.entry)) (B.meaning (berth_of result.0)) }
-    ensures sound { IfOk result.1 (λ lines. AreSound names.now (B.meaning (berth_of leaf.entry)) (B.meaning (berth_of result.0)) lines.items) }
 {
     let mut leaf = leaf;
     callers.meet(&mut leaf);
@@ -175,14 +170,11 @@ fn add<'t, R: Wait, G: Gate>(
     requires table { table < length callers.old.tables }
     requires names { length names.now ≡ length callers.old.tables }
     requires rows { AllByRecursion IsRow rows }
-    ensures adds { IfOk result (λ lines. AddStep table rows callers.old.tables callers.old.seats lines.items callers.new.seats) }
+    ensures adds { CallsWith names.now (λ pieces. AddStep table rows callers.old.tables callers.old.seats pieces callers.new.seats) result }
     ensures same { callers.new.tables ≡ callers.old.tables }
-    ensures calm { IfOk result (λ lines. IsCalm names.now lines.items) }
 {
     let reply = callers.add(rt, table, rows, gate);
-    let mut lines = Vec::new(alloc);
-    lines.push(call_line(table, &reply))?;
-    Ok(lines)
+    add_lines(alloc, table, &reply)
 }
 
 /// Asks the query's table.
@@ -197,19 +189,10 @@ fn ask<'t, R: Wait, G: Gate>(
     requires table { place_of query.now.table names.now < length callers.old.tables }
     requires names { length names.now ≡ length callers.old.tables }
     requires few { length names.now ≤ 16 }
-    ensures asks { IfOk result (λ lines. QueryStep (place_of query.now.table names.now) query.now callers.old.tables callers.old.seats lines.items callers.new.seats) }
+    ensures asks { CallsWith names.now (λ pieces. QueryStep (place_of query.now.table names.now) query.now callers.old.tables callers.old.seats pieces callers.new.seats) result }
     ensures same { callers.new.tables ≡ callers.old.tables }
-    ensures calm { IfOk result (λ lines. IsCalm names.now lines.items) }
 {
     let table = place_of(names, query.table.as_str());
     let reply = callers.ask(rt, table, query, gate);
-    let rows = answer_rows(alloc, query, &reply)?;
-    let mut lines = Vec::new(alloc);
-    lines.push(call_line(table, &reply))?;
-    lines.push(Line::Answer {
-        named: named(&reply),
-        leaves: 1,
-        rows,
-    })?;
-    Ok(lines)
+    query_lines(alloc, table, query, &reply)
 }

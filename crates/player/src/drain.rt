@@ -7,8 +7,9 @@ ghost use Rattle.leaf_steward.specs.Making.{EachNoted, IsClosedNote};
 ghost use Rattle.transcript.specs.Stage.{Carries, IsDown, IsPreparing, Leaf};
 ghost use Rattle.transcript.specs.Steps as step;
 ghost use Rattle.player.specs.Stage.{KeepsSeats, berth_of, seats_of, state_of};
+ghost use Rattle.player.specs.Lines.{AreAdded};
 ghost use Rattle.player.specs.Moves as move;
-ghost use Rattle.player.specs.Moves.{AreAdded, CopyEnds, CopyRests, DrainsWithLines, FaultRose, IsKilled, RoseShut, berth_left};
+ghost use Rattle.player.specs.Moves.{CopyEnds, CopyRests, DrainsWithLines, FaultRose, IsKilled, RoseShut, berth_left};
 
 use crate::entries::with_notes;
 use crate::leaf::OneLeaf;

@@ -1,19 +1,29 @@
 // The lines of calls and of what a steward's command did.
 ghost use Rattle.std.specs.Prelude.{◌≡◌, ◌∷◌, ◌++◌, [], IfOk, OnOk, MatchResult};
 ghost use Rattle.printed_lines.specs.declared.line.Line.TheVariants.{Ended, Entry};
-ghost use Rattle.transcript.specs.Steps.{IsReplyLine, note_line, note_lines, said_of_note};
+ghost use Rattle.transcript.specs.Steps.{said_of_note};
 ghost use Rattle.player.specs.Stage.{IsKnown};
-ghost use Rattle.player.specs.Moves.{AreAdded};
+ghost use Rattle.player.specs.Lines.{AreAdded, note_line, note_lines, reply_line};
 
 use leaf_machine::{Note, Notes, What};
 use leaf_table::Reply;
 use printed_lines::{Ending, Line, Said, Verb};
 use std::alloc::{AllocError, Global};
 
+/// The one line of an add to that table that had this reply.
+pub fn add_lines(alloc: Global, table: u32, reply: &Reply) -> Result<Vec<Line>, AllocError>
+    requires { IsKnown reply.now }
+    ensures { IfOk result (λ lines. lines.items ≡ reply_line table reply.now ∷ []) }
+{
+    let mut lines = Vec::new(alloc);
+    lines.push(call_line(table, reply))?;
+    Ok(lines)
+}
+
 /// The line of a reply to an add or a query of that table.
 pub fn call_line(table: u32, reply: &Reply) -> Line
     requires { IsKnown reply.now }
-    ensures { IsReplyLine table reply.now result }
+    ensures { result ≡ reply_line table reply.now }
 {
     match reply {
         Reply::Added { number, kept, late } => entry(

@@ -1,5 +1,5 @@
 // One leaf: down, up, or shutting its tables.
-ghost use Rattle.std.specs.Prelude.{◌≡◌, ◌<◌, [], length, slice_set, IsOk};
+ghost use Rattle.std.specs.Prelude.{◌≡◌, ◌<◌, false, [], length, slice_set, IsOk};
 ghost use Rattle.berth_face.specs.Berth.{Passes};
 ghost use Rattle.leaf_history.specs.History.{LegalFrom};
 ghost use Rattle.turnstile.specs.Seats.{IsSeatOf, LearnsOthers, Told};
@@ -8,6 +8,8 @@ ghost use Rattle.leaf_table.specs.Turns.{is_founded, start_of};
 ghost use Rattle.leaf_table.specs.Calls.{SeatView, base_seen, seen_of};
 ghost use Rattle.leaf_steward.specs.Seated.{AreFounded, AtPlace};
 ghost use Rattle.printed_lines.specs.declared.line.Ending.TheVariants as ending;
+ghost use Rattle.transcript.specs.Pieces.{Starts};
+ghost use Rattle.transcript.specs.Counts.{reads_disk};
 ghost use Rattle.transcript.specs.Stage.{Carries, Stands, with_seats};
 ghost use Rattle.transcript.specs.Steps.{FlushMoves, KillMoves, StartMoves, IsDownLeaf, ending_of, ending_of_flush};
 ghost use Rattle.player.specs.Stage.{KeepsSeats, state_of, berth_of, seats_of};
@@ -66,6 +68,7 @@ impl<'t, B: Berth> OneLeaf<'t, B> {
         ensures keeps { KeepsSeats (seats_of self.entry) (seats_of result.0) }
         ensures time { Passes (B.meaning (berth_of self.entry)) (B.meaning (berth_of result.0)) }
         ensures cause { FaultRose result.1 (B.meaning (berth_of self.entry)) (B.meaning (berth_of result.0)) }
+        ensures reads { reads_disk Starts result.1 ≡ false → (B.meaning (berth_of result.0)).disk_reads ≡ (B.meaning (berth_of self.entry)).disk_reads }
     {
         match self {
             OneLeaf::Up(up) => (OneLeaf::Up(up), Ending::NotDown),
@@ -92,6 +95,7 @@ impl<'t, B: Berth> OneLeaf<'t, B> {
         ensures keeps { KeepsSeats (seats_of self.old) (seats_of self.new) }
         ensures time { Passes (B.meaning (berth_of self.old)) (B.meaning (berth_of self.new)) }
         ensures cause { FaultRose result (B.meaning (berth_of self.old)) (B.meaning (berth_of self.new)) }
+        ensures reads { (B.meaning (berth_of self.new)).disk_reads ≡ (B.meaning (berth_of self.old)).disk_reads }
     {
         match self {
             OneLeaf::Down(_) => Ending::NotUp,
@@ -121,7 +125,7 @@ impl<'t, B: Berth> OneLeaf<'t, B> {
         }
     }
 
-    /// DrainsWithLines a leaf that is not down, and gives the lines of its notes. Where that has not ended after so many steps, it kills the leaf.
+    /// Drains a leaf that is not down, and gives the lines of its notes. Where that has not ended after so many steps, it kills the leaf.
     pub fn drain<R: Wait, G: Gate>(
         self,
         rt: &R,

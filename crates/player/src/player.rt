@@ -1,5 +1,5 @@
 // One leaf, and what each command of a script does to it.
-ghost use Rattle.std.specs.Prelude.{◌≡◌, ◌≤◌, ◌+◌, ◌-◌, ◌^◌, ℕ, min, length, map, slice_get, Some, IfErr, IfOk};
+ghost use Rattle.std.specs.Prelude.{◌≡◌, ℕ, length, map, slice_get, Some, IfErr, IfOk};
 ghost use Rattle.std.specs.List.{AllByRecursion};
 ghost use Rattle.berth_face.specs.Berth.{Passes};
 ghost use Rattle.region_layout.specs.Names.{AreNames};
@@ -10,9 +10,8 @@ ghost use Rattle.leaf_steward.specs.Seated.{AreAlike, AreFounded, AtEach, IsUnus
 ghost use Rattle.leaf_machine.specs.States.{MayBegin};
 ghost use Rattle.printed_lines.specs.Lines.{IsOf};
 ghost use Rattle.transcript.specs.Stage.{IsDown, Stands};
-ghost use Rattle.transcript.specs.Steps.{MayPlay, Plays};
-ghost use Rattle.transcript.specs.Transcript.{region_faults_in, disk_faults_in};
-ghost use Rattle.player.specs.Stage.{HasMet, IsCall, IsUnusedCaller};
+ghost use Rattle.transcript.specs.Steps.{MayPlay};
+ghost use Rattle.player.specs.Stage.{HasMet, IsCall, IsUnusedCaller, PlaysWith};
 
 use crate::callers::Callers;
 use crate::commands::play_command;
@@ -99,12 +98,10 @@ impl<'t, B: Berth> Player<'t, B> {
         command: Command,
     ) -> (Player<'t, B>, Result<Vec<Line>, AllocError>)
         requires { MayPlay self.names command }
-        ensures plays { IfOk result.1 (λ lines. Plays B.meaning self.entry.names command self.entry.leaf self.entry.callers self.entry.berth lines.items result.0.leaf result.0.callers result.0.berth) }
+        ensures plays { PlaysWith B.meaning self.entry.names command self.entry.leaf self.entry.callers self.entry.berth result.1 result.0.leaf result.0.callers result.0.berth }
         ensures names { result.0.names ≡ self.entry.names }
         ensures time { Passes (B.meaning self.entry.berth) (B.meaning result.0.berth) }
         ensures kept { IsCall command → result.0.berth ≡ self.entry.berth }
-        ensures region_faults { IfOk result.1 (λ lines. min ((B.meaning self.entry.berth).region_faults + region_faults_in 0 lines.items) (2 ^ 64 - 1) ≤ (B.meaning result.0.berth).region_faults) }
-        ensures disk_faults { IfOk result.1 (λ lines. min ((B.meaning self.entry.berth).disk_faults + disk_faults_in 0 lines.items) (2 ^ 64 - 1) ≤ (B.meaning result.0.berth).disk_faults) }
         ensures lines_fit { IfOk result.1 (λ lines. AllByRecursion (IsOf self.entry.names) lines.items) }
     {
         let Player {

@@ -3,6 +3,7 @@
 
 ghost use Rattle.std.specs.Prelude.{◌≡◌, IfOk};
 ghost use Rattle.std.specs.List.{AllByRecursion};
+ghost use Rattle.play.specs.Played.{AreBases};
 ghost use Rattle.scuba_cli.specs.Exit.{exit_number};
 ghost use Rattle.scuba_cli.specs.Fresh.{IsEmptyBerth};
 
@@ -40,11 +41,13 @@ fn main(rt: HostRuntime) -> ExitCode {
 }
 
 /// Does what the words say over these berths, of whose bases N tells what is known, and says why where it was not done.
-fn serve<N: Bases<B>, R: AllocGlobal + Input + Print + Eprint + Wait, B: Berth + Drop>(
+fn serve<N: Bases, R: AllocGlobal + Input + Print + Eprint + Wait, B: Berth + Drop>(
     rt: &R,
     words: &[String],
     berths: Result<Vec<B>, AllocError>,
-) -> ExitCode {
+) -> ExitCode
+    requires { IfOk berths (λ berths. AreBases N.base B.meaning berths.items) }
+{
     let Ok(mut berths) = berths else {
         return ExitCode::from(NO_MEMORY);
     };
@@ -63,9 +66,9 @@ fn serve<N: Bases<B>, R: AllocGlobal + Input + Print + Eprint + Wait, B: Berth +
     ExitCode::from(status_number(&status))
 }
 
-/// Berths in memory that hold nothing: the base of each is known, and no name has a write there.
+/// Berths in memory that hold nothing, and to which nothing was ever written.
 fn fresh_berths(alloc: Global) -> Result<Vec<MemBerth>, AllocError>
-    ensures based { IfOk result (λ berths. AllByRecursion IsEmptyBerth berths.items) }
+    ensures { IfOk result (λ berths. AllByRecursion IsEmptyBerth berths.items) }
 {
     let mut berths = Vec::with_capacity(alloc, BERTHS as usize)?;
     for _ in 0..BERTHS {

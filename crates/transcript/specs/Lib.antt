@@ -1,7 +1,12 @@
-pub mod Life
-pub mod Transcript
 pub mod Base
+pub mod Pieces
+pub mod Shapes
+pub mod Life
+pub mod Histories
+pub mod Answers
+pub mod Counts
+pub mod Strangers
+pub mod Transcript
+pub mod Leaving
 pub mod Stage
 pub mod Steps
-pub mod Session
-pub mod Laws

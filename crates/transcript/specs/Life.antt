@@ -1,297 +1,322 @@
--- What one leaf's commands print, but for the numbers of the lines, and what they leave behind.
-use Rattle.std.specs.Prelude.{◌≡◌, ℕ, suc, ◌+◌, ◌<◌, ◌≤◌, Bool, true, false, List, [], ◌∷◌, ◌++◌, length, map, Option, Some, None, IfSome, if◌then◌else◌, nat_lt, ⊤}
+-- The life of one leaf, as its steward's deeds print it: in which state it is, what its next start prints, and what its next `opened` lines tell.
+-- No rule looks at a table's history.
+use Rattle.std.specs.Prelude.{◌≡◌, ℕ, zero, suc, ◌+◌, ◌<◌, ◌≤◌, Bool, true, false, List, [], ◌∷◌, ◌++◌, length, map, Option, Some, None, IfSome, option_map, slice_set, replicate, ◌==◌, MatchBool, if◌then◌else◌, ⊤}
 use Rattle.leaf_opening.specs.declared.ways.Way.{Way}
 use Rattle.leaf_opening.specs.declared.ways.Way.TheVariants.{Memory, Disk}
 use Rattle.adopt.specs.declared.found.WhyDisk.TheVariants as why
 use Rattle.leaf_opening.specs.Starts.{way_after}
 use Rattle.printed_lines.specs.declared.line.Said.{Said}
 use Rattle.printed_lines.specs.declared.line.Said.TheVariants.{Opened, Took, Flushed, Closed, Handed}
-use Rattle.printed_lines.specs.declared.line.Verb.TheVariants.{Flush, Drain, Kill, Start}
 use Rattle.printed_lines.specs.declared.line.Ending.{Ending}
-use Rattle.printed_lines.specs.declared.line.Ending.TheVariants.{Done, Stopped, NotUp, NotDown, Worn, Started, FaultRegion, FaultRoom, FaultDisk, FaultDamaged, FaultMemory, FaultStranger, FaultWorn}
-use Rattle.printed_lines.specs.declared.line.Line.{Line}
-use Rattle.printed_lines.specs.declared.line.Line.TheVariants.{Entry, Ended}
+use Rattle.printed_lines.specs.declared.line.Ending.TheVariants as ends
+use Rattle.transcript.specs.Pieces.{Noted, Deed, Starts, Flushes, Drains, Kills, Piece, Called, Worn, Acted, Says}
 
 -- what the log is owed: a table's place, and how many writes were taken of it up to then
 pub record Owed : Type 0 where
   pub table : ℕ
   pub count : ℕ
 
--- How far a leaf has come that shuts its tables: what its log is owed; how many tables, from the first on, are shut and flushed since then;
--- and whether the next one is shut, so that it is the one whose record is owed.
+-- How far a leaf has come that shuts its tables: what is owed; how many tables, from the first on, are shut and flushed since then; and whether the next
+-- one is shut, so that it is the one whose record is owed.
 pub record Progress : Type 0 where
   pub owed : Option Owed
   pub treated : ℕ
   pub shut : Bool
 
--- A leaf is gone or not yet started, and its next start prints this way, where that is claimed; or it is up, or shuts its tables, and the next start
--- prints this way unless the leaf is drained first.
-pub data Life : Type 0 where
-  Down : (claim : Option Way) → Life
-  Up : (way : Way) (owed : Option Owed) → Life
-  Preparing : (way : Way) (at : Progress) → Life
+pub data Mode : Type 0 where
+  Down : Mode
+  Up : (owed : Option Owed) → Mode
+  Preparing : (at : Progress) → Mode
 
--- what its next start prints unless it is drained first, where that is claimed
-abbrev pub claim_of : Life → Option Way
-claim_of (Down claim) = claim
-claim_of (Up way owed) = Some way
-claim_of (Preparing way p) = Some way
+pub record Life : Type 0 where
+  pub mode : Mode
+  -- the way that the next start prints unless the leaf is drained before, where that is claimed
+  pub way : Option Way
+  -- for each table how many writes its next `opened` line tells, where that is claimed
+  pub durable : Option (List ℕ)
+  -- it was up before
+  pub begun : Bool
 
--- one line for each table in order, from a place on
-abbrev pub table_lines : ℕ → ℕ → List ℕ → List Said → List Line
-table_lines leaf place [] saids = []
-table_lines leaf place (number ∷ numbers) [] = []
-table_lines leaf place (number ∷ numbers) (said ∷ saids) = Entry leaf place number said ∷ table_lines leaf (suc place) numbers saids
+-- ---- entries, but for their numbers
 
--- the lines of tables that were handed over
-abbrev pub handed : List ℕ → List Said
-handed numbers = map (λ _. Handed) numbers
+-- the notes say this, table by table from a place on
+abbrev pub Notes : ℕ → List Said → List Noted → Type 0
+Notes place [] [] = ⊤
+Notes place [] (n ∷ ns) = ⊥
+Notes place (said ∷ saids) [] = ⊥
+Notes place (said ∷ saids) (n ∷ ns) = (n.table ≡ place) × (n.said ≡ said) × Notes (suc place) saids ns
 
--- the line of what was owed, once it is on the disk
-abbrev pub owed_line : ℕ → ℕ → Option Owed → List Line
-owed_line leaf number None = []
-owed_line leaf number (Some o) = Entry leaf o.table number (Flushed o.count) ∷ []
+-- one entry of a table
+abbrev pub Note : ℕ → Said → List Noted → Type 0
+Note table said notes = (number : ℕ) × (notes ≡ record { table = table; number = number; said = said } ∷ [])
+
+-- two entries of a table
+abbrev pub Pair : ℕ → Said → Said → List Noted → Type 0
+Pair table one other notes = (first second : ℕ) × (notes ≡ record { table = table; number = first; said = one } ∷ record { table = table; number = second; said = other } ∷ [])
+
+-- the entry of what was owed, once it is on the disk
+abbrev pub OwedNote : Option Owed → List Noted → Type 0
+OwedNote None notes = notes ≡ []
+OwedNote (Some o) notes = Note o.table (Flushed o.count) notes
+
+-- how many writes of each table are known to be on the disk behind an entry
+abbrev pub durable_by : List ℕ → ℕ → Said → List ℕ
+durable_by counts table (Flushed n) = slice_set counts table n
+durable_by counts table (Opened n) = slice_set counts table n
+durable_by counts table _ = counts
+
+abbrev pub durable_after : List ℕ → List Noted → List ℕ
+durable_after counts [] = counts
+durable_after counts (n ∷ ns) = durable_after (durable_by counts n.table n.said) ns
+
+abbrev pub durable_with : Option (List ℕ) → List Noted → Option (List ℕ)
+durable_with known notes = option_map (λ counts. durable_after counts notes) known
+
+-- a leaf in this mode, behind these entries; its next start prints this
+abbrev pub on : Life → Mode → Option Way → List Noted → Life
+on life mode way notes = record { mode = mode; way = way; durable = durable_with life.durable notes; begun = life.begun }
+
+-- the same where the disk failed
+abbrev pub failed : Life → Mode → Life
+failed life mode = record { mode = mode; way = life.way; durable = None; begun = life.begun }
 
 -- ---- starts
 
--- how a start is refused
-abbrev pub IsStartRefusal : Ending → Type 0
-IsStartRefusal FaultRegion = ⊤
-IsStartRefusal FaultDisk = ⊤
-IsStartRefusal FaultMemory = ⊤
-IsStartRefusal (FaultStranger name) = ⊤
-IsStartRefusal (FaultWorn table) = ⊤
-IsStartRefusal Worn = ⊥
-IsStartRefusal FaultRoom = ⊥
-IsStartRefusal FaultDamaged = ⊥
-IsStartRefusal Done = ⊥
-IsStartRefusal Stopped = ⊥
-IsStartRefusal NotUp = ⊥
-IsStartRefusal NotDown = ⊥
-IsStartRefusal (Started way) = ⊥
+-- the claims of a berth whose base is known
+abbrev pub claimed : {A : Type 0} → Bool → A → Option A
+claimed true a = Some a
+claimed false a = None
 
-abbrev pub IsDownLife : Life → Type 0
-IsDownLife (Down claim) = ⊤
-IsDownLife (Up way owed) = ⊥
-IsDownLife (Preparing way p) = ⊥
+-- how a start is refused; a damaged log is not told over a berth whose base is known
+abbrev pub IsStartRefusal : Bool → Ending → Type 0
+IsStartRefusal told ends.FaultRegion = ⊤
+IsStartRefusal told ends.FaultDisk = ⊤
+IsStartRefusal told ends.FaultMemory = ⊤
+IsStartRefusal told (ends.FaultStranger name) = ⊤
+IsStartRefusal told (ends.FaultWorn table) = ⊤
+IsStartRefusal told ends.FaultDamaged = told ≡ false
+IsStartRefusal told _ = ⊥
 
-abbrev pub IsUpLife : Life → Type 0
-IsUpLife (Down claim) = ⊥
-IsUpLife (Up way owed) = ⊤
-IsUpLife (Preparing way p) = ⊥
+-- what the start behind a refused one prints: nothing is touched for a worn seat; a region that failed is not known; else an open flag was closed
+abbrev pub way_refused : Ending → Option Way → Option Way
+way_refused ends.FaultRegion way = None
+way_refused (ends.FaultWorn table) way = way
+way_refused _ way = option_map way_after way
 
--- A start of a leaf of so many tables: each is opened and the way is told, or the start is refused and nothing is claimed
--- of the next one, or the leaf is not down.
-pub data OfStart (tables leaf : ℕ) (life : Life) (lines : List Line) (next : Life) : Type 0 where
-  opens : (claim : Option Way) (way : Way) (numbers writes : List ℕ)
-      → life ≡ Down claim
-      → IfSome claim (λ claimed. way ≡ claimed)
-      → length numbers ≡ tables
-      → length writes ≡ tables
-      → lines ≡ table_lines leaf 0 numbers (map Opened writes) ++ Ended Start leaf (Started way) ∷ []
-      → next ≡ Up (way_after way) None
-      → OfStart tables leaf life lines next
-  refuses : (claim : Option Way) (ending : Ending)
-      → life ≡ Down claim
-      → IsStartRefusal ending
-      → lines ≡ Ended Start leaf ending ∷ []
-      → next ≡ Down None
-      → OfStart tables leaf life lines next
-  not_down : (IsDownLife life → ⊥)
-      → lines ≡ Ended Start leaf NotDown ∷ []
+pub data OfStart (told : Bool) (tables : ℕ) (life : Life) (notes : List Noted) (ending : Ending) (next : Life) : Type 0 where
+  opens : (way : Way) (counts : List ℕ)
+      → life.mode ≡ Down
+      → IfSome life.way (λ w. way ≡ w)
+      → IfSome life.durable (λ known. counts ≡ known)
+      → length counts ≡ tables
+      → Notes 0 (map Opened counts) notes
+      → ending ≡ ends.Started way
+      → next ≡ record { mode = Up None; way = claimed told (way_after way); durable = claimed told counts; begun = true }
+      → OfStart told tables life notes ending next
+  refuses : life.mode ≡ Down
+      → IsStartRefusal told ending
+      → notes ≡ []
+      → next ≡ on life Down (way_refused ending life.way) []
+      → OfStart told tables life notes ending next
+  not_down : (life.mode ≡ Down → ⊥)
+      → notes ≡ []
+      → ending ≡ ends.NotDown
       → next ≡ life
-      → OfStart tables leaf life lines next
+      → OfStart told tables life notes ending next
 
 -- ---- flushes
 
--- A flush of a table: what was owed is flushed, and then the table is taken and flushed with the same number of writes; or the disk fails, before anything
--- was flushed or when the table was taken; or the table's seat is worn, and it is not taken; or the leaf is not up.
-pub data OfFlush (table leaf : ℕ) (life : Life) (lines : List Line) (next : Life) : Type 0 where
-  done : (way : Way) (owed : Option Owed) (first taking flushing count : ℕ)
-      → life ≡ Up way owed
-      → lines ≡ owed_line leaf first owed ++ (Entry leaf table taking (Took count) ∷ Entry leaf table flushing (Flushed count) ∷ Ended Flush leaf Done ∷ [])
-      → next ≡ Up way None
-      → OfFlush table leaf life lines next
-  half : (way : Way) (owed : Option Owed) (first taking count : ℕ)
-      → life ≡ Up way owed
-      → lines ≡ owed_line leaf first owed ++ (Entry leaf table taking (Took count) ∷ Ended Flush leaf FaultDisk ∷ [])
-      → next ≡ Up way (Some (record { table = table; count = count }))
-      → OfFlush table leaf life lines next
-  stuck : (way : Way) (o : Owed)
-      → life ≡ Up way (Some o)
-      → lines ≡ Ended Flush leaf FaultDisk ∷ []
+-- What was owed is flushed, and then the table is taken and flushed with one number of writes; or the disk fails, before anything was flushed or when the table
+-- was taken; or the table's seat is worn; or the leaf is not up.
+pub data OfFlush (table : ℕ) (life : Life) (notes : List Noted) (ending : Ending) (next : Life) : Type 0 where
+  done : (owed : Option Owed) (first own : List Noted) (count : ℕ)
+      → life.mode ≡ Up owed
+      → OwedNote owed first
+      → Pair table (Took count) (Flushed count) own
+      → notes ≡ first ++ own
+      → ending ≡ ends.Done
+      → next ≡ on life (Up None) life.way notes
+      → OfFlush table life notes ending next
+  half : (owed : Option Owed) (first own : List Noted) (count : ℕ)
+      → life.mode ≡ Up owed
+      → OwedNote owed first
+      → Note table (Took count) own
+      → notes ≡ first ++ own
+      → ending ≡ ends.FaultDisk
+      → next ≡ failed life (Up (Some (record { table = table; count = count })))
+      → OfFlush table life notes ending next
+  stuck : (o : Owed)
+      → life.mode ≡ Up (Some o)
+      → notes ≡ []
+      → ending ≡ ends.FaultDisk
+      → next ≡ failed life (Up (Some o))
+      → OfFlush table life notes ending next
+  worn : (owed : Option Owed)
+      → life.mode ≡ Up owed
+      → OwedNote owed notes
+      → ending ≡ ends.Worn
+      → next ≡ on life (Up None) life.way notes
+      → OfFlush table life notes ending next
+  not_up : ((owed : Option Owed) → life.mode ≡ Up owed → ⊥)
+      → notes ≡ []
+      → ending ≡ ends.NotUp
       → next ≡ life
-      → OfFlush table leaf life lines next
-  worn : (way : Way) (owed : Option Owed) (first : ℕ)
-      → life ≡ Up way owed
-      → lines ≡ owed_line leaf first owed ++ Ended Flush leaf Worn ∷ []
-      → next ≡ Up way None
-      → OfFlush table leaf life lines next
-  not_up : (IsUpLife life → ⊥)
-      → lines ≡ Ended Flush leaf NotUp ∷ []
-      → next ≡ life
-      → OfFlush table leaf life lines next
+      → OfFlush table life notes ending next
 
--- ---- kills
+-- ---- the steps of a drain
 
--- the place of the first table that is still open
+-- how far a drain has come: it shuts the tables, or has made so many steps of their copy
+pub data Stage : Type 0 where
+  Shutting : (at : Progress) → Stage
+  Copying : (made : ℕ) → Stage
+
+-- where a drain of such a leaf begins
+abbrev pub BeginsAt : Mode → Progress → Type 0
+BeginsAt Down p = ⊥
+BeginsAt (Up owed) p = p ≡ record { owed = owed; treated = 0; shut = false }
+BeginsAt (Preparing at) p = p ≡ at
+
+-- one table more is treated: what was owed is flushed; then the next table is closed and flushed with one number of writes, where it was not shut before
+pub data Treats (p : Progress) (notes : List Noted) (q : Progress) : Type 0 where
+  whole : (first own : List Noted) (count : ℕ)
+      → p.shut ≡ false
+      → OwedNote p.owed first
+      → Pair p.treated (Closed count) (Flushed count) own
+      → notes ≡ first ++ own
+      → q ≡ record { owed = None; treated = suc p.treated; shut = false }
+      → Treats p notes q
+  rest : p.shut ≡ true
+      → OwedNote p.owed notes
+      → q ≡ record { owed = None; treated = suc p.treated; shut = false }
+      → Treats p notes q
+
+-- One step that neither ends the drain nor fails, of tables so many, and of a copy that takes so many steps.
+pub data Step (tables copy : ℕ) (s : Stage) (notes : List Noted) (t : Stage) : Type 0 where
+  treats : (p q : Progress)
+      → s ≡ Shutting p → p.treated < tables → Treats p notes q → t ≡ Shutting q → Step tables copy s notes t
+  plans : (p : Progress)
+      → s ≡ Shutting p → p.treated ≡ tables → notes ≡ [] → t ≡ Copying 0 → Step tables copy s notes t
+  copies : (made : ℕ)
+      → s ≡ Copying made → suc made < copy → notes ≡ [] → t ≡ Copying (suc made) → Step tables copy s notes t
+
+-- so many of them
+pub data Steps (tables copy : ℕ) : ℕ → Stage → List Noted → Stage → Type 0 where
+  none : (n : ℕ) (s : Stage) (notes : List Noted) (t : Stage) → n ≡ 0 → notes ≡ [] → t ≡ s → Steps tables copy n s notes t
+  more : (n : ℕ) (s : Stage) (notes : List Noted) (t : Stage) (fewer : ℕ) (first others : List Noted) (between : Stage)
+      → n ≡ suc fewer → Step tables copy s first between → Steps tables copy fewer between others t → notes ≡ first ++ others → Steps tables copy n s notes t
+
+-- How many steps the copy of a leaf's tables takes: the begin, the one write, and the flag. (From the layout of columns on, one for each column in place of the write, and the directory.)
+abbrev pub IsCopyLength : ℕ → Type 0
+IsCopyLength copy = copy ≡ 3
+
+-- the disk fails: before anything was flushed, or when the next table was closed
+pub data Halts (p : Progress) (notes : List Noted) (q : Progress) : Type 0 where
+  half : (first own : List Noted) (count : ℕ)
+      → p.shut ≡ false
+      → OwedNote p.owed first
+      → Note p.treated (Closed count) own
+      → notes ≡ first ++ own
+      → q ≡ record { owed = Some (record { table = p.treated; count = count }); treated = p.treated; shut = true }
+      → Halts p notes q
+  stuck : (o : Owed) → p.owed ≡ Some o → notes ≡ [] → q ≡ p → Halts p notes q
+
+-- there is no memory: what was owed is flushed, and nothing else is done
+abbrev pub Starves : Progress → List Noted → Progress → Type 0
+Starves p notes q = OwedNote p.owed notes × (q ≡ record { owed = None; treated = if p.shut then suc p.treated else p.treated; shut = false })
+
+-- each table that is open is closed
 abbrev pub first_open : Progress → ℕ
 first_open p = if p.shut then suc p.treated else p.treated
 
--- A kill closes each open table, and what the next start prints stays claimed; or the leaf is down.
-pub data OfKill (tables leaf : ℕ) (life : Life) (lines : List Line) (next : Life) : Type 0 where
-  kills : (way : Way) (owed : Option Owed) (numbers writes : List ℕ)
-      → life ≡ Up way owed
-      → length numbers ≡ tables
-      → length writes ≡ tables
-      → lines ≡ table_lines leaf 0 numbers (map Closed writes) ++ Ended Kill leaf Done ∷ []
-      → next ≡ Down (Some way)
-      → OfKill tables leaf life lines next
-  kills_preparing : (way : Way) (p : Progress) (numbers writes : List ℕ)
-      → life ≡ Preparing way p
-      → first_open p + length numbers ≡ tables
-      → length writes ≡ length numbers
-      → lines ≡ table_lines leaf (first_open p) numbers (map Closed writes) ++ Ended Kill leaf Done ∷ []
-      → next ≡ Down (Some way)
-      → OfKill tables leaf life lines next
-  not_up : IsDownLife life
-      → lines ≡ Ended Kill leaf NotUp ∷ []
-      → next ≡ life
-      → OfKill tables leaf life lines next
+abbrev pub ClosesFrom : ℕ → ℕ → List Noted → Type 0
+ClosesFrom tables place notes = (counts : List ℕ) × (place + length counts ≡ tables) × Notes place (map Closed counts) notes
 
--- ---- drains
+abbrev pub ClosesRest : ℕ → Stage → List Noted → Type 0
+ClosesRest tables (Shutting p) notes = ClosesFrom tables (first_open p) notes
+ClosesRest tables (Copying made) notes = notes ≡ []
 
--- one table more is treated: what was owed is flushed; then the next table is closed and flushed with one number of writes, where it was not shut before
-pub data OfTreating (leaf : ℕ) (p : Progress) (lines : List Line) (q : Progress) : Type 0 where
-  whole : (first closing flushing count : ℕ)
-      → p.shut ≡ false
-      → lines ≡ owed_line leaf first p.owed ++ (Entry leaf p.treated closing (Closed count) ∷ Entry leaf p.treated flushing (Flushed count) ∷ [])
-      → q ≡ record { owed = None; treated = suc p.treated; shut = false }
-      → OfTreating leaf p lines q
-  rest : (first : ℕ)
-      → p.shut ≡ true
-      → lines ≡ owed_line leaf first p.owed
-      → q ≡ record { owed = None; treated = suc p.treated; shut = false }
-      → OfTreating leaf p lines q
-
--- some tables more, of so many
-pub data OfTreatings (tables leaf : ℕ) : Progress → List Line → Progress → Type 0 where
-  none : (p : Progress) (lines : List Line) (q : Progress) → lines ≡ [] → q ≡ p → OfTreatings tables leaf p lines q
-  more : (p : Progress) (lines : List Line) (q : Progress) (first others : List Line) (between : Progress)
-      → p.treated < tables
-      → OfTreating leaf p first between
-      → OfTreatings tables leaf between others q
-      → lines ≡ first ++ others
-      → OfTreatings tables leaf p lines q
-
--- the disk fails, before anything was flushed or when the next table was closed
-pub data OfHalting (leaf : ℕ) (p : Progress) (lines : List Line) (q : Progress) : Type 0 where
-  half : (first closing count : ℕ)
-      → p.shut ≡ false
-      → lines ≡ owed_line leaf first p.owed ++ Entry leaf p.treated closing (Closed count) ∷ []
-      → q ≡ record { owed = Some (record { table = p.treated; count = count }); treated = p.treated; shut = true }
-      → OfHalting leaf p lines q
-  stuck : (o : Owed)
-      → p.owed ≡ Some o
-      → lines ≡ []
-      → q ≡ p
-      → OfHalting leaf p lines q
-
--- there is no memory for the next table's content: what was owed is flushed
-pub record OfStarving (leaf : ℕ) (p : Progress) (lines : List Line) (q : Progress) : Type 0 where
-  pub first : ℕ
-  pub lines_are : lines ≡ owed_line leaf first p.owed
-  pub is : q ≡ record { owed = None; treated = first_open p; shut = false }
-
--- where a drain of such a leaf begins
-abbrev pub BeginsAt : Life → Way → Progress → Type 0
-BeginsAt (Down claim) way p = ⊥
-BeginsAt (Up w owed) way p = (w ≡ way) × (p ≡ record { owed = owed; treated = 0; shut = false })
-BeginsAt (Preparing w at) way p = (w ≡ way) × (p ≡ at)
-
--- A drain is not stopped before it has made so many steps. Its steps are each table that is left, the plan of the copy, the beginning of the region,
--- the writing of it, and its flag.
+-- a drain may make so many steps
 abbrev pub MayMake : Option ℕ → ℕ → Type 0
-MayMake None steps = ⊤
-MayMake (Some stop) steps = steps ≤ stop
+MayMake stop n = IfSome stop (λ most. n ≤ most)
 
--- what the next start prints of a leaf that was killed after so many steps behind its tables': once the region was begun, it is closed
-abbrev pub way_stopped : ℕ → Way → Way
-way_stopped further way = if nat_lt 1 further then Disk (why.Closed 0) else way
+-- what the start behind a drain that was stopped here prints: its first step of the copy left a closed flag
+abbrev pub way_stopped : Stage → Option Way → Option Way
+way_stopped (Shutting p) way = way
+way_stopped (Copying zero) way = way
+way_stopped (Copying (suc made)) way = option_map (λ (w : Way). Disk (why.Closed 0)) way
 
--- A drain of a leaf of so many tables: each that is left is closed and flushed, then each is handed over, and the next start finds memory; or the region fails
--- once all are flushed; or the copy has no room, or there is no memory, or the disk fails, and the leaf goes on when it is drained again; or so many steps were made as it
--- was to make, and it is killed, so that each open table is closed; or the leaf is down.
-pub data OfDrain (tables leaf : ℕ) (stop : Option ℕ) (life : Life) (lines : List Line) (next : Life) : Type 0 where
-  drains : (way : Way) (p q : Progress) (treating : List Line) (handings : List ℕ) (left : ℕ)
-      → p.treated + left ≡ tables
-      → MayMake stop (left + 4)
-      → BeginsAt life way p
-      → OfTreatings tables leaf p treating q
-      → q.treated ≡ tables
-      → length handings ≡ tables
-      → lines ≡ treating ++ (table_lines leaf 0 handings (handed handings) ++ Ended Drain leaf Done ∷ [])
-      → next ≡ Down (Some Memory)
-      → OfDrain tables leaf stop life lines next
-  region_fails : (way : Way) (p q : Progress) (treating : List Line) (left : ℕ)
-      → p.treated + left ≡ tables
-      → MayMake stop (left + 2)
-      → BeginsAt life way p
-      → OfTreatings tables leaf p treating q
-      → q.treated ≡ tables
-      → lines ≡ treating ++ Ended Drain leaf FaultRegion ∷ []
-      → next ≡ Down None
-      → OfDrain tables leaf stop life lines next
-  no_room : (way : Way) (p q : Progress) (treating : List Line) (left : ℕ)
-      → p.treated + left ≡ tables
-      → MayMake stop (left + 1)
-      → BeginsAt life way p
-      → OfTreatings tables leaf p treating q
-      → q.treated ≡ tables
-      → lines ≡ treating ++ Ended Drain leaf FaultRoom ∷ []
-      → next ≡ Preparing way q
-      → OfDrain tables leaf stop life lines next
-  no_memory : (way : Way) (p q r : Progress) (treating starving : List Line) (made : ℕ)
-      → p.treated + made ≡ q.treated
-      → MayMake stop (suc made)
-      → BeginsAt life way p
-      → OfTreatings tables leaf p treating q
-      → OfStarving leaf q starving r
-      → lines ≡ treating ++ (starving ++ Ended Drain leaf FaultMemory ∷ [])
-      → next ≡ Preparing way r
-      → OfDrain tables leaf stop life lines next
-  disk_fails : (way : Way) (p q r : Progress) (treating halting : List Line) (made : ℕ)
-      → p.treated + made ≡ q.treated
-      → MayMake stop (suc made)
-      → BeginsAt life way p
-      → OfTreatings tables leaf p treating q
-      → q.treated < tables
-      → OfHalting leaf q halting r
-      → lines ≡ treating ++ (halting ++ Ended Drain leaf FaultDisk ∷ [])
-      → next ≡ Preparing way r
-      → OfDrain tables leaf stop life lines next
-  stops_treating : (way : Way) (p q : Progress) (treating : List Line) (made : ℕ) (numbers writes : List ℕ)
-      → stop ≡ Some made
-      → p.treated + made ≡ q.treated
-      → BeginsAt life way p
-      → OfTreatings tables leaf p treating q
-      → first_open q + length numbers ≡ tables
-      → length writes ≡ length numbers
-      → lines ≡ treating ++ (table_lines leaf (first_open q) numbers (map Closed writes) ++ Ended Drain leaf Stopped ∷ [])
-      → next ≡ Down (Some way)
-      → OfDrain tables leaf stop life lines next
-  stops_copying : (way : Way) (p q : Progress) (treating : List Line) (left further : ℕ)
-      → stop ≡ Some (left + further)
-      → p.treated + left ≡ tables
-      → 0 < further
-      → further < 4
-      → BeginsAt life way p
-      → OfTreatings tables leaf p treating q
-      → q.treated ≡ tables
-      → lines ≡ treating ++ Ended Drain leaf Stopped ∷ []
-      → next ≡ Down (Some (way_stopped further way))
-      → OfDrain tables leaf stop life lines next
-  not_up : IsDownLife life
-      → lines ≡ Ended Drain leaf NotUp ∷ []
+-- A drain makes its steps until one is the last and each table is handed over; or one fails; or it has made as many as it was to make, and the leaf is killed.
+pub data OfDrain (told : Bool) (tables : ℕ) (stop : Option ℕ) (life : Life) (notes : List Noted) (ending : Ending) (next : Life) : Type 0 where
+  done : (copy n made : ℕ) (p : Progress) (treating handing : List Noted)
+      → IsCopyLength copy → BeginsAt life.mode p → Steps tables copy n (Shutting p) treating (Copying made) → suc made ≡ copy → MayMake stop (suc n)
+      → Notes 0 (replicate tables Handed) handing
+      → notes ≡ treating ++ handing
+      → ending ≡ ends.Done
+      → next ≡ on life Down (claimed told Memory) treating
+      → OfDrain told tables stop life notes ending next
+  region_fails : (copy n made : ℕ) (p : Progress)
+      → IsCopyLength copy → BeginsAt life.mode p → Steps tables copy n (Shutting p) notes (Copying made) → MayMake stop (suc n)
+      → ending ≡ ends.FaultRegion
+      → next ≡ on life Down None notes
+      → OfDrain told tables stop life notes ending next
+  no_room : (copy n : ℕ) (p q : Progress)
+      → IsCopyLength copy → BeginsAt life.mode p → Steps tables copy n (Shutting p) notes (Shutting q) → q.treated ≡ tables → MayMake stop (suc n)
+      → ending ≡ ends.FaultRoom
+      → next ≡ on life (Preparing q) life.way notes
+      → OfDrain told tables stop life notes ending next
+  no_memory : (copy n : ℕ) (p q r : Progress) (treating starving : List Noted)
+      → IsCopyLength copy → BeginsAt life.mode p → Steps tables copy n (Shutting p) treating (Shutting q) → Starves q starving r → MayMake stop (suc n)
+      → notes ≡ treating ++ starving
+      → ending ≡ ends.FaultMemory
+      → next ≡ on life (Preparing r) life.way notes
+      → OfDrain told tables stop life notes ending next
+  disk_fails : (copy n : ℕ) (p q r : Progress) (treating halting : List Noted)
+      → IsCopyLength copy → BeginsAt life.mode p → Steps tables copy n (Shutting p) treating (Shutting q) → q.treated < tables → Halts q halting r → MayMake stop (suc n)
+      → notes ≡ treating ++ halting
+      → ending ≡ ends.FaultDisk
+      → next ≡ failed life (Preparing r)
+      → OfDrain told tables stop life notes ending next
+  stops : (copy n : ℕ) (p : Progress) (s : Stage) (treating closing : List Noted)
+      → IsCopyLength copy → BeginsAt life.mode p → Steps tables copy n (Shutting p) treating s → stop ≡ Some n → ClosesRest tables s closing
+      → notes ≡ treating ++ closing
+      → ending ≡ ends.Stopped
+      → next ≡ on life Down (way_stopped s life.way) treating
+      → OfDrain told tables stop life notes ending next
+  not_up : life.mode ≡ Down
+      → notes ≡ []
+      → ending ≡ ends.NotUp
       → next ≡ life
-      → OfDrain tables leaf stop life lines next
+      → OfDrain told tables stop life notes ending next
+
+-- ---- kills
+
+pub data OfKill (tables : ℕ) (life : Life) (notes : List Noted) (ending : Ending) (next : Life) : Type 0 where
+  kills : (p : Progress)
+      → BeginsAt life.mode p
+      → ClosesFrom tables (first_open p) notes
+      → ending ≡ ends.Done
+      → next ≡ on life Down life.way []
+      → OfKill tables life notes ending next
+  not_up : life.mode ≡ Down
+      → notes ≡ []
+      → ending ≡ ends.NotUp
+      → next ≡ life
+      → OfKill tables life notes ending next
+
+-- ---- all of it
+
+-- what a deed prints and leaves, of a leaf of so many tables, whose berth's base is known or not
+abbrev pub Does : Bool → ℕ → Deed → Life → List Noted → Ending → Life → Type 0
+Does told tables Starts life notes ending next = OfStart told tables life notes ending next
+Does told tables (Flushes table) life notes ending next = OfFlush table life notes ending next
+Does told tables (Drains stop) life notes ending next = OfDrain told tables stop life notes ending next
+Does told tables Kills life notes ending next = OfKill tables life notes ending next
+
+-- The deeds among the pieces that are this leaf's, one after another. In a burst they stand in one lane.
+abbrev pub Lives : Bool → ℕ → ℕ → Life → List Piece → Life → Type 0
+Lives told tables leaf life [] next = next ≡ life
+Lives told tables leaf life (Acted l deed notes ending ∷ pieces) next =
+    MatchBool (l == leaf) ((between : Life) × Does told tables deed life notes ending between × Lives told tables leaf between pieces next) (Lives told tables leaf life pieces next)
+Lives told tables leaf life (Called l table c number said ∷ pieces) next = Lives told tables leaf life pieces next
+Lives told tables leaf life (Worn l table ∷ pieces) next = Lives told tables leaf life pieces next
+Lives told tables leaf life (Says line ∷ pieces) next = Lives told tables leaf life pieces next

@@ -1,4 +1,4 @@
--- What each command does to a leaf and its callers' seats as the program holds them: the lines that it prints, and what stands behind it.
+-- What each command does to a leaf and its callers' seats as the program holds them: the pieces that it prints, and what stands behind it.
 use Rattle.std.specs.Prelude.{◌≡◌, ◌≢◌, ℕ, suc, ◌+◌, ◌<◌, List, [], ◌∷◌, ◌++◌, length, map, Option, Some, None, MatchBool, slice_get, slice_set, nat_lt, IsTrue, ⊤}
 use Rattle.leaf_model.specs.declared.rows.Row.{Row}
 use Rattle.leaf_model.specs.declared.queries.Query.{Query}
@@ -6,6 +6,7 @@ use Rattle.berth_face.specs.Berth.{Meaning}
 use Rattle.answer_text.specs.Answer.{answer_lines}
 use Rattle.leaf_history.specs.Calls as call
 use Rattle.adopt.specs.declared.found.WhyDisk.TheVariants as why
+use Rattle.adopt.specs.Found.{IsBroken, left_behind}
 use Rattle.disk_backup.specs.Scanning.{BeginsScan}
 use Rattle.leaf_opening.specs.declared.ways.Way.{Way}
 use Rattle.leaf_opening.specs.declared.ways.Way.TheVariants.{Memory, Disk}
@@ -25,35 +26,37 @@ use Rattle.leaf_machine.specs.declared.faults.StartFault.TheVariants as fault
 use Rattle.leaf_machine.specs.declared.up.FlushReply.{FlushReply}
 use Rattle.leaf_machine.specs.declared.up.FlushReply.TheVariants as reply
 use Rattle.leaf_machine.specs.States.{Serving, Shutting, treated}
-use Rattle.leaf_machine.specs.Starts.{CameUp}
-use Rattle.leaf_machine.specs.Flushes.{Flushes}
+use Rattle.leaf_machine.specs.Starts.{CameUp, IsOpenedNote, IsStartRefused}
+use Rattle.leaf_machine.specs.Flushes as flushing
 use Rattle.leaf_machine.specs.Prepares.{Treats, Halts, Starves, AllTreated, begins}
 use Rattle.printed_lines.specs.declared.line.Said.{Said}
 use Rattle.printed_lines.specs.declared.line.Said.TheVariants as said
-use Rattle.printed_lines.specs.declared.line.Verb.{Verb}
-use Rattle.printed_lines.specs.declared.line.Verb.TheVariants.{Flush, Drain, Kill, Start}
 use Rattle.printed_lines.specs.declared.line.Ending.{Ending}
 use Rattle.printed_lines.specs.declared.line.Ending.TheVariants as ending
-use Rattle.printed_lines.specs.declared.line.Line.{Line}
 use Rattle.printed_lines.specs.declared.line.Line.TheVariants as line
 use Rattle.script_text.specs.declared.command.Command.{Command}
 use Rattle.script_text.specs.declared.command.Command.TheVariants as command
 use Rattle.script_text.specs.Fits.{IsCommand}
-use Rattle.transcript.specs.Transcript.{named, place_of}
+use Rattle.transcript.specs.Pieces.{Piece, Called, Worn, Acted, Says, Deed, Starts, Flushes, Drains, Kills, Noted, place_of}
+use Rattle.transcript.specs.Shapes.{named}
 use Rattle.transcript.specs.Life.{MayMake}
 use Rattle.transcript.specs.Stage.{Leaf, IsDown, IsUp, IsPreparing, seated_of, Stands, ServingStands, AreHandedNothing, Carries, MeetAll}
 
 -- ---- the calls of callers
 
--- the line of a reply to an add or a query
-abbrev pub IsReplyLine : ℕ → Reply → Line → Type 0
-IsReplyLine table (told.Added number kept late) l = l ≡ line.Entry 0 table number (said.Added kept late)
-IsReplyLine table (told.Removed number rows) l = ⊥
-IsReplyLine table (told.Groups number gs) l = l ≡ line.Entry 0 table number said.Asked
-IsReplyLine table (told.Shut number) l = l ≡ line.Entry 0 table number said.RefusedShut
-IsReplyLine table (told.Full number) l = l ≡ line.Entry 0 table number said.RefusedFull
-IsReplyLine table (told.NoMemory number) l = l ≡ line.Entry 0 table number said.RefusedMemory
-IsReplyLine table told.Worn l = l ≡ line.Worn 0 table
+-- the number of the one leaf that a player has
+abbrev pub this_leaf : ℕ
+this_leaf = 0
+
+-- the piece of a call that had this reply
+abbrev pub IsReplyPiece : ℕ → ℕ → call.Call → Reply → Piece → Type 0
+IsReplyPiece leaf table c (told.Added number kept late) p = p ≡ Called leaf table c number (said.Added kept late)
+IsReplyPiece leaf table c (told.Removed number rows) p = ⊥
+IsReplyPiece leaf table c (told.Groups number gs) p = p ≡ Called leaf table c number said.Asked
+IsReplyPiece leaf table c (told.Shut number) p = p ≡ Called leaf table c number said.RefusedShut
+IsReplyPiece leaf table c (told.Full number) p = p ≡ Called leaf table c number said.RefusedFull
+IsReplyPiece leaf table c (told.NoMemory number) p = p ≡ Called leaf table c number said.RefusedMemory
+IsReplyPiece leaf table c told.Worn p = p ≡ Worn leaf table
 
 -- the lines of the answer to a query: those of the groups, or none where the table did not answer
 abbrev pub AnswersWith : Query → Reply → List (List ℕ) → Type 0
@@ -65,8 +68,8 @@ AnswersWith q (told.Full number) rows = ⊥
 AnswersWith q (told.NoMemory number) rows = rows ≡ []
 AnswersWith q told.Worn rows = rows ≡ []
 
--- a caller's call of the table in that place, and its line
-pub record CallStep (table : ℕ) (c : call.Call) (tables : List Shared) (callers : List SeatView) (l : Line) (callers' : List SeatView) : Type 0 where
+-- a caller's call of the table in that place, and its piece
+pub record CallStep (table : ℕ) (c : call.Call) (tables : List Shared) (callers : List SeatView) (p : Piece) (callers' : List SeatView) : Type 0 where
   pub shared : Shared
   pub before : SeatView
   pub after : SeatView
@@ -75,21 +78,21 @@ pub record CallStep (table : ℕ) (c : call.Call) (tables : List Shared) (caller
   pub was : slice_get callers table ≡ Some before
   pub answered : Answered (base_seen shared) before c reply after
   pub now : callers' ≡ slice_set callers table after
-  pub says : IsReplyLine table reply l
+  pub says : IsReplyPiece this_leaf table c reply p
 
-pub record AddStep (table : ℕ) (rows : List Row) (tables : List Shared) (callers : List SeatView) (lines : List Line) (callers' : List SeatView) : Type 0 where
-  pub printed : Line
-  pub calls : CallStep table (call.Add rows) tables callers printed callers'
-  pub lines_are : lines ≡ printed ∷ []
+pub record AddStep (table : ℕ) (rows : List Row) (tables : List Shared) (callers : List SeatView) (pieces : List Piece) (callers' : List SeatView) : Type 0 where
+  pub piece : Piece
+  pub calls : CallStep table (call.Add rows) tables callers piece callers'
+  pub pieces_are : pieces ≡ piece ∷ []
 
-pub record QueryStep (table : ℕ) (q : Query) (tables : List Shared) (callers : List SeatView) (lines : List Line) (callers' : List SeatView) : Type 0 where
-  pub printed : Line
+pub record QueryStep (table : ℕ) (q : Query) (tables : List Shared) (callers : List SeatView) (pieces : List Piece) (callers' : List SeatView) : Type 0 where
+  pub piece : Piece
   pub rows : List (List ℕ)
-  pub calls : CallStep table (call.Ask q) tables callers printed callers'
+  pub calls : CallStep table (call.Ask q) tables callers piece callers'
   pub answers : AnswersWith q calls.reply rows
-  pub lines_are : lines ≡ printed ∷ line.Answer (length (named (printed ∷ []))) 1 rows ∷ []
+  pub pieces_are : pieces ≡ piece ∷ Says (line.Answer (length (named (piece ∷ []))) 1 rows) ∷ []
 
--- ---- the lines of notes
+-- ---- notes, as they are told
 
 -- what a note's line says
 abbrev pub said_of_note : What → Said
@@ -99,12 +102,11 @@ said_of_note (what.Flushed writes) = said.Flushed writes
 said_of_note (what.Closed writes) = said.Closed writes
 said_of_note what.Handed = said.Handed
 
-abbrev pub note_line : Note → Line
-note_line n = line.Entry 0 n.table n.number (said_of_note n.what)
+abbrev pub noted : Note → Noted
+noted n = record { table = n.table; number = n.number; said = said_of_note n.what }
 
--- one line for each note, in order
-abbrev pub note_lines : List Note → List Line
-note_lines notes = map note_line notes
+abbrev pub noted_all : List Note → List Noted
+noted_all notes = map noted notes
 
 -- ---- the steward's part of a command, by its notes and its ending
 
@@ -142,6 +144,18 @@ IsWornFor x fault.DiskDamaged = ⊤
 IsWornFor x (fault.Stranger name) = ⊤
 IsWornFor x fault.NoMemory = ⊤
 
+-- what a refused start leaves of the region: what it was for a worn seat, and else, unless the region failed, an open flag closed
+abbrev pub RegionRefused : StartFault → Meaning → Meaning → Type 0
+RegionRefused fault.RegionFault m m' = IsBroken m.held.region m'.held.region
+RegionRefused (fault.Worn table) m m' = m'.held.region ≡ m.held.region
+RegionRefused _ m m' = m'.held.region ≡ left_behind m.held.region
+
+-- a refused start, over a berth that tells its contents
+pub record RefusalTold (x : Seated) (m m' : Meaning) (f : StartFault) : Type 0 where
+  pub why : IsStartRefused x.names m m' f
+  pub region : RegionRefused f m m'
+  pub disk : BeginsScan (length m.held.disk) m.held.disk m'.held.disk
+
 -- a start that is not refused, over a berth that tells its contents
 pub record StartsTold (x : Seated) (m m' : Meaning) (s : Serving) (notes : List Note) (way : Way) : Type 0 where
   pub came : CameUp x.names m m' notes s way
@@ -152,6 +166,7 @@ pub data StartMoves (m m' : Meaning) (leaf : Leaf) (notes : List Note) (ends : E
   opened : (x : Seated) (s : Serving) (way : Way)
       → leaf ≡ IsDown x
       → s.owing.log.owed ≡ None
+      → EachNoted IsOpenedNote 0 (length x.tables) notes
       → (IsTrue m.tells → StartsTold x m m' s notes way)
       → ends ≡ ending.Started way
       → leaf' ≡ IsUp s
@@ -160,7 +175,7 @@ pub data StartMoves (m m' : Meaning) (leaf : Leaf) (notes : List Note) (ends : E
       → leaf ≡ IsDown x
       → IsWornFor x f
       → ((base : NamedStates) → IsTrue m.tells → AreFounded x → Stands base leaf m → f ≢ fault.DiskDamaged)
-      → (IsTrue m.tells → BeginsScan (length m.held.disk) m.held.disk m'.held.disk)
+      → (IsTrue m.tells → RefusalTold x m m' f)
       → notes ≡ []
       → ends ≡ ending_of f
       → leaf' ≡ leaf
@@ -181,7 +196,7 @@ ending_of_flush reply.Worn = ending.Worn
 pub data FlushMoves (table : ℕ) (m m' : Meaning) (leaf : Leaf) (notes : List Note) (ends : Ending) (leaf' : Leaf) : Type 0 where
   flushed : (s s' : Serving) (r : FlushReply)
       → leaf ≡ IsUp s
-      → Flushes table s s' notes r
+      → flushing.Flushes table s s' notes r
       → (IsTrue m.tells → m'.held.region ≡ m.held.region)
       → ends ≡ ending_of_flush r
       → leaf' ≡ IsUp s'
@@ -332,37 +347,25 @@ pub data DrainMoves (m m' : Meaning) (leaf : Leaf) (stop : Option ℕ) (notes : 
 
 -- ---- whole commands
 
--- what a steward's command is before its second meeting: the first one, the entries, and its lines
-pub record StewardPart (verb : Verb) (leaf : Leaf) (callers : List SeatView) (m m' : Meaning) (lines : List Line) : Type 0 where
+-- what a deed does to a leaf, with its notes and how it ended
+abbrev pub Moves : Deed → Meaning → Meaning → Leaf → List Note → Ending → Leaf → Type 0
+Moves Starts m m' leaf notes ends leaf' = StartMoves m m' leaf notes ends leaf'
+Moves (Flushes table) m m' leaf notes ends leaf' = FlushMoves table m m' leaf notes ends leaf'
+Moves (Drains stop) m m' leaf notes ends leaf' = DrainMoves m m' leaf stop notes ends leaf'
+Moves Kills m m' leaf notes ends leaf' = KillMoves m m' leaf notes ends leaf'
+
+-- a deed of the leaf's steward, between two meetings of all seats
+pub record DeedStep (deed : Deed) (m m' : Meaning) (leaf : Leaf) (callers : List SeatView) (pieces : List Piece) (leaf' : Leaf) (callers' : List SeatView) : Type 0 where
   pub met : Leaf
   pub met_callers : List SeatView
   pub moved : Leaf
   pub notes : List Note
   pub ends : Ending
   pub first : MeetAll leaf callers met met_callers m
+  pub moves : Moves deed m m' met notes ends moved
   pub carries : Carries met moved notes m m'
-  pub lines_are : lines ≡ note_lines notes ++ line.Ended verb 0 ends ∷ []
-
--- a steward's command of the leaf, between two meetings
-pub record StartStep (m m' : Meaning) (leaf : Leaf) (callers : List SeatView) (lines : List Line) (leaf' : Leaf) (callers' : List SeatView) : Type 0 where
-  pub part : StewardPart Start leaf callers m m' lines
-  pub moves : StartMoves m m' part.met part.notes part.ends part.moved
-  pub second : MeetAll part.moved part.met_callers leaf' callers' m'
-
-pub record FlushStep (table : ℕ) (m m' : Meaning) (leaf : Leaf) (callers : List SeatView) (lines : List Line) (leaf' : Leaf) (callers' : List SeatView) : Type 0 where
-  pub part : StewardPart Flush leaf callers m m' lines
-  pub moves : FlushMoves table m m' part.met part.notes part.ends part.moved
-  pub second : MeetAll part.moved part.met_callers leaf' callers' m'
-
-pub record KillStep (m m' : Meaning) (leaf : Leaf) (callers : List SeatView) (lines : List Line) (leaf' : Leaf) (callers' : List SeatView) : Type 0 where
-  pub part : StewardPart Kill leaf callers m m' lines
-  pub moves : KillMoves m m' part.met part.notes part.ends part.moved
-  pub second : MeetAll part.moved part.met_callers leaf' callers' m'
-
-pub record DrainsLeaf (stop : Option ℕ) (m m' : Meaning) (leaf : Leaf) (callers : List SeatView) (lines : List Line) (leaf' : Leaf) (callers' : List SeatView) : Type 0 where
-  pub part : StewardPart Drain leaf callers m m' lines
-  pub moves : DrainMoves m m' part.met stop part.notes part.ends part.moved
-  pub second : MeetAll part.moved part.met_callers leaf' callers' m'
+  pub second : MeetAll moved met_callers leaf' callers' m'
+  pub pieces_are : pieces ≡ Acted this_leaf deed (noted_all notes) ends ∷ []
 
 -- a command that such a leaf may play
 abbrev pub MayPlay : List (List ℕ) → Command → Type 0
@@ -375,13 +378,13 @@ MayPlay names (command.Kill leaf) = IsCommand names (command.Kill leaf)
 MayPlay names (command.Start leaf) = IsCommand names (command.Start leaf)
 
 -- What a command does, by the berth before it and behind it. A caller's command does not touch the leaf: neither its berth nor its steward's seats.
-abbrev pub Plays : {B : Type 0} → (B → Meaning) → List (List ℕ) → Command → Leaf → List SeatView → B → List Line → Leaf → List SeatView → B → Type 0
-Plays meaning names (command.Fleet machines per_machine tables) leaf callers b lines leaf' callers' b' = StartStep (meaning b) (meaning b') leaf callers lines leaf' callers'
-Plays meaning names (command.Add l table rows) leaf callers b lines leaf' callers' b' =
-    AddStep table rows (seated_of leaf).tables callers lines callers' × (leaf' ≡ leaf) × (b' ≡ b)
-Plays meaning names (command.Query q) leaf callers b lines leaf' callers' b' =
-    QueryStep (place_of q.table names) q (seated_of leaf).tables callers lines callers' × (leaf' ≡ leaf) × (b' ≡ b)
-Plays meaning names (command.Flush l table) leaf callers b lines leaf' callers' b' = FlushStep table (meaning b) (meaning b') leaf callers lines leaf' callers'
-Plays meaning names (command.Drain l stop) leaf callers b lines leaf' callers' b' = DrainsLeaf stop (meaning b) (meaning b') leaf callers lines leaf' callers'
-Plays meaning names (command.Kill l) leaf callers b lines leaf' callers' b' = KillStep (meaning b) (meaning b') leaf callers lines leaf' callers'
-Plays meaning names (command.Start l) leaf callers b lines leaf' callers' b' = StartStep (meaning b) (meaning b') leaf callers lines leaf' callers'
+abbrev pub Plays : {B : Type 0} → (B → Meaning) → List (List ℕ) → Command → Leaf → List SeatView → B → List Piece → Leaf → List SeatView → B → Type 0
+Plays meaning names (command.Fleet machines per_machine tables) leaf callers b pieces leaf' callers' b' = DeedStep Starts (meaning b) (meaning b') leaf callers pieces leaf' callers'
+Plays meaning names (command.Add l table rows) leaf callers b pieces leaf' callers' b' =
+    AddStep table rows (seated_of leaf).tables callers pieces callers' × (leaf' ≡ leaf) × (b' ≡ b)
+Plays meaning names (command.Query q) leaf callers b pieces leaf' callers' b' =
+    QueryStep (place_of q.table names) q (seated_of leaf).tables callers pieces callers' × (leaf' ≡ leaf) × (b' ≡ b)
+Plays meaning names (command.Flush l table) leaf callers b pieces leaf' callers' b' = DeedStep (Flushes table) (meaning b) (meaning b') leaf callers pieces leaf' callers'
+Plays meaning names (command.Drain l stop) leaf callers b pieces leaf' callers' b' = DeedStep (Drains stop) (meaning b) (meaning b') leaf callers pieces leaf' callers'
+Plays meaning names (command.Kill l) leaf callers b pieces leaf' callers' b' = DeedStep Kills (meaning b) (meaning b') leaf callers pieces leaf' callers'
+Plays meaning names (command.Start l) leaf callers b pieces leaf' callers' b' = DeedStep Starts (meaning b) (meaning b') leaf callers pieces leaf' callers'

@@ -1,6 +1,2 @@
-//! What a script prints, over the histories of its tables.
+//! What a script prints: the pieces of its commands, the life of each leaf, the one history of each table, and the answers over those. Definitions alone.
 #![tactic(auto)]
-
-mod laws;
-
-pub use laws::plays_go_on;

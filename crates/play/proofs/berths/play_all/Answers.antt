@@ -1,7 +1,7 @@
 use Rattle.std.proofs.Common.{rules, ◌≡◌, ◌++◌, ◌∷◌, [], OnOk, IsErrOf, sym, ap, subst, ◌∙◌, arith, append_assoc}
 use Rattle.std.specs.List.{AllByRecursion}
 use Rattle.std.proofs.lemmas.List.{append-nil}
-use Rattle.transcript.specs.Steps.{MayPlay}
+use Rattle.transcript.specs.Steps.{MayPlay, this_leaf}
 use Rattle.play.specs.Played.{KeepsCounts}
 use Rattle.play.specs.Runs.{Advances, IsRun}
 use Rattle.play.specs.declared.berths.WriteError.TheVariants.{Failed}
@@ -28,7 +28,7 @@ loop-command-preserved g c =
     c.in-Some.command c.loop-command.player.leaf c.loop-command.player.callers c.play_next-next.result.0.leaf c.play_next-next.result.0.callers)) c.in-Ok.is c.play_next-next.ensures.played in (
       inv.0 ++ c.in-Some.command ∷ [],
       append_assoc inv.0 (c.in-Some.command ∷ []) rest ∙ (ap (λ r. inv.0 ++ r) (sym items) ∙ inv.1),
-      run_goes_on (g.N.Bases.base c.args.player.berth) c.args.names.now g.B.Berth.meaning (g.B.Berth.meaning c.args.player.berth) c.loop-command.player.berth c.play_next-next.result.0.berth
+      run_goes_on (g.N.Bases.base this_leaf) c.args.names.now g.B.Berth.meaning (g.B.Berth.meaning c.args.player.berth) c.loop-command.player.berth c.play_next-next.result.0.berth
           (g.K.Sink.written c.args.sink.now) (g.K.Sink.written c.loop-command.sink) (g.K.Sink.written c.play_next-next.new.sink) inv.0
           c.loop-command.player.leaf c.play_next-next.result.0.leaf c.loop-command.player.callers c.play_next-next.result.0.callers c.in-Some.command
           inv.2 may.0 step c.play_next-next.ensures.time,
@@ -67,9 +67,9 @@ returns-clause-done g c =
     let all : inv.0 ≡ c.args.commands.items = sym (append-nil inv.0) ∙ (ap (λ r. inv.0 ++ r) (sym none) ∙ inv.1) in
     let was = g.K.Sink.written c.args.sink.now in
     let now = g.K.Sink.written c.loop-command.sink in
-    λ e. subst (λ b. IsRun (g.N.Bases.base c.args.player.berth) c.args.names.now (g.B.Berth.meaning c.args.player.berth) (g.B.Berth.meaning b) was now c.args.commands.items) (sym c.abandon-2.ensures.berth)
-    (subst (IsRun (g.N.Bases.base c.args.player.berth) c.args.names.now (g.B.Berth.meaning c.args.player.berth) (g.B.Berth.meaning c.loop-command.player.berth) was now) all
-    (run_ends (g.N.Bases.base c.args.player.berth) c.args.names.now (g.B.Berth.meaning c.args.player.berth) (g.B.Berth.meaning c.loop-command.player.berth) was now inv.0 c.loop-command.player.leaf c.loop-command.player.callers inv.2 c.abandon-2.ensures.met))
+    λ e. subst (λ b. IsRun (g.N.Bases.base this_leaf) c.args.names.now (g.B.Berth.meaning c.args.player.berth) (g.B.Berth.meaning b) was now c.args.commands.items) (sym c.abandon-2.ensures.berth)
+    (subst (IsRun (g.N.Bases.base this_leaf) c.args.names.now (g.B.Berth.meaning c.args.player.berth) (g.B.Berth.meaning c.loop-command.player.berth) was now) all
+    (run_ends (g.N.Bases.base this_leaf) c.args.names.now (g.B.Berth.meaning c.args.player.berth) (g.B.Berth.meaning c.loop-command.player.berth) was now inv.0 c.loop-command.player.leaf c.loop-command.player.callers inv.2 c.abandon-2.ensures.met))
 
 pub returns-clause-keeps : goal.returns-clause-keeps
 returns-clause-keeps g c =

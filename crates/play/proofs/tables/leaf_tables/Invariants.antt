@@ -1,5 +1,8 @@
+use Rattle.printed_lines.specs.Lines.{name_at}
+use Rattle.transcript.specs.Steps.{this_leaf}
+use Rattle.play.proofs.Fleets.{table_base}
 use Rattle.play.proofs.tables.leaf_tables.Given as goal
 
--- the tables are founded with the berth's base, where N knows it
-abbrev pub ghosts-founded_tables : goal.ghosts-founded_tables
-ghosts-founded_tables g a = record { base = g.N.Bases.base a._berth.now }
+-- each table is founded with what the base of the leaf says of its name, where N knows it
+abbrev pub ghosts-new : goal.ghosts-new
+ghosts-new g a = record { base = λ leaf table. table_base (g.N.Bases.base this_leaf) (name_at a.names.now table) }

@@ -1,23 +1,18 @@
-use Rattle.std.proofs.Common.{rules, sym, subst}
+use Rattle.std.proofs.Common.{rules, sym, ap, subst}
 use Rattle.berth_face.specs.Berth.{Passes}
 use Rattle.berth_face.proofs.Moments.{passes_none}
-use Rattle.printed_lines.specs.declared.line.Verb.TheVariants as verb
+use Rattle.transcript.specs.Pieces.{Kills}
 use Rattle.player.specs.Stage.{berth_of, state_of}
-use Rattle.player.proofs.CommandSteps.{acts, sound_result, kill_ends, kill_result}
+use Rattle.player.proofs.CommandSteps.{acts}
 use Rattle.player.proofs.commands.kill.Goals as goal
 
-pub returns-clause-kills : goal.returns-clause-kills
-returns-clause-kills g c =
-    kill_result g.B.Berth.meaning (berth_of c.args.leaf) (berth_of c.meet.new.leaf) (berth_of c.kill-killed.result.0) _
-    (state_of c.args.leaf) (state_of c.meet.new.leaf) (state_of c.kill-killed.result.0) _ c.args.callers.now.seats c.meet.new.self.seats _ c.kill-killed.new.notes c.kill-killed.result.1
-    (acts c.meet.ensures.met c.meet.ensures.berth c.kill-killed.ensures.carries (search rules) (search rules))
-    c.steward_lines-lines.result c.kill-killed.ensures.moves c.steward_lines-lines.ensures
-
-pub returns-clause-sound : goal.returns-clause-sound
-returns-clause-sound g c =
-    let ended = kill_ends c.args.names.now (g.B.Berth.meaning (berth_of c.meet.new.leaf)) (g.B.Berth.meaning (berth_of c.kill-killed.result.0)) (state_of c.meet.new.leaf)
-    c.kill-killed.new.notes c.kill-killed.result.1 (state_of c.kill-killed.result.0) c.kill-killed.ensures.moves in
-    let time = subst (λ b. Passes (g.B.Berth.meaning (berth_of c.meet.new.leaf)) (g.B.Berth.meaning b)) (sym c.kill-killed.ensures.berth) (passes_none (g.B.Berth.meaning (berth_of c.meet.new.leaf))) in
-    sound_result g.B.Berth.meaning (berth_of c.args.leaf) (berth_of c.meet.new.leaf) (berth_of c.kill-killed.result.0) _ c.args.names.now c.args.callers.now
-    (state_of c.args.leaf) (state_of c.meet.new.leaf) (state_of c.kill-killed.result.0) verb.Kill c.kill-killed.new.notes c.kill-killed.result.1 c.steward_lines-lines.result
-    c.meet.ensures.berth (search rules) c.requires c.meet.ensures.keeps c.kill-killed.ensures.carries time c.kill-killed.ensures.cause ended c.steward_lines-lines.ensures
+pub returns-clause-acts : goal.returns-clause-acts
+returns-clause-acts g c =
+    let done = c.kill-killed in
+    let was = g.B.Berth.meaning (berth_of c.meet.new.leaf) in
+    let time = subst (λ b. Passes was (g.B.Berth.meaning b)) (sym done.ensures.berth) (passes_none was) in
+    acts g.B.Berth.meaning (berth_of c.args.leaf) (berth_of c.meet.new.leaf) (berth_of done.result.0) _
+    (state_of c.args.leaf) (state_of c.meet.new.leaf) (state_of done.result.0) _ c.args.callers.now.seats c.meet.new.self.seats _ done.new.notes done.result.1
+    c.args.names.now c.args.callers.now Kills c.steward_lines-lines.result c.meet.ensures.berth (search rules)
+    c.requires c.meet.ensures.keeps c.meet.ensures.met (search rules) done.ensures.moves done.ensures.carries time done.ensures.cause (λ none. ap (λ b. (g.B.Berth.meaning b).disk_reads) done.ensures.berth)
+    c.steward_lines-lines.ensures

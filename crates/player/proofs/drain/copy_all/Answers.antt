@@ -44,6 +44,7 @@ loop-leaf-preserved g c =
       one = c.step.ensures.step;
       made = c.step.ensures.made;
       crash = c.step.ensures.crash;
+      reads = c.step.ensures.reads;
       time = c.step.ensures.time;
     } in
     copied_more c.args.leaf.0 (meaning c.args.leaf.1) c.args.steps.now.left left left' leaf.0 (meaning leaf.1) c.loop-leaf.notes c.loop-leaf.invariant meaning notes
@@ -62,6 +63,7 @@ returns-in-Ok-Finished-clause-ends g c =
       one = c.step.ensures.step;
       made = c.step.ensures.made;
       crash = c.step.ensures.crash;
+      reads = c.step.ensures.reads;
       time = c.step.ensures.time;
     } in
     copied_done c.args.leaf.0 (meaning c.args.leaf.1) c.args.steps.now.left left left' leaf.0 (meaning leaf.1) c.loop-leaf.notes c.loop-leaf.invariant meaning notes
@@ -77,6 +79,7 @@ returns-in-Ok-Finished-clause-rests g c =
       one = c.step.ensures.step;
       made = c.step.ensures.made;
       crash = c.step.ensures.crash;
+      reads = c.step.ensures.reads;
       time = c.step.ensures.time;
     } in
     done_rests c.args.leaf.0 (meaning c.args.leaf.1) c.args.steps.now.left c.loop-leaf.steps.left c.spend.new.self.left leaf.0 (meaning leaf.1) c.loop-leaf.notes c.loop-leaf.invariant meaning notes c.in-Ok-Finished.down
@@ -91,6 +94,7 @@ returns-in-Err-clause-rests g c =
       one = c.step.ensures.step;
       made = c.step.ensures.made;
       crash = c.step.ensures.crash;
+      reads = c.step.ensures.reads;
       time = c.step.ensures.time;
     } in
     failed_rests c.args.leaf.0 (meaning c.args.leaf.1) c.args.steps.now.left c.loop-leaf.steps.left c.spend.new.self.left leaf.0 (meaning leaf.1) c.loop-leaf.notes c.loop-leaf.invariant meaning notes c.in-Err.down c.in-Err._fault

@@ -25,6 +25,7 @@ loop-alloc-smaller g c =
       made = c.step-step.ensures.made;
       crash = c.step-step.ensures.crash;
       region = c.step-step.ensures.region;
+      reads = c.step-step.ensures.reads;
       time = c.step-step.ensures.time;
     } in
     let here = subst (λ r. Stepped meaning y.0 (meaning y.1) notes r) (c.in-Ok-More.is ∙ ap (λ s. Ok s) c.in-Ok-More.field-0-is) stepped in
@@ -40,6 +41,7 @@ loop-alloc-preserved g c =
       made = c.step-step.ensures.made;
       crash = c.step-step.ensures.crash;
       region = c.step-step.ensures.region;
+      reads = c.step-step.ensures.reads;
       time = c.step-step.ensures.time;
     } in
     let here = subst (λ r. Stepped meaning y.0 (meaning y.1) notes r) (c.in-Ok-More.is ∙ ap (λ s. Ok s) c.in-Ok-More.field-0-is) stepped in
@@ -60,6 +62,7 @@ returns-in-Ok-Ready-clause-shuts g c =
       made = c.step-step.ensures.made;
       crash = c.step-step.ensures.crash;
       region = c.step-step.ensures.region;
+      reads = c.step-step.ensures.reads;
       time = c.step-step.ensures.time;
     } in
     let here = subst (λ r. Stepped meaning y.0 (meaning y.1) notes r) (c.in-Ok-Ready.is ∙ ap (λ s. Ok s) c.in-Ok-Ready.field-0-is) stepped in
@@ -80,6 +83,7 @@ returns-in-Err-default-DiskFault-clause-shuts g c =
       made = c.step-step.ensures.made;
       crash = c.step-step.ensures.crash;
       region = c.step-step.ensures.region;
+      reads = c.step-step.ensures.reads;
       time = c.step-step.ensures.time;
     } in
     let here = subst (λ r. Stepped meaning y.0 (meaning y.1) notes r) c.in-Err-default-DiskFault.is stepped in
@@ -100,6 +104,7 @@ returns-in-Err-default-NoMemory-clause-shuts g c =
       made = c.step-step.ensures.made;
       crash = c.step-step.ensures.crash;
       region = c.step-step.ensures.region;
+      reads = c.step-step.ensures.reads;
       time = c.step-step.ensures.time;
     } in
     let here = subst (λ r. Stepped meaning y.0 (meaning y.1) notes r) c.in-Err-default-NoMemory.is stepped in
@@ -120,6 +125,7 @@ returns-in-Err-default-NoRoom-clause-shuts g c =
       made = c.step-step.ensures.made;
       crash = c.step-step.ensures.crash;
       region = c.step-step.ensures.region;
+      reads = c.step-step.ensures.reads;
       time = c.step-step.ensures.time;
     } in
     let here = subst (λ r. Stepped meaning y.0 (meaning y.1) notes r) c.in-Err-default-NoRoom.is stepped in

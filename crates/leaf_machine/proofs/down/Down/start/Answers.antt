@@ -9,14 +9,14 @@ use Rattle.leaf_table.specs.Calls.{IsFresh}
 use Rattle.crash_moments.specs.Told.{Told}
 use Rattle.crash_states.specs.Standing.{Rests, Runs, StandsNow}
 use Rattle.leaf_steward.specs.Seated.{AtEach, AreFounded, watched_by}
-use Rattle.leaf_steward.specs.Making.{Makes}
+use Rattle.leaf_steward.specs.Making.{EachNoted, Makes}
 use Rattle.leaf_steward.proofs.WatchMakes.{makes_tables}
 use Rattle.log_steward.specs.Owing.{Owing}
 use Rattle.leaf_machine.specs.declared.faults.StartFault.{StartFault}
 use Rattle.leaf_machine.specs.declared.faults.StartFault.TheVariants as fault
 use Rattle.leaf_machine.specs.States.{IsUp}
-use Rattle.leaf_machine.specs.Starts.{IsStartRefused, IsStart}
-use Rattle.leaf_machine.proofs.StartMakes.{makes_from, makes_names, makes_none}
+use Rattle.leaf_machine.specs.Starts.{IsOpenedNote, IsStartRefused, IsStart}
+use Rattle.leaf_machine.proofs.StartMakes.{makes_from, makes_names, makes_none, opened_each}
 use Rattle.leaf_machine.proofs.StartFaults.{refused_as, start_as, told_disk, told_region}
 use Rattle.leaf_machine.proofs.StartOpening.{StartOpened, may_hand, opened_count, start_opened, start_runs}
 use Rattle.leaf_machine.proofs.StartRefusing.{StartRefused, down_on, failed, opening_refused, start_refused, worn_goes_on}
@@ -77,12 +77,16 @@ pub returns-in-Ok-clause-start : goal.returns-in-Ok-clause-start
 returns-in-Ok-clause-start g c =
     let x = c.self.inside.seats in
     let y = c.open_all.new.self in
+    let o = c.in-Ok.opened in
     let n = g.B.Berth.meaning c.open_tables.new.berth in
-    subst (λ l. AtEach (λ place t v. IsFresh v) l.0 × (y.names ≡ l.0.names) × (y.tables ≡ l.0.tables) × (c.of.result.log.owed ≡ None)) c.self.view_is (
+    subst (λ l. AtEach (λ place t v. IsFresh v) l.0 × (y.names ≡ l.0.names) × (y.tables ≡ l.0.tables) × (c.of.result.log.owed ≡ None)
+    × EachNoted IsOpenedNote 0 (length l.0.tables) c.open_all.new.notes) c.self.view_is (
       c.in_default.ensures.none,
       makes_names n.clock n.clock x c.open_all.new.notes y c.open_all.ensures.made,
       makes_tables n.clock n.clock x c.open_all.new.notes y c.open_all.ensures.made,
       ap (λ (log : Owing). log.log.owed) c.of.ensures ∙ c.in-Ok.ensures.fresh.1,
+      subst (λ (n : ℕ). EachNoted IsOpenedNote 0 n c.open_all.new.notes) (opened_count x o c.names.result.now c.sits.ensures c.names.ensures c.in-Ok.ensures.one)
+          (opened_each 0 o.tables.items c.open_all.new.notes c.open_all.ensures.each),
     )
 
 pub returns-in-Ok-clause-made : goal.returns-in-Ok-clause-made

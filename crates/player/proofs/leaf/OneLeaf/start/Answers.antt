@@ -1,5 +1,5 @@
 use Rattle.player.specs.declared.leaf.OneLeaf.TheVariants as one
-use Rattle.player.proofs.Moved.{still_carries, start_opens, start_carries, start_refused, refusal_carries}
+use Rattle.player.proofs.Moved.{still_carries, start_opens, start_carries, start_reads, start_refused, refusal_carries, refusal_read}
 use Rattle.player.proofs.leaf.OneLeaf.start.Goals as goal
 
 pub returns-in-Up-clause-carries : goal.returns-in-Up-clause-carries
@@ -16,11 +16,17 @@ pub returns-in-Ok-clause-carries : goal.returns-in-Ok-clause-carries
 returns-in-Ok-clause-carries g c =
     start_carries g.B.Berth.meaning c.args.self c.in-Down.down c.in-Ok.up c.in-Ok.way c.start.new.notes c.in-Down.is c.in-Ok.ensures.made c.in-Ok.ensures.crash
 
+pub returns-in-Ok-clause-reads : goal.returns-in-Ok-clause-reads
+returns-in-Ok-clause-reads g c = start_reads g.B.Berth.meaning c.args.self c.in-Down.down c.in-Ok.up c.in-Ok.way c.in-Down.is c.in-Ok.ensures.reads
+
 pub returns-in-Err-clause-moves : goal.returns-in-Err-clause-moves
 returns-in-Err-clause-moves g c =
     let was = c.in-Err.ensures in
-    start_refused g.B.Berth.meaning c.args.self c.in-Down.down c.in-Err.down c.in-Err.fault c.start.new.notes c.ending_of.result c.in-Down.is was.start was.disk was.crash c.ending_of.ensures
+    start_refused g.B.Berth.meaning c.args.self c.in-Down.down c.in-Err.down c.in-Err.fault c.start.new.notes c.ending_of.result c.in-Down.is was.start was.refused was.disk was.crash c.ending_of.ensures
 
 pub returns-in-Err-clause-carries : goal.returns-in-Err-clause-carries
 returns-in-Err-clause-carries g c =
     refusal_carries g.B.Berth.meaning c.args.self c.in-Down.down c.in-Err.down c.in-Err.fault c.start.new.notes c.in-Down.is c.in-Err.ensures.made c.in-Err.ensures.crash
+
+pub returns-in-Err-clause-reads : goal.returns-in-Err-clause-reads
+returns-in-Err-clause-reads g c = refusal_read g.B.Berth.meaning c.args.self c.in-Err.down c.in-Err.fault c.ending_of.result c.ending_of.ensures

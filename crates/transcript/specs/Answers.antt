@@ -1,0 +1,60 @@
+-- What the answers say, by the histories; and which seats are told as worn.
+use Rattle.std.specs.Prelude.{◌≡◌, ℕ, ◌-◌, ◌^◌, ◌≤◌, List, length, take, Option, Some, None, IfSome, ⊤}
+use Rattle.std.specs.List.{flat_map, AllByRecursion}
+use Rattle.leaf_model.specs.declared.rows.Row.{Row}
+use Rattle.leaf_model.specs.declared.queries.Query.{Query}
+use Rattle.leaf_model.specs.Groups.{groups}
+use Rattle.answer_text.specs.Answer.{answer_lines}
+use Rattle.leaf_history.specs.History.{Entry, after, held}
+use Rattle.script_text.specs.declared.command.Command.{Command}
+use Rattle.script_text.specs.declared.command.Command.TheVariants as command
+use Rattle.printed_lines.specs.declared.line.Ending.{Ending}
+use Rattle.printed_lines.specs.declared.line.Ending.TheVariants as ends
+use Rattle.printed_lines.specs.declared.line.Line.TheVariants as line
+use Rattle.transcript.specs.Pieces.{Piece, Called, Worn, Acted, Says, Deed, Flushes, Played, Fleet, place_of}
+use Rattle.transcript.specs.Shapes.{named}
+use Rattle.transcript.specs.Histories.{Ground}
+
+-- the rows of a table as they are before the entry of this number
+abbrev pub rows_before : Ground → List Entry → ℕ → List Row
+rows_before g entries number = (held (after g.founded g.base (take (number - 1) entries))).rows
+
+-- the rows of the leaves that are named, one after another, each before its entry
+abbrev pub partial : (ℕ → Ground) → (ℕ → List Entry) → List (ℕ × ℕ) → List Row
+partial grounds histories leaves = flat_map (λ l. rows_before (grounds l.0) (histories l.0) l.1) leaves
+
+abbrev pub AnswerIs : Query → List Row → Piece → Type 0
+AnswerIs q rows (Says (line.Answer count of lines)) = lines ≡ answer_lines q (groups q rows)
+AnswerIs q rows _ = ⊤
+
+-- the lines of an answer are those of the groups of just the rows of the leaves that its command names
+abbrev pub Answers : Fleet → (ℕ → ℕ → Ground) → (ℕ → ℕ → List Entry) → Played → Type 0
+Answers fleet grounds histories p = by_command p.command
+  where
+    by_command : Command → Type 0
+    by_command (command.Query q) =
+        let table = place_of q.table fleet.names in
+        AllByRecursion (AnswerIs q (partial (λ leaf. grounds leaf table) (λ leaf. histories leaf table) (named p.pieces))) p.pieces
+    by_command _ = ⊤
+
+-- ---- worn seats
+
+abbrev pub flushed_table : ℕ → Deed → Option (ℕ × ℕ)
+flushed_table leaf (Flushes table) = Some (leaf, table)
+flushed_table leaf _ = None
+
+abbrev pub worn_ending : ℕ → Deed → Ending → Option (ℕ × ℕ)
+worn_ending leaf deed ends.Worn = flushed_table leaf deed
+worn_ending leaf deed (ends.FaultWorn table) = Some (leaf, table)
+worn_ending leaf deed _ = None
+
+-- the table of whose worn seat a piece tells
+abbrev pub worn_in : Piece → Option (ℕ × ℕ)
+worn_in (Worn leaf table) = Some (leaf, table)
+worn_in (Acted leaf deed notes ending) = worn_ending leaf deed ending
+worn_in (Called leaf table c number said) = None
+worn_in (Says l) = None
+
+-- only of a table with 2^62 entries
+abbrev pub WornIsLong : (ℕ → ℕ → List Entry) → Piece → Type 0
+WornIsLong histories piece = IfSome (worn_in piece) (λ x. 2 ^ 62 ≤ length (histories x.0 x.1))

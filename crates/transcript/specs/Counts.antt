@@ -1,0 +1,49 @@
+-- The faults and the reads that a leaf's lines tell of, and what its berth counted.
+use Rattle.std.specs.Prelude.{◌≡◌, ℕ, ◌-◌, ◌+◌, ◌==◌, ◌&&◌, ◌^◌, ◌≤◌, min, if◌then◌else◌, Bool, true, false, List, [], ◌∷◌}
+use Rattle.berth_face.specs.Berth.{Meaning}
+use Rattle.leaf_opening.specs.declared.ways.Way.TheVariants.{Memory}
+use Rattle.printed_lines.specs.declared.line.Ending.{Ending}
+use Rattle.printed_lines.specs.declared.line.Ending.TheVariants as ends
+use Rattle.transcript.specs.Pieces.{Piece, Called, Worn, Acted, Says, Deed, Starts}
+
+abbrev pub is_region_fault : Ending → Bool
+is_region_fault ends.FaultRegion = true
+is_region_fault _ = false
+
+abbrev pub is_disk_fault : Ending → Bool
+is_disk_fault ends.FaultDisk = true
+is_disk_fault _ = false
+
+-- a start that did not come from memory
+abbrev pub reads_disk : Deed → Ending → Bool
+reads_disk Starts (ends.Started Memory) = false
+reads_disk Starts ends.NotDown = false
+reads_disk Starts _ = true
+reads_disk _ ending = false
+
+-- how many of a leaf's deeds are such
+abbrev pub deeds_in : (Deed → Ending → Bool) → ℕ → List Piece → ℕ
+deeds_in test leaf [] = 0
+deeds_in test leaf (Acted l deed notes ending ∷ pieces) = (if (l == leaf) && test deed ending then 1 else 0) + deeds_in test leaf pieces
+deeds_in test leaf (Called l t c number said ∷ pieces) = deeds_in test leaf pieces
+deeds_in test leaf (Worn l t ∷ pieces) = deeds_in test leaf pieces
+deeds_in test leaf (Says l ∷ pieces) = deeds_in test leaf pieces
+
+-- at least so many faults were counted, unless the count stands at its last value
+abbrev pub Counted : ℕ → ℕ → ℕ → Type 0
+Counted before now count = min (before + count) (2 ^ 64 - 1) ≤ now
+
+abbrev pub region_faults_in : ℕ → List Piece → ℕ
+region_faults_in leaf pieces = deeds_in (λ deed ending. is_region_fault ending) leaf pieces
+
+abbrev pub disk_faults_in : ℕ → List Piece → ℕ
+disk_faults_in leaf pieces = deeds_in (λ deed ending. is_disk_fault ending) leaf pieces
+
+abbrev pub disk_reads_in : ℕ → List Piece → ℕ
+disk_reads_in leaf pieces = deeds_in reads_disk leaf pieces
+
+-- A leaf's fault lines have their cause; and where each of its starts came from memory, the disk was not read.
+pub record IsCounted (leaf : ℕ) (pieces : List Piece) (old new : Meaning) : Type 0 where
+  pub region : Counted old.region_faults new.region_faults (region_faults_in leaf pieces)
+  pub disk : Counted old.disk_faults new.disk_faults (disk_faults_in leaf pieces)
+  pub reads : disk_reads_in leaf pieces ≡ 0 → new.disk_reads ≡ old.disk_reads

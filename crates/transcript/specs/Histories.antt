@@ -1,0 +1,78 @@
+-- One history for each table, by the numbers of its lines; and in which order the numbers rise.
+use Rattle.std.specs.Prelude.{◌≡◌, ℕ, suc, ◌<◌, ◌≤◌, ◌==◌, ◌&&◌, Bool, List, [], ◌∷◌, Option, Some, None, ⊤, if◌then◌else◌, IsPermutation}
+use Rattle.std.specs.List.{flat_map}
+use Rattle.leaf_model.specs.declared.groups.Group.{Group}
+use Rattle.leaf_model.specs.Content.{Contents}
+use Rattle.leaf_history.specs.Calls.{Call}
+use Rattle.leaf_history.specs.Calls as call
+use Rattle.leaf_history.specs.Replies as reply
+use Rattle.leaf_history.specs.History.{Entry, HistoryState, LegalFrom}
+use Rattle.printed_lines.specs.declared.line.Said.{Said}
+use Rattle.printed_lines.specs.declared.line.Said.TheVariants.{Added, Asked, RefusedShut, RefusedFull, RefusedMemory, Opened, Took, Flushed, Closed, Handed}
+use Rattle.transcript.specs.Pieces.{Piece, Called, Worn, Acted, Says, Noted, Played}
+
+-- the line of an entry, with the call that a caller made
+pub record Shown : Type 0 where
+  pub number : ℕ
+  pub call : Option Call
+  pub said : Said
+
+abbrev pub shown_if : Bool → Shown → List Shown
+shown_if b s = if b then s ∷ [] else []
+
+abbrev pub shown_notes : ℕ → List Noted → List Shown
+shown_notes table notes = flat_map (λ (n : Noted). shown_if (n.table == table) (record { number = n.number; call = None; said = n.said })) notes
+
+abbrev pub shown_in : ℕ → ℕ → Piece → List Shown
+shown_in leaf table (Called l t c number said) = shown_if ((l == leaf) && (t == table)) (record { number = number; call = Some c; said = said })
+shown_in leaf table (Acted l deed notes ending) = if l == leaf then shown_notes table notes else []
+shown_in leaf table (Worn l t) = []
+shown_in leaf table (Says line) = []
+
+-- the entry lines of a table, in the order of printing
+abbrev pub shown : ℕ → ℕ → List Piece → List Shown
+shown leaf table pieces = flat_map (shown_in leaf table) pieces
+
+-- the entry is what the line says
+abbrev pub Shows : Option Call → Said → Entry → Type 0
+Shows c (Added kept late) e = (c ≡ Some e.call) × (e.reply ≡ reply.Added kept late)
+Shows c Asked e = (c ≡ Some e.call) × ((gs : List Group) × (e.reply ≡ reply.Groups gs))
+Shows c RefusedShut e = (c ≡ Some e.call) × (e.reply ≡ reply.Shut)
+Shows c RefusedFull e = (c ≡ Some e.call) × (e.reply ≡ reply.Full)
+Shows c RefusedMemory e = (c ≡ Some e.call) × (e.reply ≡ reply.NoMemory)
+Shows c (Opened n) e = (contents : Contents) × (e.call ≡ call.Open n contents)
+Shows c (Took n) e = (e.call ≡ call.Take) × (e.reply ≡ reply.Counted n)
+Shows c (Flushed n) e = e.call ≡ call.Flushed n
+Shows c (Closed n) e = (e.call ≡ call.Shut) × (e.reply ≡ reply.Counted n)
+Shows c Handed e = e.call ≡ call.Done
+
+-- Lines with the numbers from n on show these entries.
+abbrev pub Tells : ℕ → List Shown → List Entry → Type 0
+Tells n [] [] = ⊤
+Tells n [] (e ∷ es) = ⊥
+Tells n (s ∷ ss) [] = ⊥
+Tells n (s ∷ ss) (e ∷ es) = (s.number ≡ n) × Shows s.call s.said e × Tells (suc n) ss es
+
+-- what a table begins from: founded with a base, or not
+pub record Ground : Type 0 where
+  pub founded : Bool
+  pub base : HistoryState
+
+-- A table's lines, put in the order of their numbers, have the numbers from 1 on, once each, and show the entries of one legal history.
+pub record IsHistoryOf (g : Ground) (lines : List Shown) (entries : List Entry) : Type 0 where
+  pub legal : LegalFrom g.founded g.base entries
+  pub placed : List Shown
+  pub same : IsPermutation lines placed
+  pub tells : Tells 1 placed entries
+
+-- ---- the order of printing
+
+-- the numbers rise, from above `low` to at most `high`
+abbrev pub Rises : ℕ → List Shown → ℕ → Type 0
+Rises low [] high = low ≤ high
+Rises low (s ∷ ss) high = (low < s.number) × Rises s.number ss high
+
+-- The numbers of a table rise, command by command.
+abbrev pub InOrder : ℕ → ℕ → ℕ → List Played → ℕ → Type 0
+InOrder leaf table low [] high = low ≤ high
+InOrder leaf table low (p ∷ ps) high = (between : ℕ) × Rises low (shown leaf table p.pieces) between × InOrder leaf table between ps high

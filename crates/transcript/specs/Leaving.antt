@@ -1,0 +1,65 @@
+-- What a run writes and leaves, over leaves of whose berths the base is known or not.
+use Rattle.std.specs.Prelude.{◌≡◌, ℕ, ◌<◌, List, drop, Option, Some, None, IfSome, slice_get, ⊤}
+use Rattle.std.specs.Io.KnownBytes.{Appends}
+use Rattle.berth_face.specs.Berth.{Meaning}
+use Rattle.berth_face.specs.Moments.{EachNow}
+use Rattle.leaf_history.specs.History.{Entry}
+use Rattle.region_layout.specs.Region.{reads}
+use Rattle.leaf_opening.specs.Starts.{IsWayOf}
+use Rattle.crash_moments.specs.Left.{NamedStates, Left}
+use Rattle.crash_moments.specs.Told as moments
+use Rattle.crash_states.specs.Standing.{tables_of}
+use Rattle.leaf_machine.specs.Leaving.{BeginsAgain}
+use Rattle.script_text.specs.declared.command.Command.{Command}
+use Rattle.printed_lines.specs.declared.line.Line.{Line}
+use Rattle.printed_lines.specs.Lines.{lines_text}
+use Rattle.transcript.specs.Base.{LogHas, unseen, watched_with}
+use Rattle.transcript.specs.Pieces.{all_lines, fleet_of, leaf_count, pieces_in}
+use Rattle.transcript.specs.Life.{Life}
+use Rattle.transcript.specs.Counts.{IsCounted}
+use Rattle.transcript.specs.Strangers.{IsNamedBy, Strangers}
+use Rattle.transcript.specs.Transcript.{Known, Transcript}
+
+-- ---- one leaf's berth with a base
+
+-- At every moment since the run began, each region and disk that a crash may leave belong to the tables as they stood then, each cut behind the last entry that
+-- the steward had made; now they belong to the tables with all their entries; a run may begin over the berth again; and its first start prints what is claimed of it.
+pub record LeavesBerth (names : List (List ℕ)) (base : NamedStates) (life : Life) (histories : ℕ → List Entry) (old new : Meaning) : Type 0 where
+  pub crash : moments.Told base (watched_with names base unseen) (watched_with names base histories) old new
+  pub left : EachNow (λ p. Left reads (tables_of base (watched_with names base histories) new) p) new
+  pub begins : BeginsAgain (tables_of base (watched_with names base histories) new) new
+  pub way : IfSome life.way (IsWayOf new.held.region)
+
+-- what is known of a leaf's beginning, by its berth's base
+abbrev pub IsKnown : Option NamedStates → Meaning → Option Known → Type 0
+IsKnown None m None = ⊤
+IsKnown None m (Some k) = ⊥
+IsKnown (Some base) m None = ⊥
+IsKnown (Some base) m (Some k) = (k.base ≡ base) × (k.held ≡ m.held) × IsWayOf m.held.region k.way × ((name : List ℕ) → LogHas m.held.disk name (k.read name))
+
+-- ---- all of them
+
+module _ {B : Type 0} (meaning : B → Meaning) (olds news : List B) where
+  -- P of the leaf's berth as it was and is
+  abbrev pub AtBerth : ℕ → (Meaning → Meaning → Type 0) → Type 0
+  AtBerth leaf P = (old new : B) → slice_get olds leaf ≡ Some old → slice_get news leaf ≡ Some new → P (meaning old) (meaning new)
+
+  abbrev pub AreKnown : (ℕ → Option NamedStates) → (ℕ → Option Known) → Type 0
+  AreKnown base known = (leaf : ℕ) (old : B) → slice_get olds leaf ≡ Some old → IsKnown (base leaf) (meaning old) (known leaf)
+
+  -- These lines are a transcript of the commands, faults and strangers have their cause, and the berths are left so; those that no leaf uses are untouched.
+  pub record IsToldRun (commands : List Command) (known : ℕ → Option Known) (lines : List Line) : Type 0 where
+    pub transcript : Transcript (fleet_of commands) known commands (lines_text (fleet_of commands).names lines)
+    pub lines_are : all_lines transcript.played ≡ lines
+    pub counts : (leaf : ℕ) → leaf < (leaf_count (fleet_of commands)) → AtBerth leaf (IsCounted leaf (pieces_in transcript.played))
+    pub strangers : (leaf : ℕ) (k : Known) → leaf < (leaf_count (fleet_of commands)) → known leaf ≡ Some k →
+        Strangers (IsNamedBy (fleet_of commands).names k.held) leaf (pieces_in transcript.played)
+    pub leaves : (leaf : ℕ) (k : Known) → leaf < (leaf_count (fleet_of commands)) → known leaf ≡ Some k →
+        AtBerth leaf (LeavesBerth (fleet_of commands).names k.base (transcript.lives leaf) (transcript.histories leaf))
+    pub others : drop (leaf_count (fleet_of commands)) news ≡ drop (leaf_count (fleet_of commands)) olds
+
+  -- The text of these lines was written, whatever is known of the berths' beginnings.
+  pub record IsWritten (base : ℕ → Option NamedStates) (commands : List Command) (was now : Option (List ℕ)) : Type 0 where
+    pub lines : List Line
+    pub written : Appends was now (lines_text (fleet_of commands).names lines)
+    pub told : (known : ℕ → Option Known) → AreKnown base known → IsToldRun commands known lines
