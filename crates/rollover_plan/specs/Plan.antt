@@ -1,0 +1,49 @@
+-- The waves of a rollover. On each machine stand as many leaves: leaf l stands on machine l / per_machine, at place l % per_machine.
+use Rattle.std.specs.Prelude.{◌≡◌, ◌≢◌, ◌+◌, ◌*◌, ◌/◌, ◌%◌, ◌<◌, ◌≤◌, ℕ, min, max, if◌then◌else◌, List, [], ◌∷◌, length, map, take, drop, ⊤}
+use Rattle.std.specs.Bool.{◌==◌}
+use Rattle.std.specs.List.{AllByRecursion, concat, range_with_len}
+
+-- how many leaves a wave has at most: a share of all, but at least one, and at most one for each machine
+abbrev pub share : ℕ → ℕ → ℕ → ℕ
+share machines per_machine percent = min machines (max 1 (machines * per_machine * percent / 100))
+
+-- turns go round the machines: first comes the leaf at place 0 of each, then that at place 1 of each, and so on
+abbrev pub leaf_at : ℕ → ℕ → ℕ → ℕ
+leaf_at machines per_machine turn = turn % machines * per_machine + turn / machines
+
+-- the leaves in the order of their place on the machine, then of the machine
+abbrev pub by_place : ℕ → ℕ → List ℕ
+by_place machines per_machine = map (leaf_at machines per_machine) (range_with_len 0 (machines * per_machine))
+
+-- each wave takes the first leaves of those that are left, as many as its share, until none is left
+abbrev pub IsCut : ℕ → List ℕ → List (List ℕ) → Type 0
+IsCut share leaves [] = leaves ≡ []
+IsCut share leaves (wave ∷ waves) = (0 < length leaves) × (wave ≡ take share leaves) × IsCut share (drop share leaves) waves
+
+-- one where two numbers are the same, and none otherwise
+abbrev pub one_if_same : ℕ → ℕ → ℕ
+one_if_same a b = if a == b then 1 else 0
+
+-- how often a leaf stands in a list
+abbrev pub times : ℕ → List ℕ → ℕ
+times leaf [] = 0
+times leaf (other ∷ others) = one_if_same other leaf + times leaf others
+
+-- no two of these leaves stand on one machine
+abbrev pub AreApart : ℕ → List ℕ → Type 0
+AreApart per_machine [] = ⊤
+AreApart per_machine (leaf ∷ leaves) = AllByRecursion (λ other. other / per_machine ≢ leaf / per_machine) leaves × AreApart per_machine leaves
+
+-- The waves of a rollover: its leaves in order, cut by the share. So each leaf stands in just one wave, no other number in any, no wave has more
+-- than the share, and none has two leaves of one machine.
+pub record IsPlan (machines per_machine percent : ℕ) (waves : List (List ℕ)) : Type 0 where
+  pub cut : IsCut (share machines per_machine percent) (by_place machines per_machine) waves
+  pub once : (leaf : ℕ) → leaf < machines * per_machine → times leaf (concat waves) ≡ 1
+  pub known : AllByRecursion (λ wave. AllByRecursion (λ leaf. leaf < machines * per_machine) wave) waves
+  pub few : AllByRecursion (λ wave. length wave ≤ share machines per_machine percent) waves
+  pub apart : AllByRecursion (λ wave. AreApart per_machine wave) waves
+
+-- no waves in which every leaf stands, with at most as many in each, are fewer
+abbrev pub IsFewest : ℕ → ℕ → List (List ℕ) → Type 0
+IsFewest leaves share waves = (others : List (List ℕ)) → ((leaf : ℕ) → leaf < leaves → 0 < times leaf (concat others)) → AllByRecursion (λ wave. length wave ≤ share) others
+    → length waves ≤ length others

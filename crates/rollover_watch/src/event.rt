@@ -1,0 +1,78 @@
+// What a rollover tells, and what a watch may wish.
+ghost use Rattle.std.specs.Prelude.{◌≡◌};
+ghost use Rattle.rollover_watch.specs.Watches.{is_done, is_drained, is_memory, is_adopted};
+
+/// How the drain of a leaf ended.
+#[derive(Clone, Copy, Debug, PartialEq, Eq)]
+pub enum Drained {
+    Done,
+    Fault,
+    NoMemory,
+    NotUp,
+}
+
+impl Drained {
+    pub fn is_done(self) -> bool
+        ensures { result ≡ is_done self }
+    {
+        matches!(self, Drained::Done)
+    }
+}
+
+/// How the start of a leaf ended: with the tables from its region, or from its disk, or not at all.
+#[derive(Clone, Copy, Debug, PartialEq, Eq)]
+pub enum Started {
+    Memory,
+    Disk,
+    Fault,
+    NoMemory,
+    NotDown,
+}
+
+impl Started {
+    pub fn is_memory(self) -> bool
+        ensures { result ≡ is_memory self }
+    {
+        matches!(self, Started::Memory)
+    }
+}
+
+/// What happens in a rollover. Waves are numbered from 1; the last event says how many were begun, and whether one was
+/// left out.
+#[derive(Clone, Copy, Debug, PartialEq, Eq)]
+pub enum RollEvent {
+    Wave { number: u32, of: u32 },
+    Drain { leaf: u32, got: Drained },
+    Start { leaf: u32, got: Started },
+    Ended { waves: u32, halted: bool },
+}
+
+impl RollEvent {
+    /// Whether it is the drain of a leaf that was done.
+    pub fn is_drained(&self) -> bool
+        ensures { result ≡ is_drained self.now }
+    {
+        match self {
+            RollEvent::Wave { .. } | RollEvent::Start { .. } | RollEvent::Ended { .. } => false,
+            RollEvent::Drain { leaf: _, got } => got.is_done(),
+        }
+    }
+
+    /// Whether it is the start of a leaf that found its tables in memory.
+    pub fn is_adopted(&self) -> bool
+        ensures { result ≡ is_adopted self.now }
+    {
+        match self {
+            RollEvent::Wave { .. } | RollEvent::Drain { .. } | RollEvent::Ended { .. } => false,
+            RollEvent::Start { leaf: _, got } => got.is_memory(),
+        }
+    }
+}
+
+/// What a watch answers to an event: to be told more, to be told no more, or that no further wave begins.
+#[derive(Clone, Copy, Debug, PartialEq, Eq)]
+pub enum Wish {
+    Stay,
+    Leave,
+    Halt,
+}
