@@ -1,8 +1,8 @@
 -- The leaves of turns that follow one another stand apart.
 use Rattle.std.proofs.Common.{◌≡◌, ◌≢◌, ℕ, zero, suc, ◌+◌, ◌-◌, ◌*◌, ◌/◌, ◌<◌, ◌≤◌, min, List, [], ◌∷◌, map, take, drop, sym, ap, ◌∙◌, subst, arith}
 use Rattle.std.specs.List.{AllByRecursion, range_with_len}
-use Rattle.rollover_plan.specs.Plan.{leaf_at, IsCut, AreApart}
-use Rattle.rollover_plan.proofs.Turns.{machine_of, leaf_below, turns_apart}
+use Rattle.rollover_plan.specs.Plan.{IsCut, AreApart}
+use Rattle.rollover_plan.proofs.Turns.{leaf_at, machine_of, leaf_below, turns_apart}
 
 module _ (f : ℕ → ℕ) where
   pub all_turns : (P : ℕ → Type 0) (a k : ℕ) → ((i : ℕ) → a ≤ i → i < a + k → P (f i)) → AllByRecursion P (map f (range_with_len a k))

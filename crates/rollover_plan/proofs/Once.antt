@@ -3,8 +3,8 @@ use Rattle.std.proofs.Common.{◌≡◌, ◌≢◌, ℕ, zero, suc, ◌+◌, ◌
 use Rattle.std.specs.List.{range_with_len}
 use Rattle.std.proofs.lemmas.Bool.{cases_eq}
 use Rattle.std.proofs.lemmas.Bool.Decides.{nat_tests}
-use Rattle.rollover_plan.specs.Plan.{leaf_at, by_place, times, one_if_same}
-use Rattle.rollover_plan.proofs.Turns.{turn_of, turn_below, leaf_of_turn, only_turn}
+use Rattle.rollover_plan.specs.Plan.{by_place, times, one_if_same}
+use Rattle.rollover_plan.proofs.Turns.{leaf_at, by_turns, turn_of, turn_below, leaf_of_turn, only_turn}
 
 pub one_here : (x leaf : ℕ) → x ≡ leaf → one_if_same x leaf ≡ 1
 one_here x leaf same = grind (arith, nat_tests)
@@ -36,5 +36,6 @@ module _ (f : ℕ → ℕ) (leaf : ℕ) where
 
 pub leaf_once : (m p leaf : ℕ) → 0 < m → 0 < p → leaf < m * p → times leaf (by_place m p) ≡ 1
 leaf_once m p leaf machines places below =
+    ap (times leaf) (by_turns m p machines) ∙
     one_turn (leaf_at m p) leaf (turn_of m p leaf) 0 (m * p) (omega arith) (omega (arith, turn_below m p leaf below places)) (leaf_of_turn m p leaf below places)
     (λ i l u e. only_turn m p i leaf machines (omega arith) e)

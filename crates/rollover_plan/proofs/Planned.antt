@@ -1,7 +1,9 @@
 -- What leaves in order, cut by the share, are a plan of.
-use Rattle.std.proofs.Common.{◌≡◌, ℕ, ◌*◌, ◌<◌, ◌≤◌, List, length, ap, ◌∙◌, arith}
+use Rattle.std.proofs.Common.{◌≡◌, ℕ, ◌*◌, ◌<◌, ◌≤◌, List, length, map, ap, ◌∙◌, subst, arith}
+use Rattle.std.specs.List.{range_with_len}
 use Rattle.std.proofs.lemmas.List.FromFn.{length-map-range_with_len}
-use Rattle.rollover_plan.specs.Plan.{share, leaf_at, by_place, times, IsCut, IsPlan, IsFewest}
+use Rattle.rollover_plan.specs.Plan.{share, by_place, times, IsCut, IsPlan, IsFewest}
+use Rattle.rollover_plan.proofs.Turns.{leaf_at, by_turns}
 use Rattle.rollover_plan.proofs.Cuts.{cut_joined, cut_few, cut_all, cut_count}
 use Rattle.rollover_plan.proofs.Apart.{leaves_known, cut_apart}
 use Rattle.rollover_plan.proofs.Once.{leaf_once}
@@ -15,15 +17,18 @@ module _ (m p percent : ℕ) (machines : 0 < m) (places : 0 < p) (waves : List (
   at_most_all = omega arith
 
   whole : length (by_place m p) ≡ m * p
-  whole = length-map-range_with_len (leaf_at m p) 0 (m * p)
+  whole = ap length (by_turns m p machines) ∙ length-map-range_with_len (leaf_at m p) 0 (m * p)
+
+  cut_turns : IsCut (share m p percent) (map (leaf_at m p) (range_with_len 0 (m * p))) waves
+  cut_turns = subst (λ leaves. IsCut (share m p percent) leaves waves) (by_turns m p machines) cut
 
   pub planned : IsPlan m p percent waves
   planned = record {
     cut = cut;
     once = λ leaf below. ap (times leaf) (cut_joined (share m p percent) (by_place m p) waves cut) ∙ leaf_once m p leaf machines places below;
-    known = cut_all (λ leaf. leaf < m * p) (share m p percent) (by_place m p) waves cut (leaves_known m p machines);
+    known = cut_all (λ leaf. leaf < m * p) (share m p percent) (map (leaf_at m p) (range_with_len 0 (m * p))) waves cut_turns (leaves_known m p machines);
     few = cut_few (share m p percent) (by_place m p) waves cut;
-    apart = cut_apart m p machines (share m p percent) at_most_all 0 (m * p) (omega arith) waves cut;
+    apart = cut_apart m p machines (share m p percent) at_most_all 0 (m * p) (omega arith) waves cut_turns;
   }
 
   pub planned_fewest : IsFewest (m * p) (share m p percent) waves

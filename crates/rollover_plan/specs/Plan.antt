@@ -1,19 +1,19 @@
 -- The waves of a rollover. On each machine stand as many leaves: leaf l stands on machine l / per_machine, at place l % per_machine.
-use Rattle.std.specs.Prelude.{◌≡◌, ◌≢◌, ◌+◌, ◌*◌, ◌/◌, ◌%◌, ◌<◌, ◌≤◌, ℕ, min, max, if◌then◌else◌, List, [], ◌∷◌, length, map, take, drop, ⊤}
+use Rattle.std.specs.Prelude.{◌≡◌, ◌≢◌, ◌+◌, ◌*◌, ◌/◌, ◌<◌, ◌≤◌, ℕ, min, max, if◌then◌else◌, List, [], ◌∷◌, length, map, take, drop, ⊤}
 use Rattle.std.specs.Bool.{◌==◌}
-use Rattle.std.specs.List.{AllByRecursion, concat, range_with_len}
+use Rattle.std.specs.List.{AllByRecursion, concat, flat_map, range_with_len}
 
 -- how many leaves a wave has at most: a share of all, but at least one, and at most one for each machine
 abbrev pub share : ℕ → ℕ → ℕ → ℕ
 share machines per_machine percent = min machines (max 1 (machines * per_machine * percent / 100))
 
--- turns go round the machines: first comes the leaf at place 0 of each, then that at place 1 of each, and so on
-abbrev pub leaf_at : ℕ → ℕ → ℕ → ℕ
-leaf_at machines per_machine turn = turn % machines * per_machine + turn / machines
+-- the leaves at one place of each machine
+abbrev pub at_place : ℕ → ℕ → ℕ → List ℕ
+at_place machines per_machine place = map (λ machine. machine * per_machine + place) (range_with_len 0 machines)
 
 -- the leaves in the order of their place on the machine, then of the machine
 abbrev pub by_place : ℕ → ℕ → List ℕ
-by_place machines per_machine = map (leaf_at machines per_machine) (range_with_len 0 (machines * per_machine))
+by_place machines per_machine = flat_map (at_place machines per_machine) (range_with_len 0 per_machine)
 
 -- each wave takes the first leaves of those that are left, as many as its share, until none is left
 abbrev pub IsCut : ℕ → List ℕ → List (List ℕ) → Type 0

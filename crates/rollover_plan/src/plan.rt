@@ -1,6 +1,6 @@
 // The waves of a rollover.
-ghost use Rattle.std.specs.Prelude.{◌≡◌, ◌+◌, ◌*◌, ◌<◌, ◌≤◌, length, IfOk};
-ghost use Rattle.rollover_plan.specs.Plan.{share, leaf_at, by_place, IsCut, IsPlan, IsFewest};
+ghost use Rattle.std.specs.Prelude.{◌≡◌, ◌+◌, ◌*◌, ◌/◌, ◌%◌, ◌<◌, ◌≤◌, length, IfOk};
+ghost use Rattle.rollover_plan.specs.Plan.{share, by_place, IsCut, IsPlan, IsFewest};
 
 use crate::wave::{Wave, Waves};
 use std::alloc::{AllocError, Global};
@@ -20,14 +20,15 @@ fn share(machines: u32, per_machine: u32, percent: u32) -> u32
 fn leaf_at(machines: u32, per_machine: u32, turn: u32) -> u32
     requires leaves { machines * per_machine ≤ 256 }
     requires turn { turn < machines * per_machine }
-    ensures { result ≡ leaf_at machines per_machine turn }
+    ensures { result ≡ turn % machines * per_machine + turn / machines }
 {
     turn % machines * per_machine + turn / machines
 }
 
 /// The leaves in the order of their place on the machine, then of the machine.
 fn by_place(alloc: Global, machines: u32, per_machine: u32) -> Result<Vec<u32>, AllocError>
-    requires { machines * per_machine ≤ 256 }
+    requires some { 0 < machines }
+    requires leaves { machines * per_machine ≤ 256 }
     ensures { IfOk result (λ leaves. leaves.items ≡ by_place machines per_machine) }
 {
     let mut leaves = Vec::new(alloc);

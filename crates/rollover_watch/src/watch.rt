@@ -10,6 +10,7 @@ pub trait Watch: Send + Drop {
     /// What it means: its line, its counts, the events where it keeps them, and what it wishes at an event.
     ghost held: { Self → Held };
 
+    /// Tells it an event. What it wishes then follows from what it means and the event.
     fn told(&mut self, event: &RollEvent) -> Wish
         ensures wish { result ≡ (held self.old).wish event.now }
         ensures heard { HasHeard event.now (held self.old) (held self.new) };

@@ -1,6 +1,6 @@
 use Rattle.std.proofs.Common.{◌≡◌, map}
 use Rattle.std.specs.List.{range_with_len}
-use Rattle.rollover_plan.specs.Plan.{leaf_at}
+use Rattle.rollover_plan.proofs.Turns.{leaf_at}
 use Rattle.rollover_plan.proofs.plan.by_place.Given as goal
 
 abbrev pub invariant-loop-turn : goal.invariant-loop-turn
