@@ -60,9 +60,9 @@ pub record HasHeard (event : RollEvent) (old new : Held) : Type 0 where
 -- each watch of one list was told an event, and is then that of the other list in the same place
 abbrev pub EachHasHeard : RollEvent → List Held → List Held → Type 0
 EachHasHeard event [] [] = ⊤
-EachHasHeard event [] (w ∷ ws) = ⊥
-EachHasHeard event (w ∷ ws) [] = ⊥
-EachHasHeard event (w ∷ ws) (v ∷ vs) = HasHeard event w v × EachHasHeard event ws vs
+EachHasHeard event [] (watch ∷ watches) = ⊥
+EachHasHeard event (watch ∷ watches) [] = ⊥
+EachHasHeard event (watch ∷ watches) (after ∷ afters) = HasHeard event watch after × EachHasHeard event watches afters
 
 -- whether a watch stays at an event
 abbrev pub is_staying : Wish → Bool
@@ -71,7 +71,7 @@ is_staying Leave = false
 is_staying Halt = true
 
 abbrev pub stays : RollEvent → Held → Bool
-stays event w = is_staying (w.wish event)
+stays event watch = is_staying (watch.wish event)
 
 -- whether it asks for a halt
 abbrev pub is_halting : Wish → Bool
@@ -80,7 +80,7 @@ is_halting Leave = false
 is_halting Halt = true
 
 abbrev pub halts : RollEvent → Held → Bool
-halts event w = is_halting (w.wish event)
+halts event watch = is_halting (watch.wish event)
 
 -- each watch of a list was told an event, and those that wished to leave are gone
 abbrev pub AreTold : RollEvent → List Held → List Held → Type 0
@@ -88,4 +88,4 @@ AreTold event old new = EachHasHeard event (filter (stays event) old) new
 
 -- whether one of them asks for a halt
 abbrev pub is_halt_asked : RollEvent → List Held → Bool
-is_halt_asked event ws = list_any (halts event) ws
+is_halt_asked event watches = list_any (halts event) watches
