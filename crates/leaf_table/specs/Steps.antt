@@ -1,5 +1,6 @@
 -- What each turn does to the value.
 use Rattle.std.specs.Prelude.{◌≡◌, ◌+◌, ◌<◌, ◌≤◌, ◌^◌, true, false, List, length, Option, Some, None}
+use Rattle.std.specs.List.{AllByRecursion}
 use Rattle.leaf_model.specs.declared.rows.Row.{Row}
 use Rattle.leaf_model.specs.declared.queries.Query.{Query}
 use Rattle.leaf_model.specs.declared.writes.Write.{Write}
@@ -7,6 +8,7 @@ use Rattle.leaf_model.specs.declared.writes.Write.TheVariants.{Add}
 use Rattle.leaf_model.specs.Content.{kept_count, late_count, removed_count}
 use Rattle.leaf_model.specs.Groups.{groups}
 use Rattle.table_state.specs.Tables.{table_with_write, empty_table}
+use Rattle.group_table.specs.Joined.{IsWithin}
 use Rattle.leaf_table.specs.declared.turns.Answer.{Answer}
 use Rattle.leaf_table.specs.declared.turns.Answer.TheVariants.{Added, Removed, Groups, Shut, Full, NoMemory, Took, Closed, Noted}
 use Rattle.leaf_table.specs.declared.value.LeafTable.{LeafTable}
@@ -37,7 +39,7 @@ RemovesFrom v write Noted w = ⊥
 
 -- an open table tells the groups of its rows
 abbrev pub AsksOf : LeafTable → Option Query → Answer → Type 0
-AsksOf v copy (Groups gs) = (v.live ≡ true) × (q : Query) × (copy ≡ Some q) × (gs ≡ groups q v.table.contents.rows) × (length v.table.contents.rows ≤ 2 ^ 40)
+AsksOf v copy (Groups gs) = (v.live ≡ true) × (q : Query) × (copy ≡ Some q) × (gs ≡ groups q v.table.contents.rows) × (length v.table.contents.rows ≤ 2 ^ 40) × AllByRecursion (IsWithin (length v.table.contents.rows)) gs
 AsksOf v copy NoMemory = v.live ≡ true
 AsksOf v copy Shut = v.live ≡ false
 AsksOf v copy (Added kept late) = ⊥
