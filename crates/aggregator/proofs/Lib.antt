@@ -1,0 +1,4 @@
+pub mod Halves
+pub mod Replies
+pub mod Sorted
+pub mod Dividing

@@ -1,0 +1,5 @@
+pub mod Asks
+pub mod Halves
+pub mod Sorts
+pub mod Partial
+pub mod Merges

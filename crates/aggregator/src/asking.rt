@@ -1,0 +1,106 @@
+// Leaves that are asked at once, by halves.
+ghost use Rattle.std.specs.Prelude.{◌≡◌, ◌+◌, ◌<◌, ◌≤◌, length};
+ghost use Rattle.std.specs.Thread.{IsSync};
+ghost use Rattle.aggregator.specs.Asks.{IsSeatAt, IsAsked, Asked};
+ghost use Rattle.aggregator.specs.Halves.{MayAsk};
+
+use berth_face::Gate;
+use leaf_model::Query;
+use leaf_table::{FleetTables, Reply, Seat};
+use std::sync::Wait;
+use std::thread::{Threads, join_mut};
+
+/// What is asked of which table of each leaf.
+#[derive(Clone, Copy)]
+pub struct Question<'q> {
+    pub query: &'q Query,
+    pub fleet: &'q FleetTables,
+    pub table: u32,
+}
+
+/// Asks the leaves from the first on, as many as there are seats, each in a thread of its own where one can be made.
+#[cycle(halves)]
+pub fn ask_each<'q, R: Threads + Wait + Sync, G: Gate>(
+    rt: &R,
+    gate: &G,
+    question: &Question<'q>,
+    first: u32,
+    seats: &mut [Seat],
+    replies: &mut [Reply],
+)
+    requires { MayAsk question.now.fleet.now question.now.table first seats.old replies.old }
+    ensures { Asked question.now.query.now question.now.fleet.now question.now.table first seats.old replies.new seats.new }
+{
+    if seats.len() < 2 {
+        ask_first(rt, gate, question, first, seats, replies);
+        return;
+    }
+    let mid = seats.len() / 2;
+    let (low, high) = seats.split_at_mut(mid);
+    let (front, back) = replies.split_at_mut(mid);
+    ask_both(rt, gate, question, first, low, front, high, back);
+}
+
+// Asks both halves at once. The second begins behind the first.
+#[cycle(halves)]
+fn ask_both<'q, R: Threads + Wait + Sync, G: Gate>(
+    rt: &R,
+    gate: &G,
+    question: &Question<'q>,
+    first: u32,
+    low: &mut [Seat],
+    front: &mut [Reply],
+    high: &mut [Seat],
+    back: &mut [Reply],
+)
+    requires some { (0 < length low.old) × (0 < length high.old) }
+    requires low { MayAsk question.now.fleet.now question.now.table first low.old front.old }
+    requires high { MayAsk question.now.fleet.now question.now.table (first + length low.old) high.old back.old }
+    ensures low { Asked question.now.query.now question.now.fleet.now question.now.table first low.old front.new low.new }
+    ensures high { Asked question.now.query.now question.now.fleet.now question.now.table (first + length low.old) high.old back.new high.new }
+{
+    let next = first + low.len() as u32;
+    let mut one = ||
+        requires { IsSync R.row × IsSync G.row × (0 < length low.now) × MayAsk question.now.fleet.now question.now.table first low.now front.now }
+        ensures { Asked question.entry.now.query.now question.entry.now.fleet.now question.entry.now.table first low.entry.now front.exit.now low.exit.now }
+    { ask_each(rt, gate, question, first, low, front) };
+    let mut other = ||
+        requires { IsSync R.row × IsSync G.row × (0 < length high.now) × MayAsk question.now.fleet.now question.now.table next high.now back.now }
+        ensures { Asked question.entry.now.query.now question.entry.now.fleet.now question.entry.now.table next high.entry.now back.exit.now high.exit.now }
+    { ask_each(rt, gate, question, next, high, back) };
+    join_mut(rt, &mut one, &mut other);
+}
+
+// Asks the first leaf, where there is a seat at it.
+fn ask_first<'q, R: Wait, G: Gate>(
+    rt: &R,
+    gate: &G,
+    question: &Question<'q>,
+    first: u32,
+    seats: &mut [Seat],
+    replies: &mut [Reply],
+)
+    requires may { MayAsk question.now.fleet.now question.now.table first seats.old replies.old }
+    requires one { length seats.old < 2 }
+    ensures { Asked question.now.query.now question.now.fleet.now question.now.table first seats.old replies.new seats.new }
+{
+    if !seats.is_empty() {
+        replies[0] = ask_leaf(rt, gate, question, first, &mut seats[0]);
+    }
+}
+
+// Asks one leaf.
+fn ask_leaf<'q, R: Wait, G: Gate>(
+    rt: &R,
+    gate: &G,
+    question: &Question<'q>,
+    leaf: u32,
+    seat: &mut Seat,
+) -> Reply
+    requires { IsSeatAt question.now.fleet.now question.now.table leaf seat.old }
+    ensures { IsAsked question.now.query.now question.now.fleet.now question.now.table leaf seat.old result seat.new }
+{
+    let tables = question.fleet.leaf(leaf);
+    let table = question.table as usize;
+    tables[table].ask(rt, seat, question.query, gate)
+}

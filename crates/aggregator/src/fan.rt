@@ -1,0 +1,57 @@
+// A table of every leaf is asked.
+ghost use Rattle.std.specs.Prelude.{◌≡◌, ◌⊎◌, ℕ, List, length, IfOk, IsErr};
+ghost use Rattle.leaf_model.specs.Groups.{groups};
+ghost use Rattle.leaf_history.specs.History.{Entry};
+ghost use Rattle.aggregator.specs.Asks.{AreSeatsAt, AllAsked};
+ghost use Rattle.aggregator.specs.Sorts.{Divides};
+ghost use Rattle.aggregator.specs.Partial.{bases_in, partial, GoOn};
+
+use crate::asking::{Question, ask_each};
+use crate::fanned::Fanned;
+use crate::sorting::sort_all;
+use berth_face::Gate;
+use leaf_model::Query;
+use leaf_table::{FleetTables, Reply, Seat};
+use std::alloc::{AllocError, Global};
+use std::sync::Wait;
+use std::thread::Threads;
+
+/// Asks the table of that number at every leaf, all at once where threads can be made, each by its seat. Memory may be refused
+/// before any leaf is asked; where it is refused later, all were asked, and their entries stay.
+pub fn ask_all<R: Threads + Wait + Sync, G: Gate>(
+    rt: &R,
+    alloc: Global,
+    fleet: &FleetTables,
+    table: u32,
+    seats: &mut [Seat],
+    query: &Query,
+    gate: &G,
+) -> Result<Fanned, AllocError>
+    requires seats { AreSeatsAt fleet.now table seats.old }
+    // Either no leaf was asked, for want of memory, or all were, and each stands in the one list of its reply.
+    ensures asked { (IsErr result × (seats.new ≡ seats.old)) ⊎ AllAsked query.now fleet.now table seats.old seats.new result }
+    // Each leaf of the fleet stands in exactly one list, and each list ascends.
+    ensures divides { IfOk result (Divides (length fleet.now)) }
+    // The groups are those of the rows of exactly the named leaves, each as they were before its entry, however the histories go on.
+    ensures groups { (histories : ℕ → List Entry) → GoOn seats.new histories → IfOk result (λ f. f.groups ≡ groups query.now (partial (bases_in fleet.now table) histories f.named)) }
+{
+    let mut replies = unasked(alloc, seats.len())?;
+    let question = Question {
+        query,
+        fleet,
+        table,
+    };
+    ask_each(rt, gate, &question, 0, seats, &mut replies);
+    sort_all(alloc, replies)
+}
+
+// Room for so many replies.
+fn unasked(alloc: Global, count: usize) -> Result<Vec<Reply>, AllocError>
+    ensures { IfOk result (λ replies. length replies.items ≡ count) }
+{
+    let mut replies = Vec::with_capacity(alloc, count)?;
+    for made in 0..count {
+        replies.push(Reply::Worn)?;
+    }
+    Ok(replies)
+}

@@ -1,0 +1,12 @@
+//! One table of every leaf of a fleet, asked at once: which leaves answered, and the groups of their rows.
+#![tactic(auto)]
+
+mod asking;
+mod fan;
+mod fanned;
+mod lists;
+mod sorting;
+
+pub use fan::ask_all;
+pub use fanned::Fanned;
+pub use lists::{Leaves, Named, NamedList};
