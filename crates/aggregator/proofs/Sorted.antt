@@ -6,13 +6,19 @@ use Rattle.std.proofs.lemmas.List.Concat.{flat_map-append}
 use Rattle.leaf_model.specs.declared.rows.Row.{Row}
 use Rattle.leaf_model.specs.declared.queries.Query.{Query}
 use Rattle.leaf_model.specs.Groups.{groups}
+use Rattle.leaf_model.specs.declared.groups.Group.{Group}
 use Rattle.group_table.specs.Joined.{IsWithin}
+use Rattle.group_table.proofs.Within.{groups_grow}
 use Rattle.leaf_table.specs.declared.replies.Reply.{Reply}
 use Rattle.aggregator.specs.declared.lists.Named.{Named}
 use Rattle.aggregator.specs.declared.fanned.Fanned.{Fanned}
 use Rattle.aggregator.specs.Sorts.{named_of, shut_of, starved_of, worn_of, by_leaf, Sorts, PutsOne}
 use Rattle.aggregator.specs.Partial.{rows_of_all}
 use Rattle.aggregator.specs.Merges.{no_leaf, IsAnswer, IsOver, AreOver}
+
+-- what so many leaves can give, one more can
+pub still_within : (leaves : ℕ) (gs : List Group) → AllByRecursion (IsWithin (leaves * 2 ^ 40)) gs → AllByRecursion (IsWithin (leaves * 2 ^ 40 + 2 ^ 40)) gs
+still_within leaves gs within = groups_grow (leaves * 2 ^ 40) (leaves * 2 ^ 40 + 2 ^ 40) gs (omega arith) within
 
 -- What stands in a list, and what the replies that are left give to it.
 pub record Collects {X : Type 0} (gives : ℕ → Reply → List X) (all : List Reply) (leaf : ℕ) (rest : List Reply) (xs : List X) : Type 0 where

@@ -33,6 +33,7 @@ impl Fanned {
     }
 
     // Puts a leaf into the list of its reply, and its groups to those of the leaves before it.
+    #[tactic(auto, using(crate::proofs::Sorted::still_within))]
     fn put(&mut self, alloc: Global, leaf: u32, reply: Reply) -> Result<(), AllocError>
         requires few { leaf < 256 }
         requires answer { IsAnswer reply }
