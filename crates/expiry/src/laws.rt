@@ -1,0 +1,9 @@
+// Why masks and cuts may stand for a table's rows.
+ghost use Rattle.expiry.specs.Laws.{CutsKeep, HorizonsExpire, MasksLeave};
+
+/// A mask leaves the rows that it says. An expiry is a greater horizon over the same rows, and a keep is a greater cut of their front.
+pub fn masks_and_cuts()
+    ensures masks { MasksLeave }
+    ensures horizons { HorizonsExpire }
+    ensures cuts { CutsKeep }
+{}

@@ -1,0 +1,10 @@
+//! Which rows of a table stay: a horizon as a mask, and a keep as a cut of the front.
+#![tactic(auto)]
+
+mod cut;
+mod laws;
+mod mask;
+
+pub use cut::cut_for;
+pub use laws::masks_and_cuts;
+pub use mask::stays;
