@@ -1,0 +1,18 @@
+use Rattle.std.proofs.Common.{◌≡◌, ℕ, List, length, Option, Some, None, IfSome}
+use Rattle.column_bytes.specs.Cells.{Coded, cells_of, kind_of}
+use Rattle.column_bytes.specs.Column.{HasCells, kind_in}
+use Rattle.row_blocks.specs.Columns.{IsSeen, MeanCells, cells_in}
+use Rattle.row_blocks.proofs.Means.{means}
+use Rattle.row_blocks.proofs.reading.view_of.Goals as goal
+
+seen : (bytes : List ℕ) (found : Option Coded) → IfSome found (λ view. HasCells bytes (length view.codes) (cells_of view)) → IfSome found (λ view. kind_of view.book ≡ kind_in bytes)
+    → IfSome found (λ view. IsSeen view bytes)
+seen bytes None cells kind = tt
+seen bytes (Some view) cells kind = record { mean = (means bytes (length view.codes) (cells_of view) cells).0; cells = (means bytes (length view.codes) (cells_of view) cells).1; kind = kind }
+
+pub returns-clause-seen : goal.returns-clause-seen
+returns-clause-seen c = seen c.args.bytes.now c.view_counted.result c.view_counted.ensures.cells c.view_counted.ensures.kind
+
+pub returns-clause-exact : goal.returns-clause-exact
+unfolding MeanCells
+returns-clause-exact c = λ n mean. c.view_counted.ensures.exact n (cells_in c.args.bytes.now) mean

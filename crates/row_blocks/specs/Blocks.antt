@@ -1,0 +1,105 @@
+-- A block: columns of one number of cells, which mean rows.
+use Rattle.std.specs.Prelude.{◌≡◌, ℕ, ◌<◌, ◌≤◌, List, [], ◌∷◌, length, map, slice_index_or, ℤ, pos, ◌≤ℤ◌, Option, Some, None, Bool, true, false, ◌&&◌, bytes_eq}
+use Rattle.std.specs.List.{range_with_len, flat_map, AllByRecursion}
+use Rattle.std.specs.List.Sorted.{IsStrictlySortedBy}
+use Rattle.leaf_model.specs.declared.rows.Value.{Value}
+use Rattle.leaf_model.specs.declared.rows.Value.TheVariants as values
+use Rattle.leaf_model.specs.declared.rows.Cell.{Cell}
+use Rattle.leaf_model.specs.declared.rows.Row.{Row}
+use Rattle.leaf_model.specs.Values.{IsRow, IsCellName, time_name}
+use Rattle.column_bytes.specs.declared.kind.Kind.{Kind}
+use Rattle.column_bytes.specs.declared.kind.Kind.TheVariants.{Ints, Texts}
+use Rattle.column_bytes.specs.Column.{kind_in}
+use Rattle.row_blocks.specs.declared.column.BlockColumn.{BlockColumn}
+use Rattle.row_blocks.specs.Columns.{cells_in, MeanCells}
+use Rattle.row_blocks.specs.Headings.{heading, heading_cmp}
+
+-- so many rows, and the columns, that of the times first
+pub record Block : Type 0 where
+  pub rows : ℕ
+  pub columns : List BlockColumn
+
+-- ---- its rows
+
+-- the cell of a column at a place, or nothing where it is missing
+abbrev pub value_in : List ℕ → ℕ → Option Value
+value_in bytes i = slice_index_or (cells_in bytes) i None
+
+-- what a column has at a place, under its name
+abbrev pub cell_of : List ℕ → Option Value → List Cell
+cell_of name None = []
+cell_of name (Some value) = record { name = name; value = value } ∷ []
+
+-- the cells at a place, in the order of the columns
+abbrev pub cells_at : ℕ → List BlockColumn → List Cell
+cells_at i columns = flat_map (λ (c : BlockColumn). cell_of c.name (value_in c.bytes i)) columns
+
+-- the time that a cell is
+abbrev pub time_of : Option Value → ℤ
+time_of (Some (values.Int n)) = n
+time_of (Some (values.Text text)) = pos 0
+time_of None = pos 0
+
+-- the row at a place: the first column has its time, the others its cells
+abbrev pub row_at : List BlockColumn → ℕ → Row
+row_at [] i = record { time = pos 0; cells = [] }
+row_at (times ∷ others) i = record { time = time_of (value_in times.bytes i); cells = cells_at i others }
+
+abbrev pub rows_in : Block → List Row
+rows_in b = map (row_at b.columns) (range_with_len 0 b.rows)
+
+-- ---- which columns are a block
+
+-- an integer from 0 up
+abbrev pub IsTimeCell : Option Value → Type 0
+IsTimeCell (Some (values.Int n)) = pos 0 ≤ℤ n
+IsTimeCell (Some (values.Text text)) = ⊥
+IsTimeCell None = ⊥
+
+-- integers named `time`, each there and none below 0
+pub record AreTimes (rows : ℕ) (c : BlockColumn) : Type 0 where
+  pub name : c.name ≡ time_name
+  pub kind : kind_in c.bytes ≡ Ints
+  pub cells : MeanCells c.bytes rows
+  pub each : (i : ℕ) → i < rows → IsTimeCell (value_in c.bytes i)
+
+-- a cell for each row, under a name that a cell may have
+pub record IsOther (rows : ℕ) (c : BlockColumn) : Type 0 where
+  pub name : IsCellName c.name
+  pub cells : MeanCells c.bytes rows
+
+-- 1 to 65,536 rows; the times first, the others ascending by name and of one name by kind; and what stands at each place is a row:
+-- no two cells of one name, and at most 1,024
+pub record IsBlock (b : Block) : Type 0 where
+  pub some : 0 < b.rows
+  pub few : b.rows ≤ 65536
+  pub times : BlockColumn
+  pub others : List BlockColumn
+  pub columns_are : b.columns ≡ times ∷ others
+  pub timed : AreTimes b.rows times
+  pub each : AllByRecursion (IsOther b.rows) others
+  pub ascend : IsStrictlySortedBy heading_cmp (map heading others)
+  pub rows_are : AllByRecursion IsRow (rows_in b)
+
+-- ---- what is asked of a block
+
+abbrev pub IsAmong : ℤ → List ℤ → Type 0
+IsAmong t times = (i : ℕ) × (i < length times) × (slice_index_or times i (pos 0) ≡ t)
+
+-- of some times the least and the greatest
+pub record IsRange (times : List ℤ) (from to : ℤ) : Type 0 where
+  pub within : (i : ℕ) → i < length times → (from ≤ℤ slice_index_or times i (pos 0)) × (slice_index_or times i (pos 0) ≤ℤ to)
+  pub first : IsAmong from times
+  pub last : IsAmong to times
+
+abbrev pub times_of : List Row → List ℤ
+times_of rows = map (λ (row : Row). row.time) rows
+
+abbrev pub is_kind : Kind → Kind → Bool
+is_kind Ints Ints = true
+is_kind Ints Texts = false
+is_kind Texts Ints = false
+is_kind Texts Texts = true
+
+abbrev pub is_column : List ℕ → Kind → BlockColumn → Bool
+is_column name kind c = bytes_eq c.name name && is_kind (kind_in c.bytes) kind

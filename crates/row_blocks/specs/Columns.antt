@@ -1,0 +1,25 @@
+-- What any bytes mean as a column: their fields decide, and no encoder is run.
+use Rattle.std.specs.Prelude.{◌≡◌, ℕ, List, length, Option, unwrap_or, slice_index}
+use Rattle.leaf_model.specs.declared.rows.Value.{Value}
+use Rattle.column_bytes.specs.declared.form.Form.{Form}
+use Rattle.column_bytes.specs.declared.form.Form.TheVariants.{Offset}
+use Rattle.column_bytes.specs.Cells.{Coded, cells_of, kind_of}
+use Rattle.column_bytes.specs.Column.{HasCells, coded_in, form_at, kind_in}
+
+-- the form that the first two bytes name
+abbrev pub form_in : List ℕ → Form
+form_in bytes = unwrap_or (form_at (slice_index bytes 0) (slice_index bytes 1)) Offset
+
+-- the cells that the bytes mean, where they mean any
+unfoldable pub cells_in : List ℕ → List (Option Value)
+cells_in bytes = cells_of (coded_in (form_in bytes) bytes)
+
+-- the bytes mean n cells
+unfoldable pub MeanCells : List ℕ → ℕ → Type 0
+MeanCells bytes n = HasCells bytes n (cells_in bytes)
+
+-- what was read of the bytes is what they mean
+pub record IsSeen (view : Coded) (bytes : List ℕ) : Type 0 where
+  pub mean : MeanCells bytes (length view.codes)
+  pub cells : cells_of view ≡ cells_in bytes
+  pub kind : kind_of view.book ≡ kind_in bytes

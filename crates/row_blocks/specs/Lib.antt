@@ -1,0 +1,4 @@
+pub mod Columns
+pub mod Headings
+pub mod Blocks
+pub mod Merging

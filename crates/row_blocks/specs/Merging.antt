@@ -1,0 +1,79 @@
+-- Rows taken apart into columns: what is left of each row's cells, and the column that comes next.
+use Rattle.std.specs.Prelude.{◌≡◌, ℕ, ◌+◌, ◌<◌, List, [], ◌∷◌, ◌++◌, length, map, slice_index_or, Option, Some, None, if◌then◌else◌, ⊤}
+use Rattle.std.specs.Borrow.{Bor}
+use Rattle.std.specs.List.{AllByRecursion}
+use Rattle.std.specs.List.Sorted.{IsStrictlySortedBy}
+use Rattle.std.specs.declared.cmp.Ordering.TheVariants.{Less, Greater}
+use Rattle.std.specs.Ordering.{is_eq, is_gt}
+use Rattle.leaf_model.specs.declared.rows.Value.{Value}
+use Rattle.leaf_model.specs.declared.rows.Cell.{Cell}
+use Rattle.leaf_model.specs.declared.rows.Row.{Row}
+use Rattle.row_blocks.specs.declared.column.BlockColumn.{BlockColumn}
+use Rattle.row_blocks.specs.Headings.{Heading, heading, heading_of, heading_cmp}
+use Rattle.row_blocks.specs.Blocks.{IsOther, cells_at}
+
+-- what some cells that are lent are
+abbrev pub lent : List (Bor (List Cell)) → List (List Cell)
+lent rests = map (λ (rest : Bor (List Cell)). rest.now) rests
+
+abbrev pub cells_of_rows : List Row → List (List Cell)
+cells_of_rows rows = map (λ (row : Row). row.cells) rows
+
+-- the value of the first cell, where it has this heading
+abbrev pub front_value : Heading → List Cell → Option Value
+front_value h [] = None
+front_value h (c ∷ cells) = if is_eq (heading_cmp h (heading_of c)) then Some c.value else None
+
+-- the cells without the first, where it has this heading
+abbrev pub rest_after : Heading → List Cell → List Cell
+rest_after h [] = []
+rest_after h (c ∷ cells) = if is_eq (heading_cmp h (heading_of c)) then cells else c ∷ cells
+
+-- of two first cells the one under the earlier heading, the former where it is one heading
+abbrev pub earlier : Option Cell → Option Cell → Option Cell
+earlier None b = b
+earlier (Some a) None = Some a
+earlier (Some a) (Some b) = if is_gt (heading_cmp (heading_of a) (heading_of b)) then Some b else Some a
+
+abbrev pub front : List Cell → Option Cell
+front [] = None
+front (c ∷ cells) = Some c
+
+-- the first cell comes under no earlier heading
+abbrev pub IsNotBefore : Heading → List Cell → Type 0
+IsNotBefore h [] = ⊤
+IsNotBefore h (c ∷ cells) = heading_cmp h (heading_of c) ≡ Greater → ⊥
+
+-- the first cell comes under a later heading
+abbrev pub IsBehind : Heading → List Cell → Type 0
+IsBehind h [] = ⊤
+IsBehind h (c ∷ cells) = heading_cmp h (heading_of c) ≡ Less
+
+-- the first cell is this one
+abbrev pub BeginsWith : Cell → List Cell → Type 0
+BeginsWith c [] = ⊥
+BeginsWith c (d ∷ cells) = d ≡ c
+
+-- of all first cells one under the earliest heading, or none where there are no cells
+abbrev pub IsEarliest : Option Cell → List (List Cell) → Type 0
+IsEarliest None rests = (i : ℕ) → i < length rests → slice_index_or rests i [] ≡ []
+IsEarliest (Some c) rests = ((i : ℕ) × (i < length rests) × BeginsWith c (slice_index_or rests i [])) × ((i : ℕ) → i < length rests → IsNotBefore (heading_of c) (slice_index_or rests i []))
+
+-- these columns were taken off the rows, and these cells are left of each row
+pub record AreTaken (rows : List Row) (columns : List BlockColumn) (rests : List (List Cell)) : Type 0 where
+  pub same : length rests ≡ length rows
+  pub each : AllByRecursion (IsOther (length rows)) columns
+  pub ascend : IsStrictlySortedBy heading_cmp (map heading columns)
+  pub behind : AllByRecursion (λ (c : BlockColumn). (i : ℕ) → i < length rests → IsBehind (heading c) (slice_index_or rests i [])) columns
+  pub taken : (i : ℕ) → i < length rows → cells_at i columns ++ slice_index_or rests i [] ≡ slice_index_or (cells_of_rows rows) i []
+
+-- the columns hold the cells of the rows
+pub record HoldCells (rows : List Row) (columns : List BlockColumn) : Type 0 where
+  pub each : AllByRecursion (IsOther (length rows)) columns
+  pub ascend : IsStrictlySortedBy heading_cmp (map heading columns)
+  pub cells : (i : ℕ) → i < length rows → cells_at i columns ≡ slice_index_or (cells_of_rows rows) i []
+
+-- how many cells there are in all
+abbrev pub cells_left : List (List Cell) → ℕ
+cells_left [] = 0
+cells_left (cells ∷ rests) = length cells + cells_left rests

@@ -1,0 +1,115 @@
+// A sealed block.
+ghost use Rattle.std.specs.Prelude.{◌≡◌, ◌<◌, ◌≤◌, length, option_map, IfOk, IfErr};
+ghost use Rattle.std.specs.List.{find};
+ghost use Rattle.row_blocks.specs.declared.column.BlockColumn.{BlockColumn};
+ghost use Rattle.row_blocks.specs.Blocks.{Block, IsBlock, IsRange, is_column, rows_in, times_of};
+
+use crate::column::{BlockColumn, BlockColumns};
+use crate::headings::kind_in;
+use column_bytes::Kind;
+use leaf_model::Text;
+use std::marker::Model;
+
+/// Why columns are no block.
+#[derive(Debug, Clone, Copy, PartialEq, Eq)]
+pub enum BlockFault {
+    /// They break a rule of a block.
+    NoRows,
+    NoMemory,
+}
+
+/// 1 to 65,536 rows as columns, and their least and greatest time. Contracts see the number of rows and the columns.
+#[derive(Debug, Drop)]
+pub struct RowBlock {
+    rows: u32,
+    from: i64,
+    to: i64,
+    columns: BlockColumns,
+}
+
+impl Model for RowBlock {
+    ghost use Rattle.row_blocks.specs.Blocks.{Block, IsBlock, IsRange, rows_in, times_of};
+
+    ghost Value = { Block };
+
+    ghost view = { λ b. record { rows = b.rows; columns = b.columns } };
+
+    ghost invariant = { λ b. IsBlock (record { rows = b.rows; columns = b.columns }) × IsRange (times_of (rows_in (record { rows = b.rows; columns = b.columns }))) b.from b.to };
+}
+
+impl RowBlock {
+    /// The block of these columns, with the least and the greatest time of their rows.
+    pub(crate) fn of(rows: u32, range: (i64, i64), columns: BlockColumns) -> RowBlock
+        requires block { IsBlock (record { rows = rows; columns = columns }) }
+        requires range { IsRange (times_of (rows_in (record { rows = rows; columns = columns }))) range.0 range.1 }
+        ensures { result ≡ record { rows = rows; columns = columns } }
+    {
+        let (from, to) = range;
+        RowBlock {
+            rows,
+            from,
+            to,
+            columns,
+        }
+    }
+
+    /// How many rows there are.
+    pub fn rows(&self) -> u32
+        ensures { result ≡ self.now.rows }
+    {
+        self.rows
+    }
+
+    /// What holds of every block.
+    pub fn is_block(&self)
+        ensures { IsBlock self.now }
+    {
+        let _ = &self.rows;
+    }
+
+    /// The least and the greatest time.
+    pub fn range(&self) -> (i64, i64)
+        ensures { IsRange (times_of (rows_in self.now)) result.0 result.1 }
+    {
+        (self.from, self.to)
+    }
+
+    /// The columns, that of the times first.
+    pub fn columns(&self) -> &[BlockColumn]
+        ensures { result.now ≡ self.now.columns }
+    {
+        self.columns.as_slice()
+    }
+
+    /// The bytes of the column of that name and kind, or None where there is no such column.
+    pub fn column(&self, name: &Text, kind: Kind) -> Option<&[u8]>
+        ensures { option_map (λ b. b.now) result ≡ option_map (λ (c : BlockColumn). c.bytes) (find (is_column name.now kind) self.now.columns) }
+    {
+        column_named(self.columns.as_slice(), name, kind)
+    }
+
+    /// The columns, in their order. It takes no memory.
+    pub fn into_columns(self) -> BlockColumns
+        ensures columns { result ≡ self.columns }
+        ensures block { IsBlock self }
+    {
+        self.columns
+    }
+}
+
+fn is_column(column: &BlockColumn, name: &Text, kind: Kind) -> bool
+    ensures { result ≡ is_column name.now kind column.now }
+{
+    column.name.as_str() == name.as_str() && kind_in(column.bytes.as_slice()) == kind
+}
+
+fn column_named<'a>(columns: &'a [BlockColumn], name: &Text, kind: Kind) -> Option<&'a [u8]>
+    ensures { option_map (λ b. b.now) result ≡ option_map (λ (c : BlockColumn). c.bytes) (find (is_column name.now kind) columns.now) }
+{
+    for column in columns {
+        if is_column(column, name, kind) {
+            return Some(column.bytes.as_slice());
+        }
+    }
+    None
+}

@@ -1,0 +1,87 @@
+// Sealing rows into a block: the times first, and then column by column what is left of the rows' cells.
+ghost use Rattle.std.specs.Prelude.{◌≡◌, ◌<◌, ◌≤◌, length, map, IfOk, slice_index_or, ℕ, [], ◌++◌, Some, ℤ};
+ghost use Rattle.std.specs.List.{AllByRecursion};
+ghost use Rattle.leaf_model.specs.declared.rows.Value.TheVariants.{Int};
+ghost use Rattle.leaf_model.specs.Values.{IsRow, time_name};
+ghost use Rattle.column_bytes.specs.Column.{kind_in};
+ghost use Rattle.column_bytes.specs.Coding.{AreOfKind};
+ghost use Rattle.column_bytes.specs.declared.kind.Kind.TheVariants.{Ints};
+ghost use Rattle.row_blocks.specs.Blocks.{AreTimes, rows_in, times_of};
+ghost use Rattle.row_blocks.specs.Columns.{MeanCells, cells_in};
+ghost use Rattle.row_blocks.specs.Headings.{heading, heading_of};
+ghost use Rattle.row_blocks.specs.Merging.{HoldCells, front_value, lent};
+
+use crate::block::RowBlock;
+use crate::column::{BlockColumn, BlockColumns, ColumnBytes};
+use crate::headings::kind_of;
+use crate::merge::{earliest, front_values, move_on, rests_of};
+use crate::times::{range_of, time_cells, times_of};
+use column_bytes::{Kind, encode};
+use leaf_model::{Cell, Row, Text};
+use std::alloc::{AllocError, Global};
+
+/// The column of the times.
+fn times_column(alloc: Global, times: &[i64]) -> Result<BlockColumn, AllocError>
+    requires some { 0 < length times.now }
+    requires few { length times.now ≤ 65536 }
+    ensures name { IfOk result (λ column. column.name ≡ time_name) }
+    ensures kind { IfOk result (λ column. kind_in column.bytes ≡ Ints) }
+    ensures means { IfOk result (λ column. MeanCells column.bytes (length times.now)) }
+    ensures cells { IfOk result (λ column. cells_in column.bytes ≡ map (λ (t : ℤ). Some (Int t)) times.now) }
+{
+    let cells = time_cells(alloc, times)?;
+    let bytes = encode(alloc, Kind::Ints, &cells)?;
+    Ok(BlockColumn {
+        name: Text::of(String::from_str(alloc, "time")?),
+        bytes: ColumnBytes::of(bytes.into_bytes()),
+    })
+}
+
+/// The column that a cell belongs in, of the first cells of what is left of the rows.
+fn next_column(alloc: Global, like: &Cell, rests: &[&[Cell]]) -> Result<BlockColumn, AllocError>
+    requires some { 0 < length rests.now }
+    requires few { length rests.now ≤ 65536 }
+    requires kind { AreOfKind (heading_of like.now).kind (map (front_value (heading_of like.now)) (lent rests.now)) }
+    ensures heading { IfOk result (λ column. heading column ≡ heading_of like.now) }
+    ensures means { IfOk result (λ column. MeanCells column.bytes (length rests.now)) }
+    ensures cells { IfOk result (λ column. cells_in column.bytes ≡ map (front_value (heading_of like.now)) (lent rests.now)) }
+{
+    let values = front_values(alloc, like, rests)?;
+    let bytes = encode(alloc, kind_of(&like.value), &values)?;
+    Ok(BlockColumn {
+        name: like.name.copy()?,
+        bytes: ColumnBytes::of(bytes.into_bytes()),
+    })
+}
+
+/// The columns of the rows' cells, in their order.
+fn other_columns(alloc: Global, rows: &[Row]) -> Result<Vec<BlockColumn>, AllocError>
+    requires some { 0 < length rows.now }
+    requires few { length rows.now ≤ 65536 }
+    requires rows { AllByRecursion IsRow rows.now }
+    ensures { IfOk result (λ columns. HoldCells rows.now columns.items) }
+{
+    let mut rests = rests_of(alloc, rows)?;
+    let mut columns = Vec::new(alloc);
+    while let Some(like) = earliest(&rests) {
+        columns.push(next_column(alloc, like, &rests)?)?;
+        move_on(like, &mut rests);
+    }
+    Ok(columns)
+}
+
+/// The block of 1 to 65,536 rows.
+pub fn seal(alloc: Global, rows: &[Row]) -> Result<RowBlock, AllocError>
+    requires some { 0 < length rows.now }
+    requires few { length rows.now ≤ 65536 }
+    requires rows { AllByRecursion IsRow rows.now }
+    ensures { IfOk result (λ block. rows_in block ≡ rows.now) }
+{
+    let times = times_of(alloc, rows)?;
+    let range = range_of(&times);
+    let mut others = other_columns(alloc, rows)?;
+    let mut columns = Vec::new(alloc);
+    columns.push(times_column(alloc, &times)?)?;
+    columns.append(&mut others)?;
+    Ok(RowBlock::of(rows.len() as u32, range, BlockColumns::of(columns)))
+}
