@@ -49,18 +49,21 @@ back g h e = ap is_gt (heading_total.antisymm h g ∙ ap ordering_reverse e)
 
 pub earliest_more : (first : Option Cell) (rests : List (List Cell)) (rest : List Cell) → IsEarliest first rests → IsEarliest (earlier first (front rest)) (rests ++ rest ∷ [])
 earliest_more None rests [] is = each_push (λ cells. cells ≡ []) rests [] is refl
-earliest_more None rests (c ∷ cells) is =
-    (somewhere_here c rests (c ∷ cells) refl,
-    each_push (IsNotBefore (heading_of c)) rests (c ∷ cells) (λ i within. subst (IsNotBefore (heading_of c)) (sym (is i within)) tt) (itself c cells))
+earliest_more None rests (c ∷ cells) is = (
+  somewhere_here c rests (c ∷ cells) refl,
+  each_push (IsNotBefore (heading_of c)) rests (c ∷ cells) (λ i within. subst (IsNotBefore (heading_of c)) (sym (is i within)) tt) (itself c cells),
+)
 earliest_more (Some a) rests [] is = (somewhere_before a rests [] is.0, each_push (IsNotBefore (heading_of a)) rests [] is.1 tt)
 earliest_more (Some a) rests (c ∷ cells) is = by (heading_cmp (heading_of a) (heading_of c)) refl
   where
     stays : (heading_cmp (heading_of a) (heading_of c) ≡ Greater → ⊥) → IsEarliest (Some a) (rests ++ (c ∷ cells) ∷ [])
     stays never = (somewhere_before a rests (c ∷ cells) is.0, each_push (IsNotBefore (heading_of a)) rests (c ∷ cells) is.1 never)
+
     by : (o : Ordering) → heading_cmp (heading_of a) (heading_of c) ≡ o → IsEarliest (if is_gt o then Some c else Some a) (rests ++ (c ∷ cells) ∷ [])
     by Less e = stays (λ f. let both : Less ≡ Greater = sym e ∙ f in absurd cc)
     by Equal e = stays (λ f. let both : Equal ≡ Greater = sym e ∙ f in absurd cc)
-    by Greater e =
-        (somewhere_here c rests (c ∷ cells) refl,
-        each_push (IsNotBefore (heading_of c)) rests (c ∷ cells)
-        (λ i within. earlier_still (heading_of c) (heading_of a) (slice_index_or rests i []) (back (heading_of a) (heading_of c) e) (is.1 i within)) (itself c cells))
+    by Greater e = (
+      somewhere_here c rests (c ∷ cells) refl,
+      each_push (IsNotBefore (heading_of c)) rests (c ∷ cells)
+          (λ i within. earlier_still (heading_of c) (heading_of a) (slice_index_or rests i []) (back (heading_of a) (heading_of c) e) (is.1 i within)) (itself c cells),
+    )

@@ -1,5 +1,9 @@
 pub mod Means
+pub mod Values
 pub mod Order
 pub mod Taking
 pub mod Earliest
 pub mod Sealed
+pub mod Standing
+pub mod Accepted
+pub mod Adjacent

@@ -33,6 +33,7 @@ few_cells bytes n mean = let count = mean.count in let few = mean.is.header.fiel
 -- what was written of some cells, in a list of their own
 pub written : (bytes made : List ℕ) (cells all : List (Option Value)) → HasCells bytes (length cells) cells → made ≡ bytes → cells ≡ all → MeanCells made (length all) × (cells_in made ≡ all)
 written bytes made cells all has same same_cells =
-    let is = means bytes (length cells) cells has in
-    (subst (λ (text : List ℕ). MeanCells text (length all)) (sym same) (subst (λ (list : List (Option Value)). MeanCells bytes (length list)) same_cells is.0),
-    ap cells_in same ∙ sym is.1 ∙ same_cells)
+    let is = means bytes (length cells) cells has in (
+      subst (λ (text : List ℕ). MeanCells text (length all)) (sym same) (subst (λ (list : List (Option Value)). MeanCells bytes (length list)) same_cells is.0),
+      ap cells_in same ∙ sym is.1 ∙ same_cells,
+    )

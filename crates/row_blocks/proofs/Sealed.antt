@@ -61,7 +61,7 @@ sealed rows times others some few are timed hold = record {
     name = timed.name;
     kind = timed.kind;
     cells = timed.means;
-    each = λ i within. subst IsTimeCell (sym (time_at rows times i timed within)) (row_is rows i are within).time.0;
+    each = λ i within. subst IsTimeCell (sym (time_at rows times i timed within)) (row_is rows i are within).time;
   };
   each = hold.each;
   ascend = hold.ascend;

@@ -46,7 +46,6 @@ unfolding IsStrictlySortedBy
 sorted_push R [] y sorted below = (tt, tt)
 sorted_push R (x ∷ xs) y sorted below = (all_push (λ z. R x z ≡ Less) xs y sorted.0 below.0, sorted_push R xs y sorted.1 below.1)
 
-
 sorted_back : (xs ys : List Cell) → IsStrictlySortedBy (slice_cmp nat_cmp) (map (λ (c : Cell). c.name) (xs ++ ys)) → IsStrictlySortedBy (slice_cmp nat_cmp) (map (λ (c : Cell). c.name) ys)
 unfolding IsStrictlySortedBy
 sorted_back [] ys sorted = sorted
@@ -241,6 +240,7 @@ front_kind h (c ∷ cells) are = by (heading_cmp h (heading_of c)) refl
     of_value : (value : Value) → IsValue value → IsOfKind (kind_of value) value
     of_value (values.Int n) is = tt
     of_value (values.Text text) is = is.1
+
     by : (o : Ordering) → heading_cmp h (heading_of c) ≡ o → IfSome (if is_eq o then Some c.value else None) (IsOfKind h.kind)
     by Less e = tt
     by Equal e = subst (λ (g : Heading). IsOfKind g.kind c.value) (sym (exact_heading h (heading_of c) e)) (of_value c.value are.each.0.value)

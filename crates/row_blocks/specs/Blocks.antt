@@ -6,7 +6,7 @@ use Rattle.leaf_model.specs.declared.rows.Value.{Value}
 use Rattle.leaf_model.specs.declared.rows.Value.TheVariants as values
 use Rattle.leaf_model.specs.declared.rows.Cell.{Cell}
 use Rattle.leaf_model.specs.declared.rows.Row.{Row}
-use Rattle.leaf_model.specs.Values.{IsRow, IsCellName, time_name}
+use Rattle.leaf_model.specs.Values.{IsRow, IsCellName, IsTime, time_name}
 use Rattle.column_bytes.specs.declared.kind.Kind.{Kind}
 use Rattle.column_bytes.specs.declared.kind.Kind.TheVariants.{Ints, Texts}
 use Rattle.column_bytes.specs.Column.{kind_in}
@@ -50,13 +50,13 @@ rows_in b = map (row_at b.columns) (range_with_len 0 b.rows)
 
 -- ---- which columns are a block
 
--- an integer from 0 up
+-- the cell is a time
 abbrev pub IsTimeCell : Option Value → Type 0
-IsTimeCell (Some (values.Int n)) = pos 0 ≤ℤ n
+IsTimeCell (Some (values.Int n)) = IsTime n
 IsTimeCell (Some (values.Text text)) = ⊥
 IsTimeCell None = ⊥
 
--- integers named `time`, each there and none below 0
+-- integers named `time`, each there and a time
 pub record AreTimes (rows : ℕ) (c : BlockColumn) : Type 0 where
   pub name : c.name ≡ time_name
   pub kind : kind_in c.bytes ≡ Ints

@@ -1,6 +1,7 @@
 -- What any bytes mean as a column: their fields decide, and no encoder is run.
-use Rattle.std.specs.Prelude.{◌≡◌, ℕ, List, length, Option, unwrap_or, slice_index}
+use Rattle.std.specs.Prelude.{◌≡◌, ℕ, ◌<◌, List, length, Option, None, IfSome, unwrap_or, slice_index, slice_index_or}
 use Rattle.leaf_model.specs.declared.rows.Value.{Value}
+use Rattle.leaf_model.specs.Values.{IsValue}
 use Rattle.column_bytes.specs.declared.form.Form.{Form}
 use Rattle.column_bytes.specs.declared.form.Form.TheVariants.{Offset}
 use Rattle.column_bytes.specs.Cells.{Coded, cells_of, kind_of}
@@ -18,8 +19,9 @@ cells_in bytes = cells_of (coded_in (form_in bytes) bytes)
 unfoldable pub MeanCells : List ℕ → ℕ → Type 0
 MeanCells bytes n = HasCells bytes n (cells_in bytes)
 
--- what was read of the bytes is what they mean
+-- what was read of the bytes is what they mean, and each cell that is there is a value
 pub record IsSeen (view : Coded) (bytes : List ℕ) : Type 0 where
   pub mean : MeanCells bytes (length view.codes)
   pub cells : cells_of view ≡ cells_in bytes
   pub kind : kind_of view.book ≡ kind_in bytes
+  pub values : (i : ℕ) → i < length view.codes → IfSome (slice_index_or (cells_in bytes) i None) IsValue

@@ -2,3 +2,6 @@ pub mod Columns
 pub mod Headings
 pub mod Blocks
 pub mod Merging
+pub mod Places
+pub mod Times
+pub mod Deciding

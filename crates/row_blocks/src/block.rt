@@ -2,21 +2,17 @@
 ghost use Rattle.std.specs.Prelude.{◌≡◌, ◌<◌, ◌≤◌, length, option_map, IfOk, IfErr};
 ghost use Rattle.std.specs.List.{find};
 ghost use Rattle.row_blocks.specs.declared.column.BlockColumn.{BlockColumn};
+ghost use Rattle.row_blocks.specs.declared.fault.BlockFault.TheVariants.{NoRows};
 ghost use Rattle.row_blocks.specs.Blocks.{Block, IsBlock, IsRange, is_column, rows_in, times_of};
 
+use crate::accepting::range_of_block;
 use crate::column::{BlockColumn, BlockColumns};
+use crate::fault::BlockFault;
 use crate::headings::kind_in;
 use column_bytes::Kind;
 use leaf_model::Text;
+use std::alloc::Global;
 use std::marker::Model;
-
-/// Why columns are no block.
-#[derive(Debug, Clone, Copy, PartialEq, Eq)]
-pub enum BlockFault {
-    /// They break a rule of a block.
-    NoRows,
-    NoMemory,
-}
 
 /// 1 to 65,536 rows as columns, and their least and greatest time. Contracts see the number of rows and the columns.
 #[derive(Debug, Drop)]
@@ -94,6 +90,22 @@ impl RowBlock {
         ensures block { IsBlock self }
     {
         self.columns
+    }
+
+    /// The block that these columns are, whatever their bytes are. NoRows exactly where they break a rule of a block.
+    pub fn from_columns(
+        alloc: Global,
+        rows: u32,
+        columns: BlockColumns,
+    ) -> Result<RowBlock, BlockFault>
+        ensures accepted { IfOk result (λ block. block ≡ record { rows = rows; columns = columns }) }
+        ensures block { IfOk result IsBlock }
+        ensures refused { IfErr result (λ e. e ≡ NoRows → IsBlock (record { rows = rows; columns = columns }) → ⊥) }
+    {
+        match range_of_block(alloc, rows, columns.as_slice()) {
+            Ok(range) => Ok(RowBlock::of(rows, range, columns)),
+            Err(fault) => Err(fault),
+        }
     }
 }
 

@@ -1,16 +1,21 @@
 //! Sealed blocks: up to 65,536 rows as columns of bytes, with their least and greatest time.
 #![tactic(auto)]
 
+mod accepting;
 mod block;
 mod blocks;
 mod column;
+mod fault;
 mod headings;
 mod merge;
+mod places;
 mod reading;
+mod rules;
 mod sealing;
 mod times;
 
-pub use block::{BlockFault, RowBlock};
+pub use block::RowBlock;
 pub use blocks::Blocks;
 pub use column::{BlockColumn, BlockColumns, ColumnBytes};
+pub use fault::BlockFault;
 pub use sealing::seal;

@@ -52,5 +52,8 @@ pub(crate) fn times_of(alloc: Global, rows: &[Row]) -> Result<Vec<i64>, AllocErr
 pub(crate) fn time_cells(alloc: Global, times: &[i64]) -> Result<Vec<Option<Value>>, AllocError>
     ensures { IfOk result (λ cells. cells.items ≡ map (λ (t : ℤ). Some (Int t)) times.now) }
 {
-    times.iter().map(|time| Some(Value::Int(*time))).collect(alloc)
+    times
+        .iter()
+        .map(|time| Some(Value::Int(*time)))
+        .collect(alloc)
 }

@@ -1,0 +1,93 @@
+// Whether what stands at each place of a block is a row.
+ghost use Rattle.std.specs.Prelude.{◌≡◌, ◌↔◌, ℕ, ◌<◌, ◌≤◌, [], length, IsTrue, is_some, option_map, slice_index_or};
+ghost use Rattle.std.specs.List.{AllByRecursion};
+ghost use Rattle.row_blocks.specs.Blocks.{IsOther, cells_at, value_in};
+ghost use Rattle.row_blocks.specs.Places.{AreSeen, FitARow, last_name, next_of, no_column};
+
+use crate::column::BlockColumn;
+use crate::rules::have_own_names;
+use column_bytes::ColumnView;
+
+/// Whether a column has a cell at a place.
+fn has_cell(columns: &[BlockColumn], views: &[ColumnView], k: usize, i: u32, rows: u32) -> bool
+    requires each { AllByRecursion (IsOther rows) columns.now }
+    requires seen { AreSeen views.now columns.now }
+    requires inside { i < rows }
+    requires column { k < length columns.now }
+    ensures { result ≡ is_some (value_in (slice_index_or columns.now k no_column).bytes i) }
+{
+    views[k].cell(i).is_some()
+}
+
+/// The name of the last cell so far and of one column more, unless the names do not ascend.
+fn next_name<'a>(last: &'a [u8], column: &'a BlockColumn, has_cell: bool) -> Option<&'a [u8]>
+    ensures { option_map (λ n. n.now) result ≡ next_of last.now column.now.name has_cell }
+{
+    let name = column.name.as_str().as_bytes();
+    if !has_cell {
+        Some(last)
+    } else if last.cmp(name).is_lt() {
+        Some(name)
+    } else {
+        None
+    }
+}
+
+/// Whether the names of the cells at a place ascend.
+fn do_names_ascend(columns: &[BlockColumn], views: &[ColumnView], i: u32, rows: u32) -> bool
+    requires each { AllByRecursion (IsOther rows) columns.now }
+    requires seen { AreSeen views.now columns.now }
+    requires inside { i < rows }
+    ensures { result ≡ is_some (last_name i columns.now []) }
+{
+    let mut last: &[u8] = &[];
+    for k in 0..columns.len() {
+        let there = has_cell(columns, views, k, i, rows);
+        match next_name(last, &columns[k], there) {
+            Some(name) => last = name,
+            None => return false,
+        }
+    }
+    true
+}
+
+/// How many cells there are at a place.
+fn count_at(columns: &[BlockColumn], views: &[ColumnView], i: u32, rows: u32) -> usize
+    requires each { AllByRecursion (IsOther rows) columns.now }
+    requires seen { AreSeen views.now columns.now }
+    requires inside { i < rows }
+    ensures { result ≡ length (cells_at i columns.now) }
+{
+    let mut count = 0;
+    for k in 0..columns.len() {
+        count += usize::from(has_cell(columns, views, k, i, rows));
+    }
+    count
+}
+
+/// Whether the cells at a place are those of a row.
+fn fit_a_row(columns: &[BlockColumn], views: &[ColumnView], i: u32, rows: u32) -> bool
+    requires each { AllByRecursion (IsOther rows) columns.now }
+    requires seen { AreSeen views.now columns.now }
+    requires inside { i < rows }
+    ensures { IsTrue result ↔ FitARow (cells_at i columns.now) }
+{
+    count_at(columns, views, i, rows) <= 1024 && do_names_ascend(columns, views, i, rows)
+}
+
+/// Whether the cells at each place are those of a row. Where no two columns have one name, and there are few, they are.
+pub(crate) fn fit_rows(columns: &[BlockColumn], views: &[ColumnView], rows: u32) -> bool
+    requires each { AllByRecursion (IsOther rows) columns.now }
+    requires seen { AreSeen views.now columns.now }
+    ensures { IsTrue result ↔ ((i : ℕ) → i < rows → FitARow (cells_at i columns.now)) }
+{
+    if columns.len() <= 1024 && have_own_names(columns) {
+        return true;
+    }
+    for i in 0..rows {
+        if !fit_a_row(columns, views, i, rows) {
+            return false;
+        }
+    }
+    true
+}
