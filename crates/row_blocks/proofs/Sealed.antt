@@ -1,6 +1,6 @@
 -- The times and the columns of the other cells are a block, which means the rows.
-use Rattle.std.proofs.Common.{◌≡◌, ℕ, ◌<◌, ◌≤◌, List, [], ◌∷◌, length, map, slice_index_or, ℤ, pos, Option, Some, None, refl, sym, ap, subst, ◌∙◌, arith}
-use Rattle.std.specs.List.{AllByRecursion, range_with_len}
+use Rattle.std.proofs.Common.{◌≡◌, ℕ, ◌<◌, ◌≤◌, List, ◌∷◌, length, map, slice_index_or, ℤ, pos, Option, Some, None, refl, sym, ap, subst, ◌∙◌, arith}
+use Rattle.std.specs.List.{AllByRecursion}
 use Rattle.std.proofs.lemmas.List.{get_or-map, length-map}
 use Rattle.std.proofs.lemmas.List.FromFn.{fill_by_all}
 use Rattle.leaf_model.specs.declared.rows.Value.{Value}
@@ -12,7 +12,7 @@ use Rattle.column_bytes.specs.Column.{kind_in}
 use Rattle.column_bytes.specs.declared.kind.Kind.TheVariants.{Ints}
 use Rattle.row_blocks.specs.declared.column.BlockColumn.{BlockColumn}
 use Rattle.row_blocks.specs.Columns.{MeanCells, cells_in}
-use Rattle.row_blocks.specs.Blocks.{AreTimes, Block, IsBlock, IsRange, IsTimeCell, row_at, rows_in, time_of, times_of, value_in}
+use Rattle.row_blocks.specs.Blocks.{Block, IsBlock, IsRange, IsTimeCell, row_at, rows_in, time_of, times_of, value_in}
 use Rattle.row_blocks.specs.Merging.{HoldCells}
 use Rattle.row_blocks.proofs.Taking.{cells_at_row, no_row, row_is}
 

@@ -2,7 +2,7 @@
 use Rattle.std.proofs.Common.{◌≡◌, ℕ, zero, suc, ◌+◌, ◌<◌, ◌≤◌, Bool, true, false, List, [], ◌∷◌, ◌++◌, length, map, take, drop, slice_index_or, Option, Some, None, IfSome, is_some, option_map, if◌then◌else◌, refl, sym, ap, subst, ◌∙◌, arith}
 use Rattle.std.specs.Option.{option_and_then}
 use Rattle.std.specs.Int.{from_bool}
-use Rattle.std.specs.List.{AllByRecursion, AllZip}
+use Rattle.std.specs.List.{AllByRecursion}
 use Rattle.std.specs.List.Sorted.{IsStrictlySortedBy}
 use Rattle.std.specs.Cmp.Lexicographic.{slice_cmp}
 use Rattle.std.specs.Ordering.{nat_cmp, is_lt}
@@ -14,11 +14,11 @@ use Rattle.std.proofs.lemmas.List.Concat.{flat_map-append}
 use Rattle.std.proofs.lemmas.List.FromFn.{get_or-map-range_with_len}
 use Rattle.leaf_model.specs.declared.rows.Value.{Value}
 use Rattle.leaf_model.specs.declared.rows.Cell.{Cell}
-use Rattle.leaf_model.specs.Values.{IsCell, IsCellName, IsValue}
+use Rattle.leaf_model.specs.Values.{IsCell, IsValue}
 use Rattle.leaf_model.specs.Groups.{text_cmp}
 use Rattle.column_bytes.specs.Cells.{Coded, cell_at}
 use Rattle.row_blocks.specs.declared.column.BlockColumn.{BlockColumn}
-use Rattle.row_blocks.specs.Columns.{IsSeen, MeanCells, cells_in}
+use Rattle.row_blocks.specs.Columns.{IsSeen}
 use Rattle.row_blocks.specs.Blocks.{IsOther, cell_of, cells_at, value_in}
 use Rattle.row_blocks.specs.Places.{AreSeen, FitARow, last_name, names_of, next_of, no_column}
 use Rattle.row_blocks.proofs.Means.{one_count}

@@ -1,5 +1,5 @@
 -- What a column's cells hold are values.
-use Rattle.std.proofs.Common.{◌≡◌, ℕ, zero, suc, ◌+◌, ◌-◌, ◌*◌, ◌/◌, ◌<◌, ◌≤◌, ◌^◌, ◌%◌, ◌+ℤ◌, Bool, true, false, cond, eqb, ltb, List, [], ◌∷◌, length, drop, slice_index, slice_index_or, ℤ, pos, negsuc, Option, Some, None, IfSome, if◌then◌else◌, refl, sym, ap, subst, ◌∙◌, arith}
+use Rattle.std.proofs.Common.{◌≡◌, ℕ, zero, suc, ◌+◌, ◌-◌, ◌*◌, ◌/◌, ◌<◌, ◌≤◌, ◌^◌, ◌%◌, ◌+ℤ◌, Bool, true, false, cond, eqb, ltb, List, length, drop, slice_index, slice_index_or, ℤ, pos, negsuc, Option, Some, None, IfSome, if◌then◌else◌, refl, sym, ap, subst, ◌∙◌, arith}
 use Rattle.std.specs.Prelude.{FitsSigned, IsUtf8}
 use Rattle.std.specs.Int.{w64, cast_signed, div_ceil}
 use Rattle.std.proofs.lemmas.Int.{SFits-int_wrap, ints}
@@ -9,13 +9,12 @@ use Rattle.std.proofs.lemmas.List.FromFn.{get_or-map-range_with_len, length-map-
 use Rattle.byteorder.specs.Endian.{little_number}
 use Rattle.byteorder.specs.Numbers.{little_from-lt}
 use Rattle.leaf_model.specs.declared.rows.Value.{Value}
-use Rattle.leaf_model.specs.declared.rows.Value.TheVariants as values
 use Rattle.leaf_model.specs.Values.{IsValue}
 use Rattle.delta_codes.specs.Slots.{after, slot, unzigzag}
 use Rattle.column_bytes.specs.declared.form.Form.{Form}
 use Rattle.column_bytes.specs.declared.form.Form.TheVariants as forms
 use Rattle.column_bytes.specs.Fields.{i64_at, u64_at}
-use Rattle.column_bytes.specs.Dictionary.{text_at, text_count, texts_at}
+use Rattle.column_bytes.specs.Dictionary.{text_count}
 use Rattle.column_bytes.specs.Cells.{IsCode, IsExtra, anchors_at, book_of, cell_at, value_at}
 use Rattle.column_bytes.specs.Column.{IsColumn, coded_in, codes_part, count_in, extra_from, extra_part, width_in}
 use Rattle.column_bytes.proofs.Parts.{anchors_at_place, length-codes, length-texts, texts_at_place}

@@ -1,5 +1,5 @@
 -- What tells the columns of a block apart, and their order.
-use Rattle.std.specs.Prelude.{◌≡◌, ℕ, List}
+use Rattle.std.specs.Prelude.{ℕ, List}
 use Rattle.std.specs.declared.cmp.Ordering.{Ordering}
 use Rattle.std.specs.Ordering.{nat_cmp, ordering_then}
 use Rattle.leaf_model.specs.declared.rows.Value.{Value}

@@ -1,4 +1,4 @@
-use Rattle.std.proofs.Common.{◌≡◌, ◌<◌, List, length, ℤ, sym, subst}
+use Rattle.std.proofs.Common.{◌<◌, List, length, ℤ, sym, subst}
 use Rattle.row_blocks.specs.Blocks.{IsRange}
 use Rattle.row_blocks.proofs.Accepted.{AreParts, block_is, parts_are, range_is, some_times}
 use Rattle.row_blocks.proofs.accepting.range_of_parts.Goals as goal

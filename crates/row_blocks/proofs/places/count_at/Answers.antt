@@ -1,4 +1,4 @@
-use Rattle.std.proofs.Common.{◌≡◌, ◌+◌, slice_index_or, is_some, ap, ◌∙◌, arith}
+use Rattle.std.proofs.Common.{◌+◌, slice_index_or, is_some, ap, ◌∙◌, arith}
 use Rattle.std.specs.Int.{from_bool}
 use Rattle.row_blocks.specs.Blocks.{value_in}
 use Rattle.row_blocks.specs.Places.{no_column}

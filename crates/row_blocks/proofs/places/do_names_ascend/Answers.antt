@@ -1,4 +1,4 @@
-use Rattle.std.proofs.Common.{◌≡◌, List, [], Option, Some, None, is_some, ap, ◌∙◌, arith}
+use Rattle.std.proofs.Common.{[], Some, None, is_some, ap, ◌∙◌}
 use Rattle.std.proofs.lemmas.List.{get_or_default}
 use Rattle.row_blocks.specs.Places.{last_name, no_column}
 use Rattle.row_blocks.proofs.Standing.{no_further, one_further}

@@ -1,4 +1,4 @@
-use Rattle.std.proofs.Common.{refl, arith}
+use Rattle.std.proofs.Common.{refl}
 use Rattle.row_blocks.proofs.Standing.{own_names_fit}
 use Rattle.row_blocks.proofs.places.fit_rows.Goals as goal
 

@@ -1,4 +1,4 @@
-use Rattle.std.proofs.Common.{◌≡◌, refl, sym, ap, ◌∙◌, arith}
+use Rattle.std.proofs.Common.{refl, sym, ap, ◌∙◌, arith}
 use Rattle.std.specs.Ordering.{is_lt}
 use Rattle.row_blocks.specs.Headings.{heading, heading_cmp}
 use Rattle.row_blocks.proofs.Adjacent.{one_before, sorted_by}

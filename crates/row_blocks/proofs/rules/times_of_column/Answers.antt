@@ -1,4 +1,4 @@
-use Rattle.std.proofs.Common.{◌≡◌, List, ℕ, ap, subst}
+use Rattle.std.proofs.Common.{List, ℕ, ap, subst}
 use Rattle.column_bytes.specs.Column.{kind_in}
 use Rattle.row_blocks.specs.Columns.{IsSeen, MeanCells}
 use Rattle.row_blocks.proofs.rules.times_of_column.Goals as goal

@@ -1,4 +1,4 @@
-use Rattle.std.proofs.Common.{◌≡◌, List, length, map, ap, subst, ◌∙◌, Bor}
+use Rattle.std.proofs.Common.{List, map, subst, ◌∙◌, Bor}
 use Rattle.std.proofs.lemmas.List.{length-map}
 use Rattle.leaf_model.specs.declared.rows.Cell.{Cell}
 use Rattle.row_blocks.specs.Columns.{MeanCells}

@@ -1,4 +1,4 @@
-use Rattle.std.proofs.Common.{◌≡◌, ℕ, ◌+◌, ◌<◌, List, [], ◌∷◌, ◌++◌, length, map, Option, Some, refl, sym, ap, subst, ◌∙◌, Bor, arith}
+use Rattle.std.proofs.Common.{◌≡◌, ◌<◌, List, [], ◌∷◌, ◌++◌, length, map, Some, sym, ap, subst, ◌∙◌, Bor}
 use Rattle.std.proofs.lemmas.List.{length-map, with_items_is}
 use Rattle.leaf_model.specs.declared.rows.Cell.{Cell}
 use Rattle.column_bytes.specs.Coding.{AreOfKind}

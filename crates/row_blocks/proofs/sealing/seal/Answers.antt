@@ -1,8 +1,7 @@
 use Rattle.std.proofs.Common.{◌≡◌, List, [], ◌∷◌, ◌++◌, length, ℤ, sym, ap, subst, ◌∙◌}
-use Rattle.leaf_model.specs.declared.rows.Row.{Row}
 use Rattle.row_blocks.specs.declared.column.BlockColumn.{BlockColumn}
 use Rattle.row_blocks.specs.Blocks.{IsBlock, IsRange, rows_in, times_of}
-use Rattle.row_blocks.proofs.Sealed.{HoldsTimes, holds_times, means_rows, sealed, sealed_range}
+use Rattle.row_blocks.proofs.Sealed.{holds_times, means_rows, sealed, sealed_range}
 use Rattle.row_blocks.proofs.sealing.seal.Goals as goal
 
 pub of-requires-2-clause-block : goal.of-requires-2-clause-block
