@@ -37,6 +37,8 @@ pub names_are : (commands : List Command) → AreCommands commands → 0 < lengt
 names_are [] c some = absurd (omega (arith, some))
 names_are (command.Fleet m p tables ∷ more) c some = tables_are_names tables c.2
 names_are (command.Add leaf table rows ∷ more) c some = absurd c
+names_are (command.Expire leaf table horizon ∷ more) c some = absurd c
+names_are (command.Keep leaf table n ∷ more) c some = absurd c
 names_are (command.Query q ∷ more) c some = absurd c
 names_are (command.Flush leaf table ∷ more) c some = absurd c
 names_are (command.Drain leaf stop ∷ more) c some = absurd c
@@ -48,6 +50,8 @@ names_are (command.Start leaf ∷ more) c some = absurd c
 may_later : (names : List (List ℕ)) (c : Command) → IsCommand names c → MayPlay names c
 may_later names (command.Fleet m p ts) h = absurd h
 may_later names (command.Add leaf table rows) h = h
+may_later names (command.Expire leaf table horizon) h = h
+may_later names (command.Keep leaf table n) h = h
 may_later names (command.Query q) h = h
 may_later names (command.Flush leaf table) h = h
 may_later names (command.Drain leaf stop) h = h
@@ -58,6 +62,8 @@ pub all_may_play : (commands : List Command) → AreCommands commands → AllByR
 all_may_play [] c = tt
 all_may_play (command.Fleet m p tables ∷ more) c = (tt, All-weaken (IsCommand tables) (MayPlay tables) (may_later tables) more c.3)
 all_may_play (command.Add leaf table rows ∷ more) c = absurd c
+all_may_play (command.Expire leaf table horizon ∷ more) c = absurd c
+all_may_play (command.Keep leaf table n ∷ more) c = absurd c
 all_may_play (command.Query q ∷ more) c = absurd c
 all_may_play (command.Flush leaf table ∷ more) c = absurd c
 all_may_play (command.Drain leaf stop ∷ more) c = absurd c
@@ -115,6 +121,8 @@ some_commands : (commands : List Command) → AreCommands commands → 0 < lengt
 some_commands [] c some = absurd (omega (arith, some))
 some_commands (command.Fleet m p tables ∷ more) c some = one_fleet m p tables c.0 c.1
 some_commands (command.Add leaf table rows ∷ more) c some = absurd c
+some_commands (command.Expire leaf table horizon ∷ more) c some = absurd c
+some_commands (command.Keep leaf table n ∷ more) c some = absurd c
 some_commands (command.Query q ∷ more) c some = absurd c
 some_commands (command.Flush leaf table ∷ more) c some = absurd c
 some_commands (command.Drain leaf stop ∷ more) c some = absurd c

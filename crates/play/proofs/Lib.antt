@@ -1,4 +1,3 @@
-pub mod Numbers
 pub mod Counts
 pub mod Plays
 pub mod Fleets

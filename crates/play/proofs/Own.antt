@@ -1,5 +1,5 @@
 -- The faults of a text alone are its own: none of them is that of a caller's limit.
-use Rattle.std.proofs.Common.{◌≡◌, ℕ, zero, suc, ◌+◌, Bool, true, false, List, [], ◌∷◌, length, subst, Option, Some, None, Result, Ok, Err}
+use Rattle.std.proofs.Common.{◌≡◌, ℕ, zero, suc, ◌+◌, Bool, true, false, List, [], ◌∷◌, length, ℤ, subst, Option, Some, None, Result, Ok, Err}
 use Rattle.std.specs.Prelude.{if◌then◌else◌, take, nat_lt}
 use Rattle.berth_face.specs.Streams.{ReadsAll, TakesAtMost}
 use Rattle.leaf_model.specs.declared.queries.Query.{Query}
@@ -16,7 +16,7 @@ use Rattle.script_text.specs.Lines.{lines_of, is_skipped}
 use Rattle.script_text.specs.Words.{words_of, first_word, behind_word, trimmed, place_of}
 use Rattle.query_text.specs.Reading.{query_of}
 use Rattle.query_text.specs.declared.fault.QueryFault.{QueryFault}
-use Rattle.script_text.specs.Commands.{Fault, AddForm, or_words, fleet_of, add_words, one_row, with_first, rows_from, add_rows, add_at, add_of, query_at, one_query, query_command, one_number, leaf_of, flush_at, flush_of, flush_words, kill_of, FlushForm, DrainForm, drain_words, drain_of, start_of, first_command, later_command, command_of, verb_of, leaves}
+use Rattle.script_text.specs.Commands.{Fault, AddForm, or_words, fleet_of, add_words, one_row, with_first, rows_from, add_rows, add_at, add_of, query_at, one_query, query_command, one_number, leaf_of, ExpireForm, expire_at, expire_of, expire_words, KeepForm, keep_at, keep_of, keep_words, flush_at, flush_of, flush_words, kill_of, FlushForm, DrainForm, drain_words, drain_of, start_of, first_command, later_command, command_of, verb_of, leaves}
 use Rattle.script_text.specs.Script.{rows_taken, fleet_after, commands_from, number_in, next_line, script_with, script_of}
 use Rattle.script_text.specs.declared.fault.ScriptFault.{ScriptFault}
 use Rattle.script_text.specs.declared.fault.ScriptFault.TheVariants.{At, NoMemory}
@@ -104,6 +104,24 @@ own_flush n tables None = tt
 own_flush n tables (Some flush) =
     own_if (nat_lt flush.leaf leaves) (flush_at n flush.leaf (place_of tables flush.table)) (Err (n, why.Leaf)) (own_flush_at n flush.leaf (place_of tables flush.table)) tt
 
+own_expire_at : (n leaf : ℕ) (horizon : ℤ) (place : Option ℕ) → Own (expire_at n leaf horizon place)
+own_expire_at n leaf horizon None = tt
+own_expire_at n leaf horizon (Some table) = tt
+
+own_expire : (n : ℕ) (tables : List (List ℕ)) (form : Option ExpireForm) → Own (expire_of n tables form)
+own_expire n tables None = tt
+own_expire n tables (Some form) =
+    own_if (nat_lt form.leaf leaves) (expire_at n form.leaf form.horizon (place_of tables form.table)) (Err (n, why.Leaf)) (own_expire_at n form.leaf form.horizon (place_of tables form.table)) tt
+
+own_keep_at : (n leaf : ℕ) (k : ℕ) (place : Option ℕ) → Own (keep_at n leaf k place)
+own_keep_at n leaf k None = tt
+own_keep_at n leaf k (Some table) = tt
+
+own_keep : (n : ℕ) (tables : List (List ℕ)) (form : Option KeepForm) → Own (keep_of n tables form)
+own_keep n tables None = tt
+own_keep n tables (Some form) =
+    own_if (nat_lt form.leaf leaves) (keep_at n form.leaf form.n (place_of tables form.table)) (Err (n, why.Leaf)) (own_keep_at n form.leaf form.n (place_of tables form.table)) tt
+
 own_kill : (r : Result ℕ Fault) → Own r → Own (kill_of r)
 own_kill (Ok leaf) h = tt
 own_kill (Err found) h = h
@@ -116,6 +134,8 @@ own_first_command : (n : ℕ) (line : List ℕ) (v : Option Verb) → Own (first
 own_first_command n line None = tt
 own_first_command n line (Some verb.Fleet) = own_words n (fleet_of (words_of (behind_word line)))
 own_first_command n line (Some verb.Add) = tt
+own_first_command n line (Some verb.Expire) = tt
+own_first_command n line (Some verb.Keep) = tt
 own_first_command n line (Some verb.Query) = tt
 own_first_command n line (Some verb.Flush) = tt
 own_first_command n line (Some verb.Drain) = tt
@@ -126,6 +146,8 @@ own_later : (n : ℕ) (tables : List (List ℕ)) (line : List ℕ) (more : List 
 own_later n tables line more None = tt
 own_later n tables line more (Some verb.Fleet) = tt
 own_later n tables line more (Some verb.Add) = own_add n tables (add_words (words_of (behind_word line))) more
+own_later n tables line more (Some verb.Expire) = own_expire n tables (expire_words (words_of (behind_word line)))
+own_later n tables line more (Some verb.Keep) = own_keep n tables (keep_words (words_of (behind_word line)))
 own_later n tables line more (Some verb.Query) = own_query n tables (query_of (trimmed (behind_word line)))
 own_later n tables line more (Some verb.Flush) = own_flush n tables (flush_words (words_of (behind_word line)))
 own_later n tables line more (Some verb.Kill) = own_kill (leaf_of n (one_number (words_of (behind_word line)))) (own_leaf n (one_number (words_of (behind_word line))))

@@ -3,7 +3,6 @@ use Rattle.std.proofs.Common.{◌≡◌, ℕ, ◌<◌, Bool, List, [], ◌∷◌
 use Rattle.std.specs.Prelude.{IfOk}
 use Rattle.std.specs.List.{AllByRecursion}
 use Rattle.std.proofs.lemmas.Result.{IfOk-weaker}
-use Rattle.leaf_model.specs.declared.rows.Row.{Row}
 use Rattle.leaf_model.specs.declared.queries.Query.{Query}
 use Rattle.leaf_history.specs.Calls as call
 use Rattle.leaf_table.specs.declared.replies.Reply.{Reply}
@@ -18,8 +17,8 @@ use Rattle.transcript.specs.Pieces as printed
 use Rattle.transcript.specs.Pieces.{Piece, Deed, lines_in, piece_lines}
 use Rattle.transcript.specs.Shapes.{named}
 use Rattle.transcript.specs.Counts.{deeds_in}
-use Rattle.transcript.specs.Steps.{AddStep, AnswersWith, CallStep, IsReplyPiece, QueryStep, this_leaf}
-use Rattle.player.specs.Stage.{Called, Calls, IsAnswer, IsKnown, named_by_reply}
+use Rattle.transcript.specs.Steps.{AnswersWith, CallStep, IsReplyPiece, OneCall, QueryStep, this_leaf}
+use Rattle.player.specs.Stage.{Called, Calls, IsAnswer, named_by_reply}
 use Rattle.player.specs.Lines.{CallsWith, reply_line, rows_of_reply}
 use Rattle.player.proofs.CommandLines.{one_piece}
 
@@ -44,20 +43,20 @@ entry_piece table c r number s says is = record {
   fits = λ names within. subst (IsOf names) (sym is) within;
 }
 
-call_piece : (table : ℕ) (c : call.Call) (r : Reply) → IsKnown r → CallPiece table c r
-call_piece table c (told.Added number kept late) known = entry_piece table c (told.Added number kept late) number (said.Added kept late) refl refl
-call_piece table c (told.Groups number gs) known = entry_piece table c (told.Groups number gs) number said.Asked refl refl
-call_piece table c (told.Shut number) known = entry_piece table c (told.Shut number) number said.RefusedShut refl refl
-call_piece table c (told.Full number) known = entry_piece table c (told.Full number) number said.RefusedFull refl refl
-call_piece table c (told.NoMemory number) known = entry_piece table c (told.NoMemory number) number said.RefusedMemory refl refl
-call_piece table c told.Worn known = record {
+call_piece : (table : ℕ) (c : call.Call) (r : Reply) → CallPiece table c r
+call_piece table c (told.Added number kept late) = entry_piece table c (told.Added number kept late) number (said.Added kept late) refl refl
+call_piece table c (told.Removed number rows) = entry_piece table c (told.Removed number rows) number (said.Removed rows) refl refl
+call_piece table c (told.Groups number gs) = entry_piece table c (told.Groups number gs) number said.Asked refl refl
+call_piece table c (told.Shut number) = entry_piece table c (told.Shut number) number said.RefusedShut refl refl
+call_piece table c (told.Full number) = entry_piece table c (told.Full number) number said.RefusedFull refl refl
+call_piece table c (told.NoMemory number) = entry_piece table c (told.NoMemory number) number said.RefusedMemory refl refl
+call_piece table c told.Worn = record {
   piece = printed.Worn this_leaf table;
   says = refl;
   line_is = refl;
   calm = λ test rest. refl;
   fits = λ names within. within;
 }
-call_piece table c (told.Removed number rows) known = absurd known
 
 call_step : (table : ℕ) (c : call.Call) (x y : Called) (r : Reply) (p : Piece) → Calls table c x r y → IsReplyPiece this_leaf table c r p → CallStep table c x.tables x.seats p y.seats
 call_step table c x y r p calls says = record {
@@ -72,17 +71,17 @@ call_step table c x y r p calls says = record {
   says = says;
 }
 
--- ---- an add
+-- ---- a command of one call
 
-pub add_calls : {E : Type 0} (names : List (List ℕ)) (table : ℕ) (rows : List Row) (x y : Called) (r : Reply) (result : Result (Vec Line Global) E)
-    → Calls table (call.Add rows) x r y → IsKnown r → table < length names → IfOk result (λ lines. lines.items ≡ reply_line table r ∷ [])
-    → CallsWith names (λ pieces. AddStep table rows x.tables x.seats pieces y.seats) result
-add_calls names table rows x y r result calls known within told =
-    let p : CallPiece table (call.Add rows) r = call_piece table (call.Add rows) r known in
+pub one_call : {E : Type 0} (names : List (List ℕ)) (table : ℕ) (c : call.Call) (x y : Called) (r : Reply) (result : Result (Vec Line Global) E)
+    → Calls table c x r y → table < length names → IfOk result (λ lines. lines.items ≡ reply_line table r ∷ [])
+    → CallsWith names (λ pieces. OneCall table c x.tables x.seats pieces y.seats) result
+one_call names table c x y r result calls within told =
+    let p : CallPiece table c r = call_piece table c r in
     let lines_are : lines_in (p.piece ∷ []) ≡ reply_line table r ∷ [] = one_piece p.piece ∙ p.line_is in
     record {
       pieces = p.piece ∷ [];
-      step = record { piece = p.piece; calls = call_step table (call.Add rows) x y r p.piece calls p.says; pieces_are = refl };
+      step = record { piece = p.piece; calls = call_step table c x y r p.piece calls p.says; pieces_are = refl };
       calm = λ test. p.calm test [];
       fit = subst (AllByRecursion (IsOf names)) (sym lines_are) (p.fits names within, tt);
       lines_are = IfOk-weaker result (λ lines. lines.items ≡ reply_line table r ∷ []) (λ lines. lines.items ≡ lines_in (p.piece ∷ [])) (λ lines are. are ∙ sym lines_are) told;
@@ -110,12 +109,12 @@ answers_with q (told.Removed number rows) is = absurd is
 answers_with q (told.Full number) is = absurd is
 
 pub query_calls : {E : Type 0} (names : List (List ℕ)) (table : ℕ) (q : Query) (x y : Called) (r : Reply) (result : Result (Vec Line Global) E)
-    → Calls table (call.Ask q) x r y → IsKnown r → IsAnswer r → table < length names
+    → Calls table (call.Ask q) x r y → IsAnswer r → table < length names
     → IfOk result (λ lines. lines.items ≡ reply_line table r ∷ line.Answer (named_by_reply r) 1 (rows_of_reply q r) ∷ [])
     → CallsWith names (λ pieces. QueryStep table q x.tables x.seats pieces y.seats) result
 unfolding call_step
-query_calls names table q x y r result calls known is within told =
-    let p : CallPiece table (call.Ask q) r = call_piece table (call.Ask q) r known in
+query_calls names table q x y r result calls is within told =
+    let p : CallPiece table (call.Ask q) r = call_piece table (call.Ask q) r in
     let answer = line.Answer (named_by_reply r) 1 (rows_of_reply q r) in
     let lines_are : lines_in (p.piece ∷ printed.Says answer ∷ []) ≡ reply_line table r ∷ answer ∷ [] = ap (λ (ls : List Line). ls ++ answer ∷ []) p.line_is in
     record {

@@ -24,12 +24,12 @@ use Rattle.transcript.specs.Steps.{DeedStep, noted, noted_all, this_leaf}
 -- the line of a call that had this reply
 abbrev pub reply_line : ℕ → Reply → Line
 reply_line table (told.Added number kept late) = line.Entry this_leaf table number (said.Added kept late)
+reply_line table (told.Removed number rows) = line.Entry this_leaf table number (said.Removed rows)
 reply_line table (told.Groups number gs) = line.Entry this_leaf table number said.Asked
 reply_line table (told.Shut number) = line.Entry this_leaf table number said.RefusedShut
 reply_line table (told.Full number) = line.Entry this_leaf table number said.RefusedFull
 reply_line table (told.NoMemory number) = line.Entry this_leaf table number said.RefusedMemory
 reply_line table told.Worn = line.Worn this_leaf table
-reply_line table (told.Removed number rows) = line.Worn this_leaf table
 
 -- the lines of the answer to a query that had this reply: none where the table did not answer
 abbrev pub rows_of_reply : Query → Reply → List (List ℕ)

@@ -72,16 +72,6 @@ pub record Calls (table : ℕ) (c : Call) (x : Called) (reply : Reply) (y : Call
   pub answered : Answered (base_seen shared) before c reply after
   pub now : y ≡ record { tables = x.tables; seats = slice_set x.seats table after }
 
--- a reply to an add or a query
-abbrev pub IsKnown : Reply → Type 0
-IsKnown (told.Removed number rows) = ⊥
-IsKnown (told.Added number kept late) = ⊤
-IsKnown (told.Groups number gs) = ⊤
-IsKnown (told.Shut number) = ⊤
-IsKnown (told.Full number) = ⊤
-IsKnown (told.NoMemory number) = ⊤
-IsKnown told.Worn = ⊤
-
 -- a reply to a query
 abbrev pub IsAnswer : Reply → Type 0
 IsAnswer (told.Groups number gs) = ⊤
@@ -141,6 +131,8 @@ pub record PlaysWith {B E : Type 0} (meaning : B → Meaning) (names : List (Lis
 -- a command of a caller, which does not touch the leaf
 abbrev pub IsCall : Command → Type 0
 IsCall (command.Add leaf table rows) = ⊤
+IsCall (command.Expire leaf table horizon) = ⊤
+IsCall (command.Keep leaf table n) = ⊤
 IsCall (command.Query q) = ⊤
 IsCall (command.Fleet machines per_machine tables) = ⊥
 IsCall (command.Flush leaf table) = ⊥

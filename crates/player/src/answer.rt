@@ -4,7 +4,7 @@ ghost use Rattle.std.specs.List.{position};
 ghost use Rattle.std.specs.Str.{bytes_eq};
 ghost use Rattle.printed_lines.specs.declared.line.Line.TheVariants.{Answer};
 ghost use Rattle.transcript.specs.Pieces.{place_of};
-ghost use Rattle.player.specs.Stage.{IsAnswer, IsKnown, named_by_reply};
+ghost use Rattle.player.specs.Stage.{IsAnswer, named_by_reply};
 ghost use Rattle.player.specs.Lines.{reply_line, rows_of_reply};
 
 use crate::entries::call_line;
@@ -39,8 +39,7 @@ pub fn query_lines(
     query: &Query,
     reply: &Reply,
 ) -> Result<Vec<Line>, AllocError>
-    requires known { IsKnown reply.now }
-    requires answer { IsAnswer reply.now }
+    requires { IsAnswer reply.now }
     ensures { IfOk result (λ lines. lines.items ≡ reply_line table reply.now ∷ Answer (named_by_reply reply.now) 1 (rows_of_reply query.now reply.now) ∷ []) }
 {
     let rows = answer_rows(alloc, query, reply)?;

@@ -1,11 +1,11 @@
 // The callers' seats at a leaf's tables.
 ghost use Rattle.std.specs.Prelude.{◌≡◌, ◌<◌, ◌≤◌, ℕ, length, slice_get, Some};
 ghost use Rattle.std.specs.List.{AllByRecursion};
-ghost use Rattle.leaf_model.specs.Values.{IsRow};
+ghost use Rattle.leaf_model.specs.Values.{IsRow, IsTime};
 ghost use Rattle.leaf_history.specs.Calls as call;
 ghost use Rattle.leaf_table.specs.Turns.{Shared};
 ghost use Rattle.leaf_table.specs.Calls.{SeatView};
-ghost use Rattle.player.specs.Stage.{Calls, IsAnswer, IsCallersAt, IsKnown, KeepsSeats, berth_of, seats_of, state_of};
+ghost use Rattle.player.specs.Stage.{Calls, IsAnswer, IsCallersAt, KeepsSeats, berth_of, seats_of, state_of};
 ghost use Rattle.crash_moments.specs.Left.{NamedStates};
 ghost use Rattle.leaf_steward.specs.Seated.{AreFounded};
 ghost use Rattle.transcript.specs.Stage.{MeetAll, Stands};
@@ -49,18 +49,36 @@ impl<'t> Callers<'t> {
     pub fn add<R: Wait, G: Gate>(&mut self, rt: &R, table: u32, rows: Rows, gate: &G) -> Reply
         requires table { table < length self.old.tables }
         requires rows { AllByRecursion IsRow rows }
-        ensures calls { Calls table (call.Add rows) self.old result self.new }
-        ensures known { IsKnown result }
+        ensures { Calls table (call.Add rows) self.old result self.new }
     {
         let place = table as usize;
         self.tables[place].add(rt, &mut self.seats[place], rows, gate)
+    }
+
+    /// Raises the horizon of the table in that place.
+    pub fn expire<R: Wait, G: Gate>(&mut self, rt: &R, table: u32, horizon: i64, gate: &G) -> Reply
+        requires table { table < length self.old.tables }
+        requires horizon { IsTime horizon }
+        ensures { Calls table (call.Expire horizon) self.old result self.new }
+    {
+        let place = table as usize;
+        self.tables[place].expire(rt, &mut self.seats[place], horizon, gate)
+    }
+
+    /// Leaves the last n rows of the table in that place.
+    pub fn keep<R: Wait, G: Gate>(&mut self, rt: &R, table: u32, n: u64, gate: &G) -> Reply
+        requires { table < length self.old.tables }
+        ensures { Calls table (call.Keep n) self.old result self.new }
+    {
+        let place = table as usize;
+        self.tables[place].keep(rt, &mut self.seats[place], n, gate)
     }
 
     /// Asks the table in that place.
     pub fn ask<R: Wait, G: Gate>(&mut self, rt: &R, table: u32, query: &Query, gate: &G) -> Reply
         requires table { table < length self.old.tables }
         ensures calls { Calls table (call.Ask query.now) self.old result self.new }
-        ensures known { IsKnown result × IsAnswer result }
+        ensures answer { IsAnswer result }
     {
         let place = table as usize;
         self.tables[place].ask(rt, &mut self.seats[place], query, gate)

@@ -2,15 +2,16 @@
 ghost use Rattle.std.specs.Prelude.{◌≡◌, ◌<◌, ◌≤◌, length};
 ghost use Rattle.std.specs.List.{AllByRecursion};
 ghost use Rattle.berth_face.specs.Berth.{Passes};
-ghost use Rattle.leaf_model.specs.Values.{IsRow};
+ghost use Rattle.leaf_model.specs.Values.{IsRow, IsTime};
+ghost use Rattle.leaf_history.specs.Calls as call;
 ghost use Rattle.transcript.specs.Pieces.{Starts, Flushes, Drains, Kills, place_of};
-ghost use Rattle.transcript.specs.Steps.{AddStep, QueryStep, MayPlay};
+ghost use Rattle.transcript.specs.Steps.{OneCall, QueryStep, MayPlay};
 ghost use Rattle.player.specs.Stage.{FitsTogether, IsCall, PlaysWith, berth_of, seats_of, state_of};
 ghost use Rattle.player.specs.Lines.{ActsWith, CallsWith};
 
 use crate::answer::{place_of, query_lines};
 use crate::callers::Callers;
-use crate::entries::{add_lines, steward_lines, with_ending};
+use crate::entries::{call_lines, steward_lines, with_ending};
 use crate::leaf::OneLeaf;
 use berth_face::{Berth, Gate};
 use leaf_machine::Notes;
@@ -55,6 +56,22 @@ pub fn play_command<'t, R: Wait, B: Berth, G: Gate>(
             rows,
         } => {
             let lines = add(rt, alloc, gate, names, callers, table, rows);
+            (leaf, lines)
+        }
+        Command::Expire {
+            leaf: _leaf,
+            table,
+            horizon,
+        } => {
+            let lines = expire(rt, alloc, gate, names, callers, table, horizon);
+            (leaf, lines)
+        }
+        Command::Keep {
+            leaf: _leaf,
+            table,
+            n,
+        } => {
+            let lines = keep(rt, alloc, gate, names, callers, table, n);
             (leaf, lines)
         }
         Command::Query(query) => {
@@ -170,11 +187,50 @@ fn add<'t, R: Wait, G: Gate>(
     requires table { table < length callers.old.tables }
     requires names { length names.now ≡ length callers.old.tables }
     requires rows { AllByRecursion IsRow rows }
-    ensures adds { CallsWith names.now (λ pieces. AddStep table rows callers.old.tables callers.old.seats pieces callers.new.seats) result }
+    ensures calls { CallsWith names.now (λ pieces. OneCall table (call.Add rows) callers.old.tables callers.old.seats pieces callers.new.seats) result }
     ensures same { callers.new.tables ≡ callers.old.tables }
 {
     let reply = callers.add(rt, table, rows, gate);
-    add_lines(alloc, table, &reply)
+    call_lines(alloc, table, &reply)
+}
+
+/// Raises the horizon of the table in that place.
+fn expire<'t, R: Wait, G: Gate>(
+    rt: &R,
+    alloc: Global,
+    gate: &G,
+    names: &Names,
+    callers: &mut Callers<'t>,
+    table: u32,
+    horizon: i64,
+) -> Result<Vec<Line>, AllocError>
+    requires table { table < length callers.old.tables }
+    requires names { length names.now ≡ length callers.old.tables }
+    requires horizon { IsTime horizon }
+    ensures calls { CallsWith names.now (λ pieces. OneCall table (call.Expire horizon) callers.old.tables callers.old.seats pieces callers.new.seats) result }
+    ensures same { callers.new.tables ≡ callers.old.tables }
+{
+    let reply = callers.expire(rt, table, horizon, gate);
+    call_lines(alloc, table, &reply)
+}
+
+/// Leaves the last n rows of the table in that place.
+fn keep<'t, R: Wait, G: Gate>(
+    rt: &R,
+    alloc: Global,
+    gate: &G,
+    names: &Names,
+    callers: &mut Callers<'t>,
+    table: u32,
+    n: u64,
+) -> Result<Vec<Line>, AllocError>
+    requires table { table < length callers.old.tables }
+    requires names { length names.now ≡ length callers.old.tables }
+    ensures calls { CallsWith names.now (λ pieces. OneCall table (call.Keep n) callers.old.tables callers.old.seats pieces callers.new.seats) result }
+    ensures same { callers.new.tables ≡ callers.old.tables }
+{
+    let reply = callers.keep(rt, table, n, gate);
+    call_lines(alloc, table, &reply)
 }
 
 /// Asks the query's table.

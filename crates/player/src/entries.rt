@@ -2,7 +2,6 @@
 ghost use Rattle.std.specs.Prelude.{◌≡◌, ◌∷◌, ◌++◌, [], IfOk, OnOk, MatchResult};
 ghost use Rattle.printed_lines.specs.declared.line.Line.TheVariants.{Ended, Entry};
 ghost use Rattle.transcript.specs.Steps.{said_of_note};
-ghost use Rattle.player.specs.Stage.{IsKnown};
 ghost use Rattle.player.specs.Lines.{AreAdded, note_line, note_lines, reply_line};
 
 use leaf_machine::{Note, Notes, What};
@@ -10,9 +9,8 @@ use leaf_table::Reply;
 use printed_lines::{Ending, Line, Said, Verb};
 use std::alloc::{AllocError, Global};
 
-/// The one line of an add to that table that had this reply.
-pub fn add_lines(alloc: Global, table: u32, reply: &Reply) -> Result<Vec<Line>, AllocError>
-    requires { IsKnown reply.now }
+/// The one line of a call of that table that had this reply.
+pub fn call_lines(alloc: Global, table: u32, reply: &Reply) -> Result<Vec<Line>, AllocError>
     ensures { IfOk result (λ lines. lines.items ≡ reply_line table reply.now ∷ []) }
 {
     let mut lines = Vec::new(alloc);
@@ -20,9 +18,8 @@ pub fn add_lines(alloc: Global, table: u32, reply: &Reply) -> Result<Vec<Line>, 
     Ok(lines)
 }
 
-/// The line of a reply to an add or a query of that table.
+/// The line of a reply of that table to a caller.
 pub fn call_line(table: u32, reply: &Reply) -> Line
-    requires { IsKnown reply.now }
     ensures { result ≡ reply_line table reply.now }
 {
     match reply {
@@ -34,12 +31,12 @@ pub fn call_line(table: u32, reply: &Reply) -> Line
                 late: *late,
             },
         ),
+        Reply::Removed { number, rows } => entry(table, *number, Said::Removed(*rows)),
         Reply::Groups { number, .. } => entry(table, *number, Said::Asked),
         Reply::Shut { number } => entry(table, *number, Said::RefusedShut),
         Reply::Full { number } => entry(table, *number, Said::RefusedFull),
         Reply::NoMemory { number } => entry(table, *number, Said::RefusedMemory),
         Reply::Worn => Line::Worn { leaf: 0, table },
-        Reply::Removed { .. } => unreachable!(),
     }
 }
 

@@ -5,7 +5,7 @@ use Rattle.leaf_opening.specs.declared.ways.Way.{Way}
 use Rattle.leaf_opening.specs.declared.ways.Way.TheVariants.{Memory, Disk}
 use Rattle.adopt.specs.declared.found.WhyDisk.TheVariants as why
 use Rattle.printed_lines.specs.declared.line.Said.{Said}
-use Rattle.printed_lines.specs.declared.line.Said.TheVariants.{Added, Asked, RefusedShut, RefusedFull, RefusedMemory, Opened, Took, Flushed, Closed, Handed}
+use Rattle.printed_lines.specs.declared.line.Said.TheVariants.{Added, Removed, Asked, RefusedShut, RefusedFull, RefusedMemory, Opened, Took, Flushed, Closed, Handed}
 use Rattle.printed_lines.specs.declared.line.Verb.{Verb}
 use Rattle.printed_lines.specs.declared.line.Verb.TheVariants.{Flush, Drain, Kill, Start}
 use Rattle.printed_lines.specs.declared.line.Ending.{Ending}
@@ -17,6 +17,7 @@ use Rattle.printed_lines.specs.declared.line.Line.TheVariants.{Entry, Worn, Answ
 -- what an entry's line says
 abbrev pub said_text : Said → List ℕ
 said_text (Added kept late) = codes "added " ++ (decimal kept ++ (codes " late " ++ decimal late))
+said_text (Removed rows) = codes "removed " ++ decimal rows
 said_text Asked = codes "asked"
 said_text RefusedShut = codes "refused shut"
 said_text RefusedFull = codes "refused full"

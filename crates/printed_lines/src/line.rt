@@ -7,6 +7,8 @@ use leaf_opening::Way;
 pub enum Said {
     /// An add kept so many rows, and so many came late.
     Added { kept: u64, late: u64 },
+    /// An expiry or a keep removed so many rows.
+    Removed(u64),
     Asked,
     RefusedShut,
     RefusedFull,

@@ -13,6 +13,7 @@ pub fn said_string(alloc: Global, said: Said) -> Result<String, AllocError>
 {
     match said {
         Said::Added { kept, late } => format!(in alloc; "added {kept} late {late}"),
+        Said::Removed(rows) => format!(in alloc; "removed {rows}"),
         Said::Asked => String::from_str(alloc, "asked"),
         Said::RefusedShut => String::from_str(alloc, "refused shut"),
         Said::RefusedFull => String::from_str(alloc, "refused full"),

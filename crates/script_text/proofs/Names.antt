@@ -1,16 +1,17 @@
 -- Numbers and names as texts.
-use Rattle.std.proofs.Common.{◌≡◌, ◌<◌, ◌≤◌, ◌&&◌, ℕ, zero, suc, List, [], ◌∷◌, length, refl, ap, sym, ◌∙◌, arith, Bool, true, false, cond, true≢false, subst, Some, None, Result, Ok, Err, ◌^◌, min, ltb, leb}
+use Rattle.std.proofs.Common.{◌≡◌, ◌<◌, ◌≤◌, ◌&&◌, ℕ, zero, suc, ℤ, pos, List, [], ◌∷◌, length, refl, ap, sym, ◌∙◌, arith, Bool, true, false, cond, true≢false, subst, Some, None, Result, Ok, Err, ◌^◌, min, ltb, leb}
 use Rattle.std.proofs.lemmas.Bool.Decides.{nat_tests}
 use Rattle.std.proofs.lemmas.Str.{IsUtf8-from_ascii}
 use Rattle.std.specs.Char.{is_ascii_digit, is_ascii_lowercase}
 use Rattle.std.specs.List.{list_all}
 use Rattle.std.specs.Str.{IsUtf8, IsAscii, all_ascii_digits}
-use Rattle.std.specs.Str.Parse.{ParsesUnsigned, digits_value}
-use Rattle.std.specs.Result.{OkIff, result_unwrap_or}
+use Rattle.std.specs.Str.Parse.{ParsesSigned, ParsesUnsigned, digits_value}
+use Rattle.std.specs.Result.{OkIff, result_ok, result_unwrap_or}
 use Rattle.std.specs.Option.{option_map}
-use Rattle.std.proofs.lemmas.Str.Parse.{IsNumeralModel, numerals_by_value, tells_all_ascii_digits, parse_digits}
+use Rattle.std.proofs.lemmas.Str.Parse.{IsNumeralModel, numerals_by_value, tells_all_ascii_digits, parse_digits, parse_signed_digits}
 use Rattle.leaf_model.specs.Names.{is_table_name, is_name_byte}
-use Rattle.script_text.specs.Words.{is_number, number_of, capped}
+use Rattle.script_text.specs.Words.{is_number, number_of, capped, count_of, time_of}
+use mir.Syntax.{w64}
 
 -- bytes that pass a test of bytes below 128 are ASCII
 ascii_all : (test : ℕ → Bool) → ((b : ℕ) → test b ≡ true → b < 128) → (word : List ℕ) → list_all test word ≡ true → IsAscii word
@@ -77,3 +78,21 @@ pub number_parsed : {E : Type 0} (word digits : List ℕ) (r : Result ℕ E) →
 number_parsed word digits r same parsed is =
     let here : ParsesUnsigned 64 10 word r = subst (λ ds. ParsesUnsigned 64 10 ds r) same parsed in
     decided (digits_value 10 word) (length word) (is_number word) r is (number_some word is) (parse_digits own 64 word r here (all_digits word ∙ number_digits word is))
+
+held : {E : Type 0} (v n : ℕ) (number : Bool) (r : Result ℕ E) → number ≡ true → 0 < n → OkIff r ((0 < n) × (v < 2 ^ 64)) v → result_ok r ≡ cond (number && ltb v (2 ^ 64)) (Some v) None
+held v n number (Ok x) is some h = grind (arith, nat_tests, h.0.1, h.1)
+held v n number (Err e) is some h = grind (arith, nat_tests, h)
+
+pub count_parsed : {E : Type 0} (word digits : List ℕ) (r : Result ℕ E) → digits ≡ word → ParsesUnsigned 64 10 digits r → is_number word ≡ true → result_ok r ≡ count_of word
+count_parsed word digits r same parsed is =
+    let here : ParsesUnsigned 64 10 word r = subst (λ ds. ParsesUnsigned 64 10 ds r) same parsed in
+    held (digits_value 10 word) (length word) (is_number word) r is (number_some word is) (parse_digits own 64 word r here (all_digits word ∙ number_digits word is))
+
+timed : {E : Type 0} (v n : ℕ) (number : Bool) (r : Result ℤ E) → number ≡ true → 0 < n → OkIff r ((0 < n) × (v < 2 ^ 63)) (pos v) → result_ok r ≡ cond (number && ltb v (2 ^ 63)) (Some (pos v)) None
+timed v n number (Ok x) is some h = grind (arith, nat_tests, h.0.1, h.1)
+timed v n number (Err e) is some h = grind (arith, nat_tests, h)
+
+pub time_parsed : {E : Type 0} (word digits : List ℕ) (r : Result ℤ E) → digits ≡ word → ParsesSigned w64 10 digits r → is_number word ≡ true → result_ok r ≡ time_of word
+time_parsed word digits r same parsed is =
+    let here : ParsesSigned w64 10 word r = subst (λ ds. ParsesSigned w64 10 ds r) same parsed in
+    timed (digits_value 10 word) (length word) (is_number word) r is (number_some word is) (parse_signed_digits own w64 word r here (all_digits word ∙ number_digits word is))

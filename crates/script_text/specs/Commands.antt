@@ -1,5 +1,5 @@
 -- The commands of a script, each from the line that it stands on, or the first fault of the line.
-use Rattle.std.specs.Prelude.{ℕ, ◌+◌, ◌==◌, ◌&&◌, List, [], ◌∷◌, ◌++◌, length, take, nat_lt, nat_le, if◌then◌else◌, Option, Some, None, Result, Ok, Err, codes}
+use Rattle.std.specs.Prelude.{ℕ, ℤ, ◌+◌, ◌==◌, ◌&&◌, List, [], ◌∷◌, ◌++◌, length, take, nat_lt, nat_le, if◌then◌else◌, Option, Some, None, Result, Ok, Err, codes}
 use Rattle.std.specs.Str.{bytes_eq}
 use Rattle.leaf_model.specs.declared.queries.Query.{Query}
 use Rattle.leaf_model.specs.declared.rows.Row.{Row}
@@ -8,14 +8,14 @@ use Rattle.row_json.specs.Row.{row_of}
 use Rattle.query_text.specs.declared.fault.QueryFault.{QueryFault}
 use Rattle.query_text.specs.Reading.{query_of}
 use Rattle.script_text.specs.declared.command.Command.{Command}
-use Rattle.script_text.specs.declared.command.Command.TheVariants.{Fleet, Add, Flush, Drain, Kill, Start}
+use Rattle.script_text.specs.declared.command.Command.TheVariants.{Fleet, Add, Expire, Keep, Flush, Drain, Kill, Start}
 use Rattle.script_text.specs.declared.command.Command.TheVariants as command
 use Rattle.script_text.specs.declared.fault.Why.{Why}
 use Rattle.script_text.specs.declared.fault.Why.TheVariants as why
 use Rattle.script_text.specs.declared.verb.Verb.{Verb}
 use Rattle.script_text.specs.declared.verb.Verb.TheVariants as verb
 use Rattle.leaf_model.specs.Names.{is_table_name}
-use Rattle.script_text.specs.Words.{words_of, first_word, behind_word, trimmed, number_of, capped, are_tables, place_of}
+use Rattle.script_text.specs.Words.{words_of, first_word, behind_word, trimmed, number_of, capped, count_of, time_of, are_tables, place_of}
 
 -- a line's number, and its first fault
 abbrev pub Fault : Type 0
@@ -25,11 +25,13 @@ Fault = ℕ × Why
 abbrev pub verb_of : List ℕ → Option Verb
 verb_of word = if bytes_eq word (codes "fleet") then Some verb.Fleet
     else (if bytes_eq word (codes "add") then Some verb.Add
+    else (if bytes_eq word (codes "expire") then Some verb.Expire
+    else (if bytes_eq word (codes "keep") then Some verb.Keep
     else (if bytes_eq word (codes "query") then Some verb.Query
     else (if bytes_eq word (codes "flush") then Some verb.Flush
     else (if bytes_eq word (codes "drain") then Some verb.Drain
     else (if bytes_eq word (codes "kill") then Some verb.Kill
-    else (if bytes_eq word (codes "start") then Some verb.Start else None))))))
+    else (if bytes_eq word (codes "start") then Some verb.Start else None))))))))
 
 -- the command, where the words are of its form
 abbrev pub or_words : ℕ → Option Command → Result Command Fault
@@ -107,6 +109,62 @@ add_at n leaf None count more = Err (n, why.Table)
 abbrev pub add_of : ℕ → List (List ℕ) → Option AddForm → List (List ℕ) → Result Command Fault
 add_of n tables (Some add) more = if nat_lt add.leaf leaves then add_at n add.leaf (place_of tables add.table) add.count more else Err (n, why.Leaf)
 add_of n tables None more = Err (n, why.Words)
+
+-- the words of an expiry: a leaf, a table's name and a time
+pub record ExpireForm : Type 0 where
+  pub leaf : ℕ
+  pub table : List ℕ
+  pub horizon : ℤ
+
+abbrev pub expire_with : Option ℕ → List ℕ → Option ℤ → Option ExpireForm
+expire_with (Some leaf) table (Some horizon) = if is_table_name table then Some (record { leaf = leaf; table = table; horizon = horizon }) else None
+expire_with (Some leaf) table None = None
+expire_with None table horizon = None
+
+-- `expire L T H`
+abbrev pub expire_words : List (List ℕ) → Option ExpireForm
+expire_words [] = None
+expire_words (leaf ∷ []) = None
+expire_words (leaf ∷ table ∷ []) = None
+expire_words (leaf ∷ table ∷ horizon ∷ []) = expire_with (number_of leaf) table (time_of horizon)
+expire_words (leaf ∷ table ∷ horizon ∷ word ∷ words) = None
+
+-- an expiry of the table of this place
+abbrev pub expire_at : ℕ → ℕ → ℤ → Option ℕ → Result Command Fault
+expire_at line leaf horizon (Some table) = Ok (Expire leaf table horizon)
+expire_at line leaf horizon None = Err (line, why.Table)
+
+abbrev pub expire_of : ℕ → List (List ℕ) → Option ExpireForm → Result Command Fault
+expire_of line tables (Some expire) = if nat_lt expire.leaf leaves then expire_at line expire.leaf expire.horizon (place_of tables expire.table) else Err (line, why.Leaf)
+expire_of line tables None = Err (line, why.Words)
+
+-- the words of a keep: a leaf, a table's name and a number of rows
+pub record KeepForm : Type 0 where
+  pub leaf : ℕ
+  pub table : List ℕ
+  pub n : ℕ
+
+abbrev pub keep_with : Option ℕ → List ℕ → Option ℕ → Option KeepForm
+keep_with (Some leaf) table (Some n) = if is_table_name table then Some (record { leaf = leaf; table = table; n = n }) else None
+keep_with (Some leaf) table None = None
+keep_with None table n = None
+
+-- `keep L T N`
+abbrev pub keep_words : List (List ℕ) → Option KeepForm
+keep_words [] = None
+keep_words (leaf ∷ []) = None
+keep_words (leaf ∷ table ∷ []) = None
+keep_words (leaf ∷ table ∷ n ∷ []) = keep_with (number_of leaf) table (count_of n)
+keep_words (leaf ∷ table ∷ n ∷ word ∷ words) = None
+
+-- a keep of the table of this place
+abbrev pub keep_at : ℕ → ℕ → ℕ → Option ℕ → Result Command Fault
+keep_at line leaf n (Some table) = Ok (Keep leaf table n)
+keep_at line leaf n None = Err (line, why.Table)
+
+abbrev pub keep_of : ℕ → List (List ℕ) → Option KeepForm → Result Command Fault
+keep_of line tables (Some keep) = if nat_lt keep.leaf leaves then keep_at line keep.leaf keep.n (place_of tables keep.table) else Err (line, why.Leaf)
+keep_of line tables None = Err (line, why.Words)
 
 -- `query TEXT`, of a table that the fleet has
 abbrev pub query_at : ℕ → Query → Option ℕ → Result Command Fault
@@ -200,6 +258,8 @@ abbrev pub first_command : ℕ → List ℕ → Option Verb → Result Command F
 first_command n line None = Err (n, why.Command)
 first_command n line (Some verb.Fleet) = or_words n (fleet_of (words_of (behind_word line)))
 first_command n line (Some verb.Add) = Err (n, why.NoFleet)
+first_command n line (Some verb.Expire) = Err (n, why.NoFleet)
+first_command n line (Some verb.Keep) = Err (n, why.NoFleet)
 first_command n line (Some verb.Query) = Err (n, why.NoFleet)
 first_command n line (Some verb.Flush) = Err (n, why.NoFleet)
 first_command n line (Some verb.Kill) = Err (n, why.NoFleet)
@@ -211,6 +271,8 @@ abbrev pub later_command : ℕ → List (List ℕ) → List ℕ → List (List �
 later_command n tables line more None = Err (n, why.Command)
 later_command n tables line more (Some verb.Fleet) = Err (n, why.Place)
 later_command n tables line more (Some verb.Add) = add_of n tables (add_words (words_of (behind_word line))) more
+later_command n tables line more (Some verb.Expire) = expire_of n tables (expire_words (words_of (behind_word line)))
+later_command n tables line more (Some verb.Keep) = keep_of n tables (keep_words (words_of (behind_word line)))
 later_command n tables line more (Some verb.Query) = query_command n tables (one_query n (query_of (trimmed (behind_word line))))
 later_command n tables line more (Some verb.Flush) = flush_of n tables (flush_words (words_of (behind_word line)))
 later_command n tables line more (Some verb.Kill) = kill_of (leaf_of n (one_number (words_of (behind_word line))))

@@ -1,11 +1,11 @@
 -- What a caller knows of a script that was read.
 use Rattle.std.specs.Prelude.{◌≡◌, ◌<◌, ◌≤◌, ℕ, List, [], ◌∷◌, length, true, IsUtf8, IfSome}
 use Rattle.std.specs.List.{AllByRecursion, Contains}
-use Rattle.leaf_model.specs.Values.{IsRow}
+use Rattle.leaf_model.specs.Values.{IsRow, IsTime}
 use Rattle.leaf_model.specs.Names.{AreDistinct, is_table_name}
 use Rattle.query_text.specs.Grammar.{IsQuery}
 use Rattle.script_text.specs.declared.command.Command.{Command}
-use Rattle.script_text.specs.declared.command.Command.TheVariants.{Fleet, Add, Flush, Drain, Kill, Start}
+use Rattle.script_text.specs.declared.command.Command.TheVariants.{Fleet, Add, Expire, Keep, Flush, Drain, Kill, Start}
 use Rattle.script_text.specs.declared.command.Command.TheVariants as command
 use Rattle.script_text.specs.declared.script.Script.{Script}
 
@@ -27,6 +27,8 @@ pub record AreTables (tables : List (List ℕ)) : Type 0 where
 abbrev pub IsCommand : List (List ℕ) → Command → Type 0
 IsCommand tables (Fleet machines per_machine names) = ⊥
 IsCommand tables (Add leaf table rows) = (leaf ≡ 0) × (table < length tables) × (length rows ≤ 100000) × AllByRecursion IsRow rows
+IsCommand tables (Expire leaf table horizon) = (leaf ≡ 0) × (table < length tables) × IsTime horizon
+IsCommand tables (Keep leaf table n) = (leaf ≡ 0) × (table < length tables)
 IsCommand tables (command.Query query) = Contains tables query.table × IsQuery query
 IsCommand tables (Flush leaf table) = (leaf ≡ 0) × (table < length tables)
 IsCommand tables (Drain leaf stop) = (leaf ≡ 0) × IfSome stop (λ n. n ≤ 1000000)
@@ -38,6 +40,8 @@ abbrev pub AreCommands : List Command → Type 0
 AreCommands [] = Unit {0}
 AreCommands (Fleet machines per_machine tables ∷ commands) = (machines ≡ 1) × (per_machine ≡ 1) × AreTables tables × AllByRecursion (IsCommand tables) commands
 AreCommands (Add leaf table rows ∷ commands) = ⊥
+AreCommands (Expire leaf table horizon ∷ commands) = ⊥
+AreCommands (Keep leaf table n ∷ commands) = ⊥
 AreCommands (command.Query query ∷ commands) = ⊥
 AreCommands (Flush leaf table ∷ commands) = ⊥
 AreCommands (Drain leaf stop ∷ commands) = ⊥

@@ -1,7 +1,7 @@
 -- The script that a text is, or its first fault.
 use Rattle.std.specs.Prelude.{◌≡◌, ℕ, zero, suc, ◌+◌, List, [], ◌∷◌, length, if◌then◌else◌, Option, Some, None, Result, Ok, Err}
 use Rattle.script_text.specs.declared.command.Command.{Command}
-use Rattle.script_text.specs.declared.command.Command.TheVariants.{Fleet, Add, Query, Flush, Drain, Kill, Start}
+use Rattle.script_text.specs.declared.command.Command.TheVariants.{Fleet, Add, Expire, Keep, Query, Flush, Drain, Kill, Start}
 use Rattle.script_text.specs.declared.script.Script.{Script}
 use Rattle.script_text.specs.declared.fault.Why.{Why}
 use Rattle.script_text.specs.declared.fault.ScriptFault.{ScriptFault}
@@ -13,6 +13,8 @@ use Rattle.script_text.specs.Commands.{Fault, with_first, command_of}
 abbrev pub row_count : Command → ℕ
 row_count (Fleet machines per_machine tables) = 0
 row_count (Add leaf table rows) = length rows
+row_count (Expire leaf table horizon) = 0
+row_count (Keep leaf table n) = 0
 row_count (Query query) = 0
 row_count (Flush leaf table) = 0
 row_count (Drain leaf stop) = 0
@@ -27,6 +29,8 @@ rows_taken (Err found) = 0
 abbrev pub tables_in : Command → Option (List (List ℕ))
 tables_in (Fleet machines per_machine tables) = Some tables
 tables_in (Add leaf table rows) = None
+tables_in (Expire leaf table horizon) = None
+tables_in (Keep leaf table n) = None
 tables_in (Query query) = None
 tables_in (Flush leaf table) = None
 tables_in (Drain leaf stop) = None

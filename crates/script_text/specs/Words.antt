@@ -1,5 +1,5 @@
 -- The words of a line, and what they may be.
-use Rattle.std.specs.Prelude.{ℕ, ◌-◌, ◌^◌, min, ◌==◌, ◌&&◌, List, [], ◌∷◌, length, nat_lt, nat_le, Bool, true, not, if◌then◌else◌, Option, Some, None}
+use Rattle.std.specs.Prelude.{ℕ, ℤ, pos, ◌-◌, ◌^◌, min, ◌==◌, ◌&&◌, List, [], ◌∷◌, length, nat_lt, nat_le, Bool, true, not, if◌then◌else◌, Option, Some, None}
 use Rattle.std.specs.Char.{is_ascii_digit}
 use Rattle.std.specs.List.{filter, list_all, list_any, position_from}
 use Rattle.std.specs.Str.{bytes_eq}
@@ -40,6 +40,14 @@ number_of word = if is_number word then Some (digits_value 10 word) else None
 -- a number that a 64-bit word holds, or the greatest such
 abbrev pub capped : ℕ → ℕ
 capped n = min n (2 ^ 64 - 1)
+
+-- the number that a word of 1 to 20 digits is, where a 64-bit word holds it
+abbrev pub count_of : List ℕ → Option ℕ
+count_of word = if is_number word && nat_lt (digits_value 10 word) (2 ^ 64) then Some (digits_value 10 word) else None
+
+-- the time that a word of 1 to 20 digits is
+abbrev pub time_of : List ℕ → Option ℤ
+time_of word = if is_number word && nat_lt (digits_value 10 word) (2 ^ 63) then Some (pos (digits_value 10 word)) else None
 
 -- the place of a name among the names, from 0
 abbrev pub place_of : List (List ℕ) → List ℕ → Option ℕ

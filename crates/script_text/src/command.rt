@@ -18,6 +18,18 @@ pub enum Command {
         table: u32,
         rows: Rows,
     },
+    /// The rows of the table whose time is less than the horizon are to go.
+    Expire {
+        leaf: u32,
+        table: u32,
+        horizon: i64,
+    },
+    /// The last n rows of the table are to stay.
+    Keep {
+        leaf: u32,
+        table: u32,
+        n: u64,
+    },
     Query(Query),
     Flush {
         leaf: u32,

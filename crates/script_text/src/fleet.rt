@@ -26,9 +26,16 @@ pub fn first_command(alloc: Global, line: &[u8], number: u64) -> Result<Names, S
     match verb_of(word) {
         None => Err(fault_at(number, Why::Command)),
         Some(Verb::Fleet) => fleet(alloc, words, number),
-        Some(Verb::Add | Verb::Query | Verb::Flush | Verb::Drain | Verb::Kill | Verb::Start) => {
-            Err(fault_at(number, Why::NoFleet))
-        }
+        Some(
+            Verb::Add
+            | Verb::Expire
+            | Verb::Keep
+            | Verb::Query
+            | Verb::Flush
+            | Verb::Drain
+            | Verb::Kill
+            | Verb::Start,
+        ) => Err(fault_at(number, Why::NoFleet)),
     }
 }
 

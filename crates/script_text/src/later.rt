@@ -9,8 +9,10 @@ ghost use Rattle.script_text.specs.Script.{ParsesAs, row_count};
 use crate::add::{LEAVES, add};
 use crate::command::Command;
 use crate::drain::drain;
+use crate::expire::expire;
 use crate::fault::{ScriptFault, Why, fault_at};
 use crate::flush::flush;
+use crate::keep::keep;
 use crate::query::query;
 use crate::verb::{Verb, verb_of};
 use crate::words::{cut_word, next_word, number_of, trimmed};
@@ -36,6 +38,8 @@ pub fn later_command(
         None => Err(fault_at(number, Why::Command)),
         Some(Verb::Fleet) => Err(fault_at(number, Why::Place)),
         Some(Verb::Add) => add(alloc, tables, rest, number, after),
+        Some(Verb::Expire) => expire(tables, rest, number),
+        Some(Verb::Keep) => keep(tables, rest, number),
         Some(Verb::Query) => query(alloc, tables, trimmed(rest), number),
         Some(Verb::Flush) => flush(tables, rest, number),
         Some(Verb::Drain) => drain(rest, number),

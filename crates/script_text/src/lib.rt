@@ -4,9 +4,11 @@
 mod add;
 mod command;
 mod drain;
+mod expire;
 mod fault;
 mod fleet;
 mod flush;
+mod keep;
 mod later;
 mod lines;
 mod query;

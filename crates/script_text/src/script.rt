@@ -126,6 +126,8 @@ fn row_count(command: &Command) -> u64
     match command {
         Command::Add { rows, .. } => rows.as_slice().len() as u64,
         Command::Fleet { .. } => 0,
+        Command::Expire { .. } => 0,
+        Command::Keep { .. } => 0,
         Command::Query(_) => 0,
         Command::Flush { .. } => 0,
         Command::Drain { .. } => 0,

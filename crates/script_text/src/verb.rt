@@ -8,6 +8,8 @@ ghost use Rattle.script_text.specs.Commands.{verb_of};
 pub enum Verb {
     Fleet,
     Add,
+    Expire,
+    Keep,
     Query,
     Flush,
     Drain,
@@ -23,6 +25,10 @@ pub fn verb_of(word: &[u8]) -> Option<Verb>
         Some(Verb::Fleet)
     } else if is_word(word, "add") {
         Some(Verb::Add)
+    } else if is_word(word, "expire") {
+        Some(Verb::Expire)
+    } else if is_word(word, "keep") {
+        Some(Verb::Keep)
     } else if is_word(word, "query") {
         Some(Verb::Query)
     } else if is_word(word, "flush") {

@@ -2,8 +2,9 @@
 ghost use Rattle.std.specs.Prelude.{◌≡◌, ◌==◌, slice_index, ◌<◌, ◌^◌, ◌-◌, ◌∷◌, [], ℕ, None, IfSome, IfOk, option_map, length, min};
 ghost use Rattle.std.specs.Char.{is_ascii_digit};
 ghost use Rattle.std.specs.List.{list_all};
+ghost use Rattle.leaf_model.specs.Values.{IsTime};
 ghost use Rattle.script_text.specs.Lines.{before, behind};
-ghost use Rattle.script_text.specs.Words.{words_of, unindented, first_word, behind_word, trimmed, is_number, number_of, capped, place_of};
+ghost use Rattle.script_text.specs.Words.{words_of, unindented, first_word, behind_word, trimmed, is_number, number_of, capped, count_of, time_of, place_of};
 
 use crate::lines::cut_at;
 use leaf_model::Text;
@@ -69,6 +70,33 @@ pub fn number_of(word: &[u8]) -> Option<u64>
     }
     match std::str::from_utf8(word) {
         Ok(digits) => Some(digits.parse::<u64>().unwrap_or(u64::MAX)),
+        Err(_) => unreachable!(),
+    }
+}
+
+/// The number that a word of 1 to 20 digits is, where a `u64` can hold it.
+pub fn count_of(word: &[u8]) -> Option<u64>
+    ensures { result ≡ count_of word.now }
+{
+    if !is_number(word) {
+        return None;
+    }
+    match std::str::from_utf8(word) {
+        Ok(digits) => digits.parse::<u64>().ok(),
+        Err(_) => unreachable!(),
+    }
+}
+
+/// The time that a word of 1 to 20 digits is.
+pub fn time_of(word: &[u8]) -> Option<i64>
+    ensures exact { result ≡ time_of word.now }
+    ensures is_time { IfSome result IsTime }
+{
+    if !is_number(word) {
+        return None;
+    }
+    match std::str::from_utf8(word) {
+        Ok(digits) => digits.parse::<i64>().ok(),
         Err(_) => unreachable!(),
     }
 }

@@ -1,18 +1,20 @@
 -- The pieces of callers' commands, and what was answered.
-use Rattle.std.proofs.Common.{◌≡◌, ℕ, zero, suc, ◌-◌, ◌<◌, ◌≤◌, List, [], ◌∷◌, ◌++◌, length, map, take, inl, inr, refl, sym, ap, ap₂, subst, ◌∙◌, arith, Option}
+use Rattle.std.proofs.Common.{◌≡◌, ℕ, zero, suc, ◌-◌, ◌<◌, ◌≤◌, List, [], ◌∷◌, ◌++◌, length, map, take, inl, inr, refl, sym, ap, ap₂, subst, ◌∙◌, arith, Option, ℤ}
 use Rattle.std.specs.Prelude.{slice_set}
 use Rattle.std.specs.List.{AllByRecursion}
 use Rattle.std.proofs.lemmas.List.{append-nil, length-append}
 use Rattle.leaf_model.specs.declared.rows.Row.{Row}
 use Rattle.leaf_model.specs.declared.queries.Query.{Query}
 use Rattle.leaf_model.specs.declared.groups.Group.{Group}
+use Rattle.leaf_model.specs.declared.writes.Write.{Write}
+use Rattle.leaf_model.specs.declared.writes.Write.TheVariants as write
 use Rattle.leaf_model.specs.Groups.{groups}
 use Rattle.answer_text.specs.Answer.{answer_lines, group_line}
 use Rattle.leaf_history.specs.Calls as call
 use Rattle.leaf_history.specs.Calls.{Call}
 use Rattle.leaf_history.specs.Replies as reply
 use Rattle.leaf_history.specs.Replies.{Reply as MadeReply}
-use Rattle.leaf_history.specs.History.{Entry, HistoryState, AddReply, AskReply, after, held}
+use Rattle.leaf_history.specs.History.{Entry, HistoryState, AddReply, AskReply, RemoveReply, after, held}
 use Rattle.leaf_table.specs.declared.base.TableBase.{TableBase}
 use Rattle.leaf_table.specs.declared.replies.Reply.{Reply}
 use Rattle.leaf_table.specs.declared.replies.Reply.TheVariants as told
@@ -25,7 +27,7 @@ use Rattle.printed_lines.specs.Lines.{name_at}
 use Rattle.script_text.specs.declared.command.Command.{Command}
 use Rattle.script_text.specs.declared.command.Command.TheVariants as command
 use Rattle.transcript.specs.Pieces.{Piece, Played, Says, place_of}
-use Rattle.transcript.specs.Shapes.{CallPiece, IsAddSaid, IsAskSaid, QueryPieces, named}
+use Rattle.transcript.specs.Shapes.{CallPiece, IsAddSaid, IsAskSaid, IsRemoveSaid, QueryPieces, named}
 use Rattle.transcript.specs.Histories.{Ground}
 use Rattle.transcript.specs.Answers.{AnswerIs, partial, rows_before}
 use Rattle.transcript.specs.Transcript.{Known, ground_of, grounds_of}
@@ -87,10 +89,22 @@ not_groups s rows reply.NoMemory made number gs allowed tells = cc
 not_groups s rows (reply.Counted k) made number gs allowed tells = absurd allowed
 not_groups s rows reply.Noted made number gs allowed tells = absurd allowed
 
+-- nor that rows were removed
+not_removed : (s : HistoryState) (rows : List Row) (r : MadeReply) (made number k : ℕ) → AddReply s rows r → TellsReply made r (told.Removed number k) → ⊥
+not_removed s rows (reply.Added kept late) made number k allowed tells = cc
+not_removed s rows (reply.Removed n) made number k allowed tells = absurd allowed
+not_removed s rows (reply.Groups hs) made number k allowed tells = absurd allowed
+not_removed s rows reply.Shut made number k allowed tells = cc
+not_removed s rows reply.Full made number k allowed tells = cc
+not_removed s rows reply.NoMemory made number k allowed tells = cc
+not_removed s rows (reply.Counted n) made number k allowed tells = absurd allowed
+not_removed s rows reply.Noted made number k allowed tells = absurd allowed
+
 add_said : (base : Option TableBase) (v : SeatView) (rows : List Row) (r : Reply) (w : SeatView) (table : ℕ) (p : Piece)
     → CallAnswered base v (call.Add rows) r w → IsReplyPiece this_leaf table (call.Add rows) r p → CallPiece IsAddSaid this_leaf table (call.Add rows) p
 add_said base v rows (told.Added number kept late) w table p answered says = inl (number, said.Added kept late, tt, says)
-add_said base v rows (told.Removed number k) w table p answered says = absurd says
+add_said base v rows (told.Removed number k) w table p answered says =
+    absurd (not_removed (state_before base v answered.2.between) rows answered.1 (length w.seen) number k answered.2.allowed.1 answered.3)
 add_said base v rows (told.Groups number gs) w table p answered says =
     absurd (not_groups (state_before base v answered.2.between) rows answered.1 (length w.seen) number gs answered.2.allowed.1 answered.3)
 add_said base v rows (told.Shut number) w table p answered says = inl (number, said.RefusedShut, tt, says)
@@ -101,6 +115,46 @@ add_said base v rows told.Worn w table p answered says = inr says
 pub add_piece : (table : ℕ) (rows : List Row) (tables : List Shared) (callers : List SeatView) (p : Piece) (callers' : List SeatView)
     → CallStep table (call.Add rows) tables callers p callers' → CallPiece IsAddSaid this_leaf table (call.Add rows) p
 add_piece table rows tables callers p callers' step = add_said (base_seen step.shared) step.before rows step.reply step.after table p step.answered step.says
+
+-- what an expiry or a keep is told
+removed_said : (s : HistoryState) (w : Write) (r : MadeReply) (made : ℕ) (x : Reply) (table : ℕ) (c : Call) (p : Piece)
+    → RemoveReply s w r → TellsReply made r x → IsReplyPiece this_leaf table c x p → CallPiece IsRemoveSaid this_leaf table c p
+removed_said s w (reply.Removed k) made x table c p allowed tells says = inl (made, said.Removed k, tt, subst (λ y. IsReplyPiece this_leaf table c y p) tells says)
+removed_said s w reply.Shut made x table c p allowed tells says = inl (made, said.RefusedShut, tt, subst (λ y. IsReplyPiece this_leaf table c y p) tells says)
+removed_said s w reply.NoMemory made x table c p allowed tells says = inl (made, said.RefusedMemory, tt, subst (λ y. IsReplyPiece this_leaf table c y p) tells says)
+removed_said s w (reply.Added kept late) made x table c p allowed tells says = absurd allowed
+removed_said s w (reply.Groups gs) made x table c p allowed tells says = absurd allowed
+removed_said s w reply.Full made x table c p allowed tells says = absurd allowed
+removed_said s w (reply.Counted n) made x table c p allowed tells says = absurd allowed
+removed_said s w reply.Noted made x table c p allowed tells says = absurd allowed
+
+-- a worn seat's call is told as such, and any other by its entry
+remove_said : (base : Option TableBase) (v : SeatView) (c : Call) (x : Reply) (w : SeatView) (table : ℕ) (p : Piece)
+    → ((r : Replied base v c x w) → IsReplyPiece this_leaf table c x p → CallPiece IsRemoveSaid this_leaf table c p)
+    → CallAnswered base v c x w → IsReplyPiece this_leaf table c x p → CallPiece IsRemoveSaid this_leaf table c p
+remove_said base v c told.Worn w table p made answered says = inr says
+remove_said base v c (told.Added number kept late) w table p made answered says = made answered says
+remove_said base v c (told.Removed number k) w table p made answered says = made answered says
+remove_said base v c (told.Groups number gs) w table p made answered says = made answered says
+remove_said base v c (told.Shut number) w table p made answered says = made answered says
+remove_said base v c (told.Full number) w table p made answered says = made answered says
+remove_said base v c (told.NoMemory number) w table p made answered says = made answered says
+
+pub expire_piece : (table : ℕ) (horizon : ℤ) (tables : List Shared) (callers : List SeatView) (p : Piece) (callers' : List SeatView)
+    → CallStep table (call.Expire horizon) tables callers p callers' → CallPiece IsRemoveSaid this_leaf table (call.Expire horizon) p
+expire_piece table horizon tables callers p callers' step =
+    let before = state_before (base_seen step.shared) step.before in
+    remove_said (base_seen step.shared) step.before (call.Expire horizon) step.reply step.after table p
+    (λ r says. removed_said (before r.2.between) (write.Expire horizon) r.1 (length step.after.seen) step.reply table (call.Expire horizon) p r.2.allowed.1 r.3 says)
+    step.answered step.says
+
+pub keep_piece : (table n : ℕ) (tables : List Shared) (callers : List SeatView) (p : Piece) (callers' : List SeatView)
+    → CallStep table (call.Keep n) tables callers p callers' → CallPiece IsRemoveSaid this_leaf table (call.Keep n) p
+keep_piece table n tables callers p callers' step =
+    let before = state_before (base_seen step.shared) step.before in
+    remove_said (base_seen step.shared) step.before (call.Keep n) step.reply step.after table p
+    (λ r says. removed_said (before r.2.between) (write.Keep n) r.1 (length step.after.seen) step.reply table (call.Keep n) p r.2.allowed.1 r.3 says)
+    step.answered step.says
 
 ask_said : (q : Query) (r : Reply) (table : ℕ) (p : Piece) (rows : List (List ℕ)) → AnswersWith q r rows → IsReplyPiece this_leaf table (call.Ask q) r p
     → CallPiece IsAskSaid this_leaf table (call.Ask q) p

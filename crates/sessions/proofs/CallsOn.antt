@@ -2,11 +2,11 @@
 use Rattle.std.proofs.Common.{◌≡◌, ℕ, ◌<◌, ◌==◌, true, false, Bool, List, [], ◌∷◌, ◌++◌, length, Option, Some, None, refl, sym, ap, subst, ◌∙◌}
 use Rattle.std.specs.Prelude.{IfSome, is_some, slice_get}
 use Rattle.std.proofs.lemmas.Bool.{eqb-true, eqb-false}
-use Rattle.leaf_model.specs.declared.rows.Row.{Row}
 use Rattle.leaf_model.specs.declared.queries.Query.{Query}
 use Rattle.berth_face.specs.Berth.{Meaning}
 use Rattle.leaf_history.specs.Calls.{Call}
 use Rattle.leaf_history.specs.Calls as call
+use Rattle.leaf_history.specs.History.{Entry}
 use Rattle.leaf_table.specs.declared.replies.Reply.{Reply}
 use Rattle.leaf_table.specs.declared.replies.Reply.TheVariants as told
 use Rattle.leaf_table.specs.Turns.{Shared}
@@ -20,7 +20,7 @@ use Rattle.transcript.specs.Histories.{shown}
 use Rattle.transcript.specs.Life.{Life, Lives}
 use Rattle.transcript.specs.Transcript.{Known, first_life, ground_of}
 use Rattle.transcript.specs.Stage.{Leaf, seated_of}
-use Rattle.transcript.specs.Steps.{AddStep, CallStep, IsReplyPiece, QueryStep, this_leaf}
+use Rattle.transcript.specs.Steps.{CallStep, IsReplyPiece, OneCall, QueryStep, this_leaf}
 use Rattle.sessions.specs.Session.{AtTables, HasAnswers, KnownSession, Session, TableNow, WornAreLong, history_at, one_leaf}
 use Rattle.sessions.proofs.Lists.{All-append, All-weaken, get_set_other, get_set_same, length_set, same_some}
 use Rattle.sessions.proofs.Terms.{Grow}
@@ -29,14 +29,14 @@ use Rattle.sessions.proofs.Calls.{AreCalls, IsCallPiece}
 use Rattle.sessions.proofs.Lives.{lives_calls}
 use Rattle.sessions.proofs.Named.{named_calls}
 use Rattle.sessions.proofs.Growing.{call_grows}
-use Rattle.sessions.proofs.Answering.{add_piece, answered_grows, query_answers, query_pieces}
+use Rattle.sessions.proofs.Answering.{answered_grows, query_answers, query_pieces}
 use Rattle.sessions.proofs.Wearing.{call_worn, worn_grows}
 use Rattle.sessions.proofs.Going.{pieces-snoc, worn_more}
 
 -- the piece of a reply is no deed of a steward
 is_call : (table : ℕ) (called : Call) (r : Reply) (p : Piece) → IsReplyPiece this_leaf table called r p → IsCallPiece p
 is_call table called (told.Added number kept late) p says = subst IsCallPiece (sym says) tt
-is_call table called (told.Removed number rows) p says = absurd says
+is_call table called (told.Removed number rows) p says = subst IsCallPiece (sym says) tt
 is_call table called (told.Groups number gs) p says = subst IsCallPiece (sym says) tt
 is_call table called (told.Shut number) p says = subst IsCallPiece (sym says) tt
 is_call table called (told.Full number) p says = subst IsCallPiece (sym says) tt
@@ -134,15 +134,17 @@ module _ (names : List (List ℕ)) (known : ℕ → Option Known) (old : Meaning
         (known_calls names kn old s.life pieces (piece ∷ tail) leaf m are_calls s.of_known);
   }
 
--- rows are added
-pub add_on : (names : List (List ℕ)) (known : ℕ → Option Known) (old : Meaning) (played : List Played) (leaf : Leaf) (callers callers' : List SeatView) (m : Meaning)
-    (table : ℕ) (rows : List Row) (printed : List Piece)
-    → Session names known old played leaf callers m → AddStep table rows (seated_of leaf).tables callers printed callers'
-    → Session names known old (played ++ record { command = command.Add 0 table rows; pieces = printed } ∷ []) leaf callers' m
-add_on names known old played leaf callers callers' m table rows printed s step =
-    subst (λ (ps : List Piece). Session names known old (played ++ record { command = command.Add 0 table rows; pieces = ps } ∷ []) leaf callers' m) (sym step.pieces_are)
-    (call_on names known old played leaf callers callers' m s table (command.Add 0 table rows) (call.Add rows) step.piece [] step.calls (λ t. refl) tt
-    (step.piece, add_piece table rows (seated_of leaf).tables callers step.piece callers' step.calls, refl) (tt, tt) tt)
+-- a command of one call of a table
+pub one_on : (names : List (List ℕ)) (known : ℕ → Option Known) (old : Meaning) (played : List Played) (leaf : Leaf) (callers callers' : List SeatView) (m : Meaning)
+    (table : ℕ) (c : Command) (called : Call) (printed : List Piece)
+    → ((p : Piece) → CallStep table called (seated_of leaf).tables callers p callers' → Prints (one_leaf names) c (p ∷ []))
+    → ((h : ℕ → List Entry) (ps : List Piece) → HasAnswers names known h (record { command = c; pieces = ps }))
+    → Session names known old played leaf callers m → OneCall table called (seated_of leaf).tables callers printed callers'
+    → Session names known old (played ++ record { command = c; pieces = printed } ∷ []) leaf callers' m
+one_on names known old played leaf callers callers' m table c called printed prints no_answer s step =
+    subst (λ (ps : List Piece). Session names known old (played ++ record { command = c; pieces = ps } ∷ []) leaf callers' m) (sym step.pieces_are)
+    (call_on names known old played leaf callers callers' m s table c called step.piece [] step.calls (λ t. refl) tt
+    (prints step.piece step.calls) (no_answer (history_at callers') (step.piece ∷ [])) tt)
 
 -- a query is answered
 pub query_on : (names : List (List ℕ)) (known : ℕ → Option Known) (old : Meaning) (played : List Played) (leaf : Leaf) (callers callers' : List SeatView) (m : Meaning)

@@ -179,6 +179,7 @@ set_same (x ∷ xs) (suc i) c e = ap (λ (ys : List ℕ). x ∷ ys) (set_same xs
 
 length_by : (counts : List ℕ) (table : ℕ) (s : Said) → length (durable_by counts table s) ≡ length counts
 length_by counts table (said.Added kept late) = refl
+length_by counts table (said.Removed rows) = refl
 length_by counts table said.Asked = refl
 length_by counts table said.RefusedShut = refl
 length_by counts table said.RefusedFull = refl

@@ -174,7 +174,7 @@ piece_of table n by called (reply.Groups gs) x p tells says = (said.Asked, subst
 piece_of table n by called reply.Shut x p tells says = (said.RefusedShut, subst (λ y. IsReplyPiece this_leaf table called y p) tells says, (refl, refl))
 piece_of table n by called reply.Full x p tells says = (said.RefusedFull, subst (λ y. IsReplyPiece this_leaf table called y p) tells says, (refl, refl))
 piece_of table n by called reply.NoMemory x p tells says = (said.RefusedMemory, subst (λ y. IsReplyPiece this_leaf table called y p) tells says, (refl, refl))
-piece_of table n by called (reply.Removed k) x p tells says = absurd (subst (λ y. IsReplyPiece this_leaf table called y p) tells says)
+piece_of table n by called (reply.Removed k) x p tells says = (said.Removed k, subst (λ y. IsReplyPiece this_leaf table called y p) tells says, (refl, refl))
 piece_of table n by called (reply.Counted k) x p tells says = absurd tells
 piece_of table n by called reply.Noted x p tells says = absurd tells
 
@@ -257,7 +257,7 @@ called_elsewhere table place number called s p tail apart is =
 pub call_elsewhere : (table place : ℕ) (called : Call) (reply : Reply) (p : Piece) (tail : List Piece) → (table ≡ place → ⊥)
     → IsReplyPiece this_leaf table called reply p → shown this_leaf place (p ∷ tail) ≡ shown this_leaf place tail
 call_elsewhere table place called (shared.Added number kept late) p tail apart says = called_elsewhere table place number called (said.Added kept late) p tail apart says
-call_elsewhere table place called (shared.Removed number rows) p tail apart says = absurd says
+call_elsewhere table place called (shared.Removed number rows) p tail apart says = called_elsewhere table place number called (said.Removed rows) p tail apart says
 call_elsewhere table place called (shared.Groups number gs) p tail apart says = called_elsewhere table place number called said.Asked p tail apart says
 call_elsewhere table place called (shared.Shut number) p tail apart says = called_elsewhere table place number called said.RefusedShut p tail apart says
 call_elsewhere table place called (shared.Full number) p tail apart says = called_elsewhere table place number called said.RefusedFull p tail apart says

@@ -2,6 +2,8 @@
 use Rattle.std.proofs.Common.{◌≡◌, ℕ, zero, suc, ◌<◌, true, false, Bool, List, [], ◌∷◌, ◌++◌, length, Option, Some, None, refl, sym, subst, arith}
 use Rattle.std.specs.Prelude.{slice_index_or, bytes_eq, if◌then◌else◌, IfSome}
 use Rattle.berth_face.specs.Berth.{Meaning}
+use Rattle.leaf_history.specs.Calls.{Call}
+use Rattle.leaf_history.specs.Calls as call
 use Rattle.leaf_history.specs.History.{Entry}
 use Rattle.turnstile.specs.Seats.{unused_seat}
 use Rattle.crash_moments.specs.Left.{NamedStates}
@@ -16,8 +18,8 @@ use Rattle.transcript.specs.Shapes.{Prints}
 use Rattle.transcript.specs.Histories.{Ground}
 use Rattle.transcript.specs.Transcript.{Known, first_life, ground_of}
 use Rattle.transcript.specs.Leaving.{IsKnown}
-use Rattle.transcript.specs.Stage.{IsDown, Leaf}
-use Rattle.transcript.specs.Steps.{DeedStep, noted_all, this_leaf}
+use Rattle.transcript.specs.Stage.{IsDown, Leaf, seated_of}
+use Rattle.transcript.specs.Steps.{CallStep, DeedStep, OneCall, noted_all, this_leaf}
 use Rattle.sessions.specs.Session.{AreInPlace, FitsMode, FitsNext, HasAnswers, KnownSession, Session, TableNow, one_leaf}
 use Rattle.sessions.specs.Laws.{IsNewStage, SessionsBegin, SessionsGoOn, StandsFirst}
 use Rattle.sessions.proofs.Lists.{clash_bool, eq_bytes}
@@ -26,7 +28,8 @@ use Rattle.sessions.proofs.Named.{named_first}
 use Rattle.sessions.proofs.Standing.{told_first}
 use Rattle.sessions.proofs.Behind.{goes_from, meets}
 use Rattle.sessions.proofs.Going.{steward_on}
-use Rattle.sessions.proofs.CallsOn.{add_on, query_on}
+use Rattle.sessions.proofs.Answering.{add_piece, expire_piece, keep_piece}
+use Rattle.sessions.proofs.CallsOn.{one_on, query_on}
 
 -- ---- the beginning
 
@@ -117,6 +120,18 @@ deed_on names known old played leaf leaf' callers callers' m m' pieces c deed pr
     (steward_on names known old played step.met step.moved leaf' step.met_callers callers' m m' c deed step.notes step.ends met step.moves step.carries step.second
     (prints (noted_all step.notes) step.ends) (λ h. no_answer h ps)))
 
+-- a caller's command of one call, which leaves the berth
+call_plays : {B : Type 0} (meaning : B → Meaning) (b b' : B) (names : List (List ℕ)) (known : ℕ → Option Known) (old : Meaning) (played : List Played) (leaf leaf' : Leaf) (callers callers' : List SeatView)
+    (table : ℕ) (c : Command) (called : Call) (pieces : List Piece)
+    → ((p : Piece) → CallStep table called (seated_of leaf).tables callers p callers' → Prints (one_leaf names) c (p ∷ []))
+    → ((h : ℕ → List Entry) (ps : List Piece) → HasAnswers names known h (record { command = c; pieces = ps }))
+    → Session names known old played leaf callers (meaning b) → OneCall table called (seated_of leaf).tables callers pieces callers' × (leaf' ≡ leaf) × (b' ≡ b)
+    → Session names known old (played ++ record { command = c; pieces = pieces } ∷ []) leaf' callers' (meaning b')
+call_plays meaning b b' names known old played leaf leaf' callers callers' table c called pieces prints no_answer s step =
+    subst (λ (x : Leaf). Session names known old (played ++ record { command = c; pieces = pieces } ∷ []) x callers' (meaning b')) (sym step.1)
+    (subst (λ d. Session names known old (played ++ record { command = c; pieces = pieces } ∷ []) leaf callers' (meaning d)) (sym step.2)
+    (one_on names known old played leaf callers callers' (meaning b) table c called pieces prints no_answer s step.0))
+
 -- a caller's command leaves the berth
 pub plays_on : {B : Type 0} (meaning : B → Meaning) (old : Meaning) (b b' : B) → SessionsGoOn meaning old b b'
 plays_on meaning old b b' names known played leaf leaf' callers callers' (command.Fleet machines per_machine tables) pieces may s step =
@@ -124,9 +139,16 @@ plays_on meaning old b b' names known played leaf leaf' callers callers' (comman
     (λ notes ends. ((notes, ends, refl), refl)) (λ h ps. (tt, tt)) s step
 plays_on meaning old b b' names known played leaf leaf' callers callers' (command.Add l table rows) pieces may s step =
     subst (λ (n : ℕ). Session names known old (played ++ record { command = command.Add n table rows; pieces = pieces } ∷ []) leaf' callers' (meaning b')) (sym may.0)
-    (subst (λ (x : Leaf). Session names known old (played ++ record { command = command.Add 0 table rows; pieces = pieces } ∷ []) x callers' (meaning b')) (sym step.1)
-    (subst (λ d. Session names known old (played ++ record { command = command.Add 0 table rows; pieces = pieces } ∷ []) leaf callers' (meaning d)) (sym step.2)
-    (add_on names known old played leaf callers callers' (meaning b) table rows pieces s step.0)))
+    (call_plays meaning b b' names known old played leaf leaf' callers callers' table (command.Add 0 table rows) (call.Add rows) pieces
+    (λ p calls. (p, add_piece table rows (seated_of leaf).tables callers p callers' calls, refl)) (λ h ps. (tt, tt)) s step)
+plays_on meaning old b b' names known played leaf leaf' callers callers' (command.Expire l table horizon) pieces may s step =
+    subst (λ (n : ℕ). Session names known old (played ++ record { command = command.Expire n table horizon; pieces = pieces } ∷ []) leaf' callers' (meaning b')) (sym may.0)
+    (call_plays meaning b b' names known old played leaf leaf' callers callers' table (command.Expire 0 table horizon) (call.Expire horizon) pieces
+    (λ p calls. (p, expire_piece table horizon (seated_of leaf).tables callers p callers' calls, refl)) (λ h ps. (tt, tt)) s step)
+plays_on meaning old b b' names known played leaf leaf' callers callers' (command.Keep l table n) pieces may s step =
+    subst (λ (k : ℕ). Session names known old (played ++ record { command = command.Keep k table n; pieces = pieces } ∷ []) leaf' callers' (meaning b')) (sym may.0)
+    (call_plays meaning b b' names known old played leaf leaf' callers callers' table (command.Keep 0 table n) (call.Keep n) pieces
+    (λ p calls. (p, keep_piece table n (seated_of leaf).tables callers p callers' calls, refl)) (λ h ps. (tt, tt)) s step)
 plays_on meaning old b b' names known played leaf leaf' callers callers' (command.Query q) pieces may s step =
     subst (λ (x : Leaf). Session names known old (played ++ record { command = command.Query q; pieces = pieces } ∷ []) x callers' (meaning b')) (sym step.1)
     (subst (λ d. Session names known old (played ++ record { command = command.Query q; pieces = pieces } ∷ []) leaf callers' (meaning d)) (sym step.2)

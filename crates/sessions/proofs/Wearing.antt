@@ -48,7 +48,6 @@ worn_said histories table base v called told.Worn w p last answered says =
     let stays = ap (λ (s : SeatView). length s.seen) answered.1 in
     let long : 2 ^ 62 ≤ length (histories table) = omega (arith, answered.0, same, stays, seen_length w) in
     subst (λ (x : Piece). WornIsLong (λ leaf. histories) x) (sym says) long
-worn_said histories table base v called (told.Removed number k) w p last answered says = absurd says
 worn_said histories table base v called r w p last answered says = subst (λ (x : Piece). WornIsLong (λ leaf. histories) x) (sym says) tt
 
 pub call_worn : (table : ℕ) (called : Call) (tables : List Shared) (callers : List SeatView) (p : Piece) (callers' : List SeatView)

@@ -8,7 +8,7 @@ use Rattle.leaf_history.specs.Calls as call
 use Rattle.leaf_history.specs.Replies as reply
 use Rattle.leaf_history.specs.History.{Entry, HistoryState, LegalFrom}
 use Rattle.printed_lines.specs.declared.line.Said.{Said}
-use Rattle.printed_lines.specs.declared.line.Said.TheVariants.{Added, Asked, RefusedShut, RefusedFull, RefusedMemory, Opened, Took, Flushed, Closed, Handed}
+use Rattle.printed_lines.specs.declared.line.Said.TheVariants.{Added, Removed, Asked, RefusedShut, RefusedFull, RefusedMemory, Opened, Took, Flushed, Closed, Handed}
 use Rattle.transcript.specs.Pieces.{Piece, Called, Worn, Acted, Says, Noted, Played}
 
 -- the line of an entry, with the call that a caller made
@@ -36,6 +36,7 @@ shown leaf table pieces = flat_map (shown_in leaf table) pieces
 -- the entry is what the line says
 abbrev pub Shows : Option Call → Said → Entry → Type 0
 Shows c (Added kept late) e = (c ≡ Some e.call) × (e.reply ≡ reply.Added kept late)
+Shows c (Removed rows) e = (c ≡ Some e.call) × (e.reply ≡ reply.Removed rows)
 Shows c Asked e = (c ≡ Some e.call) × ((gs : List Group) × (e.reply ≡ reply.Groups gs))
 Shows c RefusedShut e = (c ≡ Some e.call) × (e.reply ≡ reply.Shut)
 Shows c RefusedFull e = (c ≡ Some e.call) × (e.reply ≡ reply.Full)

@@ -7,7 +7,7 @@ use Rattle.leaf_history.specs.Calls as call
 use Rattle.script_text.specs.declared.command.Command.{Command}
 use Rattle.script_text.specs.declared.command.Command.TheVariants as command
 use Rattle.printed_lines.specs.declared.line.Said.{Said}
-use Rattle.printed_lines.specs.declared.line.Said.TheVariants.{Added, Asked, RefusedShut, RefusedFull, RefusedMemory}
+use Rattle.printed_lines.specs.declared.line.Said.TheVariants.{Added, Removed, Asked, RefusedShut, RefusedFull, RefusedMemory}
 use Rattle.printed_lines.specs.declared.line.Ending.{Ending}
 use Rattle.printed_lines.specs.declared.line.Line.TheVariants as line
 use Rattle.transcript.specs.Pieces.{Piece, Called, Worn, Acted, Says, Deed, Starts, Flushes, Drains, Kills, Noted, Fleet, leaf_count, place_of}
@@ -19,6 +19,13 @@ IsAddSaid RefusedShut = ⊤
 IsAddSaid RefusedFull = ⊤
 IsAddSaid RefusedMemory = ⊤
 IsAddSaid _ = ⊥
+
+-- what an expiry or a keep may be told
+abbrev pub IsRemoveSaid : Said → Type 0
+IsRemoveSaid (Removed rows) = ⊤
+IsRemoveSaid RefusedShut = ⊤
+IsRemoveSaid RefusedMemory = ⊤
+IsRemoveSaid _ = ⊥
 
 -- what a query may be told by a leaf
 abbrev pub IsAskSaid : Said → Type 0
@@ -75,6 +82,8 @@ pub record QueryPieces (fleet : Fleet) (q : Query) (pieces : List Piece) : Type 
 abbrev pub Prints : Fleet → Command → List Piece → Type 0
 Prints fleet (command.Fleet machines per_machine tables) pieces = ActPieces 0 (leaf_count fleet) Starts pieces
 Prints fleet (command.Add leaf table rows) pieces = OnePiece (CallPiece IsAddSaid leaf table (call.Add rows)) pieces
+Prints fleet (command.Expire leaf table horizon) pieces = OnePiece (CallPiece IsRemoveSaid leaf table (call.Expire horizon)) pieces
+Prints fleet (command.Keep leaf table n) pieces = OnePiece (CallPiece IsRemoveSaid leaf table (call.Keep n)) pieces
 Prints fleet (command.Query q) pieces = QueryPieces fleet q pieces
 Prints fleet (command.Flush leaf table) pieces = OnePiece (ActPiece leaf (Flushes table)) pieces
 Prints fleet (command.Drain leaf stop) pieces = OnePiece (ActPiece leaf (Drains stop)) pieces

@@ -1,6 +1,5 @@
 -- What each command does to a leaf and its callers' seats as the program holds them: the pieces that it prints, and what stands behind it.
 use Rattle.std.specs.Prelude.{◌≡◌, ◌≢◌, ℕ, suc, ◌+◌, ◌<◌, List, [], ◌∷◌, ◌++◌, length, map, Option, Some, None, MatchBool, slice_get, slice_set, nat_lt, IsTrue, ⊤}
-use Rattle.leaf_model.specs.declared.rows.Row.{Row}
 use Rattle.leaf_model.specs.declared.queries.Query.{Query}
 use Rattle.berth_face.specs.Berth.{Meaning}
 use Rattle.answer_text.specs.Answer.{answer_lines}
@@ -51,7 +50,7 @@ this_leaf = 0
 -- the piece of a call that had this reply
 abbrev pub IsReplyPiece : ℕ → ℕ → call.Call → Reply → Piece → Type 0
 IsReplyPiece leaf table c (told.Added number kept late) p = p ≡ Called leaf table c number (said.Added kept late)
-IsReplyPiece leaf table c (told.Removed number rows) p = ⊥
+IsReplyPiece leaf table c (told.Removed number rows) p = p ≡ Called leaf table c number (said.Removed rows)
 IsReplyPiece leaf table c (told.Groups number gs) p = p ≡ Called leaf table c number said.Asked
 IsReplyPiece leaf table c (told.Shut number) p = p ≡ Called leaf table c number said.RefusedShut
 IsReplyPiece leaf table c (told.Full number) p = p ≡ Called leaf table c number said.RefusedFull
@@ -80,9 +79,10 @@ pub record CallStep (table : ℕ) (c : call.Call) (tables : List Shared) (caller
   pub now : callers' ≡ slice_set callers table after
   pub says : IsReplyPiece this_leaf table c reply p
 
-pub record AddStep (table : ℕ) (rows : List Row) (tables : List Shared) (callers : List SeatView) (pieces : List Piece) (callers' : List SeatView) : Type 0 where
+-- a command of one call: an add, an expiry or a keep
+pub record OneCall (table : ℕ) (c : call.Call) (tables : List Shared) (callers : List SeatView) (pieces : List Piece) (callers' : List SeatView) : Type 0 where
   pub piece : Piece
-  pub calls : CallStep table (call.Add rows) tables callers piece callers'
+  pub calls : CallStep table c tables callers piece callers'
   pub pieces_are : pieces ≡ piece ∷ []
 
 pub record QueryStep (table : ℕ) (q : Query) (tables : List Shared) (callers : List SeatView) (pieces : List Piece) (callers' : List SeatView) : Type 0 where
@@ -371,6 +371,8 @@ pub record DeedStep (deed : Deed) (m m' : Meaning) (leaf : Leaf) (callers : List
 abbrev pub MayPlay : List (List ℕ) → Command → Type 0
 MayPlay names (command.Fleet machines per_machine tables) = ⊤
 MayPlay names (command.Add leaf table rows) = IsCommand names (command.Add leaf table rows)
+MayPlay names (command.Expire leaf table horizon) = IsCommand names (command.Expire leaf table horizon)
+MayPlay names (command.Keep leaf table n) = IsCommand names (command.Keep leaf table n)
 MayPlay names (command.Query q) = IsCommand names (command.Query q)
 MayPlay names (command.Flush leaf table) = IsCommand names (command.Flush leaf table)
 MayPlay names (command.Drain leaf stop) = IsCommand names (command.Drain leaf stop)
@@ -381,7 +383,11 @@ MayPlay names (command.Start leaf) = IsCommand names (command.Start leaf)
 abbrev pub Plays : {B : Type 0} → (B → Meaning) → List (List ℕ) → Command → Leaf → List SeatView → B → List Piece → Leaf → List SeatView → B → Type 0
 Plays meaning names (command.Fleet machines per_machine tables) leaf callers b pieces leaf' callers' b' = DeedStep Starts (meaning b) (meaning b') leaf callers pieces leaf' callers'
 Plays meaning names (command.Add l table rows) leaf callers b pieces leaf' callers' b' =
-    AddStep table rows (seated_of leaf).tables callers pieces callers' × (leaf' ≡ leaf) × (b' ≡ b)
+    OneCall table (call.Add rows) (seated_of leaf).tables callers pieces callers' × (leaf' ≡ leaf) × (b' ≡ b)
+Plays meaning names (command.Expire l table horizon) leaf callers b pieces leaf' callers' b' =
+    OneCall table (call.Expire horizon) (seated_of leaf).tables callers pieces callers' × (leaf' ≡ leaf) × (b' ≡ b)
+Plays meaning names (command.Keep l table n) leaf callers b pieces leaf' callers' b' =
+    OneCall table (call.Keep n) (seated_of leaf).tables callers pieces callers' × (leaf' ≡ leaf) × (b' ≡ b)
 Plays meaning names (command.Query q) leaf callers b pieces leaf' callers' b' =
     QueryStep (place_of q.table names) q (seated_of leaf).tables callers pieces callers' × (leaf' ≡ leaf) × (b' ≡ b)
 Plays meaning names (command.Flush l table) leaf callers b pieces leaf' callers' b' = DeedStep (Flushes table) (meaning b) (meaning b') leaf callers pieces leaf' callers'

@@ -13,4 +13,4 @@ returns-clause-asks g c =
     let there : c.place_of-table.result ≡ place_of c.args.query.now.table c.args.names.now = search rules in
     subst (λ table. CallsWith c.args.names.now (λ pieces. QueryStep table query callers.tables callers.seats pieces reply.new.self.seats) c.query_lines.result) there
     (query_calls c.args.names.now c.place_of-table.result query callers reply.new.self reply.result c.query_lines.result
-    reply.ensures.calls reply.ensures.known.0 reply.ensures.known.1 (omega (arith, there, c.requires.table, c.requires.names)) c.query_lines.ensures)
+    reply.ensures.calls reply.ensures.answer (omega (arith, there, c.requires.table, c.requires.names)) c.query_lines.ensures)

@@ -1,7 +1,9 @@
-use Rattle.std.proofs.Common.{refl, subst, arith}
+use Rattle.std.proofs.Common.{ℤ, w64, refl, subst, arith}
+use Rattle.std.proofs.lemmas.Int.{to_z-of_z}
+use Rattle.leaf_history.specs.Calls as call
 use Rattle.script_text.specs.declared.command.Command.TheVariants as command
 use Rattle.transcript.specs.Pieces.{Starts, Flushes, Drains, Kills, place_of}
-use Rattle.transcript.specs.Steps.{AddStep, QueryStep, MayPlay}
+use Rattle.transcript.specs.Steps.{OneCall, QueryStep, MayPlay}
 use Rattle.player.specs.Stage.{seats_of}
 use Rattle.player.proofs.NamePlaces.{known_place}
 use Rattle.player.proofs.Playing.{call_plays, deed_plays, tables_fit}
@@ -36,8 +38,28 @@ pub returns-in-Add-clause-plays : goal.returns-in-Add-clause-plays
 returns-in-Add-clause-plays g c =
     let add = c.in-Add in
     let callers = c.args.callers.now in
-    call_plays g.B.Berth.meaning c.args.names.now _ _ _ _ _ _ c.args.command (command.Add add._leaf add.table add.rows) add.is c.add-lines.ensures.adds
-    (λ pieces step. (subst (λ tables. AddStep add.table add.rows tables callers.seats pieces c.add-lines.new.callers.seats) c.requires.fit.tables step, refl, refl))
+    call_plays g.B.Berth.meaning c.args.names.now _ _ _ _ _ _ c.args.command (command.Add add._leaf add.table add.rows) add.is c.add-lines.ensures.calls
+    (λ pieces step. (subst (λ tables. OneCall add.table (call.Add add.rows) tables callers.seats pieces c.add-lines.new.callers.seats) c.requires.fit.tables step, refl, refl))
+
+pub returns-in-Expire-clause-plays : goal.returns-in-Expire-clause-plays
+returns-in-Expire-clause-plays g c =
+    let expire = c.in-Expire in
+    let callers = c.args.callers.now in
+    let may = subst (MayPlay c.args.names.now) expire.is c.requires.may in
+    call_plays g.B.Berth.meaning c.args.names.now _ _ _ _ _ _ c.args.command (command.Expire expire._leaf expire.table expire.horizon) expire.is c.expire-lines.ensures.calls
+    (λ pieces step. (
+      subst (λ tables. OneCall expire.table (call.Expire expire.horizon) tables callers.seats pieces c.expire-lines.new.callers.seats) c.requires.fit.tables
+          (subst (λ (z : ℤ). OneCall expire.table (call.Expire z) callers.tables callers.seats pieces c.expire-lines.new.callers.seats) (to_z-of_z w64 expire.horizon may.2.1) step),
+      refl,
+      refl,
+    ))
+
+pub returns-in-Keep-clause-plays : goal.returns-in-Keep-clause-plays
+returns-in-Keep-clause-plays g c =
+    let keep = c.in-Keep in
+    let callers = c.args.callers.now in
+    call_plays g.B.Berth.meaning c.args.names.now _ _ _ _ _ _ c.args.command (command.Keep keep._leaf keep.table keep.n) keep.is c.keep-lines.ensures.calls
+    (λ pieces step. (subst (λ tables. OneCall keep.table (call.Keep keep.n) tables callers.seats pieces c.keep-lines.new.callers.seats) c.requires.fit.tables step, refl, refl))
 
 pub returns-in-Query-clause-plays : goal.returns-in-Query-clause-plays
 returns-in-Query-clause-plays g c =

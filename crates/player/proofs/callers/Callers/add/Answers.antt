@@ -19,8 +19,8 @@ invariant_of-self g c =
     called_on x c.args.self.now c.args.table c.index-self-place.result c.index_mut.result.now c.self.invariant c.self.view_is c.requires.table c.index-self-place.is c.index_mut.ensures.value
     (call.Add c.args.rows) c.add.result c.add.new.seat c.add.ensures.seat c.add.ensures.same c.add.ensures.made
 
-pub returns-clause-calls : goal.returns-clause-calls
-returns-clause-calls g c =
+pub returns : goal.returns
+returns g c =
     let x : Called = record { tables = c.self.inside.tables.now; seats = c.self.inside.seats.items } in
     calls x c.args.self.now c.args.table c.index-self-place.result c.index_mut.result.now c.self.invariant c.self.view_is c.requires.table c.index-self-place.is c.index_mut.ensures.value
     (call.Add c.args.rows) c.add.result c.add.new.seat c.add.ensures.made
