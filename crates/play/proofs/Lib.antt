@@ -4,3 +4,5 @@ pub mod Fleets
 pub mod Beginning
 pub mod Own
 pub mod Ends
+pub mod Listing
+pub mod KeepsBase

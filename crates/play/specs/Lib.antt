@@ -6,3 +6,4 @@ pub mod Played
 pub mod Runs
 pub mod Outcome
 pub mod Faults
+pub mod Keeping

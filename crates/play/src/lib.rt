@@ -5,6 +5,8 @@ mod bases;
 mod berths;
 mod count;
 mod faults;
+mod kept;
+mod known;
 mod program;
 mod script;
 mod status;
@@ -14,6 +16,8 @@ mod words;
 
 pub use bases::{Bases, EmptyBerths};
 pub use faults::fault_text;
+pub use kept::{Choice, KeptTables, KnownBerths};
+pub use known::{keep, run_keeping, run_known, run_twice};
 pub use program::run;
 pub use script_text::Why;
 pub use status::Status;

@@ -1,0 +1,159 @@
+-- Over a berth that has a base, a leaf may begin with one that is a list: of the names that the log has, as it reads or with one record more.
+use Rattle.std.proofs.Common.{◌≡◌, ◌⊎◌, inl, inr, ◌∙◌, ℕ, ◌≤◌, Bool, true, false, cond, List, [], ◌∷◌, ◌++◌, length, Option, Some, None, refl, sym, ap, subst, arith}
+use Rattle.std.specs.Prelude.{bytes_eq}
+use Rattle.std.proofs.lemmas.Bool.{false≢true}
+use Rattle.std.proofs.lemmas.List.{nil_from_length, take_all}
+use Rattle.std.proofs.lemmas.Slice.Eq.{bytes_eq-Decides}
+use Rattle.leaf_model.specs.declared.writes.Write.{Write}
+use Rattle.row_records.specs.Records.{LogRecord}
+use Rattle.berth_face.specs.Berth.{Meaning}
+use Rattle.leaf_history.specs.History.{HistoryState, base_of, no_base}
+use Rattle.region_layout.specs.declared.image.TableImage.{TableImage}
+use Rattle.disk_backup.specs.Logs.{writes_of}
+use Rattle.disk_backup.specs.Settling.{HasLog, with_writes}
+use Rattle.disk_backup.specs.SoundLogs.{HasSoundLog}
+use Rattle.crash_moments.specs.Left.{NamedStates}
+use Rattle.crash_moments.specs.Watched.{IsFoundation}
+use Rattle.crash_states.specs.Standing.{IsKept, IsWhole, RegionRests, is_closed, is_other, is_image, Rests, tables_of}
+use Rattle.crash_states.proofs.Disks.{same_log, writes_more}
+use Rattle.crash_states.proofs.States.{no_front, with_owed}
+use Rattle.leaf_machine.specs.Leaving.{IsFrontOf}
+use Rattle.leaf_machine.proofs.CopyWatching.{nothing_sound}
+use Rattle.leaf_machine.proofs.DownBegins.{whole_alike}
+use Rattle.play.specs.Played.{AreShut, IsBase}
+use Rattle.play.specs.Keeping.{IsKeptOf, Kept, states_of}
+
+-- a table's writes are a front of them
+pub front_same : (s : HistoryState) → IsFrontOf s s
+front_same s = record { front = sym (take_all (length s.writes) s.writes (omega arith)); flushed = omega arith }
+
+-- ---- the list
+
+-- what the base says of each record's name
+abbrev kept_of : NamedStates → List LogRecord → List Kept
+kept_of base [] = []
+kept_of base (r ∷ records) = record { name = r.name; writes = (base r.name).writes; flushed = (base r.name).flushed } ∷ kept_of base records
+
+-- a name stands as in the base, or is that of no record's writes and has none
+listed : (base : NamedStates) (records : List LogRecord) (name : List ℕ) → AreShut base
+    → (states_of (kept_of base records) name ≡ base name) ⊎ ((states_of (kept_of base records) name ≡ no_base) × (writes_of name records ≡ []))
+listed base [] name shut = inr (refl, refl)
+listed base (r ∷ records) name shut = by (bytes_eq name r.name) refl (listed base records name shut)
+  where
+    by : (b : Bool) → bytes_eq name r.name ≡ b
+        → (states_of (kept_of base records) name ≡ base name) ⊎ ((states_of (kept_of base records) name ≡ no_base) × (writes_of name records ≡ []))
+        → (cond b (base_of (base r.name).writes (base r.name).flushed) (states_of (kept_of base records) name) ≡ base name)
+        ⊎ ((cond b (base_of (base r.name).writes (base r.name).flushed) (states_of (kept_of base records) name) ≡ no_base) × (cond b (r.writes ++ writes_of name records) (writes_of name records) ≡ []))
+    by true same rest = inl (sym (shut r.name) ∙ ap base (sym ((bytes_eq-Decides name r.name).0 same)))
+    by false other rest = rest
+
+-- records that have the writes of a log and of one record more
+records_with : (next : Option LogRecord) (records : List LogRecord) (least : List ℕ → List Write) → ((name : List ℕ) → writes_of name records ≡ least name)
+    → (all : List LogRecord) × ((name : List ℕ) → writes_of name all ≡ with_writes next least name)
+records_with None records least same = (records, same)
+records_with (Some r) records least same = (records ++ r ∷ [], writes_more records r least same)
+
+module _ (base : NamedStates) (m : Meaning) (is : IsBase base m) where
+  abbrev least : List ℕ → List Write
+  least = is.begins.1.0
+
+  abbrev next : Option LogRecord
+  next = is.begins.1.1
+
+  abbrev most : List ℕ → List Write
+  most = with_writes next least
+
+  rests : Rests [] base least next m
+  rests = is.begins.1.2
+
+  -- ---- the writes of the longest log
+
+  longest : (records : List LogRecord) × ((name : List ℕ) → writes_of name records ≡ most name)
+  longest = by (rests.logs m.held rests.stands.reads)
+    where
+      by : HasSoundLog least m.held.disk ⊎ HasSoundLog most m.held.disk → (records : List LogRecord) × ((name : List ℕ) → writes_of name records ≡ most name)
+      by (inl log) = records_with next log.records least log.each
+      by (inr log) = (log.records, log.each)
+
+  abbrev kept : List Kept
+  kept = kept_of base longest.0
+
+  no_least : (name : List ℕ) → most name ≡ [] → least name ≡ []
+  no_least name none = nil_from_length (least name) (omega (arith, ap (λ (l : List Write). length l) none, (with_owed next least name).no_less))
+
+  -- what holds of a name in the base, and of no writes where no log has any, holds of it in the list
+  carried : (P : HistoryState → Type 0) (name : List ℕ) → P (base name) → (most name ≡ [] → P no_base) → P (states_of kept name)
+  carried P name here nowhere = by (listed base longest.0 name is.is)
+    where
+      by : (states_of kept name ≡ base name) ⊎ ((states_of kept name ≡ no_base) × (writes_of name longest.0 ≡ [])) → P (states_of kept name)
+      by (inl e) = subst P (sym e) here
+      by (inr none) = subst P (sym none.0) (nowhere (sym (longest.1 name) ∙ none.1))
+
+  -- ---- what rests on it
+
+  kept_none : (name : List ℕ) → most name ≡ [] → IsKept (least name) (most name) no_base
+  kept_none name none = record {
+    shut = refl;
+    flushed = omega arith;
+    shortest = (no_front (least name) (no_least name none)).front;
+    longest = (no_front (most name) none).front;
+    handed = λ done. absurd (false≢true done);
+  }
+
+  -- where each log has all of the tables, they have just what the longest has
+  module _ (images : List TableImage) (log_end : ℕ) (whole : IsWhole (tables_of base [] m) images log_end m) (name : List ℕ) where
+    had : HasLog (λ n. (base n).writes) log_end m.held.disk
+    had = whole.logs m.held rests.stands.reads
+
+    of_log : (held : List ℕ → List Write) → HasSoundLog held m.held.disk → (base name).writes ≡ held name
+    of_log held log =
+        sym (had.2 name) ∙ ap (λ (records : List LogRecord). writes_of name records) (sym (same_log (λ n. (base n).writes) held log_end m.held.disk had log).0) ∙ log.each name
+
+    whole_most : (base name).writes ≡ most name
+    whole_most = by (rests.logs m.held rests.stands.reads)
+      where
+        by : HasSoundLog least m.held.disk ⊎ HasSoundLog most m.held.disk → (base name).writes ≡ most name
+        by (inl log) =
+            let few : length (base name).writes ≤ length (most name) = omega (arith, ap (λ (l : List Write). length l) (of_log least log), (with_owed next least name).no_less) in
+            sym ((rests.each name).longest ∙ take_all (length (most name)) (base name).writes few)
+        by (inr log) = of_log most log
+
+    same_writes : (base name).writes ≡ (states_of kept name).writes
+    same_writes = carried (λ s. (base name).writes ≡ s.writes) name refl (λ none. whole_most ∙ none)
+
+  region_kept : RegionRests (tables_of (states_of kept) [] m) m
+  region_kept = by rests.region
+    where
+      by : RegionRests (tables_of base [] m) m → RegionRests (tables_of (states_of kept) [] m) m
+      by (is_closed shut) = is_closed shut
+      by (is_other version head not_one) = is_other version head not_one
+      by (is_image images log_end image whole) =
+          is_image images log_end image (whole_alike (tables_of base [] m) (tables_of (states_of kept) [] m) images log_end m (same_writes images log_end whole) whole)
+
+  rests_kept : Rests [] (states_of kept) least next m
+  rests_kept = record {
+    watched = record { each = tt; apart = tt };
+    stands = rests.stands;
+    logs = rests.logs;
+    each = λ name. carried (IsKept (least name) (most name)) name (rests.each name) (kept_none name);
+    sound = λ name. carried IsFoundation name (rests.sound name) (λ none. nothing_sound name);
+    empty = rests.empty;
+    region = region_kept;
+  }
+
+  base_kept : IsBase (states_of kept) m
+  base_kept = record {
+    begins = (is.begins.0, (least, next, rests_kept));
+    is = λ name. carried (λ s. s ≡ base_of s.writes s.flushed) name (is.is name) (λ none. refl);
+  }
+
+  front_kept : (s : HistoryState) (name : List ℕ) → IsFrontOf s (base name) → IsFrontOf s (states_of kept name)
+  front_kept s name front = carried (IsFrontOf s) name front (λ none.
+      record {
+        front = refl;
+        flushed = omega (arith, front.flushed, (rests.each name).flushed, ap (λ (l : List Write). length l) (no_least name none));
+      })
+
+-- a base that is a front of some tables gives one that is a list
+pub list_kept : (tables base : NamedStates) (m : Meaning) → IsBase base m → ((name : List ℕ) → IsFrontOf (tables name) (base name)) → (kept : List Kept) × IsKeptOf tables m kept
+list_kept tables base m is front = (kept base m is, record { is_base = base_kept base m is; front = λ name. front_kept base m is (tables name) name (front name) })

@@ -1,0 +1,5 @@
+use Rattle.play.specs.Keeping.{IsKeptBase}
+use Rattle.play.proofs.known.keep.Given as goal
+
+abbrev pub ghosts-keep_base : goal.ghosts-keep_base
+ghosts-keep_base g a = record { fits = λ known. IsKeptBase (g.B.Berth.meaning a._berth.now) known }

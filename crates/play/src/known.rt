@@ -1,0 +1,202 @@
+// What a run leaves known of its berths, and runs over that.
+ghost use Rattle.std.specs.Prelude.{◌≡◌, ◌↔◌, List, Option, None, Some, IfOk, IfSome, IsSome, length, map, string_bytes};
+ghost use Rattle.berth_face.specs.Causes.{Rose};
+ghost use Rattle.berth_face.specs.Streams.{TakesAtMost};
+ghost use Rattle.play.specs.Keeping.{ArePlayedTwice, IsKeptBase, Kept, LeavesKnown, bases_of, states_of};
+ghost use Rattle.play.specs.Outcome.{IsDone, IsCutShort, IfScript, IsTextRefused, IfCount, UnlessCutOff, UnlessPlayed, UnlessWritten, TakesText, verdict};
+ghost use Rattle.play.specs.Played.{AreBases, IsBase, IsPlayed, LeavesBerths};
+ghost use Rattle.play.specs.Source.{most_taken};
+ghost use Rattle.play.specs.Words.{request_of};
+ghost use Rattle.play.specs.declared.words.Request.TheVariants.{Play};
+
+use crate::bases::Bases;
+use crate::kept::{Choice, KnownBerths};
+use crate::program::run;
+use crate::status::Status;
+use berth_face::{Berth, Gate, Sink, Source};
+use std::alloc::{AllocError, Global};
+use std::marker::Brand;
+use std::snapshot::Snapshot;
+use std::sync::Wait;
+
+/// Keeps a base of this berth, the first of some, where it has one that can be kept.
+pub fn keep<B: Berth>(alloc: Global, berth: &B) -> Result<KnownBerths, AllocError>
+    requires { (kept : List Kept) × IsBase (states_of kept) (B.meaning berth.now) }
+    ensures { IfOk result (λ known. IsKeptBase (B.meaning berth.now) known) }
+{
+    keep_base::<Brand, B>(alloc, berth)
+}
+
+// Keeps what N says of this berth.
+fn keep_base<N: Choice, B>(alloc: Global, _berth: &B) -> Result<KnownBerths, AllocError>
+    requires { (known : Option (List Kept)) × N.fits known }
+    ensures { IfOk result (λ known. N.fits known) }
+{
+    KnownBerths::choose::<N>(alloc)
+}
+
+/// A run over the berths of which this is known.
+pub fn run_known<R: Wait, S: Source, K: Sink, B: Berth, G: Gate>(
+    rt: &R,
+    alloc: Global,
+    words: &[String],
+    source: &mut S,
+    sink: &mut K,
+    berths: &mut Vec<B>,
+    gate: &G,
+    known: &KnownBerths,
+) -> Status
+    requires bases { AreBases (bases_of known.now) B.meaning berths.old.items }
+    ensures done { result ≡ Status.Done → IsDone (bases_of known.now) B.meaning (request_of (map string_bytes words.now))
+        (S.left source.old) (S.left source.new) (K.written sink.old) (K.written sink.new) berths.old.items berths.new.items }
+    ensures words { (result ≡ Status.Words) ↔ (request_of (map string_bytes words.now) ≡ None) }
+    ensures script { IfScript result (IsTextRefused (length berths.old.items) (request_of (map string_bytes words.now)) (S.left source.old) (S.left source.new)) }
+    ensures read_fault { result ≡ Status.ReadFault → Rose (S.faults source.old) (S.faults source.new) }
+    ensures write_fault { result ≡ Status.WriteFault → Rose (K.faults sink.old) (K.faults sink.new) }
+    ensures exact { IfSome (S.left source.old)
+        (λ text. UnlessCutOff result (result ≡ verdict (length berths.old.items) (request_of (map string_bytes words.now)) text)) }
+    ensures takes { TakesAtMost (S.left source.old) (S.left source.new) most_taken }
+    ensures too_long { TakesText result (S.left source.old) (S.left source.new) }
+    ensures unread { result ≡ Status.Words → source.new ≡ source.old }
+    ensures unwritten { UnlessPlayed result (sink.new ≡ sink.old) }
+    ensures unplayed { UnlessPlayed result (berths.new ≡ berths.old) }
+    ensures count_unwritten { IfCount (request_of (map string_bytes words.now)) (λ range. UnlessWritten result (sink.new ≡ sink.old)) }
+    ensures count_cut_short { IfCount (request_of (map string_bytes words.now)) (λ range. result ≡ Status.WriteFault →
+        IsCutShort range (S.left source.old) (S.left source.new) (K.written sink.old) (K.written sink.new)) }
+    ensures count_unplayed { IfCount (request_of (map string_bytes words.now)) (λ range. berths.new ≡ berths.old) }
+    ensures berths { LeavesBerths B.meaning berths.old.items berths.new.items }
+{
+    run_for::<Brand, R, S, K, B, G>(rt, alloc, words, source, sink, berths, gate, known)
+}
+
+// A run over berths with the bases of N, which the caller picks by what is known.
+fn run_for<N: Bases, R: Wait, S: Source, K: Sink, B: Berth, G: Gate>(
+    rt: &R,
+    alloc: Global,
+    words: &[String],
+    source: &mut S,
+    sink: &mut K,
+    berths: &mut Vec<B>,
+    gate: &G,
+    _known: &KnownBerths,
+) -> Status
+    requires bases { AreBases N.base B.meaning berths.old.items }
+    ensures done { result ≡ Status.Done → IsDone N.base B.meaning (request_of (map string_bytes words.now))
+        (S.left source.old) (S.left source.new) (K.written sink.old) (K.written sink.new) berths.old.items berths.new.items }
+    ensures words { (result ≡ Status.Words) ↔ (request_of (map string_bytes words.now) ≡ None) }
+    ensures script { IfScript result (IsTextRefused (length berths.old.items) (request_of (map string_bytes words.now)) (S.left source.old) (S.left source.new)) }
+    ensures read_fault { result ≡ Status.ReadFault → Rose (S.faults source.old) (S.faults source.new) }
+    ensures write_fault { result ≡ Status.WriteFault → Rose (K.faults sink.old) (K.faults sink.new) }
+    ensures exact { IfSome (S.left source.old)
+        (λ text. UnlessCutOff result (result ≡ verdict (length berths.old.items) (request_of (map string_bytes words.now)) text)) }
+    ensures takes { TakesAtMost (S.left source.old) (S.left source.new) most_taken }
+    ensures too_long { TakesText result (S.left source.old) (S.left source.new) }
+    ensures unread { result ≡ Status.Words → source.new ≡ source.old }
+    ensures unwritten { UnlessPlayed result (sink.new ≡ sink.old) }
+    ensures unplayed { UnlessPlayed result (berths.new ≡ berths.old) }
+    ensures count_unwritten { IfCount (request_of (map string_bytes words.now)) (λ range. UnlessWritten result (sink.new ≡ sink.old)) }
+    ensures count_cut_short { IfCount (request_of (map string_bytes words.now)) (λ range. result ≡ Status.WriteFault →
+        IsCutShort range (S.left source.old) (S.left source.new) (K.written sink.old) (K.written sink.new)) }
+    ensures count_unplayed { IfCount (request_of (map string_bytes words.now)) (λ range. berths.new ≡ berths.old) }
+    ensures berths { LeavesBerths B.meaning berths.old.items berths.new.items }
+{
+    run::<N, R, S, K, B, G>(rt, alloc, words, source, sink, berths, gate)
+}
+
+/// A play, and behind one that was done what it left known of the berths, where there was memory for that.
+pub fn run_keeping<N: Bases, R: Wait, S: Source, K: Sink, B: Berth, G: Gate>(
+    rt: &R,
+    alloc: Global,
+    words: &[String],
+    source: &mut S,
+    sink: &mut K,
+    berths: &mut Vec<B>,
+    gate: &G,
+) -> (Status, Option<KnownBerths>)
+    requires words { request_of (map string_bytes words.now) ≡ Some Play }
+    requires bases { AreBases N.base B.meaning berths.old.items }
+    ensures done { result.0 ≡ Status.Done → IsPlayed N.base B.meaning (S.left source.old) (S.left source.new) (K.written sink.old) (K.written sink.new) berths.old.items berths.new.items }
+    ensures known { IfSome result.1 (λ known. LeavesKnown N.base B.meaning (S.left source.old) (S.left source.new) (K.written sink.old) (K.written sink.new) berths.old.items berths.new.items known) }
+    ensures only_done { IsSome result.1 → result.0 ≡ Status.Done }
+    ensures berths { LeavesBerths B.meaning berths.old.items berths.new.items }
+{
+    let source_was = Snapshot::of(&*source);
+    let sink_was = Snapshot::of(&*sink);
+    let berths_were = Snapshot::of(&*berths);
+    let status = run::<N, R, S, K, B, G>(rt, alloc, words, source, sink, berths, gate);
+    match status {
+        Status::Done => {}
+        status => return (status, None),
+    }
+    match keep_left::<Brand, S, K, B>(
+        alloc,
+        &source_was,
+        &sink_was,
+        &berths_were,
+        source,
+        sink,
+        berths,
+    ) {
+        Ok(known) => (Status::Done, Some(known)),
+        Err(_) => (Status::Done, None),
+    }
+}
+
+// Keeps what N says of these berths. What they, the source and the sink were and are is for the pick alone.
+fn keep_left<N: Choice, S, K, B>(
+    alloc: Global,
+    _source_was: &Snapshot<S>,
+    _sink_was: &Snapshot<K>,
+    _berths_were: &Snapshot<Vec<B>>,
+    _source: &S,
+    _sink: &K,
+    _berths: &Vec<B>,
+) -> Result<KnownBerths, AllocError>
+    requires { (known : Option (List Kept)) × N.fits known }
+    ensures { IfOk result (λ known. N.fits known) }
+{
+    KnownBerths::choose::<N>(alloc)
+}
+
+/// Two plays, one after the other, over the same berths: the second is begun where the first was done and there was memory to keep what it left known.
+#[tactic(auto, using(crate::proofs::KeepsBase::bases_left, crate::proofs::KeepsBase::played_twice))]
+pub fn run_twice<N: Bases, R: Wait, S: Source, K: Sink, B: Berth, G: Gate>(
+    rt: &R,
+    alloc: Global,
+    words: &[String],
+    source: &mut S,
+    sink: &mut K,
+    next_source: &mut S,
+    next_sink: &mut K,
+    berths: &mut Vec<B>,
+    gate: &G,
+) -> (Status, Option<Status>)
+    requires words { request_of (map string_bytes words.now) ≡ Some Play }
+    requires bases { AreBases N.base B.meaning berths.old.items }
+
+    // Where the first is done, it was told over the bases of N; where the second is too, over a base that the first left.
+    ensures first { result.0 ≡ Status.Done → (between : List B) × IsPlayed N.base B.meaning (S.left source.old) (S.left source.new) (K.written sink.old) (K.written sink.new) berths.old.items between }
+    ensures both { result.1 ≡ Some Status.Done → ArePlayedTwice N.base B.meaning (S.left source.old) (S.left source.new) (K.written sink.old) (K.written sink.new)
+        (S.left next_source.old) (S.left next_source.new) (K.written next_sink.old) (K.written next_sink.new) berths.old.items berths.new.items }
+    ensures in_order { IsSome result.1 → result.0 ≡ Status.Done }
+{
+    let (status, known) = run_keeping::<N, R, S, K, B, G>(
+        rt, alloc, words, source, sink, berths, gate,
+    );
+    match known {
+        Some(known) => {
+            let next = run_known(
+                rt,
+                alloc,
+                words,
+                next_source,
+                next_sink,
+                berths,
+                gate,
+                &known,
+            );
+            (status, Some(next))
+        }
+        None => (status, None),
+    }
+}
