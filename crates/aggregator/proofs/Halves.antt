@@ -25,7 +25,7 @@ take_whole : {A : Type 0} (xs : List A) → take (length xs) xs ≡ xs
 take_whole [] = refl
 take_whole (x ∷ xs) = ap (λ zs. x ∷ zs) (take_whole xs)
 
-pub written_back : {A : Type 0} (xs ys : List A) (n : ℕ) → length xs ≡ length ys → n ≡ length ys → take n (xs ++ drop (length xs) ys) ≡ xs
+written_back : {A : Type 0} (xs ys : List A) (n : ℕ) → length xs ≡ length ys → n ≡ length ys → take n (xs ++ drop (length xs) ys) ≡ xs
 written_back {A} xs ys n same size = ap (λ (zs : List A). take n zs) (over_all xs ys same) ∙ (ap (λ (k : ℕ). take k xs) (size ∙ sym same) ∙ take_whole xs)
 
 module _ (fleet : List (List Shared)) (table : ℕ) where
@@ -85,12 +85,6 @@ module _ (fleet : List (List Shared)) (table : ℕ) where
   first_seat leaf [] v is are = absurd cc
   first_seat leaf (u ∷ vs) v is are = let same : u ≡ v = cc in subst (λ (x : SeatView). IsSeatAt fleet table leaf x) same are.0
 
-  -- no leaf is left
-  pub none_asked : (q : Query) (leaf : ℕ) (vs : List SeatView) (rs : List Reply) → length vs ≡ 0 → length rs ≡ length vs → Asked q fleet table leaf vs rs vs
-  none_asked q leaf [] [] none room = tt
-  none_asked q leaf [] (r ∷ rs) none room = absurd (omega (arith, room))
-  none_asked q leaf (v ∷ vs) rs none room = absurd (omega (arith, none))
-
   -- seats at all leaves may be asked
   pub all_may : (vs : List SeatView) (replies : List Reply) → AreSeatsAt fleet table vs → length replies ≡ length vs → MayAsk fleet table 0 vs replies
   all_may vs replies are room = record {
@@ -109,3 +103,8 @@ module _ (fleet : List (List Shared)) (table : ℕ) where
   asked_replies q leaf [] (r ∷ rs) ws h = absurd h
   asked_replies q leaf (v ∷ vs) [] ws h = absurd h
   asked_replies q leaf (v ∷ vs) (r ∷ rs) [] h = absurd h
+
+  -- what the leaves replied stands in all of the room for it
+  pub told_back : (q : Query) (vs : List SeatView) (told : List Reply) (ws : List SeatView) (room : List Reply) (n : ℕ)
+      → Asked q fleet table 0 vs told ws → length room ≡ length vs → n ≡ length room → take n (told ++ drop (length told) room) ≡ told
+  told_back q vs told ws room n asked size count = written_back told room n (asked_replies q 0 vs told ws asked ∙ sym size) count

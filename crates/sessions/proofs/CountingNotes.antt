@@ -101,16 +101,6 @@ makes_seats from to x notes y (Makes.none f u a ns b le is same) = ap (λ (s : S
 makes_seats from to x notes y (Makes.more f u a ns b clock first rest between le one makes is) =
     makes_seats clock to between rest y makes ∙ (ap (λ (s : Seated). length s.seats) one.now ∙ length_set x.seats first.table one.after)
 
-pub makes_in_place : (names : List (List ℕ)) (from to : ℕ) (x : Seated) (notes : List Note) (y : Seated) (callers : List SeatView) → Makes from to x notes y
-    → AreInPlace names x callers → AreInPlace names y callers
-makes_in_place names from to x notes y callers makes in_place = record {
-  named = ap (λ (ts : List Shared). map name_of ts) (makes_tables from to x notes y makes) ∙ in_place.named;
-  same_names = makes_names from to x notes y makes ∙ in_place.same_names;
-  seats = makes_seats from to x notes y makes ∙ in_place.seats;
-  callers_are = in_place.callers_are;
-  distinct = in_place.distinct;
-}
-
 -- no note, no change
 pub makes_nothing : (from to : ℕ) (x : Seated) (notes : List Note) (y : Seated) → Makes from to x notes y → notes ≡ [] → y ≡ x
 makes_nothing from to x notes y (Makes.none f u a ns b le is same) none = same

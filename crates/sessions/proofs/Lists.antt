@@ -96,10 +96,6 @@ length_mapped f (x ∷ xs) = ap suc (length_mapped f xs)
 
 -- ---- truth values
 
-pub or_nothing : (b : Bool) → (b || false) ≡ b
-or_nothing true = refl
-or_nothing false = refl
-
 -- of two, neither
 pub neither : (a b : Bool) → (a || b) ≡ false → a ≡ false
 neither false b e = refl

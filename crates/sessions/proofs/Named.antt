@@ -109,9 +109,6 @@ down_leaf (IsPreparing x) fits = absurd fits
 never_up : (leaf : Leaf) (s : Serving) → IsDownLeaf leaf → leaf ≡ IsUp s → ⊥
 never_up leaf s down up = subst (λ (l : Leaf). IsDownLeaf l) up down
 
-never_prepares : (leaf : Leaf) (x : Shutting) → IsDownLeaf leaf → leaf ≡ IsPreparing x → ⊥
-never_prepares leaf x down is = subst (λ (l : Leaf). IsDownLeaf l) is down
-
 never_shuts : (leaf : Leaf) (x : Shutting) → IsDownLeaf leaf → BeginsShutting leaf x → ⊥
 never_shuts (IsDown y) x down shuts = shuts
 never_shuts (IsUp s) x down shuts = down

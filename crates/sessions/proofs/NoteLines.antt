@@ -62,14 +62,6 @@ opened_noted place count (n ∷ ns) h =
     let w = opened_said n.what h.3 in
     (w.0 ∷ rest.0, ap suc rest.1 ∙ sym h.1, (h.2, w.1, rest.2))
 
--- as many are told as were noted
-pub opened_as_many : (P : What → Type 0) (place count : ℕ) (counts : List ℕ) (notes : List Note) → EachNoted P place count notes
-    → Notes place (map said.Opened counts) (noted_all notes) → length counts ≡ count
-opened_as_many P place count [] [] each told = sym each
-opened_as_many P place count [] (n ∷ ns) each told = absurd told
-opened_as_many P place count (c ∷ cs) [] each told = absurd told
-opened_as_many P place count (c ∷ cs) (n ∷ ns) each told = ap suc (opened_as_many P (suc place) each.0 cs ns each.4 told.2) ∙ sym each.1
-
 handed_said : (w : What) → IsHandedNote w → said_of_note w ≡ said.Handed
 handed_said (what.Opened n) h = absurd h
 handed_said (what.Took n) h = absurd h

@@ -20,12 +20,6 @@ Tells-append n (x ∷ xs) ys [] fs g h = absurd g
 Tells-append n (x ∷ xs) ys (e ∷ es) fs g h =
     (g.0, g.1, Tells-append (suc n) xs ys es fs g.2 (subst (λ k. Tells k ys fs) (plus_suc n (length es)) h))
 
-pub Tells-length : (n : ℕ) (xs : List Shown) (es : List Entry) → Tells n xs es → length xs ≡ length es
-Tells-length n [] [] h = refl
-Tells-length n [] (e ∷ es) h = absurd h
-Tells-length n (x ∷ xs) [] h = absurd h
-Tells-length n (x ∷ xs) (e ∷ es) h = ap suc (Tells-length (suc n) xs es h.2)
-
 -- the lines of more pieces
 pub shown-append : (leaf table : ℕ) (ps qs : List Piece) → shown leaf table (ps ++ qs) ≡ shown leaf table ps ++ shown leaf table qs
 shown-append leaf table ps qs = flat_map-append (shown_in leaf table) ps qs
