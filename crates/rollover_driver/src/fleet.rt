@@ -1,0 +1,29 @@
+// The leaves that a rollover restarts.
+ghost use Rattle.std.specs.Prelude.{◌≡◌, ℕ, Bool, true, List, [], ◌∷◌, ◌++◌};
+ghost use Rattle.rollover_driver.specs.Calls.{Call, Drains, Starts};
+
+use rollover_watch::{Drained, Started};
+
+/// Leaves by number, each of which can be drained and started. What a call did stands in its answer.
+pub trait Fleet {
+    /// Which leaves it has.
+    ghost has: { Self → ℕ → Bool };
+
+    /// How it stands after these calls to what it was before them.
+    ghost stands: { Self → List Call → Self → Type 0 };
+
+    /// Drains a leaf.
+    fn drain(&mut self, leaf: u32) -> Drained
+        requires { has self.old leaf ≡ true }
+        ensures same { (other : ℕ) → has self.new other ≡ has self.old other }
+        ensures goes { (first : Self) (calls : List Call) → stands first calls self.old → stands first (calls ++ Drains leaf result ∷ []) self.new };
+
+    /// Starts a leaf.
+    fn start(&mut self, leaf: u32) -> Started
+        requires { has self.old leaf ≡ true }
+        ensures same { (other : ℕ) → has self.new other ≡ has self.old other }
+        ensures goes { (first : Self) (calls : List Call) → stands first calls self.old → stands first (calls ++ Starts leaf result ∷ []) self.new };
+
+    /// After no call it stands so to itself.
+    ghost stays: { (fleet : Self) → stands fleet [] fleet };
+}
