@@ -1,0 +1,9 @@
+pub mod Lists
+pub mod Narrowed
+pub mod Cells
+pub mod Folded
+pub mod Ranges
+pub mod Scanned
+pub mod Merged
+pub mod Decodes
+pub mod Split

@@ -1,0 +1,48 @@
+-- What a name means at each place of a block, read at once.
+use Rattle.std.specs.Prelude.{◌≡◌, ℕ, ◌<◌, ⊤, Bool, true, false, List, [], length, map, pos, slice_index, slice_index_or, Option, Some, None, if◌then◌else◌}
+use Rattle.std.specs.List.{list_all, range_with_len}
+use Rattle.leaf_model.specs.declared.rows.Value.{Value}
+use Rattle.leaf_model.specs.declared.rows.Value.TheVariants as values
+use Rattle.leaf_model.specs.declared.rows.Row.{Row}
+use Rattle.leaf_model.specs.declared.queries.Cond.{Cond}
+use Rattle.leaf_model.specs.Groups.{cell_value, cond_accepts, value_of}
+use Rattle.column_bytes.specs.Cells.{entries}
+use Rattle.row_blocks.specs.Blocks.{cells_at, value_in}
+use Rattle.block_scan.specs.declared.reading.ReadColumn.{ReadColumn}
+use Rattle.block_scan.specs.declared.finding.Named.{Named}
+use Rattle.block_scan.specs.declared.finding.Named.TheVariants.{Nowhere, Once, Twice}
+use Rattle.block_scan.specs.declared.decoded.Decoded.{Decoded}
+use Rattle.block_scan.specs.declared.decoded.Decoded.TheVariants.{Missing, Ints, Texts}
+use Rattle.block_scan.specs.Reads.{IsRead, columns_of}
+
+-- no column has the name, or one alone, or more than one
+abbrev pub IsNamed : ℕ → List ℕ → List ReadColumn → Named → Type 0
+IsNamed rows name read Nowhere = (i : ℕ) → cell_value name (cells_at i (columns_of read)) ≡ None
+IsNamed rows name read (Once c) = IsRead rows c.now × ((i : ℕ) → cell_value name (cells_at i (columns_of read)) ≡ value_in c.now.column.now.bytes i)
+IsNamed rows name read Twice = ⊤
+
+-- what was decoded at a place
+abbrev pub decoded_at : Decoded → ℕ → Option Value
+decoded_at Missing i = None
+decoded_at (Ints d) i = if slice_index_or d.present.items i false then Some (values.Int (slice_index_or d.values.items i (pos 0))) else None
+decoded_at (Texts d) i = if slice_index_or d.present.items i false then Some (values.Text (slice_index_or (entries d.view.now.book) (slice_index d.codes.items i) [])) else None
+
+-- so much was decoded, and each code that is there stands for a text
+abbrev pub IsSized : ℕ → Decoded → Type 0
+IsSized rows Missing = ⊤
+IsSized rows (Ints d) = (length d.present.items ≡ rows) × (length d.values.items ≡ rows)
+IsSized rows (Texts d) = (length d.present.items ≡ rows) × (length d.codes.items ≡ rows)
+    × ((i : ℕ) → i < rows → slice_index_or d.present.items i false ≡ true → slice_index d.codes.items i < length (entries d.view.now.book))
+
+-- it is what stands at each place
+pub record IsDecoded (rows : ℕ) (there : ℕ → Option Value) (d : Decoded) : Type 0 where
+  pub sized : IsSized rows d
+  pub each : (i : ℕ) → i < rows → there i ≡ decoded_at d i
+
+-- each condition holds of a row
+abbrev pub conds_hold : List Cond → Row → Bool
+conds_hold conds row = list_all (λ (c : Cond). cond_accepts c (value_of c.name row)) conds
+
+-- of texts, by their codes, which meet a condition
+abbrev pub accepted_codes : Cond → List (List ℕ) → List Bool
+accepted_codes c texts = map (λ code. cond_accepts c (Some (values.Text (slice_index_or texts code [])))) (range_with_len 0 (length texts))

@@ -1,0 +1,27 @@
+-- The rows that sealed blocks and a tail behind them hold.
+use Rattle.std.specs.Prelude.{◌≡◌, ℕ, ◌<◌, List, [], ◌∷◌, ◌++◌, drop, ℤ}
+use Rattle.std.specs.List.{flat_map}
+use Rattle.leaf_model.specs.declared.rows.Row.{Row}
+use Rattle.leaf_model.specs.Content.{rows_from}
+use Rattle.row_blocks.specs.Blocks.{Block, rows_in}
+
+-- the rows of blocks, one block after another
+abbrev pub block_rows : List Block → List Row
+block_rows blocks = flat_map rows_in blocks
+
+-- without the first so many rows of the blocks, and without the rows below the horizon
+abbrev pub rows_held : List Block → List Row → ℕ → ℤ → List Row
+rows_held blocks tail skip horizon = rows_from horizon (drop skip (block_rows blocks) ++ tail)
+
+-- what blocks alone hold so
+abbrev pub blocks_held : List Block → ℕ → ℤ → List Row
+blocks_held blocks skip horizon = rows_from horizon (drop skip (block_rows blocks))
+
+-- what one block holds so
+abbrev pub live_rows : ℕ → ℤ → Block → List Row
+live_rows skip horizon b = rows_from horizon (drop skip (rows_in b))
+
+-- a cut leaves some row of the first block
+abbrev pub IsSkip : ℕ → List Block → Type 0
+IsSkip skip [] = skip ≡ 0
+IsSkip skip (b ∷ blocks) = skip < b.rows

@@ -1,0 +1,7 @@
+pub mod Held
+pub mod Scanning
+pub mod Reads
+pub mod Seen
+pub mod Viewed
+pub mod Decoded
+pub mod Slots

@@ -1,0 +1,15 @@
+-- What a view of a block keeps true of what it holds.
+use Rattle.std.specs.Prelude.{ℕ, ◌≤◌, List, ℤ, FitsSigned}
+use Rattle.std.specs.Int.{w64}
+use Rattle.std.specs.List.{AllByRecursion}
+use Rattle.row_blocks.specs.Blocks.{AreTimes}
+use Rattle.block_scan.specs.declared.reading.ReadColumn.{ReadColumn}
+use Rattle.block_scan.specs.Reads.{IsRead}
+
+pub record IsViewed (n cut : ℕ) (from : ℤ) (t : ReadColumn) (read : List ReadColumn) : Type 0 where
+  pub few : n ≤ 65536
+  pub skip : cut ≤ n
+  pub horizon : FitsSigned w64 from
+  pub timed : AreTimes n t.column.now
+  pub times : IsRead n t
+  pub others : AllByRecursion (IsRead n) read

@@ -1,0 +1,180 @@
+// The places that meet the conditions of a query.
+ghost use Rattle.std.specs.Prelude.{◌≡◌, ◌<◌, ◌≤◌, List, [], length, filter, slice_index_or, IfOk, IfSome, Some};
+ghost use Rattle.std.specs.List.{AllByRecursion};
+ghost use Rattle.leaf_model.specs.declared.rows.Value.TheVariants as values;
+ghost use Rattle.leaf_model.specs.Groups.{cond_accepts, op_accepts};
+ghost use Rattle.column_bytes.specs.Cells.{entries};
+ghost use Rattle.block_scan.specs.declared.decoded.Decoded.TheVariants.{Texts};
+ghost use Rattle.block_scan.specs.Decoded.{accepted_codes, IsSized, conds_hold, decoded_at};
+ghost use Rattle.block_scan.specs.Reads.{IsRead, columns_of, row_of};
+
+use crate::decoded::{Decoded, TextCodes, decode};
+use crate::reading::ReadColumn;
+use column_bytes::ColumnView;
+use leaf_model::{Cond, Op, Value};
+use std::alloc::{AllocError, Global};
+use std::cmp::Ordering;
+
+fn accepts(op: &Op, order: Ordering) -> bool
+    ensures { result ≡ op_accepts op.now order }
+{
+    match op {
+        Op::Eq => order == Ordering::Equal,
+        Op::Ne => order != Ordering::Equal,
+        Op::Lt => order == Ordering::Less,
+        Op::Le => order != Ordering::Greater,
+        Op::Gt => order == Ordering::Greater,
+        Op::Ge => order != Ordering::Less,
+    }
+}
+
+fn accepts_integer(cond: &Cond, number: &i64) -> bool
+    ensures { result ≡ cond_accepts cond.now (Some (values.Int number.now)) }
+{
+    match &cond.value {
+        Value::Int(other) => accepts(&cond.op, number.cmp(other)),
+        Value::Text(_text) => false,
+    }
+}
+
+fn accepts_text(cond: &Cond, text: &str) -> bool
+    ensures { result ≡ cond_accepts cond.now (Some (values.Text text.now)) }
+{
+    match &cond.value {
+        Value::Int(_number) => false,
+        Value::Text(other) => accepts(&cond.op, text.cmp(other.as_str())),
+    }
+}
+
+/// The text that a code stands for.
+pub(crate) fn text_of<'a>(view: &ColumnView<'a>, code: u64) -> &'a str
+    requires { code < length (entries view.now.book) }
+    ensures { result.now ≡ slice_index_or (entries view.now.book) code [] }
+{
+    if code >= u64::from(view.texts()) {
+        unreachable!()
+    }
+    view.text(code as u32)
+}
+
+/// Whether what was decoded at a place meets the condition.
+fn is_met(rows: u32, cond: &Cond, decoded: &Decoded, place: u32) -> bool
+    requires sized { IsSized rows decoded.now }
+    requires place { place < rows }
+    ensures { result ≡ cond_accepts cond.now (decoded_at decoded.now place) }
+{
+    let place = place as usize;
+    match decoded {
+        Decoded::Missing => false,
+        Decoded::Ints(found) => found.present[place] && accepts_integer(cond, &found.values[place]),
+        Decoded::Texts(found) => {
+            found.present[place] && accepts_text(cond, text_of(found.view, found.codes[place]))
+        }
+    }
+}
+
+/// Of the texts of a column, by their codes, which meet the condition.
+fn accepted_texts(alloc: Global, cond: &Cond, view: &ColumnView) -> Result<Vec<bool>, AllocError>
+    ensures { IfOk result (λ all. all.items ≡ accepted_codes cond.now (entries view.now.book)) }
+{
+    let mut all = Vec::with_capacity(alloc, view.texts() as usize)?;
+    for code in 0..view.texts() {
+        all.push(accepts_text(cond, view.text(code)))?;
+    }
+    Ok(all)
+}
+
+/// Whether the text at a place meets the condition, by its code.
+fn is_code_met(rows: u32, cond: &Cond, found: &TextCodes, accepted: &[bool], place: u32) -> bool
+    requires sized { IsSized rows (Texts found.now) }
+    requires accepted { accepted.now ≡ accepted_codes cond.now (entries found.now.view.now.book) }
+    requires place { place < rows }
+    ensures { result ≡ cond_accepts cond.now (decoded_at (Texts found.now) place) }
+{
+    let place = place as usize;
+    found.present[place] && accepted[found.codes[place] as usize]
+}
+
+/// The places at which a text meets the condition: each text is looked at once.
+fn narrow_texts(
+    alloc: Global,
+    rows: u32,
+    cond: &Cond,
+    found: &TextCodes,
+    places: &[u32],
+) -> Result<Vec<u32>, AllocError>
+    requires sized { IsSized rows (Texts found.now) }
+    requires places { AllByRecursion (λ place. place < rows) places.now }
+    ensures { IfOk result (λ left. left.items ≡ filter (λ i. cond_accepts cond.now (decoded_at (Texts found.now) i)) places.now) }
+{
+    let accepted = accepted_texts(alloc, cond, found.view)?;
+    let mut left = Vec::new(alloc);
+    for place in places {
+        if is_code_met(rows, cond, found, accepted.as_slice(), *place) {
+            left.push(*place)?;
+        }
+    }
+    Ok(left)
+}
+
+/// The places at which what was decoded meets the condition, each looked at by itself.
+fn narrow_each(
+    alloc: Global,
+    rows: u32,
+    cond: &Cond,
+    decoded: &Decoded,
+    places: &[u32],
+) -> Result<Vec<u32>, AllocError>
+    requires sized { IsSized rows decoded.now }
+    requires places { AllByRecursion (λ place. place < rows) places.now }
+    ensures { IfOk result (λ left. left.items ≡ filter (λ i. cond_accepts cond.now (decoded_at decoded.now i)) places.now) }
+{
+    let mut left = Vec::new(alloc);
+    for place in places {
+        if is_met(rows, cond, decoded, *place) {
+            left.push(*place)?;
+        }
+    }
+    Ok(left)
+}
+
+/// The places at which what was decoded meets the condition.
+fn narrow(
+    alloc: Global,
+    rows: u32,
+    cond: &Cond,
+    decoded: &Decoded,
+    places: &[u32],
+) -> Result<Vec<u32>, AllocError>
+    requires sized { IsSized rows decoded.now }
+    requires places { AllByRecursion (λ place. place < rows) places.now }
+    ensures { IfOk result (λ left. left.items ≡ filter (λ i. cond_accepts cond.now (decoded_at decoded.now i)) places.now) }
+{
+    match decoded {
+        Decoded::Missing | Decoded::Ints(_) => narrow_each(alloc, rows, cond, decoded, places),
+        Decoded::Texts(found) => narrow_texts(alloc, rows, cond, found, places),
+    }
+}
+
+/// The places that meet all conditions, or None where two columns have the name of one.
+pub(crate) fn narrow_all(
+    alloc: Global,
+    conds: &[Cond],
+    times: &[i64],
+    read: &[ReadColumn],
+    places: Vec<u32>,
+) -> Result<Option<Vec<u32>>, AllocError>
+    requires few { length times.now ≤ 65536 }
+    requires read { AllByRecursion (IsRead (length times.now)) read.now }
+    requires places { AllByRecursion (λ place. place < length times.now) places.items }
+    ensures { IfOk result (λ found. IfSome found (λ left. left.items ≡ filter (λ i. conds_hold conds.now (row_of times.now (columns_of read.now) i)) places.items)) }
+{
+    let mut left = places;
+    for cond in conds {
+        let Some(decoded) = decode(alloc, &cond.name, times, read)? else {
+            return Ok(None);
+        };
+        left = narrow(alloc, times.len() as u32, cond, &decoded, left.as_slice())?;
+    }
+    Ok(Some(left))
+}

@@ -1,0 +1,41 @@
+// A query over blocks and a tail.
+ghost use Rattle.std.specs.Prelude.{◌≡◌, ◌+◌, ◌≤◌, ◌^◌, length, IfOk};
+ghost use Rattle.std.specs.List.{AllByRecursion};
+ghost use Rattle.leaf_model.specs.Groups.{groups};
+ghost use Rattle.group_table.specs.Joined.{IsWithin};
+ghost use Rattle.block_scan.specs.Held.{IsSkip, rows_held};
+ghost use Rattle.block_scan.specs.Scanning.{most_steps};
+
+use crate::block::read_blocks;
+use crate::parts::fold_blocks;
+use crate::tail::fold_live;
+use group_table::merge;
+use leaf_model::{Groups, Query, Row, Steps};
+use row_blocks::Blocks;
+use std::alloc::{AllocError, Global};
+use std::sync::ledger::Ledger;
+use std::thread::Threads;
+
+/// The groups of the rows that pass, without the first `skip` rows of the blocks and without those below the horizon.
+/// Columns are read in the caller's thread, a step each; then the blocks are folded in threads.
+pub fn scan<L: Ledger, R: Threads + Sync>(
+    rt: &R,
+    alloc: Global,
+    query: &Query,
+    blocks: &Blocks,
+    tail: &[Row],
+    skip: u32,
+    horizon: i64,
+    steps: &mut Steps<L>,
+) -> Result<Groups, AllocError>
+    requires skip { IsSkip skip blocks.now }
+    requires few { length (rows_held blocks.now tail.now skip horizon) ≤ 2 ^ 40 }
+    ensures groups { IfOk result (λ gs. gs ≡ groups query.now (rows_held blocks.now tail.now skip horizon)) }
+    ensures within { IfOk result (λ gs. AllByRecursion (IsWithin (length (rows_held blocks.now tail.now skip horizon))) gs) }
+    ensures steps { steps.new ≤ steps.old + most_steps query.now blocks.now }
+{
+    let views = read_blocks(alloc, query, blocks.as_slice(), skip, horizon, steps)?;
+    let all = fold_blocks(rt, alloc, query, views.as_slice())?;
+    let last = fold_live(alloc, query, tail, horizon)?;
+    merge(alloc, all, last)
+}

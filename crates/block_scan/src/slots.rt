@@ -1,0 +1,154 @@
+// Places in slots, by the code of the one key that they have.
+ghost use Rattle.std.specs.Prelude.{◌≡◌, ℕ, ◌<◌, ◌≤◌, List, [], ◌∷◌, length, map, filter, not, nat_lt, slice_index_or, IfOk, IfSome};
+ghost use Rattle.std.specs.List.{AllByRecursion};
+ghost use Rattle.block_scan.specs.Reads.{IsRead, columns_of, row_of};
+ghost use Rattle.leaf_model.specs.declared.groups.Key.TheVariants as key;
+ghost use Rattle.column_bytes.specs.Cells.{entries};
+ghost use Rattle.block_scan.specs.Slots.{AreSlots, IsHeld, keys_at, slot_at, slots_in};
+
+use crate::decoded::{Decoded, TextCodes, decode};
+use crate::narrowing::text_of;
+use crate::reading::ReadColumn;
+use column_bytes::ColumnView;
+use leaf_model::{Key, Keys, Query, Text};
+use std::alloc::{AllocError, Global};
+
+/// Where places stand: all in one slot, or each by the code of its text.
+#[derive(Drop)]
+pub enum Slots<'b, 'a> {
+    Alone,
+    Coded(TextCodes<'b, 'a>),
+}
+
+/// The slots of a query's keys: of none, or of one that is no integer in this block. None where it has others.
+pub(crate) fn slots_of<'b, 'a>(
+    alloc: Global,
+    query: &Query,
+    times: &[i64],
+    read: &'b [ReadColumn<'a>],
+) -> Result<Option<Slots<'b, 'a>>, AllocError>
+    requires few { length times.now ≤ 65536 }
+    requires read { AllByRecursion (IsRead (length times.now)) read.now }
+    ensures { IfOk result (λ found. IfSome found (λ slots. AreSlots query.now (length times.now) (row_of times.now (columns_of read.now)) slots)) }
+{
+    match query.keys.as_slice() {
+        [] => Ok(Some(Slots::Alone)),
+        [name] => match decode(alloc, name, times, read)? {
+            Some(Decoded::Missing) => Ok(Some(Slots::Alone)),
+            Some(Decoded::Texts(codes)) => Ok(Some(Slots::Coded(codes))),
+            Some(Decoded::Ints(_)) | None => Ok(None),
+        },
+        _ => Ok(None),
+    }
+}
+
+fn missing_keys(alloc: Global, names: &[Text]) -> Result<Keys, AllocError>
+    ensures { IfOk result (λ keys. keys ≡ map (λ (name : List ℕ). key.Missing) names.now) }
+{
+    let mut keys = Vec::with_capacity(alloc, names.len())?;
+    for _name in names {
+        keys.push(Key::Missing)?;
+    }
+    Ok(Keys::of(keys))
+}
+
+fn text_key(alloc: Global, view: &ColumnView, code: u64) -> Result<Keys, AllocError>
+    requires { code < length (entries view.now.book) }
+    ensures { IfOk result (λ keys. keys ≡ key.Text (slice_index_or (entries view.now.book) code []) ∷ []) }
+{
+    let text = String::from_str(alloc, text_of(view, code))?;
+    let mut keys = Vec::with_capacity(alloc, 1)?;
+    keys.push(Key::Text(Text::of(text)))?;
+    Ok(Keys::of(keys))
+}
+
+/// The keys of a slot.
+pub(crate) fn keys_of_slot(
+    alloc: Global,
+    query: &Query,
+    slots: &Slots,
+    slot: u64,
+) -> Result<Keys, AllocError>
+    requires { slot < slots_in slots.now }
+    ensures { IfOk result (λ keys. keys ≡ keys_at query.now slots.now slot) }
+{
+    match slots {
+        Slots::Alone => missing_keys(alloc, query.keys.as_slice()),
+        Slots::Coded(found) => {
+            if slot == 0 {
+                return missing_keys(alloc, query.keys.as_slice());
+            }
+            text_key(alloc, found.view, slot - 1)
+        }
+    }
+}
+
+/// How many slots there are.
+pub(crate) fn slots_in(slots: &Slots) -> u64
+    ensures { result ≡ slots_in slots.now }
+{
+    match slots {
+        Slots::Alone => 1,
+        Slots::Coded(found) => u64::from(found.view.texts()) + 1,
+    }
+}
+
+/// Whether a place stands in one of the first so many slots.
+fn is_below(rows: u32, slots: &Slots, bound: u64, place: u32) -> bool
+    requires held { IsHeld rows slots.now }
+    requires place { place < rows }
+    ensures { result ≡ nat_lt (slot_at slots.now place) bound }
+{
+    match slots {
+        Slots::Alone => 0 < bound,
+        Slots::Coded(found) => {
+            if found.present[place as usize] {
+                found.codes[place as usize] < bound.saturating_sub(1)
+            } else {
+                0 < bound
+            }
+        }
+    }
+}
+
+/// The places that stand in one of the first so many slots.
+pub(crate) fn places_below(
+    alloc: Global,
+    rows: u32,
+    slots: &Slots,
+    bound: u64,
+    places: &[u32],
+) -> Result<Vec<u32>, AllocError>
+    requires held { IsHeld rows slots.now }
+    requires places { AllByRecursion (λ place. place < rows) places.now }
+    ensures { IfOk result (λ some. some.items ≡ filter (λ i. nat_lt (slot_at slots.now i) bound) places.now) }
+{
+    let mut some = Vec::new(alloc);
+    for place in places {
+        if is_below(rows, slots, bound, *place) {
+            some.push(*place)?;
+        }
+    }
+    Ok(some)
+}
+
+/// The others.
+pub(crate) fn places_from(
+    alloc: Global,
+    rows: u32,
+    slots: &Slots,
+    bound: u64,
+    places: &[u32],
+) -> Result<Vec<u32>, AllocError>
+    requires held { IsHeld rows slots.now }
+    requires places { AllByRecursion (λ place. place < rows) places.now }
+    ensures { IfOk result (λ some. some.items ≡ filter (λ i. not (nat_lt (slot_at slots.now i) bound)) places.now) }
+{
+    let mut some = Vec::new(alloc);
+    for place in places {
+        if !is_below(rows, slots, bound, *place) {
+            some.push(*place)?;
+        }
+    }
+    Ok(some)
+}
