@@ -1,5 +1,7 @@
-//! Tests of a table that its callers and its steward share by turns.
+//! Tests of a table that its callers and its steward share by turns, and of the tables of two leaves that are asked at once.
 #![tactic(auto)]
 
+#[cfg(test)]
+mod fleets;
 #[cfg(test)]
 mod lives;

@@ -50,7 +50,7 @@ fn one_row(alloc: Global, bytes: &[u8]) -> Result<Rows, AllocError>
 }
 
 /// A query that counts the rows with a time from 0 to 9.
-fn count_all(alloc: Global) -> Result<Query, AllocError> {
+pub(crate) fn count_all(alloc: Global) -> Result<Query, AllocError> {
     let mut aggs = Vec::new(alloc);
     aggs.push(Agg::Count)?;
     Ok(Query {
