@@ -1,8 +1,8 @@
--- A run's beginning: over new tables of a leaf that is down.
-use Rattle.std.proofs.Common.{◌≡◌, inl, inr, ℕ, ◌<◌, true, false, List, [], ◌∷◌, length, Option, Some, None, refl, sym, ap, subst, ◌∙◌, arith}
-use Rattle.std.specs.Prelude.{slice_get, IfSome}
+-- A run's beginning: over new tables of leaves that are down.
+use Rattle.std.proofs.Common.{◌≡◌, inl, inr, ℕ, zero, suc, ◌+◌, ◌<◌, ◌≤◌, true, false, List, [], ◌∷◌, length, Option, Some, None, refl, sym, ap, subst, ◌∙◌, arith}
+use Rattle.std.specs.Prelude.{slice_get, take, IfSome}
 use Rattle.std.specs.List.{AllByRecursion}
-use Rattle.std.proofs.lemmas.List.{length-map}
+use Rattle.std.proofs.lemmas.List.{length-map, length-take}
 use Rattle.berth_face.specs.Berth.{Meaning}
 use Rattle.region_layout.specs.Names.{AreNames}
 use Rattle.crash_moments.specs.Left.{NamedStates}
@@ -10,33 +10,42 @@ use Rattle.leaf_history.specs.History.{no_base}
 use Rattle.leaf_table.specs.declared.base.TableBase.{TableBase}
 use Rattle.leaf_table.specs.Turns.{Shared, is_founded, start_of}
 use Rattle.leaf_table.specs.Calls.{SeatView, base_seen, name_of}
-use Rattle.leaf_steward.specs.Seated.{AreAlike, AreFounded, AtEach}
+use Rattle.leaf_table.specs.Fleet.{IsNewFleet}
+use Rattle.leaf_table.specs.Lists.{row}
+use Rattle.leaf_steward.specs.Seated.{AreAlike, AreFounded, AtEach, Seated}
 use Rattle.leaf_machine.specs.States.{MayBegin}
-use Rattle.transcript.specs.Stage.{Leaf, IsDown, Stands}
-use Rattle.transcript.specs.Steps.{this_leaf}
+use Rattle.transcript.specs.Pieces.{Fleet, leaf_count}
+use Rattle.transcript.specs.Counts.{IsCounted}
+use Rattle.transcript.specs.Holds.{Hold}
+use Rattle.transcript.specs.Stage.{IsDown, Stands, seated_of}
 use Rattle.transcript.specs.Transcript.{Known}
-use Rattle.transcript.specs.Leaving.{IsKnown}
-use Rattle.sessions.specs.Session.{AreGrounded}
-use Rattle.sessions.specs.Laws.{IsNewStage, StandsFirst}
-use Rattle.sessions.proofs.Lists.{All-weaken, clash_bool}
+use Rattle.transcript.specs.Leaving.{AreKnown, IsKnown}
+use Rattle.leaf_sessions.specs.Session.{AreGrounded, IsNewStage, StandsFirst}
+use Rattle.sessions.specs.Laws.{IsNewHold}
+use Rattle.player.specs.Crew.{column, new_holds, seated_at}
+use Rattle.play.specs.Played.{AreBases, IsBase, KeepsCounts}
+use Rattle.play.specs.Runs.{RunSoFar, berths_in, table_bases}
+use Rattle.play.proofs.Fleets.{AreNewTables, leaf_tables}
 use Rattle.sessions.proofs.Playing.{begins}
-use Rattle.play.specs.Played.{IsBaseOf}
-use Rattle.play.specs.Runs.{AreNewTables, RunSoFar, seated}
-use Rattle.play.proofs.Fleets.{each_at}
+use Rattle.leaf_sessions.proofs.Lists.{All-weaken, clash_bool, get_map, same_some, within}
+use Rattle.play.proofs.Lists.{each_at, get_take}
 use Rattle.play.proofs.Plays.{appends_nothing, counted_nothing, keeps_same}
+
+-- a leaf's tables, and the steward's seats at them
+abbrev seated : List (List ℕ) → List Shared → List SeatView → Seated
+seated names tables stewards = record { names = names; tables = tables; seats = stewards }
 
 -- founded as the base says
 abbrev IsFoundedBy : NamedStates → Shared → Type 0
 IsFoundedBy b t = (is_founded (base_seen t) ≡ true) × (start_of (base_seen t) ≡ b (name_of t))
 
+-- the tables begin where this base says
+abbrev StartAs : NamedStates → Seated → Type 0
+StartAs b x = AtEach (λ place t v. start_of (base_seen t) ≡ b (name_of t)) x
+
 not_both : (tables : List Shared) → 0 < length tables → AllByRecursion (λ (t : Shared). is_founded (base_seen t) ≡ true) tables → AllByRecursion (λ (t : Shared). is_founded (base_seen t) ≡ false) tables → ⊥
 not_both [] some founded unfounded = omega (arith, some)
 not_both (t ∷ ts) some founded unfounded = clash_bool (is_founded (base_seen t)) founded.0 unfounded.0
-
--- the same names and the same tables
-pub same_tables : {base : Option NamedStates} {names others : List (List ℕ)} {tables ts : List Shared} {stewards callers : List SeatView} → others ≡ names → ts ≡ tables
-    → AreNewTables base names tables stewards callers → AreNewTables base others ts stewards callers
-same_tables e f t = rw (e, f) t
 
 as_many : {base : Option NamedStates} {names : List (List ℕ)} {tables : List Shared} {stewards callers : List SeatView} → AreNewTables base names tables stewards callers → length tables ≡ length names
 as_many {tables = tables} t = sym (length-map tables name_of) ∙ ap (λ (ns : List (List ℕ)). length ns) t.named
@@ -49,6 +58,9 @@ module _ {b : NamedStates} {names : List (List ℕ)} {tables : List Shared} {ste
 
   founded_at : (place : ℕ) (s : Shared) → slice_get tables place ≡ Some s → IsFoundedBy b s
   founded_at place s at = each_at (IsFoundedBy b) tables t.founded place s at
+
+  start_as : StartAs b (seated names tables stewards)
+  start_as place s v at sat = (founded_at place s at).1
 
 -- ---- where they begin
 
@@ -78,49 +90,126 @@ new_stage m known are t is = record {
     distinct = are.distinct;
   };
   grounded = grounded m known t is;
-  unused = λ place s v c at sat called. ((t.unused place s v at sat).unused, (t.unused_callers place s c at called).unused);
+  unused = λ place s v c at sat called. t.unused place s v c at sat called;
 }
 
 -- ---- what a new leaf asks
 
-pub alike : {base : Option NamedStates} {names : List (List ℕ)} {tables : List Shared} {stewards callers : List SeatView} → AreNewTables base names tables stewards callers → AreAlike (seated names tables stewards)
+alike : {base : Option NamedStates} {names : List (List ℕ)} {tables : List Shared} {stewards callers : List SeatView} → AreNewTables base names tables stewards callers → AreAlike (seated names tables stewards)
 alike {base = None} t = inr (t.unfounded refl)
 alike {base = Some b} t = inl (all_founded t)
 
 -- where the tables are founded, it is with the base that is named
-pub ready : {base : Option NamedStates} {names : List (List ℕ)} {tables : List Shared} {stewards callers : List SeatView} (m : Meaning)
-    → AreNames names → AreNewTables base names tables stewards callers → IsBaseOf base m
-    → AreFounded (seated names tables stewards) → (b : NamedStates) × MayBegin b m × AtEach (λ place t v. start_of (base_seen t) ≡ b (name_of t)) (seated names tables stewards)
+ready : {base : Option NamedStates} {names : List (List ℕ)} {tables : List Shared} {stewards callers : List SeatView} (m : Meaning)
+    → AreNames names → AreNewTables base names tables stewards callers → IfSome base (λ b. IsBase b m)
+    → AreFounded (seated names tables stewards) → (b : NamedStates) × MayBegin b m × StartAs b (seated names tables stewards)
 ready {base = None} {tables = tables} m are t is founded = absurd (not_both tables (omega (arith, are.some, as_many t)) founded (t.unfounded refl))
-ready {base = Some b} m are t is founded = (b, is.begins, λ place s v at sat. (founded_at t place s at).1)
+ready {base = Some b} m are t is founded = (b, is.begins, start_as t)
 
--- ---- the beginning
-
--- what stands of a leaf over these tables, where their base is one that may begin over the berth
-abbrev pub StandsThere : List (List ℕ) → List Shared → List SeatView → Leaf → Meaning → Meaning → Type 0
-StandsThere names tables stewards leaf m m' = (b : NamedStates) → AreFounded (seated names tables stewards) → MayBegin b m
-    → AtEach (λ place t v. start_of (base_seen t) ≡ b (name_of t)) (seated names tables stewards) → Stands b leaf m'
+-- what stands of a leaf over its tables, where their base is one that may begin over the berth
+abbrev StandsThere : {B : Type 0} → (B → Meaning) → Hold B → Type 0
+StandsThere meaning x = (states : NamedStates) → AreFounded (seated_of x.leaf) → MayBegin states (meaning x.berth) → StartAs states (seated_of x.leaf) → Stands states x.leaf (meaning x.berth)
 
 stands_first : {base : Option NamedStates} {names : List (List ℕ)} {tables : List Shared} {stewards callers : List SeatView} (m : Meaning)
-    → AreNewTables base names tables stewards callers → IsBaseOf base m → StandsThere names tables stewards (IsDown (seated names tables stewards)) m m
+    → AreNewTables base names tables stewards callers → IfSome base (λ b. IsBase b m)
+    → ((states : NamedStates) → AreFounded (seated names tables stewards) → MayBegin states m → StartAs states (seated names tables stewards) → Stands states (IsDown (seated names tables stewards)) m)
     → IfSome base (StandsFirst (seated names tables stewards) m)
 stands_first {base = None} m t is stands = tt
-stands_first {base = Some b} m t is stands =
-    record { begins = is.begins; stands = stands b (all_founded t) is.begins (λ place s v at sat. (founded_at t place s at).1) }
+stands_first {base = Some b} m t is stands = record { begins = is.begins; stands = stands b (all_founded t) is.begins (start_as t) }
 
--- nothing was written yet
-pub run_begins : {base : Option NamedStates} {names : List (List ℕ)} {tables : List Shared} {stewards callers : List SeatView} (m : Meaning) (was : Option (List ℕ)) (leaf : Leaf) (seats : List SeatView)
-    → AreNames names → AreNewTables base names tables stewards callers → IsBaseOf base m
-    → leaf ≡ IsDown (seated names tables stewards) → seats ≡ callers → StandsThere names tables stewards leaf m m
-    → RunSoFar base names m m was was [] leaf seats
-run_begins {base = base} {names = names} {tables = tables} {stewards = stewards} {callers = callers} m was leaf seats are t is down same stands =
-    let first = stands_first m t is (subst (λ (l : Leaf). StandsThere names tables stewards l m m) down stands) in
-    subst (λ (l : Leaf). RunSoFar base names m m was was [] l seats) (sym down)
-    (subst (λ (cs : List SeatView). RunSoFar base names m m was was [] (IsDown (seated names tables stewards)) cs) (sym same) (record {
-      played = [];
-      commands_are = refl;
-      text = appends_nothing was;
-      counted = counted_nothing this_leaf m;
-      keeps = keeps_same m;
-      session = λ known of_leaf. begins m names base known (seated names tables stewards) callers are first of_leaf (new_stage m (known this_leaf) are t of_leaf);
-    }))
+-- ---- the leaves
+
+module _ {B : Type 0} (names : List (List ℕ)) (rows : List (List Shared)) (stewards callers : List (List SeatView)) where
+  -- a new leaf over this berth
+  abbrev pub new_hold : ℕ → B → Hold B
+  new_hold leaf b = record { leaf = IsDown (seated_at names rows stewards leaf); callers = column leaf callers; berth = b }
+
+  abbrev holds_from : ℕ → List B → List (Hold B)
+  holds_from from bs = new_holds from names rows stewards callers bs
+
+  pub hold_at : (from : ℕ) (bs : List B) (i leaf : ℕ) (x : Hold B) → leaf ≡ from + i → slice_get (holds_from from bs) i ≡ Some x → (b : B) × (slice_get bs i ≡ Some b) × (new_hold leaf b ≡ x)
+  hold_at from [] i leaf x e at = absurd cc
+  hold_at from (b ∷ bs) zero leaf x e at =
+      let same : leaf ≡ from = omega (arith, e) in
+      (b, refl, ap (λ n. new_hold n b) same ∙ same_some (new_hold from b) x at)
+  hold_at from (b ∷ bs) (suc i) leaf x e at = hold_at (suc from) bs i leaf x (omega (arith, e)) at
+
+  pub as_many_holds : (from : ℕ) (bs : List B) → length (holds_from from bs) ≡ length bs
+  as_many_holds from [] = refl
+  as_many_holds from (b ∷ bs) = ap suc (as_many_holds (suc from) bs)
+
+  pub berths_of_holds : (from : ℕ) (bs : List B) → berths_in (holds_from from bs) ≡ bs
+  berths_of_holds from [] = refl
+  berths_of_holds from (b ∷ bs) = ap (λ (cs : List B). b ∷ cs) (berths_of_holds (suc from) bs)
+
+-- ---- a crew over a new fleet
+
+module _ {B : Type 0} (base : ℕ → Option NamedStates) (meaning : B → Meaning) (berths : List B) (names : List (List ℕ)) (leaves : ℕ) (rows : List (List Shared)) (stewards callers : List (List SeatView))
+    (are : AreBases base meaning berths) (enough : leaves ≤ length berths) (are_names : AreNames names)
+    (f : IsNewFleet (table_bases base names) leaves names 65536 rows stewards callers) where
+  abbrev TablesAt : ℕ → Type 0
+  TablesAt leaf = AreNewTables (base leaf) names (row rows leaf) (row stewards leaf) (column leaf callers)
+
+  tables_at : (leaf : ℕ) → leaf < leaves → TablesAt leaf
+  tables_at leaf below = leaf_tables base meaning berths names leaves rows stewards callers are enough f leaf below
+
+  pub alike_at : (leaf : ℕ) → leaf < leaves → AreAlike (seated_at names rows stewards leaf)
+  alike_at leaf below = alike (tables_at leaf below)
+
+  pub ready_at : (leaf : ℕ) (b : B) → leaf < leaves → slice_get berths leaf ≡ Some b → AreFounded (seated_at names rows stewards leaf)
+      → (states : NamedStates) × MayBegin states (meaning b) × StartAs states (seated_at names rows stewards leaf)
+  ready_at leaf b below at founded = ready (meaning b) are_names (tables_at leaf below) (are leaf b at) founded
+
+  new_is : (leaf : ℕ) (b : B) (known : Option Known) → leaf < leaves → slice_get berths leaf ≡ Some b → IsKnown (base leaf) (meaning b) known
+      → StandsThere meaning (new_hold names rows stewards callers leaf b) → IsNewHold meaning names (base leaf) known (new_hold names rows stewards callers leaf b)
+  new_is leaf b known below at is stands =
+      let tables = tables_at leaf below in
+      record {
+        seated = seated_at names rows stewards leaf;
+        down = refl;
+        first = stands_first (meaning b) tables (are leaf b at) stands;
+        is_known = is;
+        new = new_stage (meaning b) known are_names tables is;
+      }
+
+  abbrev taken : List B
+  taken = take leaves berths
+
+  taken_are : length taken ≡ leaves
+  taken_are = length-take leaves berths ∙ omega (arith, enough)
+
+  -- nothing was written yet
+  pub run_begins : (fleet : Fleet) (was : Option (List ℕ)) (xs : List (Hold B)) → leaf_count fleet ≡ leaves → fleet.names ≡ names
+      → xs ≡ new_holds 0 names rows stewards callers taken → ((leaf : ℕ) (x : Hold B) (states : NamedStates) → slice_get xs leaf ≡ Some x → AreFounded (seated_of x.leaf) → MayBegin states (meaning x.berth)
+      → StartAs states (seated_of x.leaf) → Stands states x.leaf (meaning x.berth))
+      → RunSoFar base meaning fleet (berths_in xs) was was [] xs
+  run_begins fleet was xs count named made stands = record {
+    played = [];
+    commands_are = refl;
+    text = appends_nothing was;
+    counted = λ leaf old x at now. subst (λ (b : B). IsCounted leaf [] (meaning b) (meaning x.berth)) (same_berth leaf old x at now) (counted_nothing leaf (meaning x.berth));
+    keeps = record {
+      as_many = sym (length-map xs (λ (x : Hold B). x.berth));
+      each = λ leaf old x at now. subst (λ (b : B). KeepsCounts (meaning b) (meaning x.berth)) (same_berth leaf old x at now) (keeps_same (meaning x.berth));
+    };
+    session = λ known is. begins meaning (berths_in xs) fleet base known xs (subst AreNames (sym named) are_names)
+        (ap (λ (ys : List (Hold B)). length ys) made ∙ (as_many_holds names rows stewards callers 0 taken ∙ (taken_are ∙ sym count))) refl (each_new known is);
+  }
+    where
+      same_berth : (leaf : ℕ) (old : B) (x : Hold B) → slice_get (berths_in xs) leaf ≡ Some old → slice_get xs leaf ≡ Some x → x.berth ≡ old
+      same_berth leaf old x at now = same_some x.berth old (sym (get_map (λ (y : Hold B). y.berth) xs leaf x now) ∙ at)
+
+      each_new : (known : ℕ → Option Known) → AreKnown meaning (berths_in xs) (berths_in xs) base known → (leaf : ℕ) (x : Hold B) → slice_get xs leaf ≡ Some x
+          → IsNewHold meaning fleet.names (base leaf) (known leaf) x
+      each_new known is leaf x at =
+          let there = hold_at names rows stewards callers 0 taken leaf leaf x (omega arith) (subst (λ (ys : List (Hold B)). slice_get ys leaf ≡ Some x) made at) in
+          let b = there.0 in
+          let here : slice_get berths leaf ≡ Some b = get_take leaves berths leaf b there.1 in
+          let below : leaf < leaves = omega (arith, within taken leaf b there.1, taken_are) in
+          let known_here = is leaf x.berth (get_map (λ (y : Hold B). y.berth) xs leaf x at) in
+          let stands_here : StandsThere meaning x = λ states founded begins starts. stands leaf x states at founded begins starts in
+          subst (λ (ns : List (List ℕ)). IsNewHold meaning ns (base leaf) (known leaf) x) (sym named)
+          (subst (IsNewHold meaning names (base leaf) (known leaf)) there.2
+          (new_is leaf b (known leaf) below here
+          (subst (λ (y : Hold B). IsKnown (base leaf) (meaning y.berth) (known leaf)) (sym there.2) known_here)
+          (subst (StandsThere meaning) (sym there.2) stands_here)))

@@ -1,7 +1,8 @@
--- A run leaves a base that can be kept of the first berth, where its base was known.
-use Rattle.std.proofs.Common.{◌≡◌, ◌⊎◌, inl, inr, ℕ, zero, suc, ◌<◌, Bool, true, false, List, [], ◌∷◌, length, Option, Some, None, refl, sym, subst, arith}
-use Rattle.std.specs.Prelude.{◌==◌, IfSome, drop, slice_get, if◌then◌else◌}
-use Rattle.std.proofs.lemmas.Bool.{eqb-true, eqb-false}
+-- A run leaves a base that can be kept of each berth whose base was known.
+use Rattle.std.proofs.Common.{◌≡◌, ◌⊎◌, inl, inr, ◌∙◌, ℕ, zero, suc, ◌<◌, ◌≤◌, Bool, true, false, List, [], ◌∷◌, length, Option, Some, None, refl, sym, ap, subst, arith}
+use Rattle.std.specs.Prelude.{IfSome, drop, nat_lt, slice_get, if◌then◌else◌}
+use Rattle.std.proofs.lemmas.Bool.{ltb-false}
+use Rattle.std.proofs.lemmas.Bool.Decides.{nat_tests}
 use Rattle.leaf_model.specs.declared.writes.Write.{Write}
 use Rattle.berth_face.specs.Berth.{Meaning}
 use Rattle.leaf_history.specs.History.{Entry}
@@ -23,14 +24,14 @@ use Rattle.leaf_machine.specs.Leaving.{BeginsAgain}
 use Rattle.script_text.specs.declared.command.Command.{Command}
 use Rattle.printed_lines.specs.declared.line.Line.{Line}
 use Rattle.transcript.specs.Base.{watched_with}
-use Rattle.transcript.specs.Pieces.{fleet_of, leaf_count}
+use Rattle.transcript.specs.Pieces.{Fleet, fleet_of, leaf_count}
 use Rattle.transcript.specs.Leaving.{AreKnown, IsKnown, IsToldRun}
-use Rattle.transcript.specs.Steps.{this_leaf}
 use Rattle.transcript.specs.Transcript.{Known}
-use Rattle.sessions.proofs.Lists.{same_some}
+use Rattle.leaf_sessions.proofs.Lists.{element_at, same_some, within}
+use Rattle.play.proofs.Lists.{choose_each}
 use Rattle.play.proofs.Listing.{front_same, list_kept}
-use Rattle.play.specs.Played.{AreBases, IsBase, IsPlayed, LeavesBerths, names_in}
-use Rattle.play.specs.Keeping.{ArePlayedTwice, IsKeptOf, KeepsFirst, Kept, LeavesKnown, bases_of, states_of, tables_left}
+use Rattle.play.specs.Played.{AreBases, IsBase, IsPlayed, commands_of}
+use Rattle.play.specs.Keeping.{ArePlayedTwice, IsKeptOf, KeepsEach, KeepsOne, Kept, LeavesKnown, base_kept, bases_of, tables_left}
 use Rattle.play.specs.Outcome.{IsDone}
 use Rattle.play.specs.declared.words.Request.{Request}
 use Rattle.play.specs.declared.words.Request.TheVariants.{Play}
@@ -102,100 +103,104 @@ base_known base m known k e is has = by base (subst (IsKnown base m) e is) has
     by None is has = absurd is
     by (Some states) is has = subst (λ (b : NamedStates). IsBase b m) (sym is.0) has
 
--- ---- of the first berth
+-- ---- of one berth
 
-no_leaf : (n : ℕ) → (n == 0) ≡ true → n ≡ 0
-no_leaf n e = eqb-true n 0 e
+below_there : (a b : ℕ) → nat_lt a b ≡ true → a < b
+below_there a b e = grind (arith, nat_tests)
 
-some_leaf : (n : ℕ) → (n == 0) ≡ false → 0 < n
-some_leaf zero e = absurd (eqb-false 0 0 e refl)
-some_leaf (suc n) e = omega arith
+-- a berth behind those of the leaves
+same_dropped : {B : Type 0} (n : ℕ) (olds news : List B) (leaf : ℕ) (old new : B) → n ≤ leaf → drop n news ≡ drop n olds → slice_get olds leaf ≡ Some old → slice_get news leaf ≡ Some new → old ≡ new
+same_dropped zero olds news leaf old new past same at now = same_some old new (sym at ∙ (ap (λ bs. slice_get bs leaf) (sym same) ∙ now))
+same_dropped (suc n) [] news leaf old new past same at now = absurd cc
+same_dropped (suc n) (o ∷ os) [] leaf old new past same at now = absurd cc
+same_dropped (suc n) (o ∷ os) (w ∷ ws) zero old new past same at now = absurd (omega (arith, past))
+same_dropped (suc n) (o ∷ os) (w ∷ ws) (suc leaf) old new past same at now = same_dropped n os ws leaf old new (omega (arith, past)) same at now
 
-same_head : {B : Type 0} (new old : B) (news olds : List B) → new ∷ news ≡ old ∷ olds → old ≡ new
-same_head new old news olds same = cc
+module _ {B : Type 0} (base : ℕ → Option NamedStates) (meaning : B → Meaning) (olds news : List B) (commands : List Command) (known : ℕ → Option Known) (lines : List Line)
+    (are : AreBases base meaning olds) (are_known : AreKnown meaning olds news base known) (places : (leaf : ℕ) (new : B) → slice_get news leaf ≡ Some new → (old : B) × (slice_get olds leaf ≡ Some old))
+    (told : IsToldRun meaning olds news commands known lines) where
+  abbrev histories : ℕ → ℕ → List Entry
+  histories = told.transcript.histories
 
-same_first : {B : Type 0} (n : ℕ) (new old : B) (news olds : List B) → n ≡ 0 → drop n (new ∷ news) ≡ drop n (old ∷ olds) → old ≡ new
-same_first zero new old news olds e same = same_head new old news olds same
-same_first (suc n) new old news olds e same = absurd cc
+  abbrev fleet : Fleet
+  fleet = fleet_of commands
 
-module _ {B : Type 0} (base : ℕ → Option NamedStates) (meaning : B → Meaning) (old new : B) (olds news : List B) (commands : List Command) (known : ℕ → Option Known) (lines : List Line)
-    (are : AreBases base meaning (old ∷ olds)) (are_known : AreKnown meaning (old ∷ olds) (new ∷ news) base known) (told : IsToldRun meaning (old ∷ olds) (new ∷ news) commands known lines) (k : Known) (is : known this_leaf ≡ Some k) where
-  abbrev histories : ℕ → List Entry
-  histories = told.transcript.histories this_leaf
+  -- of a leaf of the fleet
+  kept_of_some : (leaf : ℕ) (new : B) (k : Known) → slice_get news leaf ≡ Some new → known leaf ≡ Some k → leaf < leaf_count fleet
+      → (kept : List Kept) × IsKeptOf (tables_of k.base (watched_with fleet.names k.base (histories leaf)) (meaning new)) (meaning new) kept
+  kept_of_some leaf new k now is below =
+      let old = places leaf new now in
+      kept_behind (tables_of k.base (watched_with fleet.names k.base (histories leaf)) (meaning new)) (meaning new) (told.leaves leaf k below is old.0 new old.1 now).begins
 
-  abbrev behind : NamedStates
-  behind = tables_of k.base (watched_with (names_in commands) k.base histories) (meaning new)
+  -- of a berth that no leaf uses
+  kept_of_none : (leaf : ℕ) (new : B) (k : Known) → slice_get news leaf ≡ Some new → known leaf ≡ Some k → leaf_count fleet ≤ leaf → (kept : List Kept) × IsKeptOf k.base (meaning new) kept
+  kept_of_none leaf new k now is past =
+      let old = places leaf new now in
+      let was : IsBase k.base (meaning old.0) = base_known (base leaf) (meaning old.0) (known leaf) k is (are_known leaf old.0 old.1) (are leaf old.0 old.1) in
+      kept_same k.base (meaning new) (subst (λ (b : B). IsBase k.base (meaning b)) (same_dropped (leaf_count fleet) olds news leaf old.0 new past told.others old.1 now) was)
 
-  kept_of_none : leaf_count (fleet_of commands) ≡ 0 → (kept : List Kept) × IsKeptOf k.base (meaning new) kept
-  kept_of_none none =
-      let was : IsBase k.base (meaning old) = base_known (base this_leaf) (meaning old) (known this_leaf) k is (are_known this_leaf old refl) (are this_leaf old refl) in
-      kept_same k.base (meaning new)
-      (subst (λ (b : B). IsBase k.base (meaning b)) (same_first (leaf_count (fleet_of commands)) new old news olds none told.others) was)
-
-  kept_of_some : 0 < leaf_count (fleet_of commands) → (kept : List Kept) × IsKeptOf behind (meaning new) kept
-  kept_of_some some = kept_behind behind (meaning new) (told.leaves this_leaf k some is old new refl refl).begins
-
-  pub kept_first : (kept : List Kept) × IsKeptOf (tables_left (fleet_of commands) k.base histories (meaning new)) (meaning new) kept
-  kept_first = by (leaf_count (fleet_of commands) == 0) refl
+  kept_of_known : (leaf : ℕ) (new : B) (k : Known) → slice_get news leaf ≡ Some new → known leaf ≡ Some k → (kept : List Kept) × IsKeptOf (tables_left fleet leaf k.base (histories leaf) (meaning new)) (meaning new) kept
+  kept_of_known leaf new k now is = by (nat_lt leaf (leaf_count fleet)) refl
     where
-      by : (none : Bool) → (leaf_count (fleet_of commands) == 0) ≡ none → (kept : List Kept) × IsKeptOf (if none then k.base else behind) (meaning new) kept
-      by true e = kept_of_none (no_leaf (leaf_count (fleet_of commands)) e)
-      by false e = kept_of_some (some_leaf (leaf_count (fleet_of commands)) e)
+      by : (b : Bool) → nat_lt leaf (leaf_count fleet) ≡ b
+          → (kept : List Kept) × IsKeptOf (if b then tables_of k.base (watched_with fleet.names k.base (histories leaf)) (meaning new) else k.base) (meaning new) kept
+      by true e = kept_of_some leaf new k now is (below_there leaf (leaf_count fleet) e)
+      by false e = kept_of_none leaf new k now is (ltb-false leaf (leaf_count fleet) e)
 
-keeps_first : {B : Type 0} (base : ℕ → Option NamedStates) (meaning : B → Meaning) (old new : List B) (commands : List Command) (known : ℕ → Option Known) (lines : List Line)
-    → AreBases base meaning old → AreKnown meaning old new base known → LeavesBerths meaning old new → (told : IsToldRun meaning old new commands known lines)
-    → (next : Option (List Kept)) × KeepsFirst meaning new (fleet_of commands) (known this_leaf) (told.transcript.histories this_leaf) next
-keeps_first base meaning old [] commands known lines are are_known places told = (None, refl)
-keeps_first base meaning [] (new ∷ news) commands known lines are are_known places told = absurd places
-keeps_first base meaning (old ∷ olds) (new ∷ news) commands known lines are are_known places told = by (known this_leaf) refl
-  where
-    by : (k : Option Known) → known this_leaf ≡ k → (next : Option (List Kept)) × KeepsFirst meaning (new ∷ news) (fleet_of commands) k (told.transcript.histories this_leaf) next
-    by None e = (None, refl)
-    by (Some k) e =
-        let kept = kept_first base meaning old new olds news commands known lines are are_known told k e in
-        (Some kept.0, kept.1)
+  kept_one : (leaf : ℕ) (new : B) → slice_get news leaf ≡ Some new → (next : Option (List Kept)) × KeepsOne fleet leaf (known leaf) (histories leaf) (meaning new) next
+  kept_one leaf new now = by (known leaf) refl
+    where
+      by : (k : Option Known) → known leaf ≡ k → (next : Option (List Kept)) × KeepsOne fleet leaf k (histories leaf) (meaning new) next
+      by None e = (None, refl)
+      by (Some k) e =
+          let kept = kept_of_known leaf new k now e in
+          (Some kept.0, kept.1)
+
+  pub keeps_each : (next : List (Option (List Kept))) × KeepsEach meaning news fleet known histories next
+  keeps_each =
+      let all = choose_each (λ leaf (new : B) next. KeepsOne fleet leaf (known leaf) (histories leaf) (meaning new) next) news kept_one in
+      (all.0, record { as_many = all.1; each = all.2 })
 
 -- a play that was done leaves this known
 pub leaves_known : {B : Type 0} (base : ℕ → Option NamedStates) (meaning : B → Meaning) (before after was now : Option (List ℕ)) (old new : List B)
-    → IsPlayed base meaning before after was now old new → AreBases base meaning old → LeavesBerths meaning old new
-    → (next : Option (List Kept)) × LeavesKnown base meaning before after was now old new next
-leaves_known base meaning before after was now old new played are places =
+    → IsPlayed base meaning before after was now old new → AreBases base meaning old → length new ≡ length old
+    → (next : List (Option (List Kept))) × LeavesKnown base meaning before after was now old new next
+leaves_known base meaning before after was now old new played are as_many =
     let known = all_known base meaning old new are in
-    let next = keeps_first base meaning old new played.script.commands known.0 played.written.lines are known.1 places (played.written.told known.0 known.1) in
+    let next = keeps_each base meaning old new (commands_of played.script) known.0 played.written.lines are known.1
+    (λ leaf b at. element_at old leaf (omega (arith, within new leaf b at, as_many))) (played.written.told known.0 known.1) in
     (next.0, record { played = played; known = known.0; are_known = known.1; keeps = next.1 })
 
 -- the same, where what the source, the sink and the berths were is told by other values
 pub leaves_kept : {B S K : Type 0} (base : ℕ → Option NamedStates) (meaning : B → Meaning) (left : S → Option (List ℕ)) (written : K → Option (List ℕ)) (source said_source next_source : S) (sink said_sink next_sink : K) (old said_old new : List B)
     → said_source ≡ source → said_sink ≡ sink → said_old ≡ old
-    → IsPlayed base meaning (left source) (left next_source) (written sink) (written next_sink) old new → AreBases base meaning old → LeavesBerths meaning old new
-    → (next : Option (List Kept)) × LeavesKnown base meaning (left said_source) (left next_source) (written said_sink) (written next_sink) said_old new next
+    → IsPlayed base meaning (left source) (left next_source) (written sink) (written next_sink) old new → AreBases base meaning old → length new ≡ length old
+    → (next : List (Option (List Kept))) × LeavesKnown base meaning (left said_source) (left next_source) (written said_sink) (written next_sink) said_old new next
 leaves_kept base meaning left written source said_source next_source sink said_sink next_sink old said_old new e f h played are places =
     rw (e, f, h) (leaves_known base meaning (left source) (left next_source) (written sink) (written next_sink) old new played are places)
 
 -- ---- what is kept serves the next run
 
-none_kept : {B : Type 0} (meaning : B → Meaning) (berths : List B) (next : Option (List Kept)) → next ≡ None → AreBases (bases_of next) meaning berths
-none_kept meaning berths None e = λ leaf b at. tt
-none_kept meaning berths (Some kept) e = absurd cc
+-- a kept base is one where its list has it
+base_there : {B : Type 0} (meaning : B → Meaning) (b : B) (next : List (Option (List Kept))) (leaf : ℕ)
+    → ((kept : Option (List Kept)) → slice_get next leaf ≡ Some kept → IfSome (base_kept kept) (λ states. IsBase states (meaning b))) → IfSome (bases_of next leaf) (λ states. IsBase states (meaning b))
+base_there meaning b [] leaf each = tt
+base_there meaning b (kept ∷ more) zero each = each kept refl
+base_there meaning b (kept ∷ more) (suc leaf) each = base_there meaning b more leaf each
 
-first_kept : {B : Type 0} (meaning : B → Meaning) (berth : B) (berths : List B) (kept : List Kept) → IsBase (states_of kept) (meaning berth) → AreBases (bases_of (Some kept)) meaning (berth ∷ berths)
-first_kept {B} meaning berth berths kept is = by
-  where
-    by : (leaf : ℕ) (b : B) → slice_get (berth ∷ berths) leaf ≡ Some b → IfSome (bases_of (Some kept) leaf) (λ states. IsBase states (meaning b))
-    by zero b at = subst (λ (x : B). IsBase (states_of kept) (meaning x)) (same_some berth b at) is
-    by (suc leaf) b at = tt
+kept_is_base : (fleet : Fleet) (leaf : ℕ) (known : Option Known) (histories : ℕ → List Entry) (m : Meaning) (kept : Option (List Kept)) → KeepsOne fleet leaf known histories m kept
+    → IfSome (base_kept kept) (λ states. IsBase states m)
+kept_is_base fleet leaf None histories m None keeps = tt
+kept_is_base fleet leaf None histories m (Some kept) keeps = absurd cc
+kept_is_base fleet leaf (Some k) histories m None keeps = tt
+kept_is_base fleet leaf (Some k) histories m (Some kept) keeps = keeps.is_base
 
-kept_serves : {B : Type 0} (meaning : B → Meaning) (berths : List B) (known : Option Known) (next : Option (List Kept)) (commands : List Command) (histories : ℕ → List Entry)
-    → KeepsFirst meaning berths (fleet_of commands) known histories next → AreBases (bases_of next) meaning berths
-kept_serves meaning [] known next commands histories keeps = none_kept meaning [] next keeps
-kept_serves meaning (berth ∷ berths) None next commands histories keeps = none_kept meaning (berth ∷ berths) next keeps
-kept_serves meaning (berth ∷ berths) (Some k) None commands histories keeps = absurd keeps
-kept_serves meaning (berth ∷ berths) (Some k) (Some kept) commands histories keeps = first_kept meaning berth berths kept keeps.is_base
-
-pub bases_left : {B : Type 0} (base : ℕ → Option NamedStates) (meaning : B → Meaning) (before after was now : Option (List ℕ)) (old new : List B) (next : Option (List Kept))
+pub bases_left : {B : Type 0} (base : ℕ → Option NamedStates) (meaning : B → Meaning) (before after was now : Option (List ℕ)) (old new : List B) (next : List (Option (List Kept)))
     → LeavesKnown base meaning before after was now old new next → AreBases (bases_of next) meaning new
-bases_left base meaning before after was now old new next leaves =
-    kept_serves meaning new (leaves.known this_leaf) next leaves.played.script.commands ((leaves.played.written.told leaves.known leaves.are_known).transcript.histories this_leaf) leaves.keeps
+bases_left base meaning before after was now old new next leaves = λ leaf b at.
+    let told = leaves.played.written.told leaves.known leaves.are_known in
+    base_there meaning b next leaf (λ kept is.
+    kept_is_base (fleet_of (commands_of leaves.played.script)) leaf (leaves.known leaf) (told.transcript.histories leaf) (meaning b) kept (leaves.keeps.each leaf b kept at is))
 
 -- ---- a play
 
@@ -203,7 +208,7 @@ pub is_played : {B : Type 0} (base : ℕ → Option NamedStates) (meaning : B �
     → request ≡ Some Play → IsDone base meaning request before after was now old new → IsPlayed base meaning before after was now old new
 is_played base meaning request before after was now old new e done = subst (λ (r : Option Request). IsDone base meaning r before after was now old new) e done
 
-pub played_twice : {B : Type 0} (base : ℕ → Option NamedStates) (meaning : B → Meaning) (request : Option Request) (before after was now next_before next_after next_was next_now : Option (List ℕ)) (old between new : List B) (next : Option (List Kept))
+pub played_twice : {B : Type 0} (base : ℕ → Option NamedStates) (meaning : B → Meaning) (request : Option Request) (before after was now next_before next_after next_was next_now : Option (List ℕ)) (old between new : List B) (next : List (Option (List Kept)))
     → request ≡ Some Play → LeavesKnown base meaning before after was now old between next → IsDone (bases_of next) meaning request next_before next_after next_was next_now between new
     → ArePlayedTwice base meaning before after was now next_before next_after next_was next_now old new
 played_twice base meaning request before after was now next_before next_after next_was next_now old between new next e first done = record {

@@ -1,4 +1,5 @@
 pub mod Counts
+pub mod Lists
 pub mod Plays
 pub mod Fleets
 pub mod Beginning

@@ -1,29 +1,26 @@
 -- A play goes on by one command.
-use Rattle.std.proofs.Common.{◌≡◌, ℕ, ◌+◌, ◌==◌, ◌&&◌, Bool, List, [], ◌∷◌, ◌++◌, refl, sym, ap, subst, ◌∙◌, arith, Option, Some, None}
-use Rattle.std.specs.Prelude.{if◌then◌else◌, IfOk, IsOk, OnOk, Result, Ok, Err, Vec}
+use Rattle.std.proofs.Common.{◌≡◌, ◌⊎◌, inl, inr, ℕ, ◌+◌, ◌==◌, ◌&&◌, Bool, List, [], ◌∷◌, ◌++◌, refl, sym, ap, subst, ◌∙◌, arith, Option, Some, None}
+use Rattle.std.specs.Prelude.{if◌then◌else◌, slice_get, IfOk, IsErr, IsOk, OnOk, Result, Ok, Err, Vec}
 use Rattle.std.specs.Global.{Global}
 use Rattle.std.specs.Io.KnownBytes.{Appends}
 use Rattle.std.proofs.lemmas.Grind.{flat_map-append}
 use Rattle.std.proofs.lemmas.List.{append-nil, append_assoc, map-append}
 use Rattle.berth_face.specs.Berth.{Meaning, Passes}
 use Rattle.crash_moments.specs.Left.{NamedStates}
-use Rattle.leaf_table.specs.Calls.{SeatView}
-use Rattle.leaf_machine.specs.Leaving.{LeavesBegin}
-use Rattle.leaf_machine.proofs.LeaveRests.{rests_begin}
-use Rattle.leaf_machine.proofs.LeaveRuns.{runs_begin}
 use Rattle.script_text.specs.declared.command.Command.{Command}
 use Rattle.printed_lines.specs.declared.line.Ending.{Ending}
 use Rattle.printed_lines.specs.declared.line.Line.{Line}
 use Rattle.printed_lines.specs.Lines.{line_text, lines_text}
-use Rattle.transcript.specs.Pieces.{Deed, Piece, Called, Worn, Acted, Says, Played, all_lines, lines_in, pieces_in}
+use Rattle.transcript.specs.Pieces.{Deed, Fleet, Piece, Called, Worn, Acted, Says, Played, all_lines, lines_in, pieces_in}
 use Rattle.transcript.specs.Counts.{Counted, IsCounted, deeds_in, disk_faults_in, disk_reads_in, is_disk_fault, is_region_fault, reads_disk, region_faults_in}
-use Rattle.transcript.specs.Stage.{Leaf}
-use Rattle.transcript.specs.Steps.{MayPlay, this_leaf}
-use Rattle.sessions.proofs.Ended.{ended}
-use Rattle.sessions.proofs.Playing.{plays_on}
-use Rattle.player.specs.Stage.{HasMet, PlaysWith}
+use Rattle.transcript.specs.Holds.{HasMet, Hold}
+use Rattle.transcript.specs.Steps.{MayPlay}
+use Rattle.player.specs.Crew.{AllPass, PlaysWith}
 use Rattle.play.specs.Played.{KeepsCounts}
-use Rattle.play.specs.Runs.{Advances, IsRun, RunSoFar}
+use Rattle.play.specs.Runs.{Advances, HoldsKeep, IsRun, RunSoFar}
+use Rattle.sessions.proofs.Ending.{ended}
+use Rattle.sessions.proofs.Playing.{plays_on}
+use Rattle.leaf_sessions.proofs.Lists.{element_at, within}
 
 -- ---- bytes
 
@@ -85,6 +82,15 @@ keeps_on a b c k p = record {
   disk_faults = omega (arith, k.disk_faults, p.disk_faults);
 }
 
+-- no count of the leaves' berths falls as time passes
+pub holds_keep : {B : Type 0} (meaning : B → Meaning) (olds : List B) (xs ys : List (Hold B)) → HoldsKeep meaning olds xs → AllPass meaning xs ys → HoldsKeep meaning olds ys
+holds_keep meaning olds xs ys keeps passes = record {
+  as_many = passes.count ∙ keeps.as_many;
+  each = λ leaf old y at now.
+      let was_held = element_at xs leaf (omega (arith, within ys leaf y now, passes.count)) in
+      keeps_on (meaning old) (meaning was_held.0.berth) (meaning y.berth) (keeps.each leaf old was_held.0 at was_held.1) (passes.each leaf was_held.0 y was_held.1 now);
+}
+
 -- ---- runs
 
 pieces_snoc : (ps : List Played) (p : Played) → pieces_in (ps ++ p ∷ []) ≡ pieces_in ps ++ p.pieces
@@ -93,58 +99,56 @@ pieces_snoc ps p = flat_map-append (λ (q : Played). q.pieces) ps (p ∷ []) ∙
 lines_snoc : (ps : List Played) (p : Played) → all_lines (ps ++ p ∷ []) ≡ all_lines ps ++ lines_in p.pieces
 lines_snoc ps p = flat_map-append (λ (q : Played). lines_in q.pieces) ps (p ∷ []) ∙ ap (λ xs. all_lines ps ++ xs) (append-nil (lines_in p.pieces))
 
-pub run_goes_on : (base : Option NamedStates) (names : List (List ℕ)) {B : Type 0} (meaning : B → Meaning) (old : Meaning) (now new : B) (was written after : Option (List ℕ)) (commands : List Command)
-    (leaf leaf' : Leaf) (callers callers' : List SeatView) (c : Command)
-    → RunSoFar base names old (meaning now) was written commands leaf callers
-    → MayPlay names c
-    → Advances meaning names now new written after c leaf callers leaf' callers'
-    → Passes (meaning now) (meaning new)
-    → RunSoFar base names old (meaning new) was after (commands ++ c ∷ []) leaf' callers'
-run_goes_on base names meaning old now new was written after commands leaf leaf' callers callers' c run may step passes =
+pub run_goes_on : {B : Type 0} (base : ℕ → Option NamedStates) (meaning : B → Meaning) (fleet : Fleet) (olds : List B) (was written after : Option (List ℕ)) (commands : List Command) (c : Command) (xs ys : List (Hold B))
+    → RunSoFar base meaning fleet olds was written commands xs
+    → MayPlay fleet c
+    → Advances meaning fleet xs ys written after c
+    → AllPass meaning xs ys
+    → RunSoFar base meaning fleet olds was after (commands ++ c ∷ []) ys
+run_goes_on {B} base meaning fleet olds was written after commands c xs ys run may step passes =
     let p : Played = record { command = c; pieces = step.pieces } in
-    let text : Appends was after (lines_text names (all_lines run.played ++ lines_in step.pieces)) =
-    subst (Appends was after) (sym (flat_map-append (line_text names) (all_lines run.played) (lines_in step.pieces)))
-    (appends_on was written after (lines_text names (all_lines run.played)) (lines_text names (lines_in step.pieces)) run.text step.text) in
+    let text : Appends was after (lines_text fleet.names (all_lines run.played ++ lines_in step.pieces)) =
+    subst (Appends was after) (sym (flat_map-append (line_text fleet.names) (all_lines run.played) (lines_in step.pieces)))
+    (appends_on was written after (lines_text fleet.names (all_lines run.played)) (lines_text fleet.names (lines_in step.pieces)) run.text step.text) in
     record {
       played = run.played ++ p ∷ [];
       commands_are = map-append (λ (q : Played). q.command) run.played (p ∷ []) ∙ ap (λ cs. cs ++ c ∷ []) run.commands_are;
-      text = subst (λ ls. Appends was after (lines_text names ls)) (sym (lines_snoc run.played p)) text;
-      counted = subst (λ ps. IsCounted this_leaf ps old (meaning new)) (sym (pieces_snoc run.played p))
-          (counted_on this_leaf (pieces_in run.played) step.pieces old (meaning now) (meaning new) run.counted step.counted);
-      keeps = keeps_on old (meaning now) (meaning new) run.keeps passes;
-      session = λ known is. plays_on meaning old now new names known run.played leaf leaf' callers callers' c step.pieces may (run.session known is) step.plays;
+      text = subst (λ ls. Appends was after (lines_text fleet.names ls)) (sym (lines_snoc run.played p)) text;
+      counted = λ leaf old y at now.
+          let was_held = held_before leaf y now in
+          subst (λ ps. IsCounted leaf ps (meaning old) (meaning y.berth)) (sym (pieces_snoc run.played p))
+          (counted_on leaf (pieces_in run.played) step.pieces (meaning old) (meaning was_held.0.berth) (meaning y.berth)
+          (run.counted leaf old was_held.0 at was_held.1) (step.counted leaf was_held.0 y was_held.1 now));
+      keeps = holds_keep meaning olds xs ys run.keeps passes;
+      session = λ known is. plays_on meaning olds fleet known run.played xs ys c step.pieces (run.session known is) step.plays;
     }
+  where
+    held_before : (leaf : ℕ) (y : Hold B) → slice_get ys leaf ≡ Some y → (x : Hold B) × (slice_get xs leaf ≡ Some x)
+    held_before leaf y now = element_at xs leaf (omega (arith, within ys leaf y now, passes.count))
 
 -- what a command did, once its lines were written
-pub advances : {B E F : Type 0} (meaning : B → Meaning) (names : List (List ℕ)) {c : Command} {leaf leaf' : Leaf} {callers callers' : List SeatView} {old new : B} (was now : Option (List ℕ))
-    (lines : Result (Vec Line Global) E) (written : Result (Unit {0}) F)
-    → PlaysWith meaning names c leaf callers old lines leaf' callers' new
+pub advances : {B E F : Type 0} (meaning : B → Meaning) (fleet : Fleet) {c : Command} {xs ys : List (Hold B)} (was now : Option (List ℕ)) (lines : Result (Vec Line Global) E) (written : Result (Unit {0}) F)
+    → PlaysWith meaning fleet c xs lines ys ⊎ (IsErr lines × (ys ≡ xs))
     → OnOk written (IsOk lines)
-    → OnOk written (IfOk lines (λ ls. Appends was now (lines_text names ls.items)))
-    → OnOk written (Advances meaning names old new was now c leaf callers leaf' callers')
-advances meaning names was now lines (Err e) played made text = tt
-advances meaning names was now (Err e) (Ok x) played made text = absurd cc
-advances meaning names was now (Ok ls) (Ok x) played made text = record {
+    → OnOk written (IfOk lines (λ ls. Appends was now (lines_text fleet.names ls.items)))
+    → OnOk written (Advances meaning fleet xs ys was now c)
+advances meaning fleet was now lines (Err e) played made text = tt
+advances meaning fleet was now (Err e) (Ok x) played made text = absurd cc
+advances meaning fleet was now (Ok ls) (Ok x) (inr failed) made text = absurd cc
+advances meaning fleet was now (Ok ls) (Ok x) (inl played) made text = record {
   pieces = played.pieces;
   plays = played.plays;
-  text = subst (λ ks. Appends was now (lines_text names ks)) played.lines_are text;
+  text = subst (λ ks. Appends was now (lines_text fleet.names ks)) played.lines_are text;
   counted = played.counted;
 }
 
--- another leaf may begin over the berth
-leaves : (m : Meaning) → LeavesBegin m
-leaves m = record {
-  rests = λ ws others least next tells rests. rests_begin ws others least next m rests tells;
-  runs = λ ws others owner log writes tells sound runs. runs_begin ws others owner log writes m runs tells sound;
-}
-
 -- once all seats have met again, the run is told
-pub run_ends : (base : Option NamedStates) (names : List (List ℕ)) (old m : Meaning) (was now : Option (List ℕ)) (commands : List Command) (leaf : Leaf) (callers : List SeatView)
-    → RunSoFar base names old m was now commands leaf callers → HasMet leaf callers m → IsRun base names old m was now commands
-run_ends base names old m was now commands leaf callers run met = record {
+pub run_ends : {B : Type 0} (base : ℕ → Option NamedStates) (meaning : B → Meaning) (fleet : Fleet) (olds : List B) (was now : Option (List ℕ)) (commands : List Command) (xs : List (Hold B))
+    → RunSoFar base meaning fleet olds was now commands xs → ((leaf : ℕ) (x : Hold B) → slice_get xs leaf ≡ Some x → HasMet meaning x) → IsRun base meaning fleet olds was now commands xs
+run_ends base meaning fleet olds was now commands xs run met = record {
   played = run.played;
   commands_are = run.commands_are;
   text = run.text;
   counted = run.counted;
-  told = λ known is. ended old m (leaves m) names known run.played leaf met.leaf_then callers met.callers_then (run.session known is) met.met;
+  told = λ known is. ended meaning olds fleet known run.played xs (run.session known is) met;
 }

@@ -36,10 +36,12 @@ abbrev pub cause_of : Why → List ℕ
 cause_of why.TooLong = codes "the input has more than 16777216 bytes"
 cause_of why.Command = codes "no such command"
 cause_of why.NoFleet = codes "a command before any fleet"
-cause_of why.Place = codes "a second fleet"
+cause_of why.Place = codes "the command is out of its place"
 cause_of why.Words = codes "the words do not fit the command"
 cause_of why.Leaf = codes "the fleet has no such leaf"
 cause_of why.Table = codes "the fleet has no such table"
+cause_of why.Lanes = codes "the burst has more than 16 lanes"
+cause_of why.TwoStewards = codes "two lanes of the burst have commands of one leaf's steward"
 cause_of why.Short = codes "fewer rows follow than the command says"
 cause_of (why.Row f) = row_cause f
 cause_of (why.Query f) = query_cause f

@@ -1,5 +1,5 @@
 -- What is known of berths that a run left, and two runs one after the other.
-use Rattle.std.specs.Prelude.{◌≡◌, ℕ, zero, suc, ◌==◌, List, [], ◌∷◌, Option, Some, None, bytes_eq, if◌then◌else◌}
+use Rattle.std.specs.Prelude.{◌≡◌, ℕ, zero, suc, List, [], ◌∷◌, length, slice_get, Option, Some, None, bytes_eq, nat_lt, if◌then◌else◌}
 use Rattle.leaf_model.specs.declared.writes.Write.{Write}
 use Rattle.berth_face.specs.Berth.{Meaning}
 use Rattle.leaf_history.specs.History.{Entry, base_of, no_base}
@@ -9,9 +9,8 @@ use Rattle.leaf_machine.specs.Leaving.{IsFrontOf}
 use Rattle.transcript.specs.Base.{watched_with}
 use Rattle.transcript.specs.Pieces.{Fleet, fleet_of, leaf_count}
 use Rattle.transcript.specs.Leaving.{AreKnown}
-use Rattle.transcript.specs.Steps.{this_leaf}
 use Rattle.transcript.specs.Transcript.{Known}
-use Rattle.play.specs.Played.{IsBase, IsPlayed}
+use Rattle.play.specs.Played.{IsBase, IsPlayed, commands_of}
 
 -- ---- a base as a list, which unlike a function can be kept
 
@@ -28,47 +27,57 @@ states_of (k ∷ ks) name = if bytes_eq name k.name then base_of k.writes k.flus
 
 -- ---- what is known
 
--- the bases of the leaves' berths, where this is kept of the first; of the others none is known
-abbrev pub bases_of : Option (List Kept) → ℕ → Option NamedStates
-bases_of None leaf = None
-bases_of (Some kept) zero = Some (states_of kept)
-bases_of (Some kept) (suc leaf) = None
+abbrev pub base_kept : Option (List Kept) → Option NamedStates
+base_kept None = None
+base_kept (Some kept) = Some (states_of kept)
 
--- a base of the berth is kept
-abbrev pub IsKeptBase : Meaning → Option (List Kept) → Type 0
-IsKeptBase m None = ⊥
-IsKeptBase m (Some kept) = IsBase (states_of kept) m
+-- the bases of the leaves' berths, where this is kept of the first of them; of the others none is known
+abbrev pub bases_of : List (Option (List Kept)) → ℕ → Option NamedStates
+bases_of [] leaf = None
+bases_of (kept ∷ more) zero = base_kept kept
+bases_of (kept ∷ more) (suc leaf) = bases_of more leaf
+
+-- a base of the first berth is kept, and of no other
+abbrev pub IsKeptBase : Meaning → List (Option (List Kept)) → Type 0
+IsKeptBase m [] = ⊥
+IsKeptBase m (None ∷ more) = ⊥
+IsKeptBase m (Some kept ∷ more) = IsBase (states_of kept) m × (more ≡ [])
 
 -- ---- what a run leaves known
 
--- where the first leaf's tables stand behind these histories; where the fleet has no leaf, as they stood in the base
-abbrev pub tables_left : Fleet → NamedStates → (ℕ → List Entry) → Meaning → NamedStates
-tables_left fleet base histories m = if leaf_count fleet == 0 then base else tables_of base (watched_with fleet.names base histories) m
+-- where a leaf's tables stand behind these histories; where the fleet has no such leaf, as they stood in the base
+abbrev pub tables_left : Fleet → ℕ → NamedStates → (ℕ → List Entry) → Meaning → NamedStates
+tables_left fleet leaf base histories m = if nat_lt leaf (leaf_count fleet) then tables_of base (watched_with fleet.names base histories) m else base
 
 -- a leaf may begin over the berth with the base that is kept, which has a front of each table's writes and each flushed one
 pub record IsKeptOf (tables : NamedStates) (m : Meaning) (kept : List Kept) : Type 0 where
   pub is_base : IsBase (states_of kept) m
   pub front : (name : List ℕ) → IsFrontOf (tables name) (states_of kept name)
 
--- something is kept of the first berth just where its base was known
-abbrev pub KeepsFirst : {B : Type 0} → (B → Meaning) → List B → Fleet → Option Known → (ℕ → List Entry) → Option (List Kept) → Type 0
-KeepsFirst meaning [] fleet known histories next = next ≡ None
-KeepsFirst meaning (berth ∷ berths) fleet None histories next = next ≡ None
-KeepsFirst meaning (berth ∷ berths) fleet (Some k) histories None = ⊥
-KeepsFirst meaning (berth ∷ berths) fleet (Some k) histories (Some kept) = IsKeptOf (tables_left fleet k.base histories (meaning berth)) (meaning berth) kept
+-- something is kept of a leaf's berth just where its base was known
+abbrev pub KeepsOne : Fleet → ℕ → Option Known → (ℕ → List Entry) → Meaning → Option (List Kept) → Type 0
+KeepsOne fleet leaf None histories m next = next ≡ None
+KeepsOne fleet leaf (Some k) histories m None = ⊥
+KeepsOne fleet leaf (Some k) histories m (Some kept) = IsKeptOf (tables_left fleet leaf k.base histories m) m kept
 
--- A play over berths with these bases was done, and what is kept is the base that it left of the first, by the histories of its transcript.
-pub record LeavesKnown {B : Type 0} (base : ℕ → Option NamedStates) (meaning : B → Meaning) (before after was now : Option (List ℕ)) (old new : List B) (next : Option (List Kept)) : Type 0 where
+-- so it is of each berth
+pub record KeepsEach {B : Type 0} (meaning : B → Meaning) (berths : List B) (fleet : Fleet) (known : ℕ → Option Known) (histories : ℕ → ℕ → List Entry) (next : List (Option (List Kept))) : Type 0 where
+  pub as_many : length next ≡ length berths
+  pub each : (leaf : ℕ) (berth : B) (kept : Option (List Kept)) → slice_get berths leaf ≡ Some berth → slice_get next leaf ≡ Some kept
+      → KeepsOne fleet leaf (known leaf) (histories leaf) (meaning berth) kept
+
+-- A play over berths with these bases was done, and what is kept is the base that it left of each, by the histories of its transcript.
+pub record LeavesKnown {B : Type 0} (base : ℕ → Option NamedStates) (meaning : B → Meaning) (before after was now : Option (List ℕ)) (old new : List B) (next : List (Option (List Kept))) : Type 0 where
   pub played : IsPlayed base meaning before after was now old new
   pub known : ℕ → Option Known
   pub are_known : AreKnown meaning old new base known
-  pub keeps : KeepsFirst meaning new (fleet_of played.script.commands) (known this_leaf) ((played.written.told known are_known).transcript.histories this_leaf) next
+  pub keeps : KeepsEach meaning new (fleet_of (commands_of played.script)) known (played.written.told known are_known).transcript.histories next
 
 -- ---- two runs
 
--- one play was done, and then another over what the first left, with the base that is kept of it
+-- one play was done, and then another over what the first left, with the bases that are kept of it
 pub record ArePlayedTwice {B : Type 0} (base : ℕ → Option NamedStates) (meaning : B → Meaning) (before after was now : Option (List ℕ)) (next_before next_after next_was next_now : Option (List ℕ)) (old new : List B) : Type 0 where
   pub between : List B
-  pub next : Option (List Kept)
+  pub next : List (Option (List Kept))
   pub first : LeavesKnown base meaning before after was now old between next
   pub second : IsPlayed (bases_of next) meaning next_before next_after next_was next_now between new

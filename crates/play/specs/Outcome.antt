@@ -1,5 +1,5 @@
 -- What a run leaves, and which status the words and the text decide.
-use Rattle.std.specs.Prelude.{◌≡◌, ℕ, List, [], ◌∷◌, ◌++◌, length, nat_lt, if◌then◌else◌, Option, Some, None, Result, Ok, Err, codes, decimal, true}
+use Rattle.std.specs.Prelude.{◌≡◌, ◌⊎◌, ◌==◌, ℕ, List, [], ◌∷◌, ◌++◌, length, nat_lt, if◌then◌else◌, Option, Some, None, Result, Ok, Err, codes, decimal, false, true}
 use Rattle.std.specs.Io.KnownBytes.{Appends}
 use Rattle.berth_face.specs.Berth.{Meaning}
 use Rattle.berth_face.specs.Streams.{ReadsAll, TakesAtMost, TakesCount, WritesFront}
@@ -12,7 +12,7 @@ use Rattle.script_text.specs.declared.script.Script.{Script}
 use Rattle.script_text.specs.Commands.{Fault}
 use Rattle.script_text.specs.Script.{script_of}
 use Rattle.play.specs.Count.{rows_of, count_of}
-use Rattle.play.specs.Played.{IsPlayed, leaves_in}
+use Rattle.play.specs.Played.{IsPlayed, commands_of, leaves_in}
 use Rattle.play.specs.Source.{longest_text, most_taken}
 use Rattle.play.specs.declared.count.LineFault.{LineFault}
 use Rattle.play.specs.declared.status.Status.{Status}
@@ -63,6 +63,8 @@ IsNoRows before after line why.Place = ⊥
 IsNoRows before after line why.Words = ⊥
 IsNoRows before after line why.Leaf = ⊥
 IsNoRows before after line why.Table = ⊥
+IsNoRows before after line why.Lanes = ⊥
+IsNoRows before after line why.TwoStewards = ⊥
 IsNoRows before after line why.Short = ⊥
 IsNoRows before after line why.NoBerth = ⊥
 
@@ -73,7 +75,11 @@ IsNoScript before after line fault = (text : List ℕ) × ReadsAll before after 
 -- the source was read to its end, and its fleet, which stands on that line, has more leaves than there are berths
 abbrev pub HasTooManyLeaves : ℕ → Option (List ℕ) → Option (List ℕ) → ℕ → Type 0
 HasTooManyLeaves berths before after line =
-    (text : List ℕ) × (script : Script) × ReadsAll before after text × (script_of text ≡ Ok script) × (line ≡ script.fleet_line) × (nat_lt berths (leaves_in script.commands) ≡ true)
+    (text : List ℕ) × (script : Script) × ReadsAll before after text × (script_of text ≡ Ok script) × (line ≡ script.fleet_line) × (nat_lt berths (leaves_in (commands_of script)) ≡ true)
+
+-- the source was read to its end, and its script has a burst, the first of which begins on that line: so far none is played
+abbrev pub HasBurst : Option (List ℕ) → Option (List ℕ) → ℕ → Type 0
+HasBurst before after line = (text : List ℕ) × (script : Script) × ReadsAll before after text × (script_of text ≡ Ok script) × (line ≡ script.burst_line) × ((line == 0) ≡ false)
 
 -- of a script
 abbrev pub IsNoPlay : ℕ → Option (List ℕ) → Option (List ℕ) → ℕ → Why → Type 0
@@ -81,12 +87,14 @@ IsNoPlay berths before after line why.TooLong = (line ≡ 0) × TakesCount befor
 IsNoPlay berths before after line why.NoBerth = HasTooManyLeaves berths before after line
 IsNoPlay berths before after line (why.Row fault) = IsNoScript before after line (why.Row fault)
 IsNoPlay berths before after line (why.Query fault) = IsNoScript before after line (why.Query fault)
-IsNoPlay berths before after line why.Command = IsNoScript before after line why.Command
+IsNoPlay berths before after line why.Command = IsNoScript before after line why.Command ⊎ HasBurst before after line
 IsNoPlay berths before after line why.NoFleet = IsNoScript before after line why.NoFleet
 IsNoPlay berths before after line why.Place = IsNoScript before after line why.Place
 IsNoPlay berths before after line why.Words = IsNoScript before after line why.Words
 IsNoPlay berths before after line why.Leaf = IsNoScript before after line why.Leaf
 IsNoPlay berths before after line why.Table = IsNoScript before after line why.Table
+IsNoPlay berths before after line why.Lanes = IsNoScript before after line why.Lanes
+IsNoPlay berths before after line why.TwoStewards = IsNoScript before after line why.TwoStewards
 IsNoPlay berths before after line why.Short = IsNoScript before after line why.Short
 
 abbrev pub IsTextRefused : ℕ → Option Request → Option (List ℕ) → Option (List ℕ) → ℕ → Why → Type 0
@@ -110,9 +118,13 @@ abbrev pub status_of : Result ℕ LineFault → Status
 status_of (Ok count) = Status.Done
 status_of (Err found) = Status.Script found.line (why.Row found.fault)
 
+-- the status of a script whose leaves have berths: so far a burst is no command
+abbrev pub status_alone : Script → Status
+status_alone script = if script.burst_line == 0 then Status.Done else Status.Script script.burst_line why.Command
+
 -- the status of a text that is a script, or has a first fault
 abbrev pub status_played : ℕ → Result Script Fault → Status
-status_played berths (Ok script) = if nat_lt berths (leaves_in script.commands) then Status.Script script.fleet_line why.NoBerth else Status.Done
+status_played berths (Ok script) = if nat_lt berths (leaves_in (commands_of script)) then Status.Script script.fleet_line why.NoBerth else status_alone script
 status_played berths (Err found) = Status.Script found.0 found.1
 
 -- the status of a text of which a fault was found
@@ -182,6 +194,8 @@ TakesText (Status.Script line why.Place) before after = TakesAtMost before after
 TakesText (Status.Script line why.Words) before after = TakesAtMost before after longest_text
 TakesText (Status.Script line why.Leaf) before after = TakesAtMost before after longest_text
 TakesText (Status.Script line why.Table) before after = TakesAtMost before after longest_text
+TakesText (Status.Script line why.Lanes) before after = TakesAtMost before after longest_text
+TakesText (Status.Script line why.TwoStewards) before after = TakesAtMost before after longest_text
 TakesText (Status.Script line why.Short) before after = TakesAtMost before after longest_text
 TakesText (Status.Script line why.NoBerth) before after = TakesAtMost before after longest_text
 TakesText Status.Done before after = TakesAtMost before after longest_text

@@ -1,5 +1,5 @@
 -- What a played script prints, and what it leaves of the berths.
-use Rattle.std.specs.Prelude.{◌≡◌, ℕ, ◌≤◌, List, [], ◌∷◌, length, slice_get, Option, Some, IfSome, Ok, ⊤}
+use Rattle.std.specs.Prelude.{◌≡◌, ℕ, ◌≤◌, List, length, drop, slice_get, Option, Some, None, IfSome, Result, Ok, Err}
 use Rattle.berth_face.specs.Berth.{Meaning}
 use Rattle.berth_face.specs.Streams.{ReadsAll}
 use Rattle.crash_moments.specs.Left.{NamedStates}
@@ -7,6 +7,8 @@ use Rattle.leaf_history.specs.History.{base_of}
 use Rattle.leaf_machine.specs.States.{MayBegin}
 use Rattle.script_text.specs.declared.command.Command.{Command}
 use Rattle.script_text.specs.declared.script.Script.{Script}
+use Rattle.script_text.specs.Commands.{Fault}
+use Rattle.script_text.specs.Fits.{alone}
 use Rattle.script_text.specs.Script.{script_of}
 use Rattle.transcript.specs.Pieces.{fleet_of, leaf_count}
 use Rattle.transcript.specs.Leaving.{IsWritten}
@@ -15,9 +17,9 @@ use Rattle.transcript.specs.Leaving.{IsWritten}
 abbrev pub leaves_in : List Command → ℕ
 leaves_in commands = leaf_count (fleet_of commands)
 
--- the names of its tables
-abbrev pub names_in : List Command → List (List ℕ)
-names_in commands = (fleet_of commands).names
+-- the commands of a script that has no burst
+abbrev pub commands_of : Script → List Command
+commands_of script = alone script.items
 
 -- ---- what is known of the berths
 
@@ -34,20 +36,17 @@ pub record IsBase (base : NamedStates) (m : Meaning) : Type 0 where
 abbrev pub AreBases : {B : Type 0} → (ℕ → Option NamedStates) → (B → Meaning) → List B → Type 0
 AreBases {B} base meaning berths = (leaf : ℕ) (b : B) → slice_get berths leaf ≡ Some b → IfSome (base leaf) (λ states. IsBase states (meaning b))
 
--- the base of one berth, where it is named
-abbrev pub IsBaseOf : Option NamedStates → Meaning → Type 0
-IsBaseOf base m = IfSome base (λ states. IsBase states m)
-
 -- ---- what was done
 
--- The source was read to its end, its text is a script, and what was written is a transcript of it.
+-- The source was read to its end, its text is a script without a burst, and what was written is a transcript of it.
 pub record IsPlayed {B : Type 0} (base : ℕ → Option NamedStates) (meaning : B → Meaning) (before after was now : Option (List ℕ)) (old new : List B) : Type 0 where
   pub text : List ℕ
   pub script : Script
   pub read : ReadsAll before after text
   pub is_script : script_of text ≡ Ok script
-  pub enough : leaves_in script.commands ≤ length old
-  pub written : IsWritten meaning old new base script.commands was now
+  pub no_burst : script.burst_line ≡ 0
+  pub enough : leaves_in (commands_of script) ≤ length old
+  pub written : IsWritten meaning old new base (commands_of script) was now
 
 -- what a run leaves of a berth in any case: no count of faults falls
 pub record KeepsCounts (old new : Meaning) : Type 0 where
@@ -55,9 +54,18 @@ pub record KeepsCounts (old new : Meaning) : Type 0 where
   pub region_faults : old.region_faults ≤ new.region_faults
   pub disk_faults : old.disk_faults ≤ new.disk_faults
 
--- the berths are in their places; only the first, which the leaf used, may have changed
-abbrev pub LeavesBerths : {B : Type 0} → (B → Meaning) → List B → List B → Type 0
-LeavesBerths meaning [] [] = ⊤
-LeavesBerths meaning [] (new ∷ news) = ⊥
-LeavesBerths meaning (old ∷ olds) [] = ⊥
-LeavesBerths meaning (old ∷ olds) (new ∷ news) = KeepsCounts (meaning old) (meaning new) × (news ≡ olds)
+-- how many leaves the fleet of a script has; of no script it is none
+abbrev pub leaves_of : Result Script Fault → ℕ
+leaves_of (Ok script) = leaves_in (commands_of script)
+leaves_of (Err found) = 0
+
+-- how many leaves a source's text makes; where the source does not tell its text, the most that a fleet may have
+abbrev pub leaves_told : Option (List ℕ) → ℕ
+leaves_told (Some text) = leaves_of (script_of text)
+leaves_told None = 256
+
+-- The berths are in their places. So many of them the leaves used, and no count of their faults fell; all others are untouched.
+pub record LeavesBerths {B : Type 0} (meaning : B → Meaning) (leaves : ℕ) (olds news : List B) : Type 0 where
+  pub as_many : length news ≡ length olds
+  pub used : (leaf : ℕ) (old new : B) → slice_get olds leaf ≡ Some old → slice_get news leaf ≡ Some new → KeepsCounts (meaning old) (meaning new)
+  pub others : drop leaves news ≡ drop leaves olds

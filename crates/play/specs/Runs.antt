@@ -1,72 +1,91 @@
 -- A script's play in the middle.
-use Rattle.std.specs.Prelude.{◌≡◌, ℕ, List, length, map, slice_get, Option, Some, None, IfSome, true, false, ⊤}
+use Rattle.std.specs.Prelude.{◌≡◌, ℕ, List, length, map, slice_get, Option, Some, None, ⊤}
 use Rattle.std.specs.List.{AllByRecursion}
 use Rattle.std.specs.Io.KnownBytes.{Appends}
 use Rattle.berth_face.specs.Berth.{Meaning}
 use Rattle.crash_moments.specs.Left.{NamedStates}
-use Rattle.leaf_table.specs.Turns.{Shared, is_founded, start_of}
-use Rattle.leaf_table.specs.Calls.{SeatView, base_seen, name_of}
-use Rattle.leaf_steward.specs.Seated.{Seated, AtEach, IsUnused}
+use Rattle.region_layout.specs.Names.{AreNames}
+use Rattle.leaf_table.specs.declared.base.TableBase.{TableBase}
 use Rattle.script_text.specs.declared.command.Command.{Command}
-use Rattle.printed_lines.specs.Lines.{lines_text}
-use Rattle.transcript.specs.Pieces.{Piece, Played, all_lines, commands_in, lines_in, pieces_in}
+use Rattle.script_text.specs.Fits.{AreLeaves}
+use Rattle.printed_lines.specs.Lines.{lines_text, name_at}
+use Rattle.transcript.specs.Pieces.{Fleet, Piece, Played, all_lines, commands_in, fleet_of, lines_in, pieces_in}
 use Rattle.transcript.specs.Counts.{IsCounted}
 use Rattle.transcript.specs.Transcript.{Known}
-use Rattle.transcript.specs.Leaving.{IsKnown}
-use Rattle.transcript.specs.Stage.{Leaf}
-use Rattle.transcript.specs.Steps.{Plays, this_leaf}
+use Rattle.transcript.specs.Leaving.{AreKnown}
+use Rattle.transcript.specs.Holds.{Hold}
+use Rattle.transcript.specs.Steps.{MayPlay, Plays}
 use Rattle.sessions.specs.Session.{Session}
-use Rattle.sessions.specs.Laws.{IsToldLeaf}
-use Rattle.player.specs.Stage.{IsUnusedCaller}
+use Rattle.sessions.specs.Laws.{IsToldFleet}
 use Rattle.play.specs.Played.{KeepsCounts}
 use Rattle.play.specs.declared.status.Status.{Status}
 
--- a leaf's tables, and the steward's seats at them
-abbrev pub seated : List (List ℕ) → List Shared → List SeatView → Seated
-seated names tables stewards = record { names = names; tables = tables; seats = stewards }
+-- ---- the tables
 
--- New tables of these names, with the steward's seat and the callers' at each, none of which was used. They are founded with the base where one is named, and else they are not founded.
-pub record AreNewTables (base : Option NamedStates) (names : List (List ℕ)) (tables : List Shared) (stewards callers : List SeatView) : Type 0 where
-  pub named : map name_of tables ≡ names
-  pub stewards_are : length stewards ≡ length tables
-  pub callers_are : length callers ≡ length tables
-  pub unused : AtEach (λ place t v. IsUnused t v) (seated names tables stewards)
-  pub unused_callers : (place : ℕ) (t : Shared) (c : SeatView) → slice_get tables place ≡ Some t → slice_get callers place ≡ Some c → IsUnusedCaller t c
-  pub founded : IfSome base (λ b. AllByRecursion (λ (t : Shared). (is_founded (base_seen t) ≡ true) × (start_of (base_seen t) ≡ b (name_of t))) tables)
-  pub unfounded : base ≡ None → AllByRecursion (λ (t : Shared). is_founded (base_seen t) ≡ false) tables
+-- what a table of this name is founded with
+abbrev pub table_base : Option NamedStates → List ℕ → Option TableBase
+table_base None name = None
+table_base (Some base) name = Some (record { writes = (base name).writes; flushed = (base name).flushed })
 
--- each list has one element
-abbrev pub IsEachOne : {A : Type 0} → List (List A) → Type 0
-IsEachOne rows = AllByRecursion (λ xs. length xs ≡ 1) rows
+-- what each leaf's table in its place is founded with
+abbrev pub table_bases : (ℕ → Option NamedStates) → List (List ℕ) → ℕ → ℕ → Option TableBase
+table_bases base names leaf table = table_base (base leaf) (name_at names table)
 
--- these are the first elements of the lists
-pub record AreFirsts {A : Type 0} (rows : List (List A)) (firsts : List A) : Type 0 where
-  pub count : length firsts ≡ length rows
-  pub each : (place : ℕ) (xs : List A) → slice_get rows place ≡ Some xs → slice_get firsts place ≡ slice_get xs 0
+-- ---- the leaves
 
--- What holds after these commands, whose lines were written: over a berth with this base that meant `old` when the run began, and means `now` since.
-pub record RunSoFar (base : Option NamedStates) (names : List (List ℕ)) (old now : Meaning) (was written : Option (List ℕ)) (commands : List Command) (leaf : Leaf) (callers : List SeatView) : Type 0 where
+-- a fleet of so many leaves with these names, which plays the commands
+abbrev pub fleet_with : ℕ → ℕ → List (List ℕ) → Fleet
+fleet_with machines per_machine names = record { machines = machines; per_machine = per_machine; names = names }
+
+-- it is the fleet that the commands make, and all of them may be played
+pub record IsFleetOf (commands : List Command) (machines per_machine : ℕ) (names : List (List ℕ)) : Type 0 where
+  pub is : fleet_of commands ≡ fleet_with machines per_machine names
+  pub are_names : AreNames names
+  pub leaves : AreLeaves machines per_machine
+  pub may_play : AllByRecursion (MayPlay (fleet_with machines per_machine names)) commands
+
+-- the leaves' berths
+abbrev pub berths_in : {B : Type 0} → List (Hold B) → List B
+berths_in {B} xs = map (λ (x : Hold B). x.berth) xs
+
+-- P of each leaf's berth, as it was when the run began and as it is now
+abbrev pub AtHolds : {B : Type 0} → (B → Meaning) → List B → List (Hold B) → (ℕ → Meaning → Meaning → Type 0) → Type 0
+AtHolds {B} meaning olds xs P = (leaf : ℕ) (old : B) (x : Hold B) → slice_get olds leaf ≡ Some old → slice_get xs leaf ≡ Some x → P leaf (meaning old) (meaning x.berth)
+
+-- as many leaves, and no count of their faults fell
+pub record HoldsKeep {B : Type 0} (meaning : B → Meaning) (olds : List B) (xs : List (Hold B)) : Type 0 where
+  pub as_many : length xs ≡ length olds
+  pub each : AtHolds meaning olds xs (λ leaf old now. KeepsCounts old now)
+
+-- what each leaf's lines tell of has its cause
+abbrev pub AreCounted : {B : Type 0} → (B → Meaning) → List B → List (Hold B) → List Piece → Type 0
+AreCounted meaning olds xs pieces = AtHolds meaning olds xs (λ leaf old now. IsCounted leaf pieces old now)
+
+-- ---- commands
+
+-- What holds after these commands, whose lines were written: of a fleet whose leaves had these berths when the run began, and are these since.
+pub record RunSoFar {B : Type 0} (base : ℕ → Option NamedStates) (meaning : B → Meaning) (fleet : Fleet) (olds : List B) (was written : Option (List ℕ)) (commands : List Command) (xs : List (Hold B)) : Type 0 where
   pub played : List Played
   pub commands_are : commands_in played ≡ commands
-  pub text : Appends was written (lines_text names (all_lines played))
-  pub counted : IsCounted this_leaf (pieces_in played) old now
-  pub keeps : KeepsCounts old now
-  pub session : (known : ℕ → Option Known) → IsKnown base old (known this_leaf) → Session names known old played leaf callers now
+  pub text : Appends was written (lines_text fleet.names (all_lines played))
+  pub counted : AreCounted meaning olds xs (pieces_in played)
+  pub keeps : HoldsKeep meaning olds xs
+  pub session : (known : ℕ → Option Known) → AreKnown meaning olds olds base known → Session meaning fleet known olds played xs
 
 -- one command more, whose lines were written
-pub record Advances {B : Type 0} (meaning : B → Meaning) (names : List (List ℕ)) (old new : B) (was written : Option (List ℕ)) (c : Command) (leaf : Leaf) (callers : List SeatView) (leaf' : Leaf) (callers' : List SeatView) : Type 0 where
+pub record Advances {B : Type 0} (meaning : B → Meaning) (fleet : Fleet) (xs ys : List (Hold B)) (was written : Option (List ℕ)) (c : Command) : Type 0 where
   pub pieces : List Piece
-  pub plays : Plays meaning names c leaf callers old pieces leaf' callers' new
-  pub text : Appends was written (lines_text names (lines_in pieces))
-  pub counted : IsCounted this_leaf pieces (meaning old) (meaning new)
+  pub plays : Plays meaning fleet c xs pieces ys
+  pub text : Appends was written (lines_text fleet.names (lines_in pieces))
+  pub counted : (leaf : ℕ) (x y : Hold B) → slice_get xs leaf ≡ Some x → slice_get ys leaf ≡ Some y → IsCounted leaf pieces (meaning x.berth) (meaning y.berth)
 
 -- a run of all the commands
-pub record IsRun (base : Option NamedStates) (names : List (List ℕ)) (old now : Meaning) (was written : Option (List ℕ)) (commands : List Command) : Type 0 where
+pub record IsRun {B : Type 0} (base : ℕ → Option NamedStates) (meaning : B → Meaning) (fleet : Fleet) (olds : List B) (was now : Option (List ℕ)) (commands : List Command) (xs : List (Hold B)) : Type 0 where
   pub played : List Played
   pub commands_are : commands_in played ≡ commands
-  pub text : Appends was written (lines_text names (all_lines played))
-  pub counted : IsCounted this_leaf (pieces_in played) old now
-  pub told : (known : ℕ → Option Known) → IsKnown base old (known this_leaf) → IsToldLeaf names known played old now
+  pub text : Appends was now (lines_text fleet.names (all_lines played))
+  pub counted : AreCounted meaning olds xs (pieces_in played)
+  pub told : (known : ℕ → Option Known) → AreKnown meaning olds olds base known → IsToldFleet meaning fleet known played olds xs
 
 -- how a play ends
 abbrev pub IsEnd : Status → Type 0

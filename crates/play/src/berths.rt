@@ -1,29 +1,29 @@
 // A script's play over the berths.
-ghost use Rattle.std.specs.Prelude.{◌≡◌, ◌<◌, ◌≤◌, ◌∷◌, [], vec_len, vec_capacity, length, OnOk, IfOk, IfSome, None, IsErrOf, IsOk};
+ghost use Rattle.std.specs.Prelude.{◌≡◌, ◌≤◌, [], length, OnOk, IfOk, IfSome, None, IsErrOf, IsOk};
 ghost use Rattle.std.specs.List.{AllByRecursion};
 ghost use Rattle.std.specs.Io.KnownBytes.{Appends};
-ghost use Rattle.berth_face.specs.Berth.{Passes};
 ghost use Rattle.berth_face.specs.Causes.{Rose};
-ghost use Rattle.region_layout.specs.Names.{AreNames};
-ghost use Rattle.script_text.specs.Fits.{AreCommands};
+ghost use Rattle.script_text.specs.Fits.{AreCommands, AreItems, alone};
 ghost use Rattle.printed_lines.specs.Lines.{lines_text, IsOf};
-ghost use Rattle.transcript.specs.Steps.{MayPlay, this_leaf};
+ghost use Rattle.transcript.specs.Steps.{MayPlay};
 ghost use Rattle.transcript.specs.Leaving.{IsWritten};
-ghost use Rattle.play.specs.Played.{AreBases, IsBaseOf, LeavesBerths, KeepsCounts, leaves_in, names_in};
-ghost use Rattle.play.specs.Runs.{Advances, IsRun, IsEnd, RunSoFar};
+ghost use Rattle.player.specs.Crew.{AllPass};
+ghost use Rattle.play.specs.Played.{AreBases, LeavesBerths, leaves_in};
+ghost use Rattle.play.specs.Runs.{Advances, HoldsKeep, IsEnd, IsFleetOf, RunSoFar, berths_in};
 
 use crate::bases::Bases;
 use crate::status::Status;
 use crate::stream::write_all;
-use crate::tables::{LeafTables, leaf_tables};
+use crate::tables::{NewTables, new_tables};
 use berth_face::{Berth, Gate, Sink};
 use leaf_model::Names;
-use player::Player;
+use player::Crew;
 use printed_lines::{Line, put_lines};
-use script_text::{Command, Commands};
+use script_text::{Command, Commands, Item, Items};
 use std::alloc::{AllocError, Global};
 use std::collections::VecDeque;
 use std::sync::Wait;
+use std::thread::Threads;
 
 /// Why a command's lines were not written whole.
 #[derive(Clone, Copy, Debug, PartialEq, Eq)]
@@ -32,39 +32,59 @@ enum WriteError {
     NoMemory,
 }
 
-/// How many leaves the fleet of these commands has.
-pub fn leaf_count(commands: &Commands) -> usize
-    requires { AreCommands commands.now }
-    ensures { result ≡ leaves_in commands.now }
+/// A fleet that is to be made.
+#[derive(Drop)]
+struct FleetPlan {
+    machines: u32,
+    per_machine: u32,
+    names: Names,
+}
+
+/// How many leaves the fleet of these items has.
+pub fn leaf_count(items: &Items) -> usize
+    requires { AreItems items.now }
+    ensures { result ≡ leaves_in (alone items.now) }
 {
-    match commands.as_slice() {
+    match items.as_slice() {
         [
-            Command::Fleet {
-                machines,
-                per_machine,
-                ..
-            },
+            Item::One(
+                Command::Fleet {
+                    machines,
+                    per_machine,
+                    ..
+                },
+            ),
             ..
         ] => *machines as usize * *per_machine as usize,
         _ => 0,
     }
 }
 
-/// The names of the fleet's tables, where there is a fleet.
-fn names_of(commands: &Commands) -> Result<Option<Names>, AllocError>
+/// The fleet of these commands, where there is one.
+fn plan_of(commands: &Commands) -> Result<Option<FleetPlan>, AllocError>
     requires { AreCommands commands.now }
     ensures none { IfOk result (λ found. found ≡ None → commands.now ≡ []) }
-    ensures names { IfOk result (λ found. IfSome found (λ names. names ≡ names_in commands.now)) }
-    ensures are_names { IfOk result (λ found. IfSome found AreNames) }
+    ensures plan { IfOk result (λ found. IfSome found (λ plan. IsFleetOf commands.now plan.machines plan.per_machine plan.names)) }
 {
     match commands.as_slice() {
-        [Command::Fleet { tables, .. }, ..] => Ok(Some(tables.copy()?)),
+        [
+            Command::Fleet {
+                machines,
+                per_machine,
+                tables,
+            },
+            ..
+        ] => Ok(Some(FleetPlan {
+            machines: *machines,
+            per_machine: *per_machine,
+            names: tables.copy()?,
+        })),
         _ => Ok(None),
     }
 }
 
-/// Plays a script's commands over the first berth, and puts that back in its place.
-pub fn play_commands<N: Bases, R: Wait, K: Sink, B: Berth, G: Gate>(
+/// Plays a script's commands over the first berths, and puts those back in their places.
+pub fn play_commands<N: Bases, R: Wait + Threads + Sync, K: Sink, B: Berth, G: Gate>(
     rt: &R,
     alloc: Global,
     commands: Commands,
@@ -78,126 +98,122 @@ pub fn play_commands<N: Bases, R: Wait, K: Sink, B: Berth, G: Gate>(
     ensures done { result ≡ Status.Done → IsWritten B.meaning berths.old.items berths.new.items N.base commands (K.written sink.old) (K.written sink.new) }
     ensures ends { IsEnd result }
     ensures write_fault { result ≡ Status.WriteFault → Rose (K.faults sink.old) (K.faults sink.new) }
-    ensures berths { LeavesBerths B.meaning berths.old.items berths.new.items }
+    ensures berths { LeavesBerths B.meaning (leaves_in commands) berths.old.items berths.new.items }
 {
-    let names = match names_of(&commands) {
-        Ok(Some(names)) => names,
-        Ok(None) => return Status::Done,
-        Err(_) => return Status::NoMemory,
-    };
-    let berth = berths.remove(0);
-    let (berth, status) = play_over::<N, R, K, B, G>(rt, alloc, names, commands, sink, berth, gate);
-    put_first(berths, berth);
-    status
-}
-
-/// Puts a berth in front of the others, where room was left for it.
-fn put_first<B>(berths: &mut Vec<B>, berth: B)
-    requires { vec_len berths.old < vec_capacity berths.old }
-    ensures { berths.new.items ≡ berth ∷ berths.old.items }
-{
-    match berths.insert(0, berth) {
-        Ok(()) => {}
-        Err(_) => unreachable!(),
+    match plan_of(&commands) {
+        Ok(Some(plan)) => {
+            play_over::<N, R, K, B, G>(rt, alloc, &plan, commands, sink, berths, gate)
+        }
+        Ok(None) => Status::Done,
+        Err(_) => Status::NoMemory,
     }
 }
 
-/// Plays commands over a berth, and gives that back.
-fn play_over<N: Bases, R: Wait, K: Sink, B: Berth, G: Gate>(
+/// Plays the commands of a fleet over the first berths.
+fn play_over<N: Bases, R: Wait + Threads + Sync, K: Sink, B: Berth, G: Gate>(
     rt: &R,
     alloc: Global,
-    names: Names,
+    plan: &FleetPlan,
     commands: Commands,
     sink: &mut K,
-    berth: B,
+    berths: &mut Vec<B>,
     gate: &G,
-) -> (B, Status)
-    requires names { AreNames names }
-    requires may_play { AllByRecursion (MayPlay names) commands }
-    requires base { IsBaseOf (N.base this_leaf) (B.meaning berth) }
-    ensures done { result.1 ≡ Status.Done → IsRun (N.base this_leaf) names (B.meaning berth) (B.meaning result.0) (K.written sink.old) (K.written sink.new) commands }
-    ensures ends { IsEnd result.1 }
-    ensures write_fault { result.1 ≡ Status.WriteFault → Rose (K.faults sink.old) (K.faults sink.new) }
-    ensures keeps { KeepsCounts (B.meaning berth) (B.meaning result.0) }
+) -> Status
+    requires plan { IsFleetOf commands plan.now.machines plan.now.per_machine plan.now.names }
+    requires enough { leaves_in commands ≤ length berths.old.items }
+    requires bases { AreBases N.base B.meaning berths.old.items }
+    ensures done { result ≡ Status.Done → IsWritten B.meaning berths.old.items berths.new.items N.base commands (K.written sink.old) (K.written sink.new) }
+    ensures ends { IsEnd result }
+    ensures write_fault { result ≡ Status.WriteFault → Rose (K.faults sink.old) (K.faults sink.new) }
+    ensures berths { LeavesBerths B.meaning (leaves_in commands) berths.old.items berths.new.items }
 {
-    let Ok(copy) = names.copy() else {
-        return (berth, Status::NoMemory);
+    let Ok(copy) = plan.names.copy() else {
+        return Status::NoMemory;
     };
-    let Ok(leaf) = leaf_tables::<N>(alloc, &names) else {
-        return (berth, Status::NoMemory);
+    let leaves = plan.machines * plan.per_machine;
+    let Ok(made) = new_tables::<N>(alloc, leaves, &plan.names) else {
+        return Status::NoMemory;
     };
-    let LeafTables {
+    let NewTables {
         tables,
         stewards,
         callers,
-    } = leaf;
-    match Player::new(copy, tables.leaf(0), stewards, callers, berth) {
-        Ok(player) => play_all::<N, R, K, B, G>(
-            rt,
-            alloc,
-            &names,
-            player,
-            commands.into_inner(),
-            sink,
-            gate,
-        ),
-        Err(berth) => (berth, Status::NoMemory),
-    }
+    } = made;
+    let Ok(crew) = Crew::new(
+        alloc,
+        copy,
+        plan.machines,
+        plan.per_machine,
+        &tables,
+        stewards,
+        callers,
+        berths,
+    ) else {
+        return Status::NoMemory;
+    };
+    let mut crew = crew;
+    let status = play_all::<N, R, K, B, G>(
+        rt,
+        alloc,
+        &plan.names,
+        &mut crew,
+        commands.into_inner(),
+        sink,
+        gate,
+    );
+    crew.abandon(berths);
+    status
 }
 
-/// Plays commands one after another, writes the lines of each, and gives the berth back.
-fn play_all<'t, N: Bases, R: Wait, K: Sink, B: Berth, G: Gate>(
+/// Plays commands one after another, and writes the lines of each.
+fn play_all<'t, N: Bases, R: Wait + Threads + Sync, K: Sink, B: Berth, G: Gate>(
     rt: &R,
     alloc: Global,
     names: &Names,
-    player: Player<'t, B>,
+    crew: &mut Crew<'t, B>,
     commands: Vec<Command>,
     sink: &mut K,
     gate: &G,
-) -> (B, Status)
-    requires names { player.names ≡ names.now }
-    requires may_play { AllByRecursion (MayPlay names.now) commands.items }
-    requires begun { RunSoFar (N.base this_leaf) names.now (B.meaning player.berth) (B.meaning player.berth) (K.written sink.old) (K.written sink.old) [] player.leaf player.callers }
-    ensures done { result.1 ≡ Status.Done → IsRun (N.base this_leaf) names.now (B.meaning player.entry.berth) (B.meaning result.0) (K.written sink.old) (K.written sink.new) commands.items }
-    ensures ends { IsEnd result.1 }
-    ensures write_fault { result.1 ≡ Status.WriteFault → Rose (K.faults sink.old) (K.faults sink.new) }
-    ensures keeps { KeepsCounts (B.meaning player.entry.berth) (B.meaning result.0) }
+) -> Status
+    requires names { crew.old.fleet.names ≡ names.now }
+    requires may_play { AllByRecursion (MayPlay crew.old.fleet) commands.items }
+    requires begun { RunSoFar N.base B.meaning crew.old.fleet (berths_in crew.old.holds) (K.written sink.old) (K.written sink.old) [] crew.old.holds }
+    ensures done { result ≡ Status.Done → RunSoFar N.base B.meaning crew.old.fleet (berths_in crew.old.holds) (K.written sink.old) (K.written sink.new) commands.items crew.new.holds }
+    ensures ends { IsEnd result }
+    ensures write_fault { result ≡ Status.WriteFault → Rose (K.faults sink.old) (K.faults sink.new) }
+    ensures keeps { HoldsKeep B.meaning (berths_in crew.old.holds) crew.new.holds }
 {
     let mut rest = VecDeque::from_vec(commands);
-    let mut player = player;
     while let Some(command) = rest.pop_front() {
-        let (next, played) = play_next(rt, alloc, names, player, command, sink, gate);
-        player = next;
-        match played {
+        match play_next(rt, alloc, names, crew, command, sink, gate) {
             Ok(()) => {}
-            Err(WriteError::Failed) => return (player.abandon(), Status::WriteFault),
-            Err(WriteError::NoMemory) => return (player.abandon(), Status::NoMemory),
+            Err(WriteError::Failed) => return Status::WriteFault,
+            Err(WriteError::NoMemory) => return Status::NoMemory,
         }
     }
-    (player.abandon(), Status::Done)
+    Status::Done
 }
 
 /// Plays a command, and writes its lines.
-fn play_next<'t, R: Wait, K: Sink, B: Berth, G: Gate>(
+fn play_next<'t, R: Wait + Threads + Sync, K: Sink, B: Berth, G: Gate>(
     rt: &R,
     alloc: Global,
     names: &Names,
-    player: Player<'t, B>,
+    crew: &mut Crew<'t, B>,
     command: Command,
     sink: &mut K,
     gate: &G,
-) -> (Player<'t, B>, Result<(), WriteError>)
-    requires names { player.names ≡ names.now }
-    requires may_play { MayPlay names.now command }
-    ensures names { result.0.names ≡ names.now }
-    ensures played { OnOk result.1 (Advances B.meaning names.now player.entry.berth result.0.berth (K.written sink.old) (K.written sink.new) command player.entry.leaf player.entry.callers result.0.leaf result.0.callers) }
-    ensures time { Passes (B.meaning player.entry.berth) (B.meaning result.0.berth) }
-    ensures failed { IsErrOf result.1 WriteError.Failed → Rose (K.faults sink.old) (K.faults sink.new) }
+) -> Result<(), WriteError>
+    requires names { crew.old.fleet.names ≡ names.now }
+    requires may_play { MayPlay crew.old.fleet command }
+    ensures played { OnOk result (Advances B.meaning crew.old.fleet crew.old.holds crew.new.holds (K.written sink.old) (K.written sink.new) command) }
+    ensures fleet { crew.new.fleet ≡ crew.old.fleet }
+    ensures time { AllPass B.meaning crew.old.holds crew.new.holds }
+    ensures failed { IsErrOf result WriteError.Failed → Rose (K.faults sink.old) (K.faults sink.new) }
     ensures later { K.faults sink.old ≤ K.faults sink.new }
 {
-    let (next, lines) = player.play(rt, alloc, gate, command);
-    let written = write_lines(alloc, names, lines, sink);
-    (next, written)
+    let lines = crew.play(rt, alloc, gate, command);
+    write_lines(alloc, names, lines, sink)
 }
 
 /// Writes the lines of a command, where there was memory for them.

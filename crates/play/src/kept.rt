@@ -6,26 +6,26 @@ use atomic_table::{Play, Seat, Table, TableRule};
 use std::alloc::{AllocError, Global};
 use std::marker::{Brand, Model, PhantomData};
 
-/// Of each of some names the writes that a berth has, and how many of them every crash leaves. No value of it is made.
+/// Of the berth of each leaf, where it is known: of each of some names the writes that it has, and how many of them every crash leaves. No value of it is made.
 pub struct KeptTables {
     nothing: u8,
 }
 
 impl Model for KeptTables {
-    ghost use Rattle.std.specs.Prelude.{List, []};
+    ghost use Rattle.std.specs.Prelude.{List, Option, []};
     ghost use Rattle.play.specs.Keeping.{Kept};
 
-    ghost Value = { List Kept };
+    ghost Value = { List (Option (List Kept)) };
 
     ghost view = { λ _. [] };
 }
 
-/// What is chosen, or that nothing is.
+/// What is chosen.
 pub trait Choice {
     ghost use Rattle.std.specs.Prelude.{List, Option};
     ghost use Rattle.play.specs.Keeping.{Kept};
 
-    ghost fits: { Option (List Kept) → Type 0 };
+    ghost fits: { List (Option (List Kept)) → Type 0 };
 }
 
 impl Choice for Brand {
@@ -35,12 +35,12 @@ impl Choice for Brand {
 // A table that holds whatever it is. Its first seat knows nothing.
 struct Anything;
 
-impl TableRule<(), Option<KeptTables>, ()> for Anything {
-    ghost use Rattle.std.specs.Prelude.{None};
+impl TableRule<(), KeptTables, ()> for Anything {
+    ghost use Rattle.std.specs.Prelude.{[]};
 
     ghost holds = { λ _ _. Unit {0} };
 
-    ghost first = { λ _. None };
+    ghost first = { λ _. [] };
 }
 
 // At one load the seat comes to know something that fits.
@@ -48,21 +48,21 @@ struct Chooses<N> {
     of: PhantomData<N>,
 }
 
-impl<N: Choice> Play<(), Option<KeptTables>> for Chooses<N> {
+impl<N: Choice> Play<(), KeptTables> for Chooses<N> {
     ghost then = { λ st m found m'. N.fits m'.0 };
 }
 
-/// A token of what is known of berths: of the first the base, as a list, or nothing. Dropping it does nothing.
+/// A token of what is known of berths: of each of the first some the base, as a list, or nothing. Dropping it does nothing.
 #[derive(Drop)]
 pub struct KnownBerths {
-    seat: Seat<(), Option<KeptTables>>,
+    seat: Seat<(), KeptTables>,
 }
 
 impl Model for KnownBerths {
     ghost use Rattle.std.specs.Prelude.{List, Option};
     ghost use Rattle.play.specs.Keeping.{Kept};
 
-    ghost Value = { Option (List Kept) };
+    ghost Value = { List (Option (List Kept)) };
 
     ghost view = { λ known. known.seat.me.0 };
 }
@@ -70,10 +70,10 @@ impl Model for KnownBerths {
 impl KnownBerths {
     /// Knows what fits, where anything does. It takes the memory of one word, and gives it back at once.
     pub fn choose<N: Choice>(alloc: Global) -> Result<KnownBerths, AllocError>
-        requires { (known : Option (List Kept)) × N.fits known }
+        requires { (known : List (Option (List Kept))) × N.fits known }
         ensures { IfOk result (λ known. N.fits known) }
     {
-        let (table, mut seat) = Table::<(), Option<KeptTables>, (), Anything, Global>::of_words(
+        let (table, mut seat) = Table::<(), KeptTables, (), Anything, Global>::of_words(
             alloc,
             &[0],
             &(),

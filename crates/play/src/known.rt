@@ -4,7 +4,7 @@ ghost use Rattle.berth_face.specs.Causes.{Rose};
 ghost use Rattle.berth_face.specs.Streams.{TakesAtMost};
 ghost use Rattle.play.specs.Keeping.{ArePlayedTwice, IsKeptBase, Kept, LeavesKnown, bases_of, states_of};
 ghost use Rattle.play.specs.Outcome.{IsDone, IsCutShort, IfScript, IsTextRefused, IfCount, UnlessCutOff, UnlessPlayed, UnlessWritten, TakesText, verdict};
-ghost use Rattle.play.specs.Played.{AreBases, IsBase, IsPlayed, LeavesBerths};
+ghost use Rattle.play.specs.Played.{AreBases, IsBase, IsPlayed, LeavesBerths, leaves_told};
 ghost use Rattle.play.specs.Source.{most_taken};
 ghost use Rattle.play.specs.Words.{request_of};
 ghost use Rattle.play.specs.declared.words.Request.TheVariants.{Play};
@@ -18,8 +18,9 @@ use std::alloc::{AllocError, Global};
 use std::marker::Brand;
 use std::snapshot::Snapshot;
 use std::sync::Wait;
+use std::thread::Threads;
 
-/// Keeps a base of this berth, the first of some, where it has one that can be kept.
+/// Keeps a base of this berth, the first of some, where it has one that can be kept. Of the others nothing is known then.
 pub fn keep<B: Berth>(alloc: Global, berth: &B) -> Result<KnownBerths, AllocError>
     requires { (kept : List Kept) × IsBase (states_of kept) (B.meaning berth.now) }
     ensures { IfOk result (λ known. IsKeptBase (B.meaning berth.now) known) }
@@ -29,14 +30,14 @@ pub fn keep<B: Berth>(alloc: Global, berth: &B) -> Result<KnownBerths, AllocErro
 
 // Keeps what N says of this berth.
 fn keep_base<N: Choice, B>(alloc: Global, _berth: &B) -> Result<KnownBerths, AllocError>
-    requires { (known : Option (List Kept)) × N.fits known }
+    requires { (known : List (Option (List Kept))) × N.fits known }
     ensures { IfOk result (λ known. N.fits known) }
 {
     KnownBerths::choose::<N>(alloc)
 }
 
 /// A run over the berths of which this is known.
-pub fn run_known<R: Wait, S: Source, K: Sink, B: Berth, G: Gate>(
+pub fn run_known<R: Wait + Threads + Sync, S: Source, K: Sink, B: Berth, G: Gate>(
     rt: &R,
     alloc: Global,
     words: &[String],
@@ -64,13 +65,13 @@ pub fn run_known<R: Wait, S: Source, K: Sink, B: Berth, G: Gate>(
     ensures count_cut_short { IfCount (request_of (map string_bytes words.now)) (λ range. result ≡ Status.WriteFault →
         IsCutShort range (S.left source.old) (S.left source.new) (K.written sink.old) (K.written sink.new)) }
     ensures count_unplayed { IfCount (request_of (map string_bytes words.now)) (λ range. berths.new ≡ berths.old) }
-    ensures berths { LeavesBerths B.meaning berths.old.items berths.new.items }
+    ensures berths { LeavesBerths B.meaning (leaves_told (S.left source.old)) berths.old.items berths.new.items }
 {
     run_for::<Brand, R, S, K, B, G>(rt, alloc, words, source, sink, berths, gate, known)
 }
 
 // A run over berths with the bases of N, which the caller picks by what is known.
-fn run_for<N: Bases, R: Wait, S: Source, K: Sink, B: Berth, G: Gate>(
+fn run_for<N: Bases, R: Wait + Threads + Sync, S: Source, K: Sink, B: Berth, G: Gate>(
     rt: &R,
     alloc: Global,
     words: &[String],
@@ -98,13 +99,13 @@ fn run_for<N: Bases, R: Wait, S: Source, K: Sink, B: Berth, G: Gate>(
     ensures count_cut_short { IfCount (request_of (map string_bytes words.now)) (λ range. result ≡ Status.WriteFault →
         IsCutShort range (S.left source.old) (S.left source.new) (K.written sink.old) (K.written sink.new)) }
     ensures count_unplayed { IfCount (request_of (map string_bytes words.now)) (λ range. berths.new ≡ berths.old) }
-    ensures berths { LeavesBerths B.meaning berths.old.items berths.new.items }
+    ensures berths { LeavesBerths B.meaning (leaves_told (S.left source.old)) berths.old.items berths.new.items }
 {
     run::<N, R, S, K, B, G>(rt, alloc, words, source, sink, berths, gate)
 }
 
 /// A play, and behind one that was done what it left known of the berths, where there was memory for that.
-pub fn run_keeping<N: Bases, R: Wait, S: Source, K: Sink, B: Berth, G: Gate>(
+pub fn run_keeping<N: Bases, R: Wait + Threads + Sync, S: Source, K: Sink, B: Berth, G: Gate>(
     rt: &R,
     alloc: Global,
     words: &[String],
@@ -118,7 +119,7 @@ pub fn run_keeping<N: Bases, R: Wait, S: Source, K: Sink, B: Berth, G: Gate>(
     ensures done { result.0 ≡ Status.Done → IsPlayed N.base B.meaning (S.left source.old) (S.left source.new) (K.written sink.old) (K.written sink.new) berths.old.items berths.new.items }
     ensures known { IfSome result.1 (λ known. LeavesKnown N.base B.meaning (S.left source.old) (S.left source.new) (K.written sink.old) (K.written sink.new) berths.old.items berths.new.items known) }
     ensures only_done { IsSome result.1 → result.0 ≡ Status.Done }
-    ensures berths { LeavesBerths B.meaning berths.old.items berths.new.items }
+    ensures berths { LeavesBerths B.meaning (leaves_told (S.left source.old)) berths.old.items berths.new.items }
 {
     let source_was = Snapshot::of(&*source);
     let sink_was = Snapshot::of(&*sink);
@@ -152,7 +153,7 @@ fn keep_left<N: Choice, S, K, B>(
     _sink: &K,
     _berths: &Vec<B>,
 ) -> Result<KnownBerths, AllocError>
-    requires { (known : Option (List Kept)) × N.fits known }
+    requires { (known : List (Option (List Kept))) × N.fits known }
     ensures { IfOk result (λ known. N.fits known) }
 {
     KnownBerths::choose::<N>(alloc)
@@ -160,7 +161,7 @@ fn keep_left<N: Choice, S, K, B>(
 
 /// Two plays, one after the other, over the same berths: the second is begun where the first was done and there was memory to keep what it left known.
 #[tactic(auto, using(crate::proofs::KeepsBase::bases_left, crate::proofs::KeepsBase::played_twice))]
-pub fn run_twice<N: Bases, R: Wait, S: Source, K: Sink, B: Berth, G: Gate>(
+pub fn run_twice<N: Bases, R: Wait + Threads + Sync, S: Source, K: Sink, B: Berth, G: Gate>(
     rt: &R,
     alloc: Global,
     words: &[String],

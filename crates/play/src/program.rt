@@ -3,7 +3,7 @@ ghost use Rattle.std.specs.Prelude.{◌≡◌, ◌↔◌, None, IfSome, length, 
 ghost use Rattle.berth_face.specs.Causes.{Rose};
 ghost use Rattle.berth_face.specs.Streams.{TakesAtMost};
 ghost use Rattle.play.specs.Outcome.{IsDone, IsCutShort, IfScript, IsTextRefused, IfCount, UnlessCutOff, UnlessPlayed, UnlessWritten, TakesText, verdict};
-ghost use Rattle.play.specs.Played.{AreBases, LeavesBerths};
+ghost use Rattle.play.specs.Played.{AreBases, LeavesBerths, leaves_told};
 ghost use Rattle.play.specs.Source.{most_taken};
 ghost use Rattle.play.specs.Words.{request_of};
 
@@ -15,9 +15,10 @@ use crate::words::{Request, request_of};
 use berth_face::{Berth, Gate, Sink, Source};
 use std::alloc::Global;
 use std::sync::Wait;
+use std::thread::Threads;
 
 /// Does all that the program does, over what is handed in.
-pub fn run<N: Bases, R: Wait, S: Source, K: Sink, B: Berth, G: Gate>(
+pub fn run<N: Bases, R: Wait + Threads + Sync, S: Source, K: Sink, B: Berth, G: Gate>(
     rt: &R,
     alloc: Global,
     words: &[String],
@@ -57,8 +58,8 @@ pub fn run<N: Bases, R: Wait, S: Source, K: Sink, B: Berth, G: Gate>(
         IsCutShort range (S.left source.old) (S.left source.new) (K.written sink.old) (K.written sink.new)) }
     ensures count_unplayed { IfCount (request_of (map string_bytes words.now)) (λ range. berths.new ≡ berths.old) }
 
-    // The berths come back in their places, and only the first may have changed.
-    ensures berths { LeavesBerths B.meaning berths.old.items berths.new.items }
+    // The berths come back in their places, and none has changed but those of the leaves that the text makes.
+    ensures berths { LeavesBerths B.meaning (leaves_told (S.left source.old)) berths.old.items berths.new.items }
 {
     match request_of(words) {
         None => Status::Words,

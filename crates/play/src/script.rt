@@ -3,7 +3,7 @@ ghost use Rattle.std.specs.Prelude.{◌≡◌, ◌≢◌, ◌<◌, ◌∷◌, []
 ghost use Rattle.berth_face.specs.Causes.{Rose};
 ghost use Rattle.berth_face.specs.Streams.{TakesAtMost};
 ghost use Rattle.play.specs.Outcome.{IsNoPlay, IfScript, UnlessCutOff, UnlessPlayed, TakesText, play_verdict, status_of_fault};
-ghost use Rattle.play.specs.Played.{AreBases, IsPlayed, LeavesBerths};
+ghost use Rattle.play.specs.Played.{AreBases, IsPlayed, LeavesBerths, leaves_told};
 ghost use Rattle.play.specs.Source.{most_taken};
 
 use crate::bases::Bases;
@@ -14,9 +14,10 @@ use berth_face::{Berth, Gate, Sink, Source};
 use script_text::{ScriptFault, Why, parse};
 use std::alloc::Global;
 use std::sync::Wait;
+use std::thread::Threads;
 
 /// Reads a source that is a script, and plays it.
-pub fn play_source<N: Bases, R: Wait, S: Source, K: Sink, B: Berth, G: Gate>(
+pub fn play_source<N: Bases, R: Wait + Threads + Sync, S: Source, K: Sink, B: Berth, G: Gate>(
     rt: &R,
     alloc: Global,
     source: &mut S,
@@ -35,7 +36,7 @@ pub fn play_source<N: Bases, R: Wait, S: Source, K: Sink, B: Berth, G: Gate>(
     ensures too_long { TakesText result (S.left source.old) (S.left source.new) }
     ensures unwritten { UnlessPlayed result (sink.new ≡ sink.old) }
     ensures unplayed { UnlessPlayed result (berths.new ≡ berths.old) }
-    ensures berths { LeavesBerths B.meaning berths.old.items berths.new.items }
+    ensures berths { LeavesBerths B.meaning (leaves_told (S.left source.old)) berths.old.items berths.new.items }
 {
     let text = match read_all(alloc, source) {
         Ok(text) => text,
@@ -52,13 +53,23 @@ pub fn play_source<N: Bases, R: Wait, S: Source, K: Sink, B: Berth, G: Gate>(
         Ok(script) => script,
         Err(fault) => return status_of(fault),
     };
-    if berths.len() < leaf_count(&script.commands) {
+    if berths.len() < leaf_count(&script.items) {
         return Status::Script {
             line: script.fleet_line,
             why: Why::NoBerth,
         };
     }
-    play_commands::<N, R, K, B, G>(rt, alloc, script.commands, sink, berths, gate)
+    // So far no burst is played.
+    if script.burst_line != 0 {
+        return Status::Script {
+            line: script.burst_line,
+            why: Why::Command,
+        };
+    }
+    let Ok(commands) = script.into_commands(alloc) else {
+        return Status::NoMemory;
+    };
+    play_commands::<N, R, K, B, G>(rt, alloc, commands, sink, berths, gate)
 }
 
 /// The status of a text that is no script.

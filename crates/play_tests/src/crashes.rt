@@ -4,6 +4,7 @@ use berth_mem::{MemBerth, Method};
 use std::alloc::{AllocError, Global};
 use std::sync::Wait;
 use std::test::*;
+use std::thread::Threads;
 
 /// The commands of a leaf's life, each with the fewest and the most writes that a crash leaves from the end of the command
 /// before it to its own end: what was flushed by then is never lost, and what was not accepted never there.
@@ -21,7 +22,7 @@ const LIFE: [(&str, u8, u8); 10] = [
 ];
 
 /// With how many writes a new leaf opens its table over this berth, where its start has no fault.
-fn writes_opened<R: Wait>(
+fn writes_opened<R: Wait + Threads + Sync>(
     rt: &R,
     alloc: Global,
     berth: MemBerth,
@@ -45,7 +46,7 @@ fn opened(lines: &[u8]) -> Option<u8> {
 
 /// The fewest and the most writes with which a new leaf opens its table over what a crash leaves from that moment on; none where
 /// a start has a fault.
-fn writes_left<R: Wait>(
+fn writes_left<R: Wait + Threads + Sync>(
     rt: &R,
     alloc: Global,
     berth: &MemBerth,
@@ -86,7 +87,7 @@ fn a_crash_at_any_moment_leaves_what_was_flushed(rt: HostRuntime) -> Result<(), 
 }
 
 /// The lines of a play over a berth that holds the same, of which the first call of that method fails.
-fn lines_failing<R: Wait>(
+fn lines_failing<R: Wait + Threads + Sync>(
     rt: &R,
     alloc: Global,
     berth: &MemBerth,
@@ -104,7 +105,11 @@ fn lines_failing<R: Wait>(
 
 /// Whether a new leaf opens its table with one write over all that a crash now leaves: from memory, or where the region is
 /// lost from the log.
-fn is_there_twice<R: Wait>(rt: &R, alloc: Global, berth: &MemBerth) -> Result<bool, AllocError> {
+fn is_there_twice<R: Wait + Threads + Sync>(
+    rt: &R,
+    alloc: Global,
+    berth: &MemBerth,
+) -> Result<bool, AllocError> {
     let now = berth.moments() - 1;
     for image in 0..berth.images(now) {
         let picked = berth.pick(now, image)?;

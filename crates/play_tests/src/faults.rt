@@ -4,6 +4,7 @@ use berth_mem::{MemBerth, Method};
 use std::alloc::{AllocError, Global};
 use std::sync::Wait;
 use std::test::*;
+use std::thread::Threads;
 
 /// The log of a flush of one row with the time 1 in the table errors, which is of one accepted write.
 const LOG: [u8; 41] = [
@@ -17,7 +18,7 @@ const LOG: [u8; 41] = [
 ];
 
 /// The berth that a play of the script over an empty one leaves of which that call fails, and its lines.
-fn played_failing<R: Wait>(
+fn played_failing<R: Wait + Threads + Sync>(
     rt: &R,
     alloc: Global,
     method: Method,

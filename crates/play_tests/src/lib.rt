@@ -1,10 +1,12 @@
-//! Tests of whole runs: over streams and berths that fail, and over what a crash leaves.
+//! Tests of whole runs: over streams and berths that fail, over what a crash leaves, and over two leaves that are asked at once.
 #![tactic(auto)]
 
 #[cfg(test)]
 mod crashes;
 #[cfg(test)]
 mod faults;
+#[cfg(test)]
+mod gates;
 #[cfg(test)]
 mod plays;
 #[cfg(test)]

@@ -1,13 +1,14 @@
 // What the tests share: a run with its words, and a play over one berth.
-use berth_face::{OpenGate, Sink, Source};
+use berth_face::{Gate, OpenGate, Sink, Source};
 use berth_mem::{Fail, Fails, MemBerth, MemSink, MemSource, Method};
 use play::{Status, run};
 use std::alloc::{AllocError, Global};
 use std::marker::Brand;
 use std::sync::Wait;
+use std::thread::Threads;
 
 /// Runs what the line's words say.
-pub fn run_line<R: Wait, S: Source, K: Sink>(
+pub fn run_line<R: Wait + Threads + Sync, S: Source, K: Sink>(
     rt: &R,
     alloc: Global,
     line: &str,
@@ -31,7 +32,7 @@ pub fn run_line<R: Wait, S: Source, K: Sink>(
 }
 
 /// The berth that a play of the script over this one leaves, and its lines; none where the play is not done.
-pub fn played<R: Wait>(
+pub fn played<R: Wait + Threads + Sync>(
     rt: &R,
     alloc: Global,
     berth: MemBerth,
@@ -48,6 +49,37 @@ pub fn played<R: Wait>(
     match (berths.pop(), String::from_utf8(sink.bytes().to_vec(alloc)?)) {
         (Some(left), Ok(lines)) => Ok(Some((left, lines))),
         _ => Ok(None),
+    }
+}
+
+/// The lines that a play of the script over so many empty berths prints, with this gate; none where the play is not done.
+pub fn lines_of<R: Wait + Threads + Sync, G: Gate>(
+    rt: &R,
+    alloc: Global,
+    script: &str,
+    berths: u32,
+    gate: &G,
+) -> Result<String, AllocError> {
+    let mut words = Vec::new(alloc);
+    words.push(String::from_str(alloc, "play")?)?;
+    let mut source = MemSource::new(script.as_bytes().to_vec(alloc)?);
+    let mut sink = MemSink::new(alloc);
+    let mut empty = Vec::new(alloc);
+    for _ in 0..berths {
+        empty.push(empty_berth(alloc))?;
+    }
+    let status = run::<Brand, R, MemSource, MemSink, MemBerth, G>(
+        rt,
+        alloc,
+        words.as_slice(),
+        &mut source,
+        &mut sink,
+        &mut empty,
+        gate,
+    );
+    match (status, String::from_utf8(sink.bytes().to_vec(alloc)?)) {
+        (Status::Done, Ok(lines)) => Ok(lines),
+        _ => Ok(String::new(alloc)),
     }
 }
 

@@ -7,6 +7,7 @@ use script_text::Why;
 use std::alloc::{AllocError, Global};
 use std::sync::Wait;
 use std::test::*;
+use std::thread::Threads;
 
 /// A sink that takes one byte at a call.
 #[derive(Drop)]
@@ -48,7 +49,7 @@ fn ending(status: &Status) -> &'static str {
 
 /// How a run ends over a source of the text and a sink of one byte a call, of which these calls fail, and what it wrote. Call 0
 /// is never made.
-fn run_failing<R: Wait>(
+fn run_failing<R: Wait + Threads + Sync>(
     rt: &R,
     alloc: Global,
     line: &str,

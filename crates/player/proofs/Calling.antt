@@ -12,16 +12,13 @@ use Rattle.leaf_table.specs.Calls.{SeatView, Answered, SameSeat, base_seen, seen
 use Rattle.leaf_steward.specs.Seated.{Seated, AtPlace}
 use Rattle.leaf_steward.proofs.Seating.{same_at, set_either}
 use Rattle.transcript.specs.Stage.{Leaf, seated_of, with_seats}
-use Rattle.player.specs.Stage.{Called, AreCalled, Calls, IsCallersAt}
+use Rattle.player.specs.Rows.{Called, AreCalled, Calls, IsCallersAt}
 use Rattle.player.specs.Moves.{MeetsAt}
 use Rattle.player.proofs.Meetings.{IsMetSeat, IsThere, is_there}
 
 -- ---- what stands in a place
 
 -- what is read of a place within a list stands there
-pub read_at : {A : Type 0} (xs : List A) (place : ℕ) (x : A) → place < length xs → x ≡ slice_index_or xs place x → slice_get xs place ≡ Some (slice_index_or xs place x)
-read_at xs place x within is = subst (λ y. slice_get xs place ≡ Some y) is (slice_get_read xs (length xs) place x refl within is)
-
 pub stands_at : {A : Type 0} (xs : List A) (place : ℕ) (x : A) → place < length xs → x ≡ slice_index_or xs place x → slice_get xs place ≡ Some x
 stands_at xs place x within is = slice_get_read xs (length xs) place x refl within is
 
@@ -61,32 +58,17 @@ callers_after t v c reply w is seat same answered = record {
   legal = legal_after t v c reply w is.legal answered;
 }
 
--- of the callers' seats x, which are those of `self`, the seat v at the table t, as they are read at that place
-module _ (x self : Called) (table : ℕ) (t : Shared) (v : SeatView) (are : AreCalled x) (is : x ≡ self) (within : table < length self.tables)
-    (read : t ≡ slice_index_or x.tables table t) (seat : v ≡ slice_index_or x.seats table v) where
-  abbrev shared : Shared
-  shared = slice_index_or x.tables table t
+-- the seat v at the table t
+module _ (x : Called) (table : ℕ) (t : Shared) (v : SeatView) (are : AreCalled x) (at : slice_get x.tables table ≡ Some t) (was : slice_get x.seats table ≡ Some v) where
+  pub is_called : IsCallersAt t v
+  is_called = are.each table t v at was
 
-  inside : table < length x.tables
-  inside = subst (λ (y : Called). table < length y.tables) (sym is) within
-
-  at : slice_get x.tables table ≡ Some shared
-  at = read_at x.tables table t inside read
-
-  was : slice_get x.seats table ≡ Some v
-  was = let below : table < length x.tables = inside in stands_at x.seats table v (omega (arith, below, are.count)) seat
-
-  pub called_at : IsCallersAt shared v
-  called_at = are.each table shared v at was
-
-  pub called_on : (c : Call) (reply : Reply) (w : SeatView) → IsSeatOf w shared.site → SameSeat v w → Answered (base_seen shared) v c reply w
+  pub called_on : (c : Call) (reply : Reply) (w : SeatView) → IsSeatOf w t.site → SameSeat v w → Answered (base_seen t) v c reply w
       → AreCalled (record { tables = x.tables; seats = slice_set x.seats table w })
-  called_on c reply w seats same answered = called_with x table shared w are at (callers_after shared v c reply w called_at seats same answered)
+  called_on c reply w seats same answered = called_with x table t w are at (callers_after t v c reply w is_called seats same answered)
 
-  pub calls : (c : Call) (reply : Reply) (w : SeatView) → Answered (base_seen shared) v c reply w → Calls table c self reply (record { tables = x.tables; seats = slice_set x.seats table w })
-  calls c reply w answered =
-      subst (λ (y : Called). Calls table c y reply (record { tables = x.tables; seats = slice_set x.seats table w })) is
-      (record { shared = shared; before = v; after = w; at = at; was = was; answered = answered; now = refl })
+  pub calls : (c : Call) (reply : Reply) (w : SeatView) → Answered (base_seen t) v c reply w → Calls table c x reply (record { tables = x.tables; seats = slice_set x.seats table w })
+  calls c reply w answered = record { shared = t; before = v; after = w; at = at; was = was; answered = answered; now = refl }
 
 -- ---- meetings
 

@@ -1,6 +1,6 @@
 -- The copy of a leaf's tables, step by step.
 use Rattle.std.proofs.Common.{◌≡◌, ℕ, suc, ◌<◌, ◌≤◌, true, false, ltb, List, [], ◌∷◌, length, drop, Option, Result, Ok, Err, refl, sym, ap, subst, ◌∙◌, le_refl, arith}
-use Rattle.std.specs.Prelude.{IsTrue, MatchBool, nat_lt}
+use Rattle.std.specs.Prelude.{IsTrue}
 use Rattle.std.proofs.lemmas.Bool.{le-ltb}
 use Rattle.std.proofs.lemmas.List.{length-drop}
 use Rattle.leaf_model.specs.declared.writes.Write.{Write}
@@ -9,13 +9,10 @@ use Rattle.berth_face.proofs.Moments.{passes_none, passes_on}
 use Rattle.region_layout.specs.declared.head.Head.TheVariants as head
 use Rattle.region_layout.specs.declared.image.TableImage.{TableImage}
 use Rattle.region_layout.specs.Region.{IsImage, head_of, layout}
-use Rattle.adopt.specs.declared.found.WhyDisk.TheVariants as why
 use Rattle.drain_copy.specs.declared.step.Next.{Next}
 use Rattle.drain_copy.specs.declared.step.Next.TheVariants as next
 use Rattle.drain_copy.specs.declared.step.RegionFault.{RegionFault}
 use Rattle.drain_copy.specs.Draining.{StandsAt}
-use Rattle.leaf_opening.specs.declared.ways.Way.TheVariants.{Disk}
-use Rattle.leaf_opening.specs.Starts.{IsWayOf}
 use Rattle.crash_moments.specs.Left.{NamedStates}
 use Rattle.crash_moments.specs.Told as moments
 use Rattle.crash_moments.proofs.Telling.{none_more, told_join}
@@ -30,10 +27,13 @@ use Rattle.leaf_machine.specs.States.{Copying, GoesOnCopying, RestsOn}
 use Rattle.leaf_machine.specs.Copies.{CopyGoesOn, IsCopyStep, IsNextCopy, berth_of_copy, seats_of_copy}
 use Rattle.leaf_machine.proofs.UpMaking.{makes_since}
 use Rattle.printed_lines.specs.declared.line.Ending.TheVariants as ending
+use Rattle.transcript.specs.Life.{MayMake}
+use Rattle.transcript.specs.Steps as step
+use Rattle.transcript.specs.Steps.{MakesStep, RegionStopped}
 use Rattle.player.specs.Steps.{AreLeft, Spends, steps_before}
 use Rattle.player.specs.Moves as move
-use Rattle.player.specs.Moves.{CopyEnds, CopyRests, CopyStands}
-use Rattle.player.proofs.Counted.{none_made, spent, may_make, all_made}
+use Rattle.player.specs.Moves.{CopyEnds, CopyRests, CopyStands, MakesCopies}
+use Rattle.player.proofs.Counted.{makes_none, makes_more, none_made, spent, may_make, all_made}
 
 -- ---- the copy so far
 
@@ -45,7 +45,8 @@ CopyTold c d m n = CopyStands d n × ((base : NamedStates) → moments.Told base
 pub record CopiedSoFar (c : Copying) (m : Meaning) (stop : Option ℕ) (d : Copying) (n : Meaning) (left : Option ℕ) (notes : List Note) : Type 0 where
   pub seated : d.seated ≡ c.seated
   pub image : d.drain.image ≡ c.drain.image
-  pub steps : AreLeft stop (steps_before d.drain.next) left
+  pub made : MakesCopies (steps_before d.drain.next)
+  pub left_are : AreLeft stop (steps_before d.drain.next) left
   pub more : steps_before d.drain.next < 3
   pub none : notes ≡ []
   pub untouched : d.drain.next ≡ next.Begin → n.held.region ≡ m.held.region
@@ -60,7 +61,8 @@ pub copied_none : (c : Copying) (m : Meaning) (stop : Option ℕ) (notes : List 
 copied_none c m stop notes first empty = record {
   seated = refl;
   image = refl;
-  steps = subst (λ (a : Next). AreLeft stop (steps_before a) stop) (sym first) (none_made stop);
+  made = subst (λ (a : Next). MakesCopies (steps_before a)) (sym first) (λ x. makes_none (step.Copies x 0));
+  left_are = subst (λ (a : Next). AreLeft stop (steps_before a) stop) (sym first) (none_made stop);
   more = subst (λ (a : Next). steps_before a < 3) (sym first) (omega arith);
   none = empty;
   untouched = λ e. refl;
@@ -92,6 +94,12 @@ next_steps next.Write b is = (ap steps_before is, subst (λ (n : Next). steps_be
 next_steps next.Flag b is = absurd is
 next_steps next.Nothing b is = absurd is
 
+-- one step more that is not the last
+copies_more : (made later : ℕ) → later ≡ suc made → later < 3 → MakesCopies made → MakesCopies later
+copies_more made later is few copies = subst MakesCopies (sym is) (λ x.
+    makes_more made (step.Copies x 0) [] (step.Copies x made) [] (step.Copies x (suc made)) (copies x)
+    (MakesStep.copies x made 3 refl refl (subst (λ (k : ℕ). k < 3) is few) refl refl))
+
 module _ (c : Copying) (m : Meaning) (stop left left' : Option ℕ) (d : Copying) (n : Meaning) (before : List Note) (so_far : CopiedSoFar c m stop d n left before) where
   founded_still : AreFounded c.seated → AreFounded d.seated
   founded_still founded = subst AreFounded (sym so_far.seated) founded
@@ -102,7 +110,7 @@ module _ (c : Copying) (m : Meaning) (stop left left' : Option ℕ) (d : Copying
   -- no step is left
   pub copied_stopped : Spends left false left' → CopyEnds c stop m n before ending.Stopped d.seated
   copied_stopped spends =
-      move.stopped d.drain.next (all_made stop left (steps_before d.drain.next) 0 (steps_before d.drain.next) so_far.steps spends (omega arith)) so_far.more so_far.none so_far.seated
+      move.stopped d.drain.next so_far.made (all_made stop left (steps_before d.drain.next) 0 (steps_before d.drain.next) so_far.left_are spends (omega arith)) so_far.more so_far.none so_far.seated
       (λ tells founded stands.
       let now : CopyTold c d m n = so_far.copies tells founded stands in
       subst (λ (image : List ℕ). StandsAt d.drain.next image n.held.region) so_far.image now.0.1.draining)
@@ -135,15 +143,19 @@ module _ (c : Copying) (m : Meaning) (stop left left' : Option ℕ) (d : Copying
   failed_rests meaning notes down fault steps = rests_then down.0 notes (meaning down.1) steps.time steps.reads steps.made steps.crash
 
   module _ {B : Type 0} (meaning : B → Meaning) (notes : List Note) (spends : Spends left true left') where
-    made_now : AreLeft stop (suc (steps_before d.drain.next)) left'
-    made_now = spent stop left left' (steps_before d.drain.next) so_far.steps spends
+    left_now : AreLeft stop (suc (steps_before d.drain.next)) left'
+    left_now = spent stop left left' (steps_before d.drain.next) so_far.left_are spends
+
+    may_now : MayMake stop (suc (steps_before d.drain.next))
+    may_now = may_make stop left' (suc (steps_before d.drain.next)) left_now
 
     -- one step more
     pub copied_more : (later : Copying × B) → CopySteps meaning d n notes (more_copy later) → CopiedSoFar c m stop later.0 (meaning later.1) left' notes
     copied_more later steps = record {
       seated = steps.one.1 ∙ so_far.seated;
       image = steps.one.2 ∙ so_far.image;
-      steps = subst (λ (k : ℕ). AreLeft stop k left') (sym goes.0) made_now;
+      made = copies_more (steps_before d.drain.next) (steps_before later.0.drain.next) goes.0 goes.1 so_far.made;
+      left_are = subst (λ (k : ℕ). AreLeft stop k left') (sym goes.0) left_now;
       more = goes.1;
       none = steps.one.3;
       untouched = λ e. absurd (goes.2 e);
@@ -161,12 +173,16 @@ module _ (c : Copying) (m : Meaning) (stop left left' : Option ℕ) (d : Copying
     -- the last step
     pub copied_done : (down : Seated × B) → CopySteps meaning d n notes (last_copy down) → CopyEnds c stop m (meaning down.1) notes ending.Done down.0
     copied_done down steps =
-        move.done (may_make stop left' 3 3 (subst (λ (k : ℕ). AreLeft stop k left') (ap (λ (a : Next). suc (steps_before a)) steps.one.0) made_now) (omega arith))
+        move.done (steps_before d.drain.next) 3 so_far.made refl (ap (λ (a : Next). suc (steps_before a)) steps.one.0) may_now
         (subst (λ (s : Seated). EachNoted IsHandedNote 0 (length s.tables) notes) so_far.seated steps.one.1)
         (λ tells founded stands.
         let now : CopyTold c d m n = so_far.copies tells founded stands in
         (steps.crash (tells_still tells) (founded_still founded) now.0.0 now.0.1).1)
         refl
+
+    -- the region failed
+    pub copied_failed : (down : Seated × B) (fault : RegionFault) → CopySteps meaning d n notes (failed_copy down fault) → CopyEnds c stop m (meaning down.1) notes ending.FaultRegion down.0
+    copied_failed down fault steps = move.failed (steps_before d.drain.next) so_far.made may_now steps.one.1 (steps.one.0 ∙ so_far.seated) refl
 
 -- ---- the region of a copy that is stopped
 
@@ -179,12 +195,12 @@ long_image : (image : List ℕ) (images : List TableImage) (log_end : ℕ) → I
 long_image image images log_end is = subst (λ (l : List ℕ). 16 ≤ length l) (sym is.1.bytes) (omega arith)
 
 -- it is as it was before the first step, and closed behind that
-pub region_stopped : (at : Next) (image region before : List ℕ) (images : List TableImage) (log_end : ℕ)
-    → steps_before at < 3 → IsImage layout image images log_end → StandsAt at image region → (at ≡ next.Begin → region ≡ before)
-    → MatchBool (nat_lt 1 (suc (steps_before at))) (IsWayOf region (Disk (why.Closed 0))) (region ≡ before)
-region_stopped next.Begin image region before images log_end few is stands untouched = untouched refl
-region_stopped next.Write image region before images log_end few is stands untouched = subst (λ (r : List ℕ). head_of r ≡ head.Closed 0) (sym stands) refl
-region_stopped next.Flag image region before images log_end few is stands untouched =
+pub region_stopped : (at : Next) (image : List ℕ) (m n : Meaning) (images : List TableImage) (log_end : ℕ)
+    → steps_before at < 3 → IsImage layout image images log_end → StandsAt at image n.held.region → (at ≡ next.Begin → n.held.region ≡ m.held.region)
+    → RegionStopped (steps_before at) m n
+region_stopped next.Begin image m n images log_end few is stands untouched = untouched refl
+region_stopped next.Write image m n images log_end few is stands untouched = subst (λ (r : List ℕ). head_of r ≡ head.Closed 0) (sym stands) refl
+region_stopped next.Flag image m n images log_end few is stands untouched =
     subst (λ (r : List ℕ). head_of r ≡ head.Closed 0) (sym stands)
     (closed_at_zero (drop 1 image) (omega (arith, length-drop 1 image, long_image image images log_end is)))
-region_stopped next.Nothing image region before images log_end few is stands untouched = absurd (omega (arith, few))
+region_stopped next.Nothing image m n images log_end few is stands untouched = absurd (omega (arith, few))

@@ -19,36 +19,35 @@ use Rattle.leaf_machine.proofs.UpMaking.{makes_join}
 use Rattle.printed_lines.specs.declared.line.Line.{Line}
 use Rattle.transcript.specs.Stage.{IsPreparing, Carries}
 use Rattle.transcript.specs.Steps as step
-use Rattle.transcript.specs.Steps.{Part, TreatsOn}
+use Rattle.transcript.specs.Steps.{MakesStep, MakesSteps}
 use Rattle.player.specs.declared.drain.Shut.TheVariants as how
 use Rattle.player.specs.Steps.{AreLeft, Spends}
 use Rattle.player.specs.Lines.{AreTold, AreAdded, note_lines}
 use Rattle.player.specs.Moves as move
 use Rattle.player.specs.Moves.{CarriesCopy, IsKilled}
-use Rattle.player.proofs.Counted.{none_made, spent, may_make, all_made}
+use Rattle.player.proofs.Counted.{makes_none, makes_more, makes_still, none_made, spent, may_make, all_made}
 use Rattle.player.proofs.NoteLines.{lines_append}
-use Rattle.player.proofs.Treated.{GoesFar, treats_more, treats_still, one_treated, far_none, far_on, far_tables, far_founded, far_tells, far_carries}
+use Rattle.player.proofs.Treated.{GoesFar, one_treated, far_none, far_on, far_founded, far_tells, far_carries}
 
 -- ---- lines
 
 -- the lines of more notes, told behind others
-pub told_more : {E : Type 0} (a b : List Note) (before after : Result (Vec Line Global) E)
-    → AreTold a before → IfOk after (λ lines. AreAdded before b lines.items) → AreTold (a ++ b) after
-told_more a b (Ok before) (Ok after) told added =
-    added ∙ ap (λ (ls : List Line). ls ++ note_lines b) told ∙ sym (lines_append a b)
-told_more a b (Err e) (Ok after) told added = absurd added
-told_more a b before (Err e) told added = tt
+pub told_more : {E : Type 0} (number : ℕ) (a b : List Note) (before after : Result (Vec Line Global) E)
+    → AreTold number a before → IfOk after (λ lines. AreAdded number before b lines.items) → AreTold number (a ++ b) after
+told_more number a b (Ok before) (Ok after) told added =
+    added ∙ ap (λ (ls : List Line). ls ++ note_lines number b) told ∙ sym (lines_append number a b)
+told_more number a b (Err e) (Ok after) told added = absurd added
+told_more number a b before (Err e) told added = tt
 
 -- ---- the shutting so far
 
 -- Tables were treated up to this, with a step each, by these notes, whose lines were told.
-pub record SoFar {E : Type 0} (x : Shutting) (m : Meaning) (stop : Option ℕ) (y : Shutting) (n : Meaning) (left : Option ℕ) (lines : Result (Vec Line Global) E) : Type 0 where
+pub record SoFar {E : Type 0} (number : ℕ) (x : Shutting) (m : Meaning) (stop : Option ℕ) (y : Shutting) (n : Meaning) (left : Option ℕ) (lines : Result (Vec Line Global) E) : Type 0 where
   pub notes : List Note
   pub made : ℕ
-  pub count : treated x + made ≡ treated y
-  pub steps : AreLeft stop made left
-  pub treats : TreatsOn x notes y
-  pub told : AreTold notes lines
+  pub steps : MakesSteps made (step.Shuts x) notes (step.Shuts y)
+  pub left_are : AreLeft stop made left
+  pub told : AreTold number notes lines
   pub far : GoesFar x y notes m n
 
 abbrev pub more_step : {B : Type 0} → Shutting × B → Result (Prepared B) ((Shutting × B) × PrepareFault)
@@ -61,13 +60,12 @@ abbrev pub failed_step : {B : Type 0} → Shutting × B → PrepareFault → Res
 failed_step leaf f = Err (leaf, f)
 
 -- nothing was treated yet
-pub so_far_none : {E : Type 0} (x : Shutting) (m : Meaning) (stop : Option ℕ) (none : Vec Line Global) → none.items ≡ [] → SoFar {E = E} x m stop x m stop (Ok none)
-so_far_none x m stop none empty = record {
+pub so_far_none : {E : Type 0} (number : ℕ) (x : Shutting) (m : Meaning) (stop : Option ℕ) (none : Vec Line Global) → none.items ≡ [] → SoFar {E = E} number x m stop x m stop (Ok none)
+so_far_none number x m stop none empty = record {
   notes = [];
   made = 0;
-  count = omega arith;
-  steps = none_made stop;
-  treats = step.none x [] x refl refl;
+  steps = makes_none (step.Shuts x);
+  left_are = none_made stop;
   told = empty;
   far = far_none x m;
 }
@@ -89,17 +87,16 @@ fewer_left meaning leaf more notes some stepped =
     let same = ap (λ ts. length ts) (makes_tables (meaning leaf.1).clock (meaning more.1).clock leaf.0.serving.seated notes more.0.serving.seated stepped.made) in
     omega (arith, same, one_treated leaf.0 more.0 notes some stepped.one.1, stepped.one.0)
 
-module _ {B E : Type 0} (meaning : B → Meaning) (x : Shutting) (m : Meaning) (stop left left' : Option ℕ) (leaf : Shutting × B)
-    (before : Result (Vec Line Global) E) (so_far : SoFar x m stop leaf.0 (meaning leaf.1) left before) where
+module _ {B E : Type 0} (number : ℕ) (meaning : B → Meaning) (x : Shutting) (m : Meaning) (stop left left' : Option ℕ) (leaf : Shutting × B)
+    (before : Result (Vec Line Global) E) (so_far : SoFar number x m stop leaf.0 (meaning leaf.1) left before) where
   -- no step is left
-  pub shut_stopped : Spends left false left' → move.ShutsTables meaning x m stop (how.Stopped leaf) left' before
+  pub shut_stopped : Spends left false left' → move.ShutsTables number meaning x m stop (how.Stopped leaf) left' before
   shut_stopped spends = record {
     notes = so_far.notes;
     ends = record {
       made = so_far.made;
-      all = all_made stop left so_far.made 0 so_far.made so_far.steps spends (omega arith);
-      count = so_far.count;
-      treats = so_far.treats;
+      all = all_made stop left so_far.made 0 so_far.made so_far.left_are spends (omega arith);
+      steps = so_far.steps;
       carries = far_carries x leaf.0 so_far.notes m (meaning leaf.1) so_far.far;
       region = so_far.far.region;
     };
@@ -107,48 +104,39 @@ module _ {B E : Type 0} (meaning : B → Meaning) (x : Shutting) (m : Meaning) (
     told = so_far.told;
   }
 
-  module _ (spends : Spends left true left') (after : Result (Vec Line Global) E) (notes : List Note) (added : IfOk after (λ lines. AreAdded before notes lines.items)) where
-    made : AreLeft stop (suc so_far.made) left'
-    made = spent stop left left' so_far.made so_far.steps spends
+  module _ (spends : Spends left true left') (after : Result (Vec Line Global) E) (notes : List Note) (added : IfOk after (λ lines. AreAdded number before notes lines.items)) where
+    left_now : AreLeft stop (suc so_far.made) left'
+    left_now = spent stop left left' so_far.made so_far.left_are spends
 
-    shut_told : AreTold (so_far.notes ++ notes) after
-    shut_told = told_more so_far.notes notes before after so_far.told added
-
-    -- where all are treated, as many steps were made for that as there were tables left
-    all_counted : AllTreated leaf.0 → treated x + so_far.made ≡ length x.serving.seated.tables
-    all_counted all = so_far.count ∙ all ∙ far_tables x leaf.0 so_far.notes m (meaning leaf.1) so_far.far
+    shut_told : AreTold number (so_far.notes ++ notes) after
+    shut_told = told_more number so_far.notes notes before after so_far.told added
 
     far_then : (z : Shutting) (o : Meaning) → GoesFar leaf.0 z notes (meaning leaf.1) o → GoesFar x z (so_far.notes ++ notes) m o
     far_then z o goes = far_on x leaf.0 so_far.notes m (meaning leaf.1) so_far.far z notes o goes
 
     -- one table more
-    pub shut_more : (more : Shutting × B) → (IsTrue leaf.0.shut → 0 < length leaf.0.closed) → Stepped meaning leaf.0 (meaning leaf.1) notes (more_step more)
-        → SoFar x m stop more.0 (meaning more.1) left' after
-    shut_more more some stepped = record {
+    pub shut_more : (more : Shutting × B) → Stepped meaning leaf.0 (meaning leaf.1) notes (more_step more)
+        → SoFar number x m stop more.0 (meaning more.1) left' after
+    shut_more more stepped = record {
       notes = so_far.notes ++ notes;
       made = suc so_far.made;
-      count = omega (arith, so_far.count, one_treated leaf.0 more.0 notes some stepped.one.1);
-      steps = made;
-      treats = treats_more so_far.treats more.0 notes (record {
-        few = stepped.one.0;
-        one = stepped.one.1;
-        part = record { from = (meaning leaf.1).clock; to = (meaning more.1).clock; made = stepped.made };
-      });
+      steps = makes_more so_far.made (step.Shuts x) so_far.notes (step.Shuts leaf.0) notes (step.Shuts more.0) so_far.steps
+          (MakesStep.treats leaf.0 more.0 refl stepped.one.0 stepped.one.1 (record { from = (meaning leaf.1).clock; to = (meaning more.1).clock; made = stepped.made }) refl);
+      left_are = left_now;
       told = shut_told;
       far = far_then more.0 (meaning more.1) (record { made = stepped.made; goes = stepped.crash; region = stepped.region; reads = stepped.reads; passes = stepped.time });
     }
 
     -- all are treated, and the copy is planned
-    pub shut_ready : (copy : Copying × B) → Stepped meaning leaf.0 (meaning leaf.1) notes (ready_step copy) → move.ShutsTables meaning x m stop (how.Ready copy) left' after
+    pub shut_ready : (copy : Copying × B) → Stepped meaning leaf.0 (meaning leaf.1) notes (ready_step copy) → move.ShutsTables number meaning x m stop (how.Ready copy) left' after
     shut_ready copy stepped = record {
       notes = so_far.notes ++ notes;
       ends = record {
         whole = leaf.0;
-        tables = so_far.made;
-        count = all_counted stepped.one.0;
-        made = made;
-        treats = treats_still x so_far.notes notes leaf.0 stepped.one.1 so_far.treats;
-        all = stepped.one.0;
+        made = suc so_far.made;
+        steps = makes_more so_far.made (step.Shuts x) so_far.notes (step.Shuts leaf.0) notes (step.Copies leaf.0 0) so_far.steps
+            (MakesStep.plans leaf.0 refl stepped.one.0 stepped.one.1 refl);
+        left_are = left_now;
         copy = stepped.one.2;
         carries = copy_carries;
         region = λ tells. stepped.region (tells_then tells) ∙ so_far.far.region tells;
@@ -179,7 +167,7 @@ module _ {B E : Type 0} (meaning : B → Meaning) (x : Shutting) (m : Meaning) (
       half_carries : Carries (IsPreparing x) (IsPreparing half.0) (so_far.notes ++ notes) m (meaning half.1)
       half_carries = far_carries x half.0 (so_far.notes ++ notes) m (meaning half.1) half_far
 
-      pub shut_halted : f ≡ fault.DiskFault → move.ShutsTables meaning x m stop (how.Halted half) left' after
+      pub shut_halted : f ≡ fault.DiskFault → move.ShutsTables number meaning x m stop (how.Halted half) left' after
       shut_halted e =
           let one : IsTreatingStep leaf.0 notes (failed_step half fault.DiskFault) = subst (λ (g : PrepareFault). IsTreatingStep leaf.0 notes (failed_step half g)) e stepped.one in
           record {
@@ -187,11 +175,10 @@ module _ {B E : Type 0} (meaning : B → Meaning) (x : Shutting) (m : Meaning) (
             ends = record {
               half = leaf.0;
               made = so_far.made;
-              count = so_far.count;
-              may = may_make stop left' (suc so_far.made) (suc so_far.made) made (omega arith);
               treating = so_far.notes;
               halting = notes;
-              treats = so_far.treats;
+              steps = so_far.steps;
+              may = may_make stop left' (suc so_far.made) left_now;
               more = one.0;
               halts = one.1;
               notes_are = refl;
@@ -202,7 +189,7 @@ module _ {B E : Type 0} (meaning : B → Meaning) (x : Shutting) (m : Meaning) (
             told = shut_told;
           }
 
-      pub shut_starved : f ≡ fault.NoMemory → move.ShutsTables meaning x m stop (how.Starved half) left' after
+      pub shut_starved : f ≡ fault.NoMemory → move.ShutsTables number meaning x m stop (how.Starved half) left' after
       shut_starved e =
           let one : IsTreatingStep leaf.0 notes (failed_step half fault.NoMemory) = subst (λ (g : PrepareFault). IsTreatingStep leaf.0 notes (failed_step half g)) e stepped.one in
           record {
@@ -210,11 +197,10 @@ module _ {B E : Type 0} (meaning : B → Meaning) (x : Shutting) (m : Meaning) (
             ends = record {
               half = leaf.0;
               made = so_far.made;
-              count = so_far.count;
-              may = may_make stop left' (suc so_far.made) (suc so_far.made) made (omega arith);
               treating = so_far.notes;
               starving = notes;
-              treats = so_far.treats;
+              steps = so_far.steps;
+              may = may_make stop left' (suc so_far.made) left_now;
               starves = one;
               part = record { from = (meaning leaf.1).clock; to = (meaning half.1).clock; made = stepped.made };
               notes_are = refl;
@@ -225,18 +211,18 @@ module _ {B E : Type 0} (meaning : B → Meaning) (x : Shutting) (m : Meaning) (
             told = shut_told;
           }
 
-      pub shut_roomless : f ≡ fault.NoRoom → move.ShutsTables meaning x m stop (how.Roomless half) left' after
+      pub shut_roomless : f ≡ fault.NoRoom → move.ShutsTables number meaning x m stop (how.Roomless half) left' after
       shut_roomless e =
           let one : IsTreatingStep leaf.0 notes (failed_step half fault.NoRoom) = subst (λ (g : PrepareFault). IsTreatingStep leaf.0 notes (failed_step half g)) e stepped.one in
           let stays : leaf.0 ≡ half.0 = sym one.3 in
           record {
             notes = so_far.notes ++ notes;
             ends = record {
-              tables = so_far.made;
-              count = all_counted one.0;
-              may = may_make stop left' (suc so_far.made) (so_far.made + 1) made (omega arith);
-              treats = subst (λ (z : Shutting). TreatsOn x (so_far.notes ++ notes) z) stays (treats_still x so_far.notes notes leaf.0 one.2 so_far.treats);
+              made = so_far.made;
+              steps = subst (λ (z : Shutting). MakesSteps so_far.made (step.Shuts x) (so_far.notes ++ notes) (step.Shuts z)) stays
+                  (makes_still so_far.made (step.Shuts x) so_far.notes notes (step.Shuts leaf.0) one.2 so_far.steps);
               all = subst AllTreated stays one.0;
+              may = may_make stop left' (suc so_far.made) left_now;
               carries = half_carries;
               region = half_far.region;
             };

@@ -1,5 +1,5 @@
 -- A drain, of its two parts.
-use Rattle.std.proofs.Common.{◌≡◌, ℕ, suc, ◌+◌, List, ◌++◌, length, Option, Result, Vec, Global, refl, sym, ap, subst, ◌∙◌, arith}
+use Rattle.std.proofs.Common.{◌≡◌, ℕ, suc, ◌+◌, List, [], ◌++◌, length, Option, Result, Vec, Global, refl, sym, ap, subst, ◌∙◌, arith}
 use Rattle.std.specs.Prelude.{IsTrue, IfOk}
 use Rattle.berth_face.specs.Berth.{Meaning, Passes}
 use Rattle.region_layout.specs.Images.{images_of}
@@ -17,18 +17,18 @@ use Rattle.printed_lines.specs.declared.line.Ending.TheVariants as ending
 use Rattle.printed_lines.specs.declared.line.Line.{Line}
 use Rattle.transcript.specs.Stage.{Leaf, IsDown, IsUp, IsPreparing, Stands, Carries, seated_of}
 use Rattle.transcript.specs.Steps as step
-use Rattle.transcript.specs.Steps.{Part, BeginsShutting, TreatsOn, DrainMoves, RegionStopped}
+use Rattle.transcript.specs.Life.{MayMake}
+use Rattle.transcript.specs.Steps.{BeginsShutting, MakesSteps, DrainMoves}
 use Rattle.player.specs.declared.drain.Shut.TheVariants as how
 use Rattle.player.specs.Stage.{KeepsSeats}
 use Rattle.player.specs.Steps.{steps_before}
 use Rattle.player.specs.Lines.{AreAdded}
 use Rattle.player.specs.Moves as move
-use Rattle.player.specs.Moves.{CarriesCopy, CopyEnds, CopyRests, CopyStands, DrainsWithLines, IsKilled, IsCopyReady}
+use Rattle.player.specs.Moves.{CarriesCopy, CopyEnds, CopyRests, CopyStands, DrainsWithLines, IsKilled, IsCopyReady, MakesCopies}
 use Rattle.player.proofs.Carrying.{carries_on, founded_on, makes_keeps}
-use Rattle.player.proofs.Counted.{may_make_more, all_made}
+use Rattle.player.proofs.Counted.{makes_copies, makes_still, may_make_more, all_made}
 use Rattle.player.proofs.Copied.{region_stopped}
 use Rattle.player.proofs.Drained.{told_more}
-use Rattle.player.proofs.Treated.{treats_still}
 
 -- ---- a leaf that begins to shut its tables is one that shuts them
 
@@ -77,71 +77,77 @@ module _ (x : Shutting) (m n o : Meaning) (leaf : Leaf) (stop left : Option ℕ)
   whole_down : z ≡ c.seated → IsDown z ≡ IsDown ready.whole.serving.seated
   whole_down e = ap (λ (s : Seated). IsDown s) (e ∙ ready.copy.seated)
 
+  -- the steps up to here and those of the copy, and whether one more may be made
+  copy_steps : (made : ℕ) → MakesCopies made → MakesSteps (ready.made + made) (step.Shuts x) treating (step.Copies ready.whole made)
+  copy_steps made copies = makes_copies ready.made made (step.Shuts x) treating ready.whole ready.steps copies
+
+  copy_still : (made : ℕ) → MakesCopies made → notes ≡ [] → MakesSteps (ready.made + made) (step.Shuts x) (treating ++ notes) (step.Copies ready.whole made)
+  copy_still made copies none = makes_still (ready.made + made) (step.Shuts x) treating notes (step.Copies ready.whole made) none (copy_steps made copies)
+
+  may_copy : (made : ℕ) → MayMake left (suc made) → MayMake stop (suc (ready.made + made))
+  may_copy made may = may_make_more stop left ready.made (suc made) (suc (ready.made + made)) ready.left_are may (omega arith)
+
   copy_moves : CopyRests c z notes n o → CopyEnds c left n o notes ends z → DrainMoves m o leaf stop (treating ++ notes) ends (IsDown z)
-  copy_moves rests (move.done may noted memory ended) =
-      step.done x ready.whole z treating notes ready.tables shuts ready.count
-      (may_make_more stop left (suc ready.tables) 3 (ready.tables + 4) ready.made may (omega arith))
-      ready.treats ready.all
+  copy_moves rests (move.done made copy copies long last may noted memory ended) =
+      step.done x ready.whole z treating notes (ready.made + made) made copy shuts (copy_steps made copies) long last (may_copy made may)
       (record { from = n.clock; to = o.clock; made = subst (λ (s : Seated). Makes n.clock o.clock s notes z) ready.copy.seated rests.made })
       (subst (λ ts. EachNoted IsHandedNote 0 (length ts) notes) copy_tables noted)
       refl
       (λ base tells founded stands. let copies = copy_stands base tells founded stands in memory copies.0 copies.1 copies.2)
       ended refl
-  copy_moves rests (move.failed may none same ended) =
-      step.failed x ready.whole ready.tables shuts ready.count
-      (may_make_more stop left (suc ready.tables) 1 (ready.tables + 2) ready.made may (omega arith))
-      (treats_still x treating notes ready.whole none ready.treats) ready.all ended (whole_down same)
-  copy_moves rests (move.stopped at all few none same stands untouched ended) =
-      step.stopped_copying x ready.whole ready.tables (suc (steps_before at)) shuts
-      (all_made stop left (suc ready.tables) (steps_before at) (ready.tables + suc (steps_before at)) ready.made all (omega arith))
-      ready.count (omega arith) (omega (arith, few)) (treats_still x treating notes ready.whole none ready.treats) ready.all
+  copy_moves rests (move.failed made copies may none same ended) =
+      step.failed x ready.whole (ready.made + made) made shuts (copy_still made copies none) (may_copy made may) ended (whole_down same)
+  copy_moves rests (move.stopped at copies all few none same stands untouched ended) =
+      step.stopped_copying x ready.whole (ready.made + steps_before at) (steps_before at) shuts
+      (all_made stop left ready.made (steps_before at) (ready.made + steps_before at) ready.left_are all refl)
+      (copy_still (steps_before at) copies none)
       (λ base tells founded stood.
       let copies = copy_stands base tells founded stood in
-      region_stopped at c.drain.image o.held.region m.held.region (images_of ready.whole.serving.seated.names ready.whole.closed) ready.whole.serving.owing.log.end few ready.copy.image
+      region_stopped at c.drain.image m o (images_of ready.whole.serving.seated.names ready.whole.closed) ready.whole.serving.owing.log.end few ready.copy.image
       (stands copies.0 copies.1 copies.2) (λ e. untouched e ∙ ready.region tells))
       ended (whole_down same)
 
 -- ---- what a drain does
 
-module _ {B E : Type 0} (meaning : B → Meaning) (x : Shutting) (m : Meaning) (leaf : Leaf) (stop left : Option ℕ) (before : Result (Vec Line Global) E) (shuts : BeginsShutting leaf x) where
+module _ {B E : Type 0} (number : ℕ) (meaning : B → Meaning) (x : Shutting) (m : Meaning) (leaf : Leaf) (stop left : Option ℕ) (before : Result (Vec Line Global) E) (shuts : BeginsShutting leaf x) where
   -- all tables were copied, or the region failed, or no step was left for the copy
   pub drain_copied : (o : Meaning) (copy : Copying × B) (z : Seated) (ends : Ending) (after : Result (Vec Line Global) E) (notes : List Note)
-      → move.ShutsTables meaning x m stop (how.Ready copy) left before → Passes m (meaning copy.1)
+      → move.ShutsTables number meaning x m stop (how.Ready copy) left before → Passes m (meaning copy.1)
       → CopyEnds copy.0 left (meaning copy.1) o notes ends z → CopyRests copy.0 z notes (meaning copy.1) o
-      → IfOk after (λ lines. AreAdded before notes lines.items)
-      → DrainsWithLines m o leaf stop ends after (IsDown z)
+      → IfOk after (λ lines. AreAdded number before notes lines.items)
+      → DrainsWithLines number m o leaf stop ends after (IsDown z)
   drain_copied o copy z ends after notes shut passes copied rests added = record {
     notes = shut.notes ++ notes;
     moves = copy_moves x m (meaning copy.1) o leaf stop left shut.notes notes copy.0 z ends shuts shut.ends passes rests copied;
     carries = begins_carries leaf x (IsDown z) (shut.notes ++ notes) m o shuts
         (copy_carries x m (meaning copy.1) o leaf stop left shut.notes notes copy.0 z ends shuts shut.ends passes rests);
     reads = rests.reads ∙ shut.reads;
-    told = told_more shut.notes notes before after shut.told added;
+    told = told_more number shut.notes notes before after shut.told added;
   }
 
   -- no step was left for a table or the copy, and the leaf was killed
   pub drain_stopped : (y : Shutting × B) (z : Seated) (after : Result (Vec Line Global) E) (closing : List Note)
-      → move.ShutsTables meaning x m stop (how.Stopped y) left before → IsKilled y.0 z closing (meaning y.1) (meaning y.1)
-      → IfOk after (λ lines. AreAdded before closing lines.items)
-      → DrainsWithLines m (meaning y.1) leaf stop ending.Stopped after (IsDown z)
+      → move.ShutsTables number meaning x m stop (how.Stopped y) left before → IsKilled y.0 z closing (meaning y.1) (meaning y.1)
+      → IfOk after (λ lines. AreAdded number before closing lines.items)
+      → DrainsWithLines number m (meaning y.1) leaf stop ending.Stopped after (IsDown z)
   drain_stopped y z after closing shut killed added = record {
     notes = shut.notes ++ closing;
     moves =
-        step.stopped x y.0 z shut.notes closing shut.ends.made killed.count shuts shut.ends.all shut.ends.count shut.ends.treats killed.all killed.each
+        step.stopped x y.0 z shut.notes closing shut.ends.made killed.count shuts shut.ends.all shut.ends.steps killed.all killed.each
         (record { from = (meaning y.1).clock; to = (meaning y.1).clock; made = killed.carries.made }) refl shut.ends.region
         (λ base tells founded sound stood. (shut.ends.carries.stands base tells (begins_founded leaf x shuts founded) sound (begins_stands leaf x base m shuts stood)).stands)
         refl refl;
     carries = begins_carries leaf x (IsDown z) (shut.notes ++ closing) m (meaning y.1) shuts
         (carries_on (IsPreparing x) (IsPreparing y.0) (IsDown z) shut.notes closing m (meaning y.1) (meaning y.1) shut.ends.carries killed.carries);
     reads = shut.reads;
-    told = told_more shut.notes closing before after shut.told added;
+    told = told_more number shut.notes closing before after shut.told added;
   }
 
   -- the disk failed
-  pub drain_halted : (half : Shutting × B) → move.ShutsTables meaning x m stop (how.Halted half) left before → DrainsWithLines m (meaning half.1) leaf stop ending.FaultDisk before (IsPreparing half.0)
+  pub drain_halted : (half : Shutting × B) → move.ShutsTables number meaning x m stop (how.Halted half) left before → DrainsWithLines number m (meaning half.1) leaf stop ending.FaultDisk before (IsPreparing half.0)
   drain_halted half shut = record {
     notes = shut.notes;
-    moves = step.halted x shut.ends.half half.0 shut.ends.treating shut.ends.halting shut.ends.made shuts shut.ends.count shut.ends.may shut.ends.treats shut.ends.more
+    moves = step.halted x shut.ends.half half.0 shut.ends.treating shut.ends.halting shut.ends.made shuts shut.ends.steps shut.ends.may shut.ends.more
         shut.ends.halts shut.ends.notes_are shut.ends.region refl refl;
     carries = begins_carries leaf x (IsPreparing half.0) shut.notes m (meaning half.1) shuts shut.ends.carries;
     reads = shut.reads;
@@ -149,10 +155,10 @@ module _ {B E : Type 0} (meaning : B → Meaning) (x : Shutting) (m : Meaning) (
   }
 
   -- there was no memory for a table's content, or for the copy
-  pub drain_starved : (half : Shutting × B) → move.ShutsTables meaning x m stop (how.Starved half) left before → DrainsWithLines m (meaning half.1) leaf stop ending.FaultMemory before (IsPreparing half.0)
+  pub drain_starved : (half : Shutting × B) → move.ShutsTables number meaning x m stop (how.Starved half) left before → DrainsWithLines number m (meaning half.1) leaf stop ending.FaultMemory before (IsPreparing half.0)
   drain_starved half shut = record {
     notes = shut.notes;
-    moves = step.starved x shut.ends.half half.0 shut.ends.treating shut.ends.starving shut.ends.made shuts shut.ends.count shut.ends.may shut.ends.treats shut.ends.starves
+    moves = step.starved x shut.ends.half half.0 shut.ends.treating shut.ends.starving shut.ends.made shuts shut.ends.steps shut.ends.may shut.ends.starves
         shut.ends.part shut.ends.notes_are shut.ends.region refl refl;
     carries = begins_carries leaf x (IsPreparing half.0) shut.notes m (meaning half.1) shuts shut.ends.carries;
     reads = shut.reads;
@@ -160,16 +166,16 @@ module _ {B E : Type 0} (meaning : B → Meaning) (x : Shutting) (m : Meaning) (
   }
 
   -- the copy has no room
-  pub drain_roomless : (whole : Shutting × B) → move.ShutsTables meaning x m stop (how.Roomless whole) left before → DrainsWithLines m (meaning whole.1) leaf stop ending.FaultRoom before (IsPreparing whole.0)
+  pub drain_roomless : (whole : Shutting × B) → move.ShutsTables number meaning x m stop (how.Roomless whole) left before → DrainsWithLines number m (meaning whole.1) leaf stop ending.FaultRoom before (IsPreparing whole.0)
   drain_roomless whole shut = record {
     notes = shut.notes;
-    moves = step.roomless x whole.0 shut.ends.tables shuts shut.ends.count shut.ends.may shut.ends.treats shut.ends.all shut.ends.region refl refl;
+    moves = step.roomless x whole.0 shut.ends.made shuts shut.ends.steps shut.ends.all shut.ends.may shut.ends.region refl refl;
     carries = begins_carries leaf x (IsPreparing whole.0) shut.notes m (meaning whole.1) shuts shut.ends.carries;
     reads = shut.reads;
     told = shut.told;
   }
 
 -- the steward's seats stay at their tables
-pub drain_keeps : {E : Type 0} (m m' : Meaning) (leaf : Leaf) (stop : Option ℕ) (ends : Ending) (lines : Result (Vec Line Global) E) (leaf' : Leaf)
-    → DrainsWithLines m m' leaf stop ends lines leaf' → KeepsSeats (seated_of leaf) (seated_of leaf')
-drain_keeps m m' leaf stop ends lines leaf' drains = makes_keeps m.clock m'.clock (seated_of leaf) drains.notes (seated_of leaf') drains.carries.made
+pub drain_keeps : {E : Type 0} (number : ℕ) (m m' : Meaning) (leaf : Leaf) (stop : Option ℕ) (ends : Ending) (lines : Result (Vec Line Global) E) (leaf' : Leaf)
+    → DrainsWithLines number m m' leaf stop ends lines leaf' → KeepsSeats (seated_of leaf) (seated_of leaf')
+drain_keeps number m m' leaf stop ends lines leaf' drains = makes_keeps m.clock m'.clock (seated_of leaf) drains.notes (seated_of leaf') drains.carries.made

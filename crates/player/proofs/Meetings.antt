@@ -33,15 +33,15 @@ pub record IsThere (x : Seated) (table : ℕ) : Type 0 where
   pub was : slice_get x.seats table ≡ Some seat
 
 -- a place below the length has an element
-element_at : {A : Type 0} (xs : List A) (i : ℕ) → i < length xs → (x : A) × (slice_get xs i ≡ Some x)
-element_at [] i within = absurd (omega (arith, within))
-element_at (x ∷ xs) zero within = (x, refl)
-element_at (x ∷ xs) (suc i) within = element_at xs i (omega (arith, within))
+pub element_in : {A : Type 0} (xs : List A) (i : ℕ) → i < length xs → (x : A) × (slice_get xs i ≡ Some x)
+element_in [] i within = absurd (omega (arith, within))
+element_in (x ∷ xs) zero within = (x, refl)
+element_in (x ∷ xs) (suc i) within = element_in xs i (omega (arith, within))
 
 pub is_there : (x : Seated) (table : ℕ) → table < length x.tables → length x.seats ≡ length x.tables → IsThere x table
 is_there x table within count =
-    let t = element_at x.tables table within in
-    let v = element_at x.seats table (omega (arith, within, count)) in
+    let t = element_in x.tables table within in
+    let v = element_in x.seats table (omega (arith, within, count)) in
     record { shared = t.0; seat = v.0; at = t.1; was = v.1 }
 
 module _ {B : Type 0} (meaning : B → Meaning) where

@@ -103,3 +103,19 @@ meet_all k leaf xs leaf' ys m first all = record {
   count = first.count;
   stands = first.stands;
 }
+
+-- none has met yet
+pub meet_none : (leaf : Leaf) (xs : List SeatView) (m : Meaning) → MeetFirst 0 leaf xs leaf xs m
+meet_none leaf xs m = record {
+  seats = (seated_of leaf).seats;
+  leaf_is = same_seats leaf;
+  count = (refl, refl);
+  met = λ place v c v' c' below was called is called_now. absurd (omega (arith, below));
+  others = λ place above. (refl, refl);
+  stands = λ base tells founded stands. stands;
+}
+  where
+    same_seats : (l : Leaf) → l ≡ with_seats l (seated_of l).seats
+    same_seats (IsDown x) = refl
+    same_seats (IsUp x) = refl
+    same_seats (IsPreparing x) = refl

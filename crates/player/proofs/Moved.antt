@@ -232,10 +232,10 @@ module _ {B : Type 0} (meaning : B → Meaning) where
 
   -- ---- a drain of a leaf that is down
 
-  pub drain_not_up : {E : Type 0} (self : OneLeaf B) (x : Seated × B) (stop : Option ℕ) (lines : Vec Line Global) → self ≡ one.Down x → lines.items ≡ []
-      → DrainsWithLines {E = E} (meaning (berth_of self)) (meaning x.1) (state_of self) stop ending.NotUp (Ok lines) (IsDown x.0)
-  drain_not_up {E} self x stop lines is none =
-      subst (λ (l : OneLeaf B). DrainsWithLines {E = E} (meaning (berth_of l)) (meaning x.1) (state_of l) stop ending.NotUp (Ok lines) (IsDown x.0)) (sym is) (record {
+  pub drain_not_up : {E : Type 0} (number : ℕ) (self : OneLeaf B) (x : Seated × B) (stop : Option ℕ) (lines : Vec Line Global) → self ≡ one.Down x → lines.items ≡ []
+      → DrainsWithLines {E = E} number (meaning (berth_of self)) (meaning x.1) (state_of self) stop ending.NotUp (Ok lines) (IsDown x.0)
+  drain_not_up {E} number self x stop lines is none =
+      subst (λ (l : OneLeaf B). DrainsWithLines {E = E} number (meaning (berth_of l)) (meaning x.1) (state_of l) stop ending.NotUp (Ok lines) (IsDown x.0)) (sym is) (record {
         notes = [];
         moves = DrainMoves.not_up tt refl refl refl refl;
         carries = carries_none (IsDown x.0) (meaning x.1);

@@ -5,30 +5,30 @@ use Rattle.printed_lines.specs.declared.line.Line.{Line}
 use Rattle.player.specs.Lines.{note_line, note_lines}
 
 -- the lines of the first i notes stand behind those that there were
-abbrev pub AreFirst : List Note → List Line → ℕ → List Line → Type 0
-AreFirst notes old i lines = lines ≡ old ++ note_lines (take i notes)
+abbrev pub AreFirst : ℕ → List Note → List Line → ℕ → List Line → Type 0
+AreFirst number notes old i lines = lines ≡ old ++ note_lines number (take i notes)
 
 no_more : (ls : List Line) → ls ++ [] ≡ ls
 no_more [] = refl
 no_more (l ∷ ls) = ap (λ (rest : List Line). l ∷ rest) (no_more ls)
 
-take_next : (notes : List Note) (i : ℕ) (n : Note) → slice_get notes i ≡ Some n → note_lines (take (suc i) notes) ≡ note_lines (take i notes) ++ note_line n ∷ []
-take_next [] i n at = absurd cc
-take_next (m ∷ ms) zero n at =
+take_next : (number : ℕ) (notes : List Note) (i : ℕ) (n : Note) → slice_get notes i ≡ Some n → note_lines number (take (suc i) notes) ≡ note_lines number (take i notes) ++ note_line number n ∷ []
+take_next number [] i n at = absurd cc
+take_next number (m ∷ ms) zero n at =
     let same : m ≡ n = cc in
-    ap (λ (x : Note). note_line x ∷ []) same
-take_next (m ∷ ms) (suc i) n at = ap (λ (ls : List Line). note_line m ∷ ls) (take_next ms i n at)
+    ap (λ (x : Note). note_line number x ∷ []) same
+take_next number (m ∷ ms) (suc i) n at = ap (λ (ls : List Line). note_line number m ∷ ls) (take_next number ms i n at)
 
-pub first_next : (notes : List Note) (old : List Line) (i : ℕ) (lines lines' : List Line) (n : Note) (l : Line)
-    → AreFirst notes old i lines → slice_get notes i ≡ Some n → l ≡ note_line n → lines' ≡ lines ++ l ∷ []
-    → AreFirst notes old (suc i) lines'
-first_next notes old i lines lines' n l so_far at line_is pushed =
-    pushed ∙ ap (λ (x : Line). lines ++ x ∷ []) line_is ∙ ap (λ (ls : List Line). ls ++ note_line n ∷ []) so_far
-    ∙ append_assoc old (note_lines (take i notes)) (note_line n ∷ []) ∙ ap (λ (ls : List Line). old ++ ls) (sym (take_next notes i n at))
+pub first_next : (number : ℕ) (notes : List Note) (old : List Line) (i : ℕ) (lines lines' : List Line) (n : Note) (l : Line)
+    → AreFirst number notes old i lines → slice_get notes i ≡ Some n → l ≡ note_line number n → lines' ≡ lines ++ l ∷ []
+    → AreFirst number notes old (suc i) lines'
+first_next number notes old i lines lines' n l so_far at line_is pushed =
+    pushed ∙ ap (λ (x : Line). lines ++ x ∷ []) line_is ∙ ap (λ (ls : List Line). ls ++ note_line number n ∷ []) so_far
+    ∙ append_assoc old (note_lines number (take i notes)) (note_line number n ∷ []) ∙ ap (λ (ls : List Line). old ++ ls) (sym (take_next number notes i n at))
 
-pub lines_append : (a b : List Note) → note_lines (a ++ b) ≡ note_lines a ++ note_lines b
-lines_append [] b = refl
-lines_append (n ∷ ns) b = ap (λ (ls : List Line). note_line n ∷ ls) (lines_append ns b)
+pub lines_append : (number : ℕ) (a b : List Note) → note_lines number (a ++ b) ≡ note_lines number a ++ note_lines number b
+lines_append number [] b = refl
+lines_append number (n ∷ ns) b = ap (λ (ls : List Line). note_line number n ∷ ls) (lines_append number ns b)
 
 take_all : (notes : List Note) → take (length notes) notes ≡ notes
 take_all [] = refl

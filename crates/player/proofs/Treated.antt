@@ -1,5 +1,5 @@
--- Steps of a leaf that shuts its tables, one behind another.
-use Rattle.std.proofs.Common.{◌≡◌, suc, ◌-◌, ◌<◌, Bool, true, false, List, [], ◌∷◌, ◌++◌, length, refl, sym, ap, subst, ◌∙◌, le_refl, append_assoc, append-nil, arith}
+-- Tables that are treated, and a leaf that goes on meanwhile.
+use Rattle.std.proofs.Common.{◌≡◌, suc, ◌-◌, ◌<◌, Bool, true, false, List, [], ◌∷◌, ◌++◌, length, refl, ap, ◌∙◌, le_refl, arith}
 use Rattle.std.specs.Prelude.{IsTrue, if◌then◌else◌}
 use Rattle.std.proofs.lemmas.List.{length-append}
 use Rattle.berth_face.specs.Berth.{Meaning, Passes}
@@ -16,30 +16,10 @@ use Rattle.leaf_machine.specs.Prepares.{Treats}
 use Rattle.leaf_machine.proofs.UpMaking.{makes_join}
 use Rattle.leaf_machine.proofs.PrepCopies.{goes_none}
 use Rattle.transcript.specs.Stage.{IsPreparing, Carries}
-use Rattle.transcript.specs.Steps as step
-use Rattle.transcript.specs.Steps.{Part, TreatsOn}
 use Rattle.player.specs.Moves.{SameRegion}
 use Rattle.player.proofs.Carrying.{founded_on}
 
 -- ---- the tables that are treated
-
--- a leaf with tables left treats one
-pub record TreatsNext (x y : Shutting) (notes : List Note) : Type 0 where
-  pub few : treated x < length x.serving.seated.tables
-  pub one : Treats x y notes
-  pub part : Part x.serving.seated notes y.serving.seated
-
--- one table more
-pub treats_more : {x : Shutting} {a : List Note} {y : Shutting} → TreatsOn x a y → (z : Shutting) (b : List Note) → TreatsNext y z b → TreatsOn x (a ++ b) z
-treats_more (step.none x a y empty same) z b next =
-    let here : TreatsNext x z b = subst (λ (w : Shutting). TreatsNext w z b) same next in
-    step.more x (a ++ b) z b [] z here.few here.one here.part (step.none z [] z refl refl) (ap (λ (ns : List Note). ns ++ b) empty ∙ sym (append-nil b))
-treats_more (step.more x a y first others between few one part tail split) z b next =
-    step.more x (a ++ b) z first (others ++ b) between few one part (treats_more tail z b next) (ap (λ (ns : List Note). ns ++ b) split ∙ append_assoc first others b)
-
--- none more
-pub treats_still : (x : Shutting) (a b : List Note) (y : Shutting) → b ≡ [] → TreatsOn x a y → TreatsOn x (a ++ b) y
-treats_still x a b y none treats = subst (λ (ns : List Note). TreatsOn x ns y) (sym (append-nil a) ∙ ap (λ (ns : List Note). a ++ ns) (sym none)) treats
 
 by_shut : (x : Shutting) (b : Bool) → x.shut ≡ b → treated x ≡ (if b then length x.closed - 1 else length x.closed)
 by_shut x b e = ap (λ (s : Bool). if s then length x.closed - 1 else length x.closed) e
@@ -84,10 +64,7 @@ far_none x m = record {
 }
 
 module _ (x y : Shutting) (first : List Note) (a b : Meaning) (far : GoesFar x y first a b) where
-  -- it has as many tables, and they are founded still
-  pub far_tables : length y.serving.seated.tables ≡ length x.serving.seated.tables
-  far_tables = ap (λ ts. length ts) (makes_tables a.clock b.clock x.serving.seated first y.serving.seated far.made)
-
+  -- its tables are founded still
   pub far_founded : AreFounded x.serving.seated → AreFounded y.serving.seated
   far_founded = founded_on x.serving.seated y.serving.seated (makes_tables a.clock b.clock x.serving.seated first y.serving.seated far.made)
 

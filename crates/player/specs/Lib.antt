@@ -1,4 +1,9 @@
 pub mod Steps
+pub mod Crew
+pub mod Rows
 pub mod Stage
 pub mod Lines
 pub mod Moves
+pub mod Members
+pub mod Commands
+pub mod Beginning

@@ -22,10 +22,11 @@ use Rattle.leaf_machine.specs.Prepares.{Halts, Starves, AllTreated, IsCopyOf}
 use Rattle.printed_lines.specs.declared.line.Ending.{Ending}
 use Rattle.printed_lines.specs.declared.line.Ending.TheVariants as ending
 use Rattle.printed_lines.specs.declared.line.Line.{Line}
-use Rattle.transcript.specs.Life.{MayMake}
+use Rattle.transcript.specs.Life.{IsCopyLength, MayMake}
 use Rattle.transcript.specs.Stage as stage
 use Rattle.transcript.specs.Stage.{Leaf, IsDown, IsPreparing, Stands, Carries, Meets, seated_of, with_seats}
-use Rattle.transcript.specs.Steps.{Part, TreatsOn, DrainMoves}
+use Rattle.transcript.specs.Steps as step
+use Rattle.transcript.specs.Steps.{Part, MakesSteps, DrainMoves}
 use Rattle.player.specs.declared.drain.Shut.{Shut}
 use Rattle.player.specs.declared.drain.Shut.TheVariants as shut
 use Rattle.player.specs.Lines.{AreTold}
@@ -104,14 +105,12 @@ pub record CopyRests (c : Copying) (y : Seated) (notes : List Note) (m m' : Mean
 abbrev pub SameRegion : Meaning → Meaning → Type 0
 SameRegion m m' = IsTrue m.tells → m'.held.region ≡ m.held.region
 
--- all tables that were left were treated, by these notes, and the copy of them is planned, with a step each and one for the plan
+-- all tables that were left were treated, by these notes, and the copy of them is planned
 pub record IsCopyReady (x : Shutting) (m : Meaning) (stop : Option ℕ) (notes : List Note) (c : Copying) (m' : Meaning) (left : Option ℕ) : Type 0 where
   pub whole : Shutting
-  pub tables : ℕ
-  pub count : treated x + tables ≡ length x.serving.seated.tables
-  pub made : AreLeft stop (suc tables) left
-  pub treats : TreatsOn x notes whole
-  pub all : AllTreated whole
+  pub made : ℕ
+  pub steps : MakesSteps made (step.Shuts x) notes (step.Copies whole 0)
+  pub left_are : AreLeft stop made left
   pub copy : IsCopyOf whole c
   pub carries : CarriesCopy x c notes m m'
   pub region : SameRegion m m'
@@ -120,8 +119,7 @@ pub record IsCopyReady (x : Shutting) (m : Meaning) (stop : Option ℕ) (notes :
 pub record IsStopped (x : Shutting) (m : Meaning) (stop : Option ℕ) (notes : List Note) (y : Shutting) (m' : Meaning) : Type 0 where
   pub made : ℕ
   pub all : stop ≡ Some made
-  pub count : treated x + made ≡ treated y
-  pub treats : TreatsOn x notes y
+  pub steps : MakesSteps made (step.Shuts x) notes (step.Shuts y)
   pub carries : Carries (IsPreparing x) (IsPreparing y) notes m m'
   pub region : SameRegion m m'
 
@@ -129,11 +127,10 @@ pub record IsStopped (x : Shutting) (m : Meaning) (stop : Option ℕ) (notes : L
 pub record IsHalted (x : Shutting) (m : Meaning) (stop : Option ℕ) (notes : List Note) (z : Shutting) (m' : Meaning) : Type 0 where
   pub half : Shutting
   pub made : ℕ
-  pub count : treated x + made ≡ treated half
-  pub may : MayMake stop (suc made)
   pub treating : List Note
   pub halting : List Note
-  pub treats : TreatsOn x treating half
+  pub steps : MakesSteps made (step.Shuts x) treating (step.Shuts half)
+  pub may : MayMake stop (suc made)
   pub more : treated half < length half.serving.seated.tables
   pub halts : Halts half z halting
   pub notes_are : notes ≡ treating ++ halting
@@ -144,11 +141,10 @@ pub record IsHalted (x : Shutting) (m : Meaning) (stop : Option ℕ) (notes : Li
 pub record IsStarved (x : Shutting) (m : Meaning) (stop : Option ℕ) (notes : List Note) (z : Shutting) (m' : Meaning) : Type 0 where
   pub half : Shutting
   pub made : ℕ
-  pub count : treated x + made ≡ treated half
-  pub may : MayMake stop (suc made)
   pub treating : List Note
   pub starving : List Note
-  pub treats : TreatsOn x treating half
+  pub steps : MakesSteps made (step.Shuts x) treating (step.Shuts half)
+  pub may : MayMake stop (suc made)
   pub starves : Starves half z starving
   pub part : Part half.serving.seated starving z.serving.seated
   pub notes_are : notes ≡ treating ++ starving
@@ -157,11 +153,10 @@ pub record IsStarved (x : Shutting) (m : Meaning) (stop : Option ℕ) (notes : L
 
 -- all tables that were left were treated, and the copy of them has no room
 pub record IsRoomless (x : Shutting) (m : Meaning) (stop : Option ℕ) (notes : List Note) (y : Shutting) (m' : Meaning) : Type 0 where
-  pub tables : ℕ
-  pub count : treated x + tables ≡ length x.serving.seated.tables
-  pub may : MayMake stop (tables + 1)
-  pub treats : TreatsOn x notes y
+  pub made : ℕ
+  pub steps : MakesSteps made (step.Shuts x) notes (step.Shuts y)
   pub all : AllTreated y
+  pub may : MayMake stop (suc made)
   pub carries : Carries (IsPreparing x) (IsPreparing y) notes m m'
   pub region : SameRegion m m'
 
@@ -190,26 +185,37 @@ RoseShut before now (shut.Starved leaf) = ⊤
 RoseShut before now (shut.Roomless leaf) = ⊤
 
 -- tables were shut, with these lines, and how that ended; the disk was not read
-pub record ShutsTables {B E : Type 0} (meaning : B → Meaning) (x : Shutting) (m : Meaning) (stop : Option ℕ)
+pub record ShutsTables {B E : Type 0} (number : ℕ) (meaning : B → Meaning) (x : Shutting) (m : Meaning) (stop : Option ℕ)
     (result : Shut B) (left : Option ℕ) (lines : Result (Vec Line Global) E) : Type 0 where
   pub notes : List Note
   pub ends : ShutEnds meaning x m stop notes result left
   pub reads : (meaning (berth_left result)).disk_reads ≡ m.disk_reads
-  pub told : AreTold notes lines
+  pub told : AreTold number notes lines
+
+-- so many steps of a copy, none of them the last, of whichever tables
+abbrev pub MakesCopies : ℕ → Type 0
+MakesCopies made = (x : Shutting) → MakesSteps made (step.Copies x 0) [] (step.Copies x made)
 
 -- How a copy ends: each table is handed over, and the region is the image; or the region failed; or as many steps were made as may be, none of them the last.
 pub data CopyEnds (c : Copying) (stop : Option ℕ) (m m' : Meaning) (notes : List Note) (ends : Ending) (y : Seated) : Type 0 where
-  done : MayMake stop 3
+  done : (made copy : ℕ)
+      → MakesCopies made
+      → IsCopyLength copy
+      → suc made ≡ copy
+      → MayMake stop (suc made)
       → EachNoted IsHandedNote 0 (length c.seated.tables) notes
       → (IsTrue m.tells → AreFounded c.seated → CopyStands c m → IsWayOf m'.held.region Memory)
       → ends ≡ ending.Done
       → CopyEnds c stop m m' notes ends y
-  failed : MayMake stop 1
+  failed : (made : ℕ)
+      → MakesCopies made
+      → MayMake stop (suc made)
       → notes ≡ []
       → y ≡ c.seated
       → ends ≡ ending.FaultRegion
       → CopyEnds c stop m m' notes ends y
   stopped : (at : Next)
+      → MakesCopies (steps_before at)
       → stop ≡ Some (steps_before at)
       → steps_before at < 3
       → notes ≡ []
@@ -226,10 +232,10 @@ pub record IsKilled (x : Shutting) (y : Seated) (notes : List Note) (m m' : Mean
   pub each : EachNoted IsClosedNote (length x.closed) count notes
   pub carries : Carries (IsPreparing x) (IsDown y) notes m m'
 
--- what a drain does to a leaf, with the lines of its notes; it does not read the disk
-pub record DrainsWithLines {E : Type 0} (m m' : Meaning) (leaf : Leaf) (stop : Option ℕ) (ends : Ending) (lines : Result (Vec Line Global) E) (leaf' : Leaf) : Type 0 where
+-- what a drain does to the leaf with this number, with the lines of its notes; it does not read the disk
+pub record DrainsWithLines {E : Type 0} (number : ℕ) (m m' : Meaning) (leaf : Leaf) (stop : Option ℕ) (ends : Ending) (lines : Result (Vec Line Global) E) (leaf' : Leaf) : Type 0 where
   pub notes : List Note
   pub moves : DrainMoves m m' leaf stop notes ends leaf'
   pub carries : Carries leaf leaf' notes m m'
   pub reads : m'.disk_reads ≡ m.disk_reads
-  pub told : AreTold notes lines
+  pub told : AreTold number notes lines

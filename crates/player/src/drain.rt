@@ -1,4 +1,4 @@
-// A drain of a leaf, step by step.
+// A drain of a leaf, step by step. Its lines are told with the leaf's number.
 ghost use Rattle.std.specs.Prelude.{◌≡◌, [], List, IfOk};
 ghost use Rattle.berth_face.specs.Berth.{Passes};
 ghost use Rattle.drain_copy.specs.declared.step.Next.TheVariants as next;
@@ -40,25 +40,26 @@ pub fn drain<'t, R: Wait, B: Berth, G: Gate>(
     rt: &R,
     alloc: Global,
     gate: &G,
+    number: u32,
     leaf: Preparing<'t, B>,
     stop: Option<u32>,
 ) -> (OneLeaf<'t, B>, Ending, Result<Vec<Line>, AllocError>)
-    ensures drains { (before : Leaf) → step.BeginsShutting before leaf.entry.0 → DrainsWithLines (B.meaning leaf.entry.1) (B.meaning (berth_of result.0)) before stop result.1 result.2 (state_of result.0) }
+    ensures drains { (before : Leaf) → step.BeginsShutting before leaf.entry.0 → DrainsWithLines number (B.meaning leaf.entry.1) (B.meaning (berth_of result.0)) before stop result.1 result.2 (state_of result.0) }
     ensures keeps { KeepsSeats leaf.entry.0.serving.seated (seats_of result.0) }
     ensures time { Passes (B.meaning leaf.entry.1) (B.meaning (berth_of result.0)) }
     ensures cause { FaultRose result.1 (B.meaning leaf.entry.1) (B.meaning (berth_of result.0)) }
 {
     let mut steps = Steps { left: stop };
-    let (shut, lines) = shut_all(rt, alloc, gate, leaf, &mut steps);
+    let (shut, lines) = shut_all(rt, alloc, gate, number, leaf, &mut steps);
     match shut {
         Shut::Ready(leaf) => {
             let mut notes = Notes::new();
             let (down, ending) = copy_all(rt, gate, leaf, &mut steps, &mut notes);
-            let lines = with_notes(lines, &notes);
+            let lines = with_notes(lines, number, &notes);
             (OneLeaf::Down(down), ending, lines)
         }
         Shut::Stopped(leaf) => {
-            let (down, lines) = killed(rt, gate, leaf, lines);
+            let (down, lines) = killed(rt, gate, number, leaf, lines);
             (OneLeaf::Down(down), Ending::Stopped, lines)
         }
         Shut::Halted(leaf) => (OneLeaf::Preparing(leaf), Ending::FaultDisk, lines),
@@ -72,10 +73,11 @@ fn shut_all<'t, R: Wait, B: Berth, G: Gate>(
     rt: &R,
     alloc: Global,
     gate: &G,
+    number: u32,
     leaf: Preparing<'t, B>,
     steps: &mut Steps,
 ) -> (Shut<'t, B>, Result<Vec<Line>, AllocError>)
-    ensures shuts { move.ShutsTables B.meaning leaf.entry.0 (B.meaning leaf.entry.1) steps.old.left result.0 steps.new.left result.1 }
+    ensures shuts { move.ShutsTables number B.meaning leaf.entry.0 (B.meaning leaf.entry.1) steps.old.left result.0 steps.new.left result.1 }
     ensures time { Passes (B.meaning leaf.entry.1) (B.meaning (berth_left result.0)) }
     ensures cause { RoseShut (B.meaning leaf.entry.1).disk_faults (B.meaning (berth_left result.0)).disk_faults result.0 }
 {
@@ -88,7 +90,7 @@ fn shut_all<'t, R: Wait, B: Berth, G: Gate>(
         }
         leaf.shuts();
         let step = leaf.step(rt, alloc, gate, &mut notes);
-        lines = with_notes(lines, &notes);
+        lines = with_notes(lines, number, &notes);
         match step {
             Ok(Prepared::More(more)) => leaf = more,
             Ok(Prepared::Ready(copying)) => return (Shut::Ready(copying), lines),
@@ -103,15 +105,16 @@ fn shut_all<'t, R: Wait, B: Berth, G: Gate>(
 fn killed<'t, R: Wait, B: Berth, G: Gate>(
     rt: &R,
     gate: &G,
+    number: u32,
     leaf: Preparing<'t, B>,
     lines: Result<Vec<Line>, AllocError>,
 ) -> (Down<'t, B>, Result<Vec<Line>, AllocError>)
-    ensures killed { (notes : List Note) × IsKilled leaf.entry.0 result.0.0 notes (B.meaning leaf.entry.1) (B.meaning result.0.1) × IfOk result.1 (λ after. AreAdded lines notes after.items) }
+    ensures killed { (notes : List Note) × IsKilled leaf.entry.0 result.0.0 notes (B.meaning leaf.entry.1) (B.meaning result.0.1) × IfOk result.1 (λ after. AreAdded number lines notes after.items) }
     ensures berth { result.0.1 ≡ leaf.entry.1 }
 {
     let mut notes = Notes::new();
     let down = leaf.kill(rt, gate, &mut notes);
-    (down, with_notes(lines, &notes))
+    (down, with_notes(lines, number, &notes))
 }
 
 /// Copies the tables to the end, or until no step is left or the region fails.

@@ -2,28 +2,34 @@
 ghost use Rattle.std.specs.Prelude.{◌≡◌, ◌∷◌, ◌++◌, [], IfOk, OnOk, MatchResult};
 ghost use Rattle.printed_lines.specs.declared.line.Line.TheVariants.{Ended, Entry};
 ghost use Rattle.transcript.specs.Steps.{said_of_note};
-ghost use Rattle.player.specs.Lines.{AreAdded, note_line, note_lines, reply_line};
+ghost use Rattle.player.specs.Lines.{AreAdded, AreEnded, AreJoined, note_line, note_lines, reply_line};
 
 use leaf_machine::{Note, Notes, What};
 use leaf_table::Reply;
 use printed_lines::{Ending, Line, Said, Verb};
 use std::alloc::{AllocError, Global};
 
-/// The one line of a call of that table that had this reply.
-pub fn call_lines(alloc: Global, table: u32, reply: &Reply) -> Result<Vec<Line>, AllocError>
-    ensures { IfOk result (λ lines. lines.items ≡ reply_line table reply.now ∷ []) }
+/// The one line of a call of that leaf's table that had this reply.
+pub fn call_lines(
+    alloc: Global,
+    leaf: u32,
+    table: u32,
+    reply: &Reply,
+) -> Result<Vec<Line>, AllocError>
+    ensures { IfOk result (λ lines. lines.items ≡ reply_line leaf table reply.now ∷ []) }
 {
     let mut lines = Vec::new(alloc);
-    lines.push(call_line(table, reply))?;
+    lines.push(call_line(leaf, table, reply))?;
     Ok(lines)
 }
 
-/// The line of a reply of that table to a caller.
-pub fn call_line(table: u32, reply: &Reply) -> Line
-    ensures { result ≡ reply_line table reply.now }
+/// The line of a reply of that leaf's table to a caller.
+pub fn call_line(leaf: u32, table: u32, reply: &Reply) -> Line
+    ensures { result ≡ reply_line leaf table reply.now }
 {
     match reply {
         Reply::Added { number, kept, late } => entry(
+            leaf,
             table,
             *number,
             Said::Added {
@@ -31,82 +37,82 @@ pub fn call_line(table: u32, reply: &Reply) -> Line
                 late: *late,
             },
         ),
-        Reply::Removed { number, rows } => entry(table, *number, Said::Removed(*rows)),
-        Reply::Groups { number, .. } => entry(table, *number, Said::Asked),
-        Reply::Shut { number } => entry(table, *number, Said::RefusedShut),
-        Reply::Full { number } => entry(table, *number, Said::RefusedFull),
-        Reply::NoMemory { number } => entry(table, *number, Said::RefusedMemory),
-        Reply::Worn => Line::Worn { leaf: 0, table },
+        Reply::Removed { number, rows } => entry(leaf, table, *number, Said::Removed(*rows)),
+        Reply::Groups { number, .. } => entry(leaf, table, *number, Said::Asked),
+        Reply::Shut { number } => entry(leaf, table, *number, Said::RefusedShut),
+        Reply::Full { number } => entry(leaf, table, *number, Said::RefusedFull),
+        Reply::NoMemory { number } => entry(leaf, table, *number, Said::RefusedMemory),
+        Reply::Worn => Line::Worn { leaf, table },
     }
 }
 
-fn entry(table: u32, number: u64, said: Said) -> Line
-    ensures { result ≡ Entry 0 table number said }
+/// The line of an entry.
+pub fn entry(leaf: u32, table: u32, number: u64, said: Said) -> Line
+    ensures { result ≡ Entry leaf table number said }
 {
     Line::Entry {
-        leaf: 0,
+        leaf,
         table,
         number,
         said,
     }
 }
 
-/// The lines of a command that made these notes: one for each, and how it ended.
+/// The lines of a leaf's deed that made these notes: one for each, and how it ended.
 pub fn steward_lines(
     alloc: Global,
+    leaf: u32,
     notes: &Notes,
     verb: Verb,
     ending: Ending,
 ) -> Result<Vec<Line>, AllocError>
-    ensures { IfOk result (λ lines. lines.items ≡ note_lines notes.now ++ Ended verb 0 ending ∷ []) }
+    ensures { IfOk result (λ lines. AreEnded leaf verb notes.now ending lines.items) }
 {
-    let lines = with_notes(Ok(Vec::new(alloc)), notes);
-    with_ending(lines, verb, ending)
+    let lines = with_notes(Ok(Vec::new(alloc)), leaf, notes);
+    with_ending(lines, leaf, verb, ending)
 }
 
 /// The lines with those of these notes behind them. Where the lines were refused for want of memory, so are these.
 pub fn with_notes(
     lines: Result<Vec<Line>, AllocError>,
+    number: u32,
     notes: &Notes,
 ) -> Result<Vec<Line>, AllocError>
-    ensures { IfOk result (λ after. AreAdded lines notes.now after.items) }
+    ensures { IfOk result (λ after. AreAdded number lines notes.now after.items) }
 {
     let mut lines = lines?;
-    put_notes(&mut lines, notes)?;
+    put_notes(&mut lines, number, notes)?;
     Ok(lines)
 }
 
 /// The lines with how the command ended behind them. Where the lines were refused, so are these.
 pub fn with_ending(
     lines: Result<Vec<Line>, AllocError>,
+    leaf: u32,
     verb: Verb,
     ending: Ending,
 ) -> Result<Vec<Line>, AllocError>
-    ensures { IfOk result (λ after. MatchResult lines (λ before. after.items ≡ before.items ++ Ended verb 0 ending ∷ []) (λ refused. ⊥)) }
+    ensures { IfOk result (λ after. MatchResult lines (λ before. after.items ≡ before.items ++ Ended verb leaf ending ∷ []) (λ refused. ⊥)) }
 {
     let mut lines = lines?;
-    lines.push(Line::Ended {
-        verb,
-        leaf: 0,
-        ending,
-    })?;
+    lines.push(Line::Ended { verb, leaf, ending })?;
     Ok(lines)
 }
 
 /// Puts one line for each note behind the others.
-fn put_notes(lines: &mut Vec<Line>, notes: &Notes) -> Result<(), AllocError>
-    ensures { OnOk result (lines.new.items ≡ lines.old.items ++ note_lines notes.now) }
+fn put_notes(lines: &mut Vec<Line>, number: u32, notes: &Notes) -> Result<(), AllocError>
+    ensures { OnOk result (lines.new.items ≡ lines.old.items ++ note_lines number notes.now) }
 {
     for i in 0..notes.len() {
-        lines.push(note_line(notes.get(i)))?;
+        lines.push(note_line(number, notes.get(i)))?;
     }
     Ok(())
 }
 
-fn note_line(note: Note) -> Line
-    ensures { result ≡ note_line note }
+fn note_line(leaf: u32, note: Note) -> Line
+    ensures { result ≡ note_line leaf note }
 {
-    entry(note.table, note.number, said_of_note(note.what))
+    entry(leaf, note.table, note.number, said_of_note(note.what))
 }
 
 fn said_of_note(what: What) -> Said
@@ -119,4 +125,17 @@ fn said_of_note(what: What) -> Said
         What::Closed(writes) => Said::Closed(writes),
         What::Handed => Said::Handed,
     }
+}
+
+/// The lines of both, those of the second behind those of the first. Where either were refused, so are these.
+pub fn joined(
+    first: Result<Vec<Line>, AllocError>,
+    second: Result<Vec<Line>, AllocError>,
+) -> Result<Vec<Line>, AllocError>
+    ensures { IfOk result (λ lines. AreJoined first second lines.items) }
+{
+    let mut lines = first?;
+    let mut more = second?;
+    lines.append(&mut more)?;
+    Ok(lines)
 }

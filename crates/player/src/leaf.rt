@@ -125,23 +125,24 @@ impl<'t, B: Berth> OneLeaf<'t, B> {
         }
     }
 
-    /// Drains a leaf that is not down, and gives the lines of its notes. Where that has not ended after so many steps, it kills the leaf.
+    /// Drains a leaf that is not down, and gives the lines of its notes, told with its number. Where that has not ended after so many steps, it kills the leaf.
     pub fn drain<R: Wait, G: Gate>(
         self,
         rt: &R,
         alloc: Global,
         gate: &G,
+        number: u32,
         stop: Option<u32>,
     ) -> (OneLeaf<'t, B>, Ending, Result<Vec<Line>, AllocError>)
-        ensures drains { DrainsWithLines (B.meaning (berth_of self.entry)) (B.meaning (berth_of result.0)) (state_of self.entry) stop result.1 result.2 (state_of result.0) }
+        ensures drains { DrainsWithLines number (B.meaning (berth_of self.entry)) (B.meaning (berth_of result.0)) (state_of self.entry) stop result.1 result.2 (state_of result.0) }
         ensures keeps { KeepsSeats (seats_of self.entry) (seats_of result.0) }
         ensures time { Passes (B.meaning (berth_of self.entry)) (B.meaning (berth_of result.0)) }
         ensures cause { FaultRose result.1 (B.meaning (berth_of self.entry)) (B.meaning (berth_of result.0)) }
     {
         match self {
             OneLeaf::Down(down) => (OneLeaf::Down(down), Ending::NotUp, Ok(Vec::new(alloc))),
-            OneLeaf::Up(up) => drain::drain(rt, alloc, gate, up.prepare(alloc), stop),
-            OneLeaf::Preparing(leaf) => drain::drain(rt, alloc, gate, leaf, stop),
+            OneLeaf::Up(up) => drain::drain(rt, alloc, gate, number, up.prepare(alloc), stop),
+            OneLeaf::Preparing(leaf) => drain::drain(rt, alloc, gate, number, leaf, stop),
         }
     }
 

@@ -1,13 +1,18 @@
-//! One leaf, and what each command of a script does to it, as lines.
+//! The leaves of a fleet, and what each command of a script does to them, as lines.
 #![tactic(auto)]
 
-mod answer;
-mod callers;
+mod act;
+mod ask;
+mod begin;
+mod call;
 mod commands;
+mod crew;
 mod drain;
+mod end;
 mod entries;
 mod leaf;
-mod player;
+mod meet;
+mod members;
 mod steps;
 
-pub use player::Player;
+pub use crew::Crew;

@@ -1,13 +1,16 @@
 -- What a caller knows of a script that was read.
-use Rattle.std.specs.Prelude.{◌≡◌, ◌<◌, ◌≤◌, ℕ, List, [], ◌∷◌, length, true, IsUtf8, IfSome}
-use Rattle.std.specs.List.{AllByRecursion, Contains}
+use Rattle.std.specs.Prelude.{◌≡◌, ◌*◌, ◌<◌, ◌≤◌, ℕ, List, [], ◌∷◌, length, ◌==◌, Bool, true, false, IsUtf8, IfSome}
+use Rattle.std.specs.List.{AllByRecursion, Contains, filter, list_all}
 use Rattle.leaf_model.specs.Values.{IsRow, IsTime}
 use Rattle.leaf_model.specs.Names.{AreDistinct, is_table_name}
 use Rattle.query_text.specs.Grammar.{IsQuery}
 use Rattle.script_text.specs.declared.command.Command.{Command}
 use Rattle.script_text.specs.declared.command.Command.TheVariants.{Fleet, Add, Expire, Keep, Flush, Drain, Kill, Start}
 use Rattle.script_text.specs.declared.command.Command.TheVariants as command
+use Rattle.script_text.specs.declared.item.Item.{Item}
+use Rattle.script_text.specs.declared.item.Item.TheVariants.{One, Burst}
 use Rattle.script_text.specs.declared.script.Script.{Script}
+use Rattle.script_text.specs.Stewards.{has_steward}
 
 -- a table's name, which is UTF-8 of 1 to 64 bytes
 pub record IsTableName (name : List ℕ) : Type 0 where
@@ -23,22 +26,28 @@ pub record AreTables (tables : List (List ℕ)) : Type 0 where
   pub names : AllByRecursion IsTableName tables
   pub distinct : AreDistinct tables
 
--- a command behind a fleet of one leaf with these tables
-abbrev pub IsCommand : List (List ℕ) → Command → Type 0
-IsCommand tables (Fleet machines per_machine names) = ⊥
-IsCommand tables (Add leaf table rows) = (leaf ≡ 0) × (table < length tables) × (length rows ≤ 100000) × AllByRecursion IsRow rows
-IsCommand tables (Expire leaf table horizon) = (leaf ≡ 0) × (table < length tables) × IsTime horizon
-IsCommand tables (Keep leaf table n) = (leaf ≡ 0) × (table < length tables)
-IsCommand tables (command.Query query) = Contains tables query.table × IsQuery query
-IsCommand tables (Flush leaf table) = (leaf ≡ 0) × (table < length tables)
-IsCommand tables (Drain leaf stop) = (leaf ≡ 0) × IfSome stop (λ n. n ≤ 1000000)
-IsCommand tables (Kill leaf) = leaf ≡ 0
-IsCommand tables (Start leaf) = leaf ≡ 0
+-- a command behind a fleet of so many leaves with these tables
+abbrev pub IsCommand : ℕ → List (List ℕ) → Command → Type 0
+IsCommand leaves tables (Fleet machines per_machine names) = ⊥
+IsCommand leaves tables (Add leaf table rows) = (leaf < leaves) × (table < length tables) × (length rows ≤ 100000) × AllByRecursion IsRow rows
+IsCommand leaves tables (Expire leaf table horizon) = (leaf < leaves) × (table < length tables) × IsTime horizon
+IsCommand leaves tables (Keep leaf table n) = (leaf < leaves) × (table < length tables)
+IsCommand leaves tables (command.Query query) = Contains tables query.table × IsQuery query
+IsCommand leaves tables (Flush leaf table) = (leaf < leaves) × (table < length tables)
+IsCommand leaves tables (Drain leaf stop) = (leaf < leaves) × IfSome stop (λ n. n ≤ 1000000)
+IsCommand leaves tables (Kill leaf) = leaf < leaves
+IsCommand leaves tables (Start leaf) = leaf < leaves
 
--- commands, of which the first is a fleet of one leaf, and no other is a fleet
+-- machines of as many leaves each: at least one of either, and at most 256 leaves in all
+pub record AreLeaves (machines per_machine : ℕ) : Type 0 where
+  pub some_machines : 0 < machines
+  pub some_leaves : 0 < per_machine
+  pub few : machines * per_machine ≤ 256
+
+-- commands, of which the first is a fleet, and no other is
 abbrev pub AreCommands : List Command → Type 0
 AreCommands [] = Unit {0}
-AreCommands (Fleet machines per_machine tables ∷ commands) = (machines ≡ 1) × (per_machine ≡ 1) × AreTables tables × AllByRecursion (IsCommand tables) commands
+AreCommands (Fleet machines per_machine tables ∷ commands) = AreLeaves machines per_machine × AreTables tables × AllByRecursion (IsCommand (machines * per_machine) tables) commands
 AreCommands (Add leaf table rows ∷ commands) = ⊥
 AreCommands (Expire leaf table horizon ∷ commands) = ⊥
 AreCommands (Keep leaf table n ∷ commands) = ⊥
@@ -48,6 +57,52 @@ AreCommands (Drain leaf stop ∷ commands) = ⊥
 AreCommands (Kill leaf ∷ commands) = ⊥
 AreCommands (Start leaf ∷ commands) = ⊥
 
--- a script that was read
-abbrev pub IsScript : Script → Type 0
-IsScript script = AreCommands script.commands
+-- At most one of these lanes has commands of a leaf's steward.
+abbrev pub OneSteward : List (List Command) → Type 0
+OneSteward lanes = (leaf : ℕ) → length (filter (has_steward leaf) lanes) ≤ 1
+
+-- 1 to 16 lanes of a burst
+pub record IsBurst (leaves : ℕ) (tables : List (List ℕ)) (lanes : List (List Command)) : Type 0 where
+  pub some : 0 < length lanes
+  pub few : length lanes ≤ 16
+  pub each : AllByRecursion (AllByRecursion (IsCommand leaves tables)) lanes
+  pub stewards : OneSteward lanes
+
+-- an item behind a fleet of so many leaves with these tables
+abbrev pub IsItem : ℕ → List (List ℕ) → Item → Type 0
+IsItem leaves tables (One c) = IsCommand leaves tables c
+IsItem leaves tables (Burst lanes) = IsBurst leaves tables lanes
+
+-- items behind a first command, which is a fleet
+abbrev pub AreBehind : Command → List Item → Type 0
+AreBehind (Fleet machines per_machine tables) items = AreLeaves machines per_machine × AreTables tables × AllByRecursion (IsItem (machines * per_machine) tables) items
+AreBehind (Add leaf table rows) items = ⊥
+AreBehind (Expire leaf table horizon) items = ⊥
+AreBehind (Keep leaf table n) items = ⊥
+AreBehind (command.Query query) items = ⊥
+AreBehind (Flush leaf table) items = ⊥
+AreBehind (Drain leaf stop) items = ⊥
+AreBehind (Kill leaf) items = ⊥
+AreBehind (Start leaf) items = ⊥
+
+-- items, of which the first is a fleet, and no other is
+abbrev pub AreItems : List Item → Type 0
+AreItems [] = Unit {0}
+AreItems (One c ∷ items) = AreBehind c items
+AreItems (Burst lanes ∷ items) = ⊥
+
+-- the commands that stand outside bursts
+abbrev pub alone : List Item → List Command
+alone [] = []
+alone (One c ∷ items) = c ∷ alone items
+alone (Burst lanes ∷ items) = alone items
+
+-- an item that is no burst
+abbrev pub is_one : Item → Bool
+is_one (One c) = true
+is_one (Burst lanes) = false
+
+-- a script that was read: the line of its first burst is 0 exactly where no item is one
+pub record IsScript (script : Script) : Type 0 where
+  pub items : AreItems script.items
+  pub bursts : (script.burst_line == 0) ≡ list_all is_one script.items

@@ -1,55 +1,38 @@
 -- The script that a text is, or its first fault.
 use Rattle.std.specs.Prelude.{◌≡◌, ℕ, zero, suc, ◌+◌, List, [], ◌∷◌, length, if◌then◌else◌, Option, Some, None, Result, Ok, Err}
-use Rattle.script_text.specs.declared.command.Command.{Command}
-use Rattle.script_text.specs.declared.command.Command.TheVariants.{Fleet, Add, Expire, Keep, Query, Flush, Drain, Kill, Start}
+use Rattle.script_text.specs.declared.fleet.Fleet.{Fleet}
+use Rattle.script_text.specs.declared.item.Item.TheVariants as item
+use Rattle.script_text.specs.declared.reading.Reading.{Reading}
+use Rattle.script_text.specs.declared.reading.Standing.{Standing}
+use Rattle.script_text.specs.declared.reading.Step.{Step}
+use Rattle.script_text.specs.declared.reading.Standing.TheVariants as standing
 use Rattle.script_text.specs.declared.script.Script.{Script}
 use Rattle.script_text.specs.declared.fault.Why.{Why}
+use Rattle.script_text.specs.declared.fault.Why.TheVariants as why
 use Rattle.script_text.specs.declared.fault.ScriptFault.{ScriptFault}
 use Rattle.script_text.specs.declared.fault.ScriptFault.TheVariants.{At, NoMemory}
 use Rattle.script_text.specs.Lines.{lines_of, is_skipped}
-use Rattle.script_text.specs.Commands.{Fault, with_first, command_of}
+use Rattle.script_text.specs.Words.{first_word}
+use Rattle.script_text.specs.Commands.{Fault, first_command, fleet_command, verb_of}
+use Rattle.script_text.specs.Bursts.{step_of}
 
--- how many rows a command takes from the lines after it
-abbrev pub row_count : Command → ℕ
-row_count (Fleet machines per_machine tables) = 0
-row_count (Add leaf table rows) = length rows
-row_count (Expire leaf table horizon) = 0
-row_count (Keep leaf table n) = 0
-row_count (Query query) = 0
-row_count (Flush leaf table) = 0
-row_count (Drain leaf stop) = 0
-row_count (Kill leaf) = 0
-row_count (Start leaf) = 0
+-- a burst that the text's last line leaves open has its fault there
+abbrev pub closed : ℕ → Script → Standing → Result Script Fault
+closed last script standing.Outside = Ok script
+closed last script standing.Opened = Err (last, why.Place)
+closed last script (standing.Lane earlier lane) = Err (last, why.Place)
 
-abbrev pub rows_taken : Result Command Fault → ℕ
-rows_taken (Ok c) = row_count c
-rows_taken (Err found) = 0
+-- what is read behind a step, or the first fault
+abbrev pub behind_step : Result Step Fault → (Step → Result Script Fault) → Result Script Fault
+behind_step (Ok step) others = others step
+behind_step (Err found) others = Err found
 
--- the tables of a fleet
-abbrev pub tables_in : Command → Option (List (List ℕ))
-tables_in (Fleet machines per_machine tables) = Some tables
-tables_in (Add leaf table rows) = None
-tables_in (Expire leaf table horizon) = None
-tables_in (Keep leaf table n) = None
-tables_in (Query query) = None
-tables_in (Flush leaf table) = None
-tables_in (Drain leaf stop) = None
-tables_in (Kill leaf) = None
-tables_in (Start leaf) = None
-
--- the tables of the fleet that was read, after a line
-abbrev pub fleet_after : Option (List (List ℕ)) → Result Command Fault → Option (List (List ℕ))
-fleet_after (Some tables) read = Some tables
-fleet_after None (Ok c) = tables_in c
-fleet_after None (Err found) = None
-
--- The commands of lines that are numbered from n on, behind so many rows of the add before them, where a fleet of these tables was read.
-abbrev pub commands_from : ℕ → ℕ → Option (List (List ℕ)) → List (List ℕ) → Result (List Command) Fault
-commands_from rows n fleet [] = Ok []
-commands_from (suc rows) n fleet (line ∷ more) = commands_from rows (n + 1) fleet more
-commands_from zero n fleet (line ∷ more) = if is_skipped line then commands_from 0 (n + 1) fleet more
-    else with_first (command_of n fleet line more)
-    (commands_from (rows_taken (command_of n fleet line more)) (n + 1) (fleet_after fleet (command_of n fleet line more)) more)
+-- What is read of the lines to the text's last one, numbered from n on, behind so many rows of the add before them and behind what was read.
+abbrev pub read_from : ℕ → Fleet → ℕ → ℕ → Reading → List (List ℕ) → Result Script Fault
+read_from last fleet rows n reading [] = closed last reading.script reading.standing
+read_from last fleet (suc rows) n reading (line ∷ more) = read_from last fleet rows (n + 1) reading more
+read_from last fleet zero n reading (line ∷ more) = if is_skipped line then read_from last fleet 0 (n + 1) reading more
+    else behind_step (step_of last n fleet reading line more) (λ step. read_from last fleet step.rows (n + 1) step.reading more)
 
 -- a line that may be a command: its number, its bytes, and the lines after it
 pub record NumberedLine : Type 0 where
@@ -62,17 +45,23 @@ abbrev pub next_line : ℕ → List (List ℕ) → Option NumberedLine
 next_line n [] = None
 next_line n (line ∷ more) = if is_skipped line then next_line (n + 1) more else Some (record { number = n; bytes = line; after = more })
 
-abbrev pub number_in : Option NumberedLine → ℕ
-number_in (Some line) = line.number
-number_in None = 0
+-- a fleet was read on line n, and nothing else
+abbrev pub begun : ℕ → Fleet → Reading
+begun n fleet = record { script = record { fleet_line = n; burst_line = 0; items = item.One (fleet_command fleet) ∷ [] }; standing = standing.Outside }
 
-abbrev pub script_with : ℕ → Result (List Command) Fault → Result Script Fault
-script_with line (Ok commands) = Ok (record { fleet_line = line; commands = commands })
-script_with line (Err found) = Err found
+-- the script that begins with this fleet
+abbrev pub script_behind : ℕ → NumberedLine → Result Fleet Fault → Result Script Fault
+script_behind last line (Ok fleet) = read_from last fleet 0 (line.number + 1) (begun line.number fleet) line.after
+script_behind last line (Err found) = Err found
+
+-- the script whose first command stands on this line
+abbrev pub script_at : ℕ → Option NumberedLine → Result Script Fault
+script_at last (Some line) = script_behind last line (first_command line.number line.bytes (verb_of (first_word line.bytes)))
+script_at last None = Ok (record { fleet_line = 0; burst_line = 0; items = [] })
 
 -- the script that a text is, or the first line that has a fault
 unfoldable pub script_of : List ℕ → Result Script Fault
-script_of text = script_with (number_in (next_line 1 (lines_of text))) (commands_from 0 1 None (lines_of text))
+script_of text = script_at (length (lines_of text)) (next_line 1 (lines_of text))
 
 -- the fault of a line is such a one
 abbrev pub IfAt : ScriptFault → (ℕ → Why → Type 0) → Type 0

@@ -1,90 +1,67 @@
 // An add, and its rows.
-ghost use Rattle.std.specs.Prelude.{◌≡◌, ◌+◌, ◌≤◌, ◌<◌, ◌^◌, IfOk, IfSome, length, take, option_map};
+ghost use Rattle.std.specs.Prelude.{◌≡◌, ◌+◌, ◌≤◌, ◌<◌, ◌^◌, IfOk, IfSome, length, take};
 ghost use Rattle.std.specs.List.{AllByRecursion};
 ghost use Rattle.row_json.specs.Row.{row_of};
 ghost use Rattle.leaf_model.specs.Values.{IsRow};
 ghost use Rattle.script_text.specs.declared.fault.Why.TheVariants as why;
 ghost use Rattle.script_text.specs.Lines.{lines_of};
-ghost use Rattle.script_text.specs.Words.{words_of};
-ghost use Rattle.script_text.specs.Commands.{AddForm, add_of, add_words, capped_leaf, one_row, rows_from};
+ghost use Rattle.script_text.specs.Words.{number_of, words_of};
+ghost use Rattle.script_text.specs.Commands.{IsFleet, add_of, leaves, one_row, row_count, row_number, rows_from, target_words};
 ghost use Rattle.script_text.specs.Fits.{IsCommand};
-ghost use Rattle.script_text.specs.Script.{ParsesAs, row_count};
+ghost use Rattle.script_text.specs.Script.{ParsesAs};
 
 use crate::command::Command;
 use crate::fault::{ScriptFault, Why, fault_at};
+use crate::fleet::Fleet;
 use crate::lines::{behind_lines, cut_line, without_return};
-use crate::words::{next_word, number_of, place_of};
-use leaf_model::{Names, Row, Rows, is_table_name};
+use crate::target::{target_in, target_words};
+use crate::words::number_of;
+use leaf_model::{Row, Rows};
 use row_json::RowFault;
 use std::alloc::Global;
 
 /// The most rows of an add.
 const MAX_ROWS: u64 = 100_000;
 
-/// How many leaves a fleet has.
-pub const LEAVES: u64 = 1;
-
-/// The words of an add. A leaf's number that is greater than a `u64` can hold is the greatest `u64`.
-#[derive(Clone, Copy)]
-struct AddWords<'a> {
-    leaf: u64,
-    table: &'a [u8],
-    count: u64,
-}
-
-/// The add of these words, which stand on the line of this number. Its rows are the lines of the text after it.
+/// The add `L T N` of these words, which stand on the line of this number. Its rows are the lines of the text after it.
 pub fn add(
     alloc: Global,
-    tables: &Names,
+    fleet: &Fleet,
     words: &[u8],
     number: u64,
     after: &[u8],
 ) -> Result<Command, ScriptFault>
-    requires few { length tables.now ≤ 16 }
+    requires fleet { IsFleet fleet.now }
     requires place { number + length after.now < 2 ^ 64 }
-    ensures exact { ParsesAs (λ c. c) result (add_of number tables.now (add_words (words_of words.now)) (lines_of after.now)) }
-    ensures is_command { IfOk result (IsCommand tables.now) }
+    ensures exact { ParsesAs (λ c. c) result (add_of number fleet.now (target_words (words_of words.now)) (lines_of after.now)) }
+    ensures is_command { IfOk result (IsCommand (leaves fleet.now) fleet.now.tables) }
     ensures enough { IfOk result (λ c. row_count c ≤ length (lines_of after.now)) }
 {
-    let Some(add) = add_words(words) else {
+    let Some(words) = target_words(words) else {
         return Err(fault_at(number, Why::Words));
     };
-    if add.leaf >= LEAVES {
-        return Err(fault_at(number, Why::Leaf));
-    }
-    let Some(table) = place_of(tables.as_slice(), add.table) else {
-        return Err(fault_at(number, Why::Table));
+    let Some(count) = row_number(words.last) else {
+        return Err(fault_at(number, Why::Words));
     };
-    if behind_lines(after, add.count).is_none() {
+    let target = target_in(fleet, words.leaf, words.table, number)?;
+    if behind_lines(after, count).is_none() {
         return Err(fault_at(number, Why::Short));
     }
-    let rows = rows(alloc, after, number, add.count)?;
+    let rows = rows(alloc, after, number, count)?;
     Ok(Command::Add {
-        leaf: add.leaf as u32,
-        table,
+        leaf: target.leaf,
+        table: target.table,
         rows,
     })
 }
 
-/// The words of `add L T N`.
-fn add_words(words: &[u8]) -> Option<AddWords>
-    ensures exact { option_map {U = AddForm} (λ add. record { leaf = add.leaf; table = add.table.now; count = add.count }) result
-        ≡ option_map capped_leaf (add_words (words_of words.now)) }
-    ensures few { IfSome result (λ add. add.count ≤ MAX_ROWS) }
+/// The number of rows that a word is.
+fn row_number(word: &[u8]) -> Option<u64>
+    ensures exact { result ≡ row_number (number_of word.now) }
+    ensures few { IfSome result (λ count. count ≤ MAX_ROWS) }
 {
-    let (leaf, rest) = next_word(words)?;
-    let (table, rest) = next_word(rest)?;
-    let (count, rest) = next_word(rest)?;
-    if next_word(rest).is_some() {
-        return None;
-    }
-    let leaf = number_of(leaf)?;
-    let count = number_of(count)?;
-    if is_table_name(table) && count <= MAX_ROWS {
-        Some(AddWords { leaf, table, count })
-    } else {
-        None
-    }
+    let count = number_of(word)?;
+    if count <= MAX_ROWS { Some(count) } else { None }
 }
 
 /// The rows that the first lines of a text are, where the line before them has this number.

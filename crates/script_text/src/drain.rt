@@ -1,13 +1,14 @@
 // A drain.
-ghost use Rattle.std.specs.Prelude.{◌≡◌, ◌≤◌, ℕ, List, IfOk, IfSome, option_map};
+ghost use Rattle.std.specs.Prelude.{◌≡◌, ◌≤◌, IfOk, IfSome, option_map};
 ghost use Rattle.script_text.specs.Words.{words_of, capped};
-ghost use Rattle.script_text.specs.Commands.{DrainForm, drain_of, drain_words};
+ghost use Rattle.script_text.specs.Commands.{DrainForm, IsFleet, drain_of, drain_words, leaves, row_count};
 ghost use Rattle.script_text.specs.Fits.{IsCommand};
-ghost use Rattle.script_text.specs.Script.{ParsesAs, row_count};
+ghost use Rattle.script_text.specs.Script.{ParsesAs};
 
-use crate::add::LEAVES;
 use crate::command::Command;
 use crate::fault::{ScriptFault, Why, fault_at};
+use crate::fleet::Fleet;
+use crate::target::leaf_in;
 use crate::verb::is_word;
 use crate::words::{next_word, number_of};
 
@@ -22,19 +23,18 @@ struct DrainWords {
 }
 
 /// The drain of these words, which stand on the line of this number.
-pub fn drain(words: &[u8], number: u64) -> Result<Command, ScriptFault>
-    ensures exact { ParsesAs (λ c. c) result (drain_of number (drain_words (words_of words.now))) }
-    ensures is_command { (tables : List (List ℕ)) → IfOk result (IsCommand tables) }
+pub fn drain(fleet: &Fleet, words: &[u8], number: u64) -> Result<Command, ScriptFault>
+    requires { IsFleet fleet.now }
+    ensures exact { ParsesAs (λ c. c) result (drain_of number fleet.now (drain_words (words_of words.now))) }
+    ensures is_command { IfOk result (IsCommand (leaves fleet.now) fleet.now.tables) }
     ensures no_rows { IfOk result (λ c. row_count c ≡ 0) }
 {
     let Some(drain) = drain_words(words) else {
         return Err(fault_at(number, Why::Words));
     };
-    if drain.leaf >= LEAVES {
-        return Err(fault_at(number, Why::Leaf));
-    }
+    let leaf = leaf_in(fleet, drain.leaf, number)?;
     Ok(Command::Drain {
-        leaf: drain.leaf as u32,
+        leaf,
         stop: drain.stop,
     })
 }

@@ -16,7 +16,8 @@ pub enum Why {
     Command,
     /// No fleet stands before the command.
     NoFleet,
-    /// A fleet stands before this one.
+    /// A fleet stands before this one, a lane or an end stands outside a burst, a burst or a fleet inside one, or another
+    /// command before a burst's first lane; or the text's last line leaves a burst open.
     Place,
     /// The words behind the first are not those of the command, or a number is out of its range.
     Words,
@@ -24,6 +25,10 @@ pub enum Why {
     Leaf,
     /// The fleet has no such table.
     Table,
+    /// The burst has 16 lanes before this one.
+    Lanes,
+    /// An earlier lane of the burst has a command of the same leaf's steward.
+    TwoStewards,
     /// Fewer lines follow the add than it has rows.
     Short,
     /// The line is to be a row, and is none.

@@ -1,11 +1,10 @@
 // The command that begins a script.
 ghost use Rattle.std.specs.Prelude.{◌≡◌, ◌&&◌, ◌<◌, ◌^◌, length, true, not, Some, None, IfOk, IfSome, option_and_then, if◌then◌else◌};
 ghost use Rattle.std.specs.Str.{IsUtf8};
-ghost use Rattle.script_text.specs.declared.command.Command.TheVariants.{Fleet};
 ghost use Rattle.leaf_model.specs.Names.{is_table_name, is_among};
 ghost use Rattle.script_text.specs.Words.{words_of, first_word, may_follow, are_tables};
-ghost use Rattle.script_text.specs.Commands.{first_command, fleet_of, or_words, verb_of};
-ghost use Rattle.script_text.specs.Fits.{AreTables};
+ghost use Rattle.script_text.specs.Commands.{IsFleet, first_command, fleet_of, leaves, leaves_in_range, or_words, verb_of};
+ghost use Rattle.script_text.specs.Fits.{AreLeaves, AreTables};
 ghost use Rattle.script_text.specs.Script.{ParsesAs};
 
 use crate::fault::{ScriptFault, Why, fault_at};
@@ -17,52 +16,94 @@ use std::alloc::{AllocError, Global};
 /// The most tables of a fleet.
 const MAX_TABLES: usize = 16;
 
-/// The tables of the fleet that a line is, where no fleet was read before it. It has one machine of one leaf.
-pub fn first_command(alloc: Global, line: &[u8], number: u64) -> Result<Names, ScriptFault>
-    ensures exact { ParsesAs (λ tables. Fleet 1 1 tables) result (first_command number line.now (verb_of (first_word line.now))) }
-    ensures are_tables { IfOk result AreTables }
+/// The most leaves of a fleet.
+const MAX_LEAVES: u64 = 256;
+
+/// So many machines, with so many leaves each, which all have these tables.
+#[derive(Debug, Drop)]
+pub struct Fleet {
+    pub machines: u32,
+    pub per_machine: u32,
+    pub tables: Names,
+}
+
+impl Fleet {
+    /// How many leaves all machines have.
+    pub fn leaves(&self) -> u32
+        requires { IsFleet self.now }
+        ensures { result ≡ leaves self.now }
+    {
+        self.machines * self.per_machine
+    }
+}
+
+/// The first two words behind `fleet`, and what follows them.
+#[derive(Clone, Copy)]
+struct Sizes<'a> {
+    machines: u32,
+    per_machine: u32,
+    names: &'a [u8],
+}
+
+/// The fleet that a line is, where no fleet was read before it.
+pub fn first_command(alloc: Global, line: &[u8], number: u64) -> Result<Fleet, ScriptFault>
+    ensures exact { ParsesAs (λ fleet. fleet) result (first_command number line.now (verb_of (first_word line.now))) }
+    ensures is_fleet { IfOk result IsFleet }
 {
     let (word, words) = cut_word(line);
     match verb_of(word) {
         None => Err(fault_at(number, Why::Command)),
-        Some(Verb::Fleet) => fleet(alloc, words, number),
-        Some(
-            Verb::Add
-            | Verb::Expire
-            | Verb::Keep
-            | Verb::Query
-            | Verb::Flush
-            | Verb::Drain
-            | Verb::Kill
-            | Verb::Start,
-        ) => Err(fault_at(number, Why::NoFleet)),
+        Some(Verb::Fleet) => read_fleet(alloc, words, number),
+        Some(Verb::Burst | Verb::Lane | Verb::End | Verb::Task(_)) => {
+            Err(fault_at(number, Why::NoFleet))
+        }
     }
 }
 
-fn fleet(alloc: Global, words: &[u8], number: u64) -> Result<Names, ScriptFault>
-    ensures exact { ParsesAs (λ tables. Fleet 1 1 tables) result (or_words number (fleet_of (words_of words.now))) }
-    ensures are_tables { IfOk result AreTables }
+fn read_fleet(alloc: Global, words: &[u8], number: u64) -> Result<Fleet, ScriptFault>
+    ensures exact { ParsesAs (λ fleet. fleet) result (or_words number (fleet_of (words_of words.now))) }
+    ensures is_fleet { IfOk result IsFleet }
 {
-    let Some(names) = behind_sizes(words) else {
+    let Some(sizes) = sizes_of(words) else {
         return Err(fault_at(number, Why::Words));
     };
-    match tables(alloc, names)? {
-        Some(tables) => Ok(tables),
+    match tables(alloc, sizes.names)? {
+        Some(tables) => Ok(Fleet {
+            machines: sizes.machines,
+            per_machine: sizes.per_machine,
+            tables,
+        }),
         None => Err(fault_at(number, Why::Words)),
     }
 }
 
-/// The words behind the numbers of machines and of leaves of each, where both are 1.
-fn behind_sizes(words: &[u8]) -> Option<&[u8]>
-    ensures some { IfSome result (λ names. fleet_of (words_of words.now) ≡ (if are_tables (words_of names.now) then Some (Fleet 1 1 (words_of names.now)) else None)) }
+/// The numbers of machines and of leaves of each, where they are in their range, and the words behind them.
+fn sizes_of(words: &[u8]) -> Option<Sizes>
+    ensures some { IfSome result (λ sizes. fleet_of (words_of words.now) ≡ (if are_tables (words_of sizes.names.now) then Some (record { machines = sizes.machines; per_machine = sizes.per_machine; tables = words_of sizes.names.now }) else None)) }
+    ensures are_leaves { IfSome result (λ sizes. AreLeaves sizes.machines sizes.per_machine) }
     ensures none { result ≡ None → fleet_of (words_of words.now) ≡ None }
 {
     let (machines, rest) = next_word(words)?;
     let (per_machine, names) = next_word(rest)?;
-    if number_of(machines)? == 1 && number_of(per_machine)? == 1 {
-        Some(names)
-    } else {
-        None
+    let machines = number_of(machines)?;
+    let per_machine = number_of(per_machine)?;
+    if !leaves_in_range(machines, per_machine) {
+        return None;
+    }
+    Some(Sizes {
+        machines: machines as u32,
+        per_machine: per_machine as u32,
+        names,
+    })
+}
+
+/// Whether a fleet may have so many machines of so many leaves each.
+fn leaves_in_range(machines: u64, per_machine: u64) -> bool
+    ensures { result ≡ leaves_in_range machines per_machine }
+{
+    match machines.checked_mul(per_machine) {
+        Some(leaves) => machines > 0 && per_machine > 0 && leaves <= MAX_LEAVES,
+        None => false,
     }
 }
 

@@ -1,15 +1,16 @@
 // A flush.
-ghost use Rattle.std.specs.Prelude.{◌≡◌, ◌≤◌, IfOk, length, option_map};
+ghost use Rattle.std.specs.Prelude.{◌≡◌, IfOk, option_map};
 ghost use Rattle.script_text.specs.Words.{words_of, capped};
-ghost use Rattle.script_text.specs.Commands.{FlushForm, flush_of, flush_words};
+ghost use Rattle.script_text.specs.Commands.{FlushForm, IsFleet, flush_of, flush_words, leaves, row_count};
 ghost use Rattle.script_text.specs.Fits.{IsCommand};
-ghost use Rattle.script_text.specs.Script.{ParsesAs, row_count};
+ghost use Rattle.script_text.specs.Script.{ParsesAs};
 
-use crate::add::LEAVES;
 use crate::command::Command;
 use crate::fault::{ScriptFault, Why, fault_at};
-use crate::words::{next_word, number_of, place_of};
-use leaf_model::{Names, is_table_name};
+use crate::fleet::Fleet;
+use crate::target::target_in;
+use crate::words::{next_word, number_of};
+use leaf_model::is_table_name;
 
 /// The words of a flush. A leaf's number that is greater than a `u64` can hold is the greatest `u64`.
 #[derive(Clone, Copy)]
@@ -19,25 +20,20 @@ struct FlushWords<'a> {
 }
 
 /// The flush of these words, which stand on the line of this number.
-pub fn flush(tables: &Names, words: &[u8], number: u64) -> Result<Command, ScriptFault>
-    requires few { length tables.now ≤ 16 }
-    ensures exact { ParsesAs (λ c. c) result (flush_of number tables.now (flush_words (words_of words.now))) }
-    ensures is_command { IfOk result (IsCommand tables.now) }
+pub fn flush(fleet: &Fleet, words: &[u8], number: u64) -> Result<Command, ScriptFault>
+    requires { IsFleet fleet.now }
+    ensures exact { ParsesAs (λ c. c) result (flush_of number fleet.now (flush_words (words_of words.now))) }
+    ensures is_command { IfOk result (IsCommand (leaves fleet.now) fleet.now.tables) }
     ensures no_rows { IfOk result (λ c. row_count c ≡ 0) }
 {
     let Some(flush) = flush_words(words) else {
         return Err(fault_at(number, Why::Words));
     };
-    if flush.leaf >= LEAVES {
-        return Err(fault_at(number, Why::Leaf));
-    }
-    match place_of(tables.as_slice(), flush.table) {
-        Some(table) => Ok(Command::Flush {
-            leaf: flush.leaf as u32,
-            table,
-        }),
-        None => Err(fault_at(number, Why::Table)),
-    }
+    let target = target_in(fleet, flush.leaf, flush.table, number)?;
+    Ok(Command::Flush {
+        leaf: target.leaf,
+        table: target.table,
+    })
 }
 
 /// The words of `flush L T`.

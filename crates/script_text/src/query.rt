@@ -1,32 +1,28 @@
 // A query from its text.
-ghost use Rattle.std.specs.Prelude.{◌≡◌, ◌≤◌, IfOk, length};
+ghost use Rattle.std.specs.Prelude.{◌≡◌, IfOk};
 ghost use Rattle.query_text.specs.Grammar.{IsQuery};
 ghost use Rattle.query_text.specs.Reading.{query_of};
-ghost use Rattle.script_text.specs.Commands.{one_query, query_command};
+ghost use Rattle.script_text.specs.Commands.{IsFleet, leaves, one_query, query_command, row_count};
 ghost use Rattle.script_text.specs.Fits.{IsCommand};
-ghost use Rattle.script_text.specs.Script.{ParsesAs, row_count};
+ghost use Rattle.script_text.specs.Script.{ParsesAs};
 
 use crate::command::Command;
 use crate::fault::{ScriptFault, Why, fault_at};
+use crate::fleet::Fleet;
 use crate::words::place_of;
-use leaf_model::{Names, Query};
+use leaf_model::Query;
 use query_text::{QueryFault, parse};
 use std::alloc::Global;
 
 /// The query of this text, which stands on the line of this number.
-pub fn query(
-    alloc: Global,
-    tables: &Names,
-    text: &[u8],
-    number: u64,
-) -> Result<Command, ScriptFault>
-    requires few { length tables.now ≤ 16 }
-    ensures exact { ParsesAs (λ c. c) result (query_command number tables.now (one_query number (query_of text.now))) }
-    ensures is_command { IfOk result (IsCommand tables.now) }
+pub fn query(alloc: Global, fleet: &Fleet, text: &[u8], number: u64) -> Result<Command, ScriptFault>
+    requires { IsFleet fleet.now }
+    ensures exact { ParsesAs (λ c. c) result (query_command number fleet.now (one_query number (query_of text.now))) }
+    ensures is_command { IfOk result (IsCommand (leaves fleet.now) fleet.now.tables) }
     ensures no_rows { IfOk result (λ c. row_count c ≡ 0) }
 {
     let query = read_query(alloc, text, number)?;
-    match place_of(tables.as_slice(), query.table.as_str().as_bytes()) {
+    match place_of(fleet.tables.as_slice(), query.table.as_str().as_bytes()) {
         Some(_place) => Ok(Command::Query(query)),
         None => Err(fault_at(number, Why::Table)),
     }

@@ -1,12 +1,11 @@
 // The first words of commands.
 ghost use Rattle.std.specs.Prelude.{◌≡◌};
 ghost use Rattle.std.specs.Str.{bytes_eq};
-ghost use Rattle.script_text.specs.Commands.{verb_of};
+ghost use Rattle.script_text.specs.Commands.{task_of, verb_of};
 
-/// What a command is to do.
+/// What a command behind a fleet is to do.
 #[derive(Clone, Copy, Debug, PartialEq, Eq)]
-pub enum Verb {
-    Fleet,
+pub enum Task {
     Add,
     Expire,
     Keep,
@@ -17,28 +16,56 @@ pub enum Verb {
     Start,
 }
 
+/// What a line with a command is.
+#[derive(Clone, Copy, Debug, PartialEq, Eq)]
+pub enum Verb {
+    Fleet,
+    Burst,
+    Lane,
+    End,
+    Task(Task),
+}
+
 /// The verb that a word is.
 pub fn verb_of(word: &[u8]) -> Option<Verb>
     ensures { result ≡ verb_of word.now }
 {
     if is_word(word, "fleet") {
         Some(Verb::Fleet)
-    } else if is_word(word, "add") {
-        Some(Verb::Add)
+    } else if is_word(word, "burst") {
+        Some(Verb::Burst)
+    } else if is_word(word, "lane") {
+        Some(Verb::Lane)
+    } else if is_word(word, "end") {
+        Some(Verb::End)
+    } else {
+        match task_of(word) {
+            Some(task) => Some(Verb::Task(task)),
+            None => None,
+        }
+    }
+}
+
+/// The task that a word is.
+fn task_of(word: &[u8]) -> Option<Task>
+    ensures { result ≡ task_of word.now }
+{
+    if is_word(word, "add") {
+        Some(Task::Add)
     } else if is_word(word, "expire") {
-        Some(Verb::Expire)
+        Some(Task::Expire)
     } else if is_word(word, "keep") {
-        Some(Verb::Keep)
+        Some(Task::Keep)
     } else if is_word(word, "query") {
-        Some(Verb::Query)
+        Some(Task::Query)
     } else if is_word(word, "flush") {
-        Some(Verb::Flush)
+        Some(Task::Flush)
     } else if is_word(word, "drain") {
-        Some(Verb::Drain)
+        Some(Task::Drain)
     } else if is_word(word, "kill") {
-        Some(Verb::Kill)
+        Some(Task::Kill)
     } else if is_word(word, "start") {
-        Some(Verb::Start)
+        Some(Task::Start)
     } else {
         None
     }

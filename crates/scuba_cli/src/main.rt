@@ -15,6 +15,7 @@ use std::alloc::{AllocError, Global};
 use std::marker::Brand;
 use std::process::ExitCode;
 use std::sync::Wait;
+use std::thread::Threads;
 use std::{env, io};
 
 /// How many leaves may have a berth.
@@ -41,11 +42,11 @@ fn main(rt: HostRuntime) -> ExitCode {
 }
 
 /// Does what the words say over these berths, of whose bases N tells what is known, and says why where it was not done.
-fn serve<N: Bases, R: AllocGlobal + Input + Print + Eprint + Wait, B: Berth + Drop>(
-    rt: &R,
-    words: &[String],
-    berths: Result<Vec<B>, AllocError>,
-) -> ExitCode
+fn serve<
+    N: Bases,
+    R: AllocGlobal + Input + Print + Eprint + Wait + Threads + Sync,
+    B: Berth + Drop,
+>(rt: &R, words: &[String], berths: Result<Vec<B>, AllocError>) -> ExitCode
     requires { IfOk berths (λ berths. AreBases N.base B.meaning berths.items) }
 {
     let Ok(mut berths) = berths else {

@@ -1,109 +1,73 @@
--- A table's history goes on by some entries.
-use Rattle.std.proofs.Common.{◌≡◌, ℕ, zero, suc, ◌-◌, ◌<◌, ◌≤◌, Bool, true, false, List, [], ◌∷◌, ◌++◌, length, Option, Some, refl, sym, ap, subst, ◌∙◌, arith}
-use Rattle.std.specs.Prelude.{slice_get, slice_set, nat_lt}
-use Rattle.std.proofs.lemmas.Bool.{ltb-true}
-use Rattle.std.proofs.lemmas.List.{append-nil, append_assoc, length-append, length-map, map-append, take-append-le, take_all}
-use Rattle.turnstile.specs.Seats.{Told}
-use Rattle.berth_face.specs.Berth.{Meaning}
-use Rattle.leaf_history.specs.Calls.{Call}
-use Rattle.leaf_history.specs.History.{Entry, after, held}
-use Rattle.leaf_table.specs.declared.base.TableBase.{TableBase}
-use Rattle.leaf_table.specs.declared.replies.Reply.{Reply}
-use Rattle.leaf_table.specs.declared.replies.Reply.TheVariants as told
-use Rattle.leaf_table.specs.Turns.{Shared, history, told as entry_told}
-use Rattle.leaf_table.specs.Calls.{SeatView, Replied, Answered as CallAnswered, base_seen, entry_seen, seen_of}
-use Rattle.transcript.specs.Pieces.{Piece}
-use Rattle.transcript.specs.Histories.{Ground}
-use Rattle.transcript.specs.Answers.{rows_before}
-use Rattle.transcript.specs.Stage.{Leaf, MeetAll, seated_of}
-use Rattle.transcript.specs.Steps.{CallStep}
-use Rattle.sessions.specs.Session.{history_at}
-use Rattle.sessions.proofs.Lists.{element_at, not_below, same_some}
-use Rattle.sessions.proofs.Terms.{Grow}
+-- Histories of the leaves of a fleet: those of one leaf, and how they grow where one leaf is touched.
+use Rattle.std.proofs.Common.{◌≡◌, ℕ, zero, suc, ◌≤◌, ◌==◌, Bool, true, false, List, [], ◌∷◌, ◌++◌, length, refl, sym, ap, subst, ◌∙◌, arith, Some}
+use Rattle.std.specs.Prelude.{slice_get, slice_set}
+use Rattle.std.proofs.lemmas.Bool.{eqb-true, eqb-false}
+use Rattle.std.proofs.lemmas.List.{append_assoc}
+use Rattle.leaf_history.specs.History.{Entry}
+use Rattle.transcript.specs.Stage.{seated_of}
+use Rattle.transcript.specs.Holds.{GoOn, Hold, ground_at, grounds_in, histories_of, history_at}
+use Rattle.leaf_sessions.proofs.Lists.{get_set_same, same_some}
 
--- ---- the history of one table
+-- entries with more behind them
+abbrev pub Longer : List Entry → List Entry → Type 0
+Longer es fs = (more : List Entry) × (fs ≡ es ++ more)
 
-pub at_table : (callers : List SeatView) (table : ℕ) (c : SeatView) → slice_get callers table ≡ Some c → history_at callers table ≡ seen_of c
-at_table [] table c at = cc
-at_table (x ∷ xs) zero c at = ap (λ (v : SeatView). seen_of v) (same_some x c at)
-at_table (x ∷ xs) (suc table) c at = at_table xs table c at
+pub longer_still : (es fs gs : List Entry) → Longer es fs → Longer fs gs → Longer es gs
+longer_still es fs gs first then = (
+  first.0 ++ then.0,
+  then.1 ∙ (ap (λ (hs : List Entry). hs ++ then.0) first.1 ∙ append_assoc es first.0 then.0),
+)
 
-no_table : (callers : List SeatView) (table : ℕ) → length callers ≤ table → history_at callers table ≡ []
-no_table [] table l = refl
-no_table (x ∷ xs) zero l = absurd (omega (arith, l))
-no_table (x ∷ xs) (suc table) l = no_table xs table (omega (arith, l))
+module _ {B : Type 0} where
+  -- ---- one leaf
 
--- a seat has seen as many entries as its history has
-pub seen_length : (v : SeatView) → length (seen_of v) ≡ length v.seen
-seen_length v = length-map v.seen entry_told
+  pub histories_here : (xs : List (Hold B)) (leaf : ℕ) (x : Hold B) (table : ℕ) → slice_get xs leaf ≡ Some x → histories_of xs leaf table ≡ history_at x.callers table
+  histories_here [] leaf x table at = absurd cc
+  histories_here (y ∷ ys) zero x table at = ap (λ (z : Hold B). history_at z.callers table) (same_some y x at)
+  histories_here (y ∷ ys) (suc leaf) x table at = histories_here ys leaf x table at
 
--- what goes on is as long as it was, at least
-pub as_long : (n : ℕ) (xs ys more : List Entry) → ys ≡ xs ++ more → n ≤ length xs → n ≤ length ys
-as_long n xs ys more e l =
-    let same = ap (λ (es : List Entry). length es) e in
-    omega (arith, l, same, length-append xs more)
+  -- there are none of a leaf that the fleet does not have
+  pub no_histories : (xs : List (Hold B)) (leaf table : ℕ) → length xs ≤ leaf → histories_of xs leaf table ≡ []
+  no_histories [] leaf table h = refl
+  no_histories (x ∷ xs) zero table h = absurd (omega (arith, h))
+  no_histories (x ∷ xs) (suc leaf) table h = no_histories xs leaf table (omega (arith, h))
 
--- ---- histories go on
+  pub grounds_here : (xs : List (Hold B)) (leaf : ℕ) (x : Hold B) (table : ℕ) → slice_get xs leaf ≡ Some x → grounds_in xs leaf table ≡ ground_at (seated_of x.leaf).tables table
+  grounds_here [] leaf x table at = absurd cc
+  grounds_here (y ∷ ys) zero x table at = ap (λ (z : Hold B). ground_at (seated_of z.leaf).tables table) (same_some y x at)
+  grounds_here (y ∷ ys) (suc leaf) x table at = grounds_here ys leaf x table at
 
--- of one seat
-abbrev pub SeesMore : SeatView → SeatView → Type 0
-SeesMore v w = (more : List Entry) × (seen_of w ≡ seen_of v ++ more)
+  -- ---- one leaf is touched
 
-replied_more : (base : Option TableBase) (v : SeatView) (c : Call) (r : Reply) (w : SeatView) → Replied base v c r w → SeesMore v w
-replied_more base v c r w h =
-    let own = entry_seen v.id 0 c h.1 ∷ [] in
-    (h.2.between ++ own, h.2.seen ∙ append_assoc (seen_of v) h.2.between own)
+  -- the histories of another stay
+  histories_elsewhere : (xs : List (Hold B)) (here leaf table : ℕ) (y : Hold B) → (here ≡ leaf → ⊥) → histories_of (slice_set xs here y) leaf table ≡ histories_of xs leaf table
+  histories_elsewhere [] here leaf table y other = refl
+  histories_elsewhere (x ∷ xs) zero zero table y other = absurd (other refl)
+  histories_elsewhere (x ∷ xs) zero (suc leaf) table y other = refl
+  histories_elsewhere (x ∷ xs) (suc here) zero table y other = refl
+  histories_elsewhere (x ∷ xs) (suc here) (suc leaf) table y other = histories_elsewhere xs here leaf table y (λ e. other (ap suc e))
 
-answered_more : (base : Option TableBase) (v : SeatView) (c : Call) (r : Reply) (w : SeatView) → CallAnswered base v c r w → SeesMore v w
-answered_more base v c told.Worn w h = ([], ap (λ (s : SeatView). seen_of s) h.1 ∙ sym (append-nil (seen_of v)))
-answered_more base v c r w h = replied_more base v c r w h
+  -- histories that go on from all go on from each
+  pub goes_on_here : (xs : List (Hold B)) (leaf : ℕ) (x : Hold B) (histories : ℕ → ℕ → List Entry) → slice_get xs leaf ≡ Some x → GoOn xs histories
+      → (table : ℕ) → Longer (history_at x.callers table) (histories leaf table)
+  goes_on_here xs leaf x histories at on table =
+      let g = on leaf table in
+      (g.0, g.1 ∙ ap (λ (es : List Entry). es ++ g.0) (histories_here xs leaf x table at))
 
-told_more : (c v c' : SeatView) → Told c v c' → SeesMore c c'
-told_more c v c' h =
-    let own = h.longer.own in
-    (history own.0, ap (λ (s : SeatView). seen_of s) h.view ∙ (ap history (sym own.1) ∙ map-append entry_told c.seen own.0))
+  -- those that go on from what is behind go on from what was before
+  pub went_on : (xs : List (Hold B)) (here : ℕ) (x y : Hold B) (histories : ℕ → ℕ → List Entry) → slice_get xs here ≡ Some x
+      → ((table : ℕ) → Longer (history_at x.callers table) (history_at y.callers table))
+      → GoOn (slice_set xs here y) histories → GoOn xs histories
+  went_on xs here x y histories at grow on leaf table = by (here == leaf) refl
+    where
+      there : Longer (histories_of xs here table) (histories here table)
+      there =
+          let later = goes_on_here (slice_set xs here y) here y histories (get_set_same xs here x y at) on table in
+          let longer = longer_still (history_at x.callers table) (history_at y.callers table) (histories here table) (grow table) later in
+          (longer.0, longer.1 ∙ ap (λ (es : List Entry). es ++ longer.0) (sym (histories_here xs here x table at)))
 
-set_grows : (callers : List SeatView) (place : ℕ) (v w : SeatView) → slice_get callers place ≡ Some v → SeesMore v w → Grow callers (slice_set callers place w)
-set_grows [] place v w at more table = ([], refl)
-set_grows (x ∷ xs) zero v w at more zero = (more.0, more.1 ∙ ap (λ (c : SeatView). seen_of c ++ more.0) (sym (same_some x v at)))
-set_grows (x ∷ xs) zero v w at more (suc table) = ([], sym (append-nil (history_at xs table)))
-set_grows (x ∷ xs) (suc place) v w at more zero = ([], sym (append-nil (seen_of x)))
-set_grows (x ∷ xs) (suc place) v w at more (suc table) = set_grows xs place v w at more table
-
-pub call_grows : (table : ℕ) (called : Call) (tables : List Shared) (callers : List SeatView) (p : Piece) (callers' : List SeatView) → CallStep table called tables callers p callers' → Grow callers callers'
-call_grows table called tables callers p callers' step =
-    let more = answered_more (base_seen step.shared) step.before called step.reply step.after step.answered in
-    subst (λ cs. Grow callers cs) (sym step.now) (set_grows callers table step.before step.after step.was more)
-
-met_at : (callers callers' : List SeatView) (table : ℕ) (v c c' : SeatView) → slice_get callers table ≡ Some c → slice_get callers' table ≡ Some c' → Told c v c'
-    → (more : List Entry) × (history_at callers' table ≡ history_at callers table ++ more)
-met_at callers callers' table v c c' was now met =
-    let more = told_more c v c' met in
-    (more.0, rw (at_table callers' table c' now, at_table callers table c was) more.1)
-
-pub met_grows : (leaf : Leaf) (callers : List SeatView) (leaf' : Leaf) (callers' : List SeatView) (m : Meaning)
-    → length (seated_of leaf).seats ≡ length callers → MeetAll leaf callers leaf' callers' m → Grow callers callers'
-met_grows leaf callers leaf' callers' m count met table = by (nat_lt table (length callers)) refl
-  where
-    by : (b : Bool) → nat_lt table (length callers) ≡ b → (more : List Entry) × (history_at callers' table ≡ history_at callers table ++ more)
-    by true e =
-        let below : table < length callers = ltb-true table (length callers) e in
-        let v = element_at (seated_of leaf).seats table (omega (arith, below, count)) in
-        let c = element_at callers table below in
-        let v' = element_at met.seats table (omega (arith, below, count, met.count.0)) in
-        let c' = element_at callers' table (omega (arith, below, met.count.1)) in
-        met_at callers callers' table v.0 c.0 c'.0 c.1 c'.1 (met.each table v.0 c.0 v'.0 c'.0 v.1 c.1 v'.1 c'.1).caller
-    by false e =
-        let above = not_below table (length callers) e in
-        ([], rw (no_table callers' table (omega (arith, above, met.count.1)), no_table callers table above) refl)
-
--- ---- rows before an entry
-
--- rows before an entry that was made stay as they are
-pub rows_before-grows : (g : Ground) (entries es : List Entry) (number : ℕ) → number - 1 ≤ length entries
-    → rows_before g (entries ++ es) number ≡ rows_before g entries number
-rows_before-grows g entries es number l = ap (λ (xs : List Entry). (held (after g.founded g.base xs)).rows) (take-append-le (number - 1) entries es l)
-
--- the rows before the next entry are those that the table holds
-pub rows_before-next : (g : Ground) (entries : List Entry) (number : ℕ) → number ≡ suc (length entries) → rows_before g entries number ≡ (held (after g.founded g.base entries)).rows
-rows_before-next g entries number e = ap (λ (xs : List Entry). (held (after g.founded g.base xs)).rows) (take_all (number - 1) entries (omega (arith, e)))
+      by : (b : Bool) → (here == leaf) ≡ b → Longer (histories_of xs leaf table) (histories leaf table)
+      by true e = subst (λ (n : ℕ). Longer (histories_of xs n table) (histories n table)) (eqb-true here leaf e) there
+      by false e =
+          let later = on leaf table in
+          (later.0, later.1 ∙ ap (λ (es : List Entry). es ++ later.0) (histories_elsewhere xs here leaf table y (eqb-false here leaf e)))

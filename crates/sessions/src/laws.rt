@@ -1,16 +1,12 @@
 // What holds of every run.
-ghost use Rattle.sessions.specs.Laws.{SessionsBegin, SessionsGoOn, SessionsEnd};
+ghost use Rattle.sessions.specs.Laws.{SessionsBegin, SessionsEnd, SessionsGoOn};
 
 use berth_face::Berth;
-use leaf_machine::leaves_begin;
 
-/// A run begins over any berth, and goes on by what each command does. Once its seats have met again, what it wrote is a transcript. Where the berth's base is known, a crash left at
-/// every moment since the run began what belonged to the tables then, and a leaf may begin over the berth again. Each is said of a berth as it means: when the run began, before a
-/// command and behind it.
-pub fn plays_go_on<B: Berth>(first: &B, old: &B, new: &B)
-    ensures begin { SessionsBegin (B.meaning first.now) }
-    ensures on { SessionsGoOn B.meaning (B.meaning first.now) old.now new.now }
-    ensures end { SessionsEnd (B.meaning first.now) (B.meaning new.now) }
-{
-    leaves_begin(new);
-}
+/// A run over a fleet begins over any berths, and goes on by what each command does. Once all seats have met again, what it wrote is a transcript. Where a berth's base is known, a crash
+/// left at every moment since the run began what belonged to the tables then, and a leaf may begin over the berth again.
+pub fn plays_go_on<B: Berth>(berths: &[B])
+    ensures begin { SessionsBegin B.meaning berths.now }
+    ensures on { SessionsGoOn B.meaning berths.now }
+    ensures end { SessionsEnd B.meaning berths.now }
+{}

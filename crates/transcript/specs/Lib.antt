@@ -9,4 +9,5 @@ pub mod Strangers
 pub mod Transcript
 pub mod Leaving
 pub mod Stage
+pub mod Holds
 pub mod Steps

@@ -1,9 +1,8 @@
--- What each command does to a leaf and its callers' seats as the program holds them: the pieces that it prints, and what stands behind it.
-use Rattle.std.specs.Prelude.{◌≡◌, ◌≢◌, ℕ, suc, ◌+◌, ◌<◌, List, [], ◌∷◌, ◌++◌, length, map, Option, Some, None, MatchBool, slice_get, slice_set, nat_lt, IsTrue, ⊤}
-use Rattle.leaf_model.specs.declared.queries.Query.{Query}
+-- What each command does to the leaves of a fleet and their callers' seats as the program holds them: the pieces that it prints, and what stands behind it.
+use Rattle.std.specs.Prelude.{◌≡◌, ◌≢◌, ℕ, zero, suc, ◌+◌, ◌<◌, List, [], ◌∷◌, ◌++◌, length, map, Option, Some, None, slice_get, slice_set, IsTrue, ⊤}
 use Rattle.berth_face.specs.Berth.{Meaning}
-use Rattle.answer_text.specs.Answer.{answer_lines}
-use Rattle.leaf_history.specs.Calls as call
+use Rattle.leaf_history.specs.Calls.{Call}
+use Rattle.leaf_history.specs.History.{Entry}
 use Rattle.adopt.specs.declared.found.WhyDisk.TheVariants as why
 use Rattle.adopt.specs.Found.{IsBroken, left_behind}
 use Rattle.disk_backup.specs.Scanning.{BeginsScan}
@@ -32,23 +31,21 @@ use Rattle.printed_lines.specs.declared.line.Said.{Said}
 use Rattle.printed_lines.specs.declared.line.Said.TheVariants as said
 use Rattle.printed_lines.specs.declared.line.Ending.{Ending}
 use Rattle.printed_lines.specs.declared.line.Ending.TheVariants as ending
-use Rattle.printed_lines.specs.declared.line.Line.TheVariants as line
+use Rattle.printed_lines.specs.declared.line.Line.{Line}
 use Rattle.script_text.specs.declared.command.Command.{Command}
 use Rattle.script_text.specs.declared.command.Command.TheVariants as command
 use Rattle.script_text.specs.Fits.{IsCommand}
-use Rattle.transcript.specs.Pieces.{Piece, Called, Worn, Acted, Says, Deed, Starts, Flushes, Drains, Kills, Noted, place_of}
-use Rattle.transcript.specs.Shapes.{named}
-use Rattle.transcript.specs.Life.{MayMake}
+use Rattle.transcript.specs.Pieces.{Piece, Called, Worn, Acted, Says, Deed, Starts, Flushes, Drains, Kills, Noted, Fleet, leaf_count}
+use Rattle.transcript.specs.Shapes.{Prints}
+use Rattle.transcript.specs.Answers.{Answers}
+use Rattle.transcript.specs.Life.{IsCopyLength, MayMake}
+use Rattle.transcript.specs.Holds.{Hold, GoOn, grounds_in, with_callers}
 use Rattle.transcript.specs.Stage.{Leaf, IsDown, IsUp, IsPreparing, seated_of, Stands, ServingStands, AreHandedNothing, Carries, MeetAll}
 
 -- ---- the calls of callers
 
--- the number of the one leaf that a player has
-abbrev pub this_leaf : ℕ
-this_leaf = 0
-
 -- the piece of a call that had this reply
-abbrev pub IsReplyPiece : ℕ → ℕ → call.Call → Reply → Piece → Type 0
+abbrev pub IsReplyPiece : ℕ → ℕ → Call → Reply → Piece → Type 0
 IsReplyPiece leaf table c (told.Added number kept late) p = p ≡ Called leaf table c number (said.Added kept late)
 IsReplyPiece leaf table c (told.Removed number rows) p = p ≡ Called leaf table c number (said.Removed rows)
 IsReplyPiece leaf table c (told.Groups number gs) p = p ≡ Called leaf table c number said.Asked
@@ -57,18 +54,8 @@ IsReplyPiece leaf table c (told.Full number) p = p ≡ Called leaf table c numbe
 IsReplyPiece leaf table c (told.NoMemory number) p = p ≡ Called leaf table c number said.RefusedMemory
 IsReplyPiece leaf table c told.Worn p = p ≡ Worn leaf table
 
--- the lines of the answer to a query: those of the groups, or none where the table did not answer
-abbrev pub AnswersWith : Query → Reply → List (List ℕ) → Type 0
-AnswersWith q (told.Groups number gs) rows = rows ≡ answer_lines q gs
-AnswersWith q (told.Added number kept late) rows = ⊥
-AnswersWith q (told.Removed number k) rows = ⊥
-AnswersWith q (told.Shut number) rows = rows ≡ []
-AnswersWith q (told.Full number) rows = ⊥
-AnswersWith q (told.NoMemory number) rows = rows ≡ []
-AnswersWith q told.Worn rows = rows ≡ []
-
--- a caller's call of the table in that place, and its piece
-pub record CallStep (table : ℕ) (c : call.Call) (tables : List Shared) (callers : List SeatView) (p : Piece) (callers' : List SeatView) : Type 0 where
+-- a caller's call of a leaf's table in that place, and its piece
+pub record CallStep (leaf table : ℕ) (c : Call) (tables : List Shared) (callers : List SeatView) (p : Piece) (callers' : List SeatView) : Type 0 where
   pub shared : Shared
   pub before : SeatView
   pub after : SeatView
@@ -77,20 +64,7 @@ pub record CallStep (table : ℕ) (c : call.Call) (tables : List Shared) (caller
   pub was : slice_get callers table ≡ Some before
   pub answered : Answered (base_seen shared) before c reply after
   pub now : callers' ≡ slice_set callers table after
-  pub says : IsReplyPiece this_leaf table c reply p
-
--- a command of one call: an add, an expiry or a keep
-pub record OneCall (table : ℕ) (c : call.Call) (tables : List Shared) (callers : List SeatView) (pieces : List Piece) (callers' : List SeatView) : Type 0 where
-  pub piece : Piece
-  pub calls : CallStep table c tables callers piece callers'
-  pub pieces_are : pieces ≡ piece ∷ []
-
-pub record QueryStep (table : ℕ) (q : Query) (tables : List Shared) (callers : List SeatView) (pieces : List Piece) (callers' : List SeatView) : Type 0 where
-  pub piece : Piece
-  pub rows : List (List ℕ)
-  pub calls : CallStep table (call.Ask q) tables callers piece callers'
-  pub answers : AnswersWith q calls.reply rows
-  pub pieces_are : pieces ≡ piece ∷ Says (line.Answer (length (named (piece ∷ []))) 1 rows) ∷ []
+  pub says : IsReplyPiece leaf table c reply p
 
 -- ---- notes, as they are told
 
@@ -232,16 +206,7 @@ pub data KillMoves (m m' : Meaning) (leaf : Leaf) (notes : List Note) (ends : En
       → leaf' ≡ leaf
       → KillMoves m m' leaf notes ends leaf'
 
--- some tables more are treated
-pub data TreatsOn : Shutting → List Note → Shutting → Type 0 where
-  none : (x : Shutting) (notes : List Note) (y : Shutting) → notes ≡ [] → y ≡ x → TreatsOn x notes y
-  more : (x : Shutting) (notes : List Note) (y : Shutting) (first others : List Note) (between : Shutting)
-      → treated x < length x.serving.seated.tables
-      → Treats x between first
-      → Part x.serving.seated first between.serving.seated
-      → TreatsOn between others y
-      → notes ≡ first ++ others
-      → TreatsOn x notes y
+-- ---- drains
 
 -- a leaf that begins to shut its tables, or goes on
 abbrev pub BeginsShutting : Leaf → Shutting → Type 0
@@ -249,19 +214,62 @@ BeginsShutting (IsDown x) y = ⊥
 BeginsShutting (IsUp s) y = y ≡ begins s
 BeginsShutting (IsPreparing x) y = y ≡ x
 
--- what the region is of a leaf that was killed after so many steps behind its tables': untouched, or begun and closed
-abbrev pub RegionStopped : ℕ → Meaning → Meaning → Type 0
-RegionStopped further m m' = MatchBool (nat_lt 1 further) (IsWayOf m'.held.region (Disk (why.Closed 0))) (m'.held.region ≡ m.held.region)
+-- how far a drain has come: it shuts the tables, or all are treated and it has made so many steps of their copy
+pub data At : Type 0 where
+  Shuts : (x : Shutting) → At
+  Copies : (x : Shutting) (made : ℕ) → At
 
--- A drain: the tables that are left are treated, and each is handed over; or the region fails, and the leaf is down; or the copy has no room; or there is no memory;
--- or the disk fails; or it has made as many steps as it was to make, while there were tables to treat or behind them, and the leaf is killed; or the leaf is down.
+-- One step that neither ends the drain nor fails: one table more is treated; or all are, and their copy is planned; or a step of the copy is made.
+pub data MakesStep (s : At) (notes : List Note) (t : At) : Type 0 where
+  treats : (x y : Shutting)
+      → s ≡ Shuts x
+      → treated x < length x.serving.seated.tables
+      → Treats x y notes
+      → Part x.serving.seated notes y.serving.seated
+      → t ≡ Shuts y
+      → MakesStep s notes t
+  plans : (x : Shutting)
+      → s ≡ Shuts x
+      → AllTreated x
+      → notes ≡ []
+      → t ≡ Copies x 0
+      → MakesStep s notes t
+  copies : (x : Shutting) (made copy : ℕ)
+      → s ≡ Copies x made
+      → IsCopyLength copy
+      → suc made < copy
+      → notes ≡ []
+      → t ≡ Copies x (suc made)
+      → MakesStep s notes t
+
+-- so many of them
+pub data MakesSteps : ℕ → At → List Note → At → Type 0 where
+  none : (n : ℕ) (s : At) (notes : List Note) (t : At)
+      → n ≡ 0
+      → notes ≡ []
+      → t ≡ s
+      → MakesSteps n s notes t
+  more : (n : ℕ) (s : At) (notes : List Note) (t : At) (fewer : ℕ) (first others : List Note) (between : At)
+      → n ≡ suc fewer
+      → MakesStep s first between
+      → MakesSteps fewer between others t
+      → notes ≡ first ++ others
+      → MakesSteps n s notes t
+
+-- what the region is of a leaf that was killed behind so many steps of the copy: untouched, or begun and closed
+abbrev pub RegionStopped : ℕ → Meaning → Meaning → Type 0
+RegionStopped zero m m' = m'.held.region ≡ m.held.region
+RegionStopped (suc made) m m' = IsWayOf m'.held.region (Disk (why.Closed 0))
+
+-- A drain makes its steps until one is the last and each table is handed over; or the region fails, and the leaf is down; or the copy has no room; or there is no memory; or the disk
+-- fails; or it has made as many steps as it was to make, and the leaf is killed; or the leaf is down.
 pub data DrainMoves (m m' : Meaning) (leaf : Leaf) (stop : Option ℕ) (notes : List Note) (ends : Ending) (leaf' : Leaf) : Type 0 where
-  done : (x y : Shutting) (z : Seated) (treating handing : List Note) (left : ℕ)
+  done : (x y : Shutting) (z : Seated) (treating handing : List Note) (n made copy : ℕ)
       → BeginsShutting leaf x
-      → treated x + left ≡ length x.serving.seated.tables
-      → MayMake stop (left + 4)
-      → TreatsOn x treating y
-      → AllTreated y
+      → MakesSteps n (Shuts x) treating (Copies y made)
+      → IsCopyLength copy
+      → suc made ≡ copy
+      → MayMake stop (suc n)
       → Part y.serving.seated handing z
       → EachNoted IsHandedNote 0 (length x.serving.seated.tables) handing
       → notes ≡ treating ++ handing
@@ -269,30 +277,26 @@ pub data DrainMoves (m m' : Meaning) (leaf : Leaf) (stop : Option ℕ) (notes : 
       → ends ≡ ending.Done
       → leaf' ≡ IsDown z
       → DrainMoves m m' leaf stop notes ends leaf'
-  failed : (x y : Shutting) (left : ℕ)
+  failed : (x y : Shutting) (n made : ℕ)
       → BeginsShutting leaf x
-      → treated x + left ≡ length x.serving.seated.tables
-      → MayMake stop (left + 2)
-      → TreatsOn x notes y
-      → AllTreated y
+      → MakesSteps n (Shuts x) notes (Copies y made)
+      → MayMake stop (suc n)
       → ends ≡ ending.FaultRegion
       → leaf' ≡ IsDown y.serving.seated
       → DrainMoves m m' leaf stop notes ends leaf'
-  roomless : (x y : Shutting) (left : ℕ)
+  roomless : (x y : Shutting) (n : ℕ)
       → BeginsShutting leaf x
-      → treated x + left ≡ length x.serving.seated.tables
-      → MayMake stop (left + 1)
-      → TreatsOn x notes y
+      → MakesSteps n (Shuts x) notes (Shuts y)
       → AllTreated y
+      → MayMake stop (suc n)
       → (IsTrue m.tells → m'.held.region ≡ m.held.region)
       → ends ≡ ending.FaultRoom
       → leaf' ≡ IsPreparing y
       → DrainMoves m m' leaf stop notes ends leaf'
-  starved : (x y z : Shutting) (treating starving : List Note) (made : ℕ)
+  starved : (x y z : Shutting) (treating starving : List Note) (n : ℕ)
       → BeginsShutting leaf x
-      → treated x + made ≡ treated y
-      → MayMake stop (suc made)
-      → TreatsOn x treating y
+      → MakesSteps n (Shuts x) treating (Shuts y)
+      → MayMake stop (suc n)
       → Starves y z starving
       → Part y.serving.seated starving z.serving.seated
       → notes ≡ treating ++ starving
@@ -300,11 +304,10 @@ pub data DrainMoves (m m' : Meaning) (leaf : Leaf) (stop : Option ℕ) (notes : 
       → ends ≡ ending.FaultMemory
       → leaf' ≡ IsPreparing z
       → DrainMoves m m' leaf stop notes ends leaf'
-  halted : (x y z : Shutting) (treating halting : List Note) (made : ℕ)
+  halted : (x y z : Shutting) (treating halting : List Note) (n : ℕ)
       → BeginsShutting leaf x
-      → treated x + made ≡ treated y
-      → MayMake stop (suc made)
-      → TreatsOn x treating y
+      → MakesSteps n (Shuts x) treating (Shuts y)
+      → MayMake stop (suc n)
       → treated y < length y.serving.seated.tables
       → Halts y z halting
       → notes ≡ treating ++ halting
@@ -312,11 +315,10 @@ pub data DrainMoves (m m' : Meaning) (leaf : Leaf) (stop : Option ℕ) (notes : 
       → ends ≡ ending.FaultDisk
       → leaf' ≡ IsPreparing z
       → DrainMoves m m' leaf stop notes ends leaf'
-  stopped : (x y : Shutting) (z : Seated) (treating closing : List Note) (made count : ℕ)
+  stopped : (x y : Shutting) (z : Seated) (treating closing : List Note) (n count : ℕ)
       → BeginsShutting leaf x
-      → stop ≡ Some made
-      → treated x + made ≡ treated y
-      → TreatsOn x treating y
+      → stop ≡ Some n
+      → MakesSteps n (Shuts x) treating (Shuts y)
       → length y.closed + count ≡ length y.serving.seated.tables
       → EachNoted IsClosedNote (length y.closed) count closing
       → Part y.serving.seated closing z
@@ -326,15 +328,11 @@ pub data DrainMoves (m m' : Meaning) (leaf : Leaf) (stop : Option ℕ) (notes : 
       → ends ≡ ending.Stopped
       → leaf' ≡ IsDown z
       → DrainMoves m m' leaf stop notes ends leaf'
-  stopped_copying : (x y : Shutting) (left further : ℕ)
+  stopped_copying : (x y : Shutting) (n made : ℕ)
       → BeginsShutting leaf x
-      → stop ≡ Some (left + further)
-      → treated x + left ≡ length x.serving.seated.tables
-      → 0 < further
-      → further < 4
-      → TreatsOn x notes y
-      → AllTreated y
-      → ((base : NamedStates) → IsTrue m.tells → AreFounded (seated_of leaf) → Stands base leaf m → RegionStopped further m m')
+      → stop ≡ Some n
+      → MakesSteps n (Shuts x) notes (Copies y made)
+      → ((base : NamedStates) → IsTrue m.tells → AreFounded (seated_of leaf) → Stands base leaf m → RegionStopped made m m')
       → ends ≡ ending.Stopped
       → leaf' ≡ IsDown y.serving.seated
       → DrainMoves m m' leaf stop notes ends leaf'
@@ -345,7 +343,7 @@ pub data DrainMoves (m m' : Meaning) (leaf : Leaf) (stop : Option ℕ) (notes : 
       → leaf' ≡ leaf
       → DrainMoves m m' leaf stop notes ends leaf'
 
--- ---- whole commands
+-- ---- deeds
 
 -- what a deed does to a leaf, with its notes and how it ended
 abbrev pub Moves : Deed → Meaning → Meaning → Leaf → List Note → Ending → Leaf → Type 0
@@ -354,8 +352,8 @@ Moves (Flushes table) m m' leaf notes ends leaf' = FlushMoves table m m' leaf no
 Moves (Drains stop) m m' leaf notes ends leaf' = DrainMoves m m' leaf stop notes ends leaf'
 Moves Kills m m' leaf notes ends leaf' = KillMoves m m' leaf notes ends leaf'
 
--- a deed of the leaf's steward, between two meetings of all seats
-pub record DeedStep (deed : Deed) (m m' : Meaning) (leaf : Leaf) (callers : List SeatView) (pieces : List Piece) (leaf' : Leaf) (callers' : List SeatView) : Type 0 where
+-- a deed of the steward of the leaf with this number, between two meetings of all seats
+pub record DeedStep (number : ℕ) (deed : Deed) (m m' : Meaning) (leaf : Leaf) (callers : List SeatView) (p : Piece) (leaf' : Leaf) (callers' : List SeatView) : Type 0 where
   pub met : Leaf
   pub met_callers : List SeatView
   pub moved : Leaf
@@ -365,32 +363,49 @@ pub record DeedStep (deed : Deed) (m m' : Meaning) (leaf : Leaf) (callers : List
   pub moves : Moves deed m m' met notes ends moved
   pub carries : Carries met moved notes m m'
   pub second : MeetAll moved met_callers leaf' callers' m'
-  pub pieces_are : pieces ≡ Acted this_leaf deed (noted_all notes) ends ∷ []
+  pub piece_is : p ≡ Acted number deed (noted_all notes) ends
 
--- a command that such a leaf may play
-abbrev pub MayPlay : List (List ℕ) → Command → Type 0
-MayPlay names (command.Fleet machines per_machine tables) = ⊤
-MayPlay names (command.Add leaf table rows) = IsCommand names (command.Add leaf table rows)
-MayPlay names (command.Expire leaf table horizon) = IsCommand names (command.Expire leaf table horizon)
-MayPlay names (command.Keep leaf table n) = IsCommand names (command.Keep leaf table n)
-MayPlay names (command.Query q) = IsCommand names (command.Query q)
-MayPlay names (command.Flush leaf table) = IsCommand names (command.Flush leaf table)
-MayPlay names (command.Drain leaf stop) = IsCommand names (command.Drain leaf stop)
-MayPlay names (command.Kill leaf) = IsCommand names (command.Kill leaf)
-MayPlay names (command.Start leaf) = IsCommand names (command.Start leaf)
+-- ---- several of them
 
--- What a command does, by the berth before it and behind it. A caller's command does not touch the leaf: neither its berth nor its steward's seats.
-abbrev pub Plays : {B : Type 0} → (B → Meaning) → List (List ℕ) → Command → Leaf → List SeatView → B → List Piece → Leaf → List SeatView → B → Type 0
-Plays meaning names (command.Fleet machines per_machine tables) leaf callers b pieces leaf' callers' b' = DeedStep Starts (meaning b) (meaning b') leaf callers pieces leaf' callers'
-Plays meaning names (command.Add l table rows) leaf callers b pieces leaf' callers' b' =
-    OneCall table (call.Add rows) (seated_of leaf).tables callers pieces callers' × (leaf' ≡ leaf) × (b' ≡ b)
-Plays meaning names (command.Expire l table horizon) leaf callers b pieces leaf' callers' b' =
-    OneCall table (call.Expire horizon) (seated_of leaf).tables callers pieces callers' × (leaf' ≡ leaf) × (b' ≡ b)
-Plays meaning names (command.Keep l table n) leaf callers b pieces leaf' callers' b' =
-    OneCall table (call.Keep n) (seated_of leaf).tables callers pieces callers' × (leaf' ≡ leaf) × (b' ≡ b)
-Plays meaning names (command.Query q) leaf callers b pieces leaf' callers' b' =
-    QueryStep (place_of q.table names) q (seated_of leaf).tables callers pieces callers' × (leaf' ≡ leaf) × (b' ≡ b)
-Plays meaning names (command.Flush l table) leaf callers b pieces leaf' callers' b' = DeedStep (Flushes table) (meaning b) (meaning b') leaf callers pieces leaf' callers'
-Plays meaning names (command.Drain l stop) leaf callers b pieces leaf' callers' b' = DeedStep (Drains stop) (meaning b) (meaning b') leaf callers pieces leaf' callers'
-Plays meaning names (command.Kill l) leaf callers b pieces leaf' callers' b' = DeedStep Kills (meaning b) (meaning b') leaf callers pieces leaf' callers'
-Plays meaning names (command.Start l) leaf callers b pieces leaf' callers' b' = DeedStep Starts (meaning b) (meaning b') leaf callers pieces leaf' callers'
+-- What callers and stewards of the leaves do, piece by piece. Each touches one leaf: a call its callers' seat, a deed the leaf, all its seats and its berth; a line touches none.
+pub data Goes {B : Type 0} (meaning : B → Meaning) : List (Hold B) → List Piece → List (Hold B) → Type 0 where
+  none : (xs : List (Hold B)) (pieces : List Piece) (ys : List (Hold B))
+      → pieces ≡ []
+      → ys ≡ xs
+      → Goes meaning xs pieces ys
+  call : (xs : List (Hold B)) (pieces : List Piece) (ys : List (Hold B)) (leaf table : ℕ) (c : Call) (x : Hold B) (callers : List SeatView) (p : Piece) (others : List Piece)
+      → slice_get xs leaf ≡ Some x
+      → CallStep leaf table c (seated_of x.leaf).tables x.callers p callers
+      → Goes meaning (slice_set xs leaf (with_callers x callers)) others ys
+      → pieces ≡ p ∷ others
+      → Goes meaning xs pieces ys
+  act : (xs : List (Hold B)) (pieces : List Piece) (ys : List (Hold B)) (leaf : ℕ) (deed : Deed) (x y : Hold B) (p : Piece) (others : List Piece)
+      → slice_get xs leaf ≡ Some x
+      → DeedStep leaf deed (meaning x.berth) (meaning y.berth) x.leaf x.callers p y.leaf y.callers
+      → Goes meaning (slice_set xs leaf y) others ys
+      → pieces ≡ p ∷ others
+      → Goes meaning xs pieces ys
+  say : (xs : List (Hold B)) (pieces : List Piece) (ys : List (Hold B)) (l : Line) (others : List Piece)
+      → Goes meaning xs others ys
+      → pieces ≡ Says l ∷ others
+      → Goes meaning xs pieces ys
+
+-- ---- whole commands
+
+-- a command that such a fleet may play
+abbrev pub MayPlay : Fleet → Command → Type 0
+MayPlay fleet (command.Fleet machines per_machine tables) = ⊤
+MayPlay fleet (command.Add leaf table rows) = IsCommand (leaf_count fleet) fleet.names (command.Add leaf table rows)
+MayPlay fleet (command.Expire leaf table horizon) = IsCommand (leaf_count fleet) fleet.names (command.Expire leaf table horizon)
+MayPlay fleet (command.Keep leaf table n) = IsCommand (leaf_count fleet) fleet.names (command.Keep leaf table n)
+MayPlay fleet (command.Query q) = IsCommand (leaf_count fleet) fleet.names (command.Query q)
+MayPlay fleet (command.Flush leaf table) = IsCommand (leaf_count fleet) fleet.names (command.Flush leaf table)
+MayPlay fleet (command.Drain leaf stop) = IsCommand (leaf_count fleet) fleet.names (command.Drain leaf stop)
+MayPlay fleet (command.Kill leaf) = IsCommand (leaf_count fleet) fleet.names (command.Kill leaf)
+MayPlay fleet (command.Start leaf) = IsCommand (leaf_count fleet) fleet.names (command.Start leaf)
+
+-- What a command does. Its answer is over what the leaves hold then, however their histories go on.
+pub record Plays {B : Type 0} (meaning : B → Meaning) (fleet : Fleet) (c : Command) (xs : List (Hold B)) (pieces : List Piece) (ys : List (Hold B)) : Type 0 where
+  pub goes : Goes meaning xs pieces ys
+  pub prints : Prints fleet c pieces
+  pub answers : (histories : ℕ → ℕ → List Entry) → GoOn ys histories → Answers fleet (grounds_in ys) histories (record { command = c; pieces = pieces })

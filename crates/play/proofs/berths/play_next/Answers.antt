@@ -1,17 +1,16 @@
-use Rattle.std.proofs.Common.{IfOk, subst}
+use Rattle.std.proofs.Common.{IfOk, OnOk, subst, sym}
 use Rattle.std.specs.List.{AllByRecursion}
-use Rattle.printed_lines.specs.Lines.{IsOf}
-use Rattle.player.specs.Stage.{PlaysWith}
+use Rattle.std.specs.Io.KnownBytes.{Appends}
+use Rattle.printed_lines.specs.Lines.{IsOf, lines_text}
 use Rattle.play.proofs.Plays.{advances}
 use Rattle.play.proofs.berths.play_next.Goals as goal
 
-pub write_lines-written-requires : goal.write_lines-written-requires
-write_lines-written-requires g c = subst (λ ns. IfOk c.play-next.result.1 (λ lines. AllByRecursion (IsOf ns) lines.items)) c.requires.names c.play-next.ensures.lines_fit
+pub write_lines-requires : goal.write_lines-requires
+write_lines-requires g c = subst (λ ns. IfOk c.play-lines.result (λ lines. AllByRecursion (IsOf ns) lines.items)) c.requires.names c.play-lines.ensures.lines_fit
 
 pub returns-clause-played : goal.returns-clause-played
 returns-clause-played g c =
-    let was = c.args.player in
-    let next = c.play-next.result.0 in
-    advances g.B.Berth.meaning c.args.names.now (g.K.Sink.written c.args.sink.now) (g.K.Sink.written c.write_lines-written.new.sink) c.play-next.result.1 c.write_lines-written.result
-    (subst (λ ns. PlaysWith g.B.Berth.meaning ns c.args.command was.leaf was.callers was.berth c.play-next.result.1 next.leaf next.callers next.berth) c.requires.names c.play-next.ensures.plays)
-    c.write_lines-written.ensures.made c.write_lines-written.ensures.written
+    let was = g.K.Sink.written c.args.sink.now in
+    let now = g.K.Sink.written c.write_lines.new.sink in
+    advances g.B.Berth.meaning c.args.crew.now.fleet was now c.play-lines.result c.write_lines.result c.play-lines.ensures.plays c.write_lines.ensures.made
+    (subst (λ ns. OnOk c.write_lines.result (IfOk c.play-lines.result (λ lines. Appends was now (lines_text ns lines.items)))) (sym c.requires.names) c.write_lines.ensures.written)

@@ -1,34 +1,109 @@
-use Rattle.std.proofs.Common.{[], sym, subst}
+use Rattle.std.proofs.Common.{◌≡◌, ◌≤◌, ◌*◌, ◌∙◌, length, take, drop, sym, ap, subst, arith, vec_len, vec_capacity}
+use Rattle.std.specs.List.{AllByRecursion}
 use Rattle.region_layout.specs.Names.{AreNames}
-use Rattle.transcript.specs.Steps.{this_leaf}
-use Rattle.play.specs.Played.{IsBaseOf}
-use Rattle.play.specs.Runs.{RunSoFar}
-use Rattle.play.proofs.Fleets.{base_is_shut}
-use Rattle.play.proofs.Beginning.{StandsThere, alike, ready, run_begins, same_tables}
+use Rattle.leaf_table.specs.Fleet.{IsNewFleet}
+use Rattle.transcript.specs.Pieces.{leaf_count}
+use Rattle.transcript.specs.Steps.{MayPlay}
+use Rattle.play.specs.Played.{LeavesBerths}
+use Rattle.play.specs.Runs.{IsRun, berths_in, fleet_with, table_bases}
+use Rattle.play.proofs.Beginning.{alike_at, ready_at, run_begins}
+use Rattle.play.proofs.Ends.{crew_leaves, crew_written, enough_there, fleet_made, had_first, holds_made, put_back, room_again}
+use Rattle.play.proofs.Plays.{run_ends}
 use Rattle.play.proofs.berths.play_over.Goals as goal
 
-pub new-requires-clause-unused : goal.new-requires-clause-unused
-new-requires-clause-unused g c κs within = (same_tables c.in-Ok.ensures c.leaf.ensures c.in-Ok-leaf_tables.ensures.tables).unused
-
 pub new-requires-clause-alike : goal.new-requires-clause-alike
-new-requires-clause-alike g c κs within = alike (same_tables c.in-Ok.ensures c.leaf.ensures c.in-Ok-leaf_tables.ensures.tables)
+new-requires-clause-alike g c κs within =
+    let copy = c.in-Ok.copy in
+    let plan = c.args.plan.now in
+    let leaves = plan.machines * plan.per_machine in
+    let made = c.in-Ok-new_tables.made in
+    let berths = c.args.berths.now.items in
+    let enough : leaves ≤ length berths = enough_there c.args.commands plan.machines plan.per_machine (length berths) plan.names c.requires.plan.is c.requires.enough in
+    let are_names : AreNames copy = subst AreNames (sym c.in-Ok.ensures) c.requires.plan.are_names in
+    let fleet : IsNewFleet (table_bases g.N.Bases.base copy) leaves copy 65536 made.tables made.stewards made.callers =
+    subst (λ ns. IsNewFleet (table_bases g.N.Bases.base ns) leaves ns 65536 made.tables made.stewards made.callers) (sym c.in-Ok.ensures) c.in-Ok-new_tables.ensures in
+    alike_at g.N.Bases.base g.B.Berth.meaning berths copy leaves made.tables made.stewards made.callers c.requires.bases enough are_names fleet
 
 pub new-requires-clause-ready : goal.new-requires-clause-ready
 new-requires-clause-ready g c κs within =
-    ready (g.B.Berth.meaning c.args.berth) (subst AreNames (sym c.in-Ok.ensures) c.requires.names) (same_tables c.in-Ok.ensures c.leaf.ensures c.in-Ok-leaf_tables.ensures.tables) c.requires.base
+    let copy = c.in-Ok.copy in
+    let plan = c.args.plan.now in
+    let leaves = plan.machines * plan.per_machine in
+    let made = c.in-Ok-new_tables.made in
+    let berths = c.args.berths.now.items in
+    let enough : leaves ≤ length berths = enough_there c.args.commands plan.machines plan.per_machine (length berths) plan.names c.requires.plan.is c.requires.enough in
+    let are_names : AreNames copy = subst AreNames (sym c.in-Ok.ensures) c.requires.plan.are_names in
+    let fleet : IsNewFleet (table_bases g.N.Bases.base copy) leaves copy 65536 made.tables made.stewards made.callers =
+    subst (λ ns. IsNewFleet (table_bases g.N.Bases.base ns) leaves ns 65536 made.tables made.stewards made.callers) (sym c.in-Ok.ensures) c.in-Ok-new_tables.ensures in
+    ready_at g.N.Bases.base g.B.Berth.meaning berths copy leaves made.tables made.stewards made.callers c.requires.bases enough are_names fleet
 
-pub leaf_tables-requires-clause-base : goal.leaf_tables-requires-clause-base
-leaf_tables-requires-clause-base g c = base_is_shut (g.N.Bases.base this_leaf) (g.B.Berth.meaning c.args.berth) c.requires.base
+pub play_all-status-requires-clause-may_play : goal.play_all-status-requires-clause-may_play
+play_all-status-requires-clause-may_play g c κs within =
+    let fleet = c.in-Ok-new.crew.fleet in
+    let plan = c.args.plan.now in
+    let is : fleet ≡ fleet_with plan.machines plan.per_machine plan.names = fleet_made plan.machines plan.per_machine c.in-Ok.copy plan.names fleet c.in-Ok-new.ensures.fleet c.in-Ok.ensures in
+    subst (AllByRecursion (MayPlay fleet)) (sym c.into_inner.ensures) (subst (λ f. AllByRecursion (MayPlay f) c.args.commands) (sym is) c.requires.plan.may_play)
 
-pub play_all-requires-clause-begun : goal.play_all-requires-clause-begun
-play_all-requires-clause-begun g c κs within =
-    let player = c.in-Ok-new.player in
-    let made = c.in-Ok-new.ensures in
-    let m = g.B.Berth.meaning player.berth in
+pub play_all-status-requires-clause-begun : goal.play_all-status-requires-clause-begun
+play_all-status-requires-clause-begun g c κs within =
+    let plan = c.args.plan.now in
+    let leaves = plan.machines * plan.per_machine in
+    let made = c.in-Ok-new_tables.made in
+    let berths = c.args.berths.now.items in
+    let crew = c.in-Ok-new.crew in
+    let new = c.in-Ok-new.ensures in
+    let is : crew.fleet ≡ fleet_with plan.machines plan.per_machine plan.names = fleet_made plan.machines plan.per_machine c.in-Ok.copy plan.names crew.fleet new.fleet c.in-Ok.ensures in
+    let enough : leaves ≤ length berths = enough_there c.args.commands plan.machines plan.per_machine (length berths) plan.names c.requires.plan.is c.requires.enough in
+    run_begins g.N.Bases.base g.B.Berth.meaning berths plan.names leaves made.tables made.stewards made.callers c.requires.bases enough c.requires.plan.are_names c.in-Ok-new_tables.ensures
+    crew.fleet (g.K.Sink.written c.args.sink.now) crew.holds (ap leaf_count is) (ap (λ f. f.names) is)
+    (holds_made c.in-Ok.copy plan.names made.tables made.stewards made.callers (take leaves berths) crew.holds new.holds c.in-Ok.ensures) new.stands
+
+pub abandon-requires-clause-room : goal.abandon-requires-clause-room
+abandon-requires-clause-room g c κs within =
+    let plan = c.args.plan.now in
+    let leaves = plan.machines * plan.per_machine in
+    let made = c.in-Ok-new_tables.made in
+    let berths = c.args.berths.now in
+    let rest = c.new.new.berths in
+    let crew = c.in-Ok-new.crew in
+    let new = c.in-Ok-new.ensures in
+    let enough : leaves ≤ length berths.items = enough_there c.args.commands plan.machines plan.per_machine (length berths.items) plan.names c.requires.plan.is c.requires.enough in
+    let had : berths_in crew.holds ≡ take leaves berths.items = had_first c.in-Ok.copy made.tables made.stewards made.callers (take leaves berths.items) crew.holds new.holds in
+    room_again berths.items rest.items crew.holds c.play_all-status.new.crew.holds leaves (vec_len rest) (vec_capacity rest) enough had new.berths c.play_all-status.ensures.keeps.as_many rest.ok.0
+    (omega (arith, berths.ok.0, berths.ok.1, new.room))
+
+pub returns-clause-done : goal.returns-clause-done
+returns-clause-done g c =
+    let plan = c.args.plan.now in
+    let leaves = plan.machines * plan.per_machine in
+    let made = c.in-Ok-new_tables.made in
+    let berths = c.args.berths.now.items in
+    let crew = c.in-Ok-new.crew in
+    let new = c.in-Ok-new.ensures in
+    let after = c.play_all-status.new.crew.holds in
     let was = g.K.Sink.written c.args.sink.now in
-    subst (λ ns. RunSoFar (g.N.Bases.base this_leaf) ns m m was was [] player.leaf player.callers) c.in-Ok.ensures
-    (run_begins m was player.leaf player.callers (subst AreNames (sym c.in-Ok.ensures) c.requires.names)
-    (same_tables c.in-Ok.ensures c.leaf.ensures c.in-Ok-leaf_tables.ensures.tables)
-    (subst (λ b. IsBaseOf (g.N.Bases.base this_leaf) (g.B.Berth.meaning b)) (sym made.berth) c.requires.base)
-    made.down made.callers
-    (subst (λ b. StandsThere c.in-Ok.copy c.leaf.result.now c.in-Ok-leaf_tables.leaf.stewards.items player.leaf (g.B.Berth.meaning b) m) (sym made.berth) made.stands))
+    let now = g.K.Sink.written c.play_all-status.new.sink in
+    let is : crew.fleet ≡ fleet_with plan.machines plan.per_machine plan.names = fleet_made plan.machines plan.per_machine c.in-Ok.copy plan.names crew.fleet new.fleet c.in-Ok.ensures in
+    let enough : leaves ≤ length berths = enough_there c.args.commands plan.machines plan.per_machine (length berths) plan.names c.requires.plan.is c.requires.enough in
+    let had : berths_in crew.holds ≡ take leaves berths = had_first c.in-Ok.copy made.tables made.stewards made.callers (take leaves berths) crew.holds new.holds in
+    λ e.
+    let run : IsRun g.N.Bases.base g.B.Berth.meaning crew.fleet (berths_in crew.holds) was now c.into_inner.result.items after =
+    run_ends g.N.Bases.base g.B.Berth.meaning crew.fleet (berths_in crew.holds) was now c.into_inner.result.items after (c.play_all-status.ensures.done e) c.abandon.ensures.met in
+    crew_written g.B.Berth.meaning berths c.abandon.new.berths.items crew.holds after leaves enough had (put_back c.abandon.new.berths.items c.new.new.berths.items (drop leaves berths) after c.abandon.ensures.berths new.berths) c.play_all-status.ensures.keeps.as_many
+    g.N.Bases.base c.args.commands crew.fleet was now (c.requires.plan.is ∙ sym is) (ap leaf_count is)
+    (subst (λ cs. IsRun g.N.Bases.base g.B.Berth.meaning crew.fleet (berths_in crew.holds) was now cs after) c.into_inner.ensures run)
+
+pub returns-clause-berths : goal.returns-clause-berths
+returns-clause-berths g c =
+    let plan = c.args.plan.now in
+    let leaves = plan.machines * plan.per_machine in
+    let made = c.in-Ok-new_tables.made in
+    let berths = c.args.berths.now.items in
+    let crew = c.in-Ok-new.crew in
+    let new = c.in-Ok-new.ensures in
+    let after = c.play_all-status.new.crew.holds in
+    let enough : leaves ≤ length berths = enough_there c.args.commands plan.machines plan.per_machine (length berths) plan.names c.requires.plan.is c.requires.enough in
+    let had : berths_in crew.holds ≡ take leaves berths = had_first c.in-Ok.copy made.tables made.stewards made.callers (take leaves berths) crew.holds new.holds in
+    subst (λ n. LeavesBerths g.B.Berth.meaning n berths c.abandon.new.berths.items) (sym (ap leaf_count c.requires.plan.is))
+    (crew_leaves g.B.Berth.meaning berths c.abandon.new.berths.items crew.holds after leaves enough had (put_back c.abandon.new.berths.items c.new.new.berths.items (drop leaves berths) after c.abandon.ensures.berths new.berths) c.play_all-status.ensures.keeps.as_many
+    c.play_all-status.ensures.keeps)

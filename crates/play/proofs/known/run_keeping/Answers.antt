@@ -12,4 +12,4 @@ keep_left-requires g c =
     is_played _ _ _ _ _ _ _ _ _ c.requires.words (c.run-status.ensures.done done) in
     leaves_kept g.N.Bases.base g.B.Berth.meaning g.S.Source.left g.K.Sink.written c.args.source.now c.of-source_was.result.value c.run-status.new.source c.args.sink.now c.of-sink_was.result.value c.run-status.new.sink
     c.args.berths.now.items c.of-berths_were.result.value.items c.run-status.new.berths.items
-    c.of-source_was.ensures c.of-sink_was.ensures (ap (λ v. v.items) c.of-berths_were.ensures) played c.requires.bases c.run-status.ensures.berths
+    c.of-source_was.ensures c.of-sink_was.ensures (ap (λ v. v.items) c.of-berths_were.ensures) played c.requires.bases c.run-status.ensures.berths.as_many

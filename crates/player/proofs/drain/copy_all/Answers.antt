@@ -5,7 +5,7 @@ use Rattle.leaf_steward.specs.Seated.{AreFounded, watched_by}
 use Rattle.leaf_machine.specs.States.{RestsOn}
 use Rattle.player.specs.Steps.{Spends}
 use Rattle.player.specs.Moves.{CopyEnds, CopyRests}
-use Rattle.player.proofs.Copied.{CopySteps, copied_none, copied_stopped, copied_more, copied_done, done_rests, failed_rests, stopped_rests}
+use Rattle.player.proofs.Copied.{CopySteps, copied_none, copied_stopped, copied_more, copied_done, copied_failed, done_rests, failed_rests, stopped_rests}
 use Rattle.player.proofs.drain.copy_all.Goals as goal
 
 pub loop-leaf-init : goal.loop-leaf-init
@@ -84,6 +84,25 @@ returns-in-Ok-Finished-clause-rests g c =
     } in
     done_rests c.args.leaf.0 (meaning c.args.leaf.1) c.args.steps.now.left c.loop-leaf.steps.left c.spend.new.self.left leaf.0 (meaning leaf.1) c.loop-leaf.notes c.loop-leaf.invariant meaning notes c.in-Ok-Finished.down
     (subst (λ r. CopySteps meaning leaf.0 (meaning leaf.1) notes r) (c.in-Ok-Finished.is ∙ ap (λ s. Ok s) c.in-Ok-Finished.field-0-is) steps)
+
+pub returns-in-Err-clause-ends : goal.returns-in-Err-clause-ends
+returns-in-Err-clause-ends g c =
+    let meaning = g.B.Berth.meaning in
+    let leaf = c.loop-leaf.leaf in
+    let left = c.loop-leaf.steps.left in
+    let left' = c.spend.new.self.left in
+    let notes = c.step.new.notes in
+    let some : c.spend.result ≡ true = search rules in
+    let steps : CopySteps meaning leaf.0 (meaning leaf.1) notes c.step.result = record {
+      one = c.step.ensures.step;
+      made = c.step.ensures.made;
+      crash = c.step.ensures.crash;
+      reads = c.step.ensures.reads;
+      time = c.step.ensures.time;
+    } in
+    copied_failed c.args.leaf.0 (meaning c.args.leaf.1) c.args.steps.now.left left left' leaf.0 (meaning leaf.1) c.loop-leaf.notes c.loop-leaf.invariant meaning notes
+    (subst (λ taken. Spends left taken left') some c.spend.ensures) c.in-Err.down c.in-Err._fault
+    (subst (λ r. CopySteps meaning leaf.0 (meaning leaf.1) notes r) c.in-Err.is steps)
 
 pub returns-in-Err-clause-rests : goal.returns-in-Err-clause-rests
 returns-in-Err-clause-rests g c =

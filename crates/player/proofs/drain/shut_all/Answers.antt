@@ -4,7 +4,7 @@ use Rattle.player.proofs.Drained.{Stepped, fewer_left, so_far_none, shut_stopped
 use Rattle.player.proofs.drain.shut_all.Goals as goal
 
 pub loop-alloc-init : goal.loop-alloc-init
-loop-alloc-init g c = so_far_none c.args.leaf.0 (g.B.Berth.meaning c.args.leaf.1) c.args.steps.now.left c.new.result c.new.ensures.items
+loop-alloc-init g c = so_far_none c.args.number c.args.leaf.0 (g.B.Berth.meaning c.args.leaf.1) c.args.steps.now.left c.new.result c.new.ensures.items
 
 pub returns-then-not-spend-clause-shuts : goal.returns-then-not-spend-clause-shuts
 returns-then-not-spend-clause-shuts g c =
@@ -12,7 +12,7 @@ returns-then-not-spend-clause-shuts g c =
     let left = c.loop-alloc.steps.left in
     let left' = c.spend.new.self.left in
     let none : c.spend.result ≡ false = search rules in
-    shut_stopped meaning c.args.leaf.0 (meaning c.args.leaf.1) c.args.steps.now.left left left' c.loop-alloc.leaf c.loop-alloc.lines c.loop-alloc.invariant
+    shut_stopped c.args.number meaning c.args.leaf.0 (meaning c.args.leaf.1) c.args.steps.now.left left left' c.loop-alloc.leaf c.loop-alloc.lines c.loop-alloc.invariant
     (subst (λ taken. Spends left taken left') none c.spend.ensures)
 
 pub loop-alloc-smaller : goal.loop-alloc-smaller
@@ -49,8 +49,8 @@ loop-alloc-preserved g c =
     let left' = c.spend.new.self.left in
     let some : c.spend.result ≡ true = search rules in
     let spends = subst (λ taken. Spends left taken left') some c.spend.ensures in
-    shut_more meaning c.args.leaf.0 (meaning c.args.leaf.1) c.args.steps.now.left left left' y c.loop-alloc.lines c.loop-alloc.invariant
-    spends c.with_notes-lines.result notes c.with_notes-lines.ensures c.in-Ok-More.more c.shuts.ensures here
+    shut_more c.args.number meaning c.args.leaf.0 (meaning c.args.leaf.1) c.args.steps.now.left left left' y c.loop-alloc.lines c.loop-alloc.invariant
+    spends c.with_notes-lines.result notes c.with_notes-lines.ensures c.in-Ok-More.more here
 
 pub returns-in-Ok-Ready-clause-shuts : goal.returns-in-Ok-Ready-clause-shuts
 returns-in-Ok-Ready-clause-shuts g c =
@@ -70,7 +70,7 @@ returns-in-Ok-Ready-clause-shuts g c =
     let left' = c.spend.new.self.left in
     let some : c.spend.result ≡ true = search rules in
     let spends = subst (λ taken. Spends left taken left') some c.spend.ensures in
-    shut_ready meaning c.args.leaf.0 (meaning c.args.leaf.1) c.args.steps.now.left left left' y c.loop-alloc.lines c.loop-alloc.invariant
+    shut_ready c.args.number meaning c.args.leaf.0 (meaning c.args.leaf.1) c.args.steps.now.left left left' y c.loop-alloc.lines c.loop-alloc.invariant
     spends c.with_notes-lines.result notes c.with_notes-lines.ensures c.in-Ok-Ready.copying here
 
 pub returns-in-Err-default-DiskFault-clause-shuts : goal.returns-in-Err-default-DiskFault-clause-shuts
@@ -91,7 +91,7 @@ returns-in-Err-default-DiskFault-clause-shuts g c =
     let left' = c.spend.new.self.left in
     let some : c.spend.result ≡ true = search rules in
     let spends = subst (λ taken. Spends left taken left') some c.spend.ensures in
-    shut_halted meaning c.args.leaf.0 (meaning c.args.leaf.1) c.args.steps.now.left left left' y c.loop-alloc.lines c.loop-alloc.invariant
+    shut_halted c.args.number meaning c.args.leaf.0 (meaning c.args.leaf.1) c.args.steps.now.left left left' y c.loop-alloc.lines c.loop-alloc.invariant
     spends c.with_notes-lines.result notes c.with_notes-lines.ensures c.in-Err-default-DiskFault.left c.in-Err-default-DiskFault.field-0-1 here c.in-Err-default-DiskFault.field-0-1-is
 
 pub returns-in-Err-default-NoMemory-clause-shuts : goal.returns-in-Err-default-NoMemory-clause-shuts
@@ -112,7 +112,7 @@ returns-in-Err-default-NoMemory-clause-shuts g c =
     let left' = c.spend.new.self.left in
     let some : c.spend.result ≡ true = search rules in
     let spends = subst (λ taken. Spends left taken left') some c.spend.ensures in
-    shut_starved meaning c.args.leaf.0 (meaning c.args.leaf.1) c.args.steps.now.left left left' y c.loop-alloc.lines c.loop-alloc.invariant
+    shut_starved c.args.number meaning c.args.leaf.0 (meaning c.args.leaf.1) c.args.steps.now.left left left' y c.loop-alloc.lines c.loop-alloc.invariant
     spends c.with_notes-lines.result notes c.with_notes-lines.ensures c.in-Err-default-NoMemory.left c.in-Err-default-NoMemory.field-0-1 here c.in-Err-default-NoMemory.field-0-1-is
 
 pub returns-in-Err-default-NoRoom-clause-shuts : goal.returns-in-Err-default-NoRoom-clause-shuts
@@ -133,5 +133,5 @@ returns-in-Err-default-NoRoom-clause-shuts g c =
     let left' = c.spend.new.self.left in
     let some : c.spend.result ≡ true = search rules in
     let spends = subst (λ taken. Spends left taken left') some c.spend.ensures in
-    shut_roomless meaning c.args.leaf.0 (meaning c.args.leaf.1) c.args.steps.now.left left left' y c.loop-alloc.lines c.loop-alloc.invariant
+    shut_roomless c.args.number meaning c.args.leaf.0 (meaning c.args.leaf.1) c.args.steps.now.left left left' y c.loop-alloc.lines c.loop-alloc.invariant
     spends c.with_notes-lines.result notes c.with_notes-lines.ensures c.in-Err-default-NoRoom.left c.in-Err-default-NoRoom.field-0-1 here c.in-Err-default-NoRoom.field-0-1-is

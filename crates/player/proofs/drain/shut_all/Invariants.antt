@@ -4,7 +4,7 @@ use Rattle.player.proofs.Drained.{SoFar}
 use Rattle.player.proofs.drain.shut_all.Given as goal
 
 abbrev pub invariant-loop-alloc : goal.invariant-loop-alloc
-invariant-loop-alloc g l = SoFar l.fn.leaf.0 (g.B.Berth.meaning l.fn.leaf.1) l.fn.steps.left l.leaf.0 (g.B.Berth.meaning l.leaf.1) l.steps.left l.lines
+invariant-loop-alloc g l = SoFar l.number l.fn.leaf.0 (g.B.Berth.meaning l.fn.leaf.1) l.fn.steps.left l.leaf.0 (g.B.Berth.meaning l.leaf.1) l.steps.left l.lines
 
 abbrev pub decreases-loop-alloc : goal.decreases-loop-alloc
 decreases-loop-alloc g l = length l.leaf.0.serving.seated.tables - treated l.leaf.0

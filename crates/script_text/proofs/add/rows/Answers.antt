@@ -5,7 +5,7 @@ use Rattle.row_json.specs.Row.{row_of}
 use Rattle.script_text.specs.Lines.{lines_of, without_return}
 use Rattle.script_text.specs.Commands.{one_row}
 use Rattle.script_text.proofs.Cut.{lines_of-cut}
-use Rattle.script_text.proofs.Reading.{rows_next, AllByRecursion-more}
+use Rattle.script_text.proofs.Steps.{rows_next, AllByRecursion-more}
 use Rattle.script_text.proofs.add.rows.Goals as goal
 
 pub loop-place-preserved : goal.loop-place-preserved

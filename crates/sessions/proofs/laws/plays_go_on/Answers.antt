@@ -1,12 +1,12 @@
 use Rattle.sessions.proofs.Playing.{begins, plays_on}
-use Rattle.sessions.proofs.Ended.{ended}
+use Rattle.sessions.proofs.Ending.{ended}
 use Rattle.sessions.proofs.laws.plays_go_on.Goals as goal
 
 pub returns-clause-begin : goal.returns-clause-begin
-returns-clause-begin g c = begins _
+returns-clause-begin g c = begins _ _
 
 pub returns-clause-on : goal.returns-clause-on
-returns-clause-on g c = plays_on _ _ _ _
+returns-clause-on g c = plays_on _ _
 
 pub returns-clause-end : goal.returns-clause-end
-returns-clause-end g c = ended _ _ c.leaves_begin.ensures
+returns-clause-end g c = ended _ _

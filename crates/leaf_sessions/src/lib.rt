@@ -1,0 +1,2 @@
+//! Laws of one leaf of a run: what was printed of it so far is told by its life and its tables' histories, and stays so.
+#![tactic(auto)]

@@ -1,0 +1,178 @@
+-- Chains of what callers and stewards of the leaves do.
+use Rattle.std.proofs.Common.{◌≡◌, ◌≢◌, ◌⊎◌, inl, inr, ℕ, ◌+◌, ◌-◌, ◌^◌, ◌≤◌, Bool, List, [], ◌∷◌, ◌++◌, length, Some, Result, Ok, Err, Vec, Global, refl, sym, ap, subst, ◌∙◌, arith, length-set, append_assoc}
+use Rattle.std.specs.Prelude.{min, IfOk, slice_get, slice_set}
+use Rattle.std.specs.List.{AllByRecursion}
+use Rattle.std.proofs.lemmas.Option.{slice_get_within}
+use Rattle.berth_face.specs.Berth.{Meaning, Passes}
+use Rattle.berth_face.proofs.Moments.{passes_none, passes_on}
+use Rattle.leaf_table.specs.Calls.{SeatView}
+use Rattle.leaf_history.specs.Calls.{Call}
+use Rattle.leaf_steward.proofs.Seating.{same_at, set_either}
+use Rattle.printed_lines.specs.declared.line.Ending.{Ending}
+use Rattle.printed_lines.specs.declared.line.Line.{Line}
+use Rattle.printed_lines.specs.Lines.{IsOf}
+use Rattle.transcript.specs.Pieces.{Acted, Called, Deed, Piece, Says, Worn, lines_in, piece_lines}
+use Rattle.transcript.specs.Counts.{Counted, IsCounted, deeds_in, is_disk_fault, is_region_fault, reads_disk}
+use Rattle.transcript.specs.Holds.{Hold, with_callers}
+use Rattle.transcript.specs.Steps as step
+use Rattle.transcript.specs.Steps.{CallStep, DeedStep, Goes, noted_all}
+use Rattle.transcript.specs.Stage.{seated_of}
+use Rattle.player.specs.Crew.{AllPass}
+use Rattle.player.specs.Lines.{AreJoined, CallsWith}
+use Rattle.player.specs.Members.{GoesWith}
+use Rattle.player.specs.Commands.{ActsWith}
+use Rattle.player.proofs.Columns.{element_at}
+use Rattle.player.proofs.CommandLines.{counted_other, none_told}
+
+-- ---- lists
+
+pub all_more : {A : Type 0} (P : A → Type 0) (xs ys : List A) → AllByRecursion P xs → AllByRecursion P ys → AllByRecursion P (xs ++ ys)
+all_more P [] ys a b = b
+all_more P (x ∷ xs) ys a b = (a.0, all_more P xs ys a.1 b)
+
+pub lines_more : (ps qs : List Piece) → lines_in (ps ++ qs) ≡ lines_in ps ++ lines_in qs
+lines_more [] qs = refl
+lines_more (p ∷ ps) qs = ap (λ (ls : List Line). piece_lines p ++ ls) (lines_more ps qs) ∙ sym (append_assoc (piece_lines p) (lines_in ps) (lines_in qs))
+
+-- ---- counts
+
+plus_more : (one n c d : ℕ) → n ≡ c + d → one + n ≡ (one + c) + d
+plus_more one n c d is = omega (arith, is)
+
+pub deeds_more : (test : Deed → Ending → Bool) (leaf : ℕ) (ps qs : List Piece) → deeds_in test leaf (ps ++ qs) ≡ deeds_in test leaf ps + deeds_in test leaf qs
+deeds_more test leaf [] qs = omega arith
+deeds_more test leaf (Acted l deed notes ends ∷ ps) qs = plus_more _ (deeds_in test leaf (ps ++ qs)) (deeds_in test leaf ps) (deeds_in test leaf qs) (deeds_more test leaf ps qs)
+deeds_more test leaf (Called l t c number said ∷ ps) qs = deeds_more test leaf ps qs
+deeds_more test leaf (Worn l t ∷ ps) qs = deeds_more test leaf ps qs
+deeds_more test leaf (Says l ∷ ps) qs = deeds_more test leaf ps qs
+
+bounded : (top b m n c d : ℕ) → min (b + c) top ≤ m → min (m + d) top ≤ n → min (b + (c + d)) top ≤ n
+bounded top b m n c d first second = omega (arith, first, second)
+
+counted_on : (b m n c d all : ℕ) → all ≡ c + d → Counted b m c → Counted m n d → Counted b n all
+counted_on b m n c d all is first second = subst (Counted b n) (sym is) (bounded (2 ^ 64 - 1) b m n c d first second)
+
+pub counted_more : (leaf : ℕ) (ps qs : List Piece) (m n o : Meaning) → IsCounted leaf ps m n → IsCounted leaf qs n o → IsCounted leaf (ps ++ qs) m o
+counted_more leaf ps qs m n o first second = record {
+  region = counted_on m.region_faults n.region_faults o.region_faults _ _ _ (deeds_more (λ deed ends. is_region_fault ends) leaf ps qs) first.region second.region;
+  disk = counted_on m.disk_faults n.disk_faults o.disk_faults _ _ _ (deeds_more (λ deed ends. is_disk_fault ends) leaf ps qs) first.disk second.disk;
+  reads = λ none.
+      let both = deeds_more reads_disk leaf ps qs in
+      second.reads (omega (arith, both, none)) ∙ first.reads (omega (arith, both, none));
+}
+
+pub counted_none : (leaf : ℕ) (ps : List Piece) (m : Meaning) → ((test : Deed → Ending → Bool) → deeds_in test leaf ps ≡ 0) → IsCounted leaf ps m m
+counted_none leaf ps m calm = record {
+  region = none_told m.region_faults _ (calm (λ deed ends. is_region_fault ends));
+  disk = none_told m.disk_faults _ (calm (λ deed ends. is_disk_fault ends));
+  reads = λ none. refl;
+}
+
+-- ---- chains
+
+module _ {B : Type 0} (meaning : B → Meaning) where
+  pub goes_more : (xs ys zs : List (Hold B)) (ps qs : List Piece) → Goes meaning xs ps ys → Goes meaning ys qs zs → Goes meaning xs (ps ++ qs) zs
+  goes_more xs ys zs ps qs (step.none us pieces bs empty same) more =
+      subst (λ (ws : List (Hold B)). Goes meaning ws (pieces ++ qs) zs) same (subst (λ (rs : List Piece). Goes meaning bs (rs ++ qs) zs) (sym empty) more)
+  goes_more xs ys zs ps qs (step.call us pieces bs leaf table c x callers p others at called goes are) more =
+      step.call us (pieces ++ qs) zs leaf table c x callers p (others ++ qs) at called (goes_more (slice_set us leaf (with_callers x callers)) bs zs others qs goes more)
+      (ap (λ (rs : List Piece). rs ++ qs) are)
+  goes_more xs ys zs ps qs (step.act us pieces bs leaf deed x y p others at acted goes are) more =
+      step.act us (pieces ++ qs) zs leaf deed x y p (others ++ qs) at acted (goes_more (slice_set us leaf y) bs zs others qs goes more) (ap (λ (rs : List Piece). rs ++ qs) are)
+  goes_more xs ys zs ps qs (step.say us pieces bs l others goes are) more =
+      step.say us (pieces ++ qs) zs l (others ++ qs) (goes_more us bs zs others qs goes more) (ap (λ (rs : List Piece). rs ++ qs) are)
+
+  -- ---- of one leaf
+
+  -- what holds of the one that has become another, and of each that is as it was
+  pub each_set : (P : ℕ → Hold B → Hold B → Type 0) (xs : List (Hold B)) (i : ℕ) (x y : Hold B) → slice_get xs i ≡ Some x → P i x y
+      → ((j : ℕ) (h : Hold B) → j ≢ i → P j h h) → (j : ℕ) (h h' : Hold B) → slice_get xs j ≡ Some h → slice_get (slice_set xs i y) j ≡ Some h' → P j h h'
+  each_set P xs i x y at here others j h h' was now = by (set_either xs i j y h' now)
+    where
+      by : ((j ≡ i) × (h' ≡ y)) ⊎ ((j ≢ i) × (slice_get xs j ≡ Some h')) → P j h h'
+      by (inl same) =
+          let is : x ≡ h = same_at xs i x h at (subst (λ (n : ℕ). slice_get xs n ≡ Some h) same.0 was) in
+          subst (λ (n : ℕ). P n h h') (sym same.0) (subst (λ (z : Hold B). P i h z) (sym same.1) (subst (λ (z : Hold B). P i z y) is here))
+      by (inr apart) = subst (λ (z : Hold B). P j h z) (same_at xs j h h' was apart.1) (others j h apart.0)
+
+  pub all_pass_set : (xs : List (Hold B)) (i : ℕ) (x y : Hold B) → slice_get xs i ≡ Some x → Passes (meaning x.berth) (meaning y.berth) → AllPass meaning xs (slice_set xs i y)
+  all_pass_set xs i x y at time = record {
+    count = length-set xs i y;
+    each = each_set (λ j h h'. Passes (meaning h.berth) (meaning h'.berth)) xs i x y at time (λ j h apart. passes_none (meaning h.berth));
+  }
+
+  -- a deed
+  pub one_act : {E : Type 0} (names : List (List ℕ)) (xs ys : List (Hold B)) (number : ℕ) (deed : Deed) (x y : Hold B) (result : Result (Vec Line Global) E)
+      → slice_get xs number ≡ Some x → ys ≡ slice_set xs number y
+      → (acts : ActsWith meaning names number deed x.leaf x.callers x.berth result y.leaf y.callers y.berth) → Passes (meaning x.berth) (meaning y.berth)
+      → GoesWith meaning names xs result (acts.piece ∷ []) ys
+  one_act names xs ys number deed x y result at now acts time =
+      subst (λ (zs : List (Hold B)). GoesWith meaning names xs result (acts.piece ∷ []) zs) (sym now) (record {
+        goes = step.act xs (acts.piece ∷ []) (slice_set xs number y) number deed x y acts.piece [] at acts.step (step.none (slice_set xs number y) [] (slice_set xs number y) refl refl) refl;
+        counted = each_set (λ j h h'. IsCounted j (acts.piece ∷ []) (meaning h.berth) (meaning h'.berth)) xs number x y at acts.counted
+            (λ j h apart. subst (λ (p : Piece). IsCounted j (p ∷ []) (meaning h.berth) (meaning h.berth)) (sym acts.step.piece_is)
+            (counted_other number j deed (noted_all acts.step.notes) acts.step.ends (meaning h.berth) apart));
+        time = all_pass_set xs number x y at time;
+        fit = acts.fit;
+        lines_are = acts.lines_are;
+      })
+
+  -- a call
+  pub one_called : {E : Type 0} (names : List (List ℕ)) (xs ys : List (Hold B)) (leaf table : ℕ) (c : Call) (x : Hold B) (callers : List SeatView) (result : Result (Vec Line Global) E)
+      → slice_get xs leaf ≡ Some x → ys ≡ slice_set xs leaf (with_callers x callers)
+      → (calls : CallsWith names leaf table c (seated_of x.leaf).tables x.callers result callers) → GoesWith meaning names xs result (calls.piece ∷ []) ys
+  one_called names xs ys leaf table c x callers result at now calls =
+      let y : Hold B = with_callers x callers in
+      subst (λ (zs : List (Hold B)). GoesWith meaning names xs result (calls.piece ∷ []) zs) (sym now) (record {
+        goes = step.call xs (calls.piece ∷ []) (slice_set xs leaf y) leaf table c x callers calls.piece [] at calls.step (step.none (slice_set xs leaf y) [] (slice_set xs leaf y) refl refl) refl;
+        counted = each_set (λ j h h'. IsCounted j (calls.piece ∷ []) (meaning h.berth) (meaning h'.berth)) xs leaf x y at
+            (counted_none leaf (calls.piece ∷ []) (meaning x.berth) (λ test. calls.calm test leaf))
+            (λ j h apart. counted_none j (calls.piece ∷ []) (meaning h.berth) (λ test. calls.calm test j));
+        time = all_pass_set xs leaf x y at (passes_none (meaning x.berth));
+        fit = calls.fit;
+        lines_are = calls.lines_are;
+      })
+
+  -- ---- of several
+
+  -- there is one between in each place
+  between : (xs ys : List (Hold B)) → length ys ≡ length xs → (leaf : ℕ) (x : Hold B) → slice_get xs leaf ≡ Some x → (y : Hold B) × (slice_get ys leaf ≡ Some y)
+  between xs ys count leaf x at = element_at ys leaf (omega (arith, count, slice_get_within xs leaf x at))
+
+  joined_lines : {E : Type 0} (first second both : Result (Vec Line Global) E) (ps qs : List Piece) → IfOk first (λ lines. lines.items ≡ lines_in ps) → IfOk second (λ lines. lines.items ≡ lines_in qs)
+      → IfOk both (λ lines. AreJoined first second lines.items) → IfOk both (λ lines. lines.items ≡ lines_in (ps ++ qs))
+  joined_lines (Ok first) (Ok second) (Ok both) ps qs one other are =
+      are ∙ (ap (λ (ls : List Line). ls ++ second.items) one ∙ (ap (λ (ls : List Line). lines_in ps ++ ls) other ∙ sym (lines_more ps qs)))
+  joined_lines (Ok first) (Err e) (Ok both) ps qs one other are = absurd are
+  joined_lines (Err e) second (Ok both) ps qs one other are = absurd are
+  joined_lines first second (Err e) ps qs one other are = tt
+
+  pub goes_with_more : {E : Type 0} (names : List (List ℕ)) (xs ys zs : List (Hold B)) (ps qs : List Piece) (first second both : Result (Vec Line Global) E)
+      → GoesWith meaning names xs first ps ys → GoesWith meaning names ys second qs zs → IfOk both (λ lines. AreJoined first second lines.items) → GoesWith meaning names xs both (ps ++ qs) zs
+  goes_with_more names xs ys zs ps qs first second both one other joined = record {
+    goes = goes_more xs ys zs ps qs one.goes other.goes;
+    counted = λ leaf x z was now.
+        let y = between xs ys one.time.count leaf x was in
+        counted_more leaf ps qs (meaning x.berth) (meaning y.0.berth) (meaning z.berth) (one.counted leaf x y.0 was y.1) (other.counted leaf y.0 z y.1 now);
+    time = record {
+      count = other.time.count ∙ one.time.count;
+      each = λ leaf x z was now.
+          let y = between xs ys one.time.count leaf x was in
+          passes_on (meaning x.berth) (meaning y.0.berth) (meaning z.berth) (one.time.each leaf x y.0 was y.1) (other.time.each leaf y.0 z y.1 now);
+    };
+    fit = subst (AllByRecursion (IsOf names)) (sym (lines_more ps qs)) (all_more (IsOf names) (lines_in ps) (lines_in qs) one.fit other.fit);
+    lines_are = joined_lines first second both ps qs one.lines_are other.lines_are joined;
+  }
+
+  -- nothing was done
+  pub goes_with_none : {E : Type 0} (names : List (List ℕ)) (xs : List (Hold B)) (result : Result (Vec Line Global) E) → IfOk result (λ lines. lines.items ≡ []) → GoesWith meaning names xs result [] xs
+  goes_with_none names xs result empty = record {
+    goes = step.none xs [] xs refl refl;
+    counted = λ leaf x y was now. subst (λ (z : Hold B). IsCounted leaf [] (meaning x.berth) (meaning z.berth)) (same_at xs leaf x y was now) (counted_none leaf [] (meaning x.berth) (λ test. refl));
+    time = record {
+      count = refl;
+      each = λ leaf x y was now. subst (λ (z : Hold B). Passes (meaning x.berth) (meaning z.berth)) (same_at xs leaf x y was now) (passes_none (meaning x.berth));
+    };
+    fit = tt;
+    lines_are = empty;
+  }

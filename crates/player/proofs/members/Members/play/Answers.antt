@@ -1,0 +1,30 @@
+use Rattle.std.proofs.Common.{ℤ, inl, w64, sym, subst}
+use Rattle.std.proofs.lemmas.Int.{to_z-of_z}
+use Rattle.script_text.specs.declared.command.Command.{Command}
+use Rattle.transcript.specs.Steps.{MayPlay}
+use Rattle.player.specs.declared.call.Request.TheVariants as request
+use Rattle.player.specs.Crew.{PlaysWith}
+use Rattle.player.specs.Members.{fleet_in, holds_in}
+use Rattle.player.specs.Commands.{CallsAt}
+use Rattle.player.proofs.NamePlaces.{known_place}
+use Rattle.player.proofs.Playing.{expire_plays, query_or_none}
+use Rattle.player.proofs.members.Members.play.Goals as goal
+
+pub ask-requires-clause-table : goal.ask-requires-clause-table
+ask-requires-clause-table g c = λ κs bounds.
+    let may = subst (MayPlay (fleet_in c.args.self.now)) c.in-Query.is c.requires.may in
+    known_place c.in-Query.query.table c.args.self.now.names may.0.0 may.0.1 may.0.2
+
+pub returns-in-Expire-clause-plays : goal.returns-in-Expire-clause-plays
+returns-in-Expire-clause-plays g c =
+    let x = c.args.self.now in
+    let expire = c.in-Expire in
+    let then = c.call-in-Expire in
+    let may = subst (MayPlay (fleet_in x)) expire.is c.requires.may in
+    let calls = subst (λ (z : ℤ). CallsAt g.B.Berth.meaning expire.leaf expire.table (request.Expire z) x then.result then.new.self) (to_z-of_z w64 expire.horizon may.2.1) then.ensures.calls in
+    inl (subst (λ (d : Command). PlaysWith g.B.Berth.meaning (fleet_in x) d (holds_in x) then.result (holds_in then.new.self)) (sym expire.is)
+    (expire_plays g.B.Berth.meaning x then.new.self then.result expire.leaf expire.table expire.horizon calls))
+
+pub returns-in-Query-clause-plays : goal.returns-in-Query-clause-plays
+returns-in-Query-clause-plays g c =
+    query_or_none g.B.Berth.meaning c.args.self.now c.ask.new.self c.ask.result c.in-Query.query c.args.command c.in-Query.is c.ask.ensures.asks

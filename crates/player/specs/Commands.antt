@@ -1,0 +1,150 @@
+-- What each command does to the leaves that a crew holds.
+use Rattle.std.specs.Prelude.{◌≡◌, ◌⊎◌, ◌==◌, ℕ, zero, suc, ◌<◌, List, [], ◌∷◌, ◌++◌, length, slice_set, false, Option, Some, None, Result, Vec, IfOk, IsErr, if◌then◌else◌, ⊤}
+use Rattle.std.specs.Global.{Global}
+use Rattle.std.specs.List.{AllByRecursion}
+use Rattle.berth_face.specs.Berth.{Meaning}
+use Rattle.leaf_model.specs.Values.{IsRow, IsTime}
+use Rattle.leaf_model.specs.declared.queries.Query.{Query}
+use Rattle.answer_text.specs.Answer.{answer_lines}
+use Rattle.leaf_history.specs.Calls.{Call}
+use Rattle.leaf_history.specs.Calls as call
+use Rattle.leaf_history.specs.History.{Entry}
+use Rattle.leaf_table.specs.Turns.{Shared}
+use Rattle.leaf_table.specs.Calls.{SeatView}
+use Rattle.leaf_table.specs.Lists.{row}
+use Rattle.leaf_steward.specs.declared.notes.Note.{Note}
+use Rattle.aggregator.specs.declared.lists.Named.{Named}
+use Rattle.aggregator.specs.declared.fanned.Fanned.{Fanned}
+use Rattle.aggregator.specs.Asks.{AllAsked}
+use Rattle.script_text.specs.declared.command.Command.TheVariants as command
+use Rattle.printed_lines.specs.declared.line.Said.{Said}
+use Rattle.printed_lines.specs.declared.line.Said.TheVariants as said
+use Rattle.printed_lines.specs.declared.line.Ending.{Ending}
+use Rattle.printed_lines.specs.declared.line.Line.{Line}
+use Rattle.printed_lines.specs.declared.line.Line.TheVariants as line
+use Rattle.printed_lines.specs.Lines.{IsOf}
+use Rattle.transcript.specs.Pieces.{Deed, Drains, Flushes, Kills, Piece, Starts, lines_in, verb_of}
+use Rattle.transcript.specs.Shapes.{ActPiece, ActPieces, CallPiece, IsAddSaid, IsRemoveSaid, QueryPieces}
+use Rattle.transcript.specs.Counts.{IsCounted, reads_disk}
+use Rattle.transcript.specs.Answers.{Answers}
+use Rattle.transcript.specs.Holds.{GoOn, grounds_in}
+use Rattle.transcript.specs.Stage.{Leaf, Carries}
+use Rattle.transcript.specs.Steps.{DeedStep, Moves}
+use Rattle.player.specs.declared.act.Task.{Task}
+use Rattle.player.specs.declared.act.Task.TheVariants as task
+use Rattle.player.specs.declared.call.Request.{Request}
+use Rattle.player.specs.declared.call.Request.TheVariants as request
+use Rattle.player.specs.declared.members.Members.{Members}
+use Rattle.player.specs.Lines.{AreEnded}
+use Rattle.player.specs.Members.{GoesWith, fleet_in, holds_in}
+use Rattle.player.specs.Moves.{FaultRose}
+
+-- ---- deeds
+
+-- what a leaf's steward is told to do
+abbrev pub deed_of : Task → Deed
+deed_of task.Start = Starts
+deed_of (task.Flush table) = Flushes table
+deed_of (task.Drain stop) = Drains stop
+deed_of task.Kill = Kills
+
+-- a table that it is told of is one of these names'
+abbrev pub IsTask : List (List ℕ) → Task → Type 0
+IsTask names task.Start = ⊤
+IsTask names (task.Flush table) = table < length names
+IsTask names (task.Drain stop) = ⊤
+IsTask names task.Kill = ⊤
+
+-- what the steward of the leaf with this number did, by its notes and its ending, with their lines
+pub record Does {E : Type 0} (number : ℕ) (deed : Deed) (m m' : Meaning) (leaf : Leaf) (lines : Result (Vec Line Global) E) (leaf' : Leaf) : Type 0 where
+  pub notes : List Note
+  pub ends : Ending
+  pub moves : Moves deed m m' leaf notes ends leaf'
+  pub carries : Carries leaf leaf' notes m m'
+  pub cause : FaultRose ends m m'
+  pub reads : reads_disk deed ends ≡ false → m'.disk_reads ≡ m.disk_reads
+  pub told : IfOk lines (λ lines. AreEnded number (verb_of deed) notes ends lines.items)
+
+-- the same between two meetings of all seats, with its piece
+pub record ActsWith {B E : Type 0} (meaning : B → Meaning) (names : List (List ℕ)) (number : ℕ) (deed : Deed) (leaf : Leaf) (callers : List SeatView) (b : B)
+    (result : Result (Vec Line Global) E) (leaf' : Leaf) (callers' : List SeatView) (b' : B) : Type 0 where
+  pub piece : Piece
+  pub step : DeedStep number deed (meaning b) (meaning b') leaf callers piece leaf' callers'
+  pub counted : IsCounted number (piece ∷ []) (meaning b) (meaning b')
+  pub fit : AllByRecursion (IsOf names) (lines_in (piece ∷ []))
+  pub lines_are : IfOk result (λ lines. lines.items ≡ lines_in (piece ∷ []))
+
+-- a deed of one of the leaves
+pub record ActsAt {B E : Type 0} (meaning : B → Meaning) (number : ℕ) (deed : Deed) (x : Members B) (result : Result (Vec Line Global) E) (y : Members B) : Type 0 where
+  pub piece : Piece
+  pub prints : ActPiece number deed piece
+  pub goes : GoesWith meaning x.names (holds_in x) result (piece ∷ []) (holds_in y)
+
+-- the first k leaves were started
+pub record StartsFirst {B E : Type 0} (meaning : B → Meaning) (k : ℕ) (x : Members B) (result : Result (Vec Line Global) E) (y : Members B) : Type 0 where
+  pub pieces : List Piece
+  pub prints : ActPieces 0 k Starts pieces
+  pub goes : GoesWith meaning x.names (holds_in x) result pieces (holds_in y)
+
+-- ---- calls
+
+-- what a caller asks for
+abbrev pub call_of : Request → Call
+call_of (request.Add rows) = call.Add rows
+call_of (request.Expire horizon) = call.Expire horizon
+call_of (request.Keep n) = call.Keep n
+
+abbrev pub IsRequest : Request → Type 0
+IsRequest (request.Add rows) = AllByRecursion IsRow rows
+IsRequest (request.Expire horizon) = IsTime horizon
+IsRequest (request.Keep n) = ⊤
+
+-- what it may be told
+abbrev pub MayBeTold : Request → Said → Type 0
+MayBeTold (request.Add rows) said = IsAddSaid said
+MayBeTold (request.Expire horizon) said = IsRemoveSaid said
+MayBeTold (request.Keep n) said = IsRemoveSaid said
+
+-- a call of one of the leaves
+pub record CallsAt {B E : Type 0} (meaning : B → Meaning) (leaf table : ℕ) (r : Request) (x : Members B) (result : Result (Vec Line Global) E) (y : Members B) : Type 0 where
+  pub piece : Piece
+  pub prints : CallPiece (MayBeTold r) leaf table (call_of r) piece
+  pub goes : GoesWith meaning x.names (holds_in x) result (piece ∷ []) (holds_in y)
+
+-- ---- queries
+
+-- the number of the leaf's entry, where it stands in the list
+abbrev pub number_in : ℕ → List Named → Option ℕ
+number_in leaf [] = None
+number_in leaf (n ∷ ns) = if n.leaf == leaf then Some n.number else number_in leaf ns
+
+-- the line of a leaf with these numbers among those that answered, those that were shut, and those that were refused memory
+abbrev pub said_line : ℕ → ℕ → Option ℕ → Option ℕ → Option ℕ → Line
+said_line leaf table (Some number) shut starved = line.Entry leaf table number said.Asked
+said_line leaf table None (Some number) starved = line.Entry leaf table number said.RefusedShut
+said_line leaf table None None (Some number) = line.Entry leaf table number said.RefusedMemory
+said_line leaf table None None None = line.Worn leaf table
+
+-- the line of a leaf that was asked
+abbrev pub asked_line : ℕ → ℕ → Fanned → Line
+asked_line leaf table f = said_line leaf table (number_in leaf f.named) (number_in leaf f.shut) (number_in leaf f.starved)
+
+-- those of the first so many leaves
+abbrev pub asked_lines : ℕ → ℕ → Fanned → List Line
+asked_lines zero table f = []
+asked_lines (suc leaves) table f = asked_lines leaves table f ++ asked_line leaves table f ∷ []
+
+-- all that a query prints
+abbrev pub query_lines : ℕ → ℕ → Query → Fanned → List Line
+query_lines leaves table q f = asked_lines leaves table f ++ line.Answer (length f.named) leaves (answer_lines q f.groups) ∷ []
+
+-- one row of seats was asked, or for want of memory none of them
+abbrev pub AsksRow : {E : Type 0} → Query → List (List Shared) → ℕ → List (List SeatView) → Result Fanned E → List (List SeatView) → Type 0
+AsksRow q tables table rows result rows' = (IsErr result × (rows' ≡ rows)) ⊎ ((after : List SeatView) × AllAsked q tables table (row rows table) after result × (rows' ≡ slice_set rows table after))
+
+-- a query of all leaves, whose answer is over what they hold then, however their histories go on
+pub record AsksAll {B E : Type 0} (meaning : B → Meaning) (q : Query) (x : Members B) (result : Result (Vec Line Global) E) (y : Members B) : Type 0 where
+  pub pieces : List Piece
+  pub prints : QueryPieces (fleet_in x) q pieces
+  pub goes : GoesWith meaning x.names (holds_in x) result pieces (holds_in y)
+  pub answers : (histories : ℕ → ℕ → List Entry) → GoOn (holds_in y) histories → Answers (fleet_in x) (grounds_in (holds_in y)) histories (record { command = command.Query q; pieces = pieces })

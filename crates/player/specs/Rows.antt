@@ -1,0 +1,64 @@
+-- The callers' seats: a row for each table, with a seat at each leaf. Those of one leaf are a column.
+use Rattle.std.specs.Prelude.{◌≡◌, ◌≢◌, ℕ, ◌<◌, ◌≤◌, List, length, slice_get, slice_set, Some}
+use Rattle.leaf_history.specs.Calls.{Call}
+use Rattle.leaf_history.specs.History.{LegalFrom}
+use Rattle.turnstile.specs.Seats.{IsSeatOf}
+use Rattle.leaf_table.specs.declared.replies.Reply.{Reply}
+use Rattle.leaf_table.specs.Turns.{Shared, is_founded, start_of}
+use Rattle.leaf_table.specs.Calls.{SeatView, Answered, IsCaller, base_seen, seen_of}
+use Rattle.leaf_table.specs.Lists.{HasRows, row}
+use Rattle.leaf_steward.specs.Seated.{Seated}
+use Rattle.player.specs.Crew.{column}
+
+-- the same rows but for the seat at that leaf of one table's row
+abbrev pub with_place : {A : Type 0} → List (List A) → ℕ → ℕ → A → List (List A)
+with_place rows table leaf x = slice_set rows table (slice_set (row rows table) leaf x)
+
+-- the rows stay as long, and the seats at the other leaves as they are
+pub record OnlyColumn (leaf : ℕ) (rows rows' : List (List SeatView)) : Type 0 where
+  pub sizes : (count size : ℕ) → HasRows count size rows → HasRows count size rows'
+  pub others : (other : ℕ) → other ≢ leaf → column other rows' ≡ column other rows
+
+-- ---- the seats of one leaf
+
+-- the tables, and the callers' seat at each
+pub record Called : Type 0 where
+  pub tables : List Shared
+  pub seats : List SeatView
+
+-- those of the leaf with this number
+abbrev pub called_at : ℕ → List Shared → List (List SeatView) → Called
+called_at leaf tables rows = record { tables = tables; seats = column leaf rows }
+
+-- a caller's seat at the table, which has seen a legal history
+pub record IsCallersAt (t : Shared) (c : SeatView) : Type 0 where
+  pub seat : IsSeatOf c t.site
+  pub caller : IsCaller c
+  pub legal : LegalFrom (is_founded (base_seen t)) (start_of (base_seen t)) (seen_of c)
+
+pub record AreCalled (x : Called) : Type 0 where
+  pub count : length x.seats ≡ length x.tables
+  pub each : (place : ℕ) (t : Shared) (c : SeatView) → slice_get x.tables place ≡ Some t → slice_get x.seats place ≡ Some c → IsCallersAt t c
+
+-- a call of the table in that place
+pub record Calls (table : ℕ) (c : Call) (x : Called) (reply : Reply) (y : Called) : Type 0 where
+  pub shared : Shared
+  pub before : SeatView
+  pub after : SeatView
+  pub at : slice_get x.tables table ≡ Some shared
+  pub was : slice_get x.seats table ≡ Some before
+  pub answered : Answered (base_seen shared) before c reply after
+  pub now : y ≡ record { tables = x.tables; seats = slice_set x.seats table after }
+
+-- the callers' seats of the leaf with this number, at tables of its own
+pub record IsColumn (leaf : ℕ) (tables : List Shared) (rows : List (List SeatView)) : Type 0 where
+  pub size : ℕ
+  pub sizes : HasRows (length tables) size rows
+  pub within : leaf < size
+  pub few : length tables ≤ 16
+  pub called : AreCalled (called_at leaf tables rows)
+
+-- the steward's seats and the callers' may meet
+pub record MayMeet (leaf : ℕ) (x : Seated) (rows : List (List SeatView)) : Type 0 where
+  pub column : IsColumn leaf x.tables rows
+  pub seats : length x.seats ≡ length x.tables

@@ -1,0 +1,98 @@
+// Calls of callers, other than queries.
+ghost use Rattle.std.specs.Prelude.{◌≡◌, ◌<◌, length};
+ghost use Rattle.turnstile.specs.Seats.{IsSeatOf};
+ghost use Rattle.leaf_table.specs.Calls.{Answered, IsCaller, SameSeat, base_seen};
+ghost use Rattle.leaf_table.specs.Lists.{lists_in, row};
+ghost use Rattle.transcript.specs.Pieces.{leaf_count};
+ghost use Rattle.player.specs.Crew.{column};
+ghost use Rattle.player.specs.Rows.{Calls, IsColumn, OnlyColumn, called_at};
+ghost use Rattle.player.specs.Lines.{CallsWith};
+ghost use Rattle.player.specs.Members.{AreMembers, SameFleet, fleet_in};
+ghost use Rattle.player.specs.Commands.{CallsAt, IsRequest, call_of};
+
+use crate::entries::call_lines;
+use crate::members::Members;
+use berth_face::{Berth, Gate};
+use leaf_model::Rows;
+use leaf_table::{Reply, Seat, SharedTable};
+use printed_lines::Line;
+use std::alloc::{AllocError, Global};
+use std::sync::Wait;
+
+/// What a caller asks of a table.
+#[derive(Drop)]
+pub enum Request {
+    Add(Rows),
+    Expire(i64),
+    Keep(u64),
+}
+
+impl<'t, B: Berth> Members<'t, B> {
+    /// Plays a caller's call of that leaf's table, and gives its line.
+    pub fn call<R: Wait, G: Gate>(
+        &mut self,
+        rt: &R,
+        alloc: Global,
+        gate: &G,
+        leaf: u32,
+        table: u32,
+        request: Request,
+    ) -> Result<Vec<Line>, AllocError>
+        requires members { AreMembers self.old }
+        requires leaf { leaf < leaf_count (fleet_in self.old) }
+        requires table { table < length self.old.names }
+        requires request { IsRequest request }
+        ensures members { AreMembers self.new }
+        ensures same { SameFleet self.old self.new }
+        ensures calls { CallsAt B.meaning leaf table request self.old result self.new }
+    {
+        let tables = self.tables.leaf(leaf);
+        let reply = call_one(rt, gate, tables, &mut self.rows, leaf, table, request);
+        call_lines(alloc, leaf, table, &reply)
+    }
+}
+
+// Calls the table in that place, by the seat there of the leaf's column.
+fn call_one<R: Wait, G: Gate>(
+    rt: &R,
+    gate: &G,
+    tables: &[SharedTable],
+    rows: &mut Vec<Vec<Seat>>,
+    leaf: u32,
+    table: u32,
+    request: Request,
+) -> Reply
+    requires column { IsColumn leaf tables.now (lists_in rows.old.items) }
+    requires table { table < length tables.now }
+    requires request { IsRequest request }
+    ensures calls { Calls table (call_of request) (called_at leaf tables.now (lists_in rows.old.items)) result (called_at leaf tables.now (lists_in rows.new.items)) }
+    ensures column { IsColumn leaf tables.now (lists_in rows.new.items) }
+    ensures only { OnlyColumn leaf (lists_in rows.old.items) (lists_in rows.new.items) }
+{
+    let shared = &tables[table as usize];
+    let row = &mut rows[table as usize];
+    let seat = &mut row[leaf as usize];
+    call_by(rt, gate, shared, seat, request)
+}
+
+// Calls a table by a seat.
+fn call_by<R: Wait, G: Gate>(
+    rt: &R,
+    gate: &G,
+    shared: &SharedTable,
+    seat: &mut Seat,
+    request: Request,
+) -> Reply
+    requires seat { IsSeatOf seat.old shared.now.site }
+    requires caller { IsCaller seat.old }
+    requires request { IsRequest request }
+    ensures seat { IsSeatOf seat.new shared.now.site }
+    ensures same { SameSeat seat.old seat.new }
+    ensures made { Answered (base_seen shared.now) seat.old (call_of request) result seat.new }
+{
+    match request {
+        Request::Add(rows) => shared.add(rt, seat, rows, gate),
+        Request::Expire(horizon) => shared.expire(rt, seat, horizon, gate),
+        Request::Keep(n) => shared.keep(rt, seat, n, gate),
+    }
+}

@@ -1,0 +1,125 @@
+// The leaves of a fleet, and what each command of a script does to them.
+ghost use Rattle.std.specs.Prelude.{◌≡◌, ◌⊎◌, ◌*◌, ◌+◌, ◌<◌, ◌≤◌, ◌++◌, ℕ, Option, Some, length, map, take, drop, slice_get, vec_len, vec_capacity, IfOk, IsErr};
+ghost use Rattle.std.specs.List.{AllByRecursion};
+ghost use Rattle.region_layout.specs.Names.{AreNames};
+ghost use Rattle.crash_moments.specs.Left.{NamedStates};
+ghost use Rattle.leaf_table.specs.declared.base.TableBase.{TableBase};
+ghost use Rattle.leaf_table.specs.Turns.{start_of};
+ghost use Rattle.leaf_table.specs.Calls.{base_seen, name_of};
+ghost use Rattle.leaf_table.specs.Fleet.{IsNewFleet};
+ghost use Rattle.leaf_steward.specs.Seated.{AreAlike, AreFounded, AtEach};
+ghost use Rattle.leaf_machine.specs.States.{MayBegin};
+ghost use Rattle.script_text.specs.Fits.{AreLeaves};
+ghost use Rattle.printed_lines.specs.Lines.{IsOf};
+ghost use Rattle.transcript.specs.Stage.{Stands, seated_of};
+ghost use Rattle.transcript.specs.Holds.{Hold, HasMet};
+ghost use Rattle.transcript.specs.Steps.{MayPlay};
+ghost use Rattle.player.specs.Crew.{AllPass, PlaysWith, new_holds, seated_at};
+
+use crate::begin::{begin_all, copies};
+use crate::members::Members;
+use berth_face::{Berth, Gate};
+use leaf_model::Names;
+use leaf_table::{CallerSeats, FleetTables, StewardSeats};
+use printed_lines::Line;
+use script_text::Command;
+use std::alloc::{AllocError, Global};
+use std::marker::Model;
+use std::sync::Wait;
+use std::thread::Threads;
+
+/// The leaves of a fleet, each of which owns its berth, with a caller's seat at each of their tables. It borrows the tables.
+#[derive(Drop)]
+pub struct Crew<'t, B: Berth> {
+    members: Members<'t, B>,
+}
+
+impl<'t, B: Berth> Model for Crew<'t, B> {
+    ghost use Rattle.player.specs.Crew.{CrewState};
+    ghost use Rattle.player.specs.Members.{AreMembers, fleet_in, holds_in};
+
+    ghost Value = { CrewState B };
+
+    ghost view = { λ crew. record { fleet = fleet_in crew.members; tables = crew.members.tables.now; holds = holds_in crew.members } };
+
+    ghost invariant = { λ crew. AreMembers crew.members };
+}
+
+impl<'t, B: Berth> Crew<'t, B> {
+    /// The leaves of a new fleet, all down, each over a berth of its own: the first so many of these. The others stay.
+    /// Where a leaf's tables are founded, a leaf with their base may begin over its berth.
+    /// For want of memory all berths stay as they were.
+    pub fn new(
+        alloc: Global,
+        names: Names,
+        machines: u32,
+        per_machine: u32,
+        tables: &'t FleetTables,
+        stewards: StewardSeats,
+        callers: CallerSeats,
+        berths: &mut Vec<B>,
+    ) -> Result<Crew<'t, B>, AllocError>
+        requires named { AreNames names }
+        requires leaves { AreLeaves machines per_machine }
+        requires enough { machines * per_machine ≤ length berths.old.items }
+        requires new { (base : ℕ → ℕ → Option TableBase) × IsNewFleet base (machines * per_machine) names 65536 tables.now stewards callers }
+        requires alike { (leaf : ℕ) → leaf < machines * per_machine → AreAlike (seated_at names tables.now stewards leaf) }
+        requires ready { (leaf : ℕ) (b : B) → leaf < machines * per_machine → slice_get berths.old.items leaf ≡ Some b → AreFounded (seated_at names tables.now stewards leaf)
+            → (states : NamedStates) × MayBegin states (B.meaning b) × AtEach (λ place t v. start_of (base_seen t) ≡ states (name_of t)) (seated_at names tables.now stewards leaf) }
+        ensures fleet { IfOk result (λ crew. crew.fleet ≡ record { machines = machines; per_machine = per_machine; names = names }) }
+        ensures holds { IfOk result (λ crew. crew.holds ≡ new_holds 0 names tables.now stewards callers (take (machines * per_machine) berths.old.items)) }
+        ensures berths { IfOk result (λ crew. berths.new.items ≡ drop (machines * per_machine) berths.old.items) }
+        ensures room { vec_capacity berths.new ≡ vec_capacity berths.old }
+        ensures stands { IfOk result (λ crew. (leaf : ℕ) (x : Hold B) (states : NamedStates) → slice_get crew.holds leaf ≡ Some x → AreFounded (seated_of x.leaf) → MayBegin states (B.meaning x.berth)
+            → AtEach (λ place t v. start_of (base_seen t) ≡ states (name_of t)) (seated_of x.leaf) → Stands states x.leaf (B.meaning x.berth)) }
+        ensures no_memory { IsErr result → berths.new.items ≡ berths.old.items }
+    {
+        let count = machines * per_machine;
+        let copies = copies(alloc, &names, count)?;
+        let mut leaves = Vec::with_capacity(alloc, count as usize)?;
+        begin_all(
+            &mut leaves,
+            &names,
+            copies,
+            tables,
+            stewards.into_inner(),
+            berths,
+        );
+        let members = Members {
+            names,
+            machines,
+            per_machine,
+            tables,
+            leaves,
+            rows: callers.into_inner(),
+        };
+        Ok(Crew { members })
+    }
+
+    /// Plays a command, and gives the lines that it prints.
+    /// Want of memory for the lines loses none of what the command did to the leaves. Of a query it may be found before any leaf is asked.
+    pub fn play<R: Wait + Threads + Sync, G: Gate>(
+        &mut self,
+        rt: &R,
+        alloc: Global,
+        gate: &G,
+        command: Command,
+    ) -> Result<Vec<Line>, AllocError>
+        requires may { MayPlay self.old.fleet command }
+        ensures plays { PlaysWith B.meaning self.old.fleet command self.old.holds result self.new.holds ⊎ (IsErr result × (self.new.holds ≡ self.old.holds)) }
+        ensures fleet { self.new.fleet ≡ self.old.fleet }
+        ensures time { AllPass B.meaning self.old.holds self.new.holds }
+        ensures lines_fit { IfOk result (λ lines. AllByRecursion (IsOf self.old.fleet.names) lines.items) }
+    {
+        self.members.play(rt, alloc, gate, command)
+    }
+
+    /// Lets all seats meet a last time, and puts the berths in front of the others, in the order of the leaves.
+    pub fn abandon(self, berths: &mut Vec<B>)
+        requires room { length self.holds + vec_len berths.old ≤ vec_capacity berths.old }
+        ensures met { (leaf : ℕ) (x : Hold B) → slice_get self.entry.holds leaf ≡ Some x → HasMet B.meaning x }
+        ensures berths { berths.new.items ≡ map (λ (x : Hold B). x.berth) self.entry.holds ++ berths.old.items }
+    {
+        self.members.abandon(berths)
+    }
+}

@@ -1,0 +1,49 @@
+// Meetings of a leaf's steward and its callers.
+ghost use Rattle.std.specs.Prelude.{◌≡◌, ◌<◌, length};
+ghost use Rattle.crash_moments.specs.Left.{NamedStates};
+ghost use Rattle.leaf_table.specs.Lists.{lists_in};
+ghost use Rattle.leaf_steward.specs.Seated.{AreFounded};
+ghost use Rattle.transcript.specs.Stage.{MeetAll, Stands};
+ghost use Rattle.player.specs.Crew.{column};
+ghost use Rattle.player.specs.Rows.{MayMeet, OnlyColumn};
+ghost use Rattle.player.specs.Stage.{KeepsSeats, berth_of, seats_of, state_of};
+ghost use Rattle.player.specs.Moves.{MeetsAt};
+
+use crate::leaf::OneLeaf;
+use berth_face::Berth;
+use leaf_table::Seat;
+
+/// Lets the seat of callers at each table of the leaf with this number and the steward's see what the other has seen.
+pub fn meet<'t, B: Berth>(rows: &mut Vec<Vec<Seat>>, number: u32, leaf: &mut OneLeaf<'t, B>)
+    requires { MayMeet number (seats_of leaf.old) (lists_in rows.old.items) }
+    ensures met { MeetAll (state_of leaf.old) (column number (lists_in rows.old.items)) (state_of leaf.new) (column number (lists_in rows.new.items)) (B.meaning (berth_of leaf.old)) }
+    ensures berth { berth_of leaf.new ≡ berth_of leaf.old }
+    ensures keeps { KeepsSeats (seats_of leaf.old) (seats_of leaf.new) }
+    ensures may { MayMeet number (seats_of leaf.new) (lists_in rows.new.items) }
+    ensures only { OnlyColumn number (lists_in rows.old.items) (lists_in rows.new.items) }
+{
+    for place in 0..rows.len() {
+        meet_at(rows, number, leaf, place as u32);
+    }
+}
+
+// Lets the seats of the table in that place meet.
+fn meet_at<'t, B: Berth>(
+    rows: &mut Vec<Vec<Seat>>,
+    number: u32,
+    leaf: &mut OneLeaf<'t, B>,
+    table: u32,
+)
+    requires may { MayMeet number (seats_of leaf.old) (lists_in rows.old.items) }
+    requires table { table < length rows.old.items }
+    ensures met { MeetsAt table (state_of leaf.old) (column number (lists_in rows.old.items)) (state_of leaf.new) (column number (lists_in rows.new.items)) }
+    ensures stands { (base : NamedStates) → AreFounded (seats_of leaf.old) → Stands base (state_of leaf.old) (B.meaning (berth_of leaf.old)) → Stands base (state_of leaf.new) (B.meaning (berth_of leaf.old)) }
+    ensures berth { berth_of leaf.new ≡ berth_of leaf.old }
+    ensures may { MayMeet number (seats_of leaf.new) (lists_in rows.new.items) }
+    ensures only { OnlyColumn number (lists_in rows.old.items) (lists_in rows.new.items) }
+{
+    let row = &mut rows[table as usize];
+    let seat = &mut row[number as usize];
+    leaf.meet(table, seat);
+    let _number = seat.seen();
+}

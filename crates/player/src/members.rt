@@ -1,0 +1,33 @@
+// The leaves of a fleet, with their callers' seats.
+ghost use Rattle.std.specs.Prelude.{◌≡◌, ◌+◌, ◌<◌, ◌≤◌, vec_len, vec_capacity};
+ghost use Rattle.std.specs.List.{insert};
+
+use crate::leaf::OneLeaf;
+use berth_face::Berth;
+use leaf_model::Names;
+use leaf_table::{FleetTables, Seat};
+
+/// The leaves of a fleet: for each of its tables a row with a callers' seat at each leaf. It borrows the tables.
+#[derive(Drop)]
+pub struct Members<'t, B: Berth> {
+    pub names: Names,
+    pub machines: u32,
+    pub per_machine: u32,
+    pub tables: &'t FleetTables,
+    pub leaves: Vec<OneLeaf<'t, B>>,
+    pub rows: Vec<Vec<Seat>>,
+}
+
+/// Puts an item in a place of the list, where room was left for it.
+pub fn put_in<T>(items: &mut Vec<T>, place: usize, item: T)
+    requires place { place ≤ vec_len items.old }
+    requires room { vec_len items.old < vec_capacity items.old }
+    ensures items { items.new.items ≡ insert items.old.items place item }
+    ensures len { vec_len items.new ≡ vec_len items.old + 1 }
+    ensures room { vec_capacity items.new ≡ vec_capacity items.old }
+{
+    match items.insert(place, item) {
+        Ok(()) => {}
+        Err(_) => unreachable!(),
+    }
+}

@@ -1,0 +1,250 @@
+-- What holds of what was read still holds with one line more.
+use Rattle.std.proofs.Common.{◌≡◌, ◌<◌, ◌≤◌, ◌+◌, ◌++◌, ◌&&◌, ◌||◌, ℕ, zero, suc, List, [], ◌∷◌, length, refl, ap, sym, ◌∙◌, arith, Result, Ok, Err, Bool, true, false, true≢false, subst, length-append}
+use Rattle.std.proofs.Math.Bool.{and-true}
+use Rattle.std.proofs.Math.Dec.{eqb-suc-zero}
+use Rattle.std.proofs.lemmas.Bool.{eqb-true}
+use Rattle.std.proofs.lemmas.Bool.Decides.{nat_tests}
+use Rattle.std.proofs.lemmas.List.Folds.{list_all-append, list_any-append}
+use Rattle.std.proofs.lemmas.List.Elements.{filter-append}
+use Rattle.std.specs.List.{AllByRecursion, filter, list_all, list_any}
+use Rattle.std.specs.Prelude.{IfOk, ◌==◌, if◌then◌else◌, nat_lt}
+use Rattle.script_text.specs.declared.command.Command.{Command}
+use Rattle.script_text.specs.declared.command.Command.TheVariants as command
+use Rattle.script_text.specs.declared.fault.ScriptFault.{ScriptFault}
+use Rattle.script_text.specs.declared.fleet.Fleet.{Fleet}
+use Rattle.script_text.specs.declared.item.Item.{Item}
+use Rattle.script_text.specs.declared.item.Item.TheVariants as item
+use Rattle.script_text.specs.declared.reading.Reading.{Reading}
+use Rattle.script_text.specs.declared.reading.Standing.{Standing}
+use Rattle.script_text.specs.declared.reading.Standing.TheVariants as standing
+use Rattle.script_text.specs.declared.reading.Step.{Step}
+use Rattle.script_text.specs.declared.script.Script.{Script}
+use Rattle.script_text.specs.declared.verb.Verb.{Verb}
+use Rattle.script_text.specs.declared.verb.Verb.TheVariants as verb
+use Rattle.script_text.specs.Bursts.{end_burst, inside, next_burst, next_lane, opened, stepped, with_burst, with_item}
+use Rattle.script_text.specs.Commands.{Fault, IsFleet, leaves}
+use Rattle.script_text.specs.Fits.{AreItems, IsBurst, IsCommand, IsItem, IsScript, OneSteward, is_one}
+use Rattle.script_text.specs.Lines.{is_blank}
+use Rattle.script_text.specs.Readings.{Begun, IsReading}
+use Rattle.script_text.specs.Script.{ParsesAs, begun, closed}
+use Rattle.script_text.specs.Stewards.{has_steward, have_steward, is_second, is_stewards}
+use Rattle.script_text.proofs.Steps.{AllByRecursion-more}
+
+-- ---- lists
+
+all_parts : {X : Type 0} (P : X → Type 0) (xs : List X) (x : X) → AllByRecursion P (xs ++ x ∷ []) → AllByRecursion P xs × P x
+all_parts P [] x all = (tt, all.0)
+all_parts P (y ∷ ys) x all = let parts = all_parts P ys x all.1 in ((all.0, parts.0), parts.1)
+
+abbrev one_if : Bool → ℕ
+one_if true = 1
+one_if false = 0
+
+one_passes : {X : Type 0} (p : X → Bool) (x : X) (b : Bool) → p x ≡ b → length (filter p (x ∷ [])) ≡ one_if b
+one_passes p x true is = rw is
+one_passes p x false is = rw is
+
+-- how many pass of a list and one more
+count_more : {X : Type 0} (p : X → Bool) (xs : List X) (x : X) → length (filter p (xs ++ x ∷ [])) ≡ length (filter p xs) + one_if (p x)
+count_more p xs x = ap length (filter-append p xs (x ∷ [])) ∙ length-append (filter p xs) (filter p (x ∷ [])) ∙ ap (λ n. length (filter p xs) + n) (one_passes p x (p x) refl)
+
+none_pass_by : {X : Type 0} (p : X → Bool) (x : X) (xs : List X) (b : Bool) → p x ≡ b → list_any p (x ∷ xs) ≡ false → (list_any p xs ≡ false → length (filter p xs) ≡ 0) → length (filter p (x ∷ xs)) ≡ 0
+none_pass_by p x xs true is none later = absurd (true≢false (subst (λ b. (b || list_any p xs) ≡ false) is none))
+none_pass_by p x xs false is none later = rw is (later (subst (λ b. (b || list_any p xs) ≡ false) is none))
+
+none_pass : {X : Type 0} (p : X → Bool) (xs : List X) → list_any p xs ≡ false → length (filter p xs) ≡ 0
+none_pass p [] none = refl
+none_pass p (x ∷ xs) none = none_pass_by p x xs (p x) refl none (none_pass p xs)
+
+length_more : {X : Type 0} (xs : List X) (x : X) → length (xs ++ x ∷ []) ≡ length xs + 1
+length_more xs x = length-append xs (x ∷ [])
+
+-- ---- the steward's commands of a burst
+
+second_of : (leaf : ℕ) (c : Command) (lanes : List (List Command)) → is_stewards leaf c ≡ true → is_second lanes c ≡ have_steward leaf lanes
+second_of leaf (command.Fleet machines per_machine tables) lanes is = absurd (true≢false (sym is))
+second_of leaf (command.Add number table rows) lanes is = absurd (true≢false (sym is))
+second_of leaf (command.Expire number table horizon) lanes is = absurd (true≢false (sym is))
+second_of leaf (command.Keep number table n) lanes is = absurd (true≢false (sym is))
+second_of leaf (command.Query query) lanes is = absurd (true≢false (sym is))
+second_of leaf (command.Flush number table) lanes is = ap (λ l. have_steward l lanes) (eqb-true number leaf is)
+second_of leaf (command.Drain number stop) lanes is = ap (λ l. have_steward l lanes) (eqb-true number leaf is)
+second_of leaf (command.Kill number) lanes is = ap (λ l. have_steward l lanes) (eqb-true number leaf is)
+second_of leaf (command.Start number) lanes is = ap (λ l. have_steward l lanes) (eqb-true number leaf is)
+
+one_if_few : (b : Bool) → one_if b ≤ 1
+one_if_few true = omega arith
+one_if_few false = omega arith
+
+or_false : (b : Bool) → (b || false) ≡ b
+or_false true = refl
+or_false false = refl
+
+stewards_more : (earlier : List (List Command)) (lane : List Command) (c : Command) → is_second earlier c ≡ false → OneSteward (earlier ++ lane ∷ []) → OneSteward (earlier ++ (lane ++ c ∷ []) ∷ [])
+stewards_more earlier lane c not one leaf = by (is_stewards leaf c) refl
+  where
+    by : (b : Bool) → is_stewards leaf c ≡ b → length (filter (has_steward leaf) (earlier ++ (lane ++ c ∷ []) ∷ [])) ≤ 1
+    by true is =
+        let none : length (filter (has_steward leaf) earlier) ≡ 0 = none_pass (has_steward leaf) earlier (sym (second_of leaf c earlier is) ∙ not) in
+        let few : one_if (has_steward leaf (lane ++ c ∷ [])) ≤ 1 = one_if_few (has_steward leaf (lane ++ c ∷ [])) in
+        let count = count_more (has_steward leaf) earlier (lane ++ c ∷ []) in
+        omega (arith, none, few, count)
+    by false is =
+        let same : has_steward leaf (lane ++ c ∷ []) ≡ has_steward leaf lane =
+        list_any-append (is_stewards leaf) lane (c ∷ []) ∙ ap (λ b. has_steward leaf lane || (b || false)) is ∙ or_false (has_steward leaf lane) in
+        let before : length (filter (has_steward leaf) earlier) + one_if (has_steward leaf lane) ≤ 1 = subst (λ n. n ≤ 1) (count_more (has_steward leaf) earlier lane) (one leaf) in
+        let count : length (filter (has_steward leaf) (earlier ++ (lane ++ c ∷ []) ∷ [])) ≡ length (filter (has_steward leaf) earlier) + one_if (has_steward leaf lane) =
+        count_more (has_steward leaf) earlier (lane ++ c ∷ []) ∙ ap (λ b. length (filter (has_steward leaf) earlier) + one_if b) same in
+        subst (λ n. n ≤ 1) (sym count) before
+
+stewards_lane : (lanes : List (List Command)) → OneSteward lanes → OneSteward (lanes ++ [] ∷ [])
+stewards_lane lanes one leaf =
+    let count = count_more (has_steward leaf) lanes [] in
+    let few : length (filter (has_steward leaf) lanes) ≤ 1 = one leaf in
+    omega (arith, count, few)
+
+-- ---- the lanes of a burst
+
+burst_more : (leaves : ℕ) (tables : List (List ℕ)) (earlier : List (List Command)) (lane : List Command) (c : Command) → is_second earlier c ≡ false → IsCommand leaves tables c → IsBurst leaves tables (earlier ++ lane ∷ []) → IsBurst leaves tables (earlier ++ (lane ++ c ∷ []) ∷ [])
+burst_more leaves tables earlier lane c not fits b =
+    let parts = all_parts (AllByRecursion (IsCommand leaves tables)) earlier lane b.each in
+    let old = length_more earlier lane in
+    let new = length_more earlier (lane ++ c ∷ []) in
+    let few : length (earlier ++ lane ∷ []) ≤ 16 = b.few in
+    record {
+      some = omega (arith, new);
+      few = omega (arith, old, new, few);
+      each = AllByRecursion-more (AllByRecursion (IsCommand leaves tables)) earlier (lane ++ c ∷ []) parts.0 (AllByRecursion-more (IsCommand leaves tables) lane c parts.1 fits);
+      stewards = stewards_more earlier lane c not b.stewards;
+    }
+
+burst_lane : (leaves : ℕ) (tables : List (List ℕ)) (lanes : List (List Command)) → length lanes < 16 → AllByRecursion (AllByRecursion (IsCommand leaves tables)) lanes → OneSteward lanes → IsBurst leaves tables (lanes ++ [] ∷ [])
+burst_lane leaves tables lanes few each one =
+    let new = length_more lanes [] in
+    record {
+      some = omega (arith, new);
+      few = omega (arith, new, few);
+      each = AllByRecursion-more (AllByRecursion (IsCommand leaves tables)) lanes [] each tt;
+      stewards = stewards_lane lanes one;
+    }
+
+-- ---- what was read
+
+begun_more : (fleet : Fleet) (script : Script) (one : Item) → Begun fleet script.items → IsItem (leaves fleet) fleet.tables one → Begun fleet (with_item script one).items
+begun_more fleet script one b fits = record { later = b.later ++ one ∷ []; all = ap (λ items. items ++ one ∷ []) b.all; each = AllByRecursion-more (IsItem (leaves fleet) fleet.tables) b.later one b.each fits }
+
+pub one_keeps : (fleet : Fleet) (script : Script) (c : Command) (rows : ℕ) → IsReading fleet (record { script = script; standing = standing.Outside }) → IsCommand (leaves fleet) fleet.tables c → IsReading fleet (stepped (with_item script (item.One c)) standing.Outside rows).reading
+one_keeps fleet script c rows r fits = record {
+  items = begun_more fleet script (item.One c) r.items fits;
+  standing = tt;
+  bursts = r.bursts ∙ ap (λ b. b && true) (sym (and-true (list_all is_one script.items)) ∙ sym (list_all-append is_one script.items (item.One c ∷ [])));
+}
+
+and_false : (b : Bool) → (b && false) ≡ false
+and_false true = refl
+and_false false = refl
+
+first_burst : (line n : ℕ) → 0 < n → ((if line == 0 then n else line) == 0) ≡ false
+first_burst zero zero some = absurd (omega (arith, some))
+first_burst zero (suc n) some = eqb-suc-zero n
+first_burst (suc line) n some = ap (λ b. (if b then n else suc line) == 0) (eqb-suc-zero line) ∙ eqb-suc-zero line
+
+next_burst_by : (n : ℕ) (fleet : Fleet) (script : Script) (blank : Bool) (words : List ℕ) (s : Step) → is_blank words ≡ blank → 0 < n → Begun fleet script.items → next_burst n script words ≡ Ok s → IsReading fleet s.reading
+next_burst_by n fleet script true words s is some b read =
+    let same : Ok (stepped (with_burst n script) standing.Opened 0) ≡ Ok s = rw is at read in
+    let there : stepped (with_burst n script) standing.Opened 0 ≡ s = cc in
+    let now : IsReading fleet (stepped (with_burst n script) standing.Opened 0).reading = record {
+      items = b;
+      standing = tt;
+      bursts = first_burst script.burst_line n some ∙ sym (and_false (list_all is_one script.items));
+    } in
+    subst (λ (t : Step). IsReading fleet t.reading) there now
+next_burst_by n fleet script false words s is some b read = absurd (grind (arith, read, is))
+
+pub burst_keeps : (n : ℕ) (fleet : Fleet) (script : Script) (words : List ℕ) (s : Step) → 0 < n → Begun fleet script.items → next_burst n script words ≡ Ok s → IsReading fleet s.reading
+burst_keeps n fleet script words s some b read = next_burst_by n fleet script (is_blank words) words s refl some b read
+
+next_lane_by : (n : ℕ) (fleet : Fleet) (script : Script) (lanes : List (List Command)) (blank few : Bool) (words : List ℕ) (s : Step) → is_blank words ≡ blank → nat_lt (length lanes) 16 ≡ few → Begun fleet script.items → (script.burst_line == 0) ≡ (list_all is_one script.items && false) → AllByRecursion (AllByRecursion (IsCommand (leaves fleet) fleet.tables)) lanes → OneSteward lanes → next_lane n script lanes words ≡ Ok s → IsReading fleet s.reading
+next_lane_by n fleet script lanes true true words s is low b bursts each one read =
+    let same : Ok (stepped script (standing.Lane lanes []) 0) ≡ Ok s = rw (is, low) at read in
+    let there : stepped script (standing.Lane lanes []) 0 ≡ s = cc in
+    let below : length lanes < 16 = grind (arith, nat_tests, low) in
+    let now : IsReading fleet (stepped script (standing.Lane lanes []) 0).reading = record { items = b; standing = burst_lane (leaves fleet) fleet.tables lanes below each one; bursts = bursts } in
+    subst (λ (t : Step). IsReading fleet t.reading) there now
+next_lane_by n fleet script lanes true false words s is low b bursts each one read = absurd (grind (arith, read, is, low))
+next_lane_by n fleet script lanes false few words s is low b bursts each one read = absurd (grind (arith, read, is))
+
+pub lane_keeps : (n : ℕ) (fleet : Fleet) (script : Script) (earlier : List (List Command)) (lane : List Command) (words : List ℕ) (s : Step) → IsReading fleet (record { script = script; standing = standing.Lane earlier lane }) → next_lane n script (earlier ++ lane ∷ []) words ≡ Ok s → IsReading fleet s.reading
+lane_keeps n fleet script earlier lane words s r read =
+    let lanes = earlier ++ lane ∷ [] in
+    let b : IsBurst (leaves fleet) fleet.tables lanes = r.standing in
+    next_lane_by n fleet script lanes (is_blank words) (nat_lt (length lanes) 16) words s refl refl r.items r.bursts b.each b.stewards read
+
+no_stewards : OneSteward []
+no_stewards leaf = omega arith
+
+inside_ok : (last : ℕ) (r : Result Step Fault) (s : Step) → inside last r ≡ Ok s → r ≡ Ok s
+inside_ok last (Ok x) s is = is
+inside_ok last (Err found) s is = absurd (grind (arith, is))
+
+pub opened_keeps : (last n : ℕ) (fleet : Fleet) (script : Script) (words : List ℕ) (v : Verb) (s : Step) → IsReading fleet (record { script = script; standing = standing.Opened }) → opened last n script words v ≡ Ok s → IsReading fleet s.reading
+opened_keeps last n fleet script words verb.Fleet s r read = absurd (grind (arith, read))
+opened_keeps last n fleet script words verb.Burst s r read = absurd (grind (arith, read))
+opened_keeps last n fleet script words verb.Lane s r read =
+    let lane : next_lane n script [] words ≡ Ok s = inside_ok last (next_lane n script [] words) s read in
+    next_lane_by n fleet script [] (is_blank words) true words s refl refl r.items r.bursts tt no_stewards lane
+opened_keeps last n fleet script words verb.End s r read = absurd (grind (arith, read))
+opened_keeps last n fleet script words (verb.Task task) s r read = absurd (grind (arith, read))
+
+pub command_keeps : (fleet : Fleet) (script : Script) (earlier : List (List Command)) (lane : List Command) (c : Command) (rows : ℕ) → is_second earlier c ≡ false → IsCommand (leaves fleet) fleet.tables c → IsReading fleet (record { script = script; standing = standing.Lane earlier lane }) → IsReading fleet (stepped script (standing.Lane earlier (lane ++ c ∷ [])) rows).reading
+command_keeps fleet script earlier lane c rows not fits r = record { items = r.items; standing = burst_more (leaves fleet) fleet.tables earlier lane c not fits r.standing; bursts = r.bursts }
+
+and_false_true : (b : Bool) → ((b && false) && true) ≡ false
+and_false_true true = refl
+and_false_true false = refl
+
+end_burst_by : (n : ℕ) (fleet : Fleet) (script : Script) (lanes : List (List Command)) (blank : Bool) (words : List ℕ) (s : Step) → is_blank words ≡ blank → Begun fleet script.items → (script.burst_line == 0) ≡ (list_all is_one script.items && false) → IsBurst (leaves fleet) fleet.tables lanes → end_burst n script lanes words ≡ Ok s → IsReading fleet s.reading
+end_burst_by n fleet script lanes true words s is begun_items bursts b read =
+    let same : Ok (stepped (with_item script (item.Burst lanes)) standing.Outside 0) ≡ Ok s = rw is at read in
+    let there : stepped (with_item script (item.Burst lanes)) standing.Outside 0 ≡ s = cc in
+    let now : IsReading fleet (stepped (with_item script (item.Burst lanes)) standing.Outside 0).reading = record {
+      items = begun_more fleet script (item.Burst lanes) begun_items b;
+      standing = tt;
+      bursts = bursts ∙ and_false (list_all is_one script.items) ∙ sym (and_false_true (list_all is_one script.items)) ∙ ap (λ b. b && true) (sym (list_all-append is_one script.items (item.Burst lanes ∷ [])));
+    } in
+    subst (λ (t : Step). IsReading fleet t.reading) there now
+end_burst_by n fleet script lanes false words s is begun_items bursts b read = absurd (grind (arith, read, is))
+
+pub end_keeps : (n : ℕ) (fleet : Fleet) (script : Script) (earlier : List (List Command)) (lane : List Command) (words : List ℕ) (s : Step) → IsReading fleet (record { script = script; standing = standing.Lane earlier lane }) → end_burst n script (earlier ++ lane ∷ []) words ≡ Ok s → IsReading fleet s.reading
+end_keeps n fleet script earlier lane words s r read = end_burst_by n fleet script (earlier ++ lane ∷ []) (is_blank words) words s refl r.items r.bursts r.standing read
+
+pub end_keeps_as : (n : ℕ) (fleet : Fleet) (script : Script) (earlier : List (List Command)) (lane : List Command) (lanes : List (List Command)) (words : List ℕ) (r : Result Step ScriptFault) → IsReading fleet (record { script = script; standing = standing.Lane earlier lane }) → lanes ≡ earlier ++ lane ∷ [] → ParsesAs (λ step. step) r (end_burst n script lanes words) → IfOk r (λ step. IsReading fleet step.reading)
+end_keeps_as n fleet script earlier lane lanes words (Ok s) reading is exact = end_keeps n fleet script earlier lane words s reading (ap (λ ls. end_burst n script ls words) (sym is) ∙ exact)
+end_keeps_as n fleet script earlier lane lanes words (Err e) reading is exact = tt
+
+pub opened_keeps_as : (last n : ℕ) (fleet : Fleet) (script : Script) (words : List ℕ) (v : Verb) (r : Result Step ScriptFault) → IsReading fleet (record { script = script; standing = standing.Opened }) → ParsesAs (λ step. step) r (opened last n script words v) → IfOk r (λ step. IsReading fleet step.reading)
+opened_keeps_as last n fleet script words v (Ok s) reading exact = opened_keeps last n fleet script words v s reading exact
+opened_keeps_as last n fleet script words v (Err e) reading exact = tt
+
+-- ---- the whole script
+
+pub begun_reading : (n : ℕ) (fleet : Fleet) → IsReading fleet (begun n fleet)
+begun_reading n fleet = record { items = record { later = []; all = refl; each = tt }; standing = tt; bursts = refl }
+
+fits_all : (fleet : Fleet) (script : Script) → IsFleet fleet → IsReading fleet (record { script = script; standing = standing.Outside }) → IsScript script
+fits_all fleet script f r = record {
+  items = subst AreItems (sym r.items.all) (f.0, f.1, r.items.each);
+  bursts = r.bursts ∙ and-true (list_all is_one script.items);
+}
+
+closed_by : (last : ℕ) (fleet : Fleet) (script s : Script) (there : Standing) → IsFleet fleet → IsReading fleet (record { script = script; standing = there }) → closed last script there ≡ Ok s → IsScript s
+closed_by last fleet script s standing.Outside f r read = let same : script ≡ s = cc in subst IsScript same (fits_all fleet script f r)
+closed_by last fleet script s standing.Opened f r read = absurd (grind (arith, read))
+closed_by last fleet script s (standing.Lane earlier lane) f r read = absurd (grind (arith, read))
+
+pub closed_fits : (last : ℕ) (fleet : Fleet) (reading : Reading) (s : Script) → IsFleet fleet → IsReading fleet reading → closed last reading.script reading.standing ≡ Ok s → IsScript s
+closed_fits last fleet reading s f r read = closed_by last fleet reading.script s reading.standing f r read
+
+pub closed_fits_as : (last : ℕ) (fleet : Fleet) (reading : Reading) (r : Result Script ScriptFault) → IsFleet fleet → IsReading fleet reading → ParsesAs (λ s. s) r (closed last reading.script reading.standing) → IfOk r IsScript
+closed_fits_as last fleet reading (Ok s) f is read = closed_fits last fleet reading s f is read
+closed_fits_as last fleet reading (Err e) f is read = tt

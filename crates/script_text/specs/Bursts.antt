@@ -1,0 +1,104 @@
+-- What a line behind a fleet does to what was read before it, outside bursts and inside one.
+use Rattle.std.specs.Prelude.{ℕ, ◌==◌, List, [], ◌∷◌, ◌++◌, length, nat_lt, if◌then◌else◌, Option, Some, None, Result, Ok, Err}
+use Rattle.script_text.specs.declared.command.Command.{Command}
+use Rattle.script_text.specs.declared.fault.ScriptFault.{ScriptFault}
+use Rattle.script_text.specs.declared.fault.ScriptFault.TheVariants.{At, NoMemory}
+use Rattle.script_text.specs.declared.fault.Why.TheVariants as why
+use Rattle.script_text.specs.declared.fleet.Fleet.{Fleet}
+use Rattle.script_text.specs.declared.item.Item.{Item}
+use Rattle.script_text.specs.declared.item.Item.TheVariants as item
+use Rattle.script_text.specs.declared.reading.Reading.{Reading}
+use Rattle.script_text.specs.declared.reading.Standing.{Standing}
+use Rattle.script_text.specs.declared.reading.Step.{Step}
+use Rattle.script_text.specs.declared.reading.Standing.TheVariants as standing
+use Rattle.script_text.specs.declared.script.Script.{Script}
+use Rattle.script_text.specs.declared.verb.Verb.{Verb}
+use Rattle.script_text.specs.declared.verb.Verb.TheVariants as verb
+use Rattle.script_text.specs.Lines.{is_blank}
+use Rattle.script_text.specs.Stewards.{is_second}
+use Rattle.script_text.specs.Words.{first_word, behind_word}
+use Rattle.script_text.specs.Commands.{Fault, command_of, row_count, verb_of}
+
+-- the items of a script, and one more
+abbrev pub with_item : Script → Item → Script
+with_item script one = record { fleet_line = script.fleet_line; burst_line = script.burst_line; items = script.items ++ one ∷ [] }
+
+-- a script with a burst that begins on line n
+abbrev pub with_burst : ℕ → Script → Script
+with_burst n script = record { fleet_line = script.fleet_line; burst_line = if script.burst_line == 0 then n else script.burst_line; items = script.items }
+
+-- what was read, where the next line stands there, behind so many rows
+abbrev pub stepped : Script → Standing → ℕ → Step
+stepped script there rows = record { reading = record { script = script; standing = there }; rows = rows }
+
+-- a fault of a line behind which a burst is open: on the text's last line it is Place, whatever it is
+abbrev pub fault_inside : ℕ → ScriptFault → ScriptFault
+fault_inside last (At n found) = At n (if n == last then why.Place else found)
+fault_inside last NoMemory = NoMemory
+
+-- what is read of a line behind which a burst is open, with such a fault
+abbrev pub inside : {X : Type 0} → ℕ → Result X Fault → Result X Fault
+inside last (Ok x) = Ok x
+inside last (Err found) = Err (found.0, if found.0 == last then why.Place else found.1)
+
+-- a command outside bursts
+abbrev pub one_more : Script → Result Command Fault → Result Step Fault
+one_more script (Ok c) = Ok (stepped (with_item script (item.One c)) standing.Outside (row_count c))
+one_more script (Err found) = Err found
+
+-- `burst`
+abbrev pub next_burst : ℕ → Script → List ℕ → Result Step Fault
+next_burst n script words = if is_blank words then Ok (stepped (with_burst n script) standing.Opened 0) else Err (n, why.Words)
+
+-- `lane`, behind these lanes
+abbrev pub next_lane : ℕ → Script → List (List Command) → List ℕ → Result Step Fault
+next_lane n script lanes words = if is_blank words then (if nat_lt (length lanes) 16 then Ok (stepped script (standing.Lane lanes []) 0) else Err (n, why.Lanes))
+    else Err (n, why.Words)
+
+-- `end`, behind these lanes
+abbrev pub end_burst : ℕ → Script → List (List Command) → List ℕ → Result Step Fault
+end_burst n script lanes words = if is_blank words then Ok (stepped (with_item script (item.Burst lanes)) standing.Outside 0) else Err (n, why.Words)
+
+-- a command of a lane that stands behind others
+abbrev pub lane_more : ℕ → Script → List (List Command) → List Command → Result Command Fault → Result Step Fault
+lane_more n script earlier lane (Ok c) = if is_second earlier c then Err (n, why.TwoStewards) else Ok (stepped script (standing.Lane earlier (lane ++ c ∷ [])) (row_count c))
+lane_more n script earlier lane (Err found) = Err found
+
+-- a line outside bursts; a burst that begins on the last line is left open
+abbrev pub outside : ℕ → ℕ → Fleet → Script → List ℕ → List (List ℕ) → Verb → Result Step Fault
+outside last n fleet script words more verb.Fleet = Err (n, why.Place)
+outside last n fleet script words more verb.Burst = inside last (next_burst n script words)
+outside last n fleet script words more verb.Lane = Err (n, why.Place)
+outside last n fleet script words more verb.End = Err (n, why.Place)
+outside last n fleet script words more (verb.Task task) = one_more script (command_of n fleet task words more)
+
+-- a line of a burst before its first lane
+abbrev pub opened : ℕ → ℕ → Script → List ℕ → Verb → Result Step Fault
+opened last n script words verb.Fleet = Err (n, why.Place)
+opened last n script words verb.Burst = Err (n, why.Place)
+opened last n script words verb.Lane = inside last (next_lane n script [] words)
+opened last n script words verb.End = Err (n, why.Place)
+opened last n script words (verb.Task task) = Err (n, why.Place)
+
+-- a line of a burst's lane, behind earlier ones
+abbrev pub in_lane : ℕ → ℕ → Fleet → Script → List (List Command) → List Command → List ℕ → List (List ℕ) → Verb → Result Step Fault
+in_lane last n fleet script earlier lane words more verb.Fleet = Err (n, why.Place)
+in_lane last n fleet script earlier lane words more verb.Burst = Err (n, why.Place)
+in_lane last n fleet script earlier lane words more verb.Lane = inside last (next_lane n script (earlier ++ lane ∷ []) words)
+in_lane last n fleet script earlier lane words more verb.End = end_burst n script (earlier ++ lane ∷ []) words
+in_lane last n fleet script earlier lane words more (verb.Task task) = inside last (lane_more n script earlier lane (command_of n fleet task words more))
+
+-- a line by where it stands
+abbrev pub verb_at : ℕ → ℕ → Fleet → Script → Standing → List ℕ → List (List ℕ) → Verb → Result Step Fault
+verb_at last n fleet script standing.Outside words more verb = outside last n fleet script words more verb
+verb_at last n fleet script standing.Opened words more verb = opened last n script words verb
+verb_at last n fleet script (standing.Lane earlier lane) words more verb = in_lane last n fleet script earlier lane words more verb
+
+-- a line whose first word is that of a command
+abbrev pub step_with : ℕ → ℕ → Fleet → Reading → List ℕ → List (List ℕ) → Option Verb → Result Step Fault
+step_with last n fleet reading words more (Some verb) = verb_at last n fleet reading.script reading.standing words more verb
+step_with last n fleet reading words more None = Err (n, why.Command)
+
+-- Line n of a text with so many lines, behind this fleet and what was read, where those lines follow.
+abbrev pub step_of : ℕ → ℕ → Fleet → Reading → List ℕ → List (List ℕ) → Result Step Fault
+step_of last n fleet reading line more = step_with last n fleet reading (behind_word line) more (verb_of (first_word line))

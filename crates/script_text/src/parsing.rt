@@ -1,0 +1,159 @@
+// A script from its text.
+ghost use Rattle.std.specs.Prelude.{◌≡◌, ◌+◌, ◌<◌, ◌≤◌, ◌^◌, Ok, Err, IfOk, IfErr, IfSome, option_map, length, drop};
+ghost use Rattle.script_text.specs.Lines.{lines_of};
+ghost use Rattle.script_text.specs.Commands.{IsFleet};
+ghost use Rattle.script_text.specs.Fits.{IsScript};
+ghost use Rattle.script_text.specs.Script.{NumberedLine, begun, closed, read_from, script_of, IfAt, ParsesAs, next_line};
+
+use crate::command::Command;
+use crate::fault::{ScriptFault, Why, fault_at};
+use crate::fleet::{Fleet, first_command};
+use crate::item::{Item, Items};
+use crate::lines::{behind_lines, cut_line, is_skipped, without_return};
+use crate::reading::{Reading, Standing, read_line};
+use crate::script::Script;
+use std::alloc::{AllocError, Global};
+
+/// A line that may be a command, its number from 1, and the text behind it.
+#[derive(Clone, Copy)]
+struct Line<'a> {
+    number: u64,
+    bytes: &'a [u8],
+    after: &'a [u8],
+}
+
+/// The script that a text is, or the first line that has a fault.
+pub fn parse(alloc: Global, text: &[u8]) -> Result<Script, ScriptFault>
+    ensures parsed { IfOk result (λ script. script_of text.now ≡ Ok script) }
+    ensures refused { IfErr result (λ fault. IfAt fault (λ line why. script_of text.now ≡ Err (line, why))) }
+    // What is known of a script that was read.
+    ensures fits { IfOk result IsScript }
+{
+    let Some(first) = next_line(text, 0) else {
+        return Ok(Script {
+            fleet_line: 0,
+            burst_line: 0,
+            items: Items::of(Vec::new(alloc)),
+        });
+    };
+    let fleet = first_command(alloc, first.bytes, first.number)?;
+    script_behind(alloc, &fleet, line_count(text), first.number, first.after)
+}
+
+/// The script that begins with this fleet, which stands on the line of this number, where this text follows it and the
+/// text's last line has that number.
+fn script_behind(
+    alloc: Global,
+    fleet: &Fleet,
+    last: u64,
+    fleet_line: u64,
+    text: &[u8],
+) -> Result<Script, ScriptFault>
+    requires fleet { IsFleet fleet.now }
+    requires place { fleet_line + length text.now < 2 ^ 64 }
+    ensures exact { ParsesAs (λ script. script) result (read_from last fleet.now 0 (fleet_line + 1) (begun fleet_line fleet.now) (lines_of text.now)) }
+    ensures fits { IfOk result IsScript }
+{
+    let mut reading = begun(alloc, fleet, fleet_line)?;
+    let mut rest = text;
+    let mut last_line = fleet_line;
+    while let Some(line) = next_line(rest, last_line) {
+        let step = read_line(
+            alloc,
+            fleet,
+            last,
+            reading,
+            line.bytes,
+            line.number,
+            line.after,
+        )?;
+        rest = behind_rows(line.after, step.rows);
+        last_line = line.number + step.rows;
+        reading = step.reading;
+    }
+    closed(last, reading)
+}
+
+/// What was read where the fleet stands on this line, before the lines behind it.
+fn begun(alloc: Global, fleet: &Fleet, fleet_line: u64) -> Result<Reading, AllocError>
+    ensures { IfOk result (λ reading. reading ≡ begun fleet_line fleet.now) }
+{
+    let mut items = Vec::new(alloc);
+    items.push(Item::One(Command::Fleet {
+        machines: fleet.machines,
+        per_machine: fleet.per_machine,
+        tables: fleet.tables.copy()?,
+    }))?;
+    let script = Script {
+        fleet_line,
+        burst_line: 0,
+        items: Items::of(items),
+    };
+    Ok(Reading {
+        script,
+        standing: Standing::Outside,
+    })
+}
+
+/// The script, where the last line leaves no burst open.
+fn closed(last: u64, reading: Reading) -> Result<Script, ScriptFault>
+    ensures exact { ParsesAs (λ script. script) result (closed last reading.script reading.standing) }
+{
+    match reading.standing {
+        Standing::Outside => Ok(reading.script),
+        Standing::Opened | Standing::Lane { .. } => Err(fault_at(last, Why::Place)),
+    }
+}
+
+/// How many lines a text has.
+fn line_count(text: &[u8]) -> u64
+    ensures { result ≡ length (lines_of text.now) }
+{
+    let mut count = 0;
+    let mut rest = text;
+    while !rest.is_empty() {
+        let (_, after) = cut_line(rest);
+        count += 1;
+        rest = after;
+    }
+    count
+}
+
+/// The text behind so many lines, which it has.
+fn behind_rows(text: &[u8], count: u64) -> &[u8]
+    requires { count ≤ length (lines_of text.now) }
+    ensures lines { lines_of result.now ≡ drop count (lines_of text.now) }
+    ensures shorter { count + length result.now ≤ length text.now }
+{
+    match behind_lines(text, count) {
+        Some(rest) => rest,
+        None => unreachable!(),
+    }
+}
+
+/// The first line that may be a command, where so many lines stand before the text.
+fn next_line(text: &[u8], lines_before: u64) -> Option<Line>
+    requires { lines_before + length text.now < 2 ^ 64 }
+    ensures exact { option_map {U = NumberedLine} (λ line. record { number = line.number; bytes = line.bytes.now; after = lines_of line.after.now }) result
+        ≡ next_line (lines_before + 1) (lines_of text.now) }
+    ensures place { IfSome result (λ line. line.number + length line.after.now ≤ lines_before + length text.now) }
+    ensures shorter { IfSome result (λ line. length line.after.now < length text.now) }
+    ensures some { IfSome result (λ line. 0 < line.number) }
+{
+    let mut rest = text;
+    let mut number = lines_before;
+    while !rest.is_empty() {
+        let (piece, after) = cut_line(rest);
+        number += 1;
+        rest = after;
+        let bytes = without_return(piece);
+        if !is_skipped(bytes) {
+            return Some(Line {
+                number,
+                bytes,
+                after,
+            });
+        }
+    }
+    None
+}

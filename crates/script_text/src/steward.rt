@@ -1,0 +1,50 @@
+// The commands of a leaf's steward among the lanes of a burst.
+ghost use Rattle.std.specs.Prelude.{◌≡◌};
+ghost use Rattle.script_text.specs.Stewards.{has_steward, have_steward, is_second, is_stewards};
+
+use crate::command::{Command, Commands};
+
+/// Whether the command is a steward's, of whose leaf one of these lanes has another.
+pub fn is_second(lanes: &[Commands], command: &Command) -> bool
+    ensures { result ≡ is_second lanes.now command.now }
+{
+    match command {
+        Command::Fleet { .. } => false,
+        Command::Add { .. } => false,
+        Command::Expire { .. } => false,
+        Command::Keep { .. } => false,
+        Command::Query(_) => false,
+        Command::Flush { leaf, .. } => have_steward(*leaf, lanes),
+        Command::Drain { leaf, .. } => have_steward(*leaf, lanes),
+        Command::Kill(leaf) => have_steward(*leaf, lanes),
+        Command::Start(leaf) => have_steward(*leaf, lanes),
+    }
+}
+
+fn have_steward(leaf: u32, lanes: &[Commands]) -> bool
+    ensures { result ≡ have_steward leaf lanes.now }
+{
+    lanes.iter().any(|lane| has_steward(leaf, lane.as_slice()))
+}
+
+fn has_steward(leaf: u32, lane: &[Command]) -> bool
+    ensures { result ≡ has_steward leaf lane.now }
+{
+    lane.iter().any(|command| is_stewards(leaf, command))
+}
+
+fn is_stewards(leaf: u32, command: &Command) -> bool
+    ensures { result ≡ is_stewards leaf command.now }
+{
+    match command {
+        Command::Fleet { .. } => false,
+        Command::Add { .. } => false,
+        Command::Expire { .. } => false,
+        Command::Keep { .. } => false,
+        Command::Query(_) => false,
+        Command::Flush { leaf: number, .. } => *number == leaf,
+        Command::Drain { leaf: number, .. } => *number == leaf,
+        Command::Kill(number) => *number == leaf,
+        Command::Start(number) => *number == leaf,
+    }
+}

@@ -1,0 +1,71 @@
+// The leaf that a command names, and the table.
+ghost use Rattle.std.specs.Prelude.{◌≡◌, ◌<◌, IfOk, length, option_map};
+ghost use Rattle.script_text.specs.Words.{words_of};
+ghost use Rattle.script_text.specs.Commands.{IsFleet, TargetForm, capped_target, leaf_in, leaves, target_in, target_words};
+ghost use Rattle.script_text.specs.Script.{ParsesAs};
+
+use crate::fault::{ScriptFault, Why, fault_at};
+use crate::fleet::Fleet;
+use crate::words::{next_word, number_of, place_of};
+use leaf_model::is_table_name;
+
+/// A leaf, and a table by its place.
+#[derive(Clone, Copy, Debug)]
+pub struct Target {
+    pub leaf: u32,
+    pub table: u32,
+}
+
+/// The words of a command that names a leaf, a table and one thing more. A leaf's number that is greater than a `u64`
+/// can hold is the greatest `u64`.
+#[derive(Clone, Copy)]
+pub struct TargetWords<'a> {
+    pub leaf: u64,
+    pub table: &'a [u8],
+    pub last: &'a [u8],
+}
+
+/// The words `L T W`.
+pub fn target_words(words: &[u8]) -> Option<TargetWords>
+    ensures { option_map {U = TargetForm} (λ form. record { leaf = form.leaf; table = form.table.now; last = form.last.now }) result
+        ≡ option_map capped_target (target_words (words_of words.now)) }
+{
+    let (leaf, rest) = next_word(words)?;
+    let (table, rest) = next_word(rest)?;
+    let (last, rest) = next_word(rest)?;
+    if next_word(rest).is_some() {
+        return None;
+    }
+    let leaf = number_of(leaf)?;
+    if is_table_name(table) {
+        Some(TargetWords { leaf, table, last })
+    } else {
+        None
+    }
+}
+
+/// The leaf of this number, where the fleet has it.
+pub fn leaf_in(fleet: &Fleet, leaf: u64, number: u64) -> Result<u32, ScriptFault>
+    requires { IsFleet fleet.now }
+    ensures exact { ParsesAs (λ leaf. leaf) result (leaf_in number fleet.now leaf) }
+    ensures below { IfOk result (λ leaf. leaf < leaves fleet.now) }
+{
+    if leaf >= fleet.leaves() as u64 {
+        return Err(fault_at(number, Why::Leaf));
+    }
+    Ok(leaf as u32)
+}
+
+/// The leaf of this number and the table of this name, where the fleet has them.
+pub fn target_in(fleet: &Fleet, leaf: u64, table: &[u8], number: u64) -> Result<Target, ScriptFault>
+    requires { IsFleet fleet.now }
+    ensures exact { ParsesAs (λ target. target) result (target_in number fleet.now leaf table.now) }
+    ensures leaf { IfOk result (λ target. target.leaf < leaves fleet.now) }
+    ensures table { IfOk result (λ target. target.table < length fleet.now.tables) }
+{
+    let leaf = leaf_in(fleet, leaf, number)?;
+    match place_of(fleet.tables.as_slice(), table) {
+        Some(table) => Ok(Target { leaf, table }),
+        None => Err(fault_at(number, Why::Table)),
+    }
+}
