@@ -6,7 +6,7 @@ use Rattle.leaf_history.specs.Replies.{Reply}
 use Rattle.leaf_history.specs.Replies as reply
 use Rattle.leaf_history.specs.History.{Entry, HistoryState, LegalFrom, Allowed, after, after_entry}
 use Rattle.leaf_history.specs.Laws.{AreCallers, HasSoundCounts, CallersKeep}
-use Rattle.leaf_history.proofs.Histories.{LegalFrom-front, LegalFrom-back, after-append, counts_stay, keeps_all, others_keep}
+use Rattle.leaf_history.proofs.Histories.{LegalFrom-front, LegalFrom-back, after-append, counts_stay, others_keep}
 use Rattle.crash_moments.specs.Left.{NamedStates}
 use Rattle.crash_moments.specs.Watched.{IsFoundation}
 use Rattle.leaf_table.specs.Turns.{Shared, is_founded, start_of}
@@ -45,12 +45,6 @@ learned_keep base t v w es seen callers legal =
     let keeps : CallersKeep (after true b h) (after true (after true b h) es) = others_keep true (after true b h) es (LegalFrom-back true b h es whole) callers in
     let now : after true b (seen_of w) ≡ after true (after true b h) es = ap (λ (l : List Entry). after true b l) seen ∙ after-append true b h es in
     subst (λ (s : HistoryState). CallersKeep (after true b h) s) (sym now) keeps
-
--- a seat that has learned nothing
-pub same_keep : (base : NamedStates) (t : Shared) (v w : SeatView) → seen_of w ≡ seen_of v → CallersKeep (state_with base t v) (state_with base t w)
-same_keep base t v w same =
-    let b : HistoryState = base (name_of t) in
-    subst (λ (l : List Entry). CallersKeep (after true b (seen_of v)) (after true b l)) (sym same) (keeps_all (after true b (seen_of v)))
 
 -- all that was taken is flushed still
 pub settled_kept : (base : NamedStates) (t : Shared) (v w : SeatView) (n : ℕ) → CallersKeep (state_with base t v) (state_with base t w) → IsSettled base t v n → IsSettled base t w n

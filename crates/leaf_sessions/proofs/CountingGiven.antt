@@ -3,7 +3,7 @@ use Rattle.std.proofs.Common.{◌≡◌, ℕ, List, [], length, sym, ap, subst, 
 use Rattle.berth_face.specs.Berth.{Meaning, Pair}
 use Rattle.crash_moments.specs.Left.{NamedStates}
 use Rattle.leaf_table.specs.Turns.{Shared}
-use Rattle.leaf_table.specs.Calls.{SeatView, name_of}
+use Rattle.leaf_table.specs.Calls.{name_of}
 use Rattle.leaf_steward.specs.declared.notes.Note.{Note}
 use Rattle.leaf_steward.specs.Seated.{AreFounded}
 use Rattle.leaf_steward.proofs.Keeping.{makes_tables}
@@ -16,8 +16,8 @@ use Rattle.leaf_sessions.specs.Session.{AreGrounded, AreInPlace, AtCounts, IsDur
 use Rattle.leaf_sessions.proofs.CountingNotes.{AreReady, AreStewards, founded_all, length_durable, tables_founded}
 
 -- the leaf before and behind the command, and what stands of it
-pub record Given (names : List (List ℕ)) (k : Known) (counts : List ℕ) (m m' : Meaning) (callers : List SeatView) (notes : List Note) (leaf leaf' : Leaf) : Type 0 where
-  pub in_place : AreInPlace names (seated_of leaf) callers
+pub record Given (names : List (List ℕ)) (k : Known) (counts : List ℕ) (m m' : Meaning) (notes : List Note) (leaf leaf' : Leaf) : Type 0 where
+  pub in_place : AreInPlace names (seated_of leaf)
   pub grounded : AreGrounded (Some k) (seated_of leaf)
   pub stewards : AreStewards (seated_of leaf)
   pub known : StandsKnown k leaf m
@@ -37,9 +37,9 @@ durable_held base counts (IsDown x) m m' held durable =
 durable_held base counts (IsUp x) m m' held durable = durable
 durable_held base counts (IsPreparing x) m m' held durable = durable
 
-module _ (names : List (List ℕ)) (k : Known) (counts : List ℕ) (m m' : Meaning) (callers : List SeatView) (notes : List Note) where
+module _ (names : List (List ℕ)) (k : Known) (counts : List ℕ) (m m' : Meaning) (notes : List Note) where
   abbrev GivenOf : Leaf → Leaf → Type 0
-  GivenOf leaf leaf' = Given names k counts m m' callers notes leaf leaf'
+  GivenOf leaf leaf' = Given names k counts m m' notes leaf leaf'
 
   -- what is to be shown
   abbrev Later : Leaf → Type 0
@@ -57,10 +57,10 @@ module _ (names : List (List ℕ)) (k : Known) (counts : List ℕ) (m m' : Meani
 
   module _ (leaf leaf' : Leaf) (g : GivenOf leaf leaf') where
     pub ready_of : AreReady k.base (seated_of leaf)
-    ready_of = record { founded = tables_founded names k (seated_of leaf) callers g.in_place g.grounded; stewards = g.stewards }
+    ready_of = record { founded = tables_founded names k (seated_of leaf) g.in_place g.grounded; stewards = g.stewards }
 
     pub founded_of : AreFounded (seated_of leaf)
-    founded_of = founded_all k.base (seated_of leaf) (tables_founded names k (seated_of leaf) callers g.in_place g.grounded)
+    founded_of = founded_all k.base (seated_of leaf) (tables_founded names k (seated_of leaf) g.in_place g.grounded)
 
     -- what stands behind it
     pub stands_behind : Stands k.base leaf' m'

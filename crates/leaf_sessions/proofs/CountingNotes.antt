@@ -43,16 +43,16 @@ pub record AreReady (base : NamedStates) (x : Seated) : Type 0 where
   pub stewards : AreStewards x
 
 -- as many tables as names, and a seat at each
-pub tables_count : (names : List (List ℕ)) (x : Seated) (callers : List SeatView) → AreInPlace names x callers → length x.tables ≡ length names
-tables_count names x callers in_place = sym (length_mapped name_of x.tables) ∙ ap (λ (ns : List (List ℕ)). length ns) in_place.named
+pub tables_count : (names : List (List ℕ)) (x : Seated) → AreInPlace names x → length x.tables ≡ length names
+tables_count names x in_place = sym (length_mapped name_of x.tables) ∙ ap (λ (ns : List (List ℕ)). length ns) in_place.named
 
-pub seat_at : (names : List (List ℕ)) (x : Seated) (callers : List SeatView) (place : ℕ) (t : Shared) → AreInPlace names x callers → slice_get x.tables place ≡ Some t
+pub seat_at : (names : List (List ℕ)) (x : Seated) (place : ℕ) (t : Shared) → AreInPlace names x → slice_get x.tables place ≡ Some t
     → (v : SeatView) × (slice_get x.seats place ≡ Some v)
-seat_at names x callers place t in_place at =
-    element_at x.seats place (omega (arith, within x.tables place t at, tables_count names x callers in_place, in_place.seats))
+seat_at names x place t in_place at =
+    element_at x.seats place (omega (arith, within x.tables place t at, tables_count names x in_place, in_place.seats))
 
-pub tables_founded : (names : List (List ℕ)) (k : Known) (x : Seated) (callers : List SeatView) → AreInPlace names x callers → AreGrounded (Some k) x → TablesFounded k.base x
-tables_founded names k x callers in_place grounded = λ place t at. let seat = seat_at names x callers place t in_place at in grounded place t seat.0 at seat.1
+pub tables_founded : (names : List (List ℕ)) (k : Known) (x : Seated) → AreInPlace names x → AreGrounded (Some k) x → TablesFounded k.base x
+tables_founded names k x in_place grounded = λ place t at. let seat = seat_at names x place t in_place at in grounded place t seat.0 at seat.1
 
 all_of : {X : Type 0} (P : X → Type 0) (xs : List X) → ((i : ℕ) (x : X) → slice_get xs i ≡ Some x → P x) → AllByRecursion P xs
 all_of P [] each = tt

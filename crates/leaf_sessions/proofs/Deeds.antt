@@ -10,7 +10,6 @@ use Rattle.printed_lines.specs.declared.line.Said.TheVariants as said
 use Rattle.printed_lines.specs.declared.line.Ending.{Ending}
 use Rattle.printed_lines.specs.declared.line.Ending.TheVariants as ending
 use Rattle.crash_moments.specs.Left.{NamedStates}
-use Rattle.leaf_table.specs.Calls.{SeatView}
 use Rattle.leaf_steward.specs.declared.notes.Note.{Note}
 use Rattle.leaf_steward.specs.declared.notes.What.{What}
 use Rattle.leaf_steward.specs.declared.notes.What.TheVariants as what
@@ -122,13 +121,13 @@ refusal told (fault.Stranger name) not = tt
 refusal told fault.NoMemory not = tt
 refusal told (fault.Worn table) not = tt
 
-undamaged : (names : List (List ℕ)) (known : Option Known) (m : Meaning) (leaf : Leaf) (callers : List SeatView) (x : Seated) (f : StartFault)
-    → AreInPlace names (seated_of leaf) callers → AreGrounded known (seated_of leaf) → IfSome known (λ (k : Known). StandsKnown k leaf m) → leaf ≡ IsDown x
+undamaged : (names : List (List ℕ)) (known : Option Known) (m : Meaning) (leaf : Leaf) (x : Seated) (f : StartFault)
+    → AreInPlace names (seated_of leaf) → AreGrounded known (seated_of leaf) → IfSome known (λ (k : Known). StandsKnown k leaf m) → leaf ≡ IsDown x
     → ((base : NamedStates) → IsTrue m.tells → AreFounded x → Stands base leaf m → f ≢ fault.DiskDamaged)
     → is_some known ≡ true → f ≢ fault.DiskDamaged
-undamaged names None m leaf callers x f in_place grounded stands is sound e = absurd (clash_bool false e refl)
-undamaged names (Some k) m leaf callers x f in_place grounded stands is sound e =
-    sound k.base stands.tells (subst (λ (l : Leaf). AreFounded (seated_of l)) is (founded_known names k (seated_of leaf) callers in_place grounded)) stands.stands
+undamaged names None m leaf x f in_place grounded stands is sound e = absurd (clash_bool false e refl)
+undamaged names (Some k) m leaf x f in_place grounded stands is sound e =
+    sound k.base stands.tells (subst (λ (l : Leaf). AreFounded (seated_of l)) is (founded_known names k (seated_of leaf) in_place grounded)) stands.stands
 
 left_way : (way : Option Way) (m m' : Meaning) → m'.held.region ≡ left_behind m.held.region → IfSome way (IsWayOf m.held.region)
     → IfSome (option_map way_after way) (IsWayOf m'.held.region)
@@ -163,25 +162,25 @@ way_refuses (Some k) life m m' leaf x f fits told = refused_way f life.way m m' 
 
 -- ---- starts
 
-pub start_lives : (names : List (List ℕ)) (known : Option Known) (life : Life) (m m' : Meaning) (leaf : Leaf) (callers : List SeatView) (notes : List Note) (ends : Ending) (leaf' : Leaf)
-    → AreInPlace names (seated_of leaf) callers → AreGrounded known (seated_of leaf) → IfSome known (λ (k : Known). StandsKnown k leaf m)
+pub start_lives : (names : List (List ℕ)) (known : Option Known) (life : Life) (m m' : Meaning) (leaf : Leaf) (notes : List Note) (ends : Ending) (leaf' : Leaf)
+    → AreInPlace names (seated_of leaf) → AreGrounded known (seated_of leaf) → IfSome known (λ (k : Known). StandsKnown k leaf m)
     → FitsMode life.mode leaf → FitsNext known life leaf m → OpensCounts known life m m' leaf notes
     → StartMoves m m' leaf notes ends leaf' → Lived known (length names) Starts life (noted_all notes) ends leaf' m'
-start_lives names known life m m' leaf callers notes ends leaf' in_place grounded stands mode fits opens (steps.opened x s way is none each told ends_are now) =
+start_lives names known life m m' leaf notes ends leaf' in_place grounded stands mode fits opens (steps.opened x s way is none each told ends_are now) =
     start_opened known (length names) life m m' leaf x s notes way ends leaf'
-    (ap (λ (l : Leaf). length (seated_of l).tables) (sym is) ∙ as_many names (seated_of leaf) callers in_place)
+    (ap (λ (l : Leaf). length (seated_of l).tables) (sym is) ∙ as_many names (seated_of leaf) in_place)
     (subst (λ (l : Leaf). FitsMode life.mode l) is mode) fits opens is none each (where_known known leaf m (StartsTold x m m' s notes way) stands told) ends_are now
-start_lives names known life m m' leaf callers notes ends leaf' in_place grounded stands mode fits opens (steps.refused x f is worn sound told notes_are ends_are same) = record {
+start_lives names known life m m' leaf notes ends leaf' in_place grounded stands mode fits opens (steps.refused x f is worn sound told notes_are ends_are same) = record {
   next = refused_life life f;
   does = lives.refuses (down_mode life.mode x (subst (λ (l : Leaf). FitsMode life.mode l) is mode))
-      (subst (λ (e : Ending). IsStartRefusal (is_some known) e) (sym ends_are) (refusal (is_some known) f (undamaged names known m leaf callers x f in_place grounded stands is sound)))
+      (subst (λ (e : Ending). IsStartRefusal (is_some known) e) (sym ends_are) (refusal (is_some known) f (undamaged names known m leaf x f in_place grounded stands is sound)))
       (noted_none notes notes_are)
       (ap (λ (e : Ending). on life Down (way_refused e life.way) []) (sym ends_are));
   counts = acting.keeps refl (ap (λ (ns : List Note). durable_with life.durable (noted_all ns)) (sym notes_are));
   mode = subst (λ (l : Leaf). FitsMode Down l) (sym (same ∙ is)) tt;
   way = way_refuses known life m m' leaf x f fits (where_known known leaf m (RefusalTold x m m' f) stands told);
 }
-start_lives names known life m m' leaf callers notes ends leaf' in_place grounded stands mode fits opens (steps.not_down not notes_are same ends_are now) = record {
+start_lives names known life m m' leaf notes ends leaf' in_place grounded stands mode fits opens (steps.not_down not notes_are same ends_are now) = record {
   next = life;
   does = lives.not_down (not_resting leaf life.mode mode not) (noted_none notes notes_are) ends_are refl;
   counts = acting.keeps refl (counts_stay life.durable notes notes_are);
@@ -302,21 +301,21 @@ killed known tables life m m' leaf p place count notes ends leaf' y begins from 
       way = way_stays known life (on life Down life.way []) leaf m m' refl fits same;
     }
 
-pub kill_lives : (names : List (List ℕ)) (known : Option Known) (life : Life) (m m' : Meaning) (leaf : Leaf) (callers : List SeatView) (notes : List Note) (ends : Ending) (leaf' : Leaf)
-    → AreInPlace names (seated_of leaf) callers → IfSome known (λ (k : Known). StandsKnown k leaf m) → FitsMode life.mode leaf → FitsNext known life leaf m
+pub kill_lives : (names : List (List ℕ)) (known : Option Known) (life : Life) (m m' : Meaning) (leaf : Leaf) (notes : List Note) (ends : Ending) (leaf' : Leaf)
+    → AreInPlace names (seated_of leaf) → IfSome known (λ (k : Known). StandsKnown k leaf m) → FitsMode life.mode leaf → FitsNext known life leaf m
     → KillMoves m m' leaf notes ends leaf' → Lived known (length names) Kills life (noted_all notes) ends leaf' m'
-kill_lives names known life m m' leaf callers notes ends leaf' in_place stands mode fits (steps.up s y is each same ends_are now) =
+kill_lives names known life m m' leaf notes ends leaf' in_place stands mode fits (steps.up s y is each same ends_are now) =
     let u = up_mode life.mode s (subst (λ (l : Leaf). FitsMode life.mode l) is mode) in
     let p : Progress = record { owed = u.0; treated = 0; shut = false } in
-    let size : length s.seated.tables ≡ length names = ap (λ (l : Leaf). length (seated_of l).tables) (sym is) ∙ as_many names (seated_of leaf) callers in_place in
+    let size : length s.seated.tables ≡ length names = ap (λ (l : Leaf). length (seated_of l).tables) (sym is) ∙ as_many names (seated_of leaf) in_place in
     killed known (length names) life m m' leaf p 0 (length s.seated.tables) notes ends leaf' y (subst (λ (k : Mode). BeginsAt k p) (sym u.1) refl) refl (omega (arith, size)) each
     fits (same_held known leaf m m' stands same) ends_are now
-kill_lives names known life m m' leaf callers notes ends leaf' in_place stands mode fits (steps.preparing x y count is left each same ends_are now) =
+kill_lives names known life m m' leaf notes ends leaf' in_place stands mode fits (steps.preparing x y count is left each same ends_are now) =
     let u = preparing_mode life.mode x (subst (λ (l : Leaf). FitsMode life.mode l) is mode) in
-    let size : length x.serving.seated.tables ≡ length names = ap (λ (l : Leaf). length (seated_of l).tables) (sym is) ∙ as_many names (seated_of leaf) callers in_place in
+    let size : length x.serving.seated.tables ≡ length names = ap (λ (l : Leaf). length (seated_of l).tables) (sym is) ∙ as_many names (seated_of leaf) in_place in
     killed known (length names) life m m' leaf u.0 (length x.closed) count notes ends leaf' y (subst (λ (k : Mode). BeginsAt k u.0) (sym u.1) refl) (sym u.2.closed) (left ∙ size) each
     fits (same_held known leaf m m' stands same) ends_are now
-kill_lives names known life m m' leaf callers notes ends leaf' in_place stands mode fits (steps.not_up down notes_are same ends_are now) = record {
+kill_lives names known life m m' leaf notes ends leaf' in_place stands mode fits (steps.not_up down notes_are same ends_are now) = record {
   next = life;
   does = lives.not_up (resting_mode leaf life.mode mode down) (noted_none notes notes_are) ends_are refl;
   counts = acting.keeps (ap (λ (e : Ending). is_disk_fault e) ends_are) (counts_stay life.durable notes notes_are);
@@ -326,15 +325,15 @@ kill_lives names known life m m' leaf callers notes ends leaf' in_place stands m
 
 -- ---- any deed
 
-pub deed_lives : (names : List (List ℕ)) (known : Option Known) (deed : Deed) (life : Life) (m m' : Meaning) (leaf : Leaf) (callers : List SeatView) (notes : List Note) (ends : Ending) (leaf' : Leaf)
-    → AreInPlace names (seated_of leaf) callers → AreGrounded known (seated_of leaf) → IfSome known (λ (k : Known). StandsKnown k leaf m)
+pub deed_lives : (names : List (List ℕ)) (known : Option Known) (deed : Deed) (life : Life) (m m' : Meaning) (leaf : Leaf) (notes : List Note) (ends : Ending) (leaf' : Leaf)
+    → AreInPlace names (seated_of leaf) → AreGrounded known (seated_of leaf) → IfSome known (λ (k : Known). StandsKnown k leaf m)
     → FitsMode life.mode leaf → FitsNext known life leaf m → OpensCounts known life m m' leaf notes
     → Moves deed m m' leaf notes ends leaf' → Lived known (length names) deed life (noted_all notes) ends leaf' m'
-deed_lives names known Starts life m m' leaf callers notes ends leaf' in_place grounded stands mode fits opens moves =
-    start_lives names known life m m' leaf callers notes ends leaf' in_place grounded stands mode fits opens moves
-deed_lives names known (Flushes table) life m m' leaf callers notes ends leaf' in_place grounded stands mode fits opens moves =
+deed_lives names known Starts life m m' leaf notes ends leaf' in_place grounded stands mode fits opens moves =
+    start_lives names known life m m' leaf notes ends leaf' in_place grounded stands mode fits opens moves
+deed_lives names known (Flushes table) life m m' leaf notes ends leaf' in_place grounded stands mode fits opens moves =
     flush_lives known (length names) table life m m' leaf notes ends leaf' stands mode fits moves
-deed_lives names known (Drains stop) life m m' leaf callers notes ends leaf' in_place grounded stands mode fits opens moves =
-    drain_lives names known stop life m m' leaf callers notes ends leaf' in_place grounded stands mode fits moves
-deed_lives names known Kills life m m' leaf callers notes ends leaf' in_place grounded stands mode fits opens moves =
-    kill_lives names known life m m' leaf callers notes ends leaf' in_place stands mode fits moves
+deed_lives names known (Drains stop) life m m' leaf notes ends leaf' in_place grounded stands mode fits opens moves =
+    drain_lives names known stop life m m' leaf notes ends leaf' in_place grounded stands mode fits moves
+deed_lives names known Kills life m m' leaf notes ends leaf' in_place grounded stands mode fits opens moves =
+    kill_lives names known life m m' leaf notes ends leaf' in_place stands mode fits moves

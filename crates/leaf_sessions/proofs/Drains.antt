@@ -11,7 +11,6 @@ use Rattle.printed_lines.specs.declared.line.Said.TheVariants as said
 use Rattle.printed_lines.specs.declared.line.Ending.{Ending}
 use Rattle.printed_lines.specs.declared.line.Ending.TheVariants as ending
 use Rattle.crash_moments.specs.Left.{NamedStates}
-use Rattle.leaf_table.specs.Calls.{SeatView}
 use Rattle.leaf_steward.specs.declared.notes.Note.{Note}
 use Rattle.leaf_steward.specs.Seated.{Seated, AreFounded}
 use Rattle.leaf_steward.specs.Making.{EachNoted, IsClosedNote, IsHandedNote}
@@ -34,12 +33,12 @@ use Rattle.leaf_sessions.proofs.DrainSteps.{closed_still, copied, durable_still,
 -- ---- what is known where the base is
 
 -- what is promised of a leaf with a base holds where the base is known
-promised : (P : Type 0) (names : List (List ℕ)) (known : Option Known) (leaf : Leaf) (callers : List SeatView) (m : Meaning)
-    → AreInPlace names (seated_of leaf) callers → AreGrounded known (seated_of leaf) → IfSome known (λ (k : Known). StandsKnown k leaf m)
+promised : (P : Type 0) (names : List (List ℕ)) (known : Option Known) (leaf : Leaf) (m : Meaning)
+    → AreInPlace names (seated_of leaf) → AreGrounded known (seated_of leaf) → IfSome known (λ (k : Known). StandsKnown k leaf m)
     → ((base : NamedStates) → IsTrue m.tells → AreFounded (seated_of leaf) → Stands base leaf m → P) → IfSome known (λ (k : Known). P)
-promised P names None leaf callers m in_place grounded stands holds = tt
-promised P names (Some k) leaf callers m in_place grounded stands holds =
-    holds k.base stands.tells (founded_known names k (seated_of leaf) callers in_place grounded) stands.stands
+promised P names None leaf m in_place grounded stands holds = tt
+promised P names (Some k) leaf m in_place grounded stands holds =
+    holds k.base stands.tells (founded_known names k (seated_of leaf) in_place grounded) stands.stands
 
 -- ---- the way of the next start
 
@@ -262,39 +261,39 @@ not_up known tables stop old m m' leaf stands mode fits down held =
 
 -- ---- any drain
 
-pub drain_lives : (names : List (List ℕ)) (known : Option Known) (stop : Option ℕ) (life : Life) (m m' : Meaning) (leaf : Leaf) (callers : List SeatView) (notes : List Note) (ends : Ending) (leaf' : Leaf)
-    → AreInPlace names (seated_of leaf) callers → AreGrounded known (seated_of leaf) → IfSome known (λ k. StandsKnown k leaf m)
+pub drain_lives : (names : List (List ℕ)) (known : Option Known) (stop : Option ℕ) (life : Life) (m m' : Meaning) (leaf : Leaf) (notes : List Note) (ends : Ending) (leaf' : Leaf)
+    → AreInPlace names (seated_of leaf) → AreGrounded known (seated_of leaf) → IfSome known (λ k. StandsKnown k leaf m)
     → FitsMode life.mode leaf → FitsNext known life leaf m
     → DrainMoves m m' leaf stop notes ends leaf' → Lived known (length names) (Drains stop) life (noted_all notes) ends leaf' m'
-drain_lives names known stop old m m' leaf callers notes ends leaf' place grounded stands mode fits (moves.done x y z treating handing n made copy shuts steps long last may part noted notes_are region ends_are leaf_is) =
+drain_lives names known stop old m m' leaf notes ends leaf' place grounded stands mode fits (moves.done x y z treating handing n made copy shuts steps long last may part noted notes_are region ends_are leaf_is) =
     let b = begun old.mode leaf x mode shuts in
     rw (ends_are, leaf_is)
-    (drained known (length names) stop old m m' leaf x stands fits b (b.tables ∙ as_many names (seated_of leaf) callers place) y z treating handing notes n made copy steps long last may noted notes_are
-    (promised (IsWayOf m'.held.region Memory) names known leaf callers m place grounded stands region))
-drain_lives names known stop old m m' leaf callers notes ends leaf' place grounded stands mode fits (moves.failed x y n made shuts steps may ends_are leaf_is) =
+    (drained known (length names) stop old m m' leaf x stands fits b (b.tables ∙ as_many names (seated_of leaf) place) y z treating handing notes n made copy steps long last may noted notes_are
+    (promised (IsWayOf m'.held.region Memory) names known leaf m place grounded stands region))
+drain_lives names known stop old m m' leaf notes ends leaf' place grounded stands mode fits (moves.failed x y n made shuts steps may ends_are leaf_is) =
     let b = begun old.mode leaf x mode shuts in
     rw (ends_are, leaf_is)
-    (region_failed known (length names) stop old m m' leaf x stands fits b (b.tables ∙ as_many names (seated_of leaf) callers place) y notes n made steps may)
-drain_lives names known stop old m m' leaf callers notes ends leaf' place grounded stands mode fits (moves.roomless x y n shuts steps all may region ends_are leaf_is) =
+    (region_failed known (length names) stop old m m' leaf x stands fits b (b.tables ∙ as_many names (seated_of leaf) place) y notes n made steps may)
+drain_lives names known stop old m m' leaf notes ends leaf' place grounded stands mode fits (moves.roomless x y n shuts steps all may region ends_are leaf_is) =
     let b = begun old.mode leaf x mode shuts in
     rw (ends_are, leaf_is)
-    (roomless known (length names) stop old m m' leaf x stands fits b (b.tables ∙ as_many names (seated_of leaf) callers place) y notes n steps all may region)
-drain_lives names known stop old m m' leaf callers notes ends leaf' place grounded stands mode fits (moves.starved x y z treating starving n shuts steps may s part notes_are region ends_are leaf_is) =
+    (roomless known (length names) stop old m m' leaf x stands fits b (b.tables ∙ as_many names (seated_of leaf) place) y notes n steps all may region)
+drain_lives names known stop old m m' leaf notes ends leaf' place grounded stands mode fits (moves.starved x y z treating starving n shuts steps may s part notes_are region ends_are leaf_is) =
     let b = begun old.mode leaf x mode shuts in
     rw (ends_are, leaf_is)
-    (starved known (length names) stop old m m' leaf x stands fits b (b.tables ∙ as_many names (seated_of leaf) callers place) y z treating starving notes n steps may s notes_are region)
-drain_lives names known stop old m m' leaf callers notes ends leaf' place grounded stands mode fits (moves.halted x y z treating halting n shuts steps may few h notes_are region ends_are leaf_is) =
+    (starved known (length names) stop old m m' leaf x stands fits b (b.tables ∙ as_many names (seated_of leaf) place) y z treating starving notes n steps may s notes_are region)
+drain_lives names known stop old m m' leaf notes ends leaf' place grounded stands mode fits (moves.halted x y z treating halting n shuts steps may few h notes_are region ends_are leaf_is) =
     let b = begun old.mode leaf x mode shuts in
     rw (ends_are, leaf_is)
-    (halted known (length names) stop old m m' leaf x stands fits b (b.tables ∙ as_many names (seated_of leaf) callers place) y z treating halting notes n steps may few h notes_are region)
-drain_lives names known stop old m m' leaf callers notes ends leaf' place grounded stands mode fits (moves.stopped x y z treating closing n count shuts stop_is steps count_is noted part notes_are region serves ends_are leaf_is) =
+    (halted known (length names) stop old m m' leaf x stands fits b (b.tables ∙ as_many names (seated_of leaf) place) y z treating halting notes n steps may few h notes_are region)
+drain_lives names known stop old m m' leaf notes ends leaf' place grounded stands mode fits (moves.stopped x y z treating closing n count shuts stop_is steps count_is noted part notes_are region serves ends_are leaf_is) =
     let b = begun old.mode leaf x mode shuts in
     rw (ends_are, leaf_is)
-    (stopped known (length names) stop old m m' leaf x stands fits b (b.tables ∙ as_many names (seated_of leaf) callers place) y z treating closing notes n count stop_is steps count_is noted notes_are region)
-drain_lives names known stop old m m' leaf callers notes ends leaf' place grounded stands mode fits (moves.stopped_copying x y n made shuts stop_is steps region ends_are leaf_is) =
+    (stopped known (length names) stop old m m' leaf x stands fits b (b.tables ∙ as_many names (seated_of leaf) place) y z treating closing notes n count stop_is steps count_is noted notes_are region)
+drain_lives names known stop old m m' leaf notes ends leaf' place grounded stands mode fits (moves.stopped_copying x y n made shuts stop_is steps region ends_are leaf_is) =
     let b = begun old.mode leaf x mode shuts in
     rw (ends_are, leaf_is)
-    (stopped_copying known (length names) stop old m m' leaf x stands fits b (b.tables ∙ as_many names (seated_of leaf) callers place) y notes n made stop_is steps
-    (promised (RegionStopped made m m') names known leaf callers m place grounded stands region))
-drain_lives names known stop old m m' leaf callers notes ends leaf' place grounded stands mode fits (moves.not_up down notes_are held ends_are leaf_is) =
+    (stopped_copying known (length names) stop old m m' leaf x stands fits b (b.tables ∙ as_many names (seated_of leaf) place) y notes n made stop_is steps
+    (promised (RegionStopped made m m') names known leaf m place grounded stands region))
+drain_lives names known stop old m m' leaf notes ends leaf' place grounded stands mode fits (moves.not_up down notes_are held ends_are leaf_is) =
     rw (notes_are, ends_are, leaf_is) (not_up known (length names) stop old m m' leaf stands mode fits down held)

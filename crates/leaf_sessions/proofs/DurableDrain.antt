@@ -155,8 +155,8 @@ clean_starves base counts x y notes starves part clean =
 told_fault : (ends : Ending) → ends ≡ ending.FaultDisk → is_disk_fault ends ≡ false → ⊥
 told_fault ends is calm = clash_bool (is_disk_fault ends) (ap is_disk_fault is) calm
 
-module _ (names : List (List ℕ)) (k : Known) (counts : List ℕ) (m m' : Meaning) (leaf : Leaf) (callers : List SeatView) (notes : List Note) (leaf' : Leaf)
-    (g : Given names k counts m m' callers notes leaf leaf') where
+module _ (names : List (List ℕ)) (k : Known) (counts : List ℕ) (m m' : Meaning) (leaf : Leaf) (notes : List Note) (leaf' : Leaf)
+    (g : Given names k counts m m' notes leaf leaf') where
   -- how many writes of each table are durable behind these notes
   abbrev By : List Note → List ℕ
   By ns = durable_after counts (noted_all ns)
@@ -167,13 +167,13 @@ module _ (names : List (List ℕ)) (k : Known) (counts : List ℕ) (m m' : Meani
   -- behind so many steps
   comes_to : (x : Shutting) (n : ℕ) (treating : List Note) (t : At) → BeginsShutting leaf x → MakesSteps n (Shuts x) treating t → ComesTo k.base (By treating) t
   comes_to x n treating t shuts steps = clean_steps k.base counts n (Shuts x) treating t g.known.sound steps (record {
-    ready = subst (AreReady k.base) (sym (same_seats leaf x shuts)) (ready_of names k counts m m' callers notes leaf leaf' g);
+    ready = subst (AreReady k.base) (sym (same_seats leaf x shuts)) (ready_of names k counts m m' notes leaf leaf' g);
     clean = clean_first k.base counts leaf x m shuts g.durable;
   })
 
   -- a count for each table still
   long : (l : Leaf) → leaf' ≡ l → length (By notes) ≡ length (seated_of l).tables
-  long l is = subst (λ (a : Leaf). length (By notes) ≡ length (seated_of a).tables) is (count_behind names k counts m m' callers notes leaf leaf' g)
+  long l is = subst (λ (a : Leaf). length (By notes) ≡ length (seated_of a).tables) is (count_behind names k counts m m' notes leaf leaf' g)
 
   -- what came behind the tables that were treated left the counts
   by_treating : (treating more : List Note) → notes ≡ treating ++ more → AllNotes IsStill more → By notes ≡ By treating
@@ -193,7 +193,7 @@ module _ (names : List (List ℕ)) (k : Known) (counts : List ℕ) (m m' : Meani
   -- at rest with all tables treated, each log has all of them
   done_later : (z : Seated) → leaf' ≡ IsDown z → AreReady k.base z → AreDone k.base (By notes) z → Later
   done_later z down ready done =
-      let behind : Stands k.base (IsDown z) m' = subst (λ (l : Leaf). Stands k.base l m') down (stands_behind names k counts m m' callers notes leaf leaf' g) in
+      let behind : Stands k.base (IsDown z) m' = subst (λ (l : Leaf). Stands k.base l m') down (stands_behind names k counts m m' notes leaf leaf' g) in
       down_later z down (rests_logged k.base (By notes) z m' ready.founded (long (IsDown z) down) behind done.0 done.1)
 
   copied_later : (x y : Shutting) (n made : ℕ) → BeginsShutting leaf x → MakesSteps n (Shuts x) notes (Copies y made) → leaf' ≡ IsDown y.serving.seated → Later
@@ -231,17 +231,17 @@ module _ (names : List (List ℕ)) (k : Known) (counts : List ℕ) (m m' : Meani
       (clean_starves k.base (By treating) y z starving starves part now.clean))
   drain_moves stop ends (DrainMoves.halted x y z treating halting n shuts steps may more halts are region is preparing) calm = absurd (told_fault ends is calm)
   drain_moves stop ends (DrainMoves.stopped x y z treating closing n count shuts stops steps all closes part are region serves is down) calm =
-      let served = serves k.base g.known.tells (founded_of names k counts m m' callers notes leaf leaf' g) g.known.sound g.known.stands in
+      let served = serves k.base g.known.tells (founded_of names k counts m m' notes leaf leaf' g) g.known.sound g.known.stands in
       killed_later y z treating closing _ count (comes_to x n treating (Shuts y) shuts steps) closes part are served down
   drain_moves stop ends (DrainMoves.stopped_copying x y n made shuts stops steps region is down) calm = copied_later x y n made shuts steps down
-  drain_moves stop ends (DrainMoves.not_up other none held is same) calm = left_alone names k counts m m' callers notes leaf leaf' g none held same
+  drain_moves stop ends (DrainMoves.not_up other none held is same) calm = left_alone names k counts m m' notes leaf leaf' g none held same
 
 -- A drain that tells of no fault of the disk leaves just as many writes of each table as its notes say.
-pub drain_durable : (names : List (List ℕ)) (k : Known) (counts : List ℕ) (stop : Option ℕ) (m m' : Meaning) (leaf : Leaf) (callers : List SeatView) (notes : List Note)
+pub drain_durable : (names : List (List ℕ)) (k : Known) (counts : List ℕ) (stop : Option ℕ) (m m' : Meaning) (leaf : Leaf) (notes : List Note)
     (ends : Ending) (leaf' : Leaf)
-    → AreInPlace names (seated_of leaf) callers → AreGrounded (Some k) (seated_of leaf) → AreStewards (seated_of leaf) → StandsKnown k leaf m → Carries leaf leaf' notes m m'
+    → AreInPlace names (seated_of leaf) → AreGrounded (Some k) (seated_of leaf) → AreStewards (seated_of leaf) → StandsKnown k leaf m → Carries leaf leaf' notes m m'
     → DrainMoves m m' leaf stop notes ends leaf' → is_disk_fault ends ≡ false → IsDurable k.base counts leaf m
     → IsDurable k.base (durable_after counts (noted_all notes)) leaf' m'
-drain_durable names k counts stop m m' leaf callers notes ends leaf' in_place grounded stewards known carries moves calm durable =
-    drain_moves names k counts m m' leaf callers notes leaf'
+drain_durable names k counts stop m m' leaf notes ends leaf' in_place grounded stewards known carries moves calm durable =
+    drain_moves names k counts m m' leaf notes leaf'
     (record { in_place = in_place; grounded = grounded; stewards = stewards; known = known; carries = carries; durable = durable }) stop ends moves calm

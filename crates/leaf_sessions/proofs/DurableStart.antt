@@ -24,7 +24,7 @@ use Rattle.crash_moments.specs.Left.{NamedStates}
 use Rattle.crash_moments.specs.Watched.{Watched}
 use Rattle.crash_states.specs.Standing.{Rests, RegionRests, is_closed, is_other, is_image, tables_of}
 use Rattle.leaf_table.specs.Turns.{Shared}
-use Rattle.leaf_table.specs.Calls.{SeatView, base_seen, name_of}
+use Rattle.leaf_table.specs.Calls.{base_seen, name_of}
 use Rattle.leaf_steward.specs.declared.notes.Note.{Note}
 use Rattle.leaf_steward.specs.declared.notes.What.{What}
 use Rattle.leaf_steward.specs.declared.notes.What.TheVariants as what
@@ -174,10 +174,10 @@ opened_still all place (n ∷ ns) (note ∷ notes) part h =
 -- ---- a start
 
 -- it opens each table with just the writes that are counted
-pub opened_counts : (names : List (List ℕ)) (k : Known) (counts : List ℕ) (m m' : Meaning) (x : Seated) (callers : List SeatView) (s : Serving) (notes : List Note) (way : Way)
-    → AreInPlace names x callers → AreGrounded (Some k) x → StandsKnown k (IsDown x) m → IsDurable k.base counts (IsDown x) m → StartsTold x m m' s notes way
+pub opened_counts : (names : List (List ℕ)) (k : Known) (counts : List ℕ) (m m' : Meaning) (x : Seated) (s : Serving) (notes : List Note) (way : Way)
+    → AreInPlace names x → AreGrounded (Some k) x → StandsKnown k (IsDown x) m → IsDurable k.base counts (IsDown x) m → StartsTold x m m' s notes way
     → (length counts ≡ length x.tables) × Notes 0 (map said.Opened counts) (noted_all notes)
-opened_counts names k counts m m' x callers s notes way in_place grounded known durable told =
+opened_counts names k counts m m' x s notes way in_place grounded known durable told =
     (durable.0, notes_opened 0 counts served.tables notes count each told.came.noted)
   where
     served : OpenedLeaf
@@ -187,13 +187,13 @@ opened_counts names k counts m m' x callers s notes way in_place grounded known 
     found = found_by k.base (watched_by x) known.stands.0 known.stands.1 m x.names m'.held.disk served way known.stands.2 told.came.started.come told.came.started.disk
 
     count : length counts ≡ length served.tables
-    count = durable.0 ∙ tables_count names x callers in_place ∙ sym (ap (λ (ns : List (List ℕ)). length ns) in_place.same_names)
+    count = durable.0 ∙ tables_count names x in_place ∙ sym (ap (λ (ns : List (List ℕ)). length ns) in_place.same_names)
         ∙ sym (length_mapped found.table x.names) ∙ sym (ap (λ (ts : List Table). length ts) found.are)
 
     each : (i n : ℕ) (u : Table) → slice_get counts i ≡ Some n → slice_get served.tables i ≡ Some u → n ≡ u.writes
     each i n u at is =
         let t = element_at x.tables i (omega (arith, within counts i n at, durable.0)) in
-        let v = seat_at names x callers i t.0 in_place t.1 in
+        let v = seat_at names x i t.0 in_place t.1 in
         let name = name_of t.0 in
         let had : LogHas m.held.disk name n = durable.1 i t.0 v.0 t.1 v.1 n at in
         let now : LogHas m'.held.disk name n = subst (λ (d : List ℕ). LogHas d name n) (sym told.came.started.disk) (has_after way m.held.disk name n had) in
@@ -203,11 +203,11 @@ opened_counts names k counts m m' x callers s notes way in_place grounded known 
         one_count m'.held.disk name n (found.table name).writes now (found.has name) ∙ ap (λ (w : Table). w.writes) same
 
 -- and these are flushed then
-pub opened_durable : (names : List (List ℕ)) (k : Known) (counts : List ℕ) (m m' : Meaning) (x : Seated) (callers : List SeatView) (s : Serving) (notes : List Note) (way : Way)
-    → AreInPlace names x callers → AreGrounded (Some k) x → AreStewards x → StandsKnown k (IsDown x) m → Carries (IsDown x) (IsUp s) notes m m' → s.owing.log.owed ≡ None
+pub opened_durable : (names : List (List ℕ)) (k : Known) (counts : List ℕ) (m m' : Meaning) (x : Seated) (s : Serving) (notes : List Note) (way : Way)
+    → AreInPlace names x → AreGrounded (Some k) x → AreStewards x → StandsKnown k (IsDown x) m → Carries (IsDown x) (IsUp s) notes m m' → s.owing.log.owed ≡ None
     → StartsTold x m m' s notes way → Notes 0 (map said.Opened counts) (noted_all notes) → length counts ≡ length x.tables
     → IsDurable k.base counts (IsUp s) m'
-opened_durable names k counts m m' x callers s notes way in_place grounded stewards known carries none told noted count =
+opened_durable names k counts m m' x s notes way in_place grounded stewards known carries none told noted count =
     (count ∙ sym (ap (λ (ts : List Shared). length ts) same_tables), none, settled)
   where
     same_tables : s.seated.tables ≡ x.tables
@@ -219,31 +219,31 @@ opened_durable names k counts m m' x callers s notes way in_place grounded stewa
     settled : AtCounts (IsSettled k.base) s.seated counts
     settled place t w at now n e =
         let there : slice_get x.tables place ≡ Some t = ap (λ (ts : List Shared). slice_get ts place) (sym same_tables) ∙ at in
-        let v = seat_at names x callers place t in_place there in
+        let v = seat_at names x place t in_place there in
         let one : MadeAt (IsOpenedWith counts) m.clock m'.clock place t v.0 w = went.noted place t v.0 w (omega arith) (omega (arith, within counts place n e)) there v.1 now in
         let same : one.noted.0 ≡ n = same_some one.noted.0 n (sym one.noted.1 ∙ e) in
         let made : MadeAs (base_seen t) one.clock v.0 (what.Opened one.noted.0) w = subst (λ (u : What). MadeAs (base_seen t) one.clock v.0 u w) one.noted.2 one.made in
-        let of : IsOf k.base t = record { founded = tables_founded names k x callers in_place grounded place t there; sound = known.sound (name_of t) } in
+        let of : IsOf k.base t = record { founded = tables_founded names k x in_place grounded place t there; sound = known.sound (name_of t) } in
         subst (λ (c : ℕ). IsSettled k.base t w c) same (settled_opened k.base t one.clock v.0 w of (stewards place v.0 v.1) one.noted.0 made)
 
-module _ (names : List (List ℕ)) (k : Known) (counts : List ℕ) (m m' : Meaning) (callers : List SeatView) (notes : List Note) where
+module _ (names : List (List ℕ)) (k : Known) (counts : List ℕ) (m m' : Meaning) (notes : List Note) where
   abbrev Later : Leaf → Type 0
   Later leaf' = IsDurable k.base (durable_after counts (noted_all notes)) leaf' m'
 
   -- a start that opens the tables
-  start_opened : (x : Seated) (s : Serving) (way : Way) → s.owing.log.owed ≡ None → StartsTold x m m' s notes way → Given names k counts m m' callers notes (IsDown x) (IsUp s)
+  start_opened : (x : Seated) (s : Serving) (way : Way) → s.owing.log.owed ≡ None → StartsTold x m m' s notes way → Given names k counts m m' notes (IsDown x) (IsUp s)
       → Later (IsUp s)
   start_opened x s way none told g =
-      let noted = opened_counts names k counts m m' x callers s notes way g.in_place g.grounded g.known g.durable told in
+      let noted = opened_counts names k counts m m' x s notes way g.in_place g.grounded g.known g.durable told in
       let same : durable_after counts (noted_all notes) ≡ counts = opened_still counts 0 counts (noted_all notes) (part_all counts) noted.1 in
       subst (λ (cs : List ℕ). IsDurable k.base cs (IsUp s) m') (sym same)
-      (opened_durable names k counts m m' x callers s notes way g.in_place g.grounded g.stewards g.known g.carries none told noted.1 noted.0)
+      (opened_durable names k counts m m' x s notes way g.in_place g.grounded g.stewards g.known g.carries none told noted.1 noted.0)
 
-  pub start_moves : (leaf : Leaf) (ends : Ending) (leaf' : Leaf) → StartMoves m m' leaf notes ends leaf' → Given names k counts m m' callers notes leaf leaf' → Later leaf'
+  pub start_moves : (leaf : Leaf) (ends : Ending) (leaf' : Leaf) → StartMoves m m' leaf notes ends leaf' → Given names k counts m m' notes leaf leaf' → Later leaf'
   start_moves leaf ends leaf' (StartMoves.opened x s way down none each told is up) g =
-      of_leaves names k counts m m' callers notes leaf leaf' (IsDown x) (IsUp s) down up (λ h. start_opened x s way none (told g.known.tells) h) g
+      of_leaves names k counts m m' notes leaf leaf' (IsDown x) (IsUp s) down up (λ h. start_opened x s way none (told g.known.tells) h) g
   start_moves leaf ends leaf' (StartMoves.refused x f down worn undamaged told nothing is same) g =
-      of_leaves names k counts m m' callers notes leaf leaf' (IsDown x) (IsDown x) down (same ∙ down) (λ h.
-      subst (λ (cs : List ℕ). IsDurable k.base cs (IsDown x) m') (sym (counts_same names k counts m m' callers notes nothing))
+      of_leaves names k counts m m' notes leaf leaf' (IsDown x) (IsDown x) down (same ∙ down) (λ h.
+      subst (λ (cs : List ℕ). IsDurable k.base cs (IsDown x) m') (sym (counts_same names k counts m m' notes nothing))
       (h.durable.0, λ place t v at was n e. has_begins m.held.disk m'.held.disk (name_of t) n (told h.known.tells).disk (h.durable.1 place t v at was n e))) g
-  start_moves leaf ends leaf' (StartMoves.not_down up nothing held is same) g = left_alone names k counts m m' callers notes leaf leaf' g nothing held same
+  start_moves leaf ends leaf' (StartMoves.not_down up nothing held is same) g = left_alone names k counts m m' notes leaf leaf' g nothing held same

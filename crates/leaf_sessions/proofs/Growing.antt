@@ -1,111 +1,114 @@
--- A table's history goes on by some entries.
-use Rattle.std.proofs.Common.{◌≡◌, ℕ, zero, suc, ◌<◌, ◌≤◌, Bool, true, false, List, [], ◌∷◌, ◌++◌, length, Option, Some, refl, sym, ap, subst, ◌∙◌, arith}
-use Rattle.std.specs.Prelude.{slice_get, slice_set, nat_lt}
-use Rattle.std.proofs.lemmas.Bool.{ltb-true}
-use Rattle.std.proofs.lemmas.List.{append-nil, append_assoc, length-append, length-map, map-append}
-use Rattle.turnstile.specs.Seats.{Told}
+-- What has been seen of a leaf's tables grows, and who holds which ids stays.
+use Rattle.std.proofs.Common.{◌≡◌, ◌⊎◌, inl, inr, ℕ, ◌<◌, ◌≤◌, ◌==◌, Bool, true, false, List, [], ◌∷◌, ◌++◌, length, Option, Some, None, refl, sym, ap, subst, ◌∙◌, arith, IfSome}
+use Rattle.std.specs.Prelude.{is_some, slice_get}
+use Rattle.std.proofs.lemmas.Bool.{eqb-true, eqb-false}
+use Rattle.std.proofs.lemmas.List.{append-nil, append_assoc}
 use Rattle.berth_face.specs.Berth.{Meaning}
 use Rattle.leaf_history.specs.Calls.{Call}
-use Rattle.leaf_history.specs.History.{Entry}
 use Rattle.leaf_table.specs.declared.base.TableBase.{TableBase}
 use Rattle.leaf_table.specs.declared.replies.Reply.{Reply}
 use Rattle.leaf_table.specs.declared.replies.Reply.TheVariants as told
-use Rattle.leaf_table.specs.Turns.{Shared, history, told as entry_told}
-use Rattle.leaf_table.specs.Calls.{SeatView, Replied, Answered as CallAnswered, base_seen, entry_seen, seen_of}
+use Rattle.leaf_table.specs.Calls.{SeatView, OwnsTheRest, Replied, Answered as CallAnswered, base_seen, entry_seen, seen_of}
+use Rattle.turnstile.specs.Seats.{Owns}
 use Rattle.transcript.specs.Pieces.{Piece}
-use Rattle.transcript.specs.Holds.{history_at}
 use Rattle.transcript.specs.Stage.{Leaf, MeetAll, seated_of}
+use Rattle.transcript.specs.Holds.{Hold, caller_in, steward_in, with_callers}
 use Rattle.transcript.specs.Steps.{CallStep}
-use Rattle.leaf_sessions.proofs.Lists.{element_at, get_set_same, not_below, same_some}
-use Rattle.leaf_sessions.proofs.Terms.{Grow}
+use Rattle.leaf_sessions.specs.Session.{AreSame, IsStewards, OneOf}
+use Rattle.leaf_sessions.proofs.Terms.{Grows}
+use Rattle.leaf_sessions.proofs.Ids.{SameIds, owns_back, owns_on, same_here, same_made, stewards_own}
+use Rattle.leaf_sessions.proofs.TableMeets.{GrowsAt, SeesMore, grows_as, grows_met, grows_not}
+use Rattle.leaf_sessions.proofs.Places.{below_or_not, caller_beyond, caller_is, caller_other, caller_set, get_beyond, met_at, seats_then}
 
--- ---- the history of one table
+-- ---- a call
 
-pub at_table : (callers : List SeatView) (table : ℕ) (c : SeatView) → slice_get callers table ≡ Some c → history_at callers table ≡ seen_of c
-at_table [] table c at = cc
-at_table (x ∷ xs) zero c at = ap (λ (v : SeatView). seen_of v) (same_some x c at)
-at_table (x ∷ xs) (suc table) c at = at_table xs table c at
-
-no_table : (callers : List SeatView) (table : ℕ) → length callers ≤ table → history_at callers table ≡ []
-no_table [] table l = refl
-no_table (x ∷ xs) zero l = absurd (omega (arith, l))
-no_table (x ∷ xs) (suc table) l = no_table xs table (omega (arith, l))
-
--- a seat has seen as many entries as its history has
-pub seen_length : (v : SeatView) → length (seen_of v) ≡ length v.seen
-seen_length v = length-map v.seen entry_told
-
--- what goes on is as long as it was, at least
-pub as_long : (n : ℕ) (xs ys more : List Entry) → ys ≡ xs ++ more → n ≤ length xs → n ≤ length ys
-as_long n xs ys more e l =
-    let same = ap (λ (es : List Entry). length es) e in
-    omega (arith, l, same, length-append xs more)
-
--- ---- histories go on
-
--- of one seat
-abbrev pub SeesMore : SeatView → SeatView → Type 0
-SeesMore v w = (more : List Entry) × (seen_of w ≡ seen_of v ++ more)
-
-replied_more : (base : Option TableBase) (v : SeatView) (c : Call) (r : Reply) (w : SeatView) → Replied base v c r w → SeesMore v w
+replied_more : (base : Option TableBase) (v : SeatView) (c : Call) (r : Reply) (w : SeatView) → Replied base v c r w → SeesMore v w × SameIds v w
 replied_more base v c r w h =
     let own = entry_seen v.id 0 c h.1 ∷ [] in
-    (h.2.between ++ own, h.2.seen ∙ append_assoc (seen_of v) h.2.between own)
+    ((h.2.between ++ own, h.2.seen ∙ append_assoc (seen_of v) h.2.between own), same_made base 0 v w c h.1 h.2)
 
-answered_more : (base : Option TableBase) (v : SeatView) (c : Call) (r : Reply) (w : SeatView) → CallAnswered base v c r w → SeesMore v w
-answered_more base v c told.Worn w h = ([], ap (λ (s : SeatView). seen_of s) h.1 ∙ sym (append-nil (seen_of v)))
+pub answered_more : (base : Option TableBase) (v : SeatView) (c : Call) (r : Reply) (w : SeatView) → CallAnswered base v c r w → SeesMore v w × SameIds v w
+answered_more base v c told.Worn w h = (([], ap (λ (s : SeatView). seen_of s) h.1 ∙ sym (append-nil (seen_of v))), same_here v w h.1)
 answered_more base v c r w h = replied_more base v c r w h
 
-told_more : (c v c' : SeatView) → Told c v c' → SeesMore c c'
-told_more c v c' h =
-    let own = h.longer.own in
-    (history own.0, ap (λ (s : SeatView). seen_of s) h.view ∙ (ap history (sym own.1) ∙ map-append entry_told c.seen own.0))
-
-set_grows : (callers : List SeatView) (place : ℕ) (v w : SeatView) → slice_get callers place ≡ Some v → SeesMore v w → Grow callers (slice_set callers place w)
-set_grows [] place v w at more table = ([], refl)
-set_grows (x ∷ xs) zero v w at more zero = (more.0, more.1 ∙ ap (λ (c : SeatView). seen_of c ++ more.0) (sym (same_some x v at)))
-set_grows (x ∷ xs) zero v w at more (suc table) = ([], sym (append-nil (history_at xs table)))
-set_grows (x ∷ xs) (suc place) v w at more zero = ([], sym (append-nil (seen_of x)))
-set_grows (x ∷ xs) (suc place) v w at more (suc table) = set_grows xs place v w at more table
-
-pub called_grows : (number table : ℕ) (called : Call) (tables : List Shared) (callers : List SeatView) (p : Piece) (callers' : List SeatView)
-    → CallStep number table called tables callers p callers' → Grow callers callers'
-called_grows number table called tables callers p callers' step =
-    let more = answered_more (base_seen step.shared) step.before called step.reply step.after step.answered in
-    subst (λ cs. Grow callers cs) (sym step.now) (set_grows callers table step.before step.after step.was more)
-
-met_at : (callers callers' : List SeatView) (table : ℕ) (v c c' : SeatView) → slice_get callers table ≡ Some c → slice_get callers' table ≡ Some c' → Told c v c'
-    → (more : List Entry) × (history_at callers' table ≡ history_at callers table ++ more)
-met_at callers callers' table v c c' was now met =
-    let more = told_more c v c' met in
-    (more.0, rw (at_table callers' table c' now, at_table callers table c was) more.1)
-
-pub met_grows : (leaf : Leaf) (callers : List SeatView) (leaf' : Leaf) (callers' : List SeatView) (m : Meaning)
-    → length (seated_of leaf).seats ≡ length callers → MeetAll leaf callers leaf' callers' m → Grow callers callers'
-met_grows leaf callers leaf' callers' m count met table = by (nat_lt table (length callers)) refl
+grows_called : (v : Option SeatView) (c d : SeatView) → SeesMore c d → SameIds c d → GrowsAt v (Some c) v (Some d)
+grows_called v c d more same = (more, λ id. (to id, from id))
   where
-    by : (b : Bool) → nat_lt table (length callers) ≡ b → (more : List Entry) × (history_at callers' table ≡ history_at callers table ++ more)
-    by true e =
-        let below : table < length callers = ltb-true table (length callers) e in
-        let v = element_at (seated_of leaf).seats table (omega (arith, below, count)) in
-        let c = element_at callers table below in
-        let v' = element_at met.seats table (omega (arith, below, count, met.count.0)) in
-        let c' = element_at callers' table (omega (arith, below, met.count.1)) in
-        met_at callers callers' table v.0 c.0 c'.0 c.1 c'.1 (met.each table v.0 c.0 v'.0 c'.0 v.1 c.1 v'.1 c'.1).caller
-    by false e =
-        let above = not_below table (length callers) e in
-        ([], rw (no_table callers' table (omega (arith, above, met.count.1)), no_table callers table above) refl)
+    to : (id : ℕ) → OneOf v (Some c) id → OneOf v (Some d) id
+    to id (inl o) = inl o
+    to id (inr o) = inr (owns_on c d id same o)
 
--- ... and on
-pub grows_on : (callers between callers' : List SeatView) → Grow callers between → Grow between callers' → Grow callers callers'
-grows_on callers between callers' first then table =
-    let one = first table in
-    let other = then table in
-    (one.0 ++ other.0, other.1 ∙ (ap (λ (es : List Entry). es ++ other.0) one.1 ∙ append_assoc (history_at callers table) one.0 other.0))
+    from : (id : ℕ) → OneOf v (Some d) id → OneOf v (Some c) id
+    from id (inl o) = inl o
+    from id (inr o) = inr (owns_back c d id same o)
 
--- the caller's seat behind its call
-pub called_last : (number table : ℕ) (called : Call) (tables : List Shared) (callers : List SeatView) (p : Piece) (callers' : List SeatView)
-    → (step : CallStep number table called tables callers p callers') → history_at callers' table ≡ seen_of step.after
-called_last number table called tables callers p callers' step =
-    ap (λ (cs : List SeatView). history_at cs table) step.now
-    ∙ at_table (slice_set callers table step.after) table step.after (get_set_same callers table step.before step.after step.was)
+-- ---- who owns all ids but the steward's
+
+stewards_none : (v : Option SeatView) (x : ℕ) → IfSome v IsStewards → 0 < x → OneOf v None x → ⊥
+stewards_none None x sits some (inl o) = o
+stewards_none (Some v) x sits some (inl o) = let none = stewards_own v x sits o in absurd (omega (arith, none, some))
+stewards_none v x sits some (inr o) = absurd o
+
+the_rest : (v : Option SeatView) (s : SeatView) (x : ℕ) → IfSome v IsStewards → 0 < x → OneOf v (Some s) x → Owns s x
+the_rest v s x sits some (inr o) = o
+the_rest None s x sits some (inl o) = absurd o
+the_rest (Some v) s x sits some (inl o) = let none = stewards_own v x sits o in absurd (omega (arith, none, some))
+
+pub rest_there : (v c : Option SeatView) → IfSome v IsStewards → ((x : ℕ) → 0 < x → x < 65537 → OneOf v c x) → (s : SeatView) × (c ≡ Some s) × OwnsTheRest s
+rest_there v None sits all = absurd (stewards_none v 1 sits (omega arith) (all 1 (omega arith) (omega arith)))
+rest_there v (Some s) sits all = (s, refl, λ x some few. the_rest v s x sits some (all x some few))
+
+pub some_there : {X : Type 0} (o : Option X) → is_some o ≡ true → (x : X) × (o ≡ Some x)
+some_there None e = absurd cc
+some_there (Some x) e = (x, refl)
+
+-- ---- the leaf
+
+module _ {B : Type 0} where
+  pub grows_all : (x y : Hold B) → is_some x.held ≡ is_some y.held → ((place : ℕ) → GrowsAt (steward_in x.held place) (caller_in x.callers place) (steward_in y.held place) (caller_in y.callers place))
+      → Grows x y × AreSame x y
+  grows_all x y held each = (λ place. (each place).0, record { ids = λ place id. (each place).1 id; held = held })
+
+  pub call_all : (number : ℕ) (x : Hold B) (table : ℕ) (c : Call) (p : Piece) (callers : List (Option SeatView)) → CallStep number table c x.tables x.callers p callers → Grows x (with_callers x callers) × AreSame x (with_callers x callers)
+  call_all number x table c p callers step = grows_all x (with_callers x callers) refl each
+    where
+      more : SeesMore step.before step.after × SameIds step.before step.after
+      more = answered_more (base_seen step.shared) step.before c step.reply step.after step.answered
+
+      each : (place : ℕ) → GrowsAt (steward_in x.held place) (caller_in x.callers place) (steward_in x.held place) (caller_in callers place)
+      each place = by (table == place) refl
+        where
+          here : GrowsAt (steward_in x.held table) (caller_in x.callers table) (steward_in x.held table) (caller_in callers table)
+          here = grows_as (steward_in x.held table) (caller_in x.callers table) (steward_in x.held table) (caller_in callers table)
+              (steward_in x.held table) (Some step.before) (steward_in x.held table) (Some step.after) refl (caller_is x.callers table (Some step.before) step.was) refl
+              (ap (λ (cs : List (Option SeatView)). caller_in cs table) step.now ∙ caller_set x.callers table (Some step.before) (Some step.after) step.was)
+              (grows_called (steward_in x.held table) step.before step.after more.0 more.1)
+
+          by : (b : Bool) → (table == place) ≡ b → GrowsAt (steward_in x.held place) (caller_in x.callers place) (steward_in x.held place) (caller_in callers place)
+          by true e = subst (λ (k : ℕ). GrowsAt (steward_in x.held k) (caller_in x.callers k) (steward_in x.held k) (caller_in callers k)) (eqb-true table place e) here
+          by false e = grows_as (steward_in x.held place) (caller_in x.callers place) (steward_in x.held place) (caller_in callers place)
+              (steward_in x.held place) (caller_in x.callers place) (steward_in x.held place) (caller_in x.callers place) refl refl refl
+              (ap (λ (cs : List (Option SeatView)). caller_in cs place) step.now ∙ caller_other x.callers table place (Some step.after) (eqb-false table place e))
+              (grows_not (steward_in x.held place) (caller_in x.callers place))
+
+  -- at a meeting
+  pub grows_meeting : (x : Hold B) (l l' : Leaf) (b : B) (callers : List (Option SeatView)) (m : Meaning) → x.held ≡ Some (l, b) → length (seated_of l).seats ≡ length x.callers → MeetAll l x.callers l' callers m
+      → (place : ℕ) → GrowsAt (steward_in x.held place) (caller_in x.callers place) (slice_get (seated_of l').seats place) (caller_in callers place)
+  grows_meeting x l l' b callers m is many met place = by (below_or_not place (length x.callers))
+    where
+      steward_is : steward_in x.held place ≡ slice_get (seated_of l).seats place
+      steward_is = ap (λ (h : Option (Leaf × B)). steward_in h place) is
+
+      by : (place < length x.callers) ⊎ (length x.callers ≤ place) → GrowsAt (steward_in x.held place) (caller_in x.callers place) (slice_get (seated_of l').seats place) (caller_in callers place)
+      by (inl below) =
+          let at = met_at l x.callers l' callers m met many place below in
+          grows_as (steward_in x.held place) (caller_in x.callers place) (slice_get (seated_of l').seats place) (caller_in callers place)
+          (Some at.steward) (caller_in x.callers place) (Some at.steward_then) (caller_in callers place) (steward_is ∙ at.at) refl at.at_then refl
+          (grows_met at.steward at.steward_then (caller_in x.callers place) (caller_in callers place) at.meets)
+      by (inr beyond) =
+          grows_as (steward_in x.held place) (caller_in x.callers place) (slice_get (seated_of l').seats place) (caller_in callers place) None None None None
+          (steward_is ∙ get_beyond (seated_of l).seats place (omega (arith, beyond, many)))
+          (caller_beyond x.callers place beyond)
+          (ap (λ (vs : List SeatView). slice_get vs place) (seats_then l x.callers l' callers m met many) ∙ get_beyond met.seats place (omega (arith, beyond, met.count.0, many)))
+          (caller_beyond callers place (omega (arith, beyond, met.count.1)))
+          (grows_not None None)

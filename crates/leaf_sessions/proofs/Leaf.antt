@@ -1,124 +1,176 @@
--- One leaf of a run: how it begins, goes on and ends.
-use Rattle.std.proofs.Common.{◌≡◌, ◌⊎◌, ℕ, ◌<◌, List, [], ◌∷◌, ◌++◌, length, Option, Some, sym, subst, ◌∙◌}
-use Rattle.std.specs.Prelude.{IfSome}
+-- One leaf of a run, by who holds it or seats of it: how it begins, goes on, is lent to lanes and taken back, and ends.
+use Rattle.std.proofs.Common.{◌≡◌, ◌⊎◌, ℕ, ◌<◌, Bool, false, List, [], ◌∷◌, ◌++◌, length, map, Option, Some}
+use Rattle.std.specs.Prelude.{is_some}
+use Rattle.std.specs.List.{flat_map}
 use Rattle.berth_face.specs.Berth.{Meaning}
 use Rattle.leaf_history.specs.Calls.{Call}
 use Rattle.leaf_history.specs.History.{Entry}
 use Rattle.region_layout.specs.Names.{AreNames}
 use Rattle.leaf_table.specs.Turns.{Shared}
-use Rattle.leaf_table.specs.Calls.{SeatView, seen_of}
+use Rattle.leaf_table.specs.Calls.{SeatView}
 use Rattle.crash_moments.specs.Left.{NamedStates}
-use Rattle.leaf_steward.specs.Seated.{Seated}
+use Rattle.script_text.specs.declared.command.Command.{Command}
 use Rattle.printed_lines.specs.declared.line.Said.{Said}
 use Rattle.printed_lines.specs.Lines.{name_at}
-use Rattle.transcript.specs.Pieces.{Acted, Called, Deed, Piece, Worn}
-use Rattle.transcript.specs.Histories.{IsHistoryOf, Tells, shown}
+use Rattle.transcript.specs.Pieces.{Called, Deed, Piece, Played, PlayedItem, One, Burst, Worn, all_pieces, pieces_in}
+use Rattle.transcript.specs.Histories.{InOrder, IsHistoryOf, shown}
 use Rattle.transcript.specs.Answers.{WornIsLong}
 use Rattle.transcript.specs.Strangers.{IsNamedBy, Strangers}
 use Rattle.transcript.specs.Transcript.{Known, ground_of}
-use Rattle.transcript.specs.Leaving.{IsKnown, LeavesBerth}
-use Rattle.transcript.specs.Stage.{Leaf, IsDown, MeetAll, seated_of}
-use Rattle.transcript.specs.Holds.{ground_at, history_at}
-use Rattle.transcript.specs.Steps.{CallStep, DeedStep, noted_all}
-use Rattle.leaf_sessions.specs.Session.{IsNewStage, IsOthers, LeafMet, LeafNow, StandsFirst}
-use Rattle.leaf_sessions.proofs.Growing.{as_long, called_grows, grows_on, met_grows}
-use Rattle.leaf_sessions.proofs.Wearing.{Reach, acted_worn, called_worn}
-use Rattle.leaf_sessions.proofs.Behind.{goes_from, meets}
-use Rattle.leaf_sessions.proofs.Going.{grow, reach, steward_on}
-use Rattle.leaf_sessions.proofs.CallsOn.{call_on, call_piece, others_on}
-use Rattle.leaf_sessions.proofs.Beginning.{begins}
-use Rattle.leaf_sessions.proofs.Ended.{grounds_are, history, left, strangers_in, tells}
+use Rattle.transcript.specs.Leaving.{LeavesBerth}
+use Rattle.transcript.specs.Stage.{Leaf}
+use Rattle.transcript.specs.Holds.{Hold, HoldMeets, ground_at, seen_in, with_callers, with_leaf}
+use Rattle.transcript.specs.Steps.{CallStep, DeedStep}
+use Rattle.transcript.specs.Lanes.{CutsOffAt, TakesBackAt}
+use Rattle.leaf_sessions.specs.Session.{AreApart, AreMet, AreSame, HasNoDeed, HoldsBoth, IsNewHold, IsOthers, IsWhole, LeafSession}
+use Rattle.script_text.specs.declared.command.Command.TheVariants as command
+pub use Rattle.leaf_sessions.proofs.Terms.{Grows, TellsOn, with_pieces}
+use Rattle.leaf_sessions.proofs.Beginning.{begins, begins_whole}
+use Rattle.leaf_sessions.proofs.Sessions.{call_on, call_piece, meets_on, opens_on, others_on}
+use Rattle.leaf_sessions.proofs.Acting.{deed_on}
+use Rattle.leaf_sessions.proofs.Growing.{call_all}
+use Rattle.leaf_sessions.proofs.Whole.{deed_all, meet_all, whole_still}
+use Rattle.leaf_sessions.proofs.Wearing.{called_worn}
+use Rattle.leaf_sessions.proofs.Reaching.{deed_is_long}
+use Rattle.leaf_sessions.proofs.Lending.{in_turn, joined_on, lends}
+use Rattle.leaf_sessions.proofs.Cutting.{cut_apart, cut_both, cut_off, cut_rest}
+use Rattle.leaf_sessions.proofs.Returning.{back_grows, back_holds, back_on}
+use Rattle.leaf_sessions.proofs.Ended.{grounds_are, history, left, order, strangers_in}
 
--- ---- it begins
+module _ {B : Type 0} (meaning : B → Meaning) (number : ℕ) (names : List (List ℕ)) (known : Option Known) where
+  -- ---- it begins
 
-pub leaf_begins : (number : ℕ) (names : List (List ℕ)) (base : Option NamedStates) (known : Option Known) (m : Meaning) (x : Seated) (callers : List SeatView)
-    → AreNames names → IfSome base (StandsFirst x m) → IsKnown base m known → IsNewStage names known x callers
-    → LeafNow number names known m [] (IsDown x) callers m
-leaf_begins number names base known m x callers are first is new = begins number names base known m x callers first is new
+  pub leaf_begins : (base : Option NamedStates) (x : Hold B) → AreNames names → (new : IsNewHold meaning names base known x)
+      → LeafSession meaning number names known (meaning new.berth) [] (λ place. []) [] x × IsWhole x
+  leaf_begins base x are new = (begins meaning number names known base x new, begins_whole meaning number names known base x new)
 
--- ---- it goes on
+  module _ (old : Meaning) (before : List Piece) (start : ℕ → List Entry) (items : List PlayedItem) where
+    -- ---- it goes on
 
-module _ (number : ℕ) (names : List (List ℕ)) (known : Option Known) (old : Meaning) (pieces : List Piece) (leaf leaf' : Leaf) (callers callers' : List SeatView) (m m' : Meaning) (p : Piece) where
-  -- by a caller's call
-  pub leaf_calls : (table : ℕ) (c : Call) → LeafNow number names known old pieces leaf callers m → CallStep number table c (seated_of leaf).tables callers p callers'
-      → LeafNow number names known old (pieces ++ p ∷ []) leaf callers' m
-  leaf_calls table c now step = call_on number names known old pieces leaf callers callers' m now table c p step
+    -- a command more, of which nothing was printed yet
+    pub leaf_opens : (c0 : Command) (x : Hold B) → LeafSession meaning number names known old before start items x
+        → LeafSession meaning number names known old before start (with_pieces items c0 []) x
+    leaf_opens c0 x now = opens_on meaning number names known old before start items c0 x now
 
-  met_first : (deed : Deed) → LeafNow number names known old pieces leaf callers m → (step : DeedStep number deed m m' leaf callers p leaf' callers')
-      → LeafMet number names known old pieces step.met step.met_callers m
-  met_first deed now step = meets number names known old pieces leaf step.met callers step.met_callers m now step.first
+    -- by a caller's call
+    pub leaf_calls : (c0 : Command) (ps : List Piece) (x : Hold B) (table : ℕ) (c : Call) (p : Piece) (callers : List (Option SeatView))
+        → LeafSession meaning number names known old before start (with_pieces items c0 ps) x → CallStep number table c x.tables x.callers p callers
+        → LeafSession meaning number names known old before start (with_pieces items c0 (ps ++ p ∷ [])) (with_callers x callers)
+    leaf_calls c0 ps x table c p callers now step = call_on meaning number names known old before start items c0 ps x table c p callers now step
 
-  -- by a deed of its steward
-  pub leaf_acts : (deed : Deed) → LeafNow number names known old pieces leaf callers m → DeedStep number deed m m' leaf callers p leaf' callers'
-      → LeafNow number names known old (pieces ++ p ∷ []) leaf' callers' m'
-  leaf_acts deed now step =
-      subst (λ (q : Piece). LeafNow number names known old (pieces ++ q ∷ []) leaf' callers' m') (sym step.piece_is)
-      (goes_from number names known old (pieces ++ Acted number deed (noted_all step.notes) step.ends ∷ []) leaf' callers' m'
-      (steward_on number names known old pieces step.met step.moved leaf' step.met_callers callers' m m' deed step.notes step.ends (met_first deed now step) step.moves step.carries step.second))
+    -- by a deed of its steward
+    pub leaf_acts : (c0 : Command) (ps : List Piece) (x : Hold B) (deed : Deed) (l l' : Leaf) (b b' : B) (p : Piece) (callers : List (Option SeatView))
+        → LeafSession meaning number names known old before start (with_pieces items c0 ps) x → x.held ≡ Some (l, b)
+        → DeedStep number deed (meaning b) (meaning b') l x.callers p l' callers
+        → LeafSession meaning number names known old before start (with_pieces items c0 (ps ++ p ∷ [])) (with_leaf x l' b' callers)
+    leaf_acts c0 ps x deed l l' b b' p callers now held step = deed_on meaning number names known old before start items c0 ps x deed l l' b b' p callers now held step
 
-  -- past what tells nothing of it
-  pub leaf_others : IsOthers number p → LeafNow number names known old pieces leaf callers m → LeafNow number names known old (pieces ++ p ∷ []) leaf callers m
-  leaf_others others now = others_on number names known old pieces leaf callers m p others now
+    -- past what tells nothing of it
+    pub leaf_others : (c0 : Command) (ps : List Piece) (x : Hold B) (p : Piece) → IsOthers number p
+        → LeafSession meaning number names known old before start (with_pieces items c0 ps) x → LeafSession meaning number names known old before start (with_pieces items c0 (ps ++ p ∷ [])) x
+    leaf_others c0 ps x p others now = others_on meaning number names known old before start items c0 ps x p others now
 
-  -- its seats meet
-  pub leaf_meets : LeafNow number names known old pieces leaf callers m → MeetAll leaf callers leaf' callers' m → LeafMet number names known old pieces leaf' callers' m
-  leaf_meets now meet = meets number names known old pieces leaf leaf' callers callers' m now meet
+    -- its seats meet
+    pub leaf_meets : (x y : Hold B) → LeafSession meaning number names known old before start items x → HoldMeets meaning x y
+        → LeafSession meaning number names known old before start items y × AreMet y
+    leaf_meets x y now meet = meets_on meaning number names known old before start items x y now meet
 
-  -- ---- its histories grow
+    -- ---- what has been seen grows, and who holds what stays
 
-  pub call_grows : (table : ℕ) (c : Call) → LeafNow number names known old pieces leaf callers m → CallStep number table c (seated_of leaf).tables callers p callers'
-      → (place : ℕ) → (more : List Entry) × (history_at callers' place ≡ history_at callers place ++ more)
-  call_grows table c now step place = called_grows number table c (seated_of leaf).tables callers p callers' step place
+    pub call_grows : (x : Hold B) (table : ℕ) (c : Call) (p : Piece) (callers : List (Option SeatView))
+        → LeafSession meaning number names known old before start items x → CallStep number table c x.tables x.callers p callers → Grows x (with_callers x callers) × AreSame x (with_callers x callers)
+    call_grows x table c p callers now step = call_all number x table c p callers step
 
-  pub deed_grows : (deed : Deed) → LeafNow number names known old pieces leaf callers m → DeedStep number deed m m' leaf callers p leaf' callers'
-      → (place : ℕ) → (more : List Entry) × (history_at callers' place ≡ history_at callers place ++ more)
-  deed_grows deed now step place =
-      grows_on callers step.met_callers callers' (met_grows leaf callers step.met step.met_callers m (now.in_place.seats ∙ sym now.in_place.callers_are) step.first)
-      (grow number names known old pieces step.met step.moved leaf' step.met_callers callers' m m' deed step.notes step.ends (met_first deed now step) step.moves step.carries step.second) place
+    pub deed_grows : (x : Hold B) (deed : Deed) (l l' : Leaf) (b b' : B) (p : Piece) (callers : List (Option SeatView))
+        → LeafSession meaning number names known old before start items x → x.held ≡ Some (l, b) → DeedStep number deed (meaning b) (meaning b') l x.callers p l' callers
+        → Grows x (with_leaf x l' b' callers) × AreSame x (with_leaf x l' b' callers)
+    deed_grows x deed l l' b b' p callers now held step = deed_all meaning number names known old before start items (command.Kill number) x deed l l' b b' p callers now held step
 
-  pub meet_grows : LeafNow number names known old pieces leaf callers m → MeetAll leaf callers leaf' callers' m
-      → (place : ℕ) → (more : List Entry) × (history_at callers' place ≡ history_at callers place ++ more)
-  meet_grows now meet place = met_grows leaf callers leaf' callers' m (now.in_place.seats ∙ sym now.in_place.callers_are) meet place
+    pub meet_grows : (x y : Hold B) → LeafSession meaning number names known old before start items x → HoldMeets meaning x y → Grows x y × AreSame x y
+    meet_grows x y now meet = meet_all meaning number names known old before start items x y now meet
 
-  -- ---- its pieces
+    -- the run holds all of it still
+    pub still_whole : (x y : Hold B) → LeafSession meaning number names known old before start items x → LeafSession meaning number names known old before start items y → AreSame x y → IsWhole x → IsWhole y
+    still_whole x y was now same whole = whole_still meaning number names known old before start items x y was.callers_are now same whole
 
-  pub piece_of_call : (table : ℕ) (c : Call) (tables : List Shared) → CallStep number table c tables callers p callers'
-      → ((n : ℕ) × (said : Said) × (p ≡ Called number table c n said)) ⊎ (p ≡ Worn number table)
-  piece_of_call table c tables step = call_piece number table c step.reply p step.says
+    -- ---- its pieces
 
-  -- a seat is told as worn only of a long history
-  pub call_worn : (table : ℕ) (c : Call) (histories : ℕ → ℕ → List Entry) → LeafNow number names known old pieces leaf callers m → CallStep number table c (seated_of leaf).tables callers p callers'
-      → ((place : ℕ) → (more : List Entry) × (histories number place ≡ history_at callers' place ++ more))
-      → WornIsLong histories p
-  call_worn table c histories now step on = called_worn number table c (seated_of leaf).tables callers p callers' histories step on
+    pub piece_of_call : (table : ℕ) (c : Call) (tables : List Shared) (seats seats' : List (Option SeatView)) (p : Piece) → CallStep number table c tables seats p seats'
+        → ((n : ℕ) × (said : Said) × (p ≡ Called number table c n said)) ⊎ (p ≡ Worn number table)
+    piece_of_call table c tables seats seats' p step = call_piece number table c step.reply p step.says
 
-  pub deed_worn : (deed : Deed) (histories : ℕ → ℕ → List Entry) → LeafNow number names known old pieces leaf callers m → DeedStep number deed m m' leaf callers p leaf' callers'
-      → ((place : ℕ) → (more : List Entry) × (histories number place ≡ history_at callers' place ++ more))
-      → WornIsLong histories p
-  deed_worn deed histories now step on =
-      let seen = reach number names known old pieces step.met step.moved leaf' step.met_callers callers' m m' deed step.notes step.ends (met_first deed now step) step.moves step.carries step.second in
-      let far : Reach number step.moved histories =
-      λ place v sat. as_long (length (seen_of v)) (history_at callers' place) (histories number place) (on place).0 (on place).1 (seen place v sat) in
-      subst (λ (q : Piece). WornIsLong histories q) (sym step.piece_is) (acted_worn number deed histories m m' step.met step.notes step.ends step.moved step.moves far)
+    -- a seat is told as worn only of a long history
+    pub call_worn : (x : Hold B) (table : ℕ) (c : Call) (p : Piece) (callers : List (Option SeatView)) (histories : ℕ → ℕ → List Entry)
+        → LeafSession meaning number names known old before start items x → CallStep number table c x.tables x.callers p callers → TellsOn number (with_callers x callers) histories → WornIsLong histories p
+    call_worn x table c p callers histories now step on = called_worn number x table c p callers histories step on
 
--- ---- it ends
+    pub deed_worn : (x : Hold B) (deed : Deed) (l l' : Leaf) (b b' : B) (p : Piece) (callers : List (Option SeatView)) (histories : ℕ → ℕ → List Entry)
+        → LeafSession meaning number names known old before start items x → x.held ≡ Some (l, b) → DeedStep number deed (meaning b) (meaning b') l x.callers p l' callers
+        → TellsOn number (with_leaf x l' b' callers) histories → WornIsLong histories p
+    deed_worn x deed l l' b b' p callers histories now held step on = deed_is_long meaning number names known old before start items (command.Kill number) x deed l l' b b' p callers histories now held step on
 
-module _ (number : ℕ) (names : List (List ℕ)) (known : Option Known) (old : Meaning) (pieces : List Piece) (leaf : Leaf) (callers : List SeatView) (m : Meaning) where
-  -- its tables began from what is known of it
-  pub leaf_ground : LeafNow number names known old pieces leaf callers m → (table : ℕ) → table < length names
-      → ground_at (seated_of leaf).tables table ≡ ground_of known (name_at names table)
-  leaf_ground now table below = grounds_are names known leaf callers now.in_place now.grounded table below
+    -- its tables began from what is known of it
+    pub leaf_ground : (x : Hold B) → LeafSession meaning number names known old before start items x → (table : ℕ) → table < length names
+        → ground_at x.tables table ≡ ground_of known (name_at names table)
+    leaf_ground x now table below = grounds_are meaning number names known old before start items x now table below
 
-  pub leaf_history : LeafMet number names known old pieces leaf callers m → (table : ℕ) → table < length names
-      → IsHistoryOf (ground_of known (name_at names table)) (shown number table pieces) (history_at callers table)
-  leaf_history met table below = history number names known old pieces leaf callers m met table below
+    -- ---- lanes
 
-  pub leaf_tells : LeafMet number names known old pieces leaf callers m → (table : ℕ) → table < length names
-      → Tells 1 (shown number table pieces) (history_at callers table)
-  leaf_tells met table below = tells number names known old pieces leaf callers m met table below
+    -- a burst begins, once all seats have met
+    pub leaf_lends : (x : Hold B) → LeafSession meaning number names known old before start items x → AreMet x → IsWhole x
+        → LeafSession meaning number names known old (before ++ all_pieces items) (λ place. seen_in x place) (Burst [] ∷ []) x
+    leaf_lends x now met whole = lends meaning number names known old before start items x now met whole
 
-  pub leaf_strangers : (k : Known) → known ≡ Some k → LeafMet number names known old pieces leaf callers m → Strangers (IsNamedBy names k.held) number pieces
-  leaf_strangers k is met = strangers_in number names known old pieces leaf callers m k is met
+    -- the burst ends
+    pub leaf_joined : (lanes : List (List Played)) (x y : Hold B) → LeafSession meaning number names known old before start items x → AreMet x → IsWhole x → AreSame x y
+        → LeafSession meaning number names known old (before ++ all_pieces items) (λ place. seen_in x place) (Burst lanes ∷ []) y
+        → LeafSession meaning number names known old before start (items ++ Burst lanes ∷ []) y
+    leaf_joined lanes x y was met whole same now = joined_on meaning number names known old before start items x was met whole lanes y same now
 
-  pub leaf_leaves : (k : Known) → known ≡ Some k → (met : LeafMet number names known old pieces leaf callers m) → LeavesBerth names k.base met.life (history_at callers) old m
-  leaf_leaves k is met = left number names known old pieces leaf callers m k is met
+    -- lanes that were played one after another are a burst too
+    pub leaf_in_turn : (lanes : List (List Played)) (x : Hold B) → LeafSession meaning number names known old before start (items ++ map One (flat_map (λ lane. lane) lanes)) x
+        → LeafSession meaning number names known old before start (items ++ Burst lanes ∷ []) x
+    leaf_in_turn lanes x now = in_turn meaning number names known old before start items lanes x now
+
+  module _ (old : Meaning) (before : List Piece) (start : ℕ → List Entry) where
+    -- something is cut off for a lane, before any has played
+    pub leaf_cuts : (needs : ℕ → Bool) (acts : Bool) (x off rest : Hold B) → LeafSession meaning number names known old before start (Burst [] ∷ []) x → CutsOffAt needs acts x off rest
+        → LeafSession meaning number names known old before start [] off × LeafSession meaning number names known old before start (Burst [] ∷ []) rest × AreApart rest off × HoldsBoth rest off x
+    leaf_cuts needs acts x off rest now cut = (
+      cut_off meaning number names known old before start needs acts x off rest now cut,
+      cut_rest meaning number names known old before start needs acts x off rest now cut,
+      cut_apart meaning number names known old before start needs acts x off rest now cut,
+      cut_both meaning number names known old before start needs acts x off rest now cut,
+    )
+
+    -- a lane is taken back
+    pub leaf_back : (lanes : List (List Played)) (lane : List Played) (rest off x : Hold B)
+        → LeafSession meaning number names known old before start (Burst lanes ∷ []) rest → LeafSession meaning number names known old before start (map One lane) off
+        → AreApart rest off → (is_some rest.held ≡ false) ⊎ (is_some off.held ≡ false)
+        → (is_some rest.held ≡ false → HasNoDeed number (all_pieces (Burst lanes ∷ []))) → (is_some off.held ≡ false → HasNoDeed number (pieces_in lane))
+        → TakesBackAt meaning rest off x
+        → LeafSession meaning number names known old before start (Burst (lanes ++ lane ∷ []) ∷ []) x × HoldsBoth rest off x × Grows rest x × Grows off x
+    leaf_back lanes lane rest off x main lane_is apart one none_here none_there back = (
+      back_on meaning number names known old before start lanes lane rest off x main lane_is apart one none_here none_there back,
+      back_holds meaning number names known old before start lanes lane rest off x main lane_is apart one none_here none_there back,
+      (back_grows meaning number names known old before start lanes lane rest off x main lane_is apart one none_here none_there back).0,
+      (back_grows meaning number names known old before start lanes lane rest off x main lane_is apart one none_here none_there back).1,
+    )
+
+  -- ---- it ends
+
+  module _ (old : Meaning) (items : List PlayedItem) (x : Hold B) where
+    pub leaf_history : LeafSession meaning number names known old [] (λ place. []) items x → IsWhole x → AreMet x → (table : ℕ) → table < length names
+        → IsHistoryOf (ground_of known (name_at names table)) (shown number table (all_pieces items)) (seen_in x table)
+    leaf_history now whole met table below = history meaning number names known old items x now whole met table below
+
+    pub leaf_order : LeafSession meaning number names known old [] (λ place. []) items x → IsWhole x → AreMet x → (table : ℕ) → table < length names
+        → InOrder number table 0 items (length (seen_in x table))
+    leaf_order now whole met table below = order meaning number names known old items x now whole met table below
+
+    pub leaf_strangers : (k : Known) → known ≡ Some k → LeafSession meaning number names known old [] (λ place. []) items x → IsWhole x → Strangers (IsNamedBy names k.held) number (all_pieces items)
+    leaf_strangers k is now whole = strangers_in meaning number names known old items x k is now whole
+
+    pub leaf_leaves : (k : Known) → known ≡ Some k → (now : LeafSession meaning number names known old [] (λ place. []) items x) → AreMet x → (l : Leaf) (b : B) (held : x.held ≡ Some (l, b))
+        → LeavesBerth names k.base (now.held l b held).1.life (λ place. seen_in x place) old (meaning b)
+    leaf_leaves k is now met l b held = left meaning number names known old items x k is now met l b held

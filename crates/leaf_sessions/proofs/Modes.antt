@@ -6,7 +6,7 @@ use Rattle.berth_face.specs.Berth.{Meaning, Pair}
 use Rattle.leaf_opening.specs.declared.ways.Way.{Way}
 use Rattle.leaf_opening.specs.Starts.{IsWayOf}
 use Rattle.leaf_table.specs.Turns.{Shared, is_founded}
-use Rattle.leaf_table.specs.Calls.{SeatView, base_seen, name_of}
+use Rattle.leaf_table.specs.Calls.{base_seen, name_of}
 use Rattle.leaf_steward.specs.declared.notes.Note.{Note}
 use Rattle.leaf_steward.specs.Seated.{Seated, AreFounded}
 use Rattle.leaf_machine.specs.States.{Serving, Shutting}
@@ -75,18 +75,18 @@ pub same_held : (known : Option Known) (leaf : Leaf) (m m' : Meaning) → IfSome
 same_held known leaf m m' stands same = where_known known leaf m (m'.held.region ≡ m.held.region) stands (λ tells. ap (λ (p : Pair). p.region) same)
 
 -- as many tables as names
-pub as_many : (names : List (List ℕ)) (x : Seated) (callers : List SeatView) → AreInPlace names x callers → length x.tables ≡ length names
-as_many names x callers in_place = sym (length_mapped name_of x.tables) ∙ ap (λ (ns : List (List ℕ)). length ns) in_place.named
+pub as_many : (names : List (List ℕ)) (x : Seated) → AreInPlace names x → length x.tables ≡ length names
+as_many names x in_place = sym (length_mapped name_of x.tables) ∙ ap (λ (ns : List (List ℕ)). length ns) in_place.named
 
 all_each : {X : Type 0} (P : X → Type 0) (xs : List X) → ((place : ℕ) (x : X) → slice_get xs place ≡ Some x → P x) → AllByRecursion P xs
 all_each P [] each = tt
 all_each P (x ∷ xs) each = (each zero x refl, all_each P xs (λ place y at. each (suc place) y at))
 
 -- tables with a base are founded
-pub founded_known : (names : List (List ℕ)) (k : Known) (x : Seated) (callers : List SeatView) → AreInPlace names x callers → AreGrounded (Some k) x → AreFounded x
-founded_known names k x callers in_place grounded = all_each (λ (t : Shared). is_founded (base_seen t) ≡ true) x.tables (λ place t at.
+pub founded_known : (names : List (List ℕ)) (k : Known) (x : Seated) → AreInPlace names x → AreGrounded (Some k) x → AreFounded x
+founded_known names k x in_place grounded = all_each (λ (t : Shared). is_founded (base_seen t) ≡ true) x.tables (λ place t at.
     let below = within x.tables place t at in
-    let many = as_many names x callers in_place in
+    let many = as_many names x in_place in
     let seat = element_at x.seats place (omega (arith, below, many, in_place.seats)) in
     (grounded place t seat.0 at seat.1).0)
 

@@ -4,7 +4,7 @@ use Rattle.std.specs.Prelude.{IsTrue, IfSome, slice_get}
 use Rattle.berth_face.specs.Berth.{Meaning}
 use Rattle.leaf_opening.specs.declared.ways.Way.{Way}
 use Rattle.leaf_table.specs.Turns.{Shared}
-use Rattle.leaf_table.specs.Calls.{SeatView, name_of, seen_of}
+use Rattle.leaf_table.specs.Calls.{SeatView, name_of}
 use Rattle.leaf_steward.specs.declared.notes.Note.{Note}
 use Rattle.leaf_steward.specs.declared.notes.What.{What}
 use Rattle.leaf_steward.specs.Seated.{Seated}
@@ -24,7 +24,7 @@ use Rattle.printed_lines.specs.declared.line.Ending.TheVariants as ends_as
 use Rattle.transcript.specs.Pieces.{Acted, Deed, Drains, Flushes, Kills, Noted, Piece, Starts}
 use Rattle.transcript.specs.Life.{Life, Notes, durable_with}
 use Rattle.transcript.specs.Transcript.{Known}
-use Rattle.transcript.specs.Stage.{Carries, IsDown, IsUp, Leaf, MeetAll, seated_of}
+use Rattle.transcript.specs.Stage.{Carries, IsDown, IsUp, Leaf, seated_of}
 use Rattle.transcript.specs.Steps.{DrainMoves, FlushMoves, KillMoves, Moves, StartMoves, StartsTold, ending_of, ending_of_flush, noted, noted_all}
 use Rattle.leaf_sessions.specs.Session.{AreGrounded, AreInPlace, FitsMode, FitsNext, IsDurable, IsStewards, KnownLeaf, StandsKnown}
 use Rattle.leaf_sessions.specs.Acting.{CountsGo, Lived, loses_counts}
@@ -32,23 +32,22 @@ use Rattle.leaf_sessions.proofs.Lists.{clash_bool, length_mapped}
 use Rattle.leaf_sessions.proofs.Deeds.{OpensCounts}
 use Rattle.leaf_sessions.proofs.CountingNotes.{makes_seats}
 use Rattle.leaf_sessions.proofs.DurableStart.{opened_counts, opened_durable}
-use Rattle.leaf_sessions.proofs.Durable.{durable_moves, durable_seen}
+use Rattle.leaf_sessions.proofs.Durable.{durable_moves}
 use Rattle.leaf_sessions.proofs.Named.{named_act}
-use Rattle.leaf_sessions.proofs.Standing.{stands_carried, told_on}
-use Rattle.leaf_sessions.proofs.Behind.{seats_before, some_weaken}
+use Rattle.leaf_sessions.proofs.Standing.{seat_there, stands_carried, told_on}
+use Rattle.leaf_sessions.proofs.Behind.{some_weaken}
 
 -- ---- the leaf behind the steward's entries
 
-module _ (names : List (List ℕ)) (met moved : Leaf) (callers : List SeatView) (notes : List Note) (m m' : Meaning) (in_place : AreInPlace names (seated_of met) callers) (carries : Carries met moved notes m m') where
+module _ (names : List (List ℕ)) (met moved : Leaf) (notes : List Note) (m m' : Meaning) (in_place : AreInPlace names (seated_of met)) (carries : Carries met moved notes m m') where
   same_tables : (seated_of moved).tables ≡ (seated_of met).tables
   same_tables = makes_tables m.clock m'.clock (seated_of met) notes (seated_of moved) carries.made
 
-  pub place_moved : AreInPlace names (seated_of moved) callers
+  pub place_moved : AreInPlace names (seated_of moved)
   place_moved = record {
     named = ap (λ (ts : List Shared). map name_of ts) same_tables ∙ in_place.named;
     same_names = makes_names m.clock m'.clock (seated_of met) notes (seated_of moved) carries.made ∙ in_place.same_names;
     seats = makes_seats m.clock m'.clock (seated_of met) notes (seated_of moved) carries.made ∙ in_place.seats;
-    callers_are = in_place.callers_are;
     distinct = in_place.distinct;
   }
 
@@ -59,8 +58,8 @@ module _ (names : List (List ℕ)) (met moved : Leaf) (callers : List SeatView) 
   pub grounded_moved : (kn : Option Known) → AreGrounded kn (seated_of met) → AreGrounded kn (seated_of moved)
   grounded_moved kn grounded = λ place t v at sat.
       let here = table_before place t at in
-      let before = seats_before names met callers place t in_place here in
-      grounded place t before.steward here before.at_steward
+      let before = seat_there names (seated_of met) in_place place t here in
+      grounded place t before.0 here before.1
 
 -- ---- starts that open
 
@@ -148,15 +147,15 @@ started Kills m m' leaf notes ends leaf' way moves e = absurd (no_opening ends w
 -- ---- what the next start opens
 
 -- what the counts say of a start
-pub opens : (names : List (List ℕ)) (kn : Option Known) (life : Life) (m m' : Meaning) (leaf : Leaf) (callers : List SeatView) (notes : List Note)
-    → AreInPlace names (seated_of leaf) callers → AreGrounded kn (seated_of leaf) → IfSome kn (λ k. StandsKnown k leaf m) → FitsNext kn life leaf m
+pub opens : (names : List (List ℕ)) (kn : Option Known) (life : Life) (m m' : Meaning) (leaf : Leaf) (notes : List Note)
+    → AreInPlace names (seated_of leaf) → AreGrounded kn (seated_of leaf) → IfSome kn (λ k. StandsKnown k leaf m) → FitsNext kn life leaf m
     → OpensCounts kn life m m' leaf notes
-opens names None life m m' leaf callers notes in_place grounded stands next = tt
-opens names (Some k) life m m' leaf callers notes in_place grounded stands next =
+opens names None life m m' leaf notes in_place grounded stands next = tt
+opens names (Some k) life m m' leaf notes in_place grounded stands next =
     some_weaken life.durable (λ counts. IsDurable k.base counts leaf m)
     (λ counts. (x : Seated) (s : Serving) (way : Way) → leaf ≡ IsDown x → StartsTold x m m' s notes way → (length counts ≡ length x.tables) × Notes 0 (map Opened counts) (noted_all notes))
-    (λ counts durable x s way down came. opened_counts names k counts m m' x callers s notes way
-    (subst (λ (l : Leaf). AreInPlace names (seated_of l) callers) down in_place)
+    (λ counts durable x s way down came. opened_counts names k counts m m' x s notes way
+    (subst (λ (l : Leaf). AreInPlace names (seated_of l)) down in_place)
     (subst (λ (l : Leaf). AreGrounded (Some k) (seated_of l)) down grounded)
     (subst (λ (l : Leaf). StandsKnown k l m) down stands)
     (subst (λ (l : Leaf). IsDurable k.base counts l m) down durable) came)
@@ -168,14 +167,14 @@ none_durable deed life next notes ends (CountsGo.keeps calm e) none = e ∙ ap (
 none_durable deed life next notes ends (CountsGo.lost e) none = e
 none_durable deed life next notes ends (CountsGo.opened way counts ends_are saying e) none = e
 
-module _ (names : List (List ℕ)) (k : Known) (deed : Deed) (m m' : Meaning) (met : Leaf) (callers : List SeatView) (notes : List Note) (ends : Ending) (moved : Leaf)
-    (in_place : AreInPlace names (seated_of met) callers) (grounded : AreGrounded (Some k) (seated_of met))
+module _ (names : List (List ℕ)) (k : Known) (deed : Deed) (m m' : Meaning) (met : Leaf) (notes : List Note) (ends : Ending) (moved : Leaf)
+    (in_place : AreInPlace names (seated_of met)) (grounded : AreGrounded (Some k) (seated_of met))
     (stewards : (place : ℕ) (v : SeatView) → slice_get (seated_of met).seats place ≡ Some v → IsStewards v)
     (stands : StandsKnown k met m) (carries : Carries met moved notes m m') (moves : Moves deed m m' met notes ends moved) where
   counts_kept : (durable : Option (List ℕ)) → loses_counts deed ends ≡ false → IfSome durable (λ counts. IsDurable k.base counts met m)
       → IfSome (durable_with durable (noted_all notes)) (λ counts. IsDurable k.base counts moved m')
   counts_kept None calm h = tt
-  counts_kept (Some counts) calm h = durable_moves names k counts deed m m' met callers notes ends moved in_place grounded stewards stands carries moves calm h
+  counts_kept (Some counts) calm h = durable_moves names k counts deed m m' met notes ends moved in_place grounded stewards stands carries moves calm h
 
   counts_opened : (way : Way) (counts : List ℕ) → ends ≡ ends_as.Started way → Notes 0 (map Opened counts) (noted_all notes) → IsDurable k.base counts moved m'
   counts_opened way counts ends_are saying =
@@ -183,8 +182,8 @@ module _ (names : List (List ℕ)) (k : Known) (deed : Deed) (m m' : Meaning) (m
       let count : length counts ≡ length o.x.tables =
       sym (length_mapped Opened counts) ∙ (notes_count 0 (map Opened counts) (noted_all notes) saying ∙ (length_mapped noted notes ∙ o.each)) in
       subst (λ (l : Leaf). IsDurable k.base counts l m') (sym o.up)
-      (opened_durable names k counts m m' o.x callers o.s notes way
-      (subst (λ (l : Leaf). AreInPlace names (seated_of l) callers) o.down in_place)
+      (opened_durable names k counts m m' o.x o.s notes way
+      (subst (λ (l : Leaf). AreInPlace names (seated_of l)) o.down in_place)
       (subst (λ (l : Leaf). AreGrounded (Some k) (seated_of l)) o.down grounded)
       (subst (λ (l : Leaf). (place : ℕ) (v : SeatView) → slice_get (seated_of l).seats place ≡ Some v → IsStewards v) o.down stewards)
       (subst (λ (l : Leaf). StandsKnown k l m) o.down stands)
@@ -199,38 +198,26 @@ module _ (names : List (List ℕ)) (k : Known) (deed : Deed) (m m' : Meaning) (m
   counts_on life next (CountsGo.opened way counts ends_are saying e) h =
       subst (λ (d : Option (List ℕ)). IfSome d (λ counts. IsDurable k.base counts moved m')) (sym e) (counts_opened way counts ends_are saying)
 
-pub next_moved : (names : List (List ℕ)) (kn : Option Known) (deed : Deed) (life : Life) (m m' : Meaning) (met : Leaf) (callers : List SeatView) (notes : List Note) (ends : Ending) (moved : Leaf)
-    → AreInPlace names (seated_of met) callers → AreGrounded kn (seated_of met)
+pub next_moved : (names : List (List ℕ)) (kn : Option Known) (deed : Deed) (life : Life) (m m' : Meaning) (met : Leaf) (notes : List Note) (ends : Ending) (moved : Leaf)
+    → AreInPlace names (seated_of met) → AreGrounded kn (seated_of met)
     → ((place : ℕ) (v : SeatView) → slice_get (seated_of met).seats place ≡ Some v → IsStewards v)
     → IfSome kn (λ k. StandsKnown k met m) → Carries met moved notes m m' → Moves deed m m' met notes ends moved → FitsNext kn life met m
     → (lived : Lived kn (length names) deed life (noted_all notes) ends moved m') → FitsNext kn lived.next moved m'
-next_moved names None deed life m m' met callers notes ends moved in_place grounded stewards stands carries moves next lived =
+next_moved names None deed life m m' met notes ends moved in_place grounded stewards stands carries moves next lived =
     (lived.way, none_durable deed life lived.next (noted_all notes) ends lived.counts next.1)
-next_moved names (Some k) deed life m m' met callers notes ends moved in_place grounded stewards stands carries moves next lived =
-    (lived.way, counts_on names k deed m m' met callers notes ends moved in_place grounded stewards stands carries moves life lived.next lived.counts next.1)
-
--- the second meeting, at which both seats come to have seen what the steward's had
-pub next_seen : (kn : Option Known) (life : Life) (moved : Leaf) (callers : List SeatView) (leaf' : Leaf) (callers' : List SeatView) (m' : Meaning) → (second : MeetAll moved callers leaf' callers' m')
-    → ((place : ℕ) (v w : SeatView) → slice_get (seated_of moved).seats place ≡ Some v → slice_get second.seats place ≡ Some w → seen_of w ≡ seen_of v)
-    → ((place : ℕ) (w : SeatView) → slice_get second.seats place ≡ Some w → (v : SeatView) × (slice_get (seated_of moved).seats place ≡ Some v))
-    → FitsNext kn life moved m' → FitsNext kn life leaf' m'
-next_seen None life moved callers leaf' callers' m' second seen there next = next
-next_seen (Some k) life moved callers leaf' callers' m' second seen there next = (
-  next.0,
-  some_weaken life.durable (λ counts. IsDurable k.base counts moved m') (λ counts. IsDurable k.base counts leaf' m')
-      (λ counts durable. subst (λ (l : Leaf). IsDurable k.base counts l m') (sym second.leaf_is) (durable_seen k.base counts moved second.seats m' seen there durable)) next.1,
-)
+next_moved names (Some k) deed life m m' met notes ends moved in_place grounded stewards stands carries moves next lived =
+    (lived.way, counts_on names k deed m m' met notes ends moved in_place grounded stewards stands carries moves life lived.next lived.counts next.1)
 
 -- ---- what stands of the berth
 
-pub known_moved : (number : ℕ) (names : List (List ℕ)) (kn : Option Known) (old : Meaning) (deed : Deed) (life : Life) (pieces : List Piece) (m m' : Meaning) (met : Leaf) (callers : List SeatView) (notes : List Note) (ends : Ending) (moved : Leaf)
-    → AreInPlace names (seated_of met) callers → AreGrounded kn (seated_of met) → FitsMode life.mode met → Moves deed m m' met notes ends moved → Carries met moved notes m m'
+pub known_moved : (number : ℕ) (names : List (List ℕ)) (kn : Option Known) (old : Meaning) (deed : Deed) (life : Life) (pieces : List Piece) (m m' : Meaning) (met : Leaf) (notes : List Note) (ends : Ending) (moved : Leaf)
+    → AreInPlace names (seated_of met) → AreGrounded kn (seated_of met) → FitsMode life.mode met → Moves deed m m' met notes ends moved → Carries met moved notes m m'
     → (lived : Lived kn (length names) deed life (noted_all notes) ends moved m')
     → IfSome kn (KnownLeaf number names old life pieces met m)
     → IfSome kn (KnownLeaf number names old lived.next (pieces ++ Acted number deed (noted_all notes) ends ∷ []) moved m')
-known_moved number names None old deed life pieces m m' met callers notes ends moved in_place grounded mode moves carries lived s = tt
-known_moved number names (Some k) old deed life pieces m m' met callers notes ends moved in_place grounded mode moves carries lived s =
-    let on = stands_carried names k.base met moved callers notes m m' s.now.tells in_place grounded s.now.sound s.now.stands carries in
+known_moved number names None old deed life pieces m m' met notes ends moved in_place grounded mode moves carries lived s = tt
+known_moved number names (Some k) old deed life pieces m m' met notes ends moved in_place grounded mode moves carries lived s =
+    let on = stands_carried names k.base met moved notes m m' s.now.tells in_place grounded s.now.sound s.now.stands carries in
     record {
       now = record { tells = subst IsTrue (sym on.told.passes.tells) s.now.tells; sound = s.now.sound; stands = on.stands };
       told = told_on k.base names met moved old m m' s.told on;

@@ -13,14 +13,13 @@ use Rattle.leaf_machine.specs.States.{Serving, Shutting}
 use Rattle.leaf_machine.specs.Starts.{IsStartRefused, told_of}
 use Rattle.printed_lines.specs.declared.line.Ending.{Ending}
 use Rattle.printed_lines.specs.declared.line.Ending.TheVariants as ending
-use Rattle.transcript.specs.Pieces.{Piece, Called, Worn, Acted, Says, Deed, Starts, Flushes, Drains, Kills, Noted}
+use Rattle.transcript.specs.Pieces.{Piece, Acted, Deed, Starts, Flushes, Drains, Kills, Noted}
 use Rattle.transcript.specs.Life.{Life, Mode, Down, Up, Owed, Does, OfStart, OfFlush, OfDrain, OfKill, BeginsAt, IsStartRefusal, Progress}
 use Rattle.transcript.specs.Strangers.{IsNamedBy, Strangers, until_up}
 use Rattle.transcript.specs.Transcript.{Known, first_life}
 use Rattle.transcript.specs.Stage.{Leaf, IsDown, IsUp, IsPreparing, seated_of}
 use Rattle.transcript.specs.Steps.{Moves, StartMoves, FlushMoves, DrainMoves, KillMoves, BeginsShutting, IsDownLeaf, ending_of, noted_all}
 use Rattle.leaf_sessions.specs.Session.{AreNamed, FitsMode, IsAsHanded}
-use Rattle.leaf_sessions.proofs.Lives.{IsNoDeed}
 use Rattle.leaf_sessions.proofs.AsHanded.{handed_first, handed_on, handed_still, log_named, region_named}
 
 -- ---- a life that has begun goes on so
@@ -237,13 +236,6 @@ module _ (number : ℕ) (names : List (List ℕ)) (held : Pair) where
   fresh_goes tables Kills life m m' leaf notes ends leaf' next tells down same_names mode handed moves does =
       rests_goes life ends next m m' mode handed (kill_rests tables life (noted_all notes) ends next mode does) (kill_held m m' leaf notes ends leaf' down moves)
 
-  -- what is no deed of this leaf's steward tells of no stranger of it
-  past_on : (p : Piece) (more : List Piece) → IsNoDeed number p → Strangers (IsNamedBy names held) number more → Strangers (IsNamedBy names held) number (p ∷ more)
-  past_on (Called l table c n said) more apart all = all
-  past_on (Worn l table) more apart all = all
-  past_on (Says line) more apart all = all
-  past_on (Acted l deed notes ends) more apart all = rw apart all
-
 -- ---- a run
 
 pub named_first : (number : ℕ) (names : List (List ℕ)) (k : Known) (m : Meaning) → k.held ≡ m.held → AreNamed number names k.held (first_life (Some k) names) [] m
@@ -264,12 +256,3 @@ named_act number names held life pieces deed m m' leaf notes ends leaf' next tel
         let was = named.rest fresh in
         let down : IsDownLeaf leaf = down_leaf leaf (subst (λ (mode : Mode). FitsMode mode leaf) was.0 fits) in
         fresh_goes number names held (length names) deed life m m' leaf notes ends leaf' next tells down same_names was.0 was.1 moves does
-
-pub named_past : (number : ℕ) (names : List (List ℕ)) (held : Pair) (life : Life) (pieces : List Piece) (p : Piece) (m : Meaning) → IsNoDeed number p
-    → AreNamed number names held life pieces m → AreNamed number names held life (pieces ++ p ∷ []) m
-named_past number names held life pieces p m apart named = record {
-  rest = named.rest;
-  on = λ more all.
-      subst (λ (ps : List Piece). Strangers (IsNamedBy names held) number ps) (sym (append_assoc pieces (p ∷ []) more))
-      (named.on (p ∷ more) (λ fresh. past_on number names held p more apart (all fresh)));
-}

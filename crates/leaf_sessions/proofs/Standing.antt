@@ -1,15 +1,13 @@
 -- What stands of a leaf at a meeting, when a run begins, and when it has ended.
-use Rattle.std.proofs.Common.{◌≡◌, ℕ, zero, suc, ◌+◌, ◌<◌, true, List, [], ◌∷◌, ◌++◌, length, map, Some, refl, sym, ap, ap₂, subst, ◌∙◌, arith}
+use Rattle.std.proofs.Common.{Option, ◌≡◌, ℕ, zero, suc, ◌+◌, true, List, [], ◌∷◌, length, map, Some, refl, sym, ap, ap₂, subst, ◌∙◌, arith}
 use Rattle.std.specs.Prelude.{IsTrue, IfSome, slice_get}
 use Rattle.std.specs.List.{AllByRecursion}
-use Rattle.std.proofs.lemmas.List.{map-append}
 use Rattle.berth_face.specs.Berth.{Meaning}
 use Rattle.berth_face.specs.Moments.{EachNow}
 use Rattle.leaf_history.specs.History.{Entry, HistoryState}
-use Rattle.leaf_history.specs.Laws.{AreCallers}
 use Rattle.region_layout.specs.Region.{reads}
 use Rattle.leaf_opening.specs.Starts.{IsWayOf}
-use Rattle.turnstile.specs.Seats.{Others, unused_seat}
+use Rattle.turnstile.specs.Seats.{unused_seat}
 use Rattle.crash_moments.specs.Left.{NamedStates, Left}
 use Rattle.crash_moments.specs.Told as moments
 use Rattle.crash_moments.specs.Told.{SeenMore}
@@ -19,20 +17,20 @@ use Rattle.crash_states.proofs.Lefts.{runs_told, rests_told}
 use Rattle.crash_states.proofs.Whole.{runs_whole, rests_whole}
 use Rattle.crash_states.proofs.Meeting.{callers_between}
 use Rattle.crash_states.specs.Standing.{tables_of}
-use Rattle.leaf_table.specs.Turns.{Shared, Turns, history, is_founded, start_of, told}
-use Rattle.leaf_table.specs.Calls.{SeatView, AreOthers, base_seen, name_of, seen_of}
-use Rattle.leaf_table.proofs.Knowing.{callers_of}
+use Rattle.leaf_table.specs.Turns.{Shared, is_founded, start_of}
+use Rattle.leaf_table.specs.Calls.{SeatView, base_seen, name_of, seen_of}
 use Rattle.leaf_steward.specs.declared.notes.Note.{Note}
 use Rattle.leaf_steward.specs.Seated.{Seated, AreFounded, AtEach, watch, watched_by}
 use Rattle.leaf_machine.specs.Leaving.{BeginsAgain, LeavesBegin}
 use Rattle.transcript.specs.Base.{unseen, watched_from, watched_with}
-use Rattle.transcript.specs.Stage.{Leaf, IsDown, IsUp, IsPreparing, Stands, StandsOn, AreHandedNothing, Carries, Meets, MeetAll, seated_of, seated_with, with_seats}
+use Rattle.transcript.specs.Stage.{Leaf, IsDown, IsUp, IsPreparing, Stands, StandsOn, AreHandedNothing, Carries, seated_of, seated_with, with_seats}
 use Rattle.transcript.specs.Life.{Life}
 use Rattle.transcript.specs.Leaving.{LeavesBerth}
-use Rattle.transcript.specs.Holds.{history_at}
-use Rattle.leaf_sessions.specs.Session.{AreInPlace, AtTables, IsStewards}
+use Rattle.transcript.specs.Histories.{Ground}
+use Rattle.transcript.specs.Transcript.{Known, ground_of}
+use Rattle.leaf_sessions.specs.Session.{AreInPlace}
 use Rattle.leaf_sessions.proofs.Lists.{element_at, length_mapped, within}
-use Rattle.leaf_sessions.proofs.Growing.{at_table}
+use Rattle.leaf_sessions.proofs.TableMeets.{HasLearned}
 
 -- ---- the tables of a leaf, place by place
 
@@ -44,16 +42,13 @@ all_each : {X : Type 0} (P : X → Type 0) (xs : List X) → ((place : ℕ) (x :
 all_each P [] each = tt
 all_each P (x ∷ xs) each = (each zero x refl, all_each P xs (λ place y at. each (suc place) y at))
 
-module _ (names : List (List ℕ)) (x : Seated) (callers : List SeatView) (in_place : AreInPlace names x callers) where
+module _ (names : List (List ℕ)) (x : Seated) (in_place : AreInPlace names x) where
   pub as_many : length x.tables ≡ length names
   as_many = sym (length_mapped name_of x.tables) ∙ ap (λ (ns : List (List ℕ)). length ns) in_place.named
 
-  -- where there is a table there is a seat of the steward and one of callers
+  -- where there is a table there is a seat of the steward
   pub seat_there : (place : ℕ) (t : Shared) → slice_get x.tables place ≡ Some t → (v : SeatView) × (slice_get x.seats place ≡ Some v)
   seat_there place t at = element_at x.seats place (omega (arith, within x.tables place t at, as_many, in_place.seats))
-
-  pub caller_there : (place : ℕ) (t : Shared) → slice_get x.tables place ≡ Some t → (c : SeatView) × (slice_get callers place ≡ Some c)
-  caller_there place t at = element_at callers place (omega (arith, within x.tables place t at, as_many, in_place.callers_are))
 
   pub founded_all : (base : NamedStates) → AreFoundedWith base x → AreFounded x
   founded_all base founded = all_each (λ (t : Shared). is_founded (base_seen t) ≡ true) x.tables (λ place t at.
@@ -83,19 +78,17 @@ watch_with base histories first (t ∷ ts) (v ∷ vs) count each =
     one_more : (n place : ℕ) → n + suc place ≡ suc n + place
     one_more n place = omega arith
 
-watched_as : (names : List (List ℕ)) (base : NamedStates) (histories : ℕ → List Entry) (x : Seated) (callers : List SeatView) → AreInPlace names x callers → AreFoundedWith base x
-    → AtTables (λ t place v c. seen_of v ≡ histories place) x callers → watched_by x ≡ watched_with names base histories
-watched_as names base histories x callers in_place founded seen =
-    watch_with base histories 0 x.tables x.seats (in_place.seats ∙ sym (as_many names x callers in_place)) each
+watched_as : (names : List (List ℕ)) (base : NamedStates) (histories : ℕ → List Entry) (x : Seated) → AreInPlace names x → AreFoundedWith base x
+    → AtEach (λ place t v. seen_of v ≡ histories place) x → watched_by x ≡ watched_with names base histories
+watched_as names base histories x in_place founded seen =
+    watch_with base histories 0 x.tables x.seats (in_place.seats ∙ sym (as_many names x in_place)) each
     ∙ ap (λ (ns : List (List ℕ)). watched_from 0 ns base histories) in_place.named
   where
     none_before : (place : ℕ) → place ≡ 0 + place
     none_before place = omega arith
 
     each : (place : ℕ) (t : Shared) (v : SeatView) → slice_get x.tables place ≡ Some t → slice_get x.seats place ≡ Some v → (start_of (base_seen t) ≡ base (name_of t)) × (seen_of v ≡ histories (0 + place))
-    each place t v at sat =
-        let caller = caller_there names x callers in_place place t at in
-        ((founded place t v at sat).1, seen place t v caller.0 at sat caller.1 ∙ ap histories (none_before place))
+    each place t v at sat = ((founded place t v at sat).1, seen place t v at sat ∙ ap histories (none_before place))
 
 -- ---- what stands is told
 
@@ -108,38 +101,28 @@ stands_told base (IsPreparing x) before m stands more =
 
 -- ---- a meeting
 
--- the seat has seen callers' entries more
-record HasLearned (v w : SeatView) : Type 0 where
-  pub more : List Entry
-  pub callers : AreCallers more
-  pub seen : seen_of w ≡ seen_of v ++ more
+-- the leaf is the same but for its steward's seats, each of which has learned callers' entries alone
+pub record LeafMeets (known : Option Known) (leaf leaf' : Leaf) (m : Meaning) : Type 0 where
+  pub seats : List SeatView
+  pub leaf_is : leaf' ≡ with_seats leaf seats
+  pub count : length seats ≡ length (seated_of leaf).seats
+  pub each : (place : ℕ) (t : Shared) (v w : SeatView) → slice_get (seated_of leaf).tables place ≡ Some t → slice_get (seated_of leaf).seats place ≡ Some v → slice_get seats place ≡ Some w
+      → HasLearned (ground_of known (name_of t)) v w
+  pub stands : (base : NamedStates) → IsTrue m.tells → AreFounded (seated_of leaf) → Stands base leaf m → Stands base leaf' m
 
-others_seen : (v : SeatView) (es : Turns) → Others v es → AreOthers v (history es)
-others_seen v [] others = tt
-others_seen v (e ∷ es) others = (others.0, others_seen v es others.1)
-
-steward_learned : (v c v' c' : SeatView) → IsStewards v → Meets v c v' c' → HasLearned v v'
-steward_learned v c v' c' is meets =
-    let more : Turns = meets.steward.longer.own.0 in
-    let seen : v'.seen ≡ v.seen ++ more = ap (λ (s : SeatView). s.seen) meets.steward.view ∙ sym meets.steward.longer.own.1 in
-    record {
-      more = history more;
-      callers = callers_of v (history more) is.id (omega (arith, is.share)) (others_seen v more (meets.steward_learns more seen));
-      seen = ap (λ (es : Turns). history es) seen ∙ map-append told v.seen more;
-    }
-
-watch_learned : (from to : ℕ) (ts : List Shared) (vs ws : List SeatView) → length ws ≡ length vs
-    → ((place : ℕ) (v w : SeatView) → slice_get vs place ≡ Some v → slice_get ws place ≡ Some w → HasLearned v w) → SeenMore from to (watch ts vs) (watch ts ws)
-watch_learned from to [] vs ws count each = tt
-watch_learned from to (t ∷ ts) [] [] count each = tt
-watch_learned from to (t ∷ ts) [] (w ∷ ws) count each = absurd (omega (arith, count))
-watch_learned from to (t ∷ ts) (v ∷ vs) [] count each = absurd (omega (arith, count))
-watch_learned from to (t ∷ ts) (v ∷ vs) (w ∷ ws) count each =
-    let here = each zero v w refl refl in (
+watch_learned : (from to : ℕ) (g : Shared → Ground) (ts : List Shared) (vs ws : List SeatView) → length ws ≡ length vs
+    → ((place : ℕ) (t : Shared) (v w : SeatView) → slice_get ts place ≡ Some t → slice_get vs place ≡ Some v → slice_get ws place ≡ Some w → HasLearned (g t) v w)
+    → SeenMore from to (watch ts vs) (watch ts ws)
+watch_learned from to g [] vs ws count each = tt
+watch_learned from to g (t ∷ ts) [] [] count each = tt
+watch_learned from to g (t ∷ ts) [] (w ∷ ws) count each = absurd (omega (arith, count))
+watch_learned from to g (t ∷ ts) (v ∷ vs) [] count each = absurd (omega (arith, count))
+watch_learned from to g (t ∷ ts) (v ∷ vs) (w ∷ ws) count each =
+    let here = each zero t v w refl refl refl in (
       refl,
       refl,
       (here.more, here.seen, callers_between from to here.more here.callers),
-      watch_learned from to ts vs ws (omega (arith, count)) (λ place a b at sat. each (suc place) a b at sat),
+      watch_learned from to g ts vs ws (omega (arith, count)) (λ place u a b at sat sat'. each (suc place) u a b at sat sat'),
     )
 
 -- the leaf is the same but for its seats
@@ -149,34 +132,23 @@ seats_become (IsUp x) seats = refl
 seats_become (IsPreparing x) seats = refl
 
 -- at each table, at one moment
-met_more : (names : List (List ℕ)) (leaf : Leaf) (callers : List SeatView) (leaf' : Leaf) (callers' : List SeatView) (m : Meaning) → AreInPlace names (seated_of leaf) callers
-    → ((place : ℕ) (v : SeatView) → slice_get (seated_of leaf).seats place ≡ Some v → IsStewards v)
-    → MeetAll leaf callers leaf' callers' m → SeenMore m.clock m.clock (watched_by (seated_of leaf)) (watched_by (seated_of leaf'))
-met_more names leaf callers leaf' callers' m in_place stewards met =
+met_more : (known : Option Known) (leaf leaf' : Leaf) (m : Meaning) → LeafMeets known leaf leaf' m → SeenMore m.clock m.clock (watched_by (seated_of leaf)) (watched_by (seated_of leaf'))
+met_more known leaf leaf' m met =
     subst (λ (ws : List Watched). SeenMore m.clock m.clock (watched_by (seated_of leaf)) ws) (sym now)
-    (watch_learned m.clock m.clock (seated_of leaf).tables (seated_of leaf).seats met.seats met.count.0 learned)
+    (watch_learned m.clock m.clock (λ t. ground_of known (name_of t)) (seated_of leaf).tables (seated_of leaf).seats met.seats met.count met.each)
   where
     now : watched_by (seated_of leaf') ≡ watch (seated_of leaf).tables met.seats
     now = ap (λ (l : Leaf). watched_by (seated_of l)) met.leaf_is ∙ ap (λ (s : Seated). watched_by s) (seats_become leaf met.seats)
 
-    learned : (place : ℕ) (v w : SeatView) → slice_get (seated_of leaf).seats place ≡ Some v → slice_get met.seats place ≡ Some w → HasLearned v w
-    learned place v w was is =
-        let there : place < length (seated_of leaf).seats = within (seated_of leaf).seats place v was in
-        let c = element_at callers place (omega (arith, there, in_place.seats, in_place.callers_are)) in
-        let c' = element_at callers' place (omega (arith, there, in_place.seats, in_place.callers_are, met.count.1)) in
-        steward_learned v c.0 w c'.0 (stewards place v was) (met.each place v c.0 w c'.0 was c.1 is c'.1)
-
 -- at a meeting no time passes, and the steward's seats learn callers' entries alone
-pub stands_met : (names : List (List ℕ)) (base : NamedStates) (leaf : Leaf) (callers : List SeatView) (leaf' : Leaf) (callers' : List SeatView) (m : Meaning)
-    → IsTrue m.tells → AreInPlace names (seated_of leaf) callers → AreFoundedWith base (seated_of leaf)
-    → ((place : ℕ) (v : SeatView) → slice_get (seated_of leaf).seats place ≡ Some v → IsStewards v)
-    → Stands base leaf m → MeetAll leaf callers leaf' callers' m
+pub stands_met : (names : List (List ℕ)) (base : NamedStates) (known : Option Known) (leaf leaf' : Leaf) (m : Meaning)
+    → IsTrue m.tells → AreInPlace names (seated_of leaf) → AreFoundedWith base (seated_of leaf) → Stands base leaf m → LeafMeets known leaf leaf' m
     → StandsOn base leaf leaf' m m
-stands_met names base leaf callers leaf' callers' m tells in_place founded stewards stands met =
-    let still : Stands base leaf' m = met.stands base tells (founded_all names (seated_of leaf) callers in_place base founded) stands in
+stands_met names base known leaf leaf' m tells in_place founded stands met =
+    let still : Stands base leaf' m = met.stands base tells (founded_all names (seated_of leaf) in_place base founded) stands in
     record {
       stands = still;
-      told = stands_told base leaf' (watched_by (seated_of leaf)) m still (met_more names leaf callers leaf' callers' m in_place stewards met);
+      told = stands_told base leaf' (watched_by (seated_of leaf)) m still (met_more known leaf leaf' m met);
     }
 
 -- what was told up to a call and what it tells
@@ -187,24 +159,21 @@ told_on base names leaf leaf' old m m' so_far on =
     told_join base (watched_with names base unseen) (watched_by (seated_of leaf)) (watched_by (seated_of leaf')) old m m' so_far on.told
 
 -- where the tables are founded with the base, they are founded
-pub stands_carried : (names : List (List ℕ)) (base : NamedStates) (leaf leaf' : Leaf) (callers : List SeatView) (notes : List Note) (m m' : Meaning)
-    → IsTrue m.tells → AreInPlace names (seated_of leaf) callers → AreFoundedWith base (seated_of leaf) → AreHandedNothing base
+pub stands_carried : (names : List (List ℕ)) (base : NamedStates) (leaf leaf' : Leaf) (notes : List Note) (m m' : Meaning)
+    → IsTrue m.tells → AreInPlace names (seated_of leaf) → AreFoundedWith base (seated_of leaf) → AreHandedNothing base
     → Stands base leaf m → Carries leaf leaf' notes m m' → StandsOn base leaf leaf' m m'
-stands_carried names base leaf leaf' callers notes m m' tells in_place founded sound stands carries =
-    carries.stands base tells (founded_all names (seated_of leaf) callers in_place base founded) sound stands
+stands_carried names base leaf leaf' notes m m' tells in_place founded sound stands carries =
+    carries.stands base tells (founded_all names (seated_of leaf) in_place base founded) sound stands
 
 -- ---- the first moment and the last
 
 -- a run begins
-pub told_first : (names : List (List ℕ)) (base : NamedStates) (x : Seated) (callers : List SeatView) (m : Meaning)
-    → AreInPlace names x callers → AreFoundedWith base x
-    → AtTables (λ t place v c. (v ≡ unused_seat t.site 0 1 1024) × (c ≡ unused_seat t.site 1 65536 65536)) x callers
-    → Stands base (IsDown x) m
+pub told_first : (names : List (List ℕ)) (base : NamedStates) (x : Seated) (m : Meaning)
+    → AreInPlace names x → AreFoundedWith base x → AtEach (λ place t v. v ≡ unused_seat t.site 0 1 1024) x → Stands base (IsDown x) m
     → moments.Told base (watched_with names base unseen) (watched_by x) m m
-told_first names base x callers m in_place founded unused stands =
-    let none : AtTables (λ t place v c. seen_of v ≡ unseen place) x callers =
-    λ place t v c at sat called. ap (λ (s : SeatView). seen_of s) (unused place t v c at sat called).0 in
-    let first : watched_by x ≡ watched_with names base unseen = watched_as names base unseen x callers in_place founded none in
+told_first names base x m in_place founded unused stands =
+    let none : AtEach (λ place t v. seen_of v ≡ unseen place) x = λ place t v at sat. ap (λ (s : SeatView). seen_of s) (unused place t v at sat) in
+    let first : watched_by x ≡ watched_with names base unseen = watched_as names base unseen x in_place founded none in
     stands_told base (IsDown x) (watched_with names base unseen) m stands
     (subst (λ (ws : List Watched). SeenMore m.clock m.clock ws (watched_by x)) first (none_more m.clock m.clock (watched_by x)))
 
@@ -221,17 +190,15 @@ stands_whole base (IsDown x) m stands = rests_whole (watched_by x) base stands.0
 stands_whole base (IsUp x) m stands = runs_whole (watched_by x.seated) base x.owing.owner x.owing.log stands.0 m stands.1
 stands_whole base (IsPreparing x) m stands = runs_whole (watched_by x.serving.seated) base x.serving.owing.owner x.serving.owing.log stands.0 m stands.1
 
--- it has ended, and all seats have met
-pub leaves_met : (names : List (List ℕ)) (base : NamedStates) (life : Life) (leaf : Leaf) (callers : List SeatView) (old m : Meaning)
-    → LeavesBegin m → IsTrue m.tells → AreHandedNothing base → AreInPlace names (seated_of leaf) callers → AreFoundedWith base (seated_of leaf)
-    → AtTables (λ t place v c. seen_of v ≡ seen_of c) (seated_of leaf) callers
+-- it has ended, and its seats have seen these histories
+pub leaves_met : (names : List (List ℕ)) (base : NamedStates) (life : Life) (leaf : Leaf) (histories : ℕ → List Entry) (old m : Meaning)
+    → LeavesBegin m → IsTrue m.tells → AreHandedNothing base → AreInPlace names (seated_of leaf) → AreFoundedWith base (seated_of leaf)
+    → AtEach (λ place t v. seen_of v ≡ histories place) (seated_of leaf)
     → Stands base leaf m → moments.Told base (watched_with names base unseen) (watched_by (seated_of leaf)) old m
     → IfSome life.way (IsWayOf m.held.region)
-    → LeavesBerth names base life (history_at callers) old m
-leaves_met names base life leaf callers old m law tells sound in_place founded same stands so_far way =
-    let last : watched_by (seated_of leaf) ≡ watched_with names base (history_at callers) =
-    watched_as names base (history_at callers) (seated_of leaf) callers in_place founded
-    (λ place t v c at sat called. same place t v c at sat called ∙ sym (at_table callers place c called)) in
+    → LeavesBerth names base life histories old m
+leaves_met names base life leaf histories old m law tells sound in_place founded seen stands so_far way =
+    let last : watched_by (seated_of leaf) ≡ watched_with names base histories = watched_as names base histories (seated_of leaf) in_place founded seen in
     record {
       crash = subst (λ (ws : List Watched). moments.Told base (watched_with names base unseen) ws old m) last so_far;
       left = subst (λ (ws : List Watched). EachNow (λ p. Left reads (tables_of base ws m) p) m) last (stands_whole base leaf m stands);

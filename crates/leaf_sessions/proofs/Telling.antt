@@ -1,28 +1,50 @@
--- The lines of one table, and the entries that they show.
-use Rattle.std.proofs.Common.{◌≡◌, ℕ, suc, ◌+◌, List, [], ◌∷◌, ◌++◌, length, ap, subst, ◌∙◌, arith}
+-- The lines of one table in what was printed, and the order of their numbers, as one command prints a piece more.
+use Rattle.std.proofs.Common.{◌≡◌, ℕ, ◌≤◌, List, [], ◌∷◌, ◌++◌, sym, ap, subst, ◌∙◌, arith}
 use Rattle.std.proofs.lemmas.Grind.{flat_map-append}
-use Rattle.std.proofs.lemmas.List.{append-nil}
-use Rattle.leaf_history.specs.History.{Entry}
-use Rattle.transcript.specs.Pieces.{Piece}
-use Rattle.transcript.specs.Histories.{Shown, Tells, shown, shown_in}
+use Rattle.std.proofs.lemmas.List.{append-nil, append_assoc}
+use Rattle.script_text.specs.declared.command.Command.{Command}
+use Rattle.transcript.specs.Pieces.{Piece, Played, PlayedItem, One, all_pieces, pieces_in, plays_in, plays_of}
+use Rattle.transcript.specs.Histories.{InOrder, Rises, Shown, shown, shown_in}
+use Rattle.leaf_sessions.proofs.Terms.{with_pieces}
+use Rattle.leaf_sessions.proofs.Tables.{order_append}
+use Rattle.leaf_sessions.proofs.Backs.{Rises_higher, rises_append}
 
-plus_zero : (n : ℕ) → n + 0 ≡ n
-plus_zero n = omega arith
+-- ---- pieces
 
-plus_suc : (n k : ℕ) → n + suc k ≡ suc n + k
-plus_suc n k = omega arith
-
--- more lines show more entries
-pub Tells-append : (n : ℕ) (xs ys : List Shown) (es fs : List Entry) → Tells n xs es → Tells (n + length es) ys fs → Tells n (xs ++ ys) (es ++ fs)
-Tells-append n [] ys [] fs g h = subst (λ k. Tells k ys fs) (plus_zero n) h
-Tells-append n [] ys (e ∷ es) fs g h = absurd g
-Tells-append n (x ∷ xs) ys [] fs g h = absurd g
-Tells-append n (x ∷ xs) ys (e ∷ es) fs g h =
-    (g.0, g.1, Tells-append (suc n) xs ys es fs g.2 (subst (λ k. Tells k ys fs) (plus_suc n (length es)) h))
-
--- the lines of more pieces
 pub shown-append : (leaf table : ℕ) (ps qs : List Piece) → shown leaf table (ps ++ qs) ≡ shown leaf table ps ++ shown leaf table qs
 shown-append leaf table ps qs = flat_map-append (shown_in leaf table) ps qs
 
-pub shown-snoc : (leaf table : ℕ) (ps : List Piece) (p : Piece) → shown leaf table (ps ++ p ∷ []) ≡ shown leaf table ps ++ shown_in leaf table p
-shown-snoc leaf table ps p = shown-append leaf table ps (p ∷ []) ∙ ap (λ ss. shown leaf table ps ++ ss) (append-nil (shown_in leaf table p))
+pub pieces_append : (xs ys : List PlayedItem) → all_pieces (xs ++ ys) ≡ all_pieces xs ++ all_pieces ys
+pieces_append xs ys = ap (λ (ps : List Played). pieces_in ps) (flat_map-append plays_of xs ys) ∙ flat_map-append (λ (p : Played). p.pieces) (plays_in xs) (plays_in ys)
+
+pub pieces_with : (items : List PlayedItem) (c : Command) (ps : List Piece) → all_pieces (with_pieces items c ps) ≡ all_pieces items ++ ps
+pieces_with items c ps = pieces_append items (One (record { command = c; pieces = ps }) ∷ []) ∙ ap (λ (qs : List Piece). all_pieces items ++ qs) (append-nil ps)
+
+pub pieces_more : (items : List PlayedItem) (c : Command) (ps : List Piece) (p : Piece) → all_pieces (with_pieces items c (ps ++ p ∷ [])) ≡ all_pieces (with_pieces items c ps) ++ p ∷ []
+pieces_more items c ps p =
+    pieces_with items c (ps ++ p ∷ []) ∙ (sym (append_assoc (all_pieces items) ps (p ∷ [])) ∙ ap (λ (qs : List Piece). qs ++ p ∷ []) (sym (pieces_with items c ps)))
+
+pub shown_more : (leaf table : ℕ) (items : List PlayedItem) (c : Command) (ps : List Piece) (p : Piece)
+    → shown leaf table (all_pieces (with_pieces items c (ps ++ p ∷ []))) ≡ shown leaf table (all_pieces (with_pieces items c ps)) ++ shown leaf table (p ∷ [])
+shown_more leaf table items c ps p = ap (λ (qs : List Piece). shown leaf table qs) (pieces_more items c ps p) ∙ shown-append leaf table (all_pieces (with_pieces items c ps)) (p ∷ [])
+
+-- ---- the order of the numbers
+
+same_most : (n : ℕ) → n ≤ n
+same_most n = omega arith
+
+-- a piece more of the command that is played
+pub order_more : (leaf table low : ℕ) (items : List PlayedItem) (c : Command) (ps : List Piece) (p : Piece) (high high' : ℕ)
+    → InOrder leaf table low (with_pieces items c ps) high → Rises high (shown leaf table (p ∷ [])) high' → InOrder leaf table low (with_pieces items c (ps ++ p ∷ [])) high'
+order_more leaf table low [] c ps p high high' h r = (
+  high',
+  subst (λ (ss : List Shown). Rises low ss high') (sym (shown-append leaf table ps (p ∷ [])))
+      (rises_append low high high' (shown leaf table ps) (shown leaf table (p ∷ [])) (Rises_higher low (shown leaf table ps) h.0 high h.2 h.1) r),
+  same_most high',
+)
+order_more leaf table low (x ∷ xs) c ps p high high' h r = (h.0, h.1, order_more leaf table h.0 xs c ps p high high' h.2 r)
+
+-- a command more, of which nothing was printed yet
+pub order_opens : (leaf table low : ℕ) (items : List PlayedItem) (c : Command) (high : ℕ) → InOrder leaf table low items high → InOrder leaf table low (with_pieces items c []) high
+order_opens leaf table low items c high h =
+    order_append leaf table low high high items (One (record { command = c; pieces = [] }) ∷ []) h (high, same_most high, same_most high)

@@ -1,26 +1,18 @@
--- What the proofs say of a table and of its histories.
-use Rattle.std.proofs.Common.{◌≡◌, ℕ, suc, List, ◌++◌, length}
+-- What the proofs say of a leaf by who holds it or seats of it.
+use Rattle.std.specs.Prelude.{◌≡◌, ℕ, List, [], ◌∷◌, ◌++◌}
 use Rattle.leaf_history.specs.History.{Entry}
-use Rattle.leaf_table.specs.Calls.{SeatView, seen_of}
-use Rattle.leaf_steward.specs.declared.notes.Note.{Note}
-use Rattle.transcript.specs.Histories.{shown_notes}
-use Rattle.transcript.specs.Holds.{history_at}
-use Rattle.transcript.specs.Steps.{noted_all}
-use Rattle.leaf_sessions.specs.Session.{TellsOwn}
+use Rattle.script_text.specs.declared.command.Command.{Command}
+use Rattle.transcript.specs.Pieces.{Piece, PlayedItem, One}
+use Rattle.transcript.specs.Holds.{Hold, seen_in}
 
--- a seat keeps its ids
-pub record SameIds (v w : SeatView) : Type 0 where
-  pub id : w.id ≡ v.id
-  pub share : w.share ≡ v.share
-  pub taken : w.taken ≡ v.taken
+-- one command more, of which so much was printed
+abbrev pub with_pieces : List PlayedItem → Command → List Piece → List PlayedItem
+with_pieces items c ps = items ++ One (record { command = c; pieces = ps }) ∷ []
 
--- the lines of notes tell what the steward's seat at this table has made
-pub record NotesAt (place : ℕ) (notes : List Note) (v w : SeatView) : Type 0 where
-  pub entries : List Entry
-  pub seen : seen_of w ≡ seen_of v ++ entries
-  pub tells : TellsOwn v (suc (length (seen_of v))) (shown_notes place (noted_all notes)) entries
-  pub ids : SameIds v w
+-- what has been seen is a beginning of what these histories tell
+abbrev pub TellsOn : {B : Type 0} → ℕ → Hold B → (ℕ → ℕ → List Entry) → Type 0
+TellsOn number x histories = (place : ℕ) → (more : List Entry) × (histories number place ≡ seen_in x place ++ more)
 
--- each history goes on
-abbrev pub Grow : List SeatView → List SeatView → Type 0
-Grow callers callers' = (table : ℕ) → (more : List Entry) × (history_at callers' table ≡ history_at callers table ++ more)
+-- the second has seen all that the first had
+abbrev pub Grows : {B : Type 0} → Hold B → Hold B → Type 0
+Grows x y = (place : ℕ) → (more : List Entry) × (seen_in y place ≡ seen_in x place ++ more)

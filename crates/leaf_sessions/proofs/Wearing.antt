@@ -7,7 +7,8 @@ use Rattle.leaf_history.specs.History.{Entry}
 use Rattle.leaf_table.specs.declared.base.TableBase.{TableBase}
 use Rattle.leaf_table.specs.declared.replies.Reply.{Reply}
 use Rattle.leaf_table.specs.declared.replies.Reply.TheVariants as told
-use Rattle.leaf_table.specs.Turns.{Shared}
+use Rattle.std.proofs.lemmas.List.{length-append, length-map}
+use Rattle.leaf_table.specs.Turns.{told as entry_told}
 use Rattle.leaf_table.specs.Calls.{SeatView, Answered as CallAnswered, base_seen, seen_of}
 use Rattle.leaf_steward.specs.declared.notes.Note.{Note}
 use Rattle.leaf_steward.specs.Seated.{Seated}
@@ -20,10 +21,21 @@ use Rattle.leaf_machine.specs.Flushes.{Flushes as Flushing}
 use Rattle.printed_lines.specs.declared.line.Ending.{Ending}
 use Rattle.transcript.specs.Pieces.{Acted, Deed, Drains, Flushes, Kills, Noted, Piece, Starts}
 use Rattle.transcript.specs.Answers.{WornIsLong}
-use Rattle.transcript.specs.Holds.{history_at}
+use Rattle.transcript.specs.Holds.{Hold, caller_in, seen_by, seen_in, steward_in, with_callers}
 use Rattle.transcript.specs.Stage.{Leaf, IsUp, seated_of}
 use Rattle.transcript.specs.Steps.{CallStep, DrainMoves, FlushMoves, IsReplyPiece, IsWornFor, KillMoves, Moves, StartMoves, ending_of, ending_of_flush, noted_all}
-use Rattle.leaf_sessions.proofs.Growing.{as_long, called_last, seen_length}
+use Rattle.leaf_sessions.proofs.Terms.{TellsOn}
+use Rattle.leaf_sessions.proofs.Places.{caller_set}
+
+-- a seat has seen as many entries as its history has
+pub seen_length : (v : SeatView) → length (seen_of v) ≡ length v.seen
+seen_length v = length-map v.seen entry_told
+
+-- what goes on is as long as it was, at least
+pub as_long : (n : ℕ) (xs ys more : List Entry) → ys ≡ xs ++ more → n ≤ length xs → n ≤ length ys
+as_long n xs ys more e l =
+    let same = ap (λ (es : List Entry). length es) e in
+    omega (arith, l, same, length-append xs more)
 
 -- ---- callers' seats
 
@@ -36,13 +48,14 @@ worn_said number histories table base v called told.Worn w p far answered says =
 worn_said number histories table base v called r w p far answered says = subst (λ (x : Piece). WornIsLong histories x) (sym says) tt
 
 -- where the histories go on from what the caller's seat has seen
-pub called_worn : (number table : ℕ) (called : Call) (tables : List Shared) (callers : List SeatView) (p : Piece) (callers' : List SeatView) (histories : ℕ → ℕ → List Entry)
-    → CallStep number table called tables callers p callers' → ((place : ℕ) → (more : List Entry) × (histories number place ≡ history_at callers' place ++ more))
-    → WornIsLong histories p
-called_worn number table called tables callers p callers' histories step on =
-    let last = ap (λ (es : List Entry). length es) (called_last number table called tables callers p callers' step) in
+pub called_worn : {B : Type 0} (number : ℕ) (x : Hold B) (table : ℕ) (called : Call) (p : Piece) (callers : List (Option SeatView)) (histories : ℕ → ℕ → List Entry)
+    → CallStep number table called x.tables x.callers p callers → TellsOn number (with_callers x callers) histories → WornIsLong histories p
+called_worn number x table called p callers histories step on =
+    let is : caller_in callers table ≡ Some step.after =
+    ap (λ (cs : List (Option SeatView)). caller_in cs table) step.now ∙ caller_set x.callers table (Some step.before) (Some step.after) step.was in
     let here = on table in
-    let far = as_long (length (seen_of step.after)) (history_at callers' table) (histories number table) here.0 here.1 (omega (arith, last)) in
+    let seen : seen_in (with_callers x callers) table ≡ seen_of step.after = ap (λ (c : Option SeatView). seen_by (steward_in x.held table) c) is in
+    let far = as_long (length (seen_of step.after)) (seen_in (with_callers x callers) table) (histories number table) here.0 here.1 (omega (arith, ap (λ (es : List Entry). length es) seen)) in
     worn_said number histories table (base_seen step.shared) step.before called step.reply step.after p far step.answered step.says
 
 -- ---- the steward's seats

@@ -1,6 +1,7 @@
--- One leaf of a run in the middle, by its number: what holds of what the run printed so far, of each of the leaf's tables, and of the leaf as the program holds it.
--- The pieces are those of all leaves. Histories are what the callers' seats have seen.
-use Rattle.std.specs.Prelude.{◌≡◌, ℕ, suc, ◌+◌, ◌<◌, ◌==◌, true, false, List, [], ◌∷◌, ◌++◌, length, map, Option, Some, None, IfSome, is_some, slice_get, IsTrue, ⊤}
+-- One leaf of a run in the middle, by its number: what holds of what the run printed so far, of each of the leaf's tables, and of the leaf, by who holds it or seats of it: the
+-- run, or a lane of a burst. The pieces are those of all leaves.
+use Rattle.std.specs.Prelude.{◌≡◌, ◌⊎◌, ℕ, suc, ◌+◌, ◌<◌, ◌==◌, true, false, List, [], ◌∷◌, ◌++◌, length, map, Option, Some, None, IfSome, is_some, slice_get, IsPermutation, IsTrue, ⊤}
+use Rattle.std.specs.List.{AllByRecursion}
 use Rattle.row_records.specs.Records.{LogRecord}
 use Rattle.berth_face.specs.Berth.{Meaning, Pair}
 use Rattle.leaf_history.specs.History.{Entry, LegalFrom, after}
@@ -10,61 +11,71 @@ use Rattle.disk_backup.specs.Scanning.{BeginsScan}
 use Rattle.leaf_opening.specs.Starts.{IsWayOf}
 use Rattle.crash_moments.specs.Left.{NamedStates}
 use Rattle.crash_moments.specs.Told as moments
-use Rattle.turnstile.specs.Seats.{unused_seat}
+use Rattle.turnstile.specs.Ids.{InShare}
+use Rattle.turnstile.specs.Seats.{AreIds, Owns, unused_seat}
 use Rattle.leaf_table.specs.Turns.{Shared, is_founded, start_of}
-use Rattle.leaf_table.specs.Calls.{SeatView, AreOthers, base_seen, name_of, seen_of}
+use Rattle.leaf_table.specs.Calls.{SeatView, OwnsTheRest, base_seen, name_of, seen_of}
 use Rattle.log_steward.specs.Owing.{Owing}
 use Rattle.leaf_steward.specs.Seated.{Seated, AtEach, watched_by}
 use Rattle.leaf_machine.specs.States.{MayBegin, Shutting, IsShutAndTaken, treated}
 use Rattle.transcript.specs.Base.{LogHas, unseen, watched_with}
-use Rattle.transcript.specs.Pieces.{Piece, Called, Worn, Acted, Says}
+use Rattle.transcript.specs.Pieces.{Piece, Called, Worn, Acted, Says, PlayedItem, all_pieces}
 use Rattle.transcript.specs.Life.{Life, Mode, Down, Up, Preparing, Owed, Progress, Lives, first_open}
-use Rattle.transcript.specs.Histories.{Ground, Shown, Shows, Tells, shown}
+use Rattle.transcript.specs.Histories.{Ground, InOrder, Shown, Shows, shown}
 use Rattle.transcript.specs.Strangers.{IsNamedBy, Strangers}
 use Rattle.transcript.specs.Transcript.{Known, first_life, ground_of}
+use Rattle.transcript.specs.Leaving.{IsKnown}
 use Rattle.transcript.specs.Stage.{Leaf, IsDown, IsUp, IsPreparing, seated_of, Stands, AreHandedNothing}
+use Rattle.transcript.specs.Holds.{Hold, caller_in, steward_in}
 
 -- ---- one table
 
--- the steward's seat owns the id 0 alone
+-- The lines, with numbers from n on, tell just those of the entries whose ids are these, in their order and each once.
+abbrev pub TellsOf : (ℕ → Type 0) → ℕ → List Shown → List Entry → Type 0
+TellsOf O n ss [] = ss ≡ []
+TellsOf O n ss (e ∷ es) = ((O e.caller → ⊥) × TellsOf O (suc n) ss es)
+    ⊎ (O e.caller × (s : Shown) × (rest : List Shown) × (ss ≡ s ∷ rest) × (s.number ≡ n) × Shows s.call s.said e × TellsOf O (suc n) rest es)
+
+abbrev pub OwnedBy : Option SeatView → ℕ → Type 0
+OwnedBy None id = ⊥
+OwnedBy (Some v) id = Owns v id
+
+-- the ids of the steward's seat and the callers', as far as they are there
+abbrev pub OneOf : Option SeatView → Option SeatView → ℕ → Type 0
+OneOf v c id = OwnedBy v id ⊎ OwnedBy c id
+
+-- these ids are callers', and none of the share from this id on
+abbrev pub StandApart : ℕ → ℕ → List ℕ → Type 0
+StandApart id share ids = AllByRecursion (λ (x : ℕ). (0 < x) × (InShare id share x → ⊥)) ids
+
+-- the steward's seat owns the id 0 alone; a callers' owns others, and what it took over is none of what it has
 pub record IsStewards (v : SeatView) : Type 0 where
   pub id : v.id ≡ 0
   pub share : v.share ≡ 1
   pub taken : v.taken ≡ []
 
--- the one seat of callers owns every other id
-pub record IsCallersSeat (c : SeatView) : Type 0 where
-  pub id : c.id ≡ 1
-  pub share : c.share ≡ 65536
-  pub taken : c.taken ≡ []
+pub record IsCallers (c : SeatView) : Type 0 where
+  pub id : 0 < c.id
+  pub share : 0 < c.share
+  pub apart : StandApart c.id c.share c.taken
 
--- Lines with numbers from n on tell entries of the seat's own, in their order and each once; between them others may have made entries, which have no line.
-abbrev pub TellsOwn : SeatView → ℕ → List Shown → List Entry → Type 0
-TellsOwn v n [] es = es ≡ []
-TellsOwn v n (s ∷ ss) es = (between rest : List Entry) × (e : Entry) × AreOthers v between × (es ≡ between ++ e ∷ rest)
-    × (s.number ≡ n + length between) × Shows s.call s.said e × TellsOwn v (n + suc (length between)) ss rest
-
--- What is known of the table in that place, by the pieces that were printed. The steward's seat v has seen what the lines tell up to the last meeting; since then the caller's
--- seat c has made entries, and others may have.
-pub record TableNow (number : ℕ) (g : Ground) (table : ℕ) (pieces : List Piece) (v c : SeatView) : Type 0 where
-  pub stewards : IsStewards v
-  pub callers : IsCallersSeat c
+-- What is known of a table at which somebody holds these seats, and had seen so much when a stretch of the run began: what the steward's seat has seen since, up to the last meeting;
+-- what the callers' has seen behind that; and the lines of both, by their numbers.
+pub record TableSession (g : Ground) (start : List Entry) (number table : ℕ) (items : List PlayedItem) (v c : Option SeatView) : Type 0 where
+  pub stewards : IfSome v IsStewards
+  pub callers : IfSome c IsCallers
+  pub met : List Entry
   pub since : List Entry
-  pub seen : seen_of c ≡ seen_of v ++ since
+  pub seen_steward : IfSome v (λ s. seen_of s ≡ start ++ met)
+  pub seen_caller : IfSome c (λ s. seen_of s ≡ start ++ (met ++ since))
+  pub alone : (c ≡ None → since ≡ []) × (v ≡ None → met ≡ [])
   pub told : List Shown
   pub later : List Shown
-  pub lines : shown number table pieces ≡ told ++ later
-  pub tells : Tells 1 told (seen_of v)
-  pub tells_later : TellsOwn c (suc (length (seen_of v))) later since
-  pub legal : LegalFrom g.founded g.base (seen_of c)
-
--- The same just behind a meeting: both have seen one history, and the lines tell all of it.
-pub record TableMet (number : ℕ) (g : Ground) (table : ℕ) (pieces : List Piece) (v c : SeatView) : Type 0 where
-  pub stewards : IsStewards v
-  pub callers : IsCallersSeat c
-  pub same : seen_of v ≡ seen_of c
-  pub tells : Tells 1 (shown number table pieces) (seen_of c)
-  pub legal : LegalFrom g.founded g.base (seen_of c)
+  pub lines : IsPermutation (shown number table (all_pieces items)) (told ++ later)
+  pub tells : TellsOf (OneOf v c) (suc (length start)) told met
+  pub tells_later : TellsOf (OwnedBy c) (suc (length start) + length met) later since
+  pub order : InOrder number table (length start) items (length start + length (met ++ since))
+  pub legal : LegalFrom g.founded g.base (start ++ (met ++ since))
 
 -- ---- the leaf, and what is printed of it
 
@@ -112,17 +123,12 @@ FitsNext (Some k) life leaf m = IfSome life.way (IsWayOf m.held.region) × IfSom
 abbrev pub AreGrounded : Option Known → Seated → Type 0
 AreGrounded known x = AtEach (λ place t v. (is_founded (base_seen t) ≡ (ground_of known (name_of t)).founded) × (start_of (base_seen t) ≡ (ground_of known (name_of t)).base)) x
 
--- the leaf has tables of these names, and a seat of its steward and one of callers at each
-pub record AreInPlace (names : List (List ℕ)) (x : Seated) (callers : List SeatView) : Type 0 where
+-- the leaf has tables of these names, and a seat of its steward at each
+pub record AreInPlace (names : List (List ℕ)) (x : Seated) : Type 0 where
   pub named : map name_of x.tables ≡ names
   pub same_names : x.names ≡ names
   pub seats : length x.seats ≡ length names
-  pub callers_are : length callers ≡ length names
   pub distinct : AreDistinct names
-
--- what is known of each table in its place
-abbrev pub AtTables : (Shared → ℕ → SeatView → SeatView → Type 0) → Seated → List SeatView → Type 0
-AtTables P x callers = (place : ℕ) (t : Shared) (v c : SeatView) → slice_get x.tables place ≡ Some t → slice_get x.seats place ≡ Some v → slice_get callers place ≡ Some c → P t place v c
 
 -- ---- what stands of a leaf with a base
 
@@ -150,25 +156,42 @@ pub record KnownLeaf (number : ℕ) (names : List (List ℕ)) (old : Meaning) (l
 
 -- ---- the leaf so far
 
--- What is known of the leaf with this number after these pieces, by what is known of each table (Q). The leaf's berth meant `old` when the run began, and means `m` now.
-pub record LeafWith (Q : Ground → ℕ → List Piece → SeatView → SeatView → Type 0)
-    (number : ℕ) (names : List (List ℕ)) (known : Option Known) (old : Meaning) (pieces : List Piece) (leaf : Leaf) (callers : List SeatView) (m : Meaning) : Type 0 where
+-- What is known of a leaf by who holds it, behind these pieces of the run. Its berth meant `old` when the run began, and means `m` now.
+pub record LeafHeld (number : ℕ) (names : List (List ℕ)) (known : Option Known) (old : Meaning) (pieces : List Piece) (leaf : Leaf) (m : Meaning) : Type 0 where
   pub life : Life
   pub lives : Lives (is_some known) (length names) number (first_life known names) pieces life
-  pub in_place : AreInPlace names (seated_of leaf) callers
+  pub in_place : AreInPlace names (seated_of leaf)
   pub grounded : AreGrounded known (seated_of leaf)
-  pub tables : AtTables (λ t place v c. Q (ground_of known (name_of t)) place pieces v c) (seated_of leaf) callers
   pub mode : FitsMode life.mode leaf
   pub next : FitsNext known life leaf m
   pub of_known : IfSome known (KnownLeaf number names old life pieces leaf m)
 
--- the leaf between two commands
-abbrev pub LeafNow : ℕ → List (List ℕ) → Option Known → Meaning → List Piece → Leaf → List SeatView → Meaning → Type 0
-LeafNow number names known old pieces leaf callers m = LeafWith (TableNow number) number names known old pieces leaf callers m
+-- What is known of the leaf with this number by who holds seats of it, and the leaf itself where it is held. The stretch began behind the pieces `before`, when each table's
+-- history had come to `start`; since then these items were played. The whole run is the stretch that began with nothing.
+pub record LeafSession {B : Type 0} (meaning : B → Meaning) (number : ℕ) (names : List (List ℕ)) (known : Option Known) (old : Meaning) (before : List Piece) (start : ℕ → List Entry)
+    (items : List PlayedItem) (x : Hold B) : Type 0 where
+  pub named : map name_of x.tables ≡ names
+  pub callers_are : length x.callers ≡ length names
+  pub tables : (place : ℕ) (t : Shared) → slice_get x.tables place ≡ Some t
+      → TableSession (ground_of known (name_of t)) (start place) number place items (steward_in x.held place) (caller_in x.callers place)
+  pub grounded : (place : ℕ) (t : Shared) → slice_get x.tables place ≡ Some t
+      → (is_founded (base_seen t) ≡ (ground_of known (name_of t)).founded) × (start_of (base_seen t) ≡ (ground_of known (name_of t)).base)
+  pub held : (leaf : Leaf) (b : B) → x.held ≡ Some (leaf, b) → (map name_of (seated_of leaf).tables ≡ map name_of x.tables) × LeafHeld number names known old (before ++ all_pieces items) leaf (meaning b)
 
--- just behind a meeting of all its seats
-abbrev pub LeafMet : ℕ → List (List ℕ) → Option Known → Meaning → List Piece → Leaf → List SeatView → Meaning → Type 0
-LeafMet number names known old pieces leaf callers m = LeafWith (TableMet number) number names known old pieces leaf callers m
+-- the run holds the leaf, and of each table a seat with all ids but the steward's
+pub record IsWhole {B : Type 0} (x : Hold B) : Type 0 where
+  pub leaf : Leaf
+  pub berth : B
+  pub held : x.held ≡ Some (leaf, berth)
+  pub seats : (place : ℕ) → place < length x.callers → (c : SeatView) × (slice_get x.callers place ≡ Some (Some c)) × OwnsTheRest c
+
+-- each seat of the steward has seen what the callers' has, and that has entries of a turnstile's ids alone
+abbrev pub AreMet : {B : Type 0} → Hold B → Type 0
+AreMet x = (place : ℕ) (v c : SeatView) → steward_in x.held place ≡ Some v → caller_in x.callers place ≡ Some c → (seen_of v ≡ seen_of c) × AreIds c.seen
+
+-- no id is held by both
+abbrev pub AreApart : {B : Type 0} → Hold B → Hold B → Type 0
+AreApart x y = (place id : ℕ) → OneOf (steward_in x.held place) (caller_in x.callers place) id → OneOf (steward_in y.held place) (caller_in y.callers place) id → ⊥
 
 -- ---- pieces of other leaves
 
@@ -179,15 +202,48 @@ IsOthers number (Worn leaf table) = (leaf == number) ≡ false
 IsOthers number (Acted leaf deed notes ending) = (leaf == number) ≡ false
 IsOthers number (Says line) = ⊤
 
--- ---- how a run begins
+-- a piece that is no deed of the leaf with this number
+abbrev pub IsNoDeed : ℕ → Piece → Type 0
+IsNoDeed number (Called leaf table c n said) = ⊤
+IsNoDeed number (Worn leaf table) = ⊤
+IsNoDeed number (Acted leaf deed notes ending) = (leaf == number) ≡ false
+IsNoDeed number (Says line) = ⊤
 
--- a leaf at rest whose seats have made no entry yet
-pub record IsNewStage (names : List (List ℕ)) (known : Option Known) (x : Seated) (callers : List SeatView) : Type 0 where
-  pub in_place : AreInPlace names x callers
-  pub grounded : AreGrounded known x
-  pub unused : AtTables (λ t place v c. (v ≡ unused_seat t.site 0 1 1024) × (c ≡ unused_seat t.site 1 65536 65536)) x callers
+abbrev pub HasNoDeed : ℕ → List Piece → Type 0
+HasNoDeed number pieces = AllByRecursion (IsNoDeed number) pieces
+
+-- both hold the same ids of each table, and the leaf or not
+pub record AreSame {B : Type 0} (x y : Hold B) : Type 0 where
+  pub ids : (place id : ℕ) → (OneOf (steward_in x.held place) (caller_in x.callers place) id → OneOf (steward_in y.held place) (caller_in y.callers place) id)
+      × (OneOf (steward_in y.held place) (caller_in y.callers place) id → OneOf (steward_in x.held place) (caller_in x.callers place) id)
+  pub held : is_some x.held ≡ is_some y.held
+
+-- z holds what x and y held
+pub record HoldsBoth {B : Type 0} (x y z : Hold B) : Type 0 where
+  pub ids : (place id : ℕ) → (OneOf (steward_in z.held place) (caller_in z.callers place) id
+      → OneOf (steward_in x.held place) (caller_in x.callers place) id ⊎ OneOf (steward_in y.held place) (caller_in y.callers place) id)
+      × (OneOf (steward_in x.held place) (caller_in x.callers place) id ⊎ OneOf (steward_in y.held place) (caller_in y.callers place) id
+      → OneOf (steward_in z.held place) (caller_in z.callers place) id)
+  pub held : (is_some x.held ≡ false → is_some z.held ≡ is_some y.held) × (is_some y.held ≡ false → is_some z.held ≡ is_some x.held)
+  pub one : (is_some x.held ≡ false) ⊎ (is_some y.held ≡ false)
+
+-- ---- how a run begins
 
 -- a leaf may begin over the berth, and what stands of one at rest stands there
 pub record StandsFirst (x : Seated) (m : Meaning) (base : NamedStates) : Type 0 where
   pub begins : MayBegin base m
   pub stands : Stands base (IsDown x) m
+
+-- A leaf that is down, whose seats have made no entry yet. Where its berth's base is known, it is one that a leaf may begin over the berth with.
+pub record IsNewHold {B : Type 0} (meaning : B → Meaning) (names : List (List ℕ)) (base : Option NamedStates) (known : Option Known) (x : Hold B) : Type 0 where
+  pub seated : Seated
+  pub berth : B
+  pub down : x.held ≡ Some (IsDown seated, berth)
+  pub tables : seated.tables ≡ x.tables
+  pub in_place : AreInPlace names seated
+  pub callers_are : length x.callers ≡ length names
+  pub first : IfSome base (StandsFirst seated (meaning berth))
+  pub is_known : IsKnown base (meaning berth) known
+  pub grounded : AreGrounded known seated
+  pub unused : (place : ℕ) (t : Shared) → slice_get x.tables place ≡ Some t
+      → (slice_get seated.seats place ≡ Some (unused_seat t.site 0 1 1024)) × (slice_get x.callers place ≡ Some (Some (unused_seat t.site 1 65536 65536)))

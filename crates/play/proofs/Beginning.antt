@@ -1,6 +1,6 @@
 -- A run's beginning: over new tables of leaves that are down.
 use Rattle.std.proofs.Common.{◌≡◌, inl, inr, ℕ, zero, suc, ◌+◌, ◌<◌, ◌≤◌, true, false, List, [], ◌∷◌, length, Option, Some, None, refl, sym, ap, subst, ◌∙◌, arith}
-use Rattle.std.specs.Prelude.{slice_get, take, IfSome}
+use Rattle.std.specs.Prelude.{map, slice_get, take, IfSome}
 use Rattle.std.specs.List.{AllByRecursion}
 use Rattle.std.proofs.lemmas.List.{length-map, length-take}
 use Rattle.berth_face.specs.Berth.{Meaning}
@@ -17,18 +17,20 @@ use Rattle.leaf_machine.specs.States.{MayBegin}
 use Rattle.transcript.specs.Pieces.{Fleet, leaf_count}
 use Rattle.transcript.specs.Counts.{IsCounted}
 use Rattle.transcript.specs.Holds.{Hold}
-use Rattle.transcript.specs.Stage.{IsDown, Stands, seated_of}
+use Rattle.transcript.specs.Stage.{IsDown, Leaf, Stands, seated_of}
 use Rattle.transcript.specs.Transcript.{Known}
 use Rattle.transcript.specs.Leaving.{AreKnown, IsKnown}
-use Rattle.leaf_sessions.specs.Session.{AreGrounded, IsNewStage, StandsFirst}
-use Rattle.sessions.specs.Laws.{IsNewHold}
-use Rattle.player.specs.Crew.{column, new_holds, seated_at}
+use Rattle.leaf_sessions.specs.Session.{AreGrounded, AreInPlace, IsNewHold, StandsFirst}
+use Rattle.sessions.specs.Laws as sessions
+use Rattle.player.specs.Crew.{berth_in, column, new_holds, seated_at}
 use Rattle.play.specs.Played.{AreBases, IsBase, KeepsCounts}
 use Rattle.play.specs.Runs.{RunSoFar, berths_in, table_bases}
 use Rattle.play.proofs.Fleets.{AreNewTables, leaf_tables}
-use Rattle.sessions.proofs.Playing.{begins}
-use Rattle.leaf_sessions.proofs.Lists.{All-weaken, clash_bool, get_map, same_some, within}
+use Rattle.sessions.proofs.Sessions.{begins}
+use Rattle.sessions.proofs.Lists.{All-weaken}
+use Rattle.leaf_sessions.proofs.Lists.{clash_bool, same_some, within}
 use Rattle.play.proofs.Lists.{each_at, get_take}
+use Rattle.play.proofs.Holding.{berth_at, berth_there}
 use Rattle.play.proofs.Plays.{appends_nothing, counted_nothing, keeps_same}
 
 -- a leaf's tables, and the steward's seats at them
@@ -47,12 +49,12 @@ not_both : (tables : List Shared) → 0 < length tables → AllByRecursion (λ (
 not_both [] some founded unfounded = omega (arith, some)
 not_both (t ∷ ts) some founded unfounded = clash_bool (is_founded (base_seen t)) founded.0 unfounded.0
 
-as_many : {base : Option NamedStates} {names : List (List ℕ)} {tables : List Shared} {stewards callers : List SeatView} → AreNewTables base names tables stewards callers → length tables ≡ length names
+as_many : {base : Option NamedStates} {names : List (List ℕ)} {tables : List Shared} {stewards : List SeatView} {callers : List (Option SeatView)} → AreNewTables base names tables stewards callers → length tables ≡ length names
 as_many {tables = tables} t = sym (length-map tables name_of) ∙ ap (λ (ns : List (List ℕ)). length ns) t.named
 
 -- ---- tables that are founded
 
-module _ {b : NamedStates} {names : List (List ℕ)} {tables : List Shared} {stewards callers : List SeatView} (t : AreNewTables (Some b) names tables stewards callers) where
+module _ {b : NamedStates} {names : List (List ℕ)} {tables : List Shared} {stewards : List SeatView} {callers : List (Option SeatView)} (t : AreNewTables (Some b) names tables stewards callers) where
   all_founded : AreFounded (seated names tables stewards)
   all_founded = All-weaken (IsFoundedBy b) (λ (s : Shared). is_founded (base_seen s) ≡ true) (λ s h. h.0) tables t.founded
 
@@ -68,7 +70,7 @@ unfounded_start : (o : Option TableBase) → is_founded o ≡ false → start_of
 unfounded_start None e = refl
 unfounded_start (Some b) e = absurd cc
 
-grounded : {base : Option NamedStates} {names : List (List ℕ)} {tables : List Shared} {stewards callers : List SeatView} (m : Meaning) (known : Option Known)
+grounded : {base : Option NamedStates} {names : List (List ℕ)} {tables : List Shared} {stewards : List SeatView} {callers : List (Option SeatView)} (m : Meaning) (known : Option Known)
     → AreNewTables base names tables stewards callers → IsKnown base m known → AreGrounded known (seated names tables stewards)
 grounded {base = None} {tables = tables} m None t is = λ place s v at sat.
     let none = each_at (λ (u : Shared). is_founded (base_seen u) ≡ false) tables (t.unfounded refl) place s at in
@@ -79,38 +81,33 @@ grounded {base = Some b} {tables = tables} m (Some k) t is = λ place s v at sat
     let by = founded_at t place s at in
     (by.0, by.1 ∙ ap (λ (states : NamedStates). states (name_of s)) (sym is.0))
 
-new_stage : {base : Option NamedStates} {names : List (List ℕ)} {tables : List Shared} {stewards callers : List SeatView} (m : Meaning) (known : Option Known)
-    → AreNames names → AreNewTables base names tables stewards callers → IsKnown base m known → IsNewStage names known (seated names tables stewards) callers
-new_stage m known are t is = record {
-  in_place = record {
-    named = t.named;
-    same_names = refl;
-    seats = t.stewards_are ∙ as_many t;
-    callers_are = t.callers_are ∙ as_many t;
-    distinct = are.distinct;
-  };
-  grounded = grounded m known t is;
-  unused = λ place s v c at sat called. t.unused place s v c at sat called;
+in_place : {base : Option NamedStates} {names : List (List ℕ)} {tables : List Shared} {stewards : List SeatView} {callers : List (Option SeatView)}
+    → AreNames names → AreNewTables base names tables stewards callers → AreInPlace names (seated names tables stewards)
+in_place are t = record {
+  named = t.named;
+  same_names = refl;
+  seats = t.stewards_are ∙ as_many t;
+  distinct = are.distinct;
 }
 
 -- ---- what a new leaf asks
 
-alike : {base : Option NamedStates} {names : List (List ℕ)} {tables : List Shared} {stewards callers : List SeatView} → AreNewTables base names tables stewards callers → AreAlike (seated names tables stewards)
+alike : {base : Option NamedStates} {names : List (List ℕ)} {tables : List Shared} {stewards : List SeatView} {callers : List (Option SeatView)} → AreNewTables base names tables stewards callers → AreAlike (seated names tables stewards)
 alike {base = None} t = inr (t.unfounded refl)
 alike {base = Some b} t = inl (all_founded t)
 
 -- where the tables are founded, it is with the base that is named
-ready : {base : Option NamedStates} {names : List (List ℕ)} {tables : List Shared} {stewards callers : List SeatView} (m : Meaning)
+ready : {base : Option NamedStates} {names : List (List ℕ)} {tables : List Shared} {stewards : List SeatView} {callers : List (Option SeatView)} (m : Meaning)
     → AreNames names → AreNewTables base names tables stewards callers → IfSome base (λ b. IsBase b m)
     → AreFounded (seated names tables stewards) → (b : NamedStates) × MayBegin b m × StartAs b (seated names tables stewards)
 ready {base = None} {tables = tables} m are t is founded = absurd (not_both tables (omega (arith, are.some, as_many t)) founded (t.unfounded refl))
 ready {base = Some b} m are t is founded = (b, is.begins, start_as t)
 
 -- what stands of a leaf over its tables, where their base is one that may begin over the berth
-abbrev StandsThere : {B : Type 0} → (B → Meaning) → Hold B → Type 0
-StandsThere meaning x = (states : NamedStates) → AreFounded (seated_of x.leaf) → MayBegin states (meaning x.berth) → StartAs states (seated_of x.leaf) → Stands states x.leaf (meaning x.berth)
+abbrev StandsThere : Leaf → Meaning → Type 0
+StandsThere l m = (states : NamedStates) → AreFounded (seated_of l) → MayBegin states m → StartAs states (seated_of l) → Stands states l m
 
-stands_first : {base : Option NamedStates} {names : List (List ℕ)} {tables : List Shared} {stewards callers : List SeatView} (m : Meaning)
+stands_first : {base : Option NamedStates} {names : List (List ℕ)} {tables : List Shared} {stewards : List SeatView} {callers : List (Option SeatView)} (m : Meaning)
     → AreNewTables base names tables stewards callers → IfSome base (λ b. IsBase b m)
     → ((states : NamedStates) → AreFounded (seated names tables stewards) → MayBegin states m → StartAs states (seated names tables stewards) → Stands states (IsDown (seated names tables stewards)) m)
     → IfSome base (StandsFirst (seated names tables stewards) m)
@@ -122,7 +119,7 @@ stands_first {base = Some b} m t is stands = record { begins = is.begins; stands
 module _ {B : Type 0} (names : List (List ℕ)) (rows : List (List Shared)) (stewards callers : List (List SeatView)) where
   -- a new leaf over this berth
   abbrev pub new_hold : ℕ → B → Hold B
-  new_hold leaf b = record { leaf = IsDown (seated_at names rows stewards leaf); callers = column leaf callers; berth = b }
+  new_hold leaf b = record { tables = row rows leaf; callers = column leaf callers; held = Some (IsDown (seated_at names rows stewards leaf), b) }
 
   abbrev holds_from : ℕ → List B → List (Hold B)
   holds_from from bs = new_holds from names rows stewards callers bs
@@ -141,6 +138,15 @@ module _ {B : Type 0} (names : List (List ℕ)) (rows : List (List Shared)) (ste
   pub berths_of_holds : (from : ℕ) (bs : List B) → berths_in (holds_from from bs) ≡ bs
   berths_of_holds from [] = refl
   berths_of_holds from (b ∷ bs) = ap (λ (cs : List B). b ∷ cs) (berths_of_holds (suc from) bs)
+
+  -- each of them is held with its berth
+  each_held : (from : ℕ) (bs : List B) → map Some bs ≡ map (λ (x : Hold B). berth_in x) (holds_from from bs)
+  each_held from [] = refl
+  each_held from (b ∷ bs) = ap (λ (os : List (Option B)). Some b ∷ os) (each_held (suc from) bs)
+
+  each_begun : (from : ℕ) (bs : List B) → map Some bs ≡ map (λ (x : Hold B). sessions.berth_in x) (holds_from from bs)
+  each_begun from [] = refl
+  each_begun from (b ∷ bs) = ap (λ (os : List (Option B)). Some b ∷ os) (each_begun (suc from) bs)
 
 -- ---- a crew over a new fleet
 
@@ -161,15 +167,20 @@ module _ {B : Type 0} (base : ℕ → Option NamedStates) (meaning : B → Meani
   ready_at leaf b below at founded = ready (meaning b) are_names (tables_at leaf below) (are leaf b at) founded
 
   new_is : (leaf : ℕ) (b : B) (known : Option Known) → leaf < leaves → slice_get berths leaf ≡ Some b → IsKnown (base leaf) (meaning b) known
-      → StandsThere meaning (new_hold names rows stewards callers leaf b) → IsNewHold meaning names (base leaf) known (new_hold names rows stewards callers leaf b)
+      → StandsThere (IsDown (seated_at names rows stewards leaf)) (meaning b) → IsNewHold meaning names (base leaf) known (new_hold names rows stewards callers leaf b)
   new_is leaf b known below at is stands =
       let tables = tables_at leaf below in
       record {
         seated = seated_at names rows stewards leaf;
+        berth = b;
         down = refl;
+        tables = refl;
+        in_place = in_place are_names tables;
+        callers_are = tables.callers_are ∙ as_many tables;
         first = stands_first (meaning b) tables (are leaf b at) stands;
         is_known = is;
-        new = new_stage (meaning b) known are_names tables is;
+        grounded = grounded (meaning b) known tables is;
+        unused = tables.unused;
       }
 
   abbrev taken : List B
@@ -180,24 +191,34 @@ module _ {B : Type 0} (base : ℕ → Option NamedStates) (meaning : B → Meani
 
   -- nothing was written yet
   pub run_begins : (fleet : Fleet) (was : Option (List ℕ)) (xs : List (Hold B)) → leaf_count fleet ≡ leaves → fleet.names ≡ names
-      → xs ≡ new_holds 0 names rows stewards callers taken → ((leaf : ℕ) (x : Hold B) (states : NamedStates) → slice_get xs leaf ≡ Some x → AreFounded (seated_of x.leaf) → MayBegin states (meaning x.berth)
-      → StartAs states (seated_of x.leaf) → Stands states x.leaf (meaning x.berth))
+      → xs ≡ new_holds 0 names rows stewards callers taken
+      → ((leaf : ℕ) (x : Hold B) (l : Leaf) (b : B) (states : NamedStates) → slice_get xs leaf ≡ Some x → x.held ≡ Some (l, b) → AreFounded (seated_of l) → MayBegin states (meaning b)
+      → StartAs states (seated_of l) → Stands states l (meaning b))
       → RunSoFar base meaning fleet (berths_in xs) was was [] xs
   run_begins fleet was xs count named made stands = record {
     played = [];
-    commands_are = refl;
+    items_are = refl;
     text = appends_nothing was;
-    counted = λ leaf old x at now. subst (λ (b : B). IsCounted leaf [] (meaning b) (meaning x.berth)) (same_berth leaf old x at now) (counted_nothing leaf (meaning x.berth));
+    counted = λ leaf old x l b at now held. subst (λ (c : B). IsCounted leaf [] (meaning c) (meaning b)) (same_berth leaf old x l b at now held) (counted_nothing leaf (meaning b));
     keeps = record {
-      as_many = sym (length-map xs (λ (x : Hold B). x.berth));
-      each = λ leaf old x at now. subst (λ (b : B). KeepsCounts (meaning b) (meaning x.berth)) (same_berth leaf old x at now) (keeps_same (meaning x.berth));
+      as_many = sym (ap (λ (bs : List B). length bs) had ∙ (sym (as_many_holds names rows stewards callers 0 taken) ∙ ap (λ (ys : List (Hold B)). length ys) (sym made)));
+      each = λ leaf old x l b at now held. subst (λ (c : B). KeepsCounts (meaning c) (meaning b)) (same_berth leaf old x l b at now held) (keeps_same (meaning b));
     };
     session = λ known is. begins meaning (berths_in xs) fleet base known xs (subst AreNames (sym named) are_names)
-        (ap (λ (ys : List (Hold B)). length ys) made ∙ (as_many_holds names rows stewards callers 0 taken ∙ (taken_are ∙ sym count))) refl (each_new known is);
+        (ap (λ (ys : List (Hold B)). length ys) made ∙ (as_many_holds names rows stewards callers 0 taken ∙ (taken_are ∙ sym count))) begun (each_new known is);
   }
     where
-      same_berth : (leaf : ℕ) (old : B) (x : Hold B) → slice_get (berths_in xs) leaf ≡ Some old → slice_get xs leaf ≡ Some x → x.berth ≡ old
-      same_berth leaf old x at now = same_some x.berth old (sym (get_map (λ (y : Hold B). y.berth) xs leaf x now) ∙ at)
+      had : berths_in xs ≡ taken
+      had = ap berths_in made ∙ berths_of_holds names rows stewards callers 0 taken
+
+      are_held : map Some (berths_in xs) ≡ map (λ (x : Hold B). berth_in x) xs
+      are_held = ap (λ (bs : List B). map Some bs) had ∙ (each_held names rows stewards callers 0 taken ∙ ap (λ (ys : List (Hold B)). map (λ (x : Hold B). berth_in x) ys) (sym made))
+
+      begun : map Some (berths_in xs) ≡ map (λ (x : Hold B). sessions.berth_in x) xs
+      begun = ap (λ (bs : List B). map Some bs) had ∙ (each_begun names rows stewards callers 0 taken ∙ ap (λ (ys : List (Hold B)). map (λ (x : Hold B). sessions.berth_in x) ys) (sym made))
+
+      same_berth : (leaf : ℕ) (old : B) (x : Hold B) (l : Leaf) (b : B) → slice_get (berths_in xs) leaf ≡ Some old → slice_get xs leaf ≡ Some x → x.held ≡ Some (l, b) → b ≡ old
+      same_berth leaf old x l b at now held = same_some b old (sym (berth_there x l b held) ∙ berth_at (berths_in xs) xs are_held leaf old x at now)
 
       each_new : (known : ℕ → Option Known) → AreKnown meaning (berths_in xs) (berths_in xs) base known → (leaf : ℕ) (x : Hold B) → slice_get xs leaf ≡ Some x
           → IsNewHold meaning fleet.names (base leaf) (known leaf) x
@@ -206,10 +227,9 @@ module _ {B : Type 0} (base : ℕ → Option NamedStates) (meaning : B → Meani
           let b = there.0 in
           let here : slice_get berths leaf ≡ Some b = get_take leaves berths leaf b there.1 in
           let below : leaf < leaves = omega (arith, within taken leaf b there.1, taken_are) in
-          let known_here = is leaf x.berth (get_map (λ (y : Hold B). y.berth) xs leaf x at) in
-          let stands_here : StandsThere meaning x = λ states founded begins starts. stands leaf x states at founded begins starts in
+          let held : x.held ≡ Some (IsDown (seated_at names rows stewards leaf), b) = ap (λ (y : Hold B). y.held) (sym there.2) in
+          let known_here = is leaf b (ap (λ (bs : List B). slice_get bs leaf) had ∙ there.1) in
+          let stands_here : StandsThere (IsDown (seated_at names rows stewards leaf)) (meaning b) =
+          λ states founded begins_there starts. stands leaf x (IsDown (seated_at names rows stewards leaf)) b states at held founded begins_there starts in
           subst (λ (ns : List (List ℕ)). IsNewHold meaning ns (base leaf) (known leaf) x) (sym named)
-          (subst (IsNewHold meaning names (base leaf) (known leaf)) there.2
-          (new_is leaf b (known leaf) below here
-          (subst (λ (y : Hold B). IsKnown (base leaf) (meaning y.berth) (known leaf)) (sym there.2) known_here)
-          (subst (StandsThere meaning) (sym there.2) stands_here)))
+          (subst (IsNewHold meaning names (base leaf) (known leaf)) there.2 (new_is leaf b (known leaf) below here known_here stands_here))

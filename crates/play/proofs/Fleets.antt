@@ -1,11 +1,12 @@
 -- The tables of a fleet, and the seats at them, leaf by leaf.
-use Rattle.std.proofs.Common.{◌≡◌, ℕ, zero, suc, ◌<◌, ◌≤◌, true, false, List, [], ◌∷◌, ◌++◌, length, map, Option, Some, None, refl, sym, ap, ap₂, subst, ◌∙◌, arith}
-use Rattle.std.specs.Prelude.{option_to_list, slice_get, IfSome}
+use Rattle.std.proofs.Common.{◌≡◌, ℕ, zero, suc, ◌<◌, ◌≤◌, true, false, List, [], ◌∷◌, length, map, Option, Some, None, refl, sym, ap, ap₂, subst, ◌∙◌, arith}
+use Rattle.std.specs.Prelude.{slice_get, IfSome}
 use Rattle.std.specs.List.{AllByRecursion}
 use Rattle.berth_face.specs.Berth.{Meaning}
 use Rattle.region_layout.specs.Names.{IsName}
 use Rattle.crash_moments.specs.Left.{NamedStates}
 use Rattle.turnstile.specs.Seats.{unused_seat}
+use Rattle.leaf_table.specs.declared.base.TableBase.{TableBase}
 use Rattle.leaf_table.specs.Turns.{Shared, is_founded, start_of}
 use Rattle.leaf_table.specs.Calls.{SeatView, base_seen, name_of}
 use Rattle.leaf_table.specs.Lists.{place, row}
@@ -14,16 +15,17 @@ use Rattle.printed_lines.specs.Lines.{name_at}
 use Rattle.player.specs.Crew.{column}
 use Rattle.play.specs.Played.{AreBases, AreShut, IsBase}
 use Rattle.play.specs.Runs.{table_base, table_bases}
-use Rattle.leaf_sessions.proofs.Lists.{All-weaken, element_at, name_is, same_some, within}
+use Rattle.sessions.proofs.Lists.{All-weaken}
+use Rattle.leaf_sessions.proofs.Lists.{element_at, length_mapped, name_is, same_some, within}
 use Rattle.play.proofs.Lists.{all_each}
 
 -- New tables of these names, with the steward's seat and the callers' at each, none of which was used. They are founded with the base where one is named, and else they are not founded.
-pub record AreNewTables (base : Option NamedStates) (names : List (List ℕ)) (tables : List Shared) (stewards callers : List SeatView) : Type 0 where
+pub record AreNewTables (base : Option NamedStates) (names : List (List ℕ)) (tables : List Shared) (stewards : List SeatView) (callers : List (Option SeatView)) : Type 0 where
   pub named : map name_of tables ≡ names
   pub stewards_are : length stewards ≡ length tables
   pub callers_are : length callers ≡ length tables
-  pub unused : (place : ℕ) (t : Shared) (v c : SeatView) → slice_get tables place ≡ Some t → slice_get stewards place ≡ Some v → slice_get callers place ≡ Some c
-      → (v ≡ unused_seat t.site 0 1 1024) × (c ≡ unused_seat t.site 1 65536 65536)
+  pub unused : (place : ℕ) (t : Shared) → slice_get tables place ≡ Some t
+      → (slice_get stewards place ≡ Some (unused_seat t.site 0 1 1024)) × (slice_get callers place ≡ Some (Some (unused_seat t.site 1 65536 65536)))
   pub founded : IfSome base (λ b. AllByRecursion (λ (t : Shared). (is_founded (base_seen t) ≡ true) × (start_of (base_seen t) ≡ b (name_of t))) tables)
   pub unfounded : base ≡ None → AllByRecursion (λ (t : Shared). is_founded (base_seen t) ≡ false) tables
 
@@ -42,31 +44,10 @@ named_as (t ∷ ts) (n ∷ ns) count each =
 
 -- ---- a leaf's column of the callers' seats
 
-one_more : {A : Type 0} (leaf : ℕ) (r : List A) (rows : List (List A)) (x : A) → slice_get r leaf ≡ Some x → column leaf (r ∷ rows) ≡ x ∷ column leaf rows
-one_more {A} leaf r rows x at = ap (λ (o : Option A). option_to_list o ++ column leaf rows) at
-
--- each row has a seat at the leaf
-abbrev Reaches : {A : Type 0} → ℕ → List (List A) → Type 0
-Reaches leaf rows = (t : ℕ) → t < length rows → leaf < length (row rows t)
-
-column_count : {A : Type 0} (leaf : ℕ) (rows : List (List A)) → Reaches leaf rows → length (column leaf rows) ≡ length rows
-column_count leaf [] each = refl
-column_count {A} leaf (r ∷ rows) each =
-    let first = element_at r leaf (each 0 (omega arith)) in
-    ap (λ (xs : List A). length xs) (one_more leaf r rows first.0 first.1) ∙ ap suc (column_count leaf rows (λ t below. each (suc t) (omega (arith, below))))
-
--- the seat behind the first row's
-behind_first : {A : Type 0} (leaf : ℕ) (r : List A) (rows : List (List A)) (first x : A) → slice_get r leaf ≡ Some first
-    → ((t : ℕ) → slice_get (column leaf rows) t ≡ Some x → place rows t leaf ≡ Some x) → (t : ℕ) → slice_get (first ∷ column leaf rows) t ≡ Some x → place (r ∷ rows) t leaf ≡ Some x
-behind_first leaf r rows first x is rest zero here = is ∙ here
-behind_first leaf r rows first x is rest (suc t) here = rest t here
-
-column_at : {A : Type 0} (leaf : ℕ) (rows : List (List A)) → Reaches leaf rows → (t : ℕ) (x : A) → slice_get (column leaf rows) t ≡ Some x → place rows t leaf ≡ Some x
-column_at leaf [] each t x at = absurd cc
-column_at {A} leaf (r ∷ rows) each t x at =
-    let first = element_at r leaf (each 0 (omega arith)) in
-    behind_first leaf r rows first.0 x first.1 (λ k here. column_at leaf rows (λ i below. each (suc i) (omega (arith, below))) k x here) t
-    (subst (λ (xs : List A). slice_get xs t ≡ Some x) (one_more leaf r rows first.0 first.1) at)
+column_at : {A : Type 0} (leaf : ℕ) (rows : List (List A)) (t : ℕ) (x : A) → t < length rows → place rows t leaf ≡ Some x → slice_get (column leaf rows) t ≡ Some (Some x)
+column_at leaf [] t x below at = absurd (omega (arith, below))
+column_at {A} leaf (r ∷ rows) zero x below at = ap (λ (o : Option A). Some o) at
+column_at leaf (r ∷ rows) (suc t) x below at = column_at leaf rows t x (omega (arith, below)) at
 
 -- ---- the tables of one leaf
 
@@ -94,9 +75,6 @@ module _ (base : ℕ → Option NamedStates) (names : List (List ℕ)) (leaves :
   as_many : length tables ≡ length names
   as_many = (f.in_leaf leaf below).0
 
-  reaches : Reaches leaf callers
-  reaches t here = omega (arith, below, f.in_table t (omega (arith, here, f.counts.2)))
-
   abbrev NewAt : ℕ → Type 0
   NewAt t = IsAt (table_bases base names) names 65536 tables seats callers leaf t
 
@@ -106,13 +84,14 @@ module _ (base : ℕ → Option NamedStates) (names : List (List ℕ)) (leaves :
       let a = f.places leaf t below (omega (arith, within tables t table at, as_many)) in
       (a, same_some a.table table (sym a.stands ∙ at))
 
-  unused_at : (t : ℕ) (table : Shared) (v c : SeatView) → slice_get tables t ≡ Some table → slice_get seats t ≡ Some v → slice_get (column leaf callers) t ≡ Some c
-      → (v ≡ unused_seat table.site 0 1 1024) × (c ≡ unused_seat table.site 1 65536 65536)
-  unused_at t table v c at sat called =
+  unused_at : (t : ℕ) (table : Shared) → slice_get tables t ≡ Some table
+      → (slice_get seats t ≡ Some (unused_seat table.site 0 1 1024)) × (slice_get (column leaf callers) t ≡ Some (Some (unused_seat table.site 1 65536 65536)))
+  unused_at t table at =
       let n = new_at t table at in
-      let site = ap (λ (u : Shared). u.site) n.1 in (
-        sym (same_some n.0.steward v (sym n.0.stewards_seat ∙ sat)) ∙ (n.0.new.unused ∙ ap (λ s. unused_seat s 0 1 1024) site),
-        sym (same_some n.0.caller c (sym n.0.callers_seat ∙ column_at leaf callers reaches t c called)) ∙ (n.0.new.unused_caller ∙ ap (λ s. unused_seat s 1 65536 65536) site),
+      let site = ap (λ (u : Shared). u.site) n.1 in
+      let inside : t < length callers = omega (arith, within tables t table at, as_many, f.counts.2) in (
+        n.0.stewards_seat ∙ ap (λ (v : SeatView). Some v) (n.0.new.unused ∙ ap (λ s. unused_seat s 0 1 1024) site),
+        column_at leaf callers t n.0.caller inside n.0.callers_seat ∙ ap (λ (c : SeatView). Some (Some c)) (n.0.new.unused_caller ∙ ap (λ s. unused_seat s 1 65536 65536) site),
       )
 
   -- each is founded with what was picked for its name
@@ -128,7 +107,7 @@ module _ (base : ℕ → Option NamedStates) (names : List (List ℕ)) (leaves :
         let n = new_at t table at in
         ap name_of (sym n.1) ∙ (n.0.new.named ∙ same_some n.0.name name (sym n.0.named ∙ named)));
     stewards_are = (f.in_leaf leaf below).1 ∙ sym as_many;
-    callers_are = column_count leaf callers reaches ∙ (f.counts.2 ∙ sym as_many);
+    callers_are = length_mapped (λ (r : List SeatView). slice_get r leaf) callers ∙ (f.counts.2 ∙ sym as_many);
     unused = unused_at;
     founded = founded_with (base leaf) tables are picked_at;
     unfounded = unfounded_with (base leaf) tables picked_at;

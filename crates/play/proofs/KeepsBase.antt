@@ -21,7 +21,7 @@ use Rattle.leaf_opening.specs.Starts.{IsWayOf}
 use Rattle.crash_moments.specs.Left.{NamedStates}
 use Rattle.crash_states.specs.Standing.{RegionRests, is_closed, is_other, is_image, Rests, tables_of}
 use Rattle.leaf_machine.specs.Leaving.{BeginsAgain}
-use Rattle.script_text.specs.declared.command.Command.{Command}
+use Rattle.script_text.specs.declared.item.Item.{Item}
 use Rattle.printed_lines.specs.declared.line.Line.{Line}
 use Rattle.transcript.specs.Base.{watched_with}
 use Rattle.transcript.specs.Pieces.{Fleet, fleet_of, leaf_count}
@@ -30,8 +30,8 @@ use Rattle.transcript.specs.Transcript.{Known}
 use Rattle.leaf_sessions.proofs.Lists.{element_at, same_some, within}
 use Rattle.play.proofs.Lists.{choose_each}
 use Rattle.play.proofs.Listing.{front_same, list_kept}
-use Rattle.play.specs.Played.{AreBases, IsBase, IsPlayed, commands_of}
-use Rattle.play.specs.Keeping.{ArePlayedTwice, IsKeptOf, KeepsEach, KeepsOne, Kept, LeavesKnown, base_kept, bases_of, tables_left}
+use Rattle.play.specs.Played.{AreBases, IsBase, IsPlayed}
+use Rattle.play.specs.Keeping.{ArePlayedTwice, IsKeptOf, KeepsEach, KeepsOne, Kept, LeavesKnown, base_kept, bases_of, states_of, tables_left}
 use Rattle.play.specs.Outcome.{IsDone}
 use Rattle.play.specs.declared.words.Request.{Request}
 use Rattle.play.specs.declared.words.Request.TheVariants.{Play}
@@ -116,14 +116,14 @@ same_dropped (suc n) (o ∷ os) [] leaf old new past same at now = absurd cc
 same_dropped (suc n) (o ∷ os) (w ∷ ws) zero old new past same at now = absurd (omega (arith, past))
 same_dropped (suc n) (o ∷ os) (w ∷ ws) (suc leaf) old new past same at now = same_dropped n os ws leaf old new (omega (arith, past)) same at now
 
-module _ {B : Type 0} (base : ℕ → Option NamedStates) (meaning : B → Meaning) (olds news : List B) (commands : List Command) (known : ℕ → Option Known) (lines : List Line)
+module _ {B : Type 0} (base : ℕ → Option NamedStates) (meaning : B → Meaning) (olds news : List B) (items : List Item) (known : ℕ → Option Known) (lines : List Line)
     (are : AreBases base meaning olds) (are_known : AreKnown meaning olds news base known) (places : (leaf : ℕ) (new : B) → slice_get news leaf ≡ Some new → (old : B) × (slice_get olds leaf ≡ Some old))
-    (told : IsToldRun meaning olds news commands known lines) where
+    (told : IsToldRun meaning olds news items known lines) where
   abbrev histories : ℕ → ℕ → List Entry
   histories = told.transcript.histories
 
   abbrev fleet : Fleet
-  fleet = fleet_of commands
+  fleet = fleet_of items
 
   -- of a leaf of the fleet
   kept_of_some : (leaf : ℕ) (new : B) (k : Known) → slice_get news leaf ≡ Some new → known leaf ≡ Some k → leaf < leaf_count fleet
@@ -167,7 +167,7 @@ pub leaves_known : {B : Type 0} (base : ℕ → Option NamedStates) (meaning : B
     → (next : List (Option (List Kept))) × LeavesKnown base meaning before after was now old new next
 leaves_known base meaning before after was now old new played are as_many =
     let known = all_known base meaning old new are in
-    let next = keeps_each base meaning old new (commands_of played.script) known.0 played.written.lines are known.1
+    let next = keeps_each base meaning old new played.script.items known.0 played.written.lines are known.1
     (λ leaf b at. element_at old leaf (omega (arith, within new leaf b at, as_many))) (played.written.told known.0 known.1) in
     (next.0, record { played = played; known = known.0; are_known = known.1; keeps = next.1 })
 
@@ -200,7 +200,7 @@ pub bases_left : {B : Type 0} (base : ℕ → Option NamedStates) (meaning : B �
 bases_left base meaning before after was now old new next leaves = λ leaf b at.
     let told = leaves.played.written.told leaves.known leaves.are_known in
     base_there meaning b next leaf (λ kept is.
-    kept_is_base (fleet_of (commands_of leaves.played.script)) leaf (leaves.known leaf) (told.transcript.histories leaf) (meaning b) kept (leaves.keeps.each leaf b kept at is))
+    kept_is_base (fleet_of leaves.played.script.items) leaf (leaves.known leaf) (told.transcript.histories leaf) (meaning b) kept (leaves.keeps.each leaf b kept at is))
 
 -- ---- a play
 

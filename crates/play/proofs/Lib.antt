@@ -1,5 +1,6 @@
 pub mod Counts
 pub mod Lists
+pub mod Holding
 pub mod Plays
 pub mod Fleets
 pub mod Beginning

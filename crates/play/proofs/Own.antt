@@ -1,5 +1,5 @@
 -- A text that is no script is refused with its own first fault, which is none of a caller's limits.
-use Rattle.std.proofs.Common.{◌≡◌, inl, ℕ, List, Option, Err}
+use Rattle.std.proofs.Common.{◌≡◌, ℕ, List, Option, Err}
 use Rattle.berth_face.specs.Streams.{ReadsAll, TakesAtMost}
 use Rattle.script_text.specs.declared.fault.Why.{Why}
 use Rattle.script_text.specs.declared.fault.Why.TheVariants as why
@@ -15,7 +15,7 @@ use Rattle.play.specs.declared.status.Status.TheVariants as status
 pub no_play : (berths : ℕ) (before after : Option (List ℕ)) (text : List ℕ) (line : ℕ) (w : Why) → ReadsAll before after text → script_of text ≡ Err (line, w) → IsNoPlay berths before after line w
 no_play berths before after text line why.TooLong r e = absurd (own_fault text line why.TooLong e)
 no_play berths before after text line why.NoBerth r e = absurd (own_fault text line why.NoBerth e)
-no_play berths before after text line why.Command r e = inl (text, r, e)
+no_play berths before after text line why.Command r e = (text, r, e)
 no_play berths before after text line why.NoFleet r e = (text, r, e)
 no_play berths before after text line why.Place r e = (text, r, e)
 no_play berths before after text line why.Words r e = (text, r, e)

@@ -1,25 +1,34 @@
--- A play goes on by one command.
-use Rattle.std.proofs.Common.{◌≡◌, ◌⊎◌, inl, inr, ℕ, ◌+◌, ◌==◌, ◌&&◌, Bool, List, [], ◌∷◌, ◌++◌, refl, sym, ap, subst, ◌∙◌, arith, Option, Some, None}
-use Rattle.std.specs.Prelude.{if◌then◌else◌, slice_get, IfOk, IsErr, IsOk, OnOk, Result, Ok, Err, Vec}
+-- A play goes on by one item.
+use Rattle.std.proofs.Common.{◌≡◌, ℕ, ◌+◌, ◌==◌, ◌&&◌, Bool, List, [], ◌∷◌, ◌++◌, refl, sym, ap, ap₂, subst, ◌∙◌, arith, Option, Some, None}
+use Rattle.std.specs.Prelude.{if◌then◌else◌, slice_get, IfOk, IsOk, OnOk, Result, Ok, Err, Vec}
 use Rattle.std.specs.Global.{Global}
+use Rattle.std.specs.List.{AllByRecursion}
 use Rattle.std.specs.Io.KnownBytes.{Appends}
 use Rattle.std.proofs.lemmas.Grind.{flat_map-append}
 use Rattle.std.proofs.lemmas.List.{append-nil, append_assoc, map-append}
 use Rattle.berth_face.specs.Berth.{Meaning, Passes}
 use Rattle.crash_moments.specs.Left.{NamedStates}
 use Rattle.script_text.specs.declared.command.Command.{Command}
+use Rattle.script_text.specs.declared.command.Command.TheVariants as command
+use Rattle.script_text.specs.declared.item.Item.{Item}
+use Rattle.script_text.specs.declared.item.Item.TheVariants as item
+use Rattle.script_text.specs.Fits.{IsCommand}
 use Rattle.printed_lines.specs.declared.line.Ending.{Ending}
 use Rattle.printed_lines.specs.declared.line.Line.{Line}
 use Rattle.printed_lines.specs.Lines.{line_text, lines_text}
-use Rattle.transcript.specs.Pieces.{Deed, Fleet, Piece, Called, Worn, Acted, Says, Played, all_lines, lines_in, pieces_in}
+use Rattle.transcript.specs.Pieces.{Deed, Fleet, Piece, Called, Worn, Acted, Says, Played, PlayedItem, all_lines, all_pieces, item_lines, item_of, leaf_count, pieces_in, plays_in, plays_of}
 use Rattle.transcript.specs.Counts.{Counted, IsCounted, deeds_in, disk_faults_in, disk_reads_in, is_disk_fault, is_region_fault, reads_disk, region_faults_in}
+use Rattle.transcript.specs.Stage.{Leaf}
 use Rattle.transcript.specs.Holds.{HasMet, Hold}
 use Rattle.transcript.specs.Steps.{MayPlay}
-use Rattle.player.specs.Crew.{AllPass, PlaysWith}
+use Rattle.player.specs.Crew.{AllPass, CountedIf, PassesIf}
+use Rattle.bursts.specs.Items.{ItemPlayed, MayPlayItem}
+use Rattle.sessions.specs.Laws as sessions
 use Rattle.play.specs.Played.{KeepsCounts}
 use Rattle.play.specs.Runs.{Advances, HoldsKeep, IsRun, RunSoFar}
 use Rattle.sessions.proofs.Ending.{ended}
-use Rattle.sessions.proofs.Playing.{plays_on}
+use Rattle.sessions.proofs.Sessions.{plays_on}
+use Rattle.sessions.proofs.Lists.{All-weaken}
 use Rattle.leaf_sessions.proofs.Lists.{element_at, within}
 
 -- ---- bytes
@@ -82,72 +91,115 @@ keeps_on a b c k p = record {
   disk_faults = omega (arith, k.disk_faults, p.disk_faults);
 }
 
+-- ---- leaves that are held
+
+-- a leaf that is held was held before, and time passed for its berth
+pass_before : {B : Type 0} (meaning : B → Meaning) (x y : Hold B) (l : Leaf) (new : B) → PassesIf meaning x.held y.held → y.held ≡ Some (l, new)
+    → (m : Leaf) × (old : B) × (x.held ≡ Some (m, old)) × Passes (meaning old) (meaning new)
+pass_before {B} meaning x y l new passes held = by x.held (subst (PassesIf meaning x.held) held passes)
+  where
+    by : (o : Option (Leaf × B)) → PassesIf meaning o (Some (l, new)) → (m : Leaf) × (old : B) × (o ≡ Some (m, old)) × Passes (meaning old) (meaning new)
+    by None p = absurd p
+    by (Some h) p = (h.0, h.1, refl, p)
+
+-- and what these pieces tell of it is counted
+counted_before : {B : Type 0} (meaning : B → Meaning) (leaf : ℕ) (pieces : List Piece) (x y : Hold B) (l : Leaf) (new : B) → CountedIf meaning leaf pieces x.held y.held → y.held ≡ Some (l, new)
+    → (m : Leaf) × (old : B) × (x.held ≡ Some (m, old)) × IsCounted leaf pieces (meaning old) (meaning new)
+counted_before {B} meaning leaf pieces x y l new counted held = by x.held (subst (CountedIf meaning leaf pieces x.held) held counted)
+  where
+    by : (o : Option (Leaf × B)) → CountedIf meaning leaf pieces o (Some (l, new)) → (m : Leaf) × (old : B) × (o ≡ Some (m, old)) × IsCounted leaf pieces (meaning old) (meaning new)
+    by None c = absurd c
+    by (Some h) c = (h.0, h.1, refl, c)
+
 -- no count of the leaves' berths falls as time passes
 pub holds_keep : {B : Type 0} (meaning : B → Meaning) (olds : List B) (xs ys : List (Hold B)) → HoldsKeep meaning olds xs → AllPass meaning xs ys → HoldsKeep meaning olds ys
 holds_keep meaning olds xs ys keeps passes = record {
   as_many = passes.count ∙ keeps.as_many;
-  each = λ leaf old y at now.
-      let was_held = element_at xs leaf (omega (arith, within ys leaf y now, passes.count)) in
-      keeps_on (meaning old) (meaning was_held.0.berth) (meaning y.berth) (keeps.each leaf old was_held.0 at was_held.1) (passes.each leaf was_held.0 y was_held.1 now);
+  each = λ leaf old y l new at now held.
+      let x = element_at xs leaf (omega (arith, within ys leaf y now, passes.count)) in
+      let was = pass_before meaning x.0 y l new (passes.each leaf x.0 y x.1 now) held in
+      keeps_on (meaning old) (meaning was.1) (meaning new) (keeps.each leaf old x.0 was.0 was.1 at x.1 was.2) was.3;
 }
 
 -- ---- runs
 
-pieces_snoc : (ps : List Played) (p : Played) → pieces_in (ps ++ p ∷ []) ≡ pieces_in ps ++ p.pieces
-pieces_snoc ps p = flat_map-append (λ (q : Played). q.pieces) ps (p ∷ []) ∙ ap (λ xs. pieces_in ps ++ xs) (append-nil p.pieces)
+pieces_snoc : (ps : List PlayedItem) (p : PlayedItem) → all_pieces (ps ++ p ∷ []) ≡ all_pieces ps ++ all_pieces (p ∷ [])
+pieces_snoc ps p =
+    ap (λ (qs : List Played). pieces_in qs) (flat_map-append plays_of ps (p ∷ [])) ∙ flat_map-append (λ (q : Played). q.pieces) (plays_in ps) (plays_in (p ∷ []))
 
-lines_snoc : (ps : List Played) (p : Played) → all_lines (ps ++ p ∷ []) ≡ all_lines ps ++ lines_in p.pieces
-lines_snoc ps p = flat_map-append (λ (q : Played). lines_in q.pieces) ps (p ∷ []) ∙ ap (λ xs. all_lines ps ++ xs) (append-nil (lines_in p.pieces))
+lines_snoc : (ps : List PlayedItem) (p : PlayedItem) → all_lines (ps ++ p ∷ []) ≡ all_lines ps ++ item_lines p
+lines_snoc ps p = flat_map-append item_lines ps (p ∷ []) ∙ ap (λ xs. all_lines ps ++ xs) (append-nil (item_lines p))
 
-pub run_goes_on : {B : Type 0} (base : ℕ → Option NamedStates) (meaning : B → Meaning) (fleet : Fleet) (olds : List B) (was written after : Option (List ℕ)) (commands : List Command) (c : Command) (xs ys : List (Hold B))
-    → RunSoFar base meaning fleet olds was written commands xs
-    → MayPlay fleet c
-    → Advances meaning fleet xs ys written after c
+-- a command behind the fleet may be played
+pub may_later : (fleet : Fleet) (c : Command) → IsCommand (leaf_count fleet) fleet.names c → MayPlay fleet c
+may_later fleet (command.Fleet m p ts) h = absurd h
+may_later fleet (command.Add leaf table rows) h = h
+may_later fleet (command.Expire leaf table horizon) h = h
+may_later fleet (command.Keep leaf table n) h = h
+may_later fleet (command.Query q) h = h
+may_later fleet (command.Flush leaf table) h = h
+may_later fleet (command.Drain leaf stop) h = h
+may_later fleet (command.Kill leaf) h = h
+may_later fleet (command.Start leaf) h = h
+
+-- each command of a burst's lanes may be played
+each_may : (fleet : Fleet) (x : Item) → MayPlayItem fleet x → sessions.MayPlayItem fleet x
+each_may fleet (item.One c) may = may
+each_may fleet (item.Burst lanes) may =
+    All-weaken (λ (lane : List Command). AllByRecursion (IsCommand (leaf_count fleet) fleet.names) lane) (λ (lane : List Command). AllByRecursion (MayPlay fleet) lane)
+    (λ lane each. All-weaken (IsCommand (leaf_count fleet) fleet.names) (MayPlay fleet) (may_later fleet) lane each) lanes may.each
+
+pub run_goes_on : {B : Type 0} (base : ℕ → Option NamedStates) (meaning : B → Meaning) (fleet : Fleet) (olds : List B) (was written after : Option (List ℕ)) (items : List Item) (x : Item) (xs ys : List (Hold B))
+    → RunSoFar base meaning fleet olds was written items xs
+    → MayPlayItem fleet x
+    → Advances meaning fleet xs ys written after x
     → AllPass meaning xs ys
-    → RunSoFar base meaning fleet olds was after (commands ++ c ∷ []) ys
-run_goes_on {B} base meaning fleet olds was written after commands c xs ys run may step passes =
-    let p : Played = record { command = c; pieces = step.pieces } in
-    let text : Appends was after (lines_text fleet.names (all_lines run.played ++ lines_in step.pieces)) =
-    subst (Appends was after) (sym (flat_map-append (line_text fleet.names) (all_lines run.played) (lines_in step.pieces)))
-    (appends_on was written after (lines_text fleet.names (all_lines run.played)) (lines_text fleet.names (lines_in step.pieces)) run.text step.text) in
+    → RunSoFar base meaning fleet olds was after (items ++ x ∷ []) ys
+run_goes_on {B} base meaning fleet olds was written after items x xs ys run may step passes =
+    let p : PlayedItem = step.played in
+    let text : Appends was after (lines_text fleet.names (all_lines run.played ++ item_lines p)) =
+    subst (Appends was after) (sym (flat_map-append (line_text fleet.names) (all_lines run.played) (item_lines p)))
+    (appends_on was written after (lines_text fleet.names (all_lines run.played)) (lines_text fleet.names (item_lines p)) run.text step.text) in
+    let may_item : sessions.MayPlayItem fleet (item_of p) = subst (sessions.MayPlayItem fleet) (sym step.item_is) (each_may fleet x may) in
     record {
       played = run.played ++ p ∷ [];
-      commands_are = map-append (λ (q : Played). q.command) run.played (p ∷ []) ∙ ap (λ cs. cs ++ c ∷ []) run.commands_are;
+      items_are = map-append item_of run.played (p ∷ []) ∙ ap₂ (λ (is js : List Item). is ++ js) run.items_are (ap (λ (i : Item). i ∷ []) step.item_is);
       text = subst (λ ls. Appends was after (lines_text fleet.names ls)) (sym (lines_snoc run.played p)) text;
-      counted = λ leaf old y at now.
-          let was_held = held_before leaf y now in
-          subst (λ ps. IsCounted leaf ps (meaning old) (meaning y.berth)) (sym (pieces_snoc run.played p))
-          (counted_on leaf (pieces_in run.played) step.pieces (meaning old) (meaning was_held.0.berth) (meaning y.berth)
-          (run.counted leaf old was_held.0 at was_held.1) (step.counted leaf was_held.0 y was_held.1 now));
+      counted = λ leaf old y l new at now held.
+          let had = held_before leaf y now in
+          let before = counted_before meaning leaf (all_pieces (p ∷ [])) had.0 y l new (step.counted.each leaf had.0 y had.1 now) held in
+          subst (λ ps. IsCounted leaf ps (meaning old) (meaning new)) (sym (pieces_snoc run.played p))
+          (counted_on leaf (all_pieces run.played) (all_pieces (p ∷ [])) (meaning old) (meaning before.1) (meaning new)
+          (run.counted leaf old had.0 before.0 before.1 at had.1 before.2) before.3);
       keeps = holds_keep meaning olds xs ys run.keeps passes;
-      session = λ known is. plays_on meaning olds fleet known run.played xs ys c step.pieces (run.session known is) step.plays;
+      session = λ known is. plays_on meaning olds fleet known run.played xs ys p may_item (run.session known is) step.plays;
     }
   where
     held_before : (leaf : ℕ) (y : Hold B) → slice_get ys leaf ≡ Some y → (x : Hold B) × (slice_get xs leaf ≡ Some x)
     held_before leaf y now = element_at xs leaf (omega (arith, within ys leaf y now, passes.count))
 
--- what a command did, once its lines were written
-pub advances : {B E F : Type 0} (meaning : B → Meaning) (fleet : Fleet) {c : Command} {xs ys : List (Hold B)} (was now : Option (List ℕ)) (lines : Result (Vec Line Global) E) (written : Result (Unit {0}) F)
-    → PlaysWith meaning fleet c xs lines ys ⊎ (IsErr lines × (ys ≡ xs))
+-- what an item did, once its lines were written
+pub advances : {B E F : Type 0} (meaning : B → Meaning) (fleet : Fleet) (x : Item) (xs ys : List (Hold B)) (was now : Option (List ℕ)) (lines : Result (Vec Line Global) E) (written : Result (Unit {0}) F)
+    → IfOk lines (λ ls. ItemPlayed meaning fleet x xs ls.items ys)
     → OnOk written (IsOk lines)
     → OnOk written (IfOk lines (λ ls. Appends was now (lines_text fleet.names ls.items)))
-    → OnOk written (Advances meaning fleet xs ys was now c)
-advances meaning fleet was now lines (Err e) played made text = tt
-advances meaning fleet was now (Err e) (Ok x) played made text = absurd cc
-advances meaning fleet was now (Ok ls) (Ok x) (inr failed) made text = absurd cc
-advances meaning fleet was now (Ok ls) (Ok x) (inl played) made text = record {
-  pieces = played.pieces;
+    → OnOk written (Advances meaning fleet xs ys was now x)
+advances meaning fleet x xs ys was now lines (Err e) played made text = tt
+advances meaning fleet x xs ys was now (Err e) (Ok u) played made text = absurd cc
+advances meaning fleet x xs ys was now (Ok ls) (Ok u) played made text = record {
+  played = played.played;
+  item_is = played.item_is;
   plays = played.plays;
   text = subst (λ ks. Appends was now (lines_text fleet.names ks)) played.lines_are text;
   counted = played.counted;
 }
 
 -- once all seats have met again, the run is told
-pub run_ends : {B : Type 0} (base : ℕ → Option NamedStates) (meaning : B → Meaning) (fleet : Fleet) (olds : List B) (was now : Option (List ℕ)) (commands : List Command) (xs : List (Hold B))
-    → RunSoFar base meaning fleet olds was now commands xs → ((leaf : ℕ) (x : Hold B) → slice_get xs leaf ≡ Some x → HasMet meaning x) → IsRun base meaning fleet olds was now commands xs
-run_ends base meaning fleet olds was now commands xs run met = record {
+pub run_ends : {B : Type 0} (base : ℕ → Option NamedStates) (meaning : B → Meaning) (fleet : Fleet) (olds : List B) (was now : Option (List ℕ)) (items : List Item) (xs : List (Hold B))
+    → RunSoFar base meaning fleet olds was now items xs → ((leaf : ℕ) (x : Hold B) → slice_get xs leaf ≡ Some x → HasMet meaning x) → IsRun base meaning fleet olds was now items xs
+run_ends base meaning fleet olds was now items xs run met = record {
   played = run.played;
-  commands_are = run.commands_are;
+  items_are = run.items_are;
   text = run.text;
   counted = run.counted;
   told = λ known is. ended meaning olds fleet known run.played xs (run.session known is) met;

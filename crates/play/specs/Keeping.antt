@@ -10,7 +10,7 @@ use Rattle.transcript.specs.Base.{watched_with}
 use Rattle.transcript.specs.Pieces.{Fleet, fleet_of, leaf_count}
 use Rattle.transcript.specs.Leaving.{AreKnown}
 use Rattle.transcript.specs.Transcript.{Known}
-use Rattle.play.specs.Played.{IsBase, IsPlayed, commands_of}
+use Rattle.play.specs.Played.{IsBase, IsPlayed}
 
 -- ---- a base as a list, which unlike a function can be kept
 
@@ -71,7 +71,7 @@ pub record LeavesKnown {B : Type 0} (base : ℕ → Option NamedStates) (meaning
   pub played : IsPlayed base meaning before after was now old new
   pub known : ℕ → Option Known
   pub are_known : AreKnown meaning old new base known
-  pub keeps : KeepsEach meaning new (fleet_of (commands_of played.script)) known (played.written.told known are_known).transcript.histories next
+  pub keeps : KeepsEach meaning new (fleet_of played.script.items) known (played.written.told known are_known).transcript.histories next
 
 -- ---- two runs
 

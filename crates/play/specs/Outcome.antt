@@ -1,5 +1,5 @@
 -- What a run leaves, and which status the words and the text decide.
-use Rattle.std.specs.Prelude.{◌≡◌, ◌⊎◌, ◌==◌, ℕ, List, [], ◌∷◌, ◌++◌, length, nat_lt, if◌then◌else◌, Option, Some, None, Result, Ok, Err, codes, decimal, false, true}
+use Rattle.std.specs.Prelude.{◌≡◌, ℕ, List, [], ◌∷◌, ◌++◌, length, nat_lt, if◌then◌else◌, Option, Some, None, Result, Ok, Err, codes, decimal, true}
 use Rattle.std.specs.Io.KnownBytes.{Appends}
 use Rattle.berth_face.specs.Berth.{Meaning}
 use Rattle.berth_face.specs.Streams.{ReadsAll, TakesAtMost, TakesCount, WritesFront}
@@ -12,7 +12,7 @@ use Rattle.script_text.specs.declared.script.Script.{Script}
 use Rattle.script_text.specs.Commands.{Fault}
 use Rattle.script_text.specs.Script.{script_of}
 use Rattle.play.specs.Count.{rows_of, count_of}
-use Rattle.play.specs.Played.{IsPlayed, commands_of, leaves_in}
+use Rattle.play.specs.Played.{IsPlayed, leaves_in}
 use Rattle.play.specs.Source.{longest_text, most_taken}
 use Rattle.play.specs.declared.count.LineFault.{LineFault}
 use Rattle.play.specs.declared.status.Status.{Status}
@@ -75,11 +75,7 @@ IsNoScript before after line fault = (text : List ℕ) × ReadsAll before after 
 -- the source was read to its end, and its fleet, which stands on that line, has more leaves than there are berths
 abbrev pub HasTooManyLeaves : ℕ → Option (List ℕ) → Option (List ℕ) → ℕ → Type 0
 HasTooManyLeaves berths before after line =
-    (text : List ℕ) × (script : Script) × ReadsAll before after text × (script_of text ≡ Ok script) × (line ≡ script.fleet_line) × (nat_lt berths (leaves_in (commands_of script)) ≡ true)
-
--- the source was read to its end, and its script has a burst, the first of which begins on that line: so far none is played
-abbrev pub HasBurst : Option (List ℕ) → Option (List ℕ) → ℕ → Type 0
-HasBurst before after line = (text : List ℕ) × (script : Script) × ReadsAll before after text × (script_of text ≡ Ok script) × (line ≡ script.burst_line) × ((line == 0) ≡ false)
+    (text : List ℕ) × (script : Script) × ReadsAll before after text × (script_of text ≡ Ok script) × (line ≡ script.fleet_line) × (nat_lt berths (leaves_in script.items) ≡ true)
 
 -- of a script
 abbrev pub IsNoPlay : ℕ → Option (List ℕ) → Option (List ℕ) → ℕ → Why → Type 0
@@ -87,7 +83,7 @@ IsNoPlay berths before after line why.TooLong = (line ≡ 0) × TakesCount befor
 IsNoPlay berths before after line why.NoBerth = HasTooManyLeaves berths before after line
 IsNoPlay berths before after line (why.Row fault) = IsNoScript before after line (why.Row fault)
 IsNoPlay berths before after line (why.Query fault) = IsNoScript before after line (why.Query fault)
-IsNoPlay berths before after line why.Command = IsNoScript before after line why.Command ⊎ HasBurst before after line
+IsNoPlay berths before after line why.Command = IsNoScript before after line why.Command
 IsNoPlay berths before after line why.NoFleet = IsNoScript before after line why.NoFleet
 IsNoPlay berths before after line why.Place = IsNoScript before after line why.Place
 IsNoPlay berths before after line why.Words = IsNoScript before after line why.Words
@@ -118,13 +114,9 @@ abbrev pub status_of : Result ℕ LineFault → Status
 status_of (Ok count) = Status.Done
 status_of (Err found) = Status.Script found.line (why.Row found.fault)
 
--- the status of a script whose leaves have berths: so far a burst is no command
-abbrev pub status_alone : Script → Status
-status_alone script = if script.burst_line == 0 then Status.Done else Status.Script script.burst_line why.Command
-
 -- the status of a text that is a script, or has a first fault
 abbrev pub status_played : ℕ → Result Script Fault → Status
-status_played berths (Ok script) = if nat_lt berths (leaves_in (commands_of script)) then Status.Script script.fleet_line why.NoBerth else status_alone script
+status_played berths (Ok script) = if nat_lt berths (leaves_in script.items) then Status.Script script.fleet_line why.NoBerth else Status.Done
 status_played berths (Err found) = Status.Script found.0 found.1
 
 -- the status of a text of which a fault was found

@@ -5,21 +5,16 @@ use Rattle.berth_face.specs.Streams.{ReadsAll}
 use Rattle.crash_moments.specs.Left.{NamedStates}
 use Rattle.leaf_history.specs.History.{base_of}
 use Rattle.leaf_machine.specs.States.{MayBegin}
-use Rattle.script_text.specs.declared.command.Command.{Command}
+use Rattle.script_text.specs.declared.item.Item.{Item}
 use Rattle.script_text.specs.declared.script.Script.{Script}
 use Rattle.script_text.specs.Commands.{Fault}
-use Rattle.script_text.specs.Fits.{alone}
 use Rattle.script_text.specs.Script.{script_of}
 use Rattle.transcript.specs.Pieces.{fleet_of, leaf_count}
 use Rattle.transcript.specs.Leaving.{IsWritten}
 
 -- how many leaves a script's fleet has
-abbrev pub leaves_in : List Command → ℕ
-leaves_in commands = leaf_count (fleet_of commands)
-
--- the commands of a script that has no burst
-abbrev pub commands_of : Script → List Command
-commands_of script = alone script.items
+abbrev pub leaves_in : List Item → ℕ
+leaves_in items = leaf_count (fleet_of items)
 
 -- ---- what is known of the berths
 
@@ -38,15 +33,14 @@ AreBases {B} base meaning berths = (leaf : ℕ) (b : B) → slice_get berths lea
 
 -- ---- what was done
 
--- The source was read to its end, its text is a script without a burst, and what was written is a transcript of it.
+-- The source was read to its end, its text is a script, and what was written is a transcript of it.
 pub record IsPlayed {B : Type 0} (base : ℕ → Option NamedStates) (meaning : B → Meaning) (before after was now : Option (List ℕ)) (old new : List B) : Type 0 where
   pub text : List ℕ
   pub script : Script
   pub read : ReadsAll before after text
   pub is_script : script_of text ≡ Ok script
-  pub no_burst : script.burst_line ≡ 0
-  pub enough : leaves_in (commands_of script) ≤ length old
-  pub written : IsWritten meaning old new base (commands_of script) was now
+  pub enough : leaves_in script.items ≤ length old
+  pub written : IsWritten meaning old new base script.items was now
 
 -- what a run leaves of a berth in any case: no count of faults falls
 pub record KeepsCounts (old new : Meaning) : Type 0 where
@@ -56,7 +50,7 @@ pub record KeepsCounts (old new : Meaning) : Type 0 where
 
 -- how many leaves the fleet of a script has; of no script it is none
 abbrev pub leaves_of : Result Script Fault → ℕ
-leaves_of (Ok script) = leaves_in (commands_of script)
+leaves_of (Ok script) = leaves_in script.items
 leaves_of (Err found) = 0
 
 -- how many leaves a source's text makes; where the source does not tell its text, the most that a fleet may have

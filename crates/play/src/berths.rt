@@ -3,11 +3,11 @@ ghost use Rattle.std.specs.Prelude.{◌≡◌, ◌≤◌, [], length, OnOk, IfOk
 ghost use Rattle.std.specs.List.{AllByRecursion};
 ghost use Rattle.std.specs.Io.KnownBytes.{Appends};
 ghost use Rattle.berth_face.specs.Causes.{Rose};
-ghost use Rattle.script_text.specs.Fits.{AreCommands, AreItems, alone};
+ghost use Rattle.script_text.specs.Fits.{AreItems};
 ghost use Rattle.printed_lines.specs.Lines.{lines_text, IsOf};
-ghost use Rattle.transcript.specs.Steps.{MayPlay};
 ghost use Rattle.transcript.specs.Leaving.{IsWritten};
-ghost use Rattle.player.specs.Crew.{AllPass};
+ghost use Rattle.player.specs.Crew.{AllPass, HasAll};
+ghost use Rattle.bursts.specs.Items.{MayPlayItem};
 ghost use Rattle.play.specs.Played.{AreBases, LeavesBerths, leaves_in};
 ghost use Rattle.play.specs.Runs.{Advances, HoldsKeep, IsEnd, IsFleetOf, RunSoFar, berths_in};
 
@@ -16,16 +16,17 @@ use crate::status::Status;
 use crate::stream::write_all;
 use crate::tables::{NewTables, new_tables};
 use berth_face::{Berth, Gate, Sink};
+use bursts::play_item;
 use leaf_model::Names;
 use player::Crew;
 use printed_lines::{Line, put_lines};
-use script_text::{Command, Commands, Item, Items};
+use script_text::{Command, Item, Items};
 use std::alloc::{AllocError, Global};
 use std::collections::VecDeque;
 use std::sync::Wait;
 use std::thread::Threads;
 
-/// Why a command's lines were not written whole.
+/// Why an item's lines were not written whole.
 #[derive(Clone, Copy, Debug, PartialEq, Eq)]
 enum WriteError {
     Failed,
@@ -43,7 +44,7 @@ struct FleetPlan {
 /// How many leaves the fleet of these items has.
 pub fn leaf_count(items: &Items) -> usize
     requires { AreItems items.now }
-    ensures { result ≡ leaves_in (alone items.now) }
+    ensures { result ≡ leaves_in items.now }
 {
     match items.as_slice() {
         [
@@ -60,19 +61,21 @@ pub fn leaf_count(items: &Items) -> usize
     }
 }
 
-/// The fleet of these commands, where there is one.
-fn plan_of(commands: &Commands) -> Result<Option<FleetPlan>, AllocError>
-    requires { AreCommands commands.now }
-    ensures none { IfOk result (λ found. found ≡ None → commands.now ≡ []) }
-    ensures plan { IfOk result (λ found. IfSome found (λ plan. IsFleetOf commands.now plan.machines plan.per_machine plan.names)) }
+/// The fleet of these items, where there is one.
+fn plan_of(items: &Items) -> Result<Option<FleetPlan>, AllocError>
+    requires { AreItems items.now }
+    ensures none { IfOk result (λ found. found ≡ None → items.now ≡ []) }
+    ensures plan { IfOk result (λ found. IfSome found (λ plan. IsFleetOf items.now plan.machines plan.per_machine plan.names)) }
 {
-    match commands.as_slice() {
+    match items.as_slice() {
         [
-            Command::Fleet {
-                machines,
-                per_machine,
-                tables,
-            },
+            Item::One(
+                Command::Fleet {
+                    machines,
+                    per_machine,
+                    tables,
+                },
+            ),
             ..
         ] => Ok(Some(FleetPlan {
             machines: *machines,
@@ -83,49 +86,49 @@ fn plan_of(commands: &Commands) -> Result<Option<FleetPlan>, AllocError>
     }
 }
 
-/// Plays a script's commands over the first berths, and puts those back in their places.
-pub fn play_commands<N: Bases, R: Wait + Threads + Sync, K: Sink, B: Berth, G: Gate>(
+/// Plays a script's items over the first berths, and puts those back in their places.
+pub fn play_items<N: Bases, R: Wait + Threads + Sync, K: Sink, B: Berth, G: Gate>(
     rt: &R,
     alloc: Global,
-    commands: Commands,
+    items: Items,
     sink: &mut K,
     berths: &mut Vec<B>,
     gate: &G,
 ) -> Status
-    requires commands { AreCommands commands }
-    requires enough { leaves_in commands ≤ length berths.old.items }
+    requires items { AreItems items }
+    requires enough { leaves_in items ≤ length berths.old.items }
     requires bases { AreBases N.base B.meaning berths.old.items }
-    ensures done { result ≡ Status.Done → IsWritten B.meaning berths.old.items berths.new.items N.base commands (K.written sink.old) (K.written sink.new) }
+    ensures done { result ≡ Status.Done → IsWritten B.meaning berths.old.items berths.new.items N.base items (K.written sink.old) (K.written sink.new) }
     ensures ends { IsEnd result }
     ensures write_fault { result ≡ Status.WriteFault → Rose (K.faults sink.old) (K.faults sink.new) }
-    ensures berths { LeavesBerths B.meaning (leaves_in commands) berths.old.items berths.new.items }
+    ensures berths { LeavesBerths B.meaning (leaves_in items) berths.old.items berths.new.items }
 {
-    match plan_of(&commands) {
+    match plan_of(&items) {
         Ok(Some(plan)) => {
-            play_over::<N, R, K, B, G>(rt, alloc, &plan, commands, sink, berths, gate)
+            play_over::<N, R, K, B, G>(rt, alloc, &plan, items, sink, berths, gate)
         }
         Ok(None) => Status::Done,
         Err(_) => Status::NoMemory,
     }
 }
 
-/// Plays the commands of a fleet over the first berths.
+/// Plays the items of a fleet over the first berths.
 fn play_over<N: Bases, R: Wait + Threads + Sync, K: Sink, B: Berth, G: Gate>(
     rt: &R,
     alloc: Global,
     plan: &FleetPlan,
-    commands: Commands,
+    items: Items,
     sink: &mut K,
     berths: &mut Vec<B>,
     gate: &G,
 ) -> Status
-    requires plan { IsFleetOf commands plan.now.machines plan.now.per_machine plan.now.names }
-    requires enough { leaves_in commands ≤ length berths.old.items }
+    requires plan { IsFleetOf items plan.now.machines plan.now.per_machine plan.now.names }
+    requires enough { leaves_in items ≤ length berths.old.items }
     requires bases { AreBases N.base B.meaning berths.old.items }
-    ensures done { result ≡ Status.Done → IsWritten B.meaning berths.old.items berths.new.items N.base commands (K.written sink.old) (K.written sink.new) }
+    ensures done { result ≡ Status.Done → IsWritten B.meaning berths.old.items berths.new.items N.base items (K.written sink.old) (K.written sink.new) }
     ensures ends { IsEnd result }
     ensures write_fault { result ≡ Status.WriteFault → Rose (K.faults sink.old) (K.faults sink.new) }
-    ensures berths { LeavesBerths B.meaning (leaves_in commands) berths.old.items berths.new.items }
+    ensures berths { LeavesBerths B.meaning (leaves_in items) berths.old.items berths.new.items }
 {
     let Ok(copy) = plan.names.copy() else {
         return Status::NoMemory;
@@ -157,7 +160,7 @@ fn play_over<N: Bases, R: Wait + Threads + Sync, K: Sink, B: Berth, G: Gate>(
         alloc,
         &plan.names,
         &mut crew,
-        commands.into_inner(),
+        items.into_inner(),
         sink,
         gate,
     );
@@ -165,27 +168,29 @@ fn play_over<N: Bases, R: Wait + Threads + Sync, K: Sink, B: Berth, G: Gate>(
     status
 }
 
-/// Plays commands one after another, and writes the lines of each.
+/// Plays items one after another, and writes the lines of each.
 fn play_all<'t, N: Bases, R: Wait + Threads + Sync, K: Sink, B: Berth, G: Gate>(
     rt: &R,
     alloc: Global,
     names: &Names,
     crew: &mut Crew<'t, B>,
-    commands: Vec<Command>,
+    items: Vec<Item>,
     sink: &mut K,
     gate: &G,
 ) -> Status
     requires names { crew.old.fleet.names ≡ names.now }
-    requires may_play { AllByRecursion (MayPlay crew.old.fleet) commands.items }
+    requires may_play { AllByRecursion (MayPlayItem crew.old.fleet) items.items }
+    requires all { HasAll crew.old.fleet crew.old.holds }
     requires begun { RunSoFar N.base B.meaning crew.old.fleet (berths_in crew.old.holds) (K.written sink.old) (K.written sink.old) [] crew.old.holds }
-    ensures done { result ≡ Status.Done → RunSoFar N.base B.meaning crew.old.fleet (berths_in crew.old.holds) (K.written sink.old) (K.written sink.new) commands.items crew.new.holds }
+    ensures done { result ≡ Status.Done → RunSoFar N.base B.meaning crew.old.fleet (berths_in crew.old.holds) (K.written sink.old) (K.written sink.new) items.items crew.new.holds }
     ensures ends { IsEnd result }
     ensures write_fault { result ≡ Status.WriteFault → Rose (K.faults sink.old) (K.faults sink.new) }
     ensures keeps { HoldsKeep B.meaning (berths_in crew.old.holds) crew.new.holds }
+    ensures all { HasAll crew.new.fleet crew.new.holds }
 {
-    let mut rest = VecDeque::from_vec(commands);
-    while let Some(command) = rest.pop_front() {
-        match play_next(rt, alloc, names, crew, command, sink, gate) {
+    let mut rest = VecDeque::from_vec(items);
+    while let Some(item) = rest.pop_front() {
+        match play_next(rt, alloc, names, crew, item, sink, gate) {
             Ok(()) => {}
             Err(WriteError::Failed) => return Status::WriteFault,
             Err(WriteError::NoMemory) => return Status::NoMemory,
@@ -194,29 +199,31 @@ fn play_all<'t, N: Bases, R: Wait + Threads + Sync, K: Sink, B: Berth, G: Gate>(
     Status::Done
 }
 
-/// Plays a command, and writes its lines.
+/// Plays an item, and writes its lines.
 fn play_next<'t, R: Wait + Threads + Sync, K: Sink, B: Berth, G: Gate>(
     rt: &R,
     alloc: Global,
     names: &Names,
     crew: &mut Crew<'t, B>,
-    command: Command,
+    item: Item,
     sink: &mut K,
     gate: &G,
 ) -> Result<(), WriteError>
     requires names { crew.old.fleet.names ≡ names.now }
-    requires may_play { MayPlay crew.old.fleet command }
-    ensures played { OnOk result (Advances B.meaning crew.old.fleet crew.old.holds crew.new.holds (K.written sink.old) (K.written sink.new) command) }
+    requires may_play { MayPlayItem crew.old.fleet item }
+    requires all { HasAll crew.old.fleet crew.old.holds }
+    ensures played { OnOk result (Advances B.meaning crew.old.fleet crew.old.holds crew.new.holds (K.written sink.old) (K.written sink.new) item) }
     ensures fleet { crew.new.fleet ≡ crew.old.fleet }
+    ensures all { HasAll crew.new.fleet crew.new.holds }
     ensures time { AllPass B.meaning crew.old.holds crew.new.holds }
     ensures failed { IsErrOf result WriteError.Failed → Rose (K.faults sink.old) (K.faults sink.new) }
     ensures later { K.faults sink.old ≤ K.faults sink.new }
 {
-    let lines = crew.play(rt, alloc, gate, command);
+    let lines = play_item(rt, alloc, gate, crew, item);
     write_lines(alloc, names, lines, sink)
 }
 
-/// Writes the lines of a command, where there was memory for them.
+/// Writes the lines of an item, where there was memory for them.
 fn write_lines<K: Sink>(
     alloc: Global,
     names: &Names,

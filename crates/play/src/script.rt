@@ -7,7 +7,7 @@ ghost use Rattle.play.specs.Played.{AreBases, IsPlayed, LeavesBerths, leaves_tol
 ghost use Rattle.play.specs.Source.{most_taken};
 
 use crate::bases::Bases;
-use crate::berths::{leaf_count, play_commands};
+use crate::berths::{leaf_count, play_items};
 use crate::status::Status;
 use crate::stream::{ReadError, read_all};
 use berth_face::{Berth, Gate, Sink, Source};
@@ -59,17 +59,7 @@ pub fn play_source<N: Bases, R: Wait + Threads + Sync, S: Source, K: Sink, B: Be
             why: Why::NoBerth,
         };
     }
-    // So far no burst is played.
-    if script.burst_line != 0 {
-        return Status::Script {
-            line: script.burst_line,
-            why: Why::Command,
-        };
-    }
-    let Ok(commands) = script.into_commands(alloc) else {
-        return Status::NoMemory;
-    };
-    play_commands::<N, R, K, B, G>(rt, alloc, commands, sink, berths, gate)
+    play_items::<N, R, K, B, G>(rt, alloc, script.items, sink, berths, gate)
 }
 
 /// The status of a text that is no script.

@@ -1,4 +1,4 @@
-// Two leaves that a query asks at once.
+// Two leaves that a query asks at once, and two lanes at once.
 use crate::plays::lines_of;
 use berth_face::Gate;
 use std::sync::atomic::{AtomicU64, Ordering};
@@ -63,6 +63,20 @@ fn a_query_is_inside_the_turns_of_two_leaves_at_once(rt: HostRuntime) -> Result<
     assert_eq!(rt;
         lines.as_str(),
         "0 t #1 opened 0\nstart 0 disk nohead\n1 t #1 opened 0\nstart 1 disk nohead\n0 t #2 asked\n1 t #2 asked\nanswer named 2 of 2 lines 0\n"
+    );
+    assert!(rt; !gate.was_alone());
+    Ok(())
+}
+
+#[test]
+fn two_lanes_are_inside_the_turns_of_two_leaves_at_once(rt: HostRuntime) -> Result<(), Fail> {
+    let gate = BothInside::new();
+    let script =
+        "fleet 1 2 t\nburst\nlane\nadd 0 t 1\n{\"time\":1}\nlane\nadd 1 t 1\n{\"time\":2}\nend";
+    let lines = lines_of(&rt, rt.alloc(), script, 2, &gate)?;
+    assert_eq!(rt;
+        lines.as_str(),
+        "0 t #1 opened 0\nstart 0 disk nohead\n1 t #1 opened 0\nstart 1 disk nohead\nlane 0\n0 t #2 added 1 late 0\nlane 1\n1 t #2 added 1 late 0\n"
     );
     assert!(rt; !gate.was_alone());
     Ok(())

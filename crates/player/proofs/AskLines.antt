@@ -13,7 +13,7 @@ use Rattle.printed_lines.specs.declared.line.Line.{Line}
 use Rattle.player.specs.Lines.{reply_line}
 use Rattle.player.specs.Commands.{asked_line, asked_lines, number_in, said_line}
 use Rattle.player.proofs.Columns.{element_at}
-use Rattle.player.proofs.HoldLists.{same_some}
+use Rattle.player.proofs.Columns.{same_some}
 
 -- ---- the number of a leaf's entry
 
@@ -154,7 +154,7 @@ take_whole [] (suc n) is = refl
 take_whole (x ∷ xs) zero is = absurd (omega (arith, is))
 take_whole (x ∷ xs) (suc n) is = ap (λ zs. x ∷ zs) (take_whole xs n (omega (arith, is)))
 
-pub all_at : {A : Type 0} (P : A → Type 0) (xs : List A) (i : ℕ) (x : A) → AllByRecursion P xs → slice_get xs i ≡ Some x → P x
+all_at : {A : Type 0} (P : A → Type 0) (xs : List A) (i : ℕ) (x : A) → AllByRecursion P xs → slice_get xs i ≡ Some x → P x
 all_at P [] i x all at = absurd cc
 all_at P (y ∷ ys) zero x all at = subst P (same_some y x at) all.0
 all_at P (y ∷ ys) (suc i) x all at = all_at P ys i x all.1 at

@@ -23,7 +23,6 @@ use Rattle.transcript.specs.Shapes.{AskPieces, CallPiece, IsAskSaid, named, name
 use Rattle.transcript.specs.Counts.{deeds_in}
 use Rattle.transcript.specs.Answers.{AnswerIs}
 use Rattle.transcript.specs.Holds.{Hold, with_callers}
-use Rattle.transcript.specs.Stage.{seated_of}
 use Rattle.transcript.specs.Steps as step
 use Rattle.transcript.specs.Steps.{CallStep, Goes, IsReplyPiece}
 use Rattle.player.proofs.AskLines.{number_named, reply_lines}
@@ -152,16 +151,16 @@ module _ (q : Query) (fleet : List (List Shared)) (table : ℕ) where
   AreAt leaf [] [] = Unit {0}
   AreAt leaf [] (v ∷ vs) = ⊥
   AreAt leaf (x ∷ xs) [] = ⊥
-  AreAt leaf (x ∷ xs) (v ∷ vs) = ((seated_of x.leaf).tables ≡ row fleet leaf) × (slice_get x.callers table ≡ Some v) × AreAt (suc leaf) xs vs
+  AreAt leaf (x ∷ xs) (v ∷ vs) = (x.tables ≡ row fleet leaf) × (slice_get x.callers table ≡ Some (Some v)) × AreAt (suc leaf) xs vs
 
   -- they have become these
   abbrev pub asked_holds : {B : Type 0} → List (Hold B) → List SeatView → List (Hold B)
   asked_holds [] ws = []
   asked_holds (x ∷ xs) [] = x ∷ xs
-  asked_holds (x ∷ xs) (w ∷ ws) = with_callers x (slice_set x.callers table w) ∷ asked_holds xs ws
+  asked_holds (x ∷ xs) (w ∷ ws) = with_callers x (slice_set x.callers table (Some w)) ∷ asked_holds xs ws
 
-  one_step : (leaf : ℕ) (tables : List Shared) (callers : List SeatView) (v : SeatView) (r : Reply) (w : SeatView) → tables ≡ row fleet leaf → slice_get callers table ≡ Some v
-      → IsAsked q fleet table leaf v r w → CallStep leaf table (call.Ask q) tables callers (reply_piece leaf table (call.Ask q) r).piece (slice_set callers table w)
+  one_step : (leaf : ℕ) (tables : List Shared) (callers : List (Option SeatView)) (v : SeatView) (r : Reply) (w : SeatView) → tables ≡ row fleet leaf → slice_get callers table ≡ Some (Some v)
+      → IsAsked q fleet table leaf v r w → CallStep leaf table (call.Ask q) tables callers (reply_piece leaf table (call.Ask q) r).piece (slice_set callers table (Some w))
   one_step leaf tables callers v r w same was asked = record {
     shared = asked.shared;
     before = v;
@@ -195,7 +194,7 @@ module _ (q : Query) (fleet : List (List Shared)) (table : ℕ) where
       → Asked q fleet table leaf vs rs ws → Goes meaning (done ++ xs) (ask_pieces leaf table q rs) (done ++ asked_holds xs ws)
   asks_go meaning done [] leaf [] [] [] is are h = step.none (done ++ []) [] (done ++ []) refl refl
   asks_go {B} meaning done (x ∷ xs) leaf (v ∷ vs) (r ∷ rs) (w ∷ ws) is are h =
-      let y : Hold B = with_callers x (slice_set x.callers table w) in
+      let y : Hold B = with_callers x (slice_set x.callers table (Some w)) in
       let p : Piece = (reply_piece leaf table (call.Ask q) r).piece in
       let ys : List (Hold B) = asked_holds xs ws in
       let others : Goes meaning ((done ++ y ∷ []) ++ xs) (ask_pieces (suc leaf) table q rs) ((done ++ y ∷ []) ++ ys) =
@@ -203,8 +202,8 @@ module _ (q : Query) (fleet : List (List Shared)) (table : ℕ) where
       let here : Goes meaning (slice_set (done ++ x ∷ xs) leaf y) (ask_pieces (suc leaf) table q rs) (done ++ y ∷ ys) =
       subst (λ (zs : List (Hold B)). Goes meaning zs (ask_pieces (suc leaf) table q rs) (done ++ y ∷ ys)) (sym (behind_set done x y xs leaf is))
       (subst (λ (zs : List (Hold B)). Goes meaning ((done ++ y ∷ []) ++ xs) (ask_pieces (suc leaf) table q rs) zs) (append_assoc done (y ∷ []) ys) others) in
-      step.call (done ++ x ∷ xs) (p ∷ ask_pieces (suc leaf) table q rs) (done ++ y ∷ ys) leaf table (call.Ask q) x (slice_set x.callers table w) p (ask_pieces (suc leaf) table q rs)
-      (behind_get done x xs leaf is) (one_step leaf (seated_of x.leaf).tables x.callers v r w are.0 are.1 h.0) here refl
+      step.call (done ++ x ∷ xs) (p ∷ ask_pieces (suc leaf) table q rs) (done ++ y ∷ ys) leaf table (call.Ask q) x (slice_set x.callers table (Some w)) p (ask_pieces (suc leaf) table q rs)
+      (behind_get done x xs leaf is) (one_step leaf x.tables x.callers v r w are.0 are.1 h.0) here refl
   asks_go meaning done [] leaf (v ∷ vs) rs ws is are h = absurd are
   asks_go meaning done (x ∷ xs) leaf [] rs ws is are h = absurd are
   asks_go meaning done [] leaf [] [] (w ∷ ws) is are h = absurd h

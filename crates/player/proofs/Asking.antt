@@ -1,7 +1,7 @@
 -- What a query of all leaves comes to.
-use Rattle.std.proofs.Common.{◌≡◌, ◌⊎◌, inl, inr, ⊎_elim, true, false, ℕ, suc, ◌+◌, ◌<◌, List, [], ◌∷◌, ◌++◌, length, Option, Some, Result, Ok, Err, Vec, Global, refl, sym, ap, ap₂, subst, ◌∙◌, arith, get_or-set_same}
-use Rattle.std.specs.Prelude.{IfOk, IsErr, Bool, option_and_then, slice_get, slice_set}
-use Rattle.std.specs.List.{AllByRecursion}
+use Rattle.std.proofs.Common.{◌≡◌, ◌⊎◌, inl, inr, ⊎_elim, true, false, ℕ, zero, suc, ◌+◌, ◌-◌, ◌<◌, ◌≤◌, List, [], ◌∷◌, ◌++◌, length, take, Option, Some, None, Result, Ok, Err, Vec, Global, refl, sym, ap, ap₂, subst, ◌∙◌, arith, length-set, get_or-set_same}
+use Rattle.std.specs.Prelude.{IfOk, IsErr, Bool, is_some, option_and_then, slice_get, slice_set}
+use Rattle.std.specs.List.{AllByRecursion, flat_map}
 use Rattle.std.proofs.lemmas.List.{append-nil, length-map}
 use Rattle.std.proofs.lemmas.Option.{slice_get_within}
 use Rattle.std.proofs.lemmas.Result.{IfOk-weaker}
@@ -10,16 +10,17 @@ use Rattle.leaf_model.specs.declared.queries.Query.{Query}
 use Rattle.leaf_model.specs.declared.groups.Group.{Group}
 use Rattle.leaf_model.specs.Groups.{groups}
 use Rattle.answer_text.specs.Answer.{answer_lines}
-use Rattle.berth_face.specs.Berth.{Meaning, Passes}
-use Rattle.berth_face.proofs.Moments.{passes_none}
+use Rattle.berth_face.specs.Berth.{Meaning}
 use Rattle.leaf_history.specs.Calls as call
-use Rattle.leaf_history.specs.History.{Entry}
+use Rattle.leaf_history.specs.Replies as reply
+use Rattle.leaf_history.specs.History.{Entry, after, held}
 use Rattle.leaf_table.specs.declared.base.TableBase.{TableBase}
 use Rattle.leaf_table.specs.declared.replies.Reply.{Reply}
+use Rattle.leaf_table.specs.declared.replies.Reply.TheVariants as told
 use Rattle.leaf_table.specs.Turns as turns
 use Rattle.leaf_table.specs.Turns.{Shared, is_founded, start_of}
-use Rattle.leaf_table.specs.Calls.{SeatView, base_seen, seen_of}
-use Rattle.leaf_table.specs.Lists.{HasRows, lists_in, row}
+use Rattle.leaf_table.specs.Calls.{SeatView, Answered, IsToldAs, base_seen, seen_of}
+use Rattle.leaf_table.specs.Lists.{lists_in, row}
 use Rattle.leaf_steward.proofs.Seating.{same_at, set_get}
 use Rattle.aggregator.specs.declared.lists.Named.{Named}
 use Rattle.aggregator.specs.declared.fanned.Fanned.{Fanned}
@@ -35,30 +36,133 @@ use Rattle.printed_lines.specs.declared.line.Line.TheVariants as line
 use Rattle.printed_lines.specs.Lines.{IsOf}
 use Rattle.transcript.specs.Pieces.{Deed, Piece, Says, leaf_count, lines_in, place_of}
 use Rattle.transcript.specs.Shapes.{AskPieces, named, named_in}
-use Rattle.transcript.specs.Counts.{IsCounted, deeds_in}
+use Rattle.transcript.specs.Histories.{Ground}
+use Rattle.transcript.specs.Counts.{deeds_in}
 use Rattle.transcript.specs.Answers.{AnswerIs, partial, rows_before}
-use Rattle.transcript.specs.Holds.{GoOn, Hold, grounds_in, histories_of}
+use Rattle.transcript.specs.Holds.{GoOn, Hold, caller_in, ground_at, grounds_in, histories_of, seen_by, seen_in, steward_in}
+use Rattle.transcript.specs.Stage.{Leaf}
 use Rattle.transcript.specs.Steps as step
 use Rattle.transcript.specs.Steps.{Goes}
 use Rattle.player.specs.declared.leaf.OneLeaf.{OneLeaf}
 use Rattle.player.specs.declared.members.Members.{Members}
-use Rattle.player.specs.Crew.{column}
-use Rattle.player.specs.Rows.{AreCalled, called_at}
-use Rattle.player.specs.Stage.{IsMember, berth_of, hold_of, seats_of}
+use Rattle.player.specs.Crew.{CountedIf, HasSeats, PassesIf, column}
+use Rattle.player.specs.Rows.{AreCalled, AreRows, HasSeat, IsColumn, called_at}
+use Rattle.player.specs.Stage.{held_of, hold_at}
 use Rattle.player.specs.Members.{AreMembers, fleet_in, holds_from, holds_in}
 use Rattle.player.specs.Commands.{AsksAll, AsksRow, query_lines}
-use Rattle.player.proofs.AskHistories.{grounds_at, histories_at, named_count, number_is, over_named, rows_stay}
-use Rattle.player.proofs.AskLines.{asked_are, number_named, reply_lines}
-use Rattle.player.proofs.AskSteps.{AreAt, AskedAt, ask_calm, ask_fit, ask_lines, ask_named, ask_pieces, ask_prints, ask_silent, asked_at, asked_counts, asked_holds, asks_go, paired_of}
+use Rattle.player.proofs.AskLines.{asked_are, number_named, numbered, named_numbered, reply_lines}
+use Rattle.player.proofs.AskSteps.{AreAt, AskedAt, ask_calm, ask_fit, ask_lines, ask_named, ask_pieces, ask_prints, ask_silent, asked_at, asked_counts, asked_holds, asks_go, paired, paired_of}
 use Rattle.player.proofs.Calling.{called_on}
-use Rattle.player.proofs.Chains.{all_more, counted_none, deeds_more, goes_more, lines_more}
-use Rattle.player.proofs.Columns.{IsWide, column_get, column_set, element_at, sizes_set, wide_of}
-use Rattle.player.proofs.HoldLists.{holds_at, holds_back, holds_count}
-use Rattle.player.proofs.MemberSteps.{column_of, leaf_at, member_column, tables_at, with_parts}
+use Rattle.player.proofs.Chains.{all_more, counted_calm, deeds_more, goes_more, lines_more, passes_if_none}
+use Rattle.player.proofs.Columns.{column_get, column_set, element_at, lengths_set, rows_kept, same_some}
+use Rattle.player.proofs.HoldLists.{holds_at, holds_back, holds_count, seat_held}
+use Rattle.player.proofs.MemberSteps.{seats_still, tables_at, with_parts}
+
+-- ---- lists by leaf
+
+same_pairs : (leaf : ℕ) (o : Option ℕ) (ns : List Named) (ps : List (ℕ × ℕ)) → length ns ≡ length ps → length (numbered leaf o ++ ns) ≡ length (paired leaf o ++ ps)
+same_pairs leaf None ns ps same = same
+same_pairs leaf (Some number) ns ps same = ap suc same
+
+-- as many are named
+named_count : (first : ℕ) (rs : List Reply) → length (by_leaf named_of first rs) ≡ length (by_leaf paired_of first rs)
+named_count first [] = refl
+named_count first (r ∷ rs) =
+    ap (λ (ns : List Named). length (ns ++ by_leaf named_of (suc first) rs)) (named_numbered first r)
+    ∙ same_pairs first (number_named r) (by_leaf named_of (suc first) rs) (by_leaf paired_of (suc first) rs) (named_count (suc first) rs)
+
+-- and they have the same rows
+over_named : (F : ℕ × ℕ → List Row) (G : ℕ → ℕ → List Row) (first : ℕ) (rs : List Reply)
+    → ((i leaf : ℕ) (r : Reply) (n : ℕ) → leaf ≡ first + i → slice_get rs i ≡ Some r → number_named r ≡ Some n → F (leaf, n) ≡ G leaf n)
+    → flat_map F (by_leaf paired_of first rs) ≡ rows_of_all G (by_leaf named_of first rs)
+over_named F G first [] same = refl
+over_named F G first (r ∷ rs) same =
+    by (over_named F G (suc first) rs (λ i leaf s n at there is. same (suc i) leaf s n (omega (arith, at)) there is)) (number_named r) refl
+    ∙ ap (λ (ns : List Named). rows_of_all G (ns ++ by_leaf named_of (suc first) rs)) (sym (named_numbered first r))
+  where
+    by : flat_map F (by_leaf paired_of (suc first) rs) ≡ rows_of_all G (by_leaf named_of (suc first) rs)
+        → (o : Option ℕ) → number_named r ≡ o → flat_map F (paired first o ++ by_leaf paired_of (suc first) rs) ≡ rows_of_all G (numbered first o ++ by_leaf named_of (suc first) rs)
+    by others None is = others
+    by others (Some n) is = ap₂ (λ (xs ys : List Row). xs ++ ys) (same 0 first r n (omega arith) refl is) others
+
+-- ---- what is known of a leaf by its seat
+
+caller_is : (callers : List (Option SeatView)) (table : ℕ) (w : SeatView) → slice_get callers table ≡ Some (Some w) → caller_in callers table ≡ Some w
+caller_is [] table w at = absurd cc
+caller_is (c ∷ cs) zero w at = same_some c (Some w) at
+caller_is (c ∷ cs) (suc table) w at = caller_is cs table w at
+
+seen_is : (v c : Option SeatView) (w : SeatView) → c ≡ Some w → seen_by v c ≡ seen_of w
+seen_is None c w is = ap (seen_by None) is
+seen_is (Some v) c w is = ap (seen_by (Some v)) is
+
+ground_is : (tables : List Shared) (table : ℕ) (t : Shared) → slice_get tables table ≡ Some t → ground_at tables table ≡ record { founded = is_founded (base_seen t); base = start_of (base_seen t) }
+ground_is [] table t at = absurd cc
+ground_is (u ∷ us) zero t at = ap (λ (s : Shared). record { founded = is_founded (base_seen s); base = start_of (base_seen s) }) (same_some u t at)
+ground_is (u ∷ us) (suc table) t at = ground_is us table t at
+
+module _ {B : Type 0} where
+  histories_at : (ys : List (Hold B)) (leaf table : ℕ) (y : Hold B) (w : SeatView) → slice_get ys leaf ≡ Some y → slice_get y.callers table ≡ Some (Some w) → histories_of ys leaf table ≡ seen_of w
+  histories_at [] leaf table y w at there = absurd cc
+  histories_at (x ∷ xs) zero table y w at there = ap (λ (h : Hold B). seen_in h table) (same_some x y at) ∙ seen_is (steward_in y.held table) (caller_in y.callers table) w (caller_is y.callers table w there)
+  histories_at (x ∷ xs) (suc leaf) table y w at there = histories_at xs leaf table y w at there
+
+  grounds_at : (ys : List (Hold B)) (leaf table : ℕ) (y : Hold B) (t : Shared) → slice_get ys leaf ≡ Some y → slice_get y.tables table ≡ Some t
+      → grounds_in ys leaf table ≡ record { founded = is_founded (base_seen t); base = start_of (base_seen t) }
+  grounds_at [] leaf table y t at there = absurd cc
+  grounds_at (x ∷ xs) zero table y t at there = ap (λ (h : Hold B). ground_at h.tables table) (same_some x y at) ∙ ground_is y.tables table t there
+  grounds_at (x ∷ xs) (suc leaf) table y t at there = grounds_at xs leaf table y t at there
+
+-- the number of an answer's entry is how much its seat has seen
+told_number : (n : ℕ) (made : reply.Reply) (number : ℕ) (x : Reply) → IsToldAs n made x → number_named x ≡ Some number → number ≡ n
+told_number n (reply.Groups gs) number x is named = same_some number n (sym named ∙ ap number_named is)
+told_number n (reply.Added kept late) number x is named = absurd (clash (sym named ∙ ap number_named is))
+  where
+    clash : Some number ≡ None → ⊥
+    clash e = cc
+told_number n reply.Shut number x is named = absurd (clash (sym named ∙ ap number_named is))
+  where
+    clash : Some number ≡ None → ⊥
+    clash e = cc
+told_number n reply.Full number x is named = absurd (clash (sym named ∙ ap number_named is))
+  where
+    clash : Some number ≡ None → ⊥
+    clash e = cc
+told_number n reply.NoMemory number x is named = absurd (clash (sym named ∙ ap number_named is))
+  where
+    clash : Some number ≡ None → ⊥
+    clash e = cc
+told_number n (reply.Removed k) number x is named = absurd (clash (sym named ∙ ap number_named is))
+  where
+    clash : Some number ≡ None → ⊥
+    clash e = cc
+told_number n (reply.Counted k) number x is named = absurd is
+told_number n reply.Noted number x is named = absurd is
+
+number_is : (base : Option TableBase) (v : SeatView) (c : call.Call) (x : Reply) (w : SeatView) (number : ℕ) → Answered base v c x w → number_named x ≡ Some number → number ≡ length w.seen
+number_is base v c (told.Groups n gs) w number answered named = told_number (length w.seen) answered.1 number (told.Groups n gs) answered.3 named
+number_is base v c told.Worn w number answered named = absurd cc
+number_is base v c (told.Added n kept late) w number answered named = absurd cc
+number_is base v c (told.Removed n rows) w number answered named = absurd cc
+number_is base v c (told.Shut n) w number answered named = absurd cc
+number_is base v c (told.Full n) w number answered named = absurd cc
+number_is base v c (told.NoMemory n) w number answered named = absurd cc
+
+-- the rows before an entry that a seat has seen, however its history goes on
+rows_stay : (g : Ground) (base : Option TableBase) (entries seen more : List Entry) (n : ℕ) → g ≡ record { founded = is_founded base; base = start_of base } → entries ≡ seen ++ more → n - 1 ≤ length seen
+    → rows_before g entries n ≡ fan.rows_before base seen n
+rows_stay g base entries seen more n ground goes few =
+    ap₂ (λ (h : Ground) (es : List Entry). (held (after h.founded h.base es)).rows) ground
+    (ap (λ (es : List Entry). take (n - 1) es) goes ∙ take_front (n - 1) seen more few)
+  where
+    take_front : (k : ℕ) (xs ys : List Entry) → k ≤ length xs → take k (xs ++ ys) ≡ take k xs
+    take_front zero xs ys few = refl
+    take_front (suc k) [] ys few = absurd (omega (arith, few))
+    take_front (suc k) (x ∷ xs) ys few = ap (λ (zs : List Entry). x ∷ zs) (take_front k xs ys (omega (arith, few)))
 
 -- ---- the seats of one row
 
-module _ {B : Type 0} (x : Members B) (table : ℕ) (are : AreMembers x) (within : table < length x.names) where
+module _ {B : Type 0} (x : Members B) (table : ℕ) (are : AreMembers x) (within : table < length x.names) (has : HasSeats (holds_in x) table) where
   abbrev rows : List (List SeatView)
   rows = lists_in x.rows.items
 
@@ -68,27 +172,28 @@ module _ {B : Type 0} (x : Members B) (table : ℕ) (are : AreMembers x) (within
   low : table < length rows
   low = omega (arith, within, are.rows.count)
 
-  wide : (leaf : ℕ) → leaf < count → IsWide leaf rows
-  wide leaf below = wide_of rows (length x.names) count leaf are.rows below
-
   size : length (row rows table) ≡ count
-  size = are.rows.each table within
+  size = by x.leaves.items are.leaves (seat_held x.tables.now x.leaves.items rows 0 table has) (are.rows.each table within)
+    where
+      by : (leaves : List (Option (OneLeaf B))) → length leaves ≡ count → (0 < length leaves → HasSeat 0 table rows) → (row rows table ≡ []) ⊎ (length (row rows table) ≡ count) → length (row rows table) ≡ count
+      by [] same seat (inl none) = ap (λ (vs : List SeatView). length vs) none ∙ same
+      by (o ∷ os) same seat (inl none) =
+          let c = seat (omega arith) in
+          absurd (omega (arith, slice_get_within (row rows table) 0 c.0 c.1, ap (λ (vs : List SeatView). length vs) none))
+      by leaves same seat (inr all) = all
 
   -- a leaf's table and its callers' seat there
   pub seat_of : (leaf : ℕ) (v : SeatView) → slice_get (row rows table) leaf ≡ Some v → IsSeatAt x.tables.now table leaf v
   seat_of leaf v at =
       let below : leaf < count = omega (arith, slice_get_within (row rows table) leaf v at, size) in
-      let one = leaf_at x leaf are below in
-      let is = are.each leaf one.0 one.1 in
-      let column_is = column_of x leaf one.0 is in
-      let t = element_at (row x.tables.now leaf) table (omega (arith, within, tables_at x leaf one.0 is)) in
-      let callers = column_is.called.each table t.0 v t.1 (column_get leaf rows (wide leaf below) table ∙ at) in
+      let t = element_at (row x.tables.now leaf) table (omega (arith, within, tables_at x leaf are below)) in
+      let callers = (are.columns leaf below).called.each table t.0 v t.1 (column_get leaf rows table low ∙ ap (λ (o : Option SeatView). Some o) at) in
       record { shared = t.0; stands = t.1; seat = callers.seat; caller = callers.caller }
 
   pub seats_at : AreSeatsAt x.tables.now table (row rows table)
   seats_at = record {
     count = size ∙ sym are.tables;
-    few = omega (arith, are.tables, are.few);
+    few = omega (arith, are.tables, are.few.few);
     each = seat_of;
   }
 
@@ -112,28 +217,28 @@ module _ {B : Type 0} (x : Members B) (table : ℕ) (are : AreMembers x) (within
     answers = all_answers q fleet table 0 (row rows table) rs seats asked
 
     -- what is known of one leaf
-    record AtLeaf (leaf : ℕ) (one : OneLeaf B) : Type 0 where
+    record AtLeaf (leaf : ℕ) : Type 0 where
       seat : SeatView
       asking : AskedAt q fleet table leaf leaf seat rs seats
-      was : slice_get (column leaf rows) table ≡ Some seat
-      then : column leaf rows' ≡ slice_set (column leaf rows) table asking.after
-      stands : slice_get (seats_of one).tables table ≡ Some asking.asked.shared
+      was : slice_get (column leaf rows) table ≡ Some (Some seat)
+      then : column leaf rows' ≡ slice_set (column leaf rows) table (Some asking.after)
 
-    at_leaf : (leaf : ℕ) (one : OneLeaf B) → slice_get x.leaves.items leaf ≡ Some one → AtLeaf leaf one
-    at_leaf leaf one at =
-        let below : leaf < count = omega (arith, slice_get_within x.leaves.items leaf one at, are.leaves) in
+    at_leaf : (leaf : ℕ) → leaf < count → AtLeaf leaf
+    at_leaf leaf below =
         let v = element_at (row rows table) leaf (omega (arith, below, size)) in
         let a : AskedAt q fleet table leaf leaf v.0 rs seats = asked_at q fleet table 0 leaf leaf (row rows table) rs seats v.0 (omega arith) asked v.1 in
         record {
           seat = v.0;
           asking = a;
-          was = column_get leaf rows (wide leaf below) table ∙ v.1;
-          then = ap (column leaf) set ∙ column_set leaf rows table seats a.after (wide leaf below) low a.there;
-          stands = ap (λ (ts : List Shared). slice_get ts table) (are.each leaf one at).tables ∙ a.asked.stands;
+          was = column_get leaf rows table low ∙ ap (λ (o : Option SeatView). Some o) v.1;
+          then = ap (column leaf) set ∙ column_set leaf rows table seats (Some a.after) a.there;
         }
 
-    has_then : (n k : ℕ) → HasRows n k rows → HasRows n k rows'
-    has_then n k has = subst (HasRows n k) (sym set) (sizes_set rows table seats n k (sizes.1) has)
+    count_then : length rows' ≡ length rows
+    count_then = ap (λ (ls : List (List SeatView)). length ls) set ∙ length-set rows table seats
+
+    lengths_then : (t : ℕ) → length (row rows' t) ≡ length (row rows t)
+    lengths_then t = ap (λ (ls : List (List SeatView)). length (row ls t)) set ∙ lengths_set rows table seats sizes.1 t
 
     pub members_asked : AreMembers y
     members_asked = record {
@@ -141,47 +246,44 @@ module _ {B : Type 0} (x : Members B) (table : ℕ) (are : AreMembers x) (within
       few = are.few;
       leaves = are.leaves;
       tables = are.tables;
-      rows = has_then (length x.names) count are.rows;
-      each = λ leaf one at.
-          let is = are.each leaf one at in
-          let here = at_leaf leaf one at in
-          let before = is.member.may.column in
-          let called = called_on (called_at leaf (seats_of one).tables rows) table here.asking.asked.shared here.seat before.called here.stands here.was
+      rows = rows_kept (length x.names) count rows rows' count_then lengths_then are.rows;
+      names = are.names;
+      columns = λ leaf below.
+          let here = at_leaf leaf below in
+          let before = are.columns leaf below in
+          let called = called_on (called_at leaf (row fleet leaf) rows) table here.asking.asked.shared here.seat before.called here.asking.asked.stands here.was
           (call.Ask q) here.asking.reply here.asking.after here.asking.asked.seat here.asking.asked.same here.asking.asked.answered in
           record {
-            member = member_column x.names leaf (seats_of one) rows rows' is.member (record {
-              size = before.size;
-              sizes = has_then (length (seats_of one).tables) before.size before.sizes;
-              within = before.within;
-              few = before.few;
-              called = subst (λ (cs : List SeatView). AreCalled (record { tables = (seats_of one).tables; seats = cs })) (sym here.then) called;
-            });
-            tables = is.tables;
+            size = before.size;
+            sizes = rows_kept (length (row fleet leaf)) before.size rows rows' count_then lengths_then before.sizes;
+            within = before.within;
+            few = before.few;
+            called = subst (λ (cs : List (Option SeatView)). AreCalled (record { tables = row fleet leaf; seats = cs })) (sym here.then) called;
           };
+      each = λ leaf z at. let was = are.each leaf z at in record { names = was.names; tables = was.tables; seats = was.seats };
     }
 
     -- ---- the chain
 
-    are_at : (first : ℕ) (xs : List (OneLeaf B)) (us : List SeatView) → length xs ≡ length us
-        → ((i leaf : ℕ) (one : OneLeaf B) → leaf ≡ first + i → slice_get xs i ≡ Some one → (seats_of one).tables ≡ row fleet leaf)
-        → ((i leaf : ℕ) (v : SeatView) → leaf ≡ first + i → slice_get us i ≡ Some v → slice_get (column leaf rows) table ≡ Some v)
-        → AreAt q fleet table first (holds_from first xs rows) us
-    are_at first [] [] same tables seats = tt
-    are_at first [] (u ∷ us) same tables seats = absurd (omega (arith, same))
-    are_at first (one ∷ xs) [] same tables seats = absurd (omega (arith, same))
-    are_at first (one ∷ xs) (u ∷ us) same tables seats = (
-      tables 0 first one (omega arith) refl,
+    are_at : (first : ℕ) (xs : List (Option (OneLeaf B))) (us : List SeatView) → length xs ≡ length us
+        → ((i leaf : ℕ) (v : SeatView) → leaf ≡ first + i → slice_get us i ≡ Some v → slice_get (column leaf rows) table ≡ Some (Some v))
+        → AreAt q fleet table first (holds_from first fleet xs rows) us
+    are_at first [] [] same seats = tt
+    are_at first [] (u ∷ us) same seats = absurd (omega (arith, same))
+    are_at first (one ∷ xs) [] same seats = absurd (omega (arith, same))
+    are_at first (one ∷ xs) (u ∷ us) same seats = (
+      refl,
       seats 0 first u (omega arith) refl,
-      are_at (suc first) xs us (omega (arith, same)) (λ i leaf z is at. tables (suc i) leaf z (omega (arith, is)) at) (λ i leaf v is at. seats (suc i) leaf v (omega (arith, is)) at),
+      are_at (suc first) xs us (omega (arith, same)) (λ i leaf v is at. seats (suc i) leaf v (omega (arith, is)) at),
     )
 
-    holds_are : (first : ℕ) (xs : List (OneLeaf B)) (ws : List SeatView) → length xs ≡ length ws
-        → ((i leaf : ℕ) (w : SeatView) → leaf ≡ first + i → slice_get ws i ≡ Some w → column leaf rows' ≡ slice_set (column leaf rows) table w)
-        → asked_holds q fleet table (holds_from first xs rows) ws ≡ holds_from first xs rows'
+    holds_are : (first : ℕ) (xs : List (Option (OneLeaf B))) (ws : List SeatView) → length xs ≡ length ws
+        → ((i leaf : ℕ) (w : SeatView) → leaf ≡ first + i → slice_get ws i ≡ Some w → column leaf rows' ≡ slice_set (column leaf rows) table (Some w))
+        → asked_holds q fleet table (holds_from first fleet xs rows) ws ≡ holds_from first fleet xs rows'
     holds_are first [] ws same columns = refl
     holds_are first (one ∷ xs) [] same columns = absurd (omega (arith, same))
     holds_are first (one ∷ xs) (w ∷ ws) same columns =
-        ap₂ (λ (cs : List SeatView) (hs : List (Hold B)). hold_of one cs ∷ hs) (sym (columns 0 first w (omega arith) refl))
+        ap₂ (λ (cs : List (Option SeatView)) (hs : List (Hold B)). record { tables = row fleet first; callers = cs; held = held_of one } ∷ hs) (sym (columns 0 first w (omega arith) refl))
         (holds_are (suc first) xs ws (omega (arith, same)) (λ i leaf v is at. columns (suc i) leaf v (omega (arith, is)) at))
 
     abbrev xs : List (Hold B)
@@ -193,25 +295,32 @@ module _ {B : Type 0} (x : Members B) (table : ℕ) (are : AreMembers x) (within
     goes_asks : (meaning : B → Meaning) → Goes meaning xs (ask_pieces 0 table q rs) ys
     goes_asks meaning =
         let at : AreAt q fleet table 0 xs (row rows table) = are_at 0 x.leaves.items (row rows table) (are.leaves ∙ sym size)
-        (λ i leaf one is at. let same : leaf ≡ i = omega (arith, is) in subst (λ (n : ℕ). (seats_of one).tables ≡ row fleet n) (sym same) (are.each i one at).tables)
         (λ i leaf v is at.
         let same : leaf ≡ i = omega (arith, is) in
-        subst (λ (n : ℕ). slice_get (column n rows) table ≡ Some v) (sym same)
-        (column_get i rows (wide i (omega (arith, slice_get_within (row rows table) i v at, size))) table ∙ at)) in
+        subst (λ (n : ℕ). slice_get (column n rows) table ≡ Some (Some v)) (sym same)
+        (column_get i rows table low ∙ ap (λ (o : Option SeatView). Some o) at)) in
         let are_now : asked_holds q fleet table xs seats ≡ ys = holds_are 0 x.leaves.items seats (are.leaves ∙ (sym size ∙ sym sizes.1))
         (λ i leaf w is at.
         let same : leaf ≡ i = omega (arith, is) in
-        let below : i < count = omega (arith, slice_get_within seats i w at, sizes.1, size) in
-        subst (λ (n : ℕ). column n rows' ≡ slice_set (column n rows) table w) (sym same)
-        (ap (column i) set ∙ column_set i rows table seats w (wide i below) low at)) in
+        subst (λ (n : ℕ). column n rows' ≡ slice_set (column n rows) table (Some w)) (sym same)
+        (ap (column i) set ∙ column_set i rows table seats (Some w) at)) in
         subst (Goes meaning xs (ask_pieces 0 table q rs)) are_now (asks_go q fleet table meaning [] xs 0 (row rows table) rs seats refl at asked)
 
-    -- the berths are as they were
-    berth_same : (leaf : ℕ) (a b : Hold B) → slice_get xs leaf ≡ Some a → slice_get ys leaf ≡ Some b → a.berth ≡ b.berth
-    berth_same leaf a b was is =
-        let one = holds_back 0 leaf leaf x.leaves.items a rows (omega arith) was in
-        let two = holds_back 0 leaf leaf x.leaves.items b rows' (omega arith) is in
-        ap (λ (h : Hold B). h.berth) one.2 ∙ (ap (λ (z : OneLeaf B). berth_of z) (same_at x.leaves.items leaf one.0 two.0 one.1 two.1) ∙ ap (λ (h : Hold B). h.berth) (sym two.2))
+    -- the leaves are as they were
+    held_same : (leaf : ℕ) (a b : Hold B) → slice_get xs leaf ≡ Some a → slice_get ys leaf ≡ Some b → a.held ≡ b.held
+    held_same leaf a b was is =
+        let one = holds_back 0 leaf leaf fleet x.leaves.items a rows (omega arith) was in
+        let two = holds_back 0 leaf leaf fleet x.leaves.items b rows' (omega arith) is in
+        ap (λ (h : Hold B). h.held) one.2 ∙ (ap (λ (z : Option (OneLeaf B)). held_of z) (same_at x.leaves.items leaf one.0 two.0 one.1 two.1) ∙ ap (λ (h : Hold B). h.held) (sym two.2))
+
+    seats_same : (leaf : ℕ) (a b : Hold B) → slice_get xs leaf ≡ Some a → slice_get ys leaf ≡ Some b → (t : ℕ) → is_some (caller_in b.callers t) ≡ is_some (caller_in a.callers t)
+    seats_same leaf a b was is t =
+        let one = holds_back 0 leaf leaf fleet x.leaves.items a rows (omega arith) was in
+        let two = holds_back 0 leaf leaf fleet x.leaves.items b rows' (omega arith) is in
+        ap (λ (h : Hold B). is_some (caller_in h.callers t)) two.2 ∙ (seats_still leaf rows rows' lengths_then t ∙ ap (λ (h : Hold B). is_some (caller_in h.callers t)) (sym one.2))
+
+    counts_same : length ys ≡ length xs
+    counts_same = holds_count 0 fleet x.leaves.items rows' ∙ sym (holds_count 0 fleet x.leaves.items rows)
 
     -- ---- the answer
 
@@ -226,27 +335,23 @@ module _ {B : Type 0} (x : Members B) (table : ℕ) (are : AreMembers x) (within
     over = rows_of_all rows_of (by_leaf named_of 0 rs)
 
     record Behind (leaf : ℕ) : Type 0 where
-      one : OneLeaf B
-      here : slice_get x.leaves.items leaf ≡ Some one
-      know : AtLeaf leaf one
+      know : AtLeaf leaf
       sees : histories_of ys leaf table ≡ seen_of know.asking.after
       ground : grounds_in ys leaf table ≡ record { founded = is_founded (bases_in fleet table leaf); base = start_of (bases_in fleet table leaf) }
 
     behind : (leaf : ℕ) → leaf < count → Behind leaf
     behind leaf below =
-        let one = leaf_at x leaf are below in
-        let know : AtLeaf leaf one.0 = at_leaf leaf one.0 one.1 in
-        let b : Hold B = hold_of one.0 (column leaf rows') in
-        let at : slice_get ys leaf ≡ Some b = holds_at 0 leaf leaf x.leaves.items one.0 rows' (omega arith) one.1 in
-        let there : slice_get (column leaf rows') table ≡ Some know.asking.after =
-        ap (λ (cs : List SeatView). slice_get cs table) know.then ∙ set_get (column leaf rows) table know.seat know.asking.after know.was in
+        let one = element_at x.leaves.items leaf (omega (arith, below, are.leaves)) in
+        let know : AtLeaf leaf = at_leaf leaf below in
+        let b : Hold B = hold_at leaf fleet rows' one.0 in
+        let at : slice_get ys leaf ≡ Some b = holds_at 0 leaf leaf fleet x.leaves.items one.0 rows' (omega arith) one.1 in
+        let there : slice_get (column leaf rows') table ≡ Some (Some know.asking.after) =
+        ap (λ (cs : List (Option SeatView)). slice_get cs table) know.then ∙ set_get (column leaf rows) table (Some know.seat) (Some know.asking.after) know.was in
         let base : bases_in fleet table leaf ≡ base_seen know.asking.asked.shared = ap (λ (t : Option Shared). option_and_then base_seen t) know.asking.asked.stands in
         record {
-          one = one.0;
-          here = one.1;
           know = know;
           sees = histories_at ys leaf table b know.asking.after at there;
-          ground = grounds_at ys leaf table b know.asking.asked.shared at know.stands
+          ground = grounds_at ys leaf table b know.asking.asked.shared at know.asking.asked.stands
               ∙ ap (λ (o : Option TableBase). record { founded = is_founded o; base = start_of o }) (sym base);
         }
 
@@ -317,10 +422,18 @@ module _ {B : Type 0} (x : Members B) (table : ℕ) (are : AreMembers x) (within
       goes = record {
         goes = goes_more meaning xs ys ys (ask_pieces 0 table q rs) (Says answer ∷ []) (goes_asks meaning)
             (step.say ys (Says answer ∷ []) ys answer [] (step.none ys [] ys refl refl) refl);
-        counted = λ leaf a b was here. subst (λ (z : B). IsCounted leaf pieces (meaning a.berth) (meaning z)) (berth_same leaf a b was here) (counted_none leaf pieces (meaning a.berth) (λ test. calm test leaf));
+        counted = record {
+          count = counts_same;
+          each = λ leaf a b was here.
+              subst (λ (z : Option (Leaf × B)). CountedIf meaning leaf pieces a.held z) (held_same leaf a b was here) (counted_calm meaning leaf pieces a.held (λ test. calm test leaf));
+        };
         time = record {
-          count = holds_count 0 x.leaves.items rows' ∙ sym (holds_count 0 x.leaves.items rows);
-          each = λ leaf a b was here. subst (λ (z : B). Passes (meaning a.berth) (meaning z)) (berth_same leaf a b was here) (passes_none (meaning a.berth));
+          count = counts_same;
+          each = λ leaf a b was here. subst (λ (z : Option (Leaf × B)). PassesIf meaning a.held z) (held_same leaf a b was here) (passes_if_none meaning a.held);
+        };
+        still = record {
+          count = counts_same;
+          each = λ leaf a b was here. (ap (λ (z : Option (Leaf × B)). is_some z) (sym (held_same leaf a b was here)), seats_same leaf a b was here);
         };
         fit = subst (AllByRecursion (IsOf x.names)) (sym lines_are) (all_more (IsOf x.names) (reply_lines 0 table rs) (answer ∷ []) (ask_fit x.names 0 table q rs within) (tt, tt));
         lines_are = IfOk-weaker result _ (λ lines. lines.items ≡ lines_in pieces) (λ lines h. h.3 ∙ told_lines h.0 h.1 h.2) told;
@@ -341,8 +454,10 @@ same_rows x now are same = record {
   few = are.few;
   leaves = are.leaves;
   tables = are.tables;
-  rows = subst (HasRows (length x.names) (leaf_count (fleet_in x))) (sym same) are.rows;
-  each = λ leaf one at. let is = are.each leaf one at in record { member = subst (IsMember x.names leaf (seats_of one)) (sym same) is.member; tables = is.tables };
+  rows = subst (AreRows (length x.names) (leaf_count (fleet_in x))) (sym same) are.rows;
+  names = are.names;
+  columns = λ leaf below. subst (IsColumn leaf (row x.tables.now leaf)) (sym same) (are.columns leaf below);
+  each = λ leaf one at. let was = are.each leaf one at in record { names = was.names; tables = was.tables; seats = was.seats };
 }
 
 never : false ≡ true → ⊥
@@ -352,26 +467,26 @@ no_lines : {A E : Type 0} (P : A → Type 0) (result : Result A E) → IsErr res
 no_lines P (Ok a) err = absurd (never err)
 no_lines P (Err e) err = tt
 
-module _ {B F : Type 0} (x : Members B) (table : ℕ) (q : Query) (now : Vec (Vec SeatView Global) Global) (asked : Result Fanned F) (are : AreMembers x) (within : table < length x.names)
+module _ {B F : Type 0} (x : Members B) (table : ℕ) (q : Query) (now : Vec (Vec SeatView Global) Global) (asked : Result Fanned F) (are : AreMembers x) (within : table < length x.names) (has : HasSeats (holds_in x) table)
     (asks : AsksRow q x.tables.now table (lists_in x.rows.items) asked (lists_in now.items)) where
   pub members_row : AreMembers (with_parts x x.leaves now)
-  members_row = ⊎_elim (λ h. same_rows x now are h.1) (λ h. members_asked x table are within q h.0 h.1.replies now h.2 h.1.asked) asks
+  members_row = ⊎_elim (λ h. same_rows x now are h.1) (λ h. members_asked x table are within has q h.0 h.1.replies now h.2 h.1.asked) asks
 
   module _ {E : Type 0} (meaning : B → Meaning) (result : Result (Vec Line Global) E) (is : table ≡ place_of q.table x.names) where
     -- the asks failed
     pub asks_refused : IsErr result → AsksAll meaning q x result (with_parts x x.leaves now) ⊎ (IsErr result × (holds_in (with_parts x x.leaves now) ≡ holds_in x))
     asks_refused err =
-        ⊎_elim (λ h. inr (err, ap (λ (rs : List (List SeatView)). holds_from 0 x.leaves.items rs) h.1))
-        (λ h. inl (asks_all x table are within q h.0 h.1.replies now h.2 h.1.asked meaning result is (no_lines _ result err))) asks
+        ⊎_elim (λ h. inr (err, ap (λ (rs : List (List SeatView)). holds_from 0 x.tables.now x.leaves.items rs) h.1))
+        (λ h. inl (asks_all x table are within has q h.0 h.1.replies now h.2 h.1.asked meaning result is (no_lines _ result err))) asks
 
 -- the leaves were asked, and their lines are told
-pub asks_told : {B E F : Type 0} (x : Members B) (table : ℕ) (q : Query) (now : Vec (Vec SeatView Global) Global) (asked : Result Fanned F) (are : AreMembers x) (within : table < length x.names)
+pub asks_told : {B E F : Type 0} (x : Members B) (table : ℕ) (q : Query) (now : Vec (Vec SeatView Global) Global) (asked : Result Fanned F) (are : AreMembers x) (within : table < length x.names) (has : HasSeats (holds_in x) table)
     (asks : AsksRow q x.tables.now table (lists_in x.rows.items) asked (lists_in now.items)) (meaning : B → Meaning) (result : Result (Vec Line Global) E) (is : table ≡ place_of q.table x.names)
     (f : Fanned) → asked ≡ Ok f
     → ((histories : ℕ → List Entry) → fan.GoOn (row (lists_in now.items) table) histories → IfOk asked (λ g. g.groups ≡ groups q (fan.partial (bases_in x.tables.now table) histories g.named)))
     → IfOk result (λ lines. lines.items ≡ query_lines (leaf_count (fleet_in x)) table q f)
     → AsksAll meaning q x result (with_parts x x.leaves now) ⊎ (IsErr result × (holds_in (with_parts x x.leaves now) ≡ holds_in x))
-asks_told {B} {E} {F} x table q now asked are within asks meaning result is f ok answered told =
+asks_told {B} {E} {F} x table q now asked are within has asks meaning result is f ok answered told =
     by (subst (λ (r : Result Fanned F). AsksRow q x.tables.now table (lists_in x.rows.items) r (lists_in now.items)) ok asks)
     (λ histories go. subst (λ (r : Result Fanned F). IfOk r (λ g. g.groups ≡ groups q (fan.partial (bases_in x.tables.now table) histories g.named))) ok (answered histories go))
   where
@@ -386,7 +501,7 @@ asks_told {B} {E} {F} x table q now asked are within asks meaning result is f ok
         let row_now : row (lists_in now.items) table ≡ h.0 =
         ap (λ (ls : List (List SeatView)). row ls table) h.2 ∙ get_or-set_same (lists_in x.rows.items) table h.0 [] (omega (arith, within, are.rows.count)) in
         let go : fan.GoOn (row (lists_in now.items) table) seen =
-        subst (λ (vs : List SeatView). fan.GoOn vs seen) (sym row_now) (seen_go_on x table are within q h.0 rs now h.2 h.1.asked) in
+        subst (λ (vs : List SeatView). fan.GoOn vs seen) (sym row_now) (seen_go_on x table are within has q h.0 rs now h.2 h.1.asked) in
         let groups_are = over seen go ∙ ap (λ (ns : List Named). groups q (fan.partial (bases_in x.tables.now table) seen ns)) sorts.named in
-        inl (asks_all x table are within q h.0 rs now h.2 h.1.asked meaning result is
+        inl (asks_all x table are within has q h.0 rs now h.2 h.1.asked meaning result is
         (IfOk-weaker result _ _ (λ lines lines_are. (f, sorts, groups_are, lines_are)) told))

@@ -1,6 +1,6 @@
 -- The leaves of a new fleet begin one after another.
 use Rattle.std.proofs.Common.{◌≡◌, ◌⊎◌, inl, inr, ⊎_elim, ℕ, zero, suc, ◌+◌, ◌<◌, ◌≤◌, List, [], ◌∷◌, ◌++◌, length, map, take, drop, Option, Some, refl, sym, ap, ap₂, subst, ◌∙◌, arith, length-append, Vec, Global}
-use Rattle.std.specs.Prelude.{slice_get, slice_index_or}
+use Rattle.std.specs.Prelude.{slice_get, slice_index_or, is_some}
 use Rattle.std.specs.List.{AllByRecursion}
 use Rattle.std.proofs.lemmas.Option.{slice_get_within}
 use Rattle.berth_face.specs.Berth.{Meaning}
@@ -11,22 +11,23 @@ use Rattle.leaf_table.specs.declared.base.TableBase.{TableBase}
 use Rattle.leaf_table.specs.Turns.{Shared, is_founded, start_of}
 use Rattle.leaf_table.specs.Calls.{SeatView, IsCaller, base_seen, name_of, seen_of}
 use Rattle.leaf_table.specs.Fleet.{IsAt, IsNewFleet}
-use Rattle.leaf_table.specs.Lists.{HasRows, lists_in, place, row}
+use Rattle.leaf_table.specs.Lists.{lists_in, place, row}
+use Rattle.script_text.specs.Fits.{AreLeaves}
 use Rattle.leaf_steward.specs.Seated.{Seated, AreAlike, AreFounded, AtEach, IsUnused}
 use Rattle.leaf_steward.proofs.Seating.{same_at}
 use Rattle.leaf_machine.specs.States.{MayBegin}
 use Rattle.transcript.specs.Pieces.{leaf_count}
-use Rattle.transcript.specs.Stage.{IsDown, Stands, seated_of}
-use Rattle.transcript.specs.Holds.{Hold}
+use Rattle.transcript.specs.Stage.{Leaf, IsDown, Stands, seated_of}
+use Rattle.transcript.specs.Holds.{Hold, caller_in}
 use Rattle.player.specs.declared.leaf.OneLeaf.{OneLeaf}
 use Rattle.player.specs.declared.members.Members.{Members}
-use Rattle.player.specs.Crew.{column, new_holds, seated_at}
-use Rattle.player.specs.Rows.{IsCallersAt, IsColumn}
-use Rattle.player.specs.Stage.{IsMember, hold_of}
+use Rattle.player.specs.Crew.{HasLeaf, HasSeats, column, new_holds, seated_at}
+use Rattle.player.specs.Rows.{AreRows, IsCallersAt, IsColumn}
+use Rattle.player.specs.Stage.{held_of, hold_at}
 use Rattle.player.specs.Members.{AreMembers, IsLeafOf, fleet_in, holds_from}
 use Rattle.player.specs.Beginning.{AreBegun, BeginsWith, IsBegun, IsReady}
-use Rattle.player.proofs.Columns.{column_count, column_get, wide_of}
-use Rattle.player.proofs.HoldLists.{holds_back, same_some}
+use Rattle.player.proofs.Columns.{caller_at, column_back, column_count, element_at, same_some}
+use Rattle.player.proofs.HoldLists.{holds_back}
 
 -- ---- lists
 
@@ -75,7 +76,10 @@ seated_same names names' tables tables' seats seats' a b c =
 -- ---- one leaf more
 
 module _ {B : Type 0} (meaning : B → Meaning) (names : List (List ℕ)) (tables : List (List Shared)) (stewards : List (List SeatView)) (berths : List B) where
-  pub begun_more : (k next : ℕ) (leaves now : List (OneLeaf B)) (x : Seated) (b : B) (leaf : OneLeaf B) → next ≡ suc k → AreBegun meaning names tables stewards berths k leaves
+  pub begun_none : (leaves : List (Option (OneLeaf B))) → leaves ≡ [] → AreBegun meaning names tables stewards berths 0 leaves
+  begun_none leaves none = subst (AreBegun meaning names tables stewards berths 0) (sym none) (record { length_is = refl; each = λ leaf x at. absurd cc })
+
+  pub begun_more : (k next : ℕ) (leaves now : List (Option (OneLeaf B))) (x : Seated) (b : B) (leaf : Option (OneLeaf B)) → next ≡ suc k → AreBegun meaning names tables stewards berths k leaves
       → slice_get berths k ≡ Some b → x ≡ seated_at names tables stewards k → IsBegun meaning x b leaf → now ≡ leaves ++ leaf ∷ [] → AreBegun meaning names tables stewards berths next now
   begun_more k next leaves now x b leaf is so_far at same begun put =
       subst (AreBegun meaning names tables stewards berths next) (sym put) (record {
@@ -83,17 +87,17 @@ module _ {B : Type 0} (meaning : B → Meaning) (names : List (List ℕ)) (table
         each = λ other y there. ⊎_elim (λ h. so_far.each other y h) (λ h. last other y h) (get_last leaves leaf y other there);
       })
     where
-      last : (other : ℕ) (y : OneLeaf B) → (other ≡ length leaves) × (y ≡ leaf) → (c : B) × (slice_get berths other ≡ Some c) × IsBegun meaning (seated_at names tables stewards other) c y
+      last : (other : ℕ) (y : Option (OneLeaf B)) → (other ≡ length leaves) × (y ≡ leaf) → (c : B) × (slice_get berths other ≡ Some c) × IsBegun meaning (seated_at names tables stewards other) c y
       last other y h =
           let here : other ≡ k = h.0 ∙ so_far.length_is in
           subst (λ (n : ℕ). (c : B) × (slice_get berths n ≡ Some c) × IsBegun meaning (seated_at names tables stewards n) c y) (sym here)
-          (b, at, subst (λ (z : OneLeaf B). IsBegun meaning (seated_at names tables stewards k) b z) (sym h.1) (subst (λ (s : Seated). IsBegun meaning s b leaf) same begun))
+          (b, at, subst (λ (z : Option (OneLeaf B)). IsBegun meaning (seated_at names tables stewards k) b z) (sym h.1) (subst (λ (s : Seated). IsBegun meaning s b leaf) same begun))
 
   -- ---- all of them
 
-  holds_new : (first : ℕ) (xs : List (OneLeaf B)) (bs : List B) (callers : List (List SeatView)) → length xs ≡ length bs
-      → ((i leaf : ℕ) (x : OneLeaf B) → leaf ≡ first + i → slice_get xs i ≡ Some x → (b : B) × (slice_get bs i ≡ Some b) × IsBegun meaning (seated_at names tables stewards leaf) b x)
-      → holds_from first xs callers ≡ new_holds first names tables stewards callers bs
+  holds_new : (first : ℕ) (xs : List (Option (OneLeaf B))) (bs : List B) (callers : List (List SeatView)) → length xs ≡ length bs
+      → ((i leaf : ℕ) (x : Option (OneLeaf B)) → leaf ≡ first + i → slice_get xs i ≡ Some x → (b : B) × (slice_get bs i ≡ Some b) × IsBegun meaning (seated_at names tables stewards leaf) b x)
+      → holds_from first tables xs callers ≡ new_holds first names tables stewards callers bs
   holds_new first [] [] callers same each = refl
   holds_new first [] (b ∷ bs) callers same each = absurd (omega (arith, same))
   holds_new first (x ∷ xs) [] callers same each = absurd (omega (arith, same))
@@ -101,12 +105,12 @@ module _ {B : Type 0} (meaning : B → Meaning) (names : List (List ℕ)) (table
       let here = each 0 first x (omega arith) refl in
       let berth : here.0 ≡ b = cc (here.1) in
       ap₂ (λ (h : Hold B) (hs : List (Hold B)). h ∷ hs)
-      (ap (λ (z : OneLeaf B). hold_of z (column first callers)) here.2.is
-      ∙ ap (λ (c : B). record { leaf = IsDown (seated_at names tables stewards first); callers = column first callers; berth = c }) berth)
+      (ap (λ (z : Option (OneLeaf B)). hold_at first tables callers z) here.2.is
+      ∙ ap (λ (c : B). record { tables = row tables first; callers = column first callers; held = Some (IsDown (seated_at names tables stewards first), c) }) berth)
       (holds_new (suc first) xs bs callers (omega (arith, same)) (λ i leaf z is at. each (suc i) leaf z (omega (arith, is)) at))
 
-  pub begun_holds : (count : ℕ) (leaves : List (OneLeaf B)) (callers : List (List SeatView)) → count ≤ length berths → AreBegun meaning names tables stewards berths count leaves
-      → holds_from 0 leaves callers ≡ new_holds 0 names tables stewards callers (take count berths)
+  pub begun_holds : (count : ℕ) (leaves : List (Option (OneLeaf B))) (callers : List (List SeatView)) → count ≤ length berths → AreBegun meaning names tables stewards berths count leaves
+      → holds_from 0 tables leaves callers ≡ new_holds 0 names tables stewards callers (take count berths)
   begun_holds count leaves callers enough begun =
       holds_new 0 leaves (take count berths) callers (begun.length_is ∙ sym (take_count count berths enough))
       (λ i leaf x is at.
@@ -117,16 +121,25 @@ module _ {B : Type 0} (meaning : B → Meaning) (names : List (List ℕ)) (table
         subst (λ (n : ℕ). IsBegun meaning (seated_at names tables stewards n) here.0 x) (sym same) here.2,
       ))
 
-  pub begun_stands : (count : ℕ) (leaves : List (OneLeaf B)) (callers : List (List SeatView)) → AreBegun meaning names tables stewards berths count leaves
-      → (leaf : ℕ) (h : Hold B) (states : NamedStates) → slice_get (holds_from 0 leaves callers) leaf ≡ Some h → AreFounded (seated_of h.leaf) → MayBegin states (meaning h.berth)
-      → BeginsWith states (seated_of h.leaf) → Stands states h.leaf (meaning h.berth)
-  begun_stands count leaves callers begun leaf h states at =
-      let back = holds_back 0 leaf leaf leaves h callers (omega arith) at in
+  pub begun_stands : (count : ℕ) (leaves : List (Option (OneLeaf B))) (callers : List (List SeatView)) → AreBegun meaning names tables stewards berths count leaves
+      → (leaf : ℕ) (h : Hold B) (l : Leaf) (b : B) (states : NamedStates) → slice_get (holds_from 0 tables leaves callers) leaf ≡ Some h → h.held ≡ Some (l, b) → AreFounded (seated_of l)
+      → MayBegin states (meaning b) → BeginsWith states (seated_of l) → Stands states l (meaning b)
+  begun_stands count leaves callers begun leaf h l b states at held =
+      let back = holds_back 0 leaf leaf tables leaves h callers (omega arith) at in
       let here = begun.each leaf back.0 back.1 in
-      let is : h ≡ record { leaf = IsDown (seated_at names tables stewards leaf); callers = column leaf callers; berth = here.0 } =
-      back.2 ∙ ap (λ (z : OneLeaf B). hold_of z (column leaf callers)) here.2.is in
-      subst (λ (g : Hold B). AreFounded (seated_of g.leaf) → MayBegin states (meaning g.berth) → BeginsWith states (seated_of g.leaf) → Stands states g.leaf (meaning g.berth)) (sym is)
+      let is : Some (IsDown (seated_at names tables stewards leaf), here.0) ≡ Some (l, b) =
+      sym (ap (λ (g : Hold B). g.held) back.2 ∙ ap (λ (z : Option (OneLeaf B)). held_of z) here.2.is) ∙ held in
+      let same : (IsDown (seated_at names tables stewards leaf), here.0) ≡ (l, b) = same_some _ (l, b) is in
+      subst (λ (p : Leaf × B). AreFounded (seated_of p.0) → MayBegin states (meaning p.1) → BeginsWith states (seated_of p.0) → Stands states p.0 (meaning p.1)) same
       (λ founded may begins. here.2.stands states founded may begins)
+
+  -- each is held
+  pub begun_held : (count : ℕ) (leaves : List (Option (OneLeaf B))) (callers : List (List SeatView)) → AreBegun meaning names tables stewards berths count leaves
+      → (leaf : ℕ) → HasLeaf (holds_from 0 tables leaves callers) leaf
+  begun_held count leaves callers begun leaf = λ h at.
+      let back = holds_back 0 leaf leaf tables leaves h callers (omega arith) at in
+      let here = begun.each leaf back.0 back.1 in
+      ap (λ (g : Hold B). is_some g.held) back.2 ∙ ap (λ (z : Option (OneLeaf B)). is_some (held_of z)) here.2.is
 
 -- ---- a new fleet
 
@@ -135,7 +148,7 @@ module _ (base : ℕ → ℕ → Option TableBase) (count : ℕ) (names : List (
   at_is : (leaf place : ℕ) (t : Shared) → leaf < count → slice_get (row tables leaf) place ≡ Some t → IsAt base names 65536 (row tables leaf) (row stewards leaf) callers leaf place
   at_is leaf place t below at = new.places leaf place below (omega (arith, slice_get_within (row tables leaf) place t at, (new.in_leaf leaf below).0))
 
-  names_are : (leaf : ℕ) → leaf < count → map name_of (row tables leaf) ≡ names
+  pub names_are : (leaf : ℕ) → leaf < count → map name_of (row tables leaf) ≡ names
   names_are leaf below = map_is name_of (row tables leaf) names (new.in_leaf leaf below).0 (λ i t name at there.
       let is = at_is leaf i t below at in
       let table : is.table ≡ t = same_at (row tables leaf) i is.table t is.stands at in
@@ -164,15 +177,14 @@ module _ (base : ℕ → ℕ → Option TableBase) (count : ℕ) (names : List (
 
   -- ---- its callers
 
-  rows_are : HasRows (length names) count callers
-  rows_are = record { count = new.counts.2; each = λ t below. new.in_table t below }
+  pub rows_are : AreRows (length names) count callers
+  rows_are = record { count = new.counts.2; each = λ t below. inr (new.in_table t below) }
 
-  caller_is : (leaf place : ℕ) (t : Shared) (c : SeatView) → leaf < count → slice_get (row tables leaf) place ≡ Some t → slice_get (column leaf callers) place ≡ Some c → IsCallersAt t c
+  caller_is : (leaf place : ℕ) (t : Shared) (c : SeatView) → leaf < count → slice_get (row tables leaf) place ≡ Some t → slice_get (column leaf callers) place ≡ Some (Some c) → IsCallersAt t c
   caller_is leaf place t c below at seat =
       let is = at_is leaf place t below at in
       let table : is.table ≡ t = same_at (row tables leaf) place is.table t is.stands at in
-      let there : slice_get (column leaf callers) place ≡ Some is.caller = column_get leaf callers (wide_of callers (length names) count leaf rows_are below) place ∙ is.callers_seat in
-      let caller : is.caller ≡ c = same_at (column leaf callers) place is.caller c there seat in
+      let caller : is.caller ≡ c = same_some is.caller c (sym is.callers_seat ∙ column_back leaf callers place (Some c) seat) in
       subst (λ (u : Shared). IsCallersAt u c) table (subst (λ (w : SeatView). IsCallersAt is.table w) caller
       (record {
         seat = is.new.seats.1;
@@ -180,43 +192,45 @@ module _ (base : ℕ → ℕ → Option TableBase) (count : ℕ) (names : List (
         legal = subst (λ (v : SeatView). LegalFrom (is_founded (base_seen is.table)) (start_of (base_seen is.table)) (seen_of v)) (sym is.new.unused_caller) tt;
       }))
 
-  column_is : (leaf : ℕ) → leaf < count → IsColumn leaf (row tables leaf) callers
+  pub column_is : (leaf : ℕ) → leaf < count → IsColumn leaf (row tables leaf) callers
   column_is leaf below = record {
     size = count;
-    sizes = subst (λ (n : ℕ). HasRows n count callers) (sym (new.in_leaf leaf below).0) rows_are;
+    sizes = subst (λ (n : ℕ). AreRows n count callers) (sym (new.in_leaf leaf below).0) rows_are;
     within = below;
     few = omega (arith, named.few, (new.in_leaf leaf below).0);
     called = record {
-      count = column_count leaf callers (wide_of callers (length names) count leaf rows_are below) ∙ (new.counts.2 ∙ sym (new.in_leaf leaf below).0);
+      count = column_count leaf callers ∙ (new.counts.2 ∙ sym (new.in_leaf leaf below).0);
       each = λ place t c at seat. caller_is leaf place t c below at seat;
     };
   }
 
-  pub member_at : (leaf : ℕ) → leaf < count → IsMember names leaf (seated_at names tables stewards leaf) callers
-  member_at leaf below = record {
-    named = named;
-    same = refl;
-    names_are = names_are leaf below;
-    seats = (new.in_leaf leaf below).1;
-    may = record { column = column_is leaf below; seats = (new.in_leaf leaf below).1 ∙ sym (new.in_leaf leaf below).0 };
-  }
+  -- and each table has a seat at each leaf
+  pub new_seats : {B : Type 0} (leaves : List (Option (OneLeaf B))) → length leaves ≡ count → (table : ℕ) → table < length names → HasSeats (holds_from 0 tables leaves callers) table
+  new_seats {B} leaves same table below = λ leaf h at.
+      let back = holds_back 0 leaf leaf tables leaves h callers (omega arith) at in
+      let seat = element_at (row callers table) leaf (omega (arith, slice_get_within leaves leaf back.0 back.1, same, new.in_table table below)) in
+      ap (λ (g : Hold B). is_some (caller_in g.callers table)) back.2
+      ∙ (ap (λ (o : Option SeatView). is_some o) (caller_at leaf callers table) ∙ ap (λ (o : Option SeatView). is_some o) seat.1)
 
 -- the leaves of a new fleet are members
 pub new_members : {B : Type 0} (meaning : B → Meaning) (base : ℕ → ℕ → Option TableBase) (stewards : List (List SeatView)) (berths : List B) (x : Members B)
-    → AreNames x.names → leaf_count (fleet_in x) ≤ 256 → IsNewFleet base (leaf_count (fleet_in x)) x.names 65536 x.tables.now stewards (lists_in x.rows.items)
+    → AreNames x.names → AreLeaves x.machines x.per_machine → IsNewFleet base (leaf_count (fleet_in x)) x.names 65536 x.tables.now stewards (lists_in x.rows.items)
     → AreBegun meaning x.names x.tables.now stewards berths (leaf_count (fleet_in x)) x.leaves.items → AreMembers x
-new_members meaning base stewards berths x named few new begun = record {
-  named = named;
-  few = few;
-  leaves = begun.length_is;
-  tables = new.counts.0;
-  rows = record { count = new.counts.2; each = λ t below. new.in_table t below };
-  each = λ leaf one at.
-      let here = begun.each leaf one at in
-      let below : leaf < leaf_count (fleet_in x) = omega (arith, slice_get_within x.leaves.items leaf one at, begun.length_is) in
-      subst (λ z. IsLeafOf x leaf z) (sym here.2.is)
-      (record { member = member_at base (leaf_count (fleet_in x)) x.names x.tables.now stewards (lists_in x.rows.items) named new leaf below; tables = refl });
-}
+new_members {B} meaning base stewards berths x named few new begun =
+    let count = leaf_count (fleet_in x) in
+    record {
+      named = named;
+      few = few;
+      leaves = begun.length_is;
+      tables = new.counts.0;
+      rows = rows_are base count x.names x.tables.now stewards (lists_in x.rows.items) named new;
+      names = names_are base count x.names x.tables.now stewards (lists_in x.rows.items) named new;
+      columns = column_is base count x.names x.tables.now stewards (lists_in x.rows.items) named new;
+      each = λ leaf one at.
+          let here = begun.each leaf (Some one) at in
+          let below : leaf < count = omega (arith, slice_get_within x.leaves.items leaf (Some one) at, begun.length_is) in
+          subst (λ z. IsLeafOf x leaf z) (same_some _ one (sym here.2.is)) (record { names = refl; tables = refl; seats = (new.in_leaf leaf below).1 });
+    }
 
 -- ---- the step that makes one leaf
 

@@ -161,7 +161,7 @@ remove_said base v c (told.Full number) w leaf table p made answered says = made
 remove_said base v c (told.NoMemory number) w leaf table p made answered says = made answered says
 
 -- the piece of a call is one that it may be told
-pub call_prints : (leaf table : ℕ) (tables : List Shared) (callers : List SeatView) (p : Piece) (callers' : List SeatView) (r : Request)
+pub call_prints : (leaf table : ℕ) (tables : List Shared) (callers : List (Option SeatView)) (p : Piece) (callers' : List (Option SeatView)) (r : Request)
     → CallStep leaf table (call_of r) tables callers p callers' → CallPiece (MayBeTold r) leaf table (call_of r) p
 call_prints leaf table tables callers p callers' (request.Add rows) step =
     add_said (base_seen step.shared) step.before rows step.reply step.after leaf table p step.answered step.says

@@ -1,5 +1,5 @@
 -- The callers' seats at a leaf's tables, over their calls and over meetings.
-use Rattle.std.proofs.Common.{◌≡◌, ◌≢◌, ◌⊎◌, inl, inr, ℕ, ◌<◌, List, length, Some, refl, sym, ap, subst, ◌∙◌, arith, length-set}
+use Rattle.std.proofs.Common.{◌≡◌, ◌≢◌, ◌⊎◌, inl, inr, ℕ, ◌<◌, List, length, Some, refl, sym, ap, subst, ◌∙◌, length-set}
 use Rattle.std.specs.Prelude.{slice_get, slice_set, slice_index_or}
 use Rattle.std.proofs.lemmas.Option.{slice_get_read}
 use Rattle.leaf_history.specs.Calls.{Call}
@@ -10,7 +10,7 @@ use Rattle.leaf_table.specs.declared.replies.Reply.TheVariants as told
 use Rattle.leaf_table.specs.Turns.{Shared, is_founded, start_of}
 use Rattle.leaf_table.specs.Calls.{SeatView, Answered, SameSeat, base_seen, seen_of}
 use Rattle.leaf_steward.specs.Seated.{Seated, AtPlace}
-use Rattle.leaf_steward.proofs.Seating.{same_at, set_either}
+use Rattle.leaf_steward.proofs.Seating.{same_at, set_either, some_same}
 use Rattle.transcript.specs.Stage.{Leaf, seated_of, with_seats}
 use Rattle.player.specs.Rows.{Called, AreCalled, Calls, IsCallersAt}
 use Rattle.player.specs.Moves.{MeetsAt}
@@ -26,16 +26,16 @@ stands_at xs place x within is = slice_get_read xs (length xs) place x refl with
 
 -- the same seats but for one are callers' seats still
 pub called_with : (x : Called) (table : ℕ) (t : Shared) (c : SeatView) → AreCalled x → slice_get x.tables table ≡ Some t → IsCallersAt t c
-    → AreCalled (record { tables = x.tables; seats = slice_set x.seats table c })
+    → AreCalled (record { tables = x.tables; seats = slice_set x.seats table (Some c) })
 called_with x table t c are at here = record {
-  count = length-set x.seats table c ∙ are.count;
-  each = λ place u v there seat. by place u v there (set_either x.seats table place c v seat);
+  count = length-set x.seats table (Some c) ∙ are.count;
+  each = λ place u v there seat. by place u v there (set_either x.seats table place (Some c) (Some v) seat);
 }
   where
-    by : (place : ℕ) (u : Shared) (v : SeatView) → slice_get x.tables place ≡ Some u → ((place ≡ table) × (v ≡ c)) ⊎ ((place ≢ table) × (slice_get x.seats place ≡ Some v)) → IsCallersAt u v
+    by : (place : ℕ) (u : Shared) (v : SeatView) → slice_get x.tables place ≡ Some u → ((place ≡ table) × (Some v ≡ Some c)) ⊎ ((place ≢ table) × (slice_get x.seats place ≡ Some (Some v))) → IsCallersAt u v
     by place u v there (inl h) =
         let is : t ≡ u = same_at x.tables table t u at (subst (λ (n : ℕ). slice_get x.tables n ≡ Some u) h.0 there) in
-        subst (λ (s : SeatView). IsCallersAt u s) (sym h.1) (subst (λ (s : Shared). IsCallersAt s c) is here)
+        subst (λ (s : SeatView). IsCallersAt u s) (sym (some_same v c h.1)) (subst (λ (s : Shared). IsCallersAt s c) is here)
     by place u v there (inr h) = are.each place u v there h.1
 
 -- ---- calls
@@ -59,30 +59,29 @@ callers_after t v c reply w is seat same answered = record {
 }
 
 -- the seat v at the table t
-module _ (x : Called) (table : ℕ) (t : Shared) (v : SeatView) (are : AreCalled x) (at : slice_get x.tables table ≡ Some t) (was : slice_get x.seats table ≡ Some v) where
+module _ (x : Called) (table : ℕ) (t : Shared) (v : SeatView) (are : AreCalled x) (at : slice_get x.tables table ≡ Some t) (was : slice_get x.seats table ≡ Some (Some v)) where
   pub is_called : IsCallersAt t v
   is_called = are.each table t v at was
 
   pub called_on : (c : Call) (reply : Reply) (w : SeatView) → IsSeatOf w t.site → SameSeat v w → Answered (base_seen t) v c reply w
-      → AreCalled (record { tables = x.tables; seats = slice_set x.seats table w })
+      → AreCalled (record { tables = x.tables; seats = slice_set x.seats table (Some w) })
   called_on c reply w seats same answered = called_with x table t w are at (callers_after t v c reply w is_called seats same answered)
 
-  pub calls : (c : Call) (reply : Reply) (w : SeatView) → Answered (base_seen t) v c reply w → Calls table c x reply (record { tables = x.tables; seats = slice_set x.seats table w })
+  pub calls : (c : Call) (reply : Reply) (w : SeatView) → Answered (base_seen t) v c reply w → Calls table c x reply (record { tables = x.tables; seats = slice_set x.seats table (Some w) })
   calls c reply w answered = record { shared = t; before = v; after = w; at = at; was = was; answered = answered; now = refl }
 
 -- ---- meetings
 
 -- the seat in that place is a seat of the leaf's table
-pub meets_legal : (x self : Called) (y : Seated) (table : ℕ) (c : SeatView) → AreCalled x → x ≡ self → self.tables ≡ y.tables → table < length self.tables → c ≡ slice_index_or x.seats table c
+pub meets_legal : (x self : Called) (y : Seated) (table : ℕ) (c : SeatView) → AreCalled x → x ≡ self → self.tables ≡ y.tables → table < length self.tables → slice_get x.seats table ≡ Some (Some c)
     → AtPlace (λ t v. IsSeatOf c t.site × LegalFrom (is_founded (base_seen t)) (start_of (base_seen t)) (seen_of c)) y table
 meets_legal x self y table c are is same within read = λ t v at seat.
     let tables : x.tables ≡ y.tables = ap (λ (z : Called). z.tables) is ∙ same in
-    let inside : table < length x.tables = subst (λ (z : Called). table < length z.tables) (sym is) within in
-    let here : IsCallersAt t c = are.each table t c (subst (λ (ts : List Shared). slice_get ts table ≡ Some t) (sym tables) at) (stands_at x.seats table c (omega (arith, inside, are.count)) read) in
+    let here : IsCallersAt t c = are.each table t c (subst (λ (ts : List Shared). slice_get ts table ≡ Some t) (sym tables) at) read in
     (here.seat, here.legal)
 
 module _ (x self : Called) (leaf : Leaf) (table : ℕ) (c c' : SeatView) (are : AreCalled x) (is : x ≡ self) (same : self.tables ≡ (seated_of leaf).tables)
-    (count : length (seated_of leaf).seats ≡ length (seated_of leaf).tables) (within : table < length self.tables) (read : c ≡ slice_index_or x.seats table c)
+    (count : length (seated_of leaf).seats ≡ length (seated_of leaf).tables) (within : table < length self.tables) (the_seat : slice_get x.seats table ≡ Some (Some c))
     (met : AtPlace (IsMetSeat c c') (seated_of leaf) table) where
   there : IsThere (seated_of leaf) table
   there = is_there (seated_of leaf) table (subst (λ (ts : List Shared). table < length ts) same within) count
@@ -90,12 +89,7 @@ module _ (x self : Called) (leaf : Leaf) (table : ℕ) (c c' : SeatView) (are : 
   the_table : slice_get x.tables table ≡ Some there.shared
   the_table = subst (λ (ts : List Shared). slice_get ts table ≡ Some there.shared) (sym (ap (λ (z : Called). z.tables) is ∙ same)) there.at
 
-  the_seat : slice_get x.seats table ≡ Some c
-  the_seat =
-      let inside : table < length x.tables = subst (λ (z : Called). table < length z.tables) (sym is) within in
-      stands_at x.seats table c (omega (arith, inside, are.count)) read
-
-  pub called_met : AreCalled (record { tables = x.tables; seats = slice_set x.seats table c' })
+  pub called_met : AreCalled (record { tables = x.tables; seats = slice_set x.seats table (Some c') })
   called_met =
       let seat = met there.shared there.seat there.at there.was in
       let before : IsCallersAt there.shared c = are.each table there.shared c the_table the_seat in
@@ -104,18 +98,18 @@ module _ (x self : Called) (leaf : Leaf) (table : ℕ) (c c' : SeatView) (are : 
 
   pub meets_at : (leaf' : Leaf) → AreIds c'.seen
       → AtPlace (λ t v. (w : SeatView) × (leaf' ≡ with_seats leaf (slice_set (seated_of leaf).seats table w)) × Told v c w × LearnsOthers v w) (seated_of leaf) table
-      → MeetsAt table leaf self.seats leaf' (slice_set x.seats table c')
+      → MeetsAt table leaf self.seats leaf' (slice_set x.seats table (Some c'))
   meets_at leaf' ids learns =
       let seat = met there.shared there.seat there.at there.was in
       let learned = learns there.shared there.seat there.at there.was in
       record {
         steward = there.seat;
-        caller = c;
+        caller = Some c;
         steward_then = learned.0;
-        caller_then = c';
+        caller_then = Some c';
         was = there.was;
-        was_caller = subst (λ (z : Called). slice_get z.seats table ≡ Some c) is the_seat;
+        was_caller = subst (λ (z : Called). slice_get z.seats table ≡ Some (Some c)) is the_seat;
         meets = record { steward = learned.2; caller = seat.1; steward_learns = learned.3; caller_learns = seat.2; ids = ids };
         leaf_is = learned.1;
-        callers_are = ap (λ (z : Called). slice_set z.seats table c') is;
+        callers_are = ap (λ (z : Called). slice_set z.seats table (Some c')) is;
       }

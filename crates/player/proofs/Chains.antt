@@ -1,6 +1,6 @@
 -- Chains of what callers and stewards of the leaves do.
-use Rattle.std.proofs.Common.{◌≡◌, ◌≢◌, ◌⊎◌, inl, inr, ℕ, ◌+◌, ◌-◌, ◌^◌, ◌≤◌, Bool, List, [], ◌∷◌, ◌++◌, length, Some, Result, Ok, Err, Vec, Global, refl, sym, ap, subst, ◌∙◌, arith, length-set, append_assoc}
-use Rattle.std.specs.Prelude.{min, IfOk, slice_get, slice_set}
+use Rattle.std.proofs.Common.{◌≡◌, ◌≢◌, ◌⊎◌, inl, inr, ℕ, ◌+◌, ◌-◌, ◌^◌, ◌≤◌, Bool, List, [], ◌∷◌, ◌++◌, length, Option, Some, Result, Ok, Err, Vec, Global, refl, sym, ap, subst, ◌∙◌, arith, length-set, append_assoc}
+use Rattle.std.specs.Prelude.{min, IfOk, None, is_some, slice_get, slice_set}
 use Rattle.std.specs.List.{AllByRecursion}
 use Rattle.std.proofs.lemmas.Option.{slice_get_within}
 use Rattle.berth_face.specs.Berth.{Meaning, Passes}
@@ -13,16 +13,16 @@ use Rattle.printed_lines.specs.declared.line.Line.{Line}
 use Rattle.printed_lines.specs.Lines.{IsOf}
 use Rattle.transcript.specs.Pieces.{Acted, Called, Deed, Piece, Says, Worn, lines_in, piece_lines}
 use Rattle.transcript.specs.Counts.{Counted, IsCounted, deeds_in, is_disk_fault, is_region_fault, reads_disk}
-use Rattle.transcript.specs.Holds.{Hold, with_callers}
+use Rattle.transcript.specs.Holds.{Hold, caller_in, with_callers, with_leaf}
 use Rattle.transcript.specs.Steps as step
 use Rattle.transcript.specs.Steps.{CallStep, DeedStep, Goes, noted_all}
-use Rattle.transcript.specs.Stage.{seated_of}
-use Rattle.player.specs.Crew.{AllPass}
+use Rattle.transcript.specs.Stage.{Leaf}
+use Rattle.player.specs.Crew.{AllPass, CountedIf, PassesIf, StillHas}
 use Rattle.player.specs.Lines.{AreJoined, CallsWith}
 use Rattle.player.specs.Members.{GoesWith}
 use Rattle.player.specs.Commands.{ActsWith}
 use Rattle.player.proofs.Columns.{element_at}
-use Rattle.player.proofs.CommandLines.{counted_other, none_told}
+use Rattle.player.proofs.CommandLines.{calm_other, none_told}
 
 -- ---- lists
 
@@ -77,8 +77,9 @@ module _ {B : Type 0} (meaning : B → Meaning) where
   goes_more xs ys zs ps qs (step.call us pieces bs leaf table c x callers p others at called goes are) more =
       step.call us (pieces ++ qs) zs leaf table c x callers p (others ++ qs) at called (goes_more (slice_set us leaf (with_callers x callers)) bs zs others qs goes more)
       (ap (λ (rs : List Piece). rs ++ qs) are)
-  goes_more xs ys zs ps qs (step.act us pieces bs leaf deed x y p others at acted goes are) more =
-      step.act us (pieces ++ qs) zs leaf deed x y p (others ++ qs) at acted (goes_more (slice_set us leaf y) bs zs others qs goes more) (ap (λ (rs : List Piece). rs ++ qs) are)
+  goes_more xs ys zs ps qs (step.act us pieces bs leaf deed x l l' b b' callers p others at held acted goes are) more =
+      step.act us (pieces ++ qs) zs leaf deed x l l' b b' callers p (others ++ qs) at held acted (goes_more (slice_set us leaf (with_leaf x l' b' callers)) bs zs others qs goes more)
+      (ap (λ (rs : List Piece). rs ++ qs) are)
   goes_more xs ys zs ps qs (step.say us pieces bs l others goes are) more =
       step.say us (pieces ++ qs) zs l (others ++ qs) (goes_more us bs zs others qs goes more) (ap (λ (rs : List Piece). rs ++ qs) are)
 
@@ -95,40 +96,93 @@ module _ {B : Type 0} (meaning : B → Meaning) where
           subst (λ (n : ℕ). P n h h') (sym same.0) (subst (λ (z : Hold B). P i h z) (sym same.1) (subst (λ (z : Hold B). P i z y) is here))
       by (inr apart) = subst (λ (z : Hold B). P j h z) (same_at xs j h h' was apart.1) (others j h apart.0)
 
-  pub all_pass_set : (xs : List (Hold B)) (i : ℕ) (x y : Hold B) → slice_get xs i ≡ Some x → Passes (meaning x.berth) (meaning y.berth) → AllPass meaning xs (slice_set xs i y)
+  -- ---- where a leaf is held
+
+  pub passes_if_none : (o : Option (Leaf × B)) → PassesIf meaning o o
+  passes_if_none None = tt
+  passes_if_none (Some l) = passes_none (meaning l.1)
+
+  pub passes_if_on : (o p q : Option (Leaf × B)) → PassesIf meaning o p → PassesIf meaning p q → PassesIf meaning o q
+  passes_if_on None None None first second = tt
+  passes_if_on (Some l) (Some m) (Some n) first second = passes_on (meaning l.1) (meaning m.1) (meaning n.1) first second
+  passes_if_on None (Some m) q first second = absurd first
+  passes_if_on (Some l) None q first second = absurd first
+  passes_if_on None None (Some n) first second = absurd second
+  passes_if_on (Some l) (Some m) None first second = absurd second
+
+  -- pieces that tell no deed of it
+  pub counted_calm : (leaf : ℕ) (ps : List Piece) (o : Option (Leaf × B)) → ((test : Deed → Ending → Bool) → deeds_in test leaf ps ≡ 0) → CountedIf meaning leaf ps o o
+  counted_calm leaf ps None calm = calm
+  counted_calm leaf ps (Some l) calm = counted_none leaf ps (meaning l.1) calm
+
+  pub counted_if_more : (leaf : ℕ) (ps qs : List Piece) (o p q : Option (Leaf × B)) → CountedIf meaning leaf ps o p → CountedIf meaning leaf qs p q → CountedIf meaning leaf (ps ++ qs) o q
+  counted_if_more leaf ps qs None None None first second = λ test. both_none _ _ _ (deeds_more test leaf ps qs) (first test) (second test)
+    where
+      both_none : (n c d : ℕ) → n ≡ c + d → c ≡ 0 → d ≡ 0 → n ≡ 0
+      both_none n c d is one other = omega (arith, is, one, other)
+  counted_if_more leaf ps qs (Some l) (Some m) (Some n) first second = counted_more leaf ps qs (meaning l.1) (meaning m.1) (meaning n.1) first second
+  counted_if_more leaf ps qs None (Some m) q first second = absurd first
+  counted_if_more leaf ps qs (Some l) None q first second = absurd first
+  counted_if_more leaf ps qs None None (Some n) first second = absurd second
+  counted_if_more leaf ps qs (Some l) (Some m) None first second = absurd second
+
+  -- ---- one of them
+
+  pub all_pass_set : (xs : List (Hold B)) (i : ℕ) (x y : Hold B) → slice_get xs i ≡ Some x → PassesIf meaning x.held y.held → AllPass meaning xs (slice_set xs i y)
   all_pass_set xs i x y at time = record {
     count = length-set xs i y;
-    each = each_set (λ j h h'. Passes (meaning h.berth) (meaning h'.berth)) xs i x y at time (λ j h apart. passes_none (meaning h.berth));
+    each = each_set (λ j h h'. PassesIf meaning h.held h'.held) xs i x y at time (λ j h apart. passes_if_none h.held);
+  }
+
+  pub still_set : (xs : List (Hold B)) (i : ℕ) (x y : Hold B) → slice_get xs i ≡ Some x → is_some y.held ≡ is_some x.held
+      → ((table : ℕ) → is_some (caller_in y.callers table) ≡ is_some (caller_in x.callers table)) → StillHas xs (slice_set xs i y)
+  still_set xs i x y at held callers = record {
+    count = length-set xs i y;
+    each = each_set (λ j h h'. (is_some h'.held ≡ is_some h.held) × ((table : ℕ) → is_some (caller_in h'.callers table) ≡ is_some (caller_in h.callers table))) xs i x y at (held, callers)
+        (λ j h apart. (refl, λ table. refl));
   }
 
   -- a deed
-  pub one_act : {E : Type 0} (names : List (List ℕ)) (xs ys : List (Hold B)) (number : ℕ) (deed : Deed) (x y : Hold B) (result : Result (Vec Line Global) E)
-      → slice_get xs number ≡ Some x → ys ≡ slice_set xs number y
-      → (acts : ActsWith meaning names number deed x.leaf x.callers x.berth result y.leaf y.callers y.berth) → Passes (meaning x.berth) (meaning y.berth)
+  pub one_act : {E : Type 0} (names : List (List ℕ)) (xs ys : List (Hold B)) (number : ℕ) (deed : Deed) (x : Hold B) (l l' : Leaf) (b b' : B) (callers : List (Option SeatView))
+      (result : Result (Vec Line Global) E) → slice_get xs number ≡ Some x → x.held ≡ Some (l, b) → ys ≡ slice_set xs number (with_leaf x l' b' callers)
+      → ((table : ℕ) → is_some (caller_in callers table) ≡ is_some (caller_in x.callers table))
+      → (acts : ActsWith meaning names number deed l x.callers b result l' callers b') → Passes (meaning b) (meaning b')
       → GoesWith meaning names xs result (acts.piece ∷ []) ys
-  one_act names xs ys number deed x y result at now acts time =
+  one_act names xs ys number deed x l l' b b' callers result at held now seats acts time =
+      let y : Hold B = with_leaf x l' b' callers in
       subst (λ (zs : List (Hold B)). GoesWith meaning names xs result (acts.piece ∷ []) zs) (sym now) (record {
-        goes = step.act xs (acts.piece ∷ []) (slice_set xs number y) number deed x y acts.piece [] at acts.step (step.none (slice_set xs number y) [] (slice_set xs number y) refl refl) refl;
-        counted = each_set (λ j h h'. IsCounted j (acts.piece ∷ []) (meaning h.berth) (meaning h'.berth)) xs number x y at acts.counted
-            (λ j h apart. subst (λ (p : Piece). IsCounted j (p ∷ []) (meaning h.berth) (meaning h.berth)) (sym acts.step.piece_is)
-            (counted_other number j deed (noted_all acts.step.notes) acts.step.ends (meaning h.berth) apart));
-        time = all_pass_set xs number x y at time;
+        goes = step.act xs (acts.piece ∷ []) (slice_set xs number y) number deed x l l' b b' callers acts.piece [] at held acts.step
+            (step.none (slice_set xs number y) [] (slice_set xs number y) refl refl) refl;
+        counted = record {
+          count = length-set xs number y;
+          each = each_set (λ j h h'. CountedIf meaning j (acts.piece ∷ []) h.held h'.held) xs number x y at
+              (subst (λ (o : Option (Leaf × B)). CountedIf meaning number (acts.piece ∷ []) o (Some (l', b'))) (sym held) acts.counted)
+              (λ j h apart. counted_calm j (acts.piece ∷ []) h.held
+              (λ test. subst (λ (p : Piece). deeds_in test j (p ∷ []) ≡ 0) (sym acts.step.piece_is) (calm_other number j deed (noted_all acts.step.notes) acts.step.ends test apart)));
+        };
+        time = all_pass_set xs number x y at (subst (λ (o : Option (Leaf × B)). PassesIf meaning o (Some (l', b'))) (sym held) time);
+        still = still_set xs number x y at (ap (λ (o : Option (Leaf × B)). is_some o) (sym held)) seats;
         fit = acts.fit;
         lines_are = acts.lines_are;
       })
 
   -- a call
-  pub one_called : {E : Type 0} (names : List (List ℕ)) (xs ys : List (Hold B)) (leaf table : ℕ) (c : Call) (x : Hold B) (callers : List SeatView) (result : Result (Vec Line Global) E)
+  pub one_called : {E : Type 0} (names : List (List ℕ)) (xs ys : List (Hold B)) (leaf table : ℕ) (c : Call) (x : Hold B) (callers : List (Option SeatView)) (result : Result (Vec Line Global) E)
       → slice_get xs leaf ≡ Some x → ys ≡ slice_set xs leaf (with_callers x callers)
-      → (calls : CallsWith names leaf table c (seated_of x.leaf).tables x.callers result callers) → GoesWith meaning names xs result (calls.piece ∷ []) ys
-  one_called names xs ys leaf table c x callers result at now calls =
+      → ((t : ℕ) → is_some (caller_in callers t) ≡ is_some (caller_in x.callers t))
+      → (calls : CallsWith names leaf table c x.tables x.callers result callers) → GoesWith meaning names xs result (calls.piece ∷ []) ys
+  one_called names xs ys leaf table c x callers result at now seats calls =
       let y : Hold B = with_callers x callers in
       subst (λ (zs : List (Hold B)). GoesWith meaning names xs result (calls.piece ∷ []) zs) (sym now) (record {
         goes = step.call xs (calls.piece ∷ []) (slice_set xs leaf y) leaf table c x callers calls.piece [] at calls.step (step.none (slice_set xs leaf y) [] (slice_set xs leaf y) refl refl) refl;
-        counted = each_set (λ j h h'. IsCounted j (calls.piece ∷ []) (meaning h.berth) (meaning h'.berth)) xs leaf x y at
-            (counted_none leaf (calls.piece ∷ []) (meaning x.berth) (λ test. calls.calm test leaf))
-            (λ j h apart. counted_none j (calls.piece ∷ []) (meaning h.berth) (λ test. calls.calm test j));
-        time = all_pass_set xs leaf x y at (passes_none (meaning x.berth));
+        counted = record {
+          count = length-set xs leaf y;
+          each = each_set (λ j h h'. CountedIf meaning j (calls.piece ∷ []) h.held h'.held) xs leaf x y at
+              (counted_calm leaf (calls.piece ∷ []) x.held (λ test. calls.calm test leaf))
+              (λ j h apart. counted_calm j (calls.piece ∷ []) h.held (λ test. calls.calm test j));
+        };
+        time = all_pass_set xs leaf x y at (passes_if_none x.held);
+        still = still_set xs leaf x y at refl seats;
         fit = calls.fit;
         lines_are = calls.lines_are;
       })
@@ -151,28 +205,52 @@ module _ {B : Type 0} (meaning : B → Meaning) where
       → GoesWith meaning names xs first ps ys → GoesWith meaning names ys second qs zs → IfOk both (λ lines. AreJoined first second lines.items) → GoesWith meaning names xs both (ps ++ qs) zs
   goes_with_more names xs ys zs ps qs first second both one other joined = record {
     goes = goes_more xs ys zs ps qs one.goes other.goes;
-    counted = λ leaf x z was now.
-        let y = between xs ys one.time.count leaf x was in
-        counted_more leaf ps qs (meaning x.berth) (meaning y.0.berth) (meaning z.berth) (one.counted leaf x y.0 was y.1) (other.counted leaf y.0 z y.1 now);
+    counted = record {
+      count = other.time.count ∙ one.time.count;
+      each = λ leaf x z was now.
+          let y = between xs ys one.time.count leaf x was in
+          counted_if_more leaf ps qs x.held y.0.held z.held (one.counted.each leaf x y.0 was y.1) (other.counted.each leaf y.0 z y.1 now);
+    };
     time = record {
       count = other.time.count ∙ one.time.count;
       each = λ leaf x z was now.
           let y = between xs ys one.time.count leaf x was in
-          passes_on (meaning x.berth) (meaning y.0.berth) (meaning z.berth) (one.time.each leaf x y.0 was y.1) (other.time.each leaf y.0 z y.1 now);
+          passes_if_on x.held y.0.held z.held (one.time.each leaf x y.0 was y.1) (other.time.each leaf y.0 z y.1 now);
+    };
+    still = record {
+      count = other.still.count ∙ one.still.count;
+      each = λ leaf x z was now.
+          let y = between xs ys one.time.count leaf x was in
+          let first = one.still.each leaf x y.0 was y.1 in
+          let second = other.still.each leaf y.0 z y.1 now in
+          (second.0 ∙ first.0, λ table. second.1 table ∙ first.1 table);
     };
     fit = subst (AllByRecursion (IsOf names)) (sym (lines_more ps qs)) (all_more (IsOf names) (lines_in ps) (lines_in qs) one.fit other.fit);
     lines_are = joined_lines first second both ps qs one.lines_are other.lines_are joined;
   }
 
   -- nothing was done
+  pub time_none : (xs : List (Hold B)) → AllPass meaning xs xs
+  time_none xs = record {
+    count = refl;
+    each = λ leaf x y was now. subst (λ (z : Hold B). PassesIf meaning x.held z.held) (same_at xs leaf x y was now) (passes_if_none x.held);
+  }
+
+  pub still_none : (xs : List (Hold B)) → StillHas xs xs
+  still_none xs = record {
+    count = refl;
+    each = λ leaf x y was now. (ap (λ (z : Hold B). is_some z.held) (sym (same_at xs leaf x y was now)), λ table. ap (λ (z : Hold B). is_some (caller_in z.callers table)) (sym (same_at xs leaf x y was now)));
+  }
+
   pub goes_with_none : {E : Type 0} (names : List (List ℕ)) (xs : List (Hold B)) (result : Result (Vec Line Global) E) → IfOk result (λ lines. lines.items ≡ []) → GoesWith meaning names xs result [] xs
   goes_with_none names xs result empty = record {
     goes = step.none xs [] xs refl refl;
-    counted = λ leaf x y was now. subst (λ (z : Hold B). IsCounted leaf [] (meaning x.berth) (meaning z.berth)) (same_at xs leaf x y was now) (counted_none leaf [] (meaning x.berth) (λ test. refl));
-    time = record {
+    counted = record {
       count = refl;
-      each = λ leaf x y was now. subst (λ (z : Hold B). Passes (meaning x.berth) (meaning z.berth)) (same_at xs leaf x y was now) (passes_none (meaning x.berth));
+      each = λ leaf x y was now. subst (λ (z : Hold B). CountedIf meaning leaf [] x.held z.held) (same_at xs leaf x y was now) (counted_calm leaf [] x.held (λ test. refl));
     };
+    time = time_none xs;
+    still = still_none xs;
     fit = tt;
     lines_are = empty;
   }

@@ -13,7 +13,7 @@ use Rattle.printed_lines.specs.declared.line.Line.{Line}
 use Rattle.printed_lines.specs.declared.line.Line.TheVariants as line
 use Rattle.printed_lines.specs.Lines.{EndsOf, IsOf}
 use Rattle.transcript.specs.Pieces.{Piece, Acted, Deed, Noted, lines_in, piece_lines, verb_of}
-use Rattle.transcript.specs.Counts.{Counted, IsCounted, is_disk_fault, is_region_fault, reads_disk}
+use Rattle.transcript.specs.Counts.{Counted, IsCounted, deeds_in, is_disk_fault, is_region_fault, reads_disk}
 use Rattle.transcript.specs.Steps.{noted_all}
 use Rattle.player.specs.Lines.{AreEnded, AreTold, note_lines}
 use Rattle.player.specs.Moves.{ArePlaces, FaultRose}
@@ -100,12 +100,8 @@ counted number deed notes ends m m' time rose same = record {
 other_such : (number other : ℕ) (b : Bool) → other ≢ number → (if (number == other) && b then 1 else 0) + 0 ≡ 0
 other_such number other b apart = ap (λ (c : Bool). (if c && b then 1 else 0) + 0) (ne_eqb number other (λ same. apart (sym same)))
 
-pub counted_other : (number other : ℕ) (deed : Deed) (notes : List Noted) (ends : Ending) (m : Meaning) → other ≢ number → IsCounted other (Acted number deed notes ends ∷ []) m m
-counted_other number other deed notes ends m apart = record {
-  region = none_told m.region_faults _ (other_such number other (is_region_fault ends) apart);
-  disk = none_told m.disk_faults _ (other_such number other (is_disk_fault ends) apart);
-  reads = λ none. refl;
-}
+pub calm_other : (number other : ℕ) (deed : Deed) (notes : List Noted) (ends : Ending) (test : Deed → Ending → Bool) → other ≢ number → deeds_in test other (Acted number deed notes ends ∷ []) ≡ 0
+calm_other number other deed notes ends test apart = other_such number other (test deed ends) apart
 
 -- ---- tables
 

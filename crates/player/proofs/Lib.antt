@@ -23,8 +23,12 @@ pub mod Starting
 pub mod AskLines
 pub mod AskSteps
 pub mod AskRows
-pub mod AskHistories
 pub mod Asking
 pub mod Playing
 pub mod Begun
 pub mod Ending
+pub mod MeetLeaves
+pub mod Lent
+pub mod CutInTwo
+pub mod Returned
+pub mod TakenBack

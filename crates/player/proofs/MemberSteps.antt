@@ -1,29 +1,30 @@
 -- One leaf of a crew has become another.
-use Rattle.std.proofs.Common.{◌≡◌, ◌≢◌, ◌⊎◌, inl, inr, ℕ, ◌<◌, List, length, Some, Result, Vec, Global, refl, sym, ap, subst, ◌∙◌, arith, length-set}
-use Rattle.std.specs.Prelude.{slice_get, slice_set}
+use Rattle.std.proofs.Common.{◌≡◌, ◌≢◌, ◌⊎◌, inl, inr, ℕ, zero, suc, ◌<◌, List, [], ◌∷◌, length, map, Option, Some, None, Result, Vec, Global, refl, sym, ap, subst, ◌∙◌, arith, length-set}
+use Rattle.std.specs.Prelude.{slice_get, slice_set, slice_index_or, is_some}
+use Rattle.std.proofs.lemmas.Bool.{cases_eq}
 use Rattle.berth_face.specs.Berth.{Meaning, Passes}
 use Rattle.leaf_table.specs.Turns.{Shared}
-use Rattle.leaf_table.specs.Calls.{SeatView}
+use Rattle.leaf_table.specs.Calls.{SeatView, name_of}
 use Rattle.leaf_table.specs.Lists.{lists_in, row}
-use Rattle.leaf_steward.specs.Seated.{Seated}
-use Rattle.leaf_steward.proofs.Seating.{set_either, set_same}
+use Rattle.leaf_steward.proofs.Seating.{same_at, set_either, set_same, some_same}
 use Rattle.printed_lines.specs.declared.line.Line.{Line}
 use Rattle.transcript.specs.Pieces.{Deed, leaf_count}
-use Rattle.transcript.specs.Holds.{Hold}
+use Rattle.transcript.specs.Holds.{Hold, caller_in, with_callers, with_leaf}
 use Rattle.transcript.specs.Steps.{noted_all}
 use Rattle.player.specs.declared.leaf.OneLeaf.{OneLeaf}
 use Rattle.player.specs.declared.members.Members.{Members}
 use Rattle.player.specs.declared.call.Request.{Request}
-use Rattle.player.specs.Crew.{column}
+use Rattle.player.specs.Crew.{HasLeaf, column}
 use Rattle.player.specs.Rows.{AreCalled, IsColumn, OnlyColumn}
-use Rattle.player.specs.Stage.{IsMember, berth_of, hold_of, seats_of, state_of}
+use Rattle.player.specs.Stage.{IsMember, berth_of, hold_at, seats_of, state_of}
 use Rattle.player.specs.Lines.{CallsWith}
 use Rattle.player.specs.Members.{AreMembers, IsLeafOf, fleet_in, holds_from, holds_in}
 use Rattle.player.specs.Commands.{ActsAt, ActsWith, CallsAt, call_of}
 use Rattle.player.proofs.CallPieces.{call_prints}
 use Rattle.player.proofs.Chains.{one_act, one_called}
-use Rattle.player.proofs.Columns.{element_at}
-use Rattle.player.proofs.HoldLists.{holds_at, holds_set}
+use Rattle.player.proofs.Columns.{caller_at, element_at, only_rows}
+use Rattle.player.proofs.Calling.{stands_at}
+use Rattle.player.proofs.HoldLists.{holds_at, holds_set, leaf_held}
 use Rattle.player.proofs.NoteTables.{count_of}
 
 -- ---- the other leaves
@@ -31,70 +32,111 @@ use Rattle.player.proofs.NoteTables.{count_of}
 pub other_column : (leaf other : ℕ) (tables : List Shared) (rows rows' : List (List SeatView)) → OnlyColumn leaf rows rows' → other ≢ leaf → IsColumn other tables rows → IsColumn other tables rows'
 other_column leaf other tables rows rows' only apart is = record {
   size = is.size;
-  sizes = only.sizes (length tables) is.size is.sizes;
+  sizes = only_rows leaf (length tables) is.size rows rows' only is.sizes;
   within = is.within;
   few = is.few;
-  called = subst (λ (seats : List SeatView). AreCalled (record { tables = tables; seats = seats })) (sym (only.others other apart)) is.called;
+  called = subst (λ (seats : List (Option SeatView)). AreCalled (record { tables = tables; seats = seats })) (sym (only.others other apart)) is.called;
 }
 
--- a member whose column has become another
-pub member_column : (names : List (List ℕ)) (number : ℕ) (x : Seated) (rows rows' : List (List SeatView)) → IsMember names number x rows → IsColumn number x.tables rows' → IsMember names number x rows'
-member_column names number x rows rows' is column = record {
-  named = is.named;
-  same = is.same;
-  names_are = is.names_are;
-  seats = is.seats;
-  may = record { column = column; seats = is.may.seats };
-}
+-- rows that are as long have a seat where the others had
+some_length : {A : Type 0} (xs ys : List A) (i : ℕ) → length ys ≡ length xs → is_some (slice_get ys i) ≡ is_some (slice_get xs i)
+some_length [] [] i same = refl
+some_length [] (y ∷ ys) i same = absurd (omega (arith, same))
+some_length (x ∷ xs) [] i same = absurd (omega (arith, same))
+some_length (x ∷ xs) (y ∷ ys) zero same = refl
+some_length (x ∷ xs) (y ∷ ys) (suc i) same = some_length xs ys i (omega (arith, same))
+
+pub seats_still : (leaf : ℕ) (rows rows' : List (List SeatView)) → ((t : ℕ) → length (row rows' t) ≡ length (row rows t))
+    → (table : ℕ) → is_some (caller_in (column leaf rows') table) ≡ is_some (caller_in (column leaf rows) table)
+seats_still leaf rows rows' lengths table =
+    ap (λ (o : Option SeatView). is_some o) (caller_at leaf rows' table)
+    ∙ (some_length (row rows table) (row rows' table) leaf (lengths table) ∙ ap (λ (o : Option SeatView). is_some o) (sym (caller_at leaf rows table)))
+
+pub set_twice : {A : Type 0} (xs : List A) (i : ℕ) (x y : A) → slice_set (slice_set xs i x) i y ≡ slice_set xs i y
+set_twice [] i x y = refl
+set_twice (z ∷ xs) zero x y = refl
+set_twice (z ∷ xs) (suc i) x y = ap (λ zs. z ∷ zs) (set_twice xs i x y)
+
+pub none_is_not : {A : Type 0} (o : Option A) (x : A) → o ≡ None → o ≡ Some x → ⊥
+none_is_not o x none some = cc
 
 module _ {B : Type 0} where
   -- the same with these leaves and rows
-  abbrev pub with_parts : Members B → Vec (OneLeaf B) Global → Vec (Vec SeatView Global) Global → Members B
+  abbrev pub with_parts : Members B → Vec (Option (OneLeaf B)) Global → Vec (Vec SeatView Global) Global → Members B
   with_parts x leaves rows = record { names = x.names; machines = x.machines; per_machine = x.per_machine; tables = x.tables; leaves = leaves; rows = rows }
 
-  -- each of the fleet's leaves is there
-  pub leaf_at : (x : Members B) (number : ℕ) → AreMembers x → number < leaf_count (fleet_in x) → (one : OneLeaf B) × (slice_get x.leaves.items number ≡ Some one)
-  leaf_at x number are within = element_at x.leaves.items number (omega (arith, within, are.leaves))
+  -- the fleet's tables of that number are so many
+  pub tables_at : (x : Members B) (number : ℕ) → AreMembers x → number < leaf_count (fleet_in x) → length (row x.tables.now number) ≡ length x.names
+  tables_at x number are within = count_of (row x.tables.now number) x.names (are.names number within)
 
-  -- the fleet's tables of that number are the leaf's
-  pub tables_at : (x : Members B) (number : ℕ) (one : OneLeaf B) → IsLeafOf x number one → length (row x.tables.now number) ≡ length x.names
-  tables_at x number one is = ap (λ (ts : List Shared). length ts) (sym is.tables) ∙ count_of (seats_of one).tables x.names is.member.names_are
+  -- a leaf that is held has its seats
+  pub member_at : (x : Members B) (number : ℕ) (one : OneLeaf B) → AreMembers x → number < leaf_count (fleet_in x) → IsLeafOf x number one → IsMember x.names number (seats_of one) (lists_in x.rows.items)
+  member_at x number one are within is =
+      let named : map name_of (seats_of one).tables ≡ x.names = ap (λ (ts : List Shared). map name_of ts) is.tables ∙ are.names number within in
+      record {
+        named = are.named;
+        same = is.names;
+        names_are = named;
+        seats = is.seats;
+        may = record {
+          column = subst (λ (ts : List Shared). IsColumn number ts (lists_in x.rows.items)) (sym is.tables) (are.columns number within);
+          seats = is.seats ∙ sym (count_of (seats_of one).tables x.names named);
+        };
+      }
 
-  pub column_of : (x : Members B) (number : ℕ) (one : OneLeaf B) → IsLeafOf x number one → IsColumn number (row x.tables.now number) (lists_in x.rows.items)
-  column_of x number one is = subst (λ (ts : List Shared). IsColumn number ts (lists_in x.rows.items)) is.tables is.member.may.column
+  -- what stands in the slot of a leaf that is held
+  pub slot_held : (x : Members B) (number : ℕ) (slot : Option (OneLeaf B)) → AreMembers x → number < leaf_count (fleet_in x) → HasLeaf (holds_in x) number → slot ≡ slice_index_or x.leaves.items number slot
+      → (one : OneLeaf B) × (slot ≡ Some one)
+  slot_held x number slot are within has read =
+      let low : number < length x.leaves.items = omega (arith, within, are.leaves) in
+      let one = leaf_held x.tables.now x.leaves.items (lists_in x.rows.items) number has low in
+      (one.0, same_at x.leaves.items number slot (Some one.0) (stands_at x.leaves.items number slot low read) one.1)
 
-  module _ (x : Members B) (number : ℕ) (one next : OneLeaf B) (leaves : Vec (OneLeaf B) Global) (rows : Vec (Vec SeatView Global) Global) (are : AreMembers x)
-      (at : slice_get x.leaves.items number ≡ Some one) (now : leaves.items ≡ slice_set x.leaves.items number next) (only : OnlyColumn number (lists_in x.rows.items) (lists_in rows.items)) where
+  pub slot_at : (x : Members B) (number : ℕ) (slot : Option (OneLeaf B)) (one : OneLeaf B) → AreMembers x → number < leaf_count (fleet_in x) → slot ≡ slice_index_or x.leaves.items number slot → slot ≡ Some one
+      → slice_get x.leaves.items number ≡ Some (Some one)
+  slot_at x number slot one are within read is =
+      stands_at x.leaves.items number slot (omega (arith, within, are.leaves)) read ∙ ap (λ (o : Option (OneLeaf B)). Some o) is
+
+  -- one column has become another
+  columns_then : (x : Members B) (number : ℕ) (rows : List (List SeatView)) → AreMembers x → OnlyColumn number (lists_in x.rows.items) rows → IsColumn number (row x.tables.now number) rows
+      → (leaf : ℕ) → leaf < leaf_count (fleet_in x) → IsColumn leaf (row x.tables.now leaf) rows
+  columns_then x number rows are only column leaf below = by (cases_eq leaf number)
+    where
+      by : (leaf ≡ number) ⊎ (leaf ≢ number) → IsColumn leaf (row x.tables.now leaf) rows
+      by (inl same) = subst (λ (n : ℕ). IsColumn n (row x.tables.now n) rows) (sym same) column
+      by (inr apart) = other_column number leaf (row x.tables.now leaf) (lists_in x.rows.items) rows only apart (are.columns leaf below)
+
+  module _ (x : Members B) (number : ℕ) (one next : OneLeaf B) (leaves : Vec (Option (OneLeaf B)) Global) (rows : Vec (Vec SeatView Global) Global) (are : AreMembers x)
+      (at : slice_get x.leaves.items number ≡ Some (Some one)) (now : leaves.items ≡ slice_set x.leaves.items number (Some next))
+      (only : OnlyColumn number (lists_in x.rows.items) (lists_in rows.items)) where
     -- they are members still
     pub members_then : IsMember x.names number (seats_of next) (lists_in rows.items) → (seats_of next).tables ≡ (seats_of one).tables → AreMembers (with_parts x leaves rows)
-    members_then member same = record {
-      named = are.named;
-      few = are.few;
-      leaves = ap (λ (ls : List (OneLeaf B)). length ls) now ∙ length-set x.leaves.items number next ∙ are.leaves;
-      tables = are.tables;
-      rows = only.sizes (length x.names) (leaf_count (fleet_in x)) are.rows;
-      each = λ leaf z there. by leaf z (set_either x.leaves.items number leaf next z (subst (λ (ls : List (OneLeaf B)). slice_get ls leaf ≡ Some z) now there));
-    }
+    members_then member same =
+        let tables : (seats_of next).tables ≡ row x.tables.now number = same ∙ (are.each number one at).tables in
+        record {
+          named = are.named;
+          few = are.few;
+          leaves = ap (λ (ls : List (Option (OneLeaf B))). length ls) now ∙ length-set x.leaves.items number (Some next) ∙ are.leaves;
+          tables = are.tables;
+          rows = only_rows number (length x.names) (leaf_count (fleet_in x)) (lists_in x.rows.items) (lists_in rows.items) only are.rows;
+          names = are.names;
+          columns = columns_then x number (lists_in rows.items) are only (subst (λ (ts : List Shared). IsColumn number ts (lists_in rows.items)) tables member.may.column);
+          each = λ leaf z there.
+              by tables leaf z (set_either x.leaves.items number leaf (Some next) (Some z) (subst (λ (ls : List (Option (OneLeaf B))). slice_get ls leaf ≡ Some (Some z)) now there));
+        }
       where
-        by : (leaf : ℕ) (z : OneLeaf B) → ((leaf ≡ number) × (z ≡ next)) ⊎ ((leaf ≢ number) × (slice_get x.leaves.items leaf ≡ Some z)) → IsLeafOf (with_parts x leaves rows) leaf z
-        by leaf z (inl h) =
-            subst (λ (n : ℕ). IsLeafOf (with_parts x leaves rows) n z) (sym h.0) (subst (λ (y : OneLeaf B). IsLeafOf (with_parts x leaves rows) number y) (sym h.1)
-            (record { member = member; tables = same ∙ (are.each number one at).tables }))
-        by leaf z (inr h) =
-            let was = are.each leaf z h.1 in
-            record {
-              member = member_column x.names leaf (seats_of z) (lists_in x.rows.items) (lists_in rows.items) was.member
-                  (other_column number leaf (seats_of z).tables (lists_in x.rows.items) (lists_in rows.items) only h.0 was.member.may.column);
-              tables = was.tables;
-            }
+        by : (seats_of next).tables ≡ row x.tables.now number → (leaf : ℕ) (z : OneLeaf B)
+            → ((leaf ≡ number) × (Some z ≡ Some next)) ⊎ ((leaf ≢ number) × (slice_get x.leaves.items leaf ≡ Some (Some z))) → IsLeafOf (with_parts x leaves rows) leaf z
+        by tables leaf z (inl h) =
+            subst (λ (n : ℕ). IsLeafOf (with_parts x leaves rows) n z) (sym h.0)
+            (subst (λ (y : OneLeaf B). IsLeafOf (with_parts x leaves rows) number y) (sym (some_same z next h.1)) (record { names = member.same; tables = tables; seats = member.seats }))
+        by tables leaf z (inr h) = let was = are.each leaf z h.1 in record { names = was.names; tables = was.tables; seats = was.seats }
 
-    pub holds_then : holds_in (with_parts x leaves rows) ≡ slice_set (holds_in x) number (hold_of next (column number (lists_in rows.items)))
+    pub holds_then : holds_in (with_parts x leaves rows)
+        ≡ slice_set (holds_in x) number (with_leaf (hold_at number x.tables.now (lists_in x.rows.items) (Some one)) (state_of next) (berth_of next) (column number (lists_in rows.items)))
     holds_then =
-        ap (λ (ls : List (OneLeaf B)). holds_from 0 ls (lists_in rows.items)) now
-        ∙ holds_set 0 number number x.leaves.items next (lists_in x.rows.items) (lists_in rows.items) (omega arith) only.others
-
-    held : slice_get (holds_in x) number ≡ Some (hold_of one (column number (lists_in x.rows.items)))
-    held = holds_at 0 number number x.leaves.items one (lists_in x.rows.items) (omega arith) at
+        ap (λ (ls : List (Option (OneLeaf B))). holds_from 0 x.tables.now ls (lists_in rows.items)) now
+        ∙ holds_set 0 number number x.tables.now x.leaves.items (Some next) (lists_in x.rows.items) (lists_in rows.items) (omega arith) only.others
 
     -- a deed of that leaf
     pub acts_at : {E : Type 0} (meaning : B → Meaning) (deed : Deed) (result : Result (Vec Line Global) E)
@@ -103,32 +145,45 @@ module _ {B : Type 0} where
     acts_at meaning deed result acts time = record {
       piece = acts.piece;
       prints = (noted_all acts.step.notes, acts.step.ends, acts.step.piece_is);
-      goes = one_act meaning x.names (holds_in x) (holds_in (with_parts x leaves rows)) number deed (hold_of one (column number (lists_in x.rows.items)))
-          (hold_of next (column number (lists_in rows.items))) result held holds_then acts time;
+      goes = one_act meaning x.names (holds_in x) (holds_in (with_parts x leaves rows)) number deed (hold_at number x.tables.now (lists_in x.rows.items) (Some one))
+          (state_of one) (state_of next) (berth_of one) (berth_of next) (column number (lists_in rows.items)) result
+          (holds_at 0 number number x.tables.now x.leaves.items (Some one) (lists_in x.rows.items) (omega arith) at) refl holds_then
+          (seats_still number (lists_in x.rows.items) (lists_in rows.items) only.lengths) acts time;
     }
 
   -- a call of a leaf's table
-  module _ (x : Members B) (number : ℕ) (one : OneLeaf B) (rows : Vec (Vec SeatView Global) Global) (are : AreMembers x)
-      (at : slice_get x.leaves.items number ≡ Some one) (only : OnlyColumn number (lists_in x.rows.items) (lists_in rows.items)) where
-    same_leaves : x.leaves.items ≡ slice_set x.leaves.items number one
-    same_leaves = sym (set_same x.leaves.items number one at)
+  module _ (x : Members B) (number : ℕ) (rows : Vec (Vec SeatView Global) Global) (are : AreMembers x) (within : number < leaf_count (fleet_in x))
+      (only : OnlyColumn number (lists_in x.rows.items) (lists_in rows.items)) where
+    there : (o : Option (OneLeaf B)) × (slice_get x.leaves.items number ≡ Some o)
+    there = element_at x.leaves.items number (omega (arith, within, are.leaves))
+
+    called_then : holds_in (with_parts x x.leaves rows) ≡ slice_set (holds_in x) number (with_callers (hold_at number x.tables.now (lists_in x.rows.items) there.0) (column number (lists_in rows.items)))
+    called_then =
+        ap (λ (ls : List (Option (OneLeaf B))). holds_from 0 x.tables.now ls (lists_in rows.items)) (sym (set_same x.leaves.items number there.0 there.1))
+        ∙ holds_set 0 number number x.tables.now x.leaves.items there.0 (lists_in x.rows.items) (lists_in rows.items) (omega arith) only.others
 
     pub members_called : IsColumn number (row x.tables.now number) (lists_in rows.items) → AreMembers (with_parts x x.leaves rows)
-    members_called column =
-        let is = are.each number one at in
-        members_then x number one one x.leaves rows are at same_leaves only
-        (member_column x.names number (seats_of one) (lists_in x.rows.items) (lists_in rows.items) is.member (subst (λ (ts : List Shared). IsColumn number ts (lists_in rows.items)) (sym is.tables) column)) refl
+    members_called column = record {
+      named = are.named;
+      few = are.few;
+      leaves = are.leaves;
+      tables = are.tables;
+      rows = only_rows number (length x.names) (leaf_count (fleet_in x)) (lists_in x.rows.items) (lists_in rows.items) only are.rows;
+      names = are.names;
+      columns = columns_then x number (lists_in rows.items) are only column;
+      each = λ leaf z at. let was = are.each leaf z at in record { names = was.names; tables = was.tables; seats = was.seats };
+    }
 
     pub calls_at : {E : Type 0} (meaning : B → Meaning) (table : ℕ) (r : Request) (result : Result (Vec Line Global) E)
         → CallsWith x.names number table (call_of r) (row x.tables.now number) (column number (lists_in x.rows.items)) result (column number (lists_in rows.items))
         → CallsAt meaning number table r x result (with_parts x x.leaves rows)
     calls_at meaning table r result calls =
-        let was : Hold B = hold_of one (column number (lists_in x.rows.items)) in
+        let was : Hold B = hold_at number x.tables.now (lists_in x.rows.items) there.0 in
         let callers = column number (lists_in rows.items) in
-        let here = subst (λ (ts : List Shared). CallsWith x.names number table (call_of r) ts (column number (lists_in x.rows.items)) result callers) (sym (are.each number one at).tables) calls in
         record {
-          piece = here.piece;
-          prints = call_prints number table (seats_of one).tables (column number (lists_in x.rows.items)) here.piece callers r here.step;
+          piece = calls.piece;
+          prints = call_prints number table (row x.tables.now number) (column number (lists_in x.rows.items)) calls.piece callers r calls.step;
           goes = one_called meaning x.names (holds_in x) (holds_in (with_parts x x.leaves rows)) number table (call_of r) was callers result
-              (held x number one one x.leaves rows are at same_leaves only) (holds_then x number one one x.leaves rows are at same_leaves only) here;
+              (holds_at 0 number number x.tables.now x.leaves.items there.0 (lists_in x.rows.items) (omega arith) there.1) called_then
+              (seats_still number (lists_in x.rows.items) (lists_in rows.items) only.lengths) calls;
         }

@@ -13,9 +13,10 @@ use Rattle.transcript.specs.Pieces.{Fleet, lines_in}
 use Rattle.transcript.specs.Holds.{Hold}
 use Rattle.player.specs.declared.call.Request.TheVariants as request
 use Rattle.player.specs.declared.members.Members.{Members}
-use Rattle.player.specs.Crew.{PlaysWith}
+use Rattle.player.specs.Crew.{AllPass, PlaysWith, StillHas}
 use Rattle.player.specs.Members.{fleet_in, holds_in}
 use Rattle.player.specs.Commands.{AsksAll, CallsAt}
+use Rattle.player.proofs.Chains.{still_none, time_none}
 
 module _ {B E : Type 0} (meaning : B → Meaning) (x y : Members B) (result : Result (Vec Line Global) E) where
   pub expire_plays : (leaf table : ℕ) (horizon : ℤ) → CallsAt meaning leaf table (request.Expire horizon) x result y
@@ -41,6 +42,15 @@ module _ {B E : Type 0} (meaning : B → Meaning) (x y : Members B) (result : Re
       → PlaysWith meaning (fleet_in x) c (holds_in x) result (holds_in y) ⊎ (IsErr result × (holds_in y ≡ holds_in x))
   query_or_none q c is asks =
       ⊎_elim (λ h. inl (subst (λ (d : Command). PlaysWith meaning (fleet_in x) d (holds_in x) result (holds_in y)) (sym is) (query_plays q h))) (λ h. inr h) asks
+
+-- a query leaves what is held
+pub query_still : {B E : Type 0} (meaning : B → Meaning) (q : Query) (x y : Members B) (result : Result (Vec Line Global) E) → AsksAll meaning q x result y ⊎ (IsErr result × (holds_in y ≡ holds_in x))
+    → StillHas (holds_in x) (holds_in y)
+query_still meaning q x y result asks = ⊎_elim (λ h. h.goes.still) (λ h. subst (StillHas (holds_in x)) (sym h.1) (still_none meaning (holds_in x))) asks
+
+pub query_time : {B E : Type 0} (meaning : B → Meaning) (q : Query) (x y : Members B) (result : Result (Vec Line Global) E) → AsksAll meaning q x result y ⊎ (IsErr result × (holds_in y ≡ holds_in x))
+    → AllPass meaning (holds_in x) (holds_in y)
+query_time meaning q x y result asks = ⊎_elim (λ h. h.goes.time) (λ h. subst (AllPass meaning (holds_in x)) (sym h.1) (time_none meaning (holds_in x))) asks
 
 never : false ≡ true → ⊥
 never same = cc

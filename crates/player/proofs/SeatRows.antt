@@ -1,47 +1,38 @@
 -- The seat of one leaf's column, as it is read of its row and changed there.
-use Rattle.std.proofs.Common.{◌≡◌, ℕ, zero, suc, ◌<◌, List, [], ◌∷◌, length, Some, refl, sym, ap, subst, ◌∙◌, arith, Vec, Global}
+use Rattle.std.proofs.Common.{◌≡◌, ◌≢◌, ◌⊎◌, inl, inr, ◌==◌, Bool, true, false, ℕ, ◌<◌, List, [], length, map, Option, Some, None, refl, sym, ap, subst, ◌∙◌, arith, Vec, Global}
 use Rattle.std.specs.Prelude.{slice_get, slice_set, slice_index_or, vec_len}
 use Rattle.std.specs.Vec.{with_item}
+use Rattle.std.proofs.lemmas.Bool.{cases_eq, eq-eqb, ne_eqb}
+use Rattle.std.proofs.lemmas.Option.{slice_get_within}
 use Rattle.leaf_table.specs.Turns.{Shared}
-use Rattle.leaf_table.specs.Calls.{SeatView}
-use Rattle.leaf_table.specs.Lists.{lists_in}
+use Rattle.leaf_table.specs.Calls.{SeatView, name_of}
+use Rattle.leaf_table.specs.Lists.{lists_in, row}
 use Rattle.leaf_steward.specs.Seated.{Seated}
 use Rattle.player.specs.Crew.{column}
-use Rattle.player.specs.Rows.{AreCalled, IsColumn, MayMeet, OnlyColumn, with_place}
-use Rattle.player.specs.Stage.{KeepsSeats}
+use Rattle.player.specs.Rows.{AreCalled, HasSeat, IsColumn, MayMeet, OnlyColumn, with_place}
+use Rattle.player.specs.Stage.{IsMember, KeepsSeats}
 use Rattle.player.proofs.Calling.{stands_at}
-use Rattle.player.proofs.Columns.{column_get, column_with, lists_count, lists_with, only_with, row_is, wide_of}
-
-same_some : {A : Type 0} (x y : A) → Some x ≡ Some y → x ≡ y
-same_some x y e = cc
-
--- what stands in a place is what is read of it
-read_of : {A : Type 0} (xs : List A) (i : ℕ) (x : A) → slice_get xs i ≡ Some x → x ≡ slice_index_or xs i x
-read_of [] i x at = refl
-read_of (y ∷ ys) zero x at = sym (same_some y x at)
-read_of (y ∷ ys) (suc i) x at = read_of ys i x at
+use Rattle.player.proofs.Columns.{column_get, column_with, element_at, empty_of, lists_count, lists_with, only_rows, only_with, row_is}
 
 module _ (leaf : ℕ) (tables : List Shared) (rows : List (Vec SeatView Global)) (table : ℕ) (v : Vec SeatView Global)
-    (is : IsColumn leaf tables (lists_in rows)) (within : table < length tables) (read : v ≡ slice_index_or rows table v) where
+    (is : IsColumn leaf tables (lists_in rows)) (within : table < length tables) (has : HasSeat leaf table (lists_in rows)) (read : v ≡ slice_index_or rows table v) where
   low : table < length rows
   low = omega (arith, lists_count rows, is.sizes.count, within)
 
-  row_size : length v.items ≡ is.size
-  row_size = ap (λ (xs : List SeatView). length xs) (row_is rows table v low read) ∙ is.sizes.each table within
+  row_there : slice_get v.items leaf ≡ Some has.0
+  row_there = ap (λ (xs : List SeatView). slice_get xs leaf) (row_is rows table v low read) ∙ has.1
 
   -- the row has a seat at the leaf
   pub row_wide : leaf < vec_len v
-  row_wide = omega (arith, v.ok.0, row_size, is.within)
+  row_wide = omega (arith, v.ok.0, slice_get_within v.items leaf has.0 row_there)
 
   module _ (c : SeatView) (seat : c ≡ slice_index_or v.items leaf c) where
-    pub there : slice_get (column leaf (lists_in rows)) table ≡ Some c
-    there =
-        column_get leaf (lists_in rows) (wide_of (lists_in rows) (length tables) is.size leaf is.sizes is.within) table
-        ∙ subst (λ (xs : List SeatView). slice_get xs leaf ≡ Some c) (row_is rows table v low read) (stands_at v.items leaf c (omega (arith, row_size, is.within)) seat)
-
     -- and that is the column's
-    pub read_column : c ≡ slice_index_or (column leaf (lists_in rows)) table c
-    read_column = read_of (column leaf (lists_in rows)) table c there
+    pub there : slice_get (column leaf (lists_in rows)) table ≡ Some (Some c)
+    there =
+        column_get leaf (lists_in rows) table (omega (arith, low, lists_count rows))
+        ∙ ap (λ (o : Option SeatView). Some o)
+        (subst (λ (xs : List SeatView). slice_get xs leaf ≡ Some c) (row_is rows table v low read) (stands_at v.items leaf c (slice_get_within v.items leaf has.0 row_there) seat))
 
   -- the seat has become another
   module _ (w : SeatView) where
@@ -51,20 +42,59 @@ module _ (leaf : ℕ) (tables : List Shared) (rows : List (Vec SeatView Global))
     pub rows_are : lists_in rows_then ≡ with_place (lists_in rows) table leaf w
     rows_are = lists_with rows table v low read (with_item v leaf w) leaf w refl
 
-    pub column_then : column leaf (lists_in rows_then) ≡ slice_set (column leaf (lists_in rows)) table w
-    column_then = ap (column leaf) rows_are ∙ column_with (lists_in rows) (length tables) is.size leaf table is.sizes is.within within w
+    pub column_then : column leaf (lists_in rows_then) ≡ slice_set (column leaf (lists_in rows)) table (Some w)
+    column_then = ap (column leaf) rows_are ∙ column_with (lists_in rows) leaf table has w
 
     pub only_then : OnlyColumn leaf (lists_in rows) (lists_in rows_then)
-    only_then = subst (OnlyColumn leaf (lists_in rows)) (sym rows_are) (only_with (lists_in rows) (length tables) is.size leaf table is.sizes is.within within w)
+    only_then = subst (OnlyColumn leaf (lists_in rows)) (sym rows_are) (only_with (lists_in rows) leaf table has w)
 
-    pub is_then : AreCalled (record { tables = tables; seats = slice_set (column leaf (lists_in rows)) table w }) → IsColumn leaf tables (lists_in rows_then)
+    pub is_then : AreCalled (record { tables = tables; seats = slice_set (column leaf (lists_in rows)) table (Some w) }) → IsColumn leaf tables (lists_in rows_then)
     is_then called = record {
       size = is.size;
-      sizes = only_then.sizes (length tables) is.size is.sizes;
+      sizes = only_rows leaf (length tables) is.size (lists_in rows) (lists_in rows_then) only_then is.sizes;
       within = is.within;
       few = is.few;
-      called = subst (λ (seats : List SeatView). AreCalled (record { tables = tables; seats = seats })) (sym column_then) called;
+      called = subst (λ (seats : List (Option SeatView)). AreCalled (record { tables = tables; seats = seats })) (sym column_then) called;
     }
+
+-- ---- rows with a seat, and without
+
+positive_of : (n : ℕ) → (n == 0) ≡ false → 0 < n
+positive_of n is = by (cases_eq n 0)
+  where
+    by : (n ≡ 0) ⊎ (n ≢ 0) → 0 < n
+    by (inl same) = let clash : true ≡ false = sym (eq-eqb n 0 same) ∙ is in absurd (cc)
+    by (inr apart) = omega (arith, apart)
+
+zero_of : (n : ℕ) → (n == 0) ≡ true → n ≡ 0
+zero_of n is = by (cases_eq n 0)
+  where
+    by : (n ≡ 0) ⊎ (n ≢ 0) → n ≡ 0
+    by (inl same) = same
+    by (inr apart) = let clash : false ≡ true = sym (ne_eqb n 0 apart) ∙ is in absurd (cc)
+
+module _ (leaf : ℕ) (tables : List Shared) (rows : List (Vec SeatView Global)) (table : ℕ) (v : Vec SeatView Global)
+    (is : IsColumn leaf tables (lists_in rows)) (within : table < length tables) (read : v ≡ slice_index_or rows table v) (b : Bool) (empty : b ≡ (vec_len v == 0)) where
+  abbrev the_row : List SeatView
+  the_row = row (lists_in rows) table
+
+  row_are : v.items ≡ the_row
+  row_are = row_is rows table v (omega (arith, lists_count rows, is.sizes.count, within)) read
+
+  row_count : length the_row ≡ vec_len v
+  row_count = omega (arith, v.ok.0, ap (λ (xs : List SeatView). length xs) row_are)
+
+  pub seat_there : b ≡ false → HasSeat leaf table (lists_in rows)
+  seat_there some = by (is.sizes.each table within)
+    where
+      by : (the_row ≡ []) ⊎ (length the_row ≡ is.size) → HasSeat leaf table (lists_in rows)
+      by (inl none) = absurd (omega (arith, positive_of (vec_len v) (sym empty ∙ some), row_count, ap (λ (xs : List SeatView). length xs) none))
+      by (inr all) = element_at the_row leaf (omega (arith, all, is.within))
+
+  pub seat_none : b ≡ true → slice_get (column leaf (lists_in rows)) table ≡ Some None
+  seat_none none =
+      column_get leaf (lists_in rows) table (omega (arith, is.sizes.count, within))
+      ∙ ap (λ (xs : List SeatView). Some (slice_get xs leaf)) (empty_of the_row (omega (arith, zero_of (vec_len v) (sym empty ∙ none), row_count)))
 
 -- ---- a leaf whose seats stay at their tables
 
@@ -72,4 +102,13 @@ pub may_keep : (leaf : ℕ) (x y : Seated) (rows : List (List SeatView)) → Kee
 may_keep leaf x y rows keeps may = record {
   column = subst (λ (ts : List Shared). IsColumn leaf ts rows) (sym keeps.tables) may.column;
   seats = keeps.seats ∙ may.seats ∙ ap (λ (ts : List Shared). length ts) (sym keeps.tables);
+}
+
+pub member_keeps : (names : List (List ℕ)) (leaf : ℕ) (x y : Seated) (rows rows' : List (List SeatView)) → IsMember names leaf x rows → KeepsSeats x y → MayMeet leaf y rows' → IsMember names leaf y rows'
+member_keeps names leaf x y rows rows' is keeps may = record {
+  named = is.named;
+  same = keeps.names ∙ is.same;
+  names_are = ap (λ (ts : List Shared). map name_of ts) keeps.tables ∙ is.names_are;
+  seats = keeps.seats ∙ is.seats;
+  may = may;
 }

@@ -1,5 +1,5 @@
 -- Leaves that begin.
-use Rattle.std.specs.Prelude.{◌≡◌, ℕ, List, length, map, slice_get, Some}
+use Rattle.std.specs.Prelude.{◌≡◌, ℕ, List, length, map, slice_get, Option, Some}
 use Rattle.berth_face.specs.Berth.{Meaning}
 use Rattle.region_layout.specs.Names.{AreNames}
 use Rattle.crash_moments.specs.Left.{NamedStates}
@@ -18,8 +18,8 @@ abbrev pub BeginsWith : NamedStates → Seated → Type 0
 BeginsWith states x = AtEach (λ place t v. start_of (base_seen t) ≡ states (name_of t)) x
 
 -- a leaf with such seats that is down over that berth
-pub record IsBegun {B : Type 0} (meaning : B → Meaning) (x : Seated) (b : B) (leaf : OneLeaf B) : Type 0 where
-  pub is : leaf ≡ one.Down (x, b)
+pub record IsBegun {B : Type 0} (meaning : B → Meaning) (x : Seated) (b : B) (leaf : Option (OneLeaf B)) : Type 0 where
+  pub is : leaf ≡ Some (one.Down (x, b))
   pub stands : (states : NamedStates) → AreFounded x → MayBegin states (meaning b) → BeginsWith states x → Stands states (IsDown x) (meaning b)
 
 -- a leaf of that number may begin over its berth, with its tables and its steward's new seats at them
@@ -32,6 +32,6 @@ pub record IsReady {B : Type 0} (meaning : B → Meaning) (names : List (List �
   pub ready : (b : B) → slice_get berths leaf ≡ Some b → AreFounded (seated_at names tables stewards leaf) → (states : NamedStates) × MayBegin states (meaning b) × BeginsWith states (seated_at names tables stewards leaf)
 
 -- the first so many leaves have begun, each over its berth
-pub record AreBegun {B : Type 0} (meaning : B → Meaning) (names : List (List ℕ)) (tables : List (List Shared)) (stewards : List (List SeatView)) (berths : List B) (count : ℕ) (leaves : List (OneLeaf B)) : Type 0 where
+pub record AreBegun {B : Type 0} (meaning : B → Meaning) (names : List (List ℕ)) (tables : List (List Shared)) (stewards : List (List SeatView)) (berths : List B) (count : ℕ) (leaves : List (Option (OneLeaf B))) : Type 0 where
   pub length_is : length leaves ≡ count
-  pub each : (leaf : ℕ) (x : OneLeaf B) → slice_get leaves leaf ≡ Some x → (b : B) × (slice_get berths leaf ≡ Some b) × IsBegun meaning (seated_at names tables stewards leaf) b x
+  pub each : (leaf : ℕ) (x : Option (OneLeaf B)) → slice_get leaves leaf ≡ Some x → (b : B) × (slice_get berths leaf ≡ Some b) × IsBegun meaning (seated_at names tables stewards leaf) b x

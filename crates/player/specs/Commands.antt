@@ -66,8 +66,8 @@ pub record Does {E : Type 0} (number : ℕ) (deed : Deed) (m m' : Meaning) (leaf
   pub told : IfOk lines (λ lines. AreEnded number (verb_of deed) notes ends lines.items)
 
 -- the same between two meetings of all seats, with its piece
-pub record ActsWith {B E : Type 0} (meaning : B → Meaning) (names : List (List ℕ)) (number : ℕ) (deed : Deed) (leaf : Leaf) (callers : List SeatView) (b : B)
-    (result : Result (Vec Line Global) E) (leaf' : Leaf) (callers' : List SeatView) (b' : B) : Type 0 where
+pub record ActsWith {B E : Type 0} (meaning : B → Meaning) (names : List (List ℕ)) (number : ℕ) (deed : Deed) (leaf : Leaf) (callers : List (Option SeatView)) (b : B)
+    (result : Result (Vec Line Global) E) (leaf' : Leaf) (callers' : List (Option SeatView)) (b' : B) : Type 0 where
   pub piece : Piece
   pub step : DeedStep number deed (meaning b) (meaning b') leaf callers piece leaf' callers'
   pub counted : IsCounted number (piece ∷ []) (meaning b) (meaning b')

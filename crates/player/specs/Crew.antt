@@ -1,30 +1,32 @@
--- A crew over the leaves of a fleet, as its callers see it.
-use Rattle.std.specs.Prelude.{◌≡◌, ℕ, suc, List, [], ◌∷◌, length, slice_get, Some, Result, Vec, IfOk, option_to_list}
+-- A crew over the leaves of a fleet, as its callers see it: that of the run, or of a lane.
+use Rattle.std.specs.Prelude.{◌≡◌, ◌⊎◌, ℕ, suc, ◌<◌, ◌≤◌, true, false, Bool, List, [], ◌∷◌, length, map, slice_get, slice_index_or, Option, Some, None, Result, Vec, IfOk, is_some, ⊤}
 use Rattle.std.specs.Global.{Global}
-use Rattle.std.specs.List.{AllByRecursion, flat_map}
+use Rattle.std.specs.List.{AllByRecursion}
 use Rattle.berth_face.specs.Berth.{Meaning, Passes}
 use Rattle.leaf_table.specs.Turns.{Shared}
 use Rattle.leaf_table.specs.Calls.{SeatView}
 use Rattle.leaf_table.specs.Lists.{row}
 use Rattle.leaf_steward.specs.Seated.{Seated}
 use Rattle.script_text.specs.declared.command.Command.{Command}
+use Rattle.script_text.specs.declared.command.Command.TheVariants as command
 use Rattle.printed_lines.specs.declared.line.Line.{Line}
+use Rattle.printed_lines.specs.declared.line.Ending.{Ending}
 use Rattle.printed_lines.specs.Lines.{IsOf}
-use Rattle.transcript.specs.Pieces.{Fleet, Piece, lines_in}
-use Rattle.transcript.specs.Counts.{IsCounted}
-use Rattle.transcript.specs.Holds.{Hold}
-use Rattle.transcript.specs.Stage.{IsDown}
+use Rattle.transcript.specs.Pieces.{Deed, Fleet, Piece, lines_in, place_of}
+use Rattle.transcript.specs.Counts.{IsCounted, deeds_in}
+use Rattle.transcript.specs.Holds.{Hold, caller_in}
+use Rattle.transcript.specs.Stage.{Leaf, IsDown}
 use Rattle.transcript.specs.Steps.{Plays}
 
--- the fleet, the tables of each leaf, and each leaf with its callers' seats and its berth
+-- the fleet, the tables of each leaf, and what is held of each leaf
 pub record CrewState (B : Type 0) : Type 0 where
   pub fleet : Fleet
   pub tables : List (List Shared)
   pub holds : List (Hold B)
 
--- the seats at that leaf, of rows that have for each table a seat at each leaf
-abbrev pub column : {A : Type 0} → ℕ → List (List A) → List A
-column leaf rows = flat_map (λ row. option_to_list (slice_get row leaf)) rows
+-- the seats at that leaf, of rows that have for each table a seat at each leaf, or none at all
+abbrev pub column : {A : Type 0} → ℕ → List (List A) → List (Option A)
+column leaf rows = map (λ row. slice_get row leaf) rows
 
 -- that leaf's tables, and its steward's seats at them
 abbrev pub seated_at : List (List ℕ) → List (List Shared) → List (List SeatView) → ℕ → Seated
@@ -34,17 +36,99 @@ seated_at names tables stewards leaf = record { names = names; tables = row tabl
 abbrev pub new_holds : {B : Type 0} → ℕ → List (List ℕ) → List (List Shared) → List (List SeatView) → List (List SeatView) → List B → List (Hold B)
 new_holds leaf names tables stewards callers [] = []
 new_holds leaf names tables stewards callers (b ∷ berths) =
-    record { leaf = IsDown (seated_at names tables stewards leaf); callers = column leaf callers; berth = b } ∷ new_holds (suc leaf) names tables stewards callers berths
+    record { tables = row tables leaf; callers = column leaf callers; held = Some (IsDown (seated_at names tables stewards leaf), b) } ∷ new_holds (suc leaf) names tables stewards callers berths
 
--- time passed for the berth of each leaf
+-- the berth of a leaf that is held
+abbrev pub berth_in : {B : Type 0} → Hold B → Option B
+berth_in {B} x = by x.held
+  where
+    by : Option (Leaf × B) → Option B
+    by None = None
+    by (Some l) = Some l.1
+
+-- ---- what is held
+
+-- a seat of callers at that table of each leaf
+abbrev pub HasSeats : {B : Type 0} → List (Hold B) → ℕ → Type 0
+HasSeats {B} xs table = (leaf : ℕ) (x : Hold B) → slice_get xs leaf ≡ Some x → is_some (caller_in x.callers table) ≡ true
+
+-- that leaf
+abbrev pub HasLeaf : {B : Type 0} → List (Hold B) → ℕ → Type 0
+HasLeaf {B} xs leaf = (x : Hold B) → slice_get xs leaf ≡ Some x → is_some x.held ≡ true
+
+-- what a command needs
+abbrev pub HasFor : {B : Type 0} → Fleet → List (Hold B) → Command → Type 0
+HasFor fleet xs (command.Fleet machines per_machine tables) = (leaf : ℕ) → HasLeaf xs leaf
+HasFor fleet xs (command.Add leaf table rows) = HasSeats xs table
+HasFor fleet xs (command.Expire leaf table horizon) = HasSeats xs table
+HasFor fleet xs (command.Keep leaf table n) = HasSeats xs table
+HasFor fleet xs (command.Query q) = HasSeats xs (place_of q.table fleet.names)
+HasFor fleet xs (command.Flush leaf table) = HasLeaf xs leaf
+HasFor fleet xs (command.Drain leaf stop) = HasLeaf xs leaf
+HasFor fleet xs (command.Kill leaf) = HasLeaf xs leaf
+HasFor fleet xs (command.Start leaf) = HasLeaf xs leaf
+
+-- all of it, as the run has between two items
+pub record HasAll {B : Type 0} (fleet : Fleet) (xs : List (Hold B)) : Type 0 where
+  pub leaves : (leaf : ℕ) → HasLeaf xs leaf
+  pub seats : (table : ℕ) → table < length fleet.names → HasSeats xs table
+
+-- the same is held
+pub record StillHas {B : Type 0} (xs ys : List (Hold B)) : Type 0 where
+  pub count : length ys ≡ length xs
+  pub each : (leaf : ℕ) (x y : Hold B) → slice_get xs leaf ≡ Some x → slice_get ys leaf ≡ Some y
+      → (is_some y.held ≡ is_some x.held) × ((table : ℕ) → is_some (caller_in y.callers table) ≡ is_some (caller_in x.callers table))
+
+-- callers' seats stand at the same tables
+pub record SameSeats {B : Type 0} (xs ys : List (Hold B)) : Type 0 where
+  pub count : length ys ≡ length xs
+  pub each : (leaf : ℕ) (x y : Hold B) → slice_get xs leaf ≡ Some x → slice_get ys leaf ≡ Some y → (table : ℕ) → is_some (caller_in y.callers table) ≡ is_some (caller_in x.callers table)
+
+-- ---- what a command does
+
+abbrev pub PassesIf : {B : Type 0} → (B → Meaning) → Option (Leaf × B) → Option (Leaf × B) → Type 0
+PassesIf meaning (Some x) (Some y) = Passes (meaning x.1) (meaning y.1)
+PassesIf meaning None None = ⊤
+PassesIf meaning (Some x) None = ⊥
+PassesIf meaning None (Some y) = ⊥
+
+-- time passed for the berth of each leaf that is held
 pub record AllPass {B : Type 0} (meaning : B → Meaning) (xs ys : List (Hold B)) : Type 0 where
   pub count : length ys ≡ length xs
-  pub each : (leaf : ℕ) (x y : Hold B) → slice_get xs leaf ≡ Some x → slice_get ys leaf ≡ Some y → Passes (meaning x.berth) (meaning y.berth)
+  pub each : (leaf : ℕ) (x y : Hold B) → slice_get xs leaf ≡ Some x → slice_get ys leaf ≡ Some y → PassesIf meaning x.held y.held
+
+-- a leaf's berth counted what these pieces tell; of a leaf that is not held they tell no deed
+abbrev pub CountedIf : {B : Type 0} → (B → Meaning) → ℕ → List Piece → Option (Leaf × B) → Option (Leaf × B) → Type 0
+CountedIf meaning leaf pieces (Some x) (Some y) = IsCounted leaf pieces (meaning x.1) (meaning y.1)
+CountedIf meaning leaf pieces None None = (test : Deed → Ending → Bool) → deeds_in test leaf pieces ≡ 0
+CountedIf meaning leaf pieces (Some x) None = ⊥
+CountedIf meaning leaf pieces None (Some y) = ⊥
+
+pub record AllCounted {B : Type 0} (meaning : B → Meaning) (pieces : List Piece) (xs ys : List (Hold B)) : Type 0 where
+  pub count : length ys ≡ length xs
+  pub each : (leaf : ℕ) (x y : Hold B) → slice_get xs leaf ≡ Some x → slice_get ys leaf ≡ Some y → CountedIf meaning leaf pieces x.held y.held
 
 -- what a command did, with its pieces, also where there was no memory for their lines
 pub record PlaysWith {B E : Type 0} (meaning : B → Meaning) (fleet : Fleet) (c : Command) (xs : List (Hold B)) (result : Result (Vec Line Global) E) (ys : List (Hold B)) : Type 0 where
   pub pieces : List Piece
   pub plays : Plays meaning fleet c xs pieces ys
-  pub counted : (leaf : ℕ) (x y : Hold B) → slice_get xs leaf ≡ Some x → slice_get ys leaf ≡ Some y → IsCounted leaf pieces (meaning x.berth) (meaning y.berth)
+  pub counted : AllCounted meaning pieces xs ys
   pub fit : AllByRecursion (IsOf fleet.names) (lines_in pieces)
   pub lines_are : IfOk result (λ lines. lines.items ≡ lines_in pieces)
+
+-- ---- what is lent to a lane
+
+-- the test of a place in a list
+abbrev pub is_set : List Bool → ℕ → Bool
+is_set marks place = slice_index_or marks place false
+
+-- a seat at that table, at each leaf where there is one, has so many ids of its own at least
+abbrev pub Spares : {B : Type 0} → List (Hold B) → ℕ → ℕ → Type 0
+Spares {B} xs table n = (leaf : ℕ) (x : Hold B) (c : SeatView) → slice_get xs leaf ≡ Some x → caller_in x.callers table ≡ Some c → n ≤ c.share
+
+-- both are of one fleet, and no leaf is held by both
+pub record MayTakeBack {B : Type 0} (rest off : CrewState B) : Type 0 where
+  pub fleet : off.fleet ≡ rest.fleet
+  pub tables : off.tables ≡ rest.tables
+  pub leaves : (leaf : ℕ) (x y : Hold B) → slice_get rest.holds leaf ≡ Some x → slice_get off.holds leaf ≡ Some y → (x.held ≡ None) ⊎ (y.held ≡ None)
+  pub seats : (table : ℕ) → table < length rest.fleet.names → HasSeats rest.holds table

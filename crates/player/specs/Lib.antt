@@ -7,3 +7,5 @@ pub mod Moves
 pub mod Members
 pub mod Commands
 pub mod Beginning
+pub mod Lending
+pub mod Returning

@@ -1,5 +1,5 @@
 -- The lines of calls and of a steward's deeds, and the pieces that they are of.
-use Rattle.std.specs.Prelude.{◌≡◌, ℕ, Bool, List, [], ◌∷◌, ◌++◌, map, Result, Ok, Err, Vec, IfOk, ⊤}
+use Rattle.std.specs.Prelude.{◌≡◌, ℕ, Bool, List, [], ◌∷◌, ◌++◌, map, Option, Result, Ok, Err, Vec, IfOk, ⊤}
 use Rattle.std.specs.Global.{Global}
 use Rattle.std.specs.List.{AllByRecursion}
 use Rattle.leaf_history.specs.Calls.{Call}
@@ -31,7 +31,7 @@ reply_line leaf table (told.NoMemory number) = line.Entry leaf table number said
 reply_line leaf table told.Worn = line.Worn leaf table
 
 -- what a caller's call did, with its piece, also where there was no memory for its line
-pub record CallsWith {E : Type 0} (names : List (List ℕ)) (leaf table : ℕ) (c : Call) (tables : List Shared) (callers : List SeatView) (result : Result (Vec Line Global) E) (callers' : List SeatView) : Type 0 where
+pub record CallsWith {E : Type 0} (names : List (List ℕ)) (leaf table : ℕ) (c : Call) (tables : List Shared) (callers : List (Option SeatView)) (result : Result (Vec Line Global) E) (callers' : List (Option SeatView)) : Type 0 where
   pub piece : Piece
   pub step : CallStep leaf table c tables callers piece callers'
   pub calm : (test : Deed → Ending → Bool) (number : ℕ) → deeds_in test number (piece ∷ []) ≡ 0

@@ -24,7 +24,7 @@ use Rattle.printed_lines.specs.declared.line.Ending.TheVariants as ending
 use Rattle.printed_lines.specs.declared.line.Line.{Line}
 use Rattle.transcript.specs.Life.{IsCopyLength, MayMake}
 use Rattle.transcript.specs.Stage as stage
-use Rattle.transcript.specs.Stage.{Leaf, IsDown, IsPreparing, Stands, Carries, Meets, seated_of, with_seats}
+use Rattle.transcript.specs.Stage.{Leaf, IsDown, IsPreparing, Stands, Carries, MeetsIf, seated_of, with_seats}
 use Rattle.transcript.specs.Steps as step
 use Rattle.transcript.specs.Steps.{Part, MakesSteps, DrainMoves}
 use Rattle.player.specs.declared.drain.Shut.{Shut}
@@ -58,27 +58,27 @@ FaultRose (ending.Started way) m m' = ⊤
 
 -- ---- meetings
 
--- the two seats at the table in that place met, and no other
-pub record MeetsAt (table : ℕ) (leaf : Leaf) (callers : List SeatView) (leaf' : Leaf) (callers' : List SeatView) : Type 0 where
+-- the steward's seat at the table in that place and the callers', where there is one, met, and no other
+pub record MeetsAt (table : ℕ) (leaf : Leaf) (callers : List (Option SeatView)) (leaf' : Leaf) (callers' : List (Option SeatView)) : Type 0 where
   pub steward : SeatView
-  pub caller : SeatView
+  pub caller : Option SeatView
   pub steward_then : SeatView
-  pub caller_then : SeatView
+  pub caller_then : Option SeatView
   pub was : slice_get (seated_of leaf).seats table ≡ Some steward
   pub was_caller : slice_get callers table ≡ Some caller
-  pub meets : Meets steward caller steward_then caller_then
+  pub meets : MeetsIf steward caller steward_then caller_then
   pub leaf_is : leaf' ≡ with_seats leaf (slice_set (seated_of leaf).seats table steward_then)
   pub callers_are : callers' ≡ slice_set callers table caller_then
 
 -- the first k of the steward's seats and of the callers' have met
-pub record MeetFirst (k : ℕ) (leaf : Leaf) (callers : List SeatView) (leaf' : Leaf) (callers' : List SeatView) (m : Meaning) : Type 0 where
+pub record MeetFirst (k : ℕ) (leaf : Leaf) (callers : List (Option SeatView)) (leaf' : Leaf) (callers' : List (Option SeatView)) (m : Meaning) : Type 0 where
   pub seats : List SeatView
   pub leaf_is : leaf' ≡ with_seats leaf seats
   pub count : (length seats ≡ length (seated_of leaf).seats) × (length callers' ≡ length callers)
-  pub met : (place : ℕ) (v c v' c' : SeatView) → place < k
+  pub met : (place : ℕ) (v v' : SeatView) (c c' : Option SeatView) → place < k
       → slice_get (seated_of leaf).seats place ≡ Some v → slice_get callers place ≡ Some c
       → slice_get seats place ≡ Some v' → slice_get callers' place ≡ Some c'
-      → Meets v c v' c'
+      → MeetsIf v c v' c'
   pub others : (place : ℕ) → k ≤ place → (slice_get seats place ≡ slice_get (seated_of leaf).seats place) × (slice_get callers' place ≡ slice_get callers place)
   pub stands : (base : NamedStates) → IsTrue m.tells → AreFounded (seated_of leaf) → Stands base leaf m → Stands base leaf' m
 

@@ -1,12 +1,12 @@
--- The callers' seats: a row for each table, with a seat at each leaf. Those of one leaf are a column.
-use Rattle.std.specs.Prelude.{◌≡◌, ◌≢◌, ℕ, ◌<◌, ◌≤◌, List, length, slice_get, slice_set, Some}
+-- The callers' seats: for each table a row with a seat at each leaf, or an empty one. Those of one leaf are a column.
+use Rattle.std.specs.Prelude.{◌≡◌, ◌≢◌, ◌⊎◌, ℕ, ◌<◌, ◌≤◌, List, [], length, slice_get, slice_set, Option, Some}
 use Rattle.leaf_history.specs.Calls.{Call}
 use Rattle.leaf_history.specs.History.{LegalFrom}
 use Rattle.turnstile.specs.Seats.{IsSeatOf}
 use Rattle.leaf_table.specs.declared.replies.Reply.{Reply}
 use Rattle.leaf_table.specs.Turns.{Shared, is_founded, start_of}
 use Rattle.leaf_table.specs.Calls.{SeatView, Answered, IsCaller, base_seen, seen_of}
-use Rattle.leaf_table.specs.Lists.{HasRows, row}
+use Rattle.leaf_table.specs.Lists.{place, row}
 use Rattle.leaf_steward.specs.Seated.{Seated}
 use Rattle.player.specs.Crew.{column}
 
@@ -14,17 +14,27 @@ use Rattle.player.specs.Crew.{column}
 abbrev pub with_place : {A : Type 0} → List (List A) → ℕ → ℕ → A → List (List A)
 with_place rows table leaf x = slice_set rows table (slice_set (row rows table) leaf x)
 
+-- n rows, each of this length or empty
+pub record AreRows {A : Type 0} (n size : ℕ) (rows : List (List A)) : Type 0 where
+  pub count : length rows ≡ n
+  pub each : (table : ℕ) → table < n → (row rows table ≡ []) ⊎ (length (row rows table) ≡ size)
+
+-- that table has a seat at that leaf
+abbrev pub HasSeat : ℕ → ℕ → List (List SeatView) → Type 0
+HasSeat leaf table rows = (c : SeatView) × (place rows table leaf ≡ Some c)
+
 -- the rows stay as long, and the seats at the other leaves as they are
 pub record OnlyColumn (leaf : ℕ) (rows rows' : List (List SeatView)) : Type 0 where
-  pub sizes : (count size : ℕ) → HasRows count size rows → HasRows count size rows'
+  pub count : length rows' ≡ length rows
+  pub lengths : (table : ℕ) → length (row rows' table) ≡ length (row rows table)
   pub others : (other : ℕ) → other ≢ leaf → column other rows' ≡ column other rows
 
 -- ---- the seats of one leaf
 
--- the tables, and the callers' seat at each
+-- the tables, and the callers' seat at each, where there is one
 pub record Called : Type 0 where
   pub tables : List Shared
-  pub seats : List SeatView
+  pub seats : List (Option SeatView)
 
 -- those of the leaf with this number
 abbrev pub called_at : ℕ → List Shared → List (List SeatView) → Called
@@ -38,7 +48,7 @@ pub record IsCallersAt (t : Shared) (c : SeatView) : Type 0 where
 
 pub record AreCalled (x : Called) : Type 0 where
   pub count : length x.seats ≡ length x.tables
-  pub each : (place : ℕ) (t : Shared) (c : SeatView) → slice_get x.tables place ≡ Some t → slice_get x.seats place ≡ Some c → IsCallersAt t c
+  pub each : (place : ℕ) (t : Shared) (c : SeatView) → slice_get x.tables place ≡ Some t → slice_get x.seats place ≡ Some (Some c) → IsCallersAt t c
 
 -- a call of the table in that place
 pub record Calls (table : ℕ) (c : Call) (x : Called) (reply : Reply) (y : Called) : Type 0 where
@@ -46,14 +56,14 @@ pub record Calls (table : ℕ) (c : Call) (x : Called) (reply : Reply) (y : Call
   pub before : SeatView
   pub after : SeatView
   pub at : slice_get x.tables table ≡ Some shared
-  pub was : slice_get x.seats table ≡ Some before
+  pub was : slice_get x.seats table ≡ Some (Some before)
   pub answered : Answered (base_seen shared) before c reply after
-  pub now : y ≡ record { tables = x.tables; seats = slice_set x.seats table after }
+  pub now : y ≡ record { tables = x.tables; seats = slice_set x.seats table (Some after) }
 
 -- the callers' seats of the leaf with this number, at tables of its own
 pub record IsColumn (leaf : ℕ) (tables : List Shared) (rows : List (List SeatView)) : Type 0 where
   pub size : ℕ
-  pub sizes : HasRows (length tables) size rows
+  pub sizes : AreRows (length tables) size rows
   pub within : leaf < size
   pub few : length tables ≤ 16
   pub called : AreCalled (called_at leaf tables rows)

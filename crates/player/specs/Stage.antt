@@ -1,12 +1,15 @@
 -- One leaf as a crew holds it.
-use Rattle.std.specs.Prelude.{◌≡◌, ℕ, List, length, map}
+use Rattle.std.specs.Prelude.{◌≡◌, ℕ, List, length, map, Option, Some, None}
 use Rattle.region_layout.specs.Names.{AreNames}
+use Rattle.leaf_table.specs.Turns.{Shared}
 use Rattle.leaf_table.specs.Calls.{SeatView, name_of}
+use Rattle.leaf_table.specs.Lists.{row}
 use Rattle.leaf_steward.specs.Seated.{Seated}
 use Rattle.transcript.specs.Holds.{Hold}
 use Rattle.transcript.specs.Stage.{Leaf, IsDown, IsUp, IsPreparing, seated_of}
 use Rattle.player.specs.declared.leaf.OneLeaf.{OneLeaf}
 use Rattle.player.specs.declared.leaf.OneLeaf.TheVariants as one
+use Rattle.player.specs.Crew.{column}
 use Rattle.player.specs.Rows.{MayMeet}
 
 -- what the leaf is, but for its berth
@@ -20,13 +23,23 @@ berth_of (one.Down leaf) = leaf.1
 berth_of (one.Up leaf) = leaf.1
 berth_of (one.Preparing leaf) = leaf.1
 
+-- the berth of a leaf that is held
+abbrev pub own_berth : {B : Type 0} → Option (OneLeaf B) → Option B
+own_berth None = None
+own_berth (Some x) = Some (berth_of x)
+
 -- its tables, and its steward's seats at them
 abbrev pub seats_of : {B : Type 0} → OneLeaf B → Seated
 seats_of leaf = seated_of (state_of leaf)
 
--- the leaf with these seats of callers
-abbrev pub hold_of : {B : Type 0} → OneLeaf B → List SeatView → Hold B
-hold_of x callers = record { leaf = state_of x; callers = callers; berth = berth_of x }
+-- the leaf with its berth, where it is held
+abbrev pub held_of : {B : Type 0} → Option (OneLeaf B) → Option (Leaf × B)
+held_of None = None
+held_of (Some x) = Some (state_of x, berth_of x)
+
+-- what is held of the leaf with this number: its callers' seats, and this
+abbrev pub hold_at : {B : Type 0} → ℕ → List (List Shared) → List (List SeatView) → Option (OneLeaf B) → Hold B
+hold_at leaf tables rows x = record { tables = row tables leaf; callers = column leaf rows; held = held_of x }
 
 -- the steward's seats are at the same tables still
 pub record KeepsSeats (x y : Seated) : Type 0 where

@@ -1,18 +1,19 @@
 // Deeds of the leaves' stewards.
-ghost use Rattle.std.specs.Prelude.{◌≡◌, ◌<◌, length};
+ghost use Rattle.std.specs.Prelude.{◌≡◌, ◌<◌, ℕ, length};
 ghost use Rattle.berth_face.specs.Berth.{Passes};
 ghost use Rattle.leaf_table.specs.Lists.{lists_in};
 ghost use Rattle.transcript.specs.Pieces.{Drains, Flushes, Kills, Starts, leaf_count};
-ghost use Rattle.player.specs.Crew.{column};
+ghost use Rattle.player.specs.Crew.{HasLeaf, column};
 ghost use Rattle.player.specs.Rows.{OnlyColumn};
 ghost use Rattle.player.specs.Stage.{IsMember, KeepsSeats, berth_of, seats_of, state_of};
-ghost use Rattle.player.specs.Members.{AreMembers, SameFleet, fleet_in};
+ghost use Rattle.player.specs.Members.{AreMembers, SameFleet, fleet_in, holds_in};
 ghost use Rattle.player.specs.Commands.{ActsAt, ActsWith, Does, IsTask, StartsFirst, deed_of};
 
 use crate::entries::{joined, steward_lines, with_ending};
 use crate::leaf::OneLeaf;
 use crate::meet::meet;
-use crate::members::{Members, put_in};
+use crate::members::Members;
+use crate::slots::put;
 use berth_face::{Berth, Gate};
 use leaf_machine::Notes;
 use leaf_model::Names;
@@ -40,7 +41,8 @@ impl<'t, B: Berth> Members<'t, B> {
         alloc: Global,
         gate: &G,
     ) -> Result<Vec<Line>, AllocError>
-        requires { AreMembers self.old }
+        requires members { AreMembers self.old }
+        requires held { (leaf : ℕ) → HasLeaf (holds_in self.old) leaf }
         ensures members { AreMembers self.new }
         ensures same { SameFleet self.old self.new }
         ensures starts { StartsFirst B.meaning (leaf_count (fleet_in self.old)) self.old result self.new }
@@ -64,24 +66,29 @@ impl<'t, B: Berth> Members<'t, B> {
     ) -> Result<Vec<Line>, AllocError>
         requires members { AreMembers self.old }
         requires leaf { number < leaf_count (fleet_in self.old) }
+        requires held { HasLeaf (holds_in self.old) number }
         requires task { IsTask self.old.names task }
         ensures members { AreMembers self.new }
         ensures same { SameFleet self.old self.new }
         ensures acts { ActsAt B.meaning number (deed_of task) self.old result self.new }
     {
-        let leaf = self.leaves.remove(number as usize);
-        let (leaf, lines) = act_on(
-            rt,
-            alloc,
-            gate,
-            &self.names,
-            number,
-            &mut self.rows,
-            leaf,
-            task,
-        );
-        put_in(&mut self.leaves, number as usize, leaf);
-        lines
+        match self.leaves[number as usize].take() {
+            None => unreachable!(),
+            Some(leaf) => {
+                let (moved, lines) = act_on(
+                    rt,
+                    alloc,
+                    gate,
+                    &self.names,
+                    number,
+                    &mut self.rows,
+                    leaf,
+                    task,
+                );
+                put(&mut self.leaves[number as usize], moved);
+                lines
+            }
+        }
     }
 }
 

@@ -9,6 +9,7 @@ ghost use Rattle.leaf_table.specs.Lists.{lists_in, row};
 ghost use Rattle.aggregator.specs.Asks.{AreSeatsAt, AllAsked};
 ghost use Rattle.aggregator.specs.Partial.{GoOn, bases_in, partial};
 ghost use Rattle.transcript.specs.Pieces.{place_of};
+ghost use Rattle.player.specs.Crew.{HasSeats};
 ghost use Rattle.player.specs.Members.{AreMembers, SameFleet, fleet_in, holds_in};
 ghost use Rattle.player.specs.Commands.{AsksAll, AsksRow, asked_line, asked_lines, number_in, query_lines};
 
@@ -35,6 +36,7 @@ impl<'t, B: Berth> Members<'t, B> {
     ) -> Result<Vec<Line>, AllocError>
         requires members { AreMembers self.old }
         requires table { place_of query.now.table self.old.names < length self.old.names }
+        requires has { HasSeats (holds_in self.old) (place_of query.now.table self.old.names) }
         ensures members { AreMembers self.new }
         ensures same { SameFleet self.old self.new }
         ensures asks { AsksAll B.meaning query.now self.old result self.new ⊎ (IsErr result × (holds_in self.new ≡ holds_in self.old)) }
@@ -65,8 +67,8 @@ fn ask_row<R: Threads + Wait + Sync, G: Gate>(
     ask_all(rt, alloc, tables, table, row, query, gate)
 }
 
-// The place of the first table of that name, or the number of tables.
-fn place_of(names: &Names, name: &str) -> u32
+/// The place of the first table of that name, or the number of tables.
+pub fn place_of(names: &Names, name: &str) -> u32
     requires { length names.now < 2 ^ 32 }
     ensures { result ≡ place_of name.now names.now }
 {

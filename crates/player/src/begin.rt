@@ -34,7 +34,7 @@ pub fn copies(alloc: Global, names: &Names, count: u32) -> Result<Vec<Names>, Al
 
 /// Puts a leaf that is down over each of the first berths, as many as there are lists of stewards' seats.
 pub fn begin_all<'t, B: Berth>(
-    leaves: &mut Vec<OneLeaf<'t, B>>,
+    leaves: &mut Vec<Option<OneLeaf<'t, B>>>,
     names: &Names,
     copies: Vec<Names>,
     tables: &'t FleetTables,
@@ -65,7 +65,7 @@ pub fn begin_all<'t, B: Berth>(
 
 // Puts a leaf that is down behind the others, where room was left for it.
 fn begin<'t, B: Berth>(
-    leaves: &mut Vec<OneLeaf<'t, B>>,
+    leaves: &mut Vec<Option<OneLeaf<'t, B>>>,
     names: Names,
     tables: &'t [SharedTable],
     stewards: Vec<Seat>,
@@ -84,7 +84,7 @@ fn begin<'t, B: Berth>(
     ensures room { vec_capacity leaves.old ≤ vec_capacity leaves.new }
 {
     let leaf = OneLeaf::Down(Down::new(names, tables, stewards, berth));
-    match leaves.push(leaf) {
+    match leaves.push(Some(leaf)) {
         Ok(()) => {}
         Err(_) => unreachable!(),
     }

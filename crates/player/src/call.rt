@@ -4,10 +4,10 @@ ghost use Rattle.turnstile.specs.Seats.{IsSeatOf};
 ghost use Rattle.leaf_table.specs.Calls.{Answered, IsCaller, SameSeat, base_seen};
 ghost use Rattle.leaf_table.specs.Lists.{lists_in, row};
 ghost use Rattle.transcript.specs.Pieces.{leaf_count};
-ghost use Rattle.player.specs.Crew.{column};
-ghost use Rattle.player.specs.Rows.{Calls, IsColumn, OnlyColumn, called_at};
+ghost use Rattle.player.specs.Crew.{HasSeats};
+ghost use Rattle.player.specs.Rows.{Calls, HasSeat, IsColumn, OnlyColumn, called_at};
 ghost use Rattle.player.specs.Lines.{CallsWith};
-ghost use Rattle.player.specs.Members.{AreMembers, SameFleet, fleet_in};
+ghost use Rattle.player.specs.Members.{AreMembers, SameFleet, fleet_in, holds_in};
 ghost use Rattle.player.specs.Commands.{CallsAt, IsRequest, call_of};
 
 use crate::entries::call_lines;
@@ -41,6 +41,7 @@ impl<'t, B: Berth> Members<'t, B> {
         requires members { AreMembers self.old }
         requires leaf { leaf < leaf_count (fleet_in self.old) }
         requires table { table < length self.old.names }
+        requires has { HasSeats (holds_in self.old) table }
         requires request { IsRequest request }
         ensures members { AreMembers self.new }
         ensures same { SameFleet self.old self.new }
@@ -64,6 +65,7 @@ fn call_one<R: Wait, G: Gate>(
 ) -> Reply
     requires column { IsColumn leaf tables.now (lists_in rows.old.items) }
     requires table { table < length tables.now }
+    requires has { HasSeat leaf table (lists_in rows.old.items) }
     requires request { IsRequest request }
     ensures calls { Calls table (call_of request) (called_at leaf tables.now (lists_in rows.old.items)) result (called_at leaf tables.now (lists_in rows.new.items)) }
     ensures column { IsColumn leaf tables.now (lists_in rows.new.items) }

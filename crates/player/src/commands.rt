@@ -1,7 +1,7 @@
 // Each command of a script.
 ghost use Rattle.std.specs.Prelude.{◌≡◌, ◌⊎◌, IsErr};
 ghost use Rattle.transcript.specs.Steps.{MayPlay};
-ghost use Rattle.player.specs.Crew.{AllPass, PlaysWith};
+ghost use Rattle.player.specs.Crew.{AllPass, HasFor, PlaysWith, StillHas};
 ghost use Rattle.player.specs.Members.{AreMembers, SameFleet, fleet_in, holds_in};
 
 use crate::act::Task;
@@ -25,9 +25,11 @@ impl<'t, B: Berth> Members<'t, B> {
     ) -> Result<Vec<Line>, AllocError>
         requires members { AreMembers self.old }
         requires may { MayPlay (fleet_in self.old) command }
+        requires has { HasFor (fleet_in self.old) (holds_in self.old) command }
         ensures members { AreMembers self.new }
         ensures same { SameFleet self.old self.new }
         ensures plays { PlaysWith B.meaning (fleet_in self.old) command (holds_in self.old) result (holds_in self.new) ⊎ (IsErr result × (holds_in self.new ≡ holds_in self.old)) }
+        ensures still { StillHas (holds_in self.old) (holds_in self.new) }
         ensures time { AllPass B.meaning (holds_in self.old) (holds_in self.new) }
     {
         match command {

@@ -1,5 +1,5 @@
 // The leaves of a fleet, and what each command of a script does to them.
-ghost use Rattle.std.specs.Prelude.{◌≡◌, ◌⊎◌, ◌*◌, ◌+◌, ◌<◌, ◌≤◌, ◌++◌, ℕ, Option, Some, length, map, take, drop, slice_get, vec_len, vec_capacity, IfOk, IsErr};
+ghost use Rattle.std.specs.Prelude.{◌≡◌, ◌⊎◌, ◌*◌, ◌+◌, ◌<◌, ◌≤◌, ◌++◌, ℕ, List, Option, Some, true, length, map, take, drop, slice_get, vec_len, vec_capacity, IfOk, IsErr};
 ghost use Rattle.std.specs.List.{AllByRecursion};
 ghost use Rattle.region_layout.specs.Names.{AreNames};
 ghost use Rattle.crash_moments.specs.Left.{NamedStates};
@@ -11,11 +11,14 @@ ghost use Rattle.leaf_steward.specs.Seated.{AreAlike, AreFounded, AtEach};
 ghost use Rattle.leaf_machine.specs.States.{MayBegin};
 ghost use Rattle.script_text.specs.Fits.{AreLeaves};
 ghost use Rattle.printed_lines.specs.Lines.{IsOf};
-ghost use Rattle.transcript.specs.Stage.{Stands, seated_of};
-ghost use Rattle.transcript.specs.Holds.{Hold, HasMet};
+ghost use Rattle.transcript.specs.Pieces.{leaf_count, place_of};
+ghost use Rattle.transcript.specs.Stage.{Leaf, Stands, seated_of};
+ghost use Rattle.transcript.specs.Holds.{Hold, AllMeet, HasMet};
 ghost use Rattle.transcript.specs.Steps.{MayPlay};
-ghost use Rattle.player.specs.Crew.{AllPass, PlaysWith, new_holds, seated_at};
+ghost use Rattle.transcript.specs.Lanes.{CutsOff, TakesBack};
+ghost use Rattle.player.specs.Crew.{AllPass, HasAll, HasFor, HasLeaf, HasSeats, MayTakeBack, PlaysWith, SameSeats, Spares, StillHas, berth_in, is_set, new_holds, seated_at};
 
+use crate::ask::place_of;
 use crate::begin::{begin_all, copies};
 use crate::members::Members;
 use berth_face::{Berth, Gate};
@@ -70,8 +73,9 @@ impl<'t, B: Berth> Crew<'t, B> {
         ensures holds { IfOk result (λ crew. crew.holds ≡ new_holds 0 names tables.now stewards callers (take (machines * per_machine) berths.old.items)) }
         ensures berths { IfOk result (λ crew. berths.new.items ≡ drop (machines * per_machine) berths.old.items) }
         ensures room { vec_capacity berths.new ≡ vec_capacity berths.old }
-        ensures stands { IfOk result (λ crew. (leaf : ℕ) (x : Hold B) (states : NamedStates) → slice_get crew.holds leaf ≡ Some x → AreFounded (seated_of x.leaf) → MayBegin states (B.meaning x.berth)
-            → AtEach (λ place t v. start_of (base_seen t) ≡ states (name_of t)) (seated_of x.leaf) → Stands states x.leaf (B.meaning x.berth)) }
+        ensures stands { IfOk result (λ crew. (leaf : ℕ) (x : Hold B) (l : Leaf) (b : B) (states : NamedStates) → slice_get crew.holds leaf ≡ Some x → x.held ≡ Some (l, b) → AreFounded (seated_of l) → MayBegin states (B.meaning b)
+            → AtEach (λ place t v. start_of (base_seen t) ≡ states (name_of t)) (seated_of l) → Stands states l (B.meaning b)) }
+        ensures all { IfOk result (λ crew. HasAll crew.fleet crew.holds) }
         ensures no_memory { IsErr result → berths.new.items ≡ berths.old.items }
     {
         let count = machines * per_machine;
@@ -96,6 +100,27 @@ impl<'t, B: Berth> Crew<'t, B> {
         Ok(Crew { members })
     }
 
+    /// How many tables each leaf has.
+    pub fn table_count(&self) -> u32
+        ensures { result ≡ length self.now.fleet.names }
+    {
+        self.members.names.as_slice().len() as u32
+    }
+
+    /// How many leaves the fleet has.
+    pub fn leaf_count(&self) -> u32
+        ensures { result ≡ leaf_count self.now.fleet }
+    {
+        self.members.machines * self.members.per_machine
+    }
+
+    /// The place of the first table of that name, or the number of tables.
+    pub fn place_of(&self, table: &str) -> u32
+        ensures { result ≡ place_of table.now self.now.fleet.names }
+    {
+        place_of(&self.members.names, table)
+    }
+
     /// Plays a command, and gives the lines that it prints.
     /// Want of memory for the lines loses none of what the command did to the leaves. Of a query it may be found before any leaf is asked.
     pub fn play<R: Wait + Threads + Sync, G: Gate>(
@@ -106,19 +131,70 @@ impl<'t, B: Berth> Crew<'t, B> {
         command: Command,
     ) -> Result<Vec<Line>, AllocError>
         requires may { MayPlay self.old.fleet command }
+        requires has { HasFor self.old.fleet self.old.holds command }
         ensures plays { PlaysWith B.meaning self.old.fleet command self.old.holds result self.new.holds ⊎ (IsErr result × (self.new.holds ≡ self.old.holds)) }
-        ensures fleet { self.new.fleet ≡ self.old.fleet }
+        ensures fleet { (self.new.fleet ≡ self.old.fleet) × (self.new.tables ≡ self.old.tables) }
+        ensures still { StillHas self.old.holds self.new.holds }
         ensures time { AllPass B.meaning self.old.holds self.new.holds }
         ensures lines_fit { IfOk result (λ lines. AllByRecursion (IsOf self.old.fleet.names) lines.items) }
     {
         self.members.play(rt, alloc, gate, command)
     }
 
+    /// Lets the seats of each leaf meet.
+    pub fn meet_all(&mut self)
+        requires all { HasAll self.old.fleet self.old.holds }
+        ensures met { AllMeet B.meaning self.old.holds self.new.holds }
+        ensures fleet { (self.new.fleet ≡ self.old.fleet) × (self.new.tables ≡ self.old.tables) }
+        ensures still { StillHas self.old.holds self.new.holds }
+        ensures time { AllPass B.meaning self.old.holds self.new.holds }
+        ensures spares { (table n : ℕ) → Spares self.old.holds table n → Spares self.new.holds table n }
+    {
+        self.members.meet_all();
+    }
+
+    /// How many ids of its own the seat of callers at that table has, at the leaf where it has fewest.
+    pub fn spare(&self, table: u32) -> u64
+        ensures { Spares self.now.holds table result }
+    {
+        self.members.spare(table)
+    }
+
+    /// Cuts off, for a lane, an id at each leaf of each table that is marked, and each leaf that is marked. For want of memory nothing is cut off.
+    pub fn cut_off(
+        &mut self,
+        alloc: Global,
+        tables: &[bool],
+        leaves: &[bool],
+    ) -> Result<Crew<'t, B>, AllocError>
+        requires counts { (length tables.now ≡ length self.old.fleet.names) × (length leaves.now ≡ leaf_count self.old.fleet) }
+        requires seats { (table : ℕ) → is_set tables.now table ≡ true → HasSeats self.old.holds table × Spares self.old.holds table 2 }
+        requires held { (leaf : ℕ) → is_set leaves.now leaf ≡ true → HasLeaf self.old.holds leaf }
+        ensures cut { IfOk result (λ off. CutsOff (is_set tables.now) (is_set leaves.now) self.old.holds off.holds self.new.holds) }
+        ensures off { IfOk result (λ off. (off.fleet ≡ self.old.fleet) × (off.tables ≡ self.old.tables)) }
+        ensures fleet { (self.new.fleet ≡ self.old.fleet) × (self.new.tables ≡ self.old.tables) }
+        ensures refused { IsErr result → self.new.holds ≡ self.old.holds }
+    {
+        let members = self.members.cut_off(alloc, tables, leaves)?;
+        Ok(Crew { members })
+    }
+
+    /// Takes a lane's seats and leaves back: callers' seats meet and are joined, and the seats of each leaf that comes back meet.
+    pub fn take_back(&mut self, other: Crew<'t, B>)
+        requires may { MayTakeBack self.old other }
+        ensures back { TakesBack B.meaning self.old.holds other.entry.holds self.new.holds }
+        ensures seats { SameSeats self.old.holds self.new.holds }
+        ensures fleet { (self.new.fleet ≡ self.old.fleet) × (self.new.tables ≡ self.old.tables) }
+    {
+        self.members.take_back(other.members);
+    }
+
     /// Lets all seats meet a last time, and puts the berths in front of the others, in the order of the leaves.
     pub fn abandon(self, berths: &mut Vec<B>)
+        requires all { HasAll self.fleet self.holds }
         requires room { length self.holds + vec_len berths.old ≤ vec_capacity berths.old }
         ensures met { (leaf : ℕ) (x : Hold B) → slice_get self.entry.holds leaf ≡ Some x → HasMet B.meaning x }
-        ensures berths { berths.new.items ≡ map (λ (x : Hold B). x.berth) self.entry.holds ++ berths.old.items }
+        ensures berths { (own : List B) × (map Some own ≡ map (λ (x : Hold B). berth_in x) self.entry.holds) × (berths.new.items ≡ own ++ berths.old.items) }
     {
         self.members.abandon(berths)
     }

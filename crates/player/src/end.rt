@@ -1,11 +1,13 @@
 // A crew comes to its end.
-ghost use Rattle.std.specs.Prelude.{◌≡◌, ◌+◌, ◌≤◌, ◌++◌, ℕ, Some, length, map, slice_get, vec_len, vec_capacity};
+ghost use Rattle.std.specs.Prelude.{◌≡◌, ◌+◌, ◌<◌, ◌≤◌, ◌++◌, ◌∷◌, ℕ, List, Option, Some, true, is_some, length, map, slice_get, vec_len, vec_capacity};
+ghost use Rattle.leaf_table.specs.Turns.{Shared};
 ghost use Rattle.leaf_table.specs.Lists.{lists_in};
 ghost use Rattle.transcript.specs.Holds.{Hold, HasMet};
+ghost use Rattle.transcript.specs.Stage.{Leaf, MeetAll};
 ghost use Rattle.player.specs.declared.leaf.OneLeaf.{OneLeaf};
-ghost use Rattle.player.specs.Crew.{column};
-ghost use Rattle.player.specs.Rows.{MayMeet};
-ghost use Rattle.player.specs.Stage.{berth_of, hold_of, seats_of};
+ghost use Rattle.player.specs.Crew.{HasLeaf, berth_in, column};
+ghost use Rattle.player.specs.Rows.{MayMeet, OnlyColumn};
+ghost use Rattle.player.specs.Stage.{berth_of, hold_at, own_berth, seats_of, state_of};
 ghost use Rattle.player.specs.Members.{AreMembers, holds_in};
 
 use crate::leaf::OneLeaf;
@@ -18,28 +20,55 @@ impl<'t, B: Berth> Members<'t, B> {
     /// Lets all seats meet a last time, and puts the berths in front of the others, in the order of the leaves.
     pub fn abandon(self, berths: &mut Vec<B>)
         requires members { AreMembers self }
+        requires held { (leaf : ℕ) → HasLeaf (holds_in self) leaf }
         requires room { length (holds_in self) + vec_len berths.old ≤ vec_capacity berths.old }
         ensures met { (leaf : ℕ) (x : Hold B) → slice_get (holds_in self.entry) leaf ≡ Some x → HasMet B.meaning x }
-        ensures berths { berths.new.items ≡ map (λ (x : Hold B). x.berth) (holds_in self.entry) ++ berths.old.items }
+        ensures berths { (own : List B) × (map Some own ≡ map (λ (x : Hold B). berth_in x) (holds_in self.entry)) × (berths.new.items ≡ own ++ berths.old.items) }
     {
         abandon_all(self.leaves, self.rows, berths);
     }
 }
 
 // Abandons one leaf after another, from the last to the first.
-fn abandon_all<'t, B: Berth>(leaves: Vec<OneLeaf<'t, B>>, rows: Vec<Vec<Seat>>, berths: &mut Vec<B>)
+fn abandon_all<'t, B: Berth>(
+    leaves: Vec<Option<OneLeaf<'t, B>>>,
+    rows: Vec<Vec<Seat>>,
+    berths: &mut Vec<B>,
+)
     requires few { length leaves.items ≤ 256 }
-    requires may { (leaf : ℕ) (x : OneLeaf B) → slice_get leaves.items leaf ≡ Some x → MayMeet leaf (seats_of x) (lists_in rows.items) }
+    requires held { (leaf : ℕ) (x : Option (OneLeaf B)) → slice_get leaves.items leaf ≡ Some x → is_some x ≡ true }
+    requires may { (leaf : ℕ) (x : OneLeaf B) → slice_get leaves.items leaf ≡ Some (Some x) → MayMeet leaf (seats_of x) (lists_in rows.items) }
     requires room { length leaves.items + vec_len berths.old ≤ vec_capacity berths.old }
-    ensures met { (leaf : ℕ) (x : OneLeaf B) → slice_get leaves.entry.items leaf ≡ Some x → HasMet B.meaning (hold_of x (column leaf (lists_in rows.items))) }
-    ensures berths { berths.new.items ≡ map (λ (x : OneLeaf B). berth_of x) leaves.entry.items ++ berths.old.items }
+    ensures met { (tables : List (List Shared)) (leaf : ℕ) (x : OneLeaf B) → slice_get leaves.entry.items leaf ≡ Some (Some x) → HasMet B.meaning (hold_at leaf tables (lists_in rows.items) (Some x)) }
+    ensures berths { (own : List B) × (map Some own ≡ map own_berth leaves.entry.items) × (berths.new.items ≡ own ++ berths.old.items) }
 {
     let mut leaves = leaves;
     let mut rows = rows;
-    while let Some(leaf) = leaves.pop() {
-        let mut leaf = leaf;
-        meet(&mut rows, leaves.len() as u32, &mut leaf);
-        put_in(berths, 0, leaf.abandon());
+    while let Some(slot) = leaves.pop() {
+        match slot {
+            None => unreachable!(),
+            Some(leaf) => abandon_one(&mut rows, leaves.len() as u32, leaf, berths),
+        }
     }
     leaves.destroy_empty();
+}
+
+// Lets the seats of the leaf with this number meet, and puts its berth in front.
+fn abandon_one<'t, B: Berth>(
+    rows: &mut Vec<Vec<Seat>>,
+    number: u32,
+    leaf: OneLeaf<'t, B>,
+    berths: &mut Vec<B>,
+)
+    requires may { MayMeet number (seats_of leaf) (lists_in rows.old.items) }
+    requires room { vec_len berths.old < vec_capacity berths.old }
+    ensures met { (then : Leaf) × MeetAll (state_of leaf.entry) (column number (lists_in rows.old.items)) then (column number (lists_in rows.new.items)) (B.meaning (berth_of leaf.entry)) }
+    ensures only { OnlyColumn number (lists_in rows.old.items) (lists_in rows.new.items) }
+    ensures berths { berths.new.items ≡ berth_of leaf.entry ∷ berths.old.items }
+    ensures len { vec_len berths.new ≡ vec_len berths.old + 1 }
+    ensures room { vec_capacity berths.new ≡ vec_capacity berths.old }
+{
+    let mut leaf = leaf;
+    meet(rows, number, &mut leaf);
+    put_in(berths, 0, leaf.abandon());
 }

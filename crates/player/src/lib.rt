@@ -11,8 +11,12 @@ mod drain;
 mod end;
 mod entries;
 mod leaf;
+mod lend;
 mod meet;
+mod meet_all;
 mod members;
+mod slots;
 mod steps;
+mod take_back;
 
 pub use crew::Crew;

@@ -5,7 +5,7 @@ ghost use Rattle.leaf_table.specs.Lists.{lists_in};
 ghost use Rattle.leaf_steward.specs.Seated.{AreFounded};
 ghost use Rattle.transcript.specs.Stage.{MeetAll, Stands};
 ghost use Rattle.player.specs.Crew.{column};
-ghost use Rattle.player.specs.Rows.{MayMeet, OnlyColumn};
+ghost use Rattle.player.specs.Rows.{HasSeat, MayMeet, OnlyColumn};
 ghost use Rattle.player.specs.Stage.{KeepsSeats, berth_of, seats_of, state_of};
 ghost use Rattle.player.specs.Moves.{MeetsAt};
 
@@ -27,7 +27,7 @@ pub fn meet<'t, B: Berth>(rows: &mut Vec<Vec<Seat>>, number: u32, leaf: &mut One
     }
 }
 
-// Lets the seats of the table in that place meet.
+// Lets the seats of the table in that place meet, where callers have one there.
 fn meet_at<'t, B: Berth>(
     rows: &mut Vec<Vec<Seat>>,
     number: u32,
@@ -36,6 +36,27 @@ fn meet_at<'t, B: Berth>(
 )
     requires may { MayMeet number (seats_of leaf.old) (lists_in rows.old.items) }
     requires table { table < length rows.old.items }
+    ensures met { MeetsAt table (state_of leaf.old) (column number (lists_in rows.old.items)) (state_of leaf.new) (column number (lists_in rows.new.items)) }
+    ensures stands { (base : NamedStates) → AreFounded (seats_of leaf.old) → Stands base (state_of leaf.old) (B.meaning (berth_of leaf.old)) → Stands base (state_of leaf.new) (B.meaning (berth_of leaf.old)) }
+    ensures berth { berth_of leaf.new ≡ berth_of leaf.old }
+    ensures may { MayMeet number (seats_of leaf.new) (lists_in rows.new.items) }
+    ensures only { OnlyColumn number (lists_in rows.old.items) (lists_in rows.new.items) }
+{
+    if !rows[table as usize].is_empty() {
+        meet_there(rows, number, leaf, table);
+    }
+}
+
+// Lets the seats of the table in that place meet.
+fn meet_there<'t, B: Berth>(
+    rows: &mut Vec<Vec<Seat>>,
+    number: u32,
+    leaf: &mut OneLeaf<'t, B>,
+    table: u32,
+)
+    requires may { MayMeet number (seats_of leaf.old) (lists_in rows.old.items) }
+    requires table { table < length rows.old.items }
+    requires has { HasSeat number table (lists_in rows.old.items) }
     ensures met { MeetsAt table (state_of leaf.old) (column number (lists_in rows.old.items)) (state_of leaf.new) (column number (lists_in rows.new.items)) }
     ensures stands { (base : NamedStates) → AreFounded (seats_of leaf.old) → Stands base (state_of leaf.old) (B.meaning (berth_of leaf.old)) → Stands base (state_of leaf.new) (B.meaning (berth_of leaf.old)) }
     ensures berth { berth_of leaf.new ≡ berth_of leaf.old }

@@ -7,14 +7,14 @@ use berth_face::Berth;
 use leaf_model::Names;
 use leaf_table::{FleetTables, Seat};
 
-/// The leaves of a fleet: for each of its tables a row with a callers' seat at each leaf. It borrows the tables.
+/// What is held of the leaves of a fleet: some of them, and for each table a row with a callers' seat at each leaf, or an empty one. It borrows the tables.
 #[derive(Drop)]
 pub struct Members<'t, B: Berth> {
     pub names: Names,
     pub machines: u32,
     pub per_machine: u32,
     pub tables: &'t FleetTables,
-    pub leaves: Vec<OneLeaf<'t, B>>,
+    pub leaves: Vec<Option<OneLeaf<'t, B>>>,
     pub rows: Vec<Vec<Seat>>,
 }
 

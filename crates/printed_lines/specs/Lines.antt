@@ -12,7 +12,7 @@ use Rattle.printed_lines.specs.declared.line.Ending.{Ending}
 use Rattle.printed_lines.specs.declared.line.Ending.TheVariants.{Done, Stopped, NotUp, NotDown, Started, FaultRegion, FaultRoom, FaultDisk, FaultDamaged, FaultMemory, FaultStranger, FaultWorn}
 use Rattle.printed_lines.specs.declared.line.Ending.TheVariants as ends
 use Rattle.printed_lines.specs.declared.line.Line.{Line}
-use Rattle.printed_lines.specs.declared.line.Line.TheVariants.{Entry, Worn, Answer, Ended}
+use Rattle.printed_lines.specs.declared.line.Line.TheVariants.{Entry, Worn, Answer, Ended, Lane}
 
 -- what an entry's line says
 abbrev pub said_text : Said → List ℕ
@@ -89,12 +89,17 @@ answer_text named leaves rows = answer_head named leaves (length rows) ++ flat_m
 abbrev pub ended_text : List (List ℕ) → Verb → ℕ → Ending → List ℕ
 ended_text names verb leaf ending = verb_text verb ++ (32 ∷ (decimal leaf ++ (32 ∷ (ending_text names ending ++ 10 ∷ []))))
 
+-- the line before those of a lane
+abbrev pub lane_text : ℕ → List ℕ
+lane_text number = codes "lane " ++ (decimal number ++ 10 ∷ [])
+
 -- the text of a line, of a fleet whose tables have these names
 abbrev pub line_text : List (List ℕ) → Line → List ℕ
 line_text names (Entry leaf table number said) = entry_text leaf (name_at names table) number said
 line_text names (Worn leaf table) = worn_text leaf (name_at names table)
 line_text names (Answer named leaves rows) = answer_text named leaves rows
 line_text names (Ended verb leaf ending) = ended_text names verb leaf ending
+line_text names (Lane number) = lane_text number
 
 abbrev pub lines_text : List (List ℕ) → List Line → List ℕ
 lines_text names lines = flat_map (line_text names) lines
@@ -121,3 +126,4 @@ IsOf names (Entry leaf table number said) = table < length names
 IsOf names (Worn leaf table) = table < length names
 IsOf names (Answer named leaves rows) = ⊤
 IsOf names (Ended verb leaf ending) = EndsOf names ending
+IsOf names (Lane number) = ⊤

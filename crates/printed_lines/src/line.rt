@@ -82,4 +82,6 @@ pub enum Line {
         leaf: u32,
         ending: Ending,
     },
+    /// The lines of a burst's lane of this number, from 0, are those behind it.
+    Lane(u32),
 }

@@ -1,7 +1,7 @@
 // Lines behind what was printed before.
 ghost use Rattle.std.specs.Prelude.{◌≡◌, ◌<◌, ◌++◌, length, IfOk, OnOk, OnErr, string_bytes};
 ghost use Rattle.std.specs.List.{flat_map, AllByRecursion};
-ghost use Rattle.printed_lines.specs.Lines.{EndsOf, IsOf, row_line, entry_text, worn_text, answer_head, answer_text, ended_text, line_text, lines_text};
+ghost use Rattle.printed_lines.specs.Lines.{EndsOf, IsOf, row_line, entry_text, worn_text, answer_head, answer_text, ended_text, lane_text, line_text, lines_text};
 
 use crate::line::{Ending, Line, Said, Verb};
 use crate::parts::{ending_string, name_of, said_string, verb_str};
@@ -57,6 +57,7 @@ fn line_bytes(alloc: Global, names: &Names, line: &Line) -> Result<Vec<u8>, Allo
             rows,
         } => answer_bytes(alloc, *named, *leaves, rows.as_slice()),
         Line::Ended { verb, leaf, ending } => ended_bytes(alloc, names, *verb, *leaf, ending),
+        Line::Lane(number) => lane_bytes(alloc, *number),
     }
 }
 
@@ -114,6 +115,13 @@ fn ended_bytes(
     let verb = verb_str(verb);
     let ending = ending_string(alloc, names, ending)?;
     let text = format!(in alloc; "{verb} {leaf} {ending}\n")?;
+    Ok(text.into_bytes())
+}
+
+fn lane_bytes(alloc: Global, number: u32) -> Result<Vec<u8>, AllocError>
+    ensures { IfOk result (λ bytes. bytes.items ≡ lane_text number) }
+{
+    let text = format!(in alloc; "lane {number}\n")?;
     Ok(text.into_bytes())
 }
 

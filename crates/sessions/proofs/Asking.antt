@@ -13,14 +13,15 @@ use Rattle.script_text.specs.declared.command.Command.TheVariants as command
 use Rattle.printed_lines.specs.declared.line.Said.{Said}
 use Rattle.printed_lines.specs.declared.line.Said.TheVariants.{Added, Removed, Asked, RefusedShut, RefusedFull, RefusedMemory, Opened, Took, Flushed, Closed, Handed}
 use Rattle.printed_lines.specs.declared.line.Line.TheVariants as line
-use Rattle.transcript.specs.Pieces.{Fleet, Piece, Says, leaf_count, place_of}
+use Rattle.transcript.specs.Pieces.{Fleet, Piece, PlayedItem, Says, leaf_count, place_of}
 use Rattle.transcript.specs.Shapes.{AskPieces, CallPiece, IsAskSaid, Prints, QueryPieces, named, named_by, named_in}
 use Rattle.transcript.specs.Histories.{Ground}
 use Rattle.transcript.specs.Answers.{AnswerIs, Answers, partial, rows_before}
 use Rattle.transcript.specs.Transcript.{Known, grounds_of}
 use Rattle.transcript.specs.Holds.{Hold, grounds_in}
 use Rattle.leaf_sessions.proofs.Leaf.{leaf_ground}
-use Rattle.leaf_sessions.proofs.Lists.{All-append, All-weaken, element_at}
+use Rattle.leaf_sessions.proofs.Lists.{element_at}
+use Rattle.sessions.proofs.Lists.{All-append, All-weaken}
 use Rattle.sessions.proofs.Growing.{grounds_here}
 use Rattle.sessions.proofs.Going.{IsWithin, Leaves}
 
@@ -86,15 +87,15 @@ partial_same f g histories [] same = refl
 partial_same f g histories (l ∷ ls) same =
     ap₂ (λ (xs ys : List Row). xs ++ ys) (ap (λ (x : Ground). rows_before x (histories l.0) l.1) same.0) (partial_same f g histories ls same.1)
 
-module _ {B : Type 0} (meaning : B → Meaning) (fleet : Fleet) (known : ℕ → Option Known) (olds : List B) (before pieces : List Piece) (ys : List (Hold B))
-    (now : Leaves meaning fleet known olds before ys) where
+module _ {B : Type 0} (meaning : B → Meaning) (fleet : Fleet) (known : ℕ → Option Known) (olds : List B) (before : List Piece) (start : ℕ → ℕ → List Entry)
+    (items : List PlayedItem) (pieces : List Piece) (ys : List (Hold B)) (now : Leaves meaning fleet known olds before start items ys) where
   -- the leaves' tables began from what is known of them
   ground_is : (leaf table : ℕ) → leaf < leaf_count fleet → table < length fleet.names → grounds_in ys leaf table ≡ grounds_of fleet known leaf table
   ground_is leaf table below within =
       let old = element_at olds leaf (subst (λ (n : ℕ). leaf < n) (sym now.counts.0) below) in
       let y = element_at ys leaf (subst (λ (n : ℕ). leaf < n) (sym now.counts.1) below) in
       grounds_here ys leaf y.0 table y.1
-      ∙ leaf_ground leaf fleet.names (known leaf) (meaning old.0) before y.0.leaf y.0.callers (meaning y.0.berth) (now.each leaf old.0 y.0 old.1 y.1) table within
+      ∙ leaf_ground meaning leaf fleet.names (known leaf) (meaning old.0) before (start leaf) items y.0 (now.each leaf old.0 y.0 old.1 y.1) table within
 
   pub answers_known : (c : Command) (histories : ℕ → ℕ → List Entry) → Prints fleet c pieces → AllByRecursion (IsWithin (length fleet.names)) pieces
       → Answers fleet (grounds_in ys) histories (record { command = c; pieces = pieces }) → Answers fleet (grounds_of fleet known) histories (record { command = c; pieces = pieces })

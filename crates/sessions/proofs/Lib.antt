@@ -1,5 +1,11 @@
+pub mod Lists
+pub mod Items
 pub mod Growing
 pub mod Going
 pub mod Asking
 pub mod Playing
+pub mod Holding
+pub mod Fanning
+pub mod Whole
+pub mod Sessions
 pub mod Ending

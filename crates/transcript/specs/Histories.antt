@@ -1,6 +1,6 @@
 -- One history for each table, by the numbers of its lines; and in which order the numbers rise.
 use Rattle.std.specs.Prelude.{◌≡◌, ℕ, suc, ◌<◌, ◌≤◌, ◌==◌, ◌&&◌, Bool, List, [], ◌∷◌, Option, Some, None, ⊤, if◌then◌else◌, IsPermutation}
-use Rattle.std.specs.List.{flat_map}
+use Rattle.std.specs.List.{AllByRecursion, flat_map}
 use Rattle.leaf_model.specs.declared.groups.Group.{Group}
 use Rattle.leaf_model.specs.Content.{Contents}
 use Rattle.leaf_history.specs.Calls.{Call}
@@ -9,7 +9,7 @@ use Rattle.leaf_history.specs.Replies as reply
 use Rattle.leaf_history.specs.History.{Entry, HistoryState, LegalFrom}
 use Rattle.printed_lines.specs.declared.line.Said.{Said}
 use Rattle.printed_lines.specs.declared.line.Said.TheVariants.{Added, Removed, Asked, RefusedShut, RefusedFull, RefusedMemory, Opened, Took, Flushed, Closed, Handed}
-use Rattle.transcript.specs.Pieces.{Piece, Called, Worn, Acted, Says, Noted, Played}
+use Rattle.transcript.specs.Pieces.{Piece, Called, Worn, Acted, Says, Noted, Played, PlayedItem, One, Burst, pieces_in}
 
 -- the line of an entry, with the call that a caller made
 pub record Shown : Type 0 where
@@ -73,7 +73,12 @@ abbrev pub Rises : ℕ → List Shown → ℕ → Type 0
 Rises low [] high = low ≤ high
 Rises low (s ∷ ss) high = (low < s.number) × Rises s.number ss high
 
--- The numbers of a table rise, command by command.
-abbrev pub InOrder : ℕ → ℕ → ℕ → List Played → ℕ → Type 0
+-- those of a command, or of each lane of a burst
+abbrev pub ItemRises : ℕ → ℕ → ℕ → PlayedItem → ℕ → Type 0
+ItemRises leaf table low (One p) high = Rises low (shown leaf table p.pieces) high
+ItemRises leaf table low (Burst lanes) high = (low ≤ high) × AllByRecursion (λ lane. Rises low (shown leaf table (pieces_in lane)) high) lanes
+
+-- Outside bursts and within a lane the numbers of a table rise; those of a burst lie above all before it and below all behind it.
+abbrev pub InOrder : ℕ → ℕ → ℕ → List PlayedItem → ℕ → Type 0
 InOrder leaf table low [] high = low ≤ high
-InOrder leaf table low (p ∷ ps) high = (between : ℕ) × Rises low (shown leaf table p.pieces) between × InOrder leaf table between ps high
+InOrder leaf table low (x ∷ xs) high = (between : ℕ) × ItemRises leaf table low x between × InOrder leaf table between xs high

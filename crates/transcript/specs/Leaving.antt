@@ -10,11 +10,11 @@ use Rattle.crash_moments.specs.Left.{NamedStates, Left}
 use Rattle.crash_moments.specs.Told as moments
 use Rattle.crash_states.specs.Standing.{tables_of}
 use Rattle.leaf_machine.specs.Leaving.{BeginsAgain}
-use Rattle.script_text.specs.declared.command.Command.{Command}
+use Rattle.script_text.specs.declared.item.Item.{Item}
 use Rattle.printed_lines.specs.declared.line.Line.{Line}
 use Rattle.printed_lines.specs.Lines.{lines_text}
 use Rattle.transcript.specs.Base.{LogHas, unseen, watched_with}
-use Rattle.transcript.specs.Pieces.{all_lines, fleet_of, leaf_count, pieces_in}
+use Rattle.transcript.specs.Pieces.{all_lines, all_pieces, fleet_of, leaf_count}
 use Rattle.transcript.specs.Life.{Life}
 use Rattle.transcript.specs.Counts.{IsCounted}
 use Rattle.transcript.specs.Strangers.{IsNamedBy, Strangers}
@@ -47,19 +47,19 @@ module _ {B : Type 0} (meaning : B → Meaning) (olds news : List B) where
   abbrev pub AreKnown : (ℕ → Option NamedStates) → (ℕ → Option Known) → Type 0
   AreKnown base known = (leaf : ℕ) (old : B) → slice_get olds leaf ≡ Some old → IsKnown (base leaf) (meaning old) (known leaf)
 
-  -- These lines are a transcript of the commands, faults and strangers have their cause, and the berths are left so; those that no leaf uses are untouched.
-  pub record IsToldRun (commands : List Command) (known : ℕ → Option Known) (lines : List Line) : Type 0 where
-    pub transcript : Transcript (fleet_of commands) known commands (lines_text (fleet_of commands).names lines)
+  -- These lines are a transcript of the items, faults and strangers have their cause, and the berths are left so; those that no leaf uses are untouched.
+  pub record IsToldRun (items : List Item) (known : ℕ → Option Known) (lines : List Line) : Type 0 where
+    pub transcript : Transcript (fleet_of items) known items (lines_text (fleet_of items).names lines)
     pub lines_are : all_lines transcript.played ≡ lines
-    pub counts : (leaf : ℕ) → leaf < (leaf_count (fleet_of commands)) → AtBerth leaf (IsCounted leaf (pieces_in transcript.played))
-    pub strangers : (leaf : ℕ) (k : Known) → leaf < (leaf_count (fleet_of commands)) → known leaf ≡ Some k →
-        Strangers (IsNamedBy (fleet_of commands).names k.held) leaf (pieces_in transcript.played)
-    pub leaves : (leaf : ℕ) (k : Known) → leaf < (leaf_count (fleet_of commands)) → known leaf ≡ Some k →
-        AtBerth leaf (LeavesBerth (fleet_of commands).names k.base (transcript.lives leaf) (transcript.histories leaf))
-    pub others : drop (leaf_count (fleet_of commands)) news ≡ drop (leaf_count (fleet_of commands)) olds
+    pub counts : (leaf : ℕ) → leaf < (leaf_count (fleet_of items)) → AtBerth leaf (IsCounted leaf (all_pieces transcript.played))
+    pub strangers : (leaf : ℕ) (k : Known) → leaf < (leaf_count (fleet_of items)) → known leaf ≡ Some k →
+        Strangers (IsNamedBy (fleet_of items).names k.held) leaf (all_pieces transcript.played)
+    pub leaves : (leaf : ℕ) (k : Known) → leaf < (leaf_count (fleet_of items)) → known leaf ≡ Some k →
+        AtBerth leaf (LeavesBerth (fleet_of items).names k.base (transcript.lives leaf) (transcript.histories leaf))
+    pub others : drop (leaf_count (fleet_of items)) news ≡ drop (leaf_count (fleet_of items)) olds
 
   -- The text of these lines was written, whatever is known of the berths' beginnings.
-  pub record IsWritten (base : ℕ → Option NamedStates) (commands : List Command) (was now : Option (List ℕ)) : Type 0 where
+  pub record IsWritten (base : ℕ → Option NamedStates) (items : List Item) (was now : Option (List ℕ)) : Type 0 where
     pub lines : List Line
-    pub written : Appends was now (lines_text (fleet_of commands).names lines)
-    pub told : (known : ℕ → Option Known) → AreKnown base known → IsToldRun commands known lines
+    pub written : Appends was now (lines_text (fleet_of items).names lines)
+    pub told : (known : ℕ → Option Known) → AreKnown base known → IsToldRun items known lines

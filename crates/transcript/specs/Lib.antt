@@ -11,3 +11,4 @@ pub mod Leaving
 pub mod Stage
 pub mod Holds
 pub mod Steps
+pub mod Lanes

@@ -4,6 +4,8 @@ use Rattle.std.specs.List.{flat_map}
 use Rattle.leaf_history.specs.Calls.{Call}
 use Rattle.script_text.specs.declared.command.Command.{Command}
 use Rattle.script_text.specs.declared.command.Command.TheVariants as command
+use Rattle.script_text.specs.declared.item.Item.{Item}
+use Rattle.script_text.specs.declared.item.Item.TheVariants as item
 use Rattle.printed_lines.specs.declared.line.Said.{Said}
 use Rattle.printed_lines.specs.declared.line.Verb.{Verb}
 use Rattle.printed_lines.specs.declared.line.Verb.TheVariants.{Flush, Drain, Kill, Start}
@@ -61,8 +63,38 @@ commands_in ps = map (λ (p : Played). p.command) ps
 abbrev pub pieces_in : List Played → List Piece
 pieces_in ps = flat_map (λ (p : Played). p.pieces) ps
 
-abbrev pub all_lines : List Played → List Line
-all_lines ps = flat_map (λ (p : Played). lines_in p.pieces) ps
+-- an item of a script as it was played: a command, or the lanes of a burst
+pub data PlayedItem : Type 0 where
+  One : (played : Played) → PlayedItem
+  Burst : (lanes : List (List Played)) → PlayedItem
+
+abbrev pub item_of : PlayedItem → Item
+item_of (One p) = item.One p.command
+item_of (Burst lanes) = item.Burst (map commands_in lanes)
+
+-- the lanes of a burst from this number on, each behind its number
+abbrev pub lane_lines : ℕ → List (List Played) → List Line
+lane_lines number [] = []
+lane_lines number (lane ∷ lanes) = line.Lane number ∷ (lines_in (pieces_in lane) ++ lane_lines (suc number) lanes)
+
+abbrev pub item_lines : PlayedItem → List Line
+item_lines (One p) = lines_in p.pieces
+item_lines (Burst lanes) = lane_lines 0 lanes
+
+abbrev pub all_lines : List PlayedItem → List Line
+all_lines items = flat_map item_lines items
+
+-- the commands in the script's order, lane by lane in a burst
+abbrev pub plays_of : PlayedItem → List Played
+plays_of (One p) = p ∷ []
+plays_of (Burst lanes) = flat_map (λ lane. lane) lanes
+
+abbrev pub plays_in : List PlayedItem → List Played
+plays_in items = flat_map plays_of items
+
+-- all that was printed, in that order
+abbrev pub all_pieces : List PlayedItem → List Piece
+all_pieces items = pieces_in (plays_in items)
 
 -- ---- the fleet
 
@@ -74,10 +106,18 @@ pub record Fleet : Type 0 where
 abbrev pub leaf_count : Fleet → ℕ
 leaf_count f = f.machines * f.per_machine
 
+abbrev pub no_fleet : Fleet
+no_fleet = record { machines = 0; per_machine = 0; names = [] }
+
+abbrev pub fleet_made : Command → Fleet
+fleet_made (command.Fleet machines per_machine tables) = record { machines = machines; per_machine = per_machine; names = tables }
+fleet_made _ = no_fleet
+
 -- the fleet that a script's first command makes: none where there is no command
-abbrev pub fleet_of : List Command → Fleet
-fleet_of (command.Fleet machines per_machine tables ∷ more) = record { machines = machines; per_machine = per_machine; names = tables }
-fleet_of _ = record { machines = 0; per_machine = 0; names = [] }
+abbrev pub fleet_of : List Item → Fleet
+fleet_of [] = no_fleet
+fleet_of (item.One c ∷ items) = fleet_made c
+fleet_of (item.Burst lanes ∷ items) = no_fleet
 
 -- the place of a name among the tables, or their number
 abbrev pub place_of : List ℕ → List (List ℕ) → ℕ

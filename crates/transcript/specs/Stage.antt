@@ -1,6 +1,6 @@
 -- A leaf and its callers' seats as the program holds them, and what region and disk hold of it.
--- The leaf is leaf 0, and each of its tables has one seat of callers.
-use Rattle.std.specs.Prelude.{◌≡◌, ℕ, List, length, slice_get, Some, Option, IsTrue}
+-- The run has a seat of callers at each of its tables; a lane has one where it needs it.
+use Rattle.std.specs.Prelude.{◌≡◌, ℕ, List, length, slice_get, Some, None, Option, IsTrue}
 use Rattle.leaf_model.specs.declared.writes.Write.{Write}
 use Rattle.row_records.specs.Records.{LogRecord}
 use Rattle.berth_face.specs.Berth.{Meaning}
@@ -75,13 +75,20 @@ pub record Meets (v c v' c' : SeatView) : Type 0 where
   pub caller_learns : LearnsOthers c c'
   pub ids : AreIds c'.seen
 
--- at each table the steward's seat and the caller's met
-pub record MeetAll (leaf : Leaf) (callers : List SeatView) (leaf' : Leaf) (callers' : List SeatView) (m : Meaning) : Type 0 where
+-- the same where there is a caller's seat, and else the steward's stays
+abbrev pub MeetsIf : SeatView → Option SeatView → SeatView → Option SeatView → Type 0
+MeetsIf v (Some c) v' (Some c') = Meets v c v' c'
+MeetsIf v None v' None = v' ≡ v
+MeetsIf v (Some c) v' None = ⊥
+MeetsIf v None v' (Some c') = ⊥
+
+-- at each table the steward's seat and the caller's, where there is one, met
+pub record MeetAll (leaf : Leaf) (callers : List (Option SeatView)) (leaf' : Leaf) (callers' : List (Option SeatView)) (m : Meaning) : Type 0 where
   pub seats : List SeatView
   pub leaf_is : leaf' ≡ with_seats leaf seats
-  pub each : (place : ℕ) (v c v' c' : SeatView)
+  pub each : (place : ℕ) (v v' : SeatView) (c c' : Option SeatView)
       → slice_get (seated_of leaf).seats place ≡ Some v → slice_get callers place ≡ Some c
       → slice_get seats place ≡ Some v' → slice_get callers' place ≡ Some c'
-      → Meets v c v' c'
+      → MeetsIf v c v' c'
   pub count : (length seats ≡ length (seated_of leaf).seats) × (length callers' ≡ length callers)
   pub stands : (base : NamedStates) → IsTrue m.tells → AreFounded (seated_of leaf) → Stands base leaf m → Stands base leaf' m

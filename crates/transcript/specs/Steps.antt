@@ -39,7 +39,7 @@ use Rattle.transcript.specs.Pieces.{Piece, Called, Worn, Acted, Says, Deed, Star
 use Rattle.transcript.specs.Shapes.{Prints}
 use Rattle.transcript.specs.Answers.{Answers}
 use Rattle.transcript.specs.Life.{IsCopyLength, MayMake}
-use Rattle.transcript.specs.Holds.{Hold, GoOn, grounds_in, with_callers}
+use Rattle.transcript.specs.Holds.{Hold, GoOn, grounds_in, with_callers, with_leaf}
 use Rattle.transcript.specs.Stage.{Leaf, IsDown, IsUp, IsPreparing, seated_of, Stands, ServingStands, AreHandedNothing, Carries, MeetAll}
 
 -- ---- the calls of callers
@@ -55,15 +55,15 @@ IsReplyPiece leaf table c (told.NoMemory number) p = p ≡ Called leaf table c n
 IsReplyPiece leaf table c told.Worn p = p ≡ Worn leaf table
 
 -- a caller's call of a leaf's table in that place, and its piece
-pub record CallStep (leaf table : ℕ) (c : Call) (tables : List Shared) (callers : List SeatView) (p : Piece) (callers' : List SeatView) : Type 0 where
+pub record CallStep (leaf table : ℕ) (c : Call) (tables : List Shared) (callers : List (Option SeatView)) (p : Piece) (callers' : List (Option SeatView)) : Type 0 where
   pub shared : Shared
   pub before : SeatView
   pub after : SeatView
   pub reply : Reply
   pub at : slice_get tables table ≡ Some shared
-  pub was : slice_get callers table ≡ Some before
+  pub was : slice_get callers table ≡ Some (Some before)
   pub answered : Answered (base_seen shared) before c reply after
-  pub now : callers' ≡ slice_set callers table after
+  pub now : callers' ≡ slice_set callers table (Some after)
   pub says : IsReplyPiece leaf table c reply p
 
 -- ---- notes, as they are told
@@ -353,9 +353,9 @@ Moves (Drains stop) m m' leaf notes ends leaf' = DrainMoves m m' leaf stop notes
 Moves Kills m m' leaf notes ends leaf' = KillMoves m m' leaf notes ends leaf'
 
 -- a deed of the steward of the leaf with this number, between two meetings of all seats
-pub record DeedStep (number : ℕ) (deed : Deed) (m m' : Meaning) (leaf : Leaf) (callers : List SeatView) (p : Piece) (leaf' : Leaf) (callers' : List SeatView) : Type 0 where
+pub record DeedStep (number : ℕ) (deed : Deed) (m m' : Meaning) (leaf : Leaf) (callers : List (Option SeatView)) (p : Piece) (leaf' : Leaf) (callers' : List (Option SeatView)) : Type 0 where
   pub met : Leaf
-  pub met_callers : List SeatView
+  pub met_callers : List (Option SeatView)
   pub moved : Leaf
   pub notes : List Note
   pub ends : Ending
@@ -373,16 +373,17 @@ pub data Goes {B : Type 0} (meaning : B → Meaning) : List (Hold B) → List Pi
       → pieces ≡ []
       → ys ≡ xs
       → Goes meaning xs pieces ys
-  call : (xs : List (Hold B)) (pieces : List Piece) (ys : List (Hold B)) (leaf table : ℕ) (c : Call) (x : Hold B) (callers : List SeatView) (p : Piece) (others : List Piece)
+  call : (xs : List (Hold B)) (pieces : List Piece) (ys : List (Hold B)) (leaf table : ℕ) (c : Call) (x : Hold B) (callers : List (Option SeatView)) (p : Piece) (others : List Piece)
       → slice_get xs leaf ≡ Some x
-      → CallStep leaf table c (seated_of x.leaf).tables x.callers p callers
+      → CallStep leaf table c x.tables x.callers p callers
       → Goes meaning (slice_set xs leaf (with_callers x callers)) others ys
       → pieces ≡ p ∷ others
       → Goes meaning xs pieces ys
-  act : (xs : List (Hold B)) (pieces : List Piece) (ys : List (Hold B)) (leaf : ℕ) (deed : Deed) (x y : Hold B) (p : Piece) (others : List Piece)
+  act : (xs : List (Hold B)) (pieces : List Piece) (ys : List (Hold B)) (leaf : ℕ) (deed : Deed) (x : Hold B) (l l' : Leaf) (b b' : B) (callers : List (Option SeatView)) (p : Piece) (others : List Piece)
       → slice_get xs leaf ≡ Some x
-      → DeedStep leaf deed (meaning x.berth) (meaning y.berth) x.leaf x.callers p y.leaf y.callers
-      → Goes meaning (slice_set xs leaf y) others ys
+      → x.held ≡ Some (l, b)
+      → DeedStep leaf deed (meaning b) (meaning b') l x.callers p l' callers
+      → Goes meaning (slice_set xs leaf (with_leaf x l' b' callers)) others ys
       → pieces ≡ p ∷ others
       → Goes meaning xs pieces ys
   say : (xs : List (Hold B)) (pieces : List Piece) (ys : List (Hold B)) (l : Line) (others : List Piece)

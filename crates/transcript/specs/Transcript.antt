@@ -5,9 +5,9 @@ use Rattle.berth_face.specs.Berth.{Pair}
 use Rattle.leaf_history.specs.History.{Entry, no_base}
 use Rattle.leaf_opening.specs.declared.ways.Way.{Way}
 use Rattle.crash_moments.specs.Left.{NamedStates}
-use Rattle.script_text.specs.declared.command.Command.{Command}
+use Rattle.script_text.specs.declared.item.Item.{Item}
 use Rattle.printed_lines.specs.Lines.{lines_text, name_at}
-use Rattle.transcript.specs.Pieces.{Played, Fleet, all_lines, commands_in, leaf_count, pieces_in}
+use Rattle.transcript.specs.Pieces.{Played, PlayedItem, Fleet, all_lines, all_pieces, item_of, leaf_count, plays_in}
 use Rattle.transcript.specs.Shapes.{Prints}
 use Rattle.transcript.specs.Life.{Life, Down, Lives}
 use Rattle.transcript.specs.Histories.{Ground, IsHistoryOf, InOrder, shown}
@@ -32,22 +32,22 @@ first_life None names = record { mode = Down; way = None; durable = None; begun 
 abbrev pub grounds_of : Fleet → (ℕ → Option Known) → ℕ → ℕ → Ground
 grounds_of fleet known leaf table = ground_of (known leaf) (name_at fleet.names table)
 
--- The text is what these commands print over leaves that begin so.
-pub record Transcript (fleet : Fleet) (known : ℕ → Option Known) (commands : List Command) (out : List ℕ) : Type 0 where
-  pub played : List Played
+-- The text is what these items of a script print over leaves that begin so.
+pub record Transcript (fleet : Fleet) (known : ℕ → Option Known) (items : List Item) (out : List ℕ) : Type 0 where
+  pub played : List PlayedItem
   pub histories : ℕ → ℕ → List Entry
   pub lives : ℕ → Life
-  pub commands_are : commands_in played ≡ commands
+  pub items_are : map item_of played ≡ items
   pub text : out ≡ lines_text fleet.names (all_lines played)
   -- command by command, the lines that belong to it
-  pub prints : AllByRecursion (λ (p : Played). Prints fleet p.command p.pieces) played
+  pub prints : AllByRecursion (λ (p : Played). Prints fleet p.command p.pieces) (plays_in played)
   -- each leaf's steward, by the states of the leaf
   pub each_lives : (leaf : ℕ) → leaf < (leaf_count fleet) →
-      Lives (is_some (known leaf)) (length fleet.names) leaf (first_life (known leaf) fleet.names) (pieces_in played) (lives leaf)
+      Lives (is_some (known leaf)) (length fleet.names) leaf (first_life (known leaf) fleet.names) (all_pieces played) (lives leaf)
   -- each table, by the numbers, and the order of those
   pub one_history : (leaf table : ℕ) → leaf < (leaf_count fleet) → table < length fleet.names →
-      IsHistoryOf (grounds_of fleet known leaf table) (shown leaf table (pieces_in played)) (histories leaf table)
+      IsHistoryOf (grounds_of fleet known leaf table) (shown leaf table (all_pieces played)) (histories leaf table)
   pub in_order : (leaf table : ℕ) → leaf < (leaf_count fleet) → table < length fleet.names → InOrder leaf table 0 played (length (histories leaf table))
   -- the answers, and the worn seats
-  pub answers : AllByRecursion (Answers fleet (grounds_of fleet known) histories) played
-  pub worn : AllByRecursion (WornIsLong histories) (pieces_in played)
+  pub answers : AllByRecursion (Answers fleet (grounds_of fleet known) histories) (plays_in played)
+  pub worn : AllByRecursion (WornIsLong histories) (all_pieces played)

@@ -1,20 +1,22 @@
 use Rattle.std.proofs.Common.{◌≡◌, ◌++◌, ◌≤◌, List}
 use Rattle.std.specs.List.{AllByRecursion}
 use Rattle.std.specs.VecDeque.{deque_len}
-use Rattle.transcript.specs.Steps.{MayPlay}
-use Rattle.script_text.specs.declared.command.Command.{Command}
+use Rattle.script_text.specs.declared.item.Item.{Item}
+use Rattle.player.specs.Crew.{HasAll}
+use Rattle.bursts.specs.Items.{MayPlayItem}
 use Rattle.play.specs.Runs.{RunSoFar, berths_in}
 use Rattle.play.proofs.berths.play_all.Given as goal
 
--- some commands were played, and the others are left
-abbrev pub invariant-loop-command : goal.invariant-loop-command
-invariant-loop-command g l =
-    (done : List Command)
-    × (done ++ l.rest.items ≡ l.fn.commands.items)
+-- some items were played, and the others are left
+abbrev pub invariant-loop-item : goal.invariant-loop-item
+invariant-loop-item g l =
+    (done : List Item)
+    × (done ++ l.rest.items ≡ l.fn.items.items)
     × RunSoFar g.N.Bases.base g.B.Berth.meaning l.initial.crew.fleet (berths_in l.initial.crew.holds) (g.K.Sink.written l.initial.sink) (g.K.Sink.written l.sink) done l.crew.holds
     × (l.crew.fleet ≡ l.initial.crew.fleet)
-    × AllByRecursion (MayPlay l.initial.crew.fleet) l.rest.items
+    × AllByRecursion (MayPlayItem l.initial.crew.fleet) l.rest.items
     × (g.K.Sink.faults l.initial.sink ≤ g.K.Sink.faults l.sink)
+    × HasAll l.crew.fleet l.crew.holds
 
-abbrev pub decreases-loop-command : goal.decreases-loop-command
-decreases-loop-command g l = deque_len l.rest
+abbrev pub decreases-loop-item : goal.decreases-loop-item
+decreases-loop-item g l = deque_len l.rest

@@ -1,9 +1,8 @@
 use Rattle.std.proofs.Common.{rules, ◌≡◌, sym, subst, length, Ok}
 use Rattle.berth_face.specs.Streams.{ReadsAll, TakesAtMost}
 use Rattle.play.specs.Outcome.{IfScript, IsNoPlay, TakesText}
-use Rattle.play.specs.Played.{LeavesBerths, commands_of, leaves_in}
 use Rattle.play.specs.Source.{longest_text}
-use Rattle.script_text.specs.Fits.{AreCommands}
+use Rattle.script_text.specs.Fits.{IsScript}
 use Rattle.script_text.specs.Script.{script_of}
 use Rattle.play.proofs.Ends.{leaves_as_told}
 use Rattle.play.proofs.Own.{no_play_fault, no_more_fault, Found}
@@ -30,8 +29,5 @@ returns-clause-berths g c =
     let script = c.in-Ok-parse.script in
     let read : ReadsAll before after c.in-Ok.text.items = search rules in
     let is : script_of c.in-Ok.text.items ≡ Ok script = search rules in
-    let commands : c.in-Ok-into_commands.commands ≡ commands_of script = search rules in
-    let are : AreCommands (commands_of script) = subst AreCommands commands (search rules) in
-    let berths = c.play_commands.new.berths.items in
-    leaves_as_told g.B.Berth.meaning before after c.in-Ok.text.items script c.args.berths.now.items berths read is are
-    (subst (λ cs. LeavesBerths g.B.Berth.meaning (leaves_in cs) c.args.berths.now.items berths) commands c.play_commands.ensures.berths)
+    let fits : IsScript script = search rules in
+    leaves_as_told g.B.Berth.meaning before after c.in-Ok.text.items script c.args.berths.now.items c.play_items.new.berths.items read is fits.items c.play_items.ensures.berths

@@ -1,4 +1,4 @@
-use Rattle.std.proofs.Common.{sym, subst, ap}
+use Rattle.std.proofs.Common.{Some, sym, subst, ap}
 use Rattle.leaf_steward.specs.Seated.{AreFounded}
 use Rattle.transcript.specs.Stage.{IsDown, Stands}
 use Rattle.player.specs.declared.leaf.OneLeaf.TheVariants as one
@@ -7,10 +7,10 @@ use Rattle.player.proofs.begin.begin.Goals as goal
 
 pub returns-clause-leaves : goal.returns-clause-leaves
 returns-clause-leaves g c = (
-  one.Down c.new.result,
+  Some (one.Down c.new.result),
   c.in-Ok.ensures.items,
   record {
-    is = ap (λ x. one.Down x) c.new.ensures.leaf;
+    is = ap (λ x. Some (one.Down x)) c.new.ensures.leaf;
     stands = λ states founded may begins.
         subst (λ x. Stands states (IsDown x.0) (g.B.Berth.meaning x.1)) c.new.ensures.leaf
         (c.new.ensures.rests states (subst (λ x. AreFounded x.0) (sym c.new.ensures.leaf) founded) may (subst (λ x. BeginsWith states x.0) (sym c.new.ensures.leaf) begins));

@@ -1,4 +1,4 @@
-use Rattle.sessions.proofs.Playing.{begins, plays_on}
+use Rattle.sessions.proofs.Sessions.{begins, plays_on}
 use Rattle.sessions.proofs.Ending.{ended}
 use Rattle.sessions.proofs.laws.plays_go_on.Goals as goal
 

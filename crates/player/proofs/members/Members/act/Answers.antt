@@ -1,32 +1,32 @@
-use Rattle.std.proofs.Common.{◌<◌, length, ap, ◌∙◌, arith}
-use Rattle.std.specs.List.{insert}
+use Rattle.std.proofs.Common.{Some, sym, ap, ◌∙◌}
+use Rattle.std.specs.Prelude.{slice_set}
 use Rattle.player.specs.Commands.{deed_of}
-use Rattle.player.proofs.Calling.{stands_at}
-use Rattle.player.proofs.HoldLists.{insert_removed}
-use Rattle.player.proofs.MemberSteps.{acts_at, members_then}
+use Rattle.player.proofs.MemberSteps.{acts_at, member_at, members_then, none_is_not, set_twice, slot_at, slot_held}
 use Rattle.player.proofs.members.Members.act.Goals as goal
 
-pub act_on-leaf-requires-clause-member : goal.act_on-leaf-requires-clause-member
-act_on-leaf-requires-clause-member g c = λ κs bounds.
+pub unreachable-requires : goal.unreachable-requires
+unreachable-requires g c =
+    let one = slot_held c.args.self.now c.args.number c.index_mut.result.now c.requires.members c.requires.leaf c.requires.held c.index_mut.ensures.value in
+    none_is_not c.take.result one.0 c.in-None.is (c.take.ensures.value ∙ one.1)
+
+pub act_on-moved-requires-clause-member : goal.act_on-moved-requires-clause-member
+act_on-moved-requires-clause-member g c = λ κs bounds.
     let x = c.args.self.now in
-    let low : c.args.number < length x.leaves.items = omega (arith, c.requires.leaf, c.requires.members.leaves) in
-    let at = stands_at x.leaves.items c.args.number c.remove-leaf.result low c.remove-leaf.ensures.value in
-    (c.requires.members.each c.args.number c.remove-leaf.result at).member
+    let at = slot_at x c.args.number c.index_mut.result.now c.in-Some.leaf c.requires.members c.requires.leaf c.index_mut.ensures.value (sym c.take.ensures.value ∙ c.in-Some.is) in
+    member_at x c.args.number c.in-Some.leaf c.requires.members c.requires.leaf (c.requires.members.each c.args.number c.in-Some.leaf at)
 
 pub returns-clause-members : goal.returns-clause-members
 returns-clause-members g c =
     let x = c.args.self.now in
-    let low : c.args.number < length x.leaves.items = omega (arith, c.requires.leaf, c.requires.members.leaves) in
-    let at = stands_at x.leaves.items c.args.number c.remove-leaf.result low c.remove-leaf.ensures.value in
-    let then = c.act_on-leaf in
-    let now = c.put_in.ensures.items ∙ ap (λ ls. insert ls c.args.number then.result.0) c.remove-leaf.ensures.items ∙ insert_removed x.leaves.items c.args.number then.result.0 low in
-    members_then x c.args.number c.remove-leaf.result then.result.0 c.put_in.new.items then.new.rows c.requires.members at now then.ensures.only then.ensures.member then.ensures.keeps.tables
+    let at = slot_at x c.args.number c.index_mut.result.now c.in-Some.leaf c.requires.members c.requires.leaf c.index_mut.ensures.value (sym c.take.ensures.value ∙ c.in-Some.is) in
+    let then = c.act_on-moved in
+    let now = ap (λ o. slice_set (slice_set x.leaves.items c.args.number c.take.new.self) c.args.number o) c.put.ensures ∙ set_twice x.leaves.items c.args.number c.take.new.self (Some then.result.0) in
+    members_then x c.args.number c.in-Some.leaf then.result.0 _ then.new.rows c.requires.members at now then.ensures.only then.ensures.member then.ensures.keeps.tables
 
 pub returns-clause-acts : goal.returns-clause-acts
 returns-clause-acts g c =
     let x = c.args.self.now in
-    let low : c.args.number < length x.leaves.items = omega (arith, c.requires.leaf, c.requires.members.leaves) in
-    let at = stands_at x.leaves.items c.args.number c.remove-leaf.result low c.remove-leaf.ensures.value in
-    let then = c.act_on-leaf in
-    let now = c.put_in.ensures.items ∙ ap (λ ls. insert ls c.args.number then.result.0) c.remove-leaf.ensures.items ∙ insert_removed x.leaves.items c.args.number then.result.0 low in
-    acts_at x c.args.number c.remove-leaf.result then.result.0 c.put_in.new.items then.new.rows c.requires.members at now then.ensures.only g.B.Berth.meaning (deed_of c.args.task) then.result.1 then.ensures.acts then.ensures.time
+    let at = slot_at x c.args.number c.index_mut.result.now c.in-Some.leaf c.requires.members c.requires.leaf c.index_mut.ensures.value (sym c.take.ensures.value ∙ c.in-Some.is) in
+    let then = c.act_on-moved in
+    let now = ap (λ o. slice_set (slice_set x.leaves.items c.args.number c.take.new.self) c.args.number o) c.put.ensures ∙ set_twice x.leaves.items c.args.number c.take.new.self (Some then.result.0) in
+    acts_at x c.args.number c.in-Some.leaf then.result.0 _ then.new.rows c.requires.members at now then.ensures.only g.B.Berth.meaning (deed_of c.args.task) then.result.1 then.ensures.acts then.ensures.time

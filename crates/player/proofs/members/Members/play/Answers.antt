@@ -7,7 +7,7 @@ use Rattle.player.specs.Crew.{PlaysWith}
 use Rattle.player.specs.Members.{fleet_in, holds_in}
 use Rattle.player.specs.Commands.{CallsAt}
 use Rattle.player.proofs.NamePlaces.{known_place}
-use Rattle.player.proofs.Playing.{expire_plays, query_or_none}
+use Rattle.player.proofs.Playing.{expire_plays, query_or_none, query_still}
 use Rattle.player.proofs.members.Members.play.Goals as goal
 
 pub ask-requires-clause-table : goal.ask-requires-clause-table
@@ -28,3 +28,6 @@ returns-in-Expire-clause-plays g c =
 pub returns-in-Query-clause-plays : goal.returns-in-Query-clause-plays
 returns-in-Query-clause-plays g c =
     query_or_none g.B.Berth.meaning c.args.self.now c.ask.new.self c.ask.result c.in-Query.query c.args.command c.in-Query.is c.ask.ensures.asks
+
+pub returns-in-Query-clause-still : goal.returns-in-Query-clause-still
+returns-in-Query-clause-still g c = query_still g.B.Berth.meaning c.in-Query.query c.args.self.now c.ask.new.self c.ask.result c.ask.ensures.asks

@@ -1,13 +1,20 @@
 use Rattle.std.proofs.Common.{◌+◌, refl, ◌∙◌, arith}
+use Rattle.player.specs.Members.{holds_in}
+use Rattle.player.proofs.HoldLists.{still_leaf}
 use Rattle.player.proofs.Starting.{started_more, started_none}
 use Rattle.player.proofs.members.Members.start_all.Goals as goal
 
 pub loop-number-init : goal.loop-number-init
 loop-number-init g c = record {
-  members = c.requires;
+  members = c.requires.members;
   same = record { fleet = refl; tables = refl };
   starts = started_none g.B.Berth.meaning c.args.self.now c.new.result c.new.ensures.items;
 }
+
+pub act-more-requires-clause-held : goal.act-more-requires-clause-held
+act-more-requires-clause-held g c = λ κs bounds.
+    let was = c.loop-number in
+    still_leaf (holds_in c.args.self.now) (holds_in was.self) was.invariant.starts.goes.still was.number (c.requires.held was.number)
 
 pub loop-number-preserved : goal.loop-number-preserved
 loop-number-preserved g c =

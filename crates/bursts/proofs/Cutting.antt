@@ -1,0 +1,223 @@
+-- What is cut off for a lane, and what is left.
+use Rattle.std.proofs.Common.{◌≡◌, ℕ, zero, suc, ◌+◌, ◌-◌, ◌<◌, ◌≤◌, Bool, true, false, cond, List, [], ◌∷◌, ◌++◌, length, Option, Some, None, refl, sym, ap, subst, ◌∙◌, arith}
+use Rattle.std.specs.Prelude.{slice_get, is_some, count_by, MatchBool, replicate}
+use Rattle.std.specs.List.{AllByRecursion}
+use Rattle.std.proofs.lemmas.List.{length-replicate}
+use Rattle.std.proofs.lemmas.List.Sums.{sum_by_push}
+use Rattle.turnstile.specs.Seats.{keeps_all_but}
+use Rattle.leaf_table.specs.Calls.{SeatView}
+use Rattle.script_text.specs.declared.command.Command.{Command}
+use Rattle.script_text.specs.Fits.{IsCommand}
+use Rattle.transcript.specs.Pieces.{Fleet, leaf_count}
+use Rattle.transcript.specs.Holds.{Hold, caller_in}
+use Rattle.transcript.specs.Stage.{Leaf}
+use Rattle.transcript.specs.Lanes.{CutsOff, CutsOffAt, SplitsIf}
+use Rattle.player.specs.Crew.{HasAll, HasLeaf, HasSeats, Spares, StillHas, is_set}
+use Rattle.bursts.specs.declared.plan.Plan.{Plan}
+use Rattle.bursts.specs.Needs.{AreAlone, AreSpare, CanLend, IsPlan, acts_on, leaf_of, needed, needs_at, table_of}
+use Rattle.bursts.specs.Played.{MayPlayOn}
+use Rattle.bursts.proofs.Held.{still_leaf, still_seats, there_too}
+use Rattle.bursts.proofs.Needed.{all_marked, has_for, leaf_below, marked_by_length, table_below}
+
+-- ---- one seat
+
+pub rest_same : (needed : Bool) (s off rest : Option SeatView) → SplitsIf needed s off rest → is_some rest ≡ is_some s
+rest_same needed None off rest splits = ap (λ (o : Option SeatView). is_some o) splits.1
+rest_same true (Some s) off rest splits = ap (λ (o : Option SeatView). is_some o) splits.2
+rest_same false (Some s) off rest splits = ap (λ (o : Option SeatView). is_some o) splits.1
+
+off_some : (s off rest : Option SeatView) → SplitsIf true s off rest → is_some s ≡ true → is_some off ≡ true
+off_some None off rest splits some = absurd cc
+off_some (Some s) off rest splits some = ap (λ (o : Option SeatView). is_some o) splits.1
+
+share_less : (n : ℕ) (s off rest : Option SeatView) (c : SeatView) → SplitsIf true s off rest → rest ≡ Some c → ((v : SeatView) → s ≡ Some v → suc n ≤ v.share) → n ≤ c.share
+share_less n None off rest c splits is enough = let none : rest ≡ None = splits.1 in absurd cc
+share_less n (Some s) off rest c splits is enough =
+    let kept : rest ≡ Some (keeps_all_but 1 s) = splits.2 in
+    let same : keeps_all_but 1 s ≡ c = cc in
+    let share : s.share - 1 ≡ c.share = ap (λ (v : SeatView). v.share) same in
+    omega (arith, share, enough s refl)
+
+share_same : (n : ℕ) (s off rest : Option SeatView) (c : SeatView) → SplitsIf false s off rest → rest ≡ Some c → ((v : SeatView) → s ≡ Some v → n ≤ v.share) → n ≤ c.share
+share_same n None off rest c splits is enough = let none : rest ≡ None = splits.1 in absurd cc
+share_same n (Some s) off rest c splits is enough =
+    let kept : rest ≡ Some s = splits.1 in
+    let same : s ≡ c = cc in
+    let share : s.share ≡ c.share = ap (λ (v : SeatView). v.share) same in
+    omega (arith, share, enough s refl)
+
+-- ---- all leaves
+
+module _ {B : Type 0} (needs acts : ℕ → Bool) (xs off rest : List (Hold B)) (cut : CutsOff needs acts xs off rest) where
+  pub record CutAt (leaf : ℕ) (o r : Hold B) : Type 0 where
+    pub x : Hold B
+    pub at : slice_get xs leaf ≡ Some x
+    pub is : CutsOffAt needs (acts leaf) x o r
+
+  -- what a leaf was that is left
+  cut_rest : (leaf : ℕ) (r : Hold B) → slice_get rest leaf ≡ Some r → (o : Hold B) × CutAt leaf o r
+  cut_rest leaf r at =
+      let x = there_too xs rest leaf r cut.counts.1 at in
+      let o = there_too off rest leaf r (cut.counts.1 ∙ sym cut.counts.0) at in
+      (o.0, record { x = x.0; at = x.1; is = cut.each leaf x.0 o.0 r x.1 o.1 at })
+
+  -- what one was that is cut off
+  cut_off : (leaf : ℕ) (o : Hold B) → slice_get off leaf ≡ Some o → (r : Hold B) × CutAt leaf o r
+  cut_off leaf o at =
+      let x = there_too xs off leaf o cut.counts.0 at in
+      let r = there_too rest off leaf o (cut.counts.0 ∙ sym cut.counts.1) at in
+      (r.0, record { x = x.0; at = x.1; is = cut.each leaf x.0 o r.0 x.1 at r.1 })
+
+  pub rest_seats : (table : ℕ) → HasSeats xs table → HasSeats rest table
+  rest_seats table has = λ leaf r at.
+      let c = cut_rest leaf r at in
+      rest_same (needs table) (caller_in c.1.x.callers table) (caller_in c.0.callers table) (caller_in r.callers table) (c.1.is.seats table) ∙ has leaf c.1.x c.1.at
+
+  pub off_seats : (table : ℕ) → needs table ≡ true → HasSeats xs table → HasSeats off table
+  off_seats table needed has = λ leaf o at.
+      let c = cut_off leaf o at in
+      let splits = subst (λ (b : Bool). SplitsIf b (caller_in c.1.x.callers table) (caller_in o.callers table) (caller_in c.0.callers table)) needed (c.1.is.seats table) in
+      off_some (caller_in c.1.x.callers table) (caller_in o.callers table) (caller_in c.0.callers table) splits (has leaf c.1.x c.1.at)
+
+  pub rest_spares : (table n : ℕ) → needs table ≡ true → Spares xs table (suc n) → Spares rest table n
+  rest_spares table n needed spares = λ leaf r c at is.
+      let o = cut_rest leaf r at in
+      let splits = subst (λ (b : Bool). SplitsIf b (caller_in o.1.x.callers table) (caller_in o.0.callers table) (caller_in r.callers table)) needed (o.1.is.seats table) in
+      share_less n (caller_in o.1.x.callers table) (caller_in o.0.callers table) (caller_in r.callers table) c splits is (λ v at_v. spares leaf o.1.x v o.1.at at_v)
+
+  pub rest_spares_same : (table n : ℕ) → needs table ≡ false → Spares xs table n → Spares rest table n
+  rest_spares_same table n needed spares = λ leaf r c at is.
+      let o = cut_rest leaf r at in
+      let splits = subst (λ (b : Bool). SplitsIf b (caller_in o.1.x.callers table) (caller_in o.0.callers table) (caller_in r.callers table)) needed (o.1.is.seats table) in
+      share_same n (caller_in o.1.x.callers table) (caller_in o.0.callers table) (caller_in r.callers table) c splits is (λ v at_v. spares leaf o.1.x v o.1.at at_v)
+
+  pub rest_leaf : (leaf : ℕ) → acts leaf ≡ false → HasLeaf xs leaf → HasLeaf rest leaf
+  rest_leaf leaf stays has = λ r at.
+      let c = cut_rest leaf r at in
+      let held : (c.0.held ≡ None) × (r.held ≡ c.1.x.held) =
+      subst (λ (b : Bool). MatchBool b ((c.0.held ≡ c.1.x.held) × (r.held ≡ None)) ((c.0.held ≡ None) × (r.held ≡ c.1.x.held))) stays c.1.is.held in
+      ap (λ (h : Option (Leaf × B)). is_some h) held.1 ∙ has c.1.x c.1.at
+
+  pub off_leaf : (leaf : ℕ) → acts leaf ≡ true → HasLeaf xs leaf → HasLeaf off leaf
+  off_leaf leaf goes has = λ o at.
+      let c = cut_off leaf o at in
+      let held : (o.held ≡ c.1.x.held) × (c.0.held ≡ None) =
+      subst (λ (b : Bool). MatchBool b ((o.held ≡ c.1.x.held) × (c.0.held ≡ None)) ((o.held ≡ None) × (c.0.held ≡ c.1.x.held))) goes c.1.is.held in
+      ap (λ (h : Option (Leaf × B)). is_some h) held.0 ∙ has c.1.x c.1.at
+
+-- ---- plans
+
+pub length_snoc : {A : Type 0} (xs : List A) (x : A) → length (xs ++ x ∷ []) ≡ suc (length xs)
+length_snoc [] x = refl
+length_snoc (y ∷ ys) x = ap suc (length_snoc ys x)
+
+front_all : {A : Type 0} (P : A → Type 0) (xs : List A) (x : A) → AllByRecursion P (xs ++ x ∷ []) → AllByRecursion P xs × P x
+front_all P [] x all = (tt, all.0)
+front_all P (y ∷ ys) x all = let more = front_all P ys x all.1 in ((all.0, more.0), more.1)
+
+if_true : (b : Bool) → b ≡ true → ◌≡◌ {A = ℕ} (cond b 1 0) 1
+if_true true e = refl
+if_true false e = absurd cc
+
+if_false : (b : Bool) → b ≡ false → ◌≡◌ {A = ℕ} (cond b 1 0) 0
+if_false true e = absurd cc
+if_false false e = refl
+
+count_snoc : (p : Plan → Bool) (plans : List Plan) (plan : Plan) → count_by p (plans ++ plan ∷ []) ≡ count_by p plans + cond (p plan) 1 0
+count_snoc p plans plan = sum_by_push (λ (q : Plan). cond (p q) 1 0) plans plan
+
+counted_yes : (p : Plan → Bool) (plans : List Plan) (plan : Plan) → p plan ≡ true → count_by p (plans ++ plan ∷ []) ≡ suc (count_by p plans)
+counted_yes p plans plan sure =
+    omega (arith, count_snoc p plans plan, if_true (p plan) sure)
+
+counted_no : (p : Plan → Bool) (plans : List Plan) (plan : Plan) → p plan ≡ false → count_by p (plans ++ plan ∷ []) ≡ count_by p plans
+counted_no p plans plan never =
+    omega (arith, count_snoc p plans plan, if_false (p plan) never)
+
+cases : (b : Bool) (C : Type 0) → (b ≡ true → C) → (b ≡ false → C) → C
+cases true C sure never = sure refl
+cases false C sure never = never refl
+
+spares_at : {B : Type 0} (xs : List (Hold B)) (table n m : ℕ) → n ≡ m → Spares xs table n → Spares xs table m
+spares_at xs table n m same spares = subst (Spares xs table) same spares
+
+module _ {B : Type 0} (fleet : Fleet) (plans : List Plan) (plan : Plan) (xs : List (Hold B)) (can : CanLend fleet xs (plans ++ plan ∷ [])) where
+  pub last_plan : IsPlan fleet plan
+  last_plan = (front_all (IsPlan fleet) plans plan can.plans_are).1
+
+  -- a table that is marked is one of the fleet's
+  pub marks_tables : length plan.needs.tables.items ≡ length fleet.names
+  marks_tables = ap (λ (ms : List Bool). length ms) last_plan.needs.tables
+      ∙ (marked_by_length (table_of fleet.names) plan.commands.items (replicate (length fleet.names) false) ∙ length-replicate (length fleet.names) false)
+
+  pub marks_leaves : length plan.needs.leaves.items ≡ leaf_count fleet
+  marks_leaves = ap (λ (ms : List Bool). length ms) last_plan.needs.leaves
+      ∙ (marked_by_length leaf_of plan.commands.items (replicate (leaf_count fleet) false) ∙ length-replicate (leaf_count fleet) false)
+
+  set_below : (marks : List Bool) (i : ℕ) → is_set marks i ≡ true → i < length marks
+  set_below [] i e = absurd cc
+  set_below (m ∷ ms) zero e = omega arith
+  set_below (m ∷ ms) (suc i) e = let below = set_below ms i e in omega (arith, below)
+
+  pub lends_seats : (table : ℕ) → is_set plan.needs.tables.items table ≡ true → HasSeats xs table × Spares xs table 2
+  lends_seats table marked =
+      let below : table < length fleet.names = omega (arith, set_below plan.needs.tables.items table marked, marks_tables) in
+      (can.seats table below, λ leaf x c at is. let enough = can.spare table below leaf x c at is in omega (arith, enough, counted_yes (needs_at table) plans plan marked))
+
+  pub lends_leaf : (leaf : ℕ) → is_set plan.needs.leaves.items leaf ≡ true → HasLeaf xs leaf
+  lends_leaf leaf marked = can.leaves leaf (omega (arith, counted_yes (acts_on leaf) plans plan marked))
+
+  module _ (off rest : List (Hold B)) (cut : CutsOff (is_set plan.needs.tables.items) (is_set plan.needs.leaves.items) xs off rest) where
+    -- the others can be lent what they need still
+    pub lends_on : CanLend fleet rest plans
+    lends_on = record {
+      plans_are = (front_all (IsPlan fleet) plans plan can.plans_are).0;
+      alone = λ leaf. let few = can.alone leaf in omega (arith, few, count_snoc (acts_on leaf) plans plan);
+      spare = λ table below. cases (needs_at table plan) (Spares rest table (suc (count_by (needs_at table) plans)))
+          (λ sure. rest_spares (is_set plan.needs.tables.items) (is_set plan.needs.leaves.items) xs off rest cut table (suc (count_by (needs_at table) plans)) sure
+          (spares_at xs table (suc (count_by (needs_at table) (plans ++ plan ∷ []))) (suc (suc (count_by (needs_at table) plans))) (ap suc (counted_yes (needs_at table) plans plan sure)) (can.spare table below)))
+          (λ never. rest_spares_same (is_set plan.needs.tables.items) (is_set plan.needs.leaves.items) xs off rest cut table (suc (count_by (needs_at table) plans)) never
+          (spares_at xs table (suc (count_by (needs_at table) (plans ++ plan ∷ []))) (suc (count_by (needs_at table) plans)) (ap suc (counted_no (needs_at table) plans plan never)) (can.spare table below)));
+      seats = λ table below. rest_seats (is_set plan.needs.tables.items) (is_set plan.needs.leaves.items) xs off rest cut table (can.seats table below);
+      leaves = λ leaf some. cases (acts_on leaf plan) (HasLeaf rest leaf)
+          (λ sure. absurd (omega (arith, some, can.alone leaf, counted_yes (acts_on leaf) plans plan sure)))
+          (λ never. rest_leaf (is_set plan.needs.tables.items) (is_set plan.needs.leaves.items) xs off rest cut leaf never (can.leaves leaf (omega (arith, some, counted_no (acts_on leaf) plans plan never))));
+    }
+
+    lane_may : (cs : List Command) → AllByRecursion (IsCommand (leaf_count fleet) fleet.names) cs
+        → AllByRecursion (λ (c : Command). (i : ℕ) → table_of fleet.names c ≡ Some i → i < length fleet.names → is_set plan.needs.tables.items i ≡ true) cs
+        → AllByRecursion (λ (c : Command). (i : ℕ) → leaf_of c ≡ Some i → i < leaf_count fleet → is_set plan.needs.leaves.items i ≡ true) cs
+        → AllByRecursion (MayPlayOn fleet off) cs
+    lane_may [] are tables leaves = tt
+    lane_may (c ∷ cs) are tables leaves = (
+      (
+        are.0,
+        has_for fleet off c are.0
+            (λ table at. let marked = tables.0 table at (table_below fleet c table are.0 at) in
+            off_seats (is_set plan.needs.tables.items) (is_set plan.needs.leaves.items) xs off rest cut table marked (lends_seats table marked).0)
+            (λ leaf at. let marked = leaves.0 leaf at (leaf_below fleet c leaf are.0 at) in
+            off_leaf (is_set plan.needs.tables.items) (is_set plan.needs.leaves.items) xs off rest cut leaf marked (lends_leaf leaf marked)),
+      ),
+      lane_may cs are.1 tables.1 leaves.1,
+    )
+
+    -- the lane may play with what was cut off
+    pub lane_ready : AllByRecursion (MayPlayOn fleet off) plan.commands.items
+    lane_ready =
+        let cs = plan.commands.items in
+        lane_may cs last_plan.commands
+        (subst (λ (ms : List Bool). AllByRecursion (λ (c : Command). (i : ℕ) → table_of fleet.names c ≡ Some i → i < length fleet.names → is_set ms i ≡ true) cs) (sym last_plan.needs.tables)
+        (all_marked (table_of fleet.names) cs (replicate (length fleet.names) false) (length fleet.names) (length-replicate (length fleet.names) false)))
+        (subst (λ (ms : List Bool). AllByRecursion (λ (c : Command). (i : ℕ) → leaf_of c ≡ Some i → i < leaf_count fleet → is_set ms i ≡ true) cs) (sym last_plan.needs.leaves)
+        (all_marked leaf_of cs (replicate (leaf_count fleet) false) (leaf_count fleet) (length-replicate (leaf_count fleet) false)))
+
+-- all of it is there before anything is cut off
+pub can_lend : {B : Type 0} (fleet fleet' : Fleet) (xs ys : List (Hold B)) (plans : List Plan) → fleet' ≡ fleet → AllByRecursion (IsPlan fleet) plans → AreAlone plans → AreSpare fleet xs plans → HasAll fleet xs
+    → StillHas xs ys → ((table n : ℕ) → Spares xs table n → Spares ys table n) → CanLend fleet' ys plans
+can_lend fleet fleet' xs ys plans same are alone spare all still spares = subst (λ (f : Fleet). CanLend f ys plans) (sym same) (record {
+  plans_are = are;
+  alone = alone;
+  spare = λ table below. spares table (suc (count_by (needs_at table) plans)) (spare table below);
+  seats = λ table below. still_seats xs ys still table (all.seats table below);
+  leaves = λ leaf some. still_leaf xs ys still leaf (all.leaves leaf);
+})

@@ -1,0 +1,280 @@
+-- What a command needs, and what is marked for the commands of a lane.
+use Rattle.std.proofs.Common.{◌≡◌, ◌⊎◌, inl, inr, ap₂, drop, ◌++◌, ℕ, zero, suc, ◌+◌, ◌<◌, ◌≤◌, ◌==◌, ◌||◌, Bool, true, false, cond, List, [], ◌∷◌, length, Option, Some, None, refl, sym, ap, subst, ◌∙◌, arith, eq-eqb}
+use Rattle.std.specs.Prelude.{slice_index_or, slice_set, replicate}
+use Rattle.std.specs.List.{AllByRecursion, Contains, filter}
+use Rattle.std.specs.Str.{bytes_eq}
+use Rattle.std.proofs.lemmas.List.{length-set}
+use Rattle.std.proofs.lemmas.List.Sums.{length-filter}
+use Rattle.std.proofs.lemmas.Slice.Eq.{bytes_eq-Decides}
+use Rattle.script_text.specs.declared.command.Command.{Command}
+use Rattle.script_text.specs.declared.command.Command.TheVariants as command
+use Rattle.script_text.specs.Fits.{IsCommand, OneSteward}
+use Rattle.script_text.specs.Stewards.{has_steward, is_stewards}
+use Rattle.transcript.specs.Pieces.{Fleet, leaf_count, place_of}
+use Rattle.transcript.specs.Holds.{Hold}
+use Rattle.transcript.specs.Steps.{MayPlay}
+use Rattle.player.specs.Crew.{HasAll, HasFor, HasLeaf, HasSeats, StillHas, is_set}
+use Rattle.bursts.specs.declared.plan.Plan.{Plan}
+use Rattle.bursts.specs.Needs.{AreAlone, ArePlans, IsPlan, IsPlanOf, acts_on, leaf_of, marked, marked_by, needed, table_of}
+use Rattle.bursts.specs.Played.{MayPlayOn}
+use Rattle.bursts.proofs.Held.{still_leaf, still_seats}
+
+-- ---- commands
+
+-- a name among the tables has a place
+known_place : (name : List ℕ) (names : List (List ℕ)) (k : ℕ) → k < length names → slice_index_or names k name ≡ name → place_of name names < length names
+known_place name [] k h e = absurd (omega (arith, h))
+known_place name (n ∷ ns) zero h e = here (bytes_eq name n) (place_of name ns) (length ns) ((bytes_eq-Decides name n).1 (sym e))
+  where
+    here : (b : Bool) (n count : ℕ) → b ≡ true → cond b 0 (suc n) < suc count
+    here true n count e = omega arith
+    here false n count e = absurd cc
+known_place name (n ∷ ns) (suc k) h e = below (bytes_eq name n) (place_of name ns) (length ns) (known_place name ns k (omega (arith, h)) e)
+  where
+    below : (b : Bool) (n count : ℕ) → n < count → cond b 0 (suc n) < suc count
+    below true n count e = omega arith
+    below false n count e = omega (arith, e)
+
+pub place_below : (name : List ℕ) (names : List (List ℕ)) → Contains names name → place_of name names < length names
+place_below name names has = known_place name names has.0 has.1 has.2
+
+-- the table that a command needs seats at is one of the fleet's
+pub table_below : (fleet : Fleet) (c : Command) (table : ℕ) → IsCommand (leaf_count fleet) fleet.names c → table_of fleet.names c ≡ Some table → table < length fleet.names
+table_below fleet (command.Fleet machines per_machine tables) table is at = absurd is
+table_below fleet (command.Add leaf t rows) table is at = let same : t ≡ table = cc in subst (λ k. k < length fleet.names) same is.1
+table_below fleet (command.Expire leaf t horizon) table is at = let same : t ≡ table = cc in subst (λ k. k < length fleet.names) same is.1
+table_below fleet (command.Keep leaf t n) table is at = let same : t ≡ table = cc in subst (λ k. k < length fleet.names) same is.1
+table_below fleet (command.Query q) table is at = let same : place_of q.table fleet.names ≡ table = cc in subst (λ k. k < length fleet.names) same (place_below q.table fleet.names is.0)
+table_below fleet (command.Flush leaf t) table is at = absurd cc
+table_below fleet (command.Drain leaf stop) table is at = absurd cc
+table_below fleet (command.Kill leaf) table is at = absurd cc
+table_below fleet (command.Start leaf) table is at = absurd cc
+
+-- and so is the leaf that it acts on
+pub leaf_below : (fleet : Fleet) (c : Command) (leaf : ℕ) → IsCommand (leaf_count fleet) fleet.names c → leaf_of c ≡ Some leaf → leaf < leaf_count fleet
+leaf_below fleet (command.Fleet machines per_machine tables) leaf is at = absurd is
+leaf_below fleet (command.Add l t rows) leaf is at = absurd cc
+leaf_below fleet (command.Expire l t horizon) leaf is at = absurd cc
+leaf_below fleet (command.Keep l t n) leaf is at = absurd cc
+leaf_below fleet (command.Query q) leaf is at = absurd cc
+leaf_below fleet (command.Flush l t) leaf is at = let same : l ≡ leaf = cc in subst (λ k. k < leaf_count fleet) same is.0
+leaf_below fleet (command.Drain l stop) leaf is at = let same : l ≡ leaf = cc in subst (λ k. k < leaf_count fleet) same is.0
+leaf_below fleet (command.Kill l) leaf is at = let same : l ≡ leaf = cc in subst (λ k. k < leaf_count fleet) same is
+leaf_below fleet (command.Start l) leaf is at = let same : l ≡ leaf = cc in subst (λ k. k < leaf_count fleet) same is
+
+pub may_play : (fleet : Fleet) (c : Command) → IsCommand (leaf_count fleet) fleet.names c → MayPlay fleet c
+may_play fleet (command.Fleet machines per_machine tables) is = absurd is
+may_play fleet (command.Add leaf t rows) is = is
+may_play fleet (command.Expire leaf t horizon) is = is
+may_play fleet (command.Keep leaf t n) is = is
+may_play fleet (command.Query q) is = is
+may_play fleet (command.Flush leaf t) is = is
+may_play fleet (command.Drain leaf stop) is = is
+may_play fleet (command.Kill leaf) is = is
+may_play fleet (command.Start leaf) is = is
+
+module _ {B : Type 0} (fleet : Fleet) (xs : List (Hold B)) where
+  pub has_for : (c : Command) → IsCommand (leaf_count fleet) fleet.names c → ((table : ℕ) → table_of fleet.names c ≡ Some table → HasSeats xs table)
+      → ((leaf : ℕ) → leaf_of c ≡ Some leaf → HasLeaf xs leaf) → HasFor fleet xs c
+  has_for (command.Fleet machines per_machine tables) is seats leaves = absurd is
+  has_for (command.Add leaf t rows) is seats leaves = seats t refl
+  has_for (command.Expire leaf t horizon) is seats leaves = seats t refl
+  has_for (command.Keep leaf t n) is seats leaves = seats t refl
+  has_for (command.Query q) is seats leaves = seats (place_of q.table fleet.names) refl
+  has_for (command.Flush leaf t) is seats leaves = leaves leaf refl
+  has_for (command.Drain leaf stop) is seats leaves = leaves leaf refl
+  has_for (command.Kill leaf) is seats leaves = leaves leaf refl
+  has_for (command.Start leaf) is seats leaves = leaves leaf refl
+
+  pub all_has_command : HasAll fleet xs → (c : Command) → IsCommand (leaf_count fleet) fleet.names c → HasFor fleet xs c
+  all_has_command all c is = has_for c is (λ table at. all.seats table (table_below fleet c table is at)) (λ leaf at. all.leaves leaf)
+
+  pub all_has_for : HasAll fleet xs → (c : Command) → MayPlay fleet c → HasFor fleet xs c
+  all_has_for all (command.Fleet machines per_machine tables) may = all.leaves
+  all_has_for all (command.Add leaf t rows) may = all.seats t may.1
+  all_has_for all (command.Expire leaf t horizon) may = all.seats t may.1
+  all_has_for all (command.Keep leaf t n) may = all.seats t may.1
+  all_has_for all (command.Query q) may = all.seats (place_of q.table fleet.names) (place_below q.table fleet.names may.0)
+  all_has_for all (command.Flush leaf t) may = all.leaves leaf
+  all_has_for all (command.Drain leaf stop) may = all.leaves leaf
+  all_has_for all (command.Kill leaf) may = all.leaves leaf
+  all_has_for all (command.Start leaf) may = all.leaves leaf
+
+  pub all_may : HasAll fleet xs → (cs : List Command) → AllByRecursion (IsCommand (leaf_count fleet) fleet.names) cs → AllByRecursion (MayPlayOn fleet xs) cs
+  all_may all [] are = tt
+  all_may all (c ∷ cs) are = ((are.0, all_has_command all c are.0), all_may all cs are.1)
+
+module _ {B : Type 0} (fleet : Fleet) (xs ys : List (Hold B)) (still : StillHas xs ys) where
+  pub still_for : (c : Command) → HasFor fleet xs c → HasFor fleet ys c
+  still_for (command.Fleet machines per_machine tables) has = λ leaf. still_leaf xs ys still leaf (has leaf)
+  still_for (command.Add leaf t rows) has = still_seats xs ys still t has
+  still_for (command.Expire leaf t horizon) has = still_seats xs ys still t has
+  still_for (command.Keep leaf t n) has = still_seats xs ys still t has
+  still_for (command.Query q) has = still_seats xs ys still (place_of q.table fleet.names) has
+  still_for (command.Flush leaf t) has = still_leaf xs ys still leaf has
+  still_for (command.Drain leaf stop) has = still_leaf xs ys still leaf has
+  still_for (command.Kill leaf) has = still_leaf xs ys still leaf has
+  still_for (command.Start leaf) has = still_leaf xs ys still leaf has
+
+  pub still_may : (cs : List Command) → AllByRecursion (MayPlayOn fleet xs) cs → AllByRecursion (MayPlayOn fleet ys) cs
+  still_may [] may = tt
+  still_may (c ∷ cs) may = ((may.0.0, still_for c may.0.1), still_may cs may.1)
+
+-- ---- marks
+
+set_kept : (marks : List Bool) (j i : ℕ) → is_set marks i ≡ true → is_set (slice_set marks j true) i ≡ true
+set_kept [] j i e = e
+set_kept (m ∷ ms) zero zero e = refl
+set_kept (m ∷ ms) zero (suc i) e = e
+set_kept (m ∷ ms) (suc j) zero e = e
+set_kept (m ∷ ms) (suc j) (suc i) e = set_kept ms j i e
+
+set_there : (marks : List Bool) (j : ℕ) → j < length marks → is_set (slice_set marks j true) j ≡ true
+set_there [] j below = absurd (omega (arith, below))
+set_there (m ∷ ms) zero below = refl
+set_there (m ∷ ms) (suc j) below = set_there ms j (omega (arith, below))
+
+set_only : (marks : List Bool) (j i : ℕ) → is_set (slice_set marks j true) i ≡ true → (j ≡ i) ⊎ (is_set marks i ≡ true)
+set_only [] j i e = inr e
+set_only (m ∷ ms) zero zero e = inl refl
+set_only (m ∷ ms) zero (suc i) e = inr e
+set_only (m ∷ ms) (suc j) zero e = inr e
+set_only (m ∷ ms) (suc j) (suc i) e = by (set_only ms j i e)
+  where
+    by : (j ≡ i) ⊎ (is_set ms i ≡ true) → (suc j ≡ suc i) ⊎ (is_set ms i ≡ true)
+    by (inl same) = inl (ap suc same)
+    by (inr set) = inr set
+
+none_set : (n i : ℕ) → is_set (replicate n false) i ≡ false
+none_set zero i = refl
+none_set (suc n) zero = refl
+none_set (suc n) (suc i) = none_set n i
+
+pub marked_length : (place : Option ℕ) (marks : List Bool) → length (marked place marks) ≡ length marks
+marked_length None marks = refl
+marked_length (Some j) marks = length-set marks j true
+
+pub marked_by_length : (place : Command → Option ℕ) (cs : List Command) (marks : List Bool) → length (marked_by place cs marks) ≡ length marks
+marked_by_length place [] marks = refl
+marked_by_length place (c ∷ cs) marks = marked_by_length place cs (marked (place c) marks) ∙ marked_length (place c) marks
+
+marked_kept : (place : Option ℕ) (marks : List Bool) (i : ℕ) → is_set marks i ≡ true → is_set (marked place marks) i ≡ true
+marked_kept None marks i e = e
+marked_kept (Some j) marks i e = set_kept marks j i e
+
+all_kept : (place : Command → Option ℕ) (cs : List Command) (marks : List Bool) (i : ℕ) → is_set marks i ≡ true → is_set (marked_by place cs marks) i ≡ true
+all_kept place [] marks i e = e
+all_kept place (c ∷ cs) marks i e = all_kept place cs (marked (place c) marks) i (marked_kept (place c) marks i e)
+
+marked_there : (place : Option ℕ) (marks : List Bool) (i : ℕ) → place ≡ Some i → i < length marks → is_set (marked place marks) i ≡ true
+marked_there place marks i at below = subst (λ (p : Option ℕ). is_set (marked p marks) i ≡ true) (sym at) (set_there marks i below)
+
+-- whatever a command needs is marked
+pub all_marked : (place : Command → Option ℕ) (cs : List Command) (marks : List Bool) (n : ℕ) → length marks ≡ n
+    → AllByRecursion (λ (c : Command). (i : ℕ) → place c ≡ Some i → i < n → is_set (marked_by place cs marks) i ≡ true) cs
+all_marked place [] marks n long = tt
+all_marked place (c ∷ cs) marks n long = (
+  λ i at below. all_kept place cs (marked (place c) marks) i (marked_there (place c) marks i at (omega (arith, below, long))),
+  all_marked place cs (marked (place c) marks) n (marked_length (place c) marks ∙ long),
+)
+
+or_left : (a b : Bool) → a ≡ true → (a || b) ≡ true
+or_left true b e = refl
+or_left false b e = absurd cc
+
+or_right : (a b : Bool) → b ≡ true → (a || b) ≡ true
+or_right true b e = refl
+or_right false b e = e
+
+by_steward : (leaf : ℕ) (marks : List Bool) (i : ℕ) → is_set (slice_set marks leaf true) i ≡ true → ((leaf == i) ≡ true) ⊎ (is_set marks i ≡ true)
+by_steward leaf marks i e = by (set_only marks leaf i e)
+  where
+    by : (leaf ≡ i) ⊎ (is_set marks i ≡ true) → ((leaf == i) ≡ true) ⊎ (is_set marks i ≡ true)
+    by (inl same) = inl (eq-eqb leaf i same)
+    by (inr set) = inr set
+
+-- a leaf is marked where a command of its steward stands
+marked_steward : (c : Command) (marks : List Bool) (i : ℕ) → is_set (marked (leaf_of c) marks) i ≡ true → (is_stewards i c ≡ true) ⊎ (is_set marks i ≡ true)
+marked_steward (command.Fleet machines per_machine tables) marks i e = inr e
+marked_steward (command.Add leaf t rows) marks i e = inr e
+marked_steward (command.Expire leaf t horizon) marks i e = inr e
+marked_steward (command.Keep leaf t n) marks i e = inr e
+marked_steward (command.Query q) marks i e = inr e
+marked_steward (command.Flush leaf t) marks i e = by_steward leaf marks i e
+marked_steward (command.Drain leaf stop) marks i e = by_steward leaf marks i e
+marked_steward (command.Kill leaf) marks i e = by_steward leaf marks i e
+marked_steward (command.Start leaf) marks i e = by_steward leaf marks i e
+
+marked_stewards : (cs : List Command) (marks : List Bool) (i : ℕ) → is_set (marked_by leaf_of cs marks) i ≡ true → (has_steward i cs ≡ true) ⊎ (is_set marks i ≡ true)
+marked_stewards [] marks i e = inr e
+marked_stewards (c ∷ cs) marks i e = by (marked_stewards cs (marked (leaf_of c) marks) i e)
+  where
+    first : (is_stewards i c ≡ true) ⊎ (is_set marks i ≡ true) → (has_steward i (c ∷ cs) ≡ true) ⊎ (is_set marks i ≡ true)
+    first (inl steward) = inl (or_left (is_stewards i c) (has_steward i cs) steward)
+    first (inr set) = inr set
+
+    by : (has_steward i cs ≡ true) ⊎ (is_set (marked (leaf_of c) marks) i ≡ true) → (has_steward i (c ∷ cs) ≡ true) ⊎ (is_set marks i ≡ true)
+    by (inl more) = inl (or_right (is_stewards i c) (has_steward i cs) more)
+    by (inr set) = first (marked_steward c marks i set)
+
+pub needed_steward : (cs : List Command) (n i : ℕ) → is_set (needed leaf_of n cs) i ≡ true → has_steward i cs ≡ true
+needed_steward cs n i e = by (marked_stewards cs (replicate n false) i e)
+  where
+    by : (has_steward i cs ≡ true) ⊎ (is_set (replicate n false) i ≡ true) → has_steward i cs ≡ true
+    by (inl steward) = steward
+    by (inr set) = let none = none_set n i in absurd cc
+
+-- ---- plans
+
+-- the first of what is left
+pub drop_next : {A : Type 0} (xs : List A) (i : ℕ) (x : A) → i < length xs → x ≡ slice_index_or xs i x → drop i xs ≡ x ∷ drop (i + 1) xs
+drop_next {A = A} xs i x below is =
+    let more : suc i ≡ i + 1 = omega arith in
+    first xs i below ∙ ap₂ (λ (y : A) (n : ℕ). y ∷ drop n xs) (sym is) more
+  where
+    first : (ys : List A) (j : ℕ) → j < length ys → drop j ys ≡ slice_index_or ys j x ∷ drop (suc j) ys
+    first [] j under = absurd (omega (arith, under))
+    first (y ∷ ys) zero under = refl
+    first (y ∷ ys) (suc j) under = first ys j (omega (arith, under))
+
+pub plans_more : (fleet : Fleet) (lanes : List (List Command)) (plans : List Plan) (lane : List Command) (plan : Plan) → ArePlans fleet lanes plans → IsPlanOf fleet lane plan → ArePlans fleet (lanes ++ lane ∷ []) (plans ++ plan ∷ [])
+plans_more fleet [] [] lane plan are is = (is, tt)
+plans_more fleet [] (p ∷ ps) lane plan are is = absurd are
+plans_more fleet (l ∷ ls) [] lane plan are is = absurd are
+plans_more fleet (l ∷ ls) (p ∷ ps) lane plan are is = (are.0, plans_more fleet ls ps lane plan are.1 is)
+
+pub plans_all : (fleet : Fleet) (lanes : List (List Command)) (plans : List Plan) → ArePlans fleet lanes plans → AllByRecursion (IsPlan fleet) plans
+plans_all fleet [] [] are = tt
+plans_all fleet [] (p ∷ ps) are = absurd are
+plans_all fleet (l ∷ ls) [] are = absurd are
+plans_all fleet (l ∷ ls) (p ∷ ps) are = (are.0.is, plans_all fleet ls ps are.1)
+
+pub plans_count : (fleet : Fleet) (lanes : List (List Command)) (plans : List Plan) → ArePlans fleet lanes plans → length plans ≡ length lanes
+plans_count fleet [] [] are = refl
+plans_count fleet [] (p ∷ ps) are = absurd are
+plans_count fleet (l ∷ ls) [] are = absurd are
+plans_count fleet (l ∷ ls) (p ∷ ps) are = ap suc (plans_count fleet ls ps are.1)
+
+fewer : (leaf : ℕ) (fleet : Fleet) (lanes : List (List Command)) (plans : List Plan) → ArePlans fleet lanes plans → length (filter (acts_on leaf) plans) ≤ length (filter (has_steward leaf) lanes)
+fewer leaf fleet [] [] are = omega arith
+fewer leaf fleet [] (p ∷ ps) are = absurd are
+fewer leaf fleet (l ∷ ls) [] are = absurd are
+fewer leaf fleet (l ∷ ls) (p ∷ ps) are =
+    by (acts_on leaf p) (has_steward leaf l) (filter (acts_on leaf) ps) (filter (has_steward leaf) ls) marks (fewer leaf fleet ls ps are.1)
+  where
+    marks : acts_on leaf p ≡ true → has_steward leaf l ≡ true
+    marks e =
+        let here : is_set (needed leaf_of (leaf_count fleet) p.commands.items) leaf ≡ true = subst (λ (ms : List Bool). is_set ms leaf ≡ true) are.0.is.needs.leaves e in
+        subst (λ (cs : List Command). has_steward leaf cs ≡ true) are.0.lane_is (needed_steward p.commands.items (leaf_count fleet) leaf here)
+
+    by : (a b : Bool) (us : List Plan) (vs : List (List Command)) → (a ≡ true → b ≡ true) → length us ≤ length vs → length (cond a (p ∷ us) us) ≤ length (cond b (l ∷ vs) vs)
+    by true true us vs m le = omega (arith, le)
+    by true false us vs m le = let wrong : false ≡ true = m refl in absurd cc
+    by false true us vs m le = omega (arith, le)
+    by false false us vs m le = le
+
+-- no leaf is acted on by two lanes
+pub alone : (fleet : Fleet) (lanes : List (List Command)) (plans : List Plan) → ArePlans fleet lanes plans → OneSteward lanes → AreAlone plans
+alone fleet lanes plans are one leaf =
+    let below = fewer leaf fleet lanes plans are in
+    omega (arith, below, one leaf, length-filter (acts_on leaf) plans)

@@ -1,0 +1,81 @@
+use Rattle.std.proofs.Common.{◌≡◌, suc, Bool, true, List, [], ◌∷◌, ◌++◌, length, map, refl, sym, ap, subst, ◌∙◌, append_assoc, arith}
+use Rattle.std.proofs.lemmas.List.{append-nil, map-append}
+use Rattle.transcript.specs.Pieces.{Fleet, leaf_count}
+use Rattle.script_text.specs.declared.command.Command.{Command}
+use Rattle.transcript.specs.Lanes.{CutsOff}
+use Rattle.player.specs.Crew.{is_set}
+use Rattle.bursts.specs.declared.plan.Plan.{Plan}
+use Rattle.bursts.specs.Lent.{IsReady, Lent}
+use Rattle.bursts.specs.Needs.{CanLend, commands_in}
+use Rattle.bursts.proofs.Cutting.{lends_leaf, lends_on, lends_seats, length_snoc, marks_leaves, marks_tables}
+use Rattle.bursts.proofs.Lending.{cut_more, lent_none}
+use Rattle.bursts.proofs.beside.cut_all.Goals as goal
+
+pub loop-plan-init : goal.loop-plan-init
+loop-plan-init g c =
+    let crew = c.args.crew.now in record {
+      cut = [];
+      all = append-nil (map commands_in c.args.plans.items);
+      lent = subst (λ ws. Lent (length c.args.plans.items) (IsReady crew.fleet crew.tables) crew.holds ws [] crew.holds) (sym c.requires.none)
+          (lent_none (length c.args.plans.items) (IsReady crew.fleet crew.tables) crew.holds);
+      can = c.requires.can;
+      few = c.requires.few;
+      count = omega arith;
+      room = c.requires.room;
+      fleet = refl;
+      tables = refl;
+    }
+
+pub cut_off-requires-clause-counts : goal.cut_off-requires-clause-counts
+cut_off-requires-clause-counts g c κs within =
+    let inv = c.loop-plan.invariant in
+    let fleet = c.args.crew.now.fleet in
+    let can = subst (CanLend fleet c.loop-plan.crew.holds) c.in-Some.ensures.items inv.can in (
+      ap (λ (ms : List Bool). length ms) c.as_slice.ensures.value
+          ∙ (marks_tables fleet c.pop.new.self.items c.in-Some.plan c.loop-plan.crew.holds can ∙ sym (ap (λ (f : Fleet). length f.names) inv.fleet)),
+      ap (λ (ms : List Bool). length ms) c.as_slice-in-Some.ensures.value
+          ∙ (marks_leaves fleet c.pop.new.self.items c.in-Some.plan c.loop-plan.crew.holds can ∙ sym (ap (λ (f : Fleet). leaf_count f) inv.fleet)),
+    )
+
+pub cut_off-requires-clause-seats : goal.cut_off-requires-clause-seats
+cut_off-requires-clause-seats g c κs within =
+    let fleet = c.args.crew.now.fleet in
+    let can = subst (CanLend fleet c.loop-plan.crew.holds) c.in-Some.ensures.items c.loop-plan.invariant.can in
+    λ table set. lends_seats fleet c.pop.new.self.items c.in-Some.plan c.loop-plan.crew.holds can table (subst (λ (ms : List Bool). is_set ms table ≡ true) c.as_slice.ensures.value set)
+
+pub cut_off-requires-clause-held : goal.cut_off-requires-clause-held
+cut_off-requires-clause-held g c κs within =
+    let fleet = c.args.crew.now.fleet in
+    let can = subst (CanLend fleet c.loop-plan.crew.holds) c.in-Some.ensures.items c.loop-plan.invariant.can in
+    λ leaf set. lends_leaf fleet c.pop.new.self.items c.in-Some.plan c.loop-plan.crew.holds can leaf (subst (λ (ms : List Bool). is_set ms leaf ≡ true) c.as_slice-in-Some.ensures.value set)
+
+pub loop-plan-preserved : goal.loop-plan-preserved
+loop-plan-preserved g c =
+    let inv = c.loop-plan.invariant in
+    let fleet = c.args.crew.now.fleet in
+    let plan = c.in-Some.plan in
+    let plans = c.pop.new.self.items in
+    let items : c.loop-plan.plans.items ≡ plans ++ plan ∷ [] = c.in-Some.ensures.items in
+    let can = subst (CanLend fleet c.loop-plan.crew.holds) items inv.can in
+    let half = subst (λ (ms : List Bool). CutsOff (is_set ms) (is_set c.as_slice-in-Some.result.now) c.loop-plan.crew.holds c.in_ok-off.off.holds c.cut_off.new.self.holds) c.as_slice.ensures.value c.in_ok-off.ensures.cut in
+    let cut = subst (λ (ms : List Bool). CutsOff (is_set plan.needs.tables.items) (is_set ms) c.loop-plan.crew.holds c.in_ok-off.off.holds c.cut_off.new.self.holds) c.as_slice-in-Some.ensures.value half in
+    let sizes : length c.loop-plan.plans.items ≡ suc (length plans) = ap (λ (ps : List Plan). length ps) items ∙ length_snoc plans plan in
+    record {
+      cut = commands_in plan ∷ inv.cut;
+      all = sym (append_assoc (map commands_in plans) (commands_in plan ∷ []) inv.cut)
+          ∙ (ap (λ (ls : List (List Command)). ls ++ inv.cut) (sym (ap (λ (ps : List Plan). map commands_in ps) items ∙ map-append commands_in plans (plan ∷ []))) ∙ inv.all);
+      lent = cut_more fleet c.args.crew.now.tables (length c.args.plans.items) c.args.crew.now.holds c.loop-plan.crew.holds c.cut_off.new.self.holds c.loop-plan.lanes.items c.put_last.new.list.items inv.cut
+          c.in_ok-off.off plan c.count-number.result plans inv.lent cut can (c.in_ok-off.ensures.off.0 ∙ inv.fleet) (c.in_ok-off.ensures.off.1 ∙ inv.tables)
+          (omega (arith, c.count-number.ensures, inv.count, sizes)) c.put_last.ensures.items;
+      can = lends_on fleet plans plan c.loop-plan.crew.holds can c.in_ok-off.off.holds c.cut_off.new.self.holds cut;
+      few = omega (arith, inv.few, sizes);
+      count = omega (arith, inv.count, sizes);
+      room = omega (arith, inv.room, c.in-Some.ensures.cases, c.put_last.ensures.len, c.put_last.ensures.capacity);
+      fleet = c.cut_off.ensures.fleet.0 ∙ inv.fleet;
+      tables = c.cut_off.ensures.fleet.1 ∙ inv.tables;
+    }
+
+pub count-number-requires : goal.count-number-requires
+count-number-requires g c =
+    let sizes : length c.loop-plan.plans.items ≡ suc (length c.pop.new.self.items) = ap (λ (ps : List Plan). length ps) c.in-Some.ensures.items ∙ length_snoc c.pop.new.self.items c.in-Some.plan in
+    omega (arith, c.loop-plan.invariant.few, sizes)

@@ -1,0 +1,44 @@
+use Rattle.std.proofs.Common.{List, subst, arith}
+use Rattle.std.specs.Prelude.{IfOk}
+use Rattle.script_text.specs.declared.command.Command.{Command}
+use Rattle.bursts.specs.Played.{BesidePlayed, TurnsPlayed}
+use Rattle.bursts.proofs.Items.{all_on, beside_played, plans_lanes, turns_played}
+use Rattle.bursts.proofs.Needed.{alone, plans_all, plans_count}
+use Rattle.bursts.proofs.burst.play_burst.Goals as goal
+
+pub play_beside-requires-clause-plans : goal.play_beside-requires-clause-plans
+play_beside-requires-clause-plans g c κs within = plans_all c.args.crew.now.fleet c.args.lanes.items c.in_ok-plans.plans.items c.in_ok-plans.ensures
+
+pub play_beside-requires-clause-few : goal.play_beside-requires-clause-few
+play_beside-requires-clause-few g c κs within = omega (arith, plans_count c.args.crew.now.fleet c.args.lanes.items c.in_ok-plans.plans.items c.in_ok-plans.ensures, c.requires.burst.few)
+
+pub play_in_turn-requires-clause-plans : goal.play_in_turn-requires-clause-plans
+play_in_turn-requires-clause-plans g c κs within = plans_all c.args.crew.now.fleet c.args.lanes.items c.in_ok-plans.plans.items c.in_ok-plans.ensures
+
+pub play_in_turn-requires-clause-few : goal.play_in_turn-requires-clause-few
+play_in_turn-requires-clause-few g c κs within = omega (arith, plans_count c.args.crew.now.fleet c.args.lanes.items c.in_ok-plans.plans.items c.in_ok-plans.ensures, c.requires.burst.few)
+
+pub play_beside-requires-clause-alone : goal.play_beside-requires-clause-alone
+play_beside-requires-clause-alone g c κs within = alone c.args.crew.now.fleet c.args.lanes.items c.in_ok-plans.plans.items c.in_ok-plans.ensures c.requires.burst.stewards
+
+pub returns-then-are_spare-clause-played : goal.returns-then-are_spare-clause-played
+returns-then-are_spare-clause-played g c =
+    let crew = c.args.crew.now in
+    let lanes = plans_lanes crew.fleet c.args.lanes.items c.in_ok-plans.plans.items c.in_ok-plans.ensures in
+    beside_played g.B.Berth.meaning crew.fleet crew.holds c.play_beside.new.crew.holds c.args.lanes.items c.play_beside.result
+    (subst (λ (ls : List (List Command)). IfOk c.play_beside.result (λ lines. BesidePlayed g.B.Berth.meaning crew.fleet ls crew.holds lines.items c.play_beside.new.crew.holds)) lanes c.play_beside.ensures.played)
+
+pub returns-then-are_spare-clause-all : goal.returns-then-are_spare-clause-all
+returns-then-are_spare-clause-all g c =
+    all_on c.args.crew.now.fleet c.play_beside.new.crew.fleet c.args.crew.now.holds c.play_beside.new.crew.holds c.play_beside.ensures.fleet.0 c.play_beside.ensures.still c.requires.all
+
+pub returns-else-are_spare-clause-played : goal.returns-else-are_spare-clause-played
+returns-else-are_spare-clause-played g c =
+    let crew = c.args.crew.now in
+    let lanes = plans_lanes crew.fleet c.args.lanes.items c.in_ok-plans.plans.items c.in_ok-plans.ensures in
+    turns_played g.B.Berth.meaning crew.fleet crew.holds c.play_in_turn.new.crew.holds c.args.lanes.items c.play_in_turn.result
+    (subst (λ (ls : List (List Command)). IfOk c.play_in_turn.result (λ lines. TurnsPlayed g.B.Berth.meaning crew.fleet ls crew.holds lines.items c.play_in_turn.new.crew.holds)) lanes c.play_in_turn.ensures.played)
+
+pub returns-else-are_spare-clause-all : goal.returns-else-are_spare-clause-all
+returns-else-are_spare-clause-all g c =
+    all_on c.args.crew.now.fleet c.play_in_turn.new.crew.fleet c.args.crew.now.holds c.play_in_turn.new.crew.holds c.play_in_turn.ensures.fleet.0 c.play_in_turn.ensures.still c.requires.all

@@ -1,0 +1,68 @@
+use Rattle.std.proofs.Common.{◌≡◌, [], ◌∷◌, ◌++◌, refl, sym, ap, subst, ◌∙◌, append_assoc}
+use Rattle.std.specs.List.{AllByRecursion}
+use Rattle.script_text.specs.Fits.{IsCommand}
+use Rattle.transcript.specs.Pieces.{Fleet, leaf_count}
+use Rattle.player.specs.Crew.{HasFor}
+use Rattle.bursts.specs.Played.{CommandPlayed, MayPlayOn}
+use Rattle.bursts.proofs.Held.{pass_none, pass_on, still_on, still_same}
+use Rattle.bursts.proofs.Needed.{may_play, still_may}
+use Rattle.bursts.proofs.Playing.{lane_begins, lane_goes_on}
+use Rattle.bursts.proofs.lane.play_lane.Goals as goal
+
+pub loop-command-init : goal.loop-command-init
+loop-command-init g c = record {
+  done = [];
+  all = c.from_vec-rest.ensures.items;
+  played = lane_begins g.B.Berth.meaning c.args.crew.now.fleet c.args.crew.now.holds c.new-lines.result.items c.new-lines.ensures.items;
+  may = subst (AllByRecursion (MayPlayOn c.args.crew.now.fleet c.args.crew.now.holds)) (sym c.from_vec-rest.ensures.items) c.requires;
+  fleet = refl;
+  tables = refl;
+  still = still_same c.args.crew.now.holds;
+  time = pass_none g.B.Berth.meaning c.args.crew.now.holds;
+}
+
+pub returns-in_err-more-clause-still : goal.returns-in_err-more-clause-still
+returns-in_err-more-clause-still g c = still_on c.args.crew.now.holds c.loop-command.crew.holds c.play_command.new.crew.holds c.loop-command.invariant.still c.play_command.ensures.still
+
+pub returns-in_err-more-clause-time : goal.returns-in_err-more-clause-time
+returns-in_err-more-clause-time g c =
+    pass_on g.B.Berth.meaning c.args.crew.now.holds c.loop-command.crew.holds c.play_command.new.crew.holds c.loop-command.invariant.time c.play_command.ensures.time
+
+pub returns-in_err-append-clause-still : goal.returns-in_err-append-clause-still
+returns-in_err-append-clause-still g c = still_on c.args.crew.now.holds c.loop-command.crew.holds c.play_command.new.crew.holds c.loop-command.invariant.still c.play_command.ensures.still
+
+pub returns-in_err-append-clause-time : goal.returns-in_err-append-clause-time
+returns-in_err-append-clause-time g c =
+    pass_on g.B.Berth.meaning c.args.crew.now.holds c.loop-command.crew.holds c.play_command.new.crew.holds c.loop-command.invariant.time c.play_command.ensures.time
+
+pub loop-command-preserved : goal.loop-command-preserved
+loop-command-preserved g c =
+    let inv = c.loop-command.invariant in
+    let fleet = c.args.crew.now.fleet in
+    let rest = c.pop_front.new.self.items in
+    let items : c.loop-command.rest.items ≡ c.in-Some.command ∷ rest = c.in-Some.ensures.items in
+    let may = subst (AllByRecursion (MayPlayOn fleet c.loop-command.crew.holds)) items inv.may in
+    let one = subst (λ (f : Fleet). CommandPlayed g.B.Berth.meaning f c.in-Some.command c.loop-command.crew.holds c.in_ok-more.more.items c.play_command.new.crew.holds) inv.fleet c.in_ok-more.ensures.played in
+    record {
+      done = inv.done ++ c.in-Some.command ∷ [];
+      all = append_assoc inv.done (c.in-Some.command ∷ []) rest ∙ (ap (λ r. inv.done ++ r) (sym items) ∙ inv.all);
+      played = lane_goes_on g.B.Berth.meaning fleet c.args.crew.now.holds c.loop-command.crew.holds c.play_command.new.crew.holds inv.done c.in-Some.command
+          c.loop-command.lines.items c.in_ok-more.more.items c.append.new.self.items inv.played one c.in_ok-append.ensures.items;
+      may = still_may fleet c.loop-command.crew.holds c.play_command.new.crew.holds c.play_command.ensures.still rest may.1;
+      fleet = c.play_command.ensures.fleet.0 ∙ inv.fleet;
+      tables = c.play_command.ensures.fleet.1 ∙ inv.tables;
+      still = still_on c.args.crew.now.holds c.loop-command.crew.holds c.play_command.new.crew.holds inv.still c.play_command.ensures.still;
+      time = pass_on g.B.Berth.meaning c.args.crew.now.holds c.loop-command.crew.holds c.play_command.new.crew.holds inv.time c.play_command.ensures.time;
+    }
+
+pub play_command-requires-clause-may : goal.play_command-requires-clause-may
+play_command-requires-clause-may g c κs within =
+    let inv = c.loop-command.invariant in
+    let may = subst (AllByRecursion (MayPlayOn c.args.crew.now.fleet c.loop-command.crew.holds)) c.in-Some.ensures.items inv.may in
+    may_play c.loop-command.crew.fleet c.in-Some.command (subst (λ (f : Fleet). IsCommand (leaf_count f) f.names c.in-Some.command) (sym inv.fleet) may.0.0)
+
+pub play_command-requires-clause-has : goal.play_command-requires-clause-has
+play_command-requires-clause-has g c κs within =
+    let inv = c.loop-command.invariant in
+    let may = subst (AllByRecursion (MayPlayOn c.args.crew.now.fleet c.loop-command.crew.holds)) c.in-Some.ensures.items inv.may in
+    subst (λ (f : Fleet). HasFor f c.loop-command.crew.holds c.in-Some.command) (sym inv.fleet) may.0.1

@@ -1,0 +1,20 @@
+use Rattle.std.proofs.Common.{◌≡◌, ◌++◌, List}
+use Rattle.std.specs.List.{AllByRecursion}
+use Rattle.std.specs.VecDeque.{deque_len}
+use Rattle.script_text.specs.declared.command.Command.{Command}
+use Rattle.script_text.specs.Fits.{IsCommand}
+use Rattle.transcript.specs.Pieces.{leaf_count}
+use Rattle.bursts.specs.Needs.{ArePlans}
+use Rattle.bursts.proofs.plans.plan_all.Given as goal
+
+-- some lanes are planned, and the others are left
+abbrev pub invariant-loop-lane : goal.invariant-loop-lane
+invariant-loop-lane g l = record {
+  done : List (List Command);
+  all : done ++ l.rest.items ≡ l.fn.lanes.items;
+  plans : ArePlans l.crew.fleet done l.plans.items;
+  may : AllByRecursion (AllByRecursion (IsCommand (leaf_count l.crew.fleet) l.crew.fleet.names)) l.rest.items;
+}
+
+abbrev pub decreases-loop-lane : goal.decreases-loop-lane
+decreases-loop-lane g l = deque_len l.rest

@@ -1,0 +1,76 @@
+use Rattle.std.proofs.Common.{◌≡◌, ◌+◌, List, [], ◌∷◌, ◌++◌, length, map, refl, sym, ap, subst, ◌∙◌, append_assoc, arith}
+use Rattle.std.specs.List.{AllByRecursion}
+use Rattle.script_text.specs.declared.command.Command.{Command}
+use Rattle.transcript.specs.Pieces.{Fleet}
+use Rattle.bursts.specs.declared.plan.Plan.{Plan}
+use Rattle.bursts.specs.Needs.{IsPlan, commands_in}
+use Rattle.bursts.specs.Played.{LanePlayed, MayPlayOn}
+use Rattle.bursts.proofs.Cutting.{length_snoc}
+use Rattle.bursts.proofs.Held.{pass_none, pass_on, still_on, still_same}
+use Rattle.bursts.proofs.Items.{all_on}
+use Rattle.bursts.proofs.Needed.{all_may}
+use Rattle.bursts.proofs.Playing.{turns_begin, turns_go_on}
+use Rattle.bursts.proofs.turns.play_in_turn.Goals as goal
+
+pub loop-plan-init : goal.loop-plan-init
+loop-plan-init g c =
+    let crew = c.args.crew.now in
+    let items : c.from_vec-rest.result.items ≡ c.args.plans.items = c.from_vec-rest.ensures.items in
+    record {
+      done = [];
+      all = ap (λ (ps : List Plan). map commands_in ps) items;
+      number = refl;
+      few = let sizes : length c.from_vec-rest.result.items ≡ length c.args.plans.items = ap (λ (ps : List Plan). length ps) items in omega (arith, sizes, c.requires.few);
+      played = turns_begin g.B.Berth.meaning crew.fleet crew.holds c.new-lines.result.items c.new-lines.ensures.items;
+      plans = subst (AllByRecursion (IsPlan crew.fleet)) (sym items) c.requires.plans;
+      has = c.requires.all;
+      fleet = refl;
+      tables = refl;
+      still = still_same crew.holds;
+      time = pass_none g.B.Berth.meaning crew.holds;
+    }
+
+pub play_lane-requires-after_bounds : goal.play_lane-requires-after_bounds
+play_lane-requires-after_bounds g c κs within =
+    let inv = c.loop-plan.invariant in
+    let fleet = c.args.crew.now.fleet in
+    let plans = subst (AllByRecursion (IsPlan fleet)) c.in-Some.ensures.items inv.plans in
+    subst (λ (f : Fleet). AllByRecursion (MayPlayOn f c.loop-plan.crew.holds) c.in-Some.plan.commands.items) (sym inv.fleet)
+    (all_may fleet c.loop-plan.crew.holds inv.has c.in-Some.plan.commands.items plans.0.commands)
+
+pub returns-in_err-own-clause-still : goal.returns-in_err-own-clause-still
+returns-in_err-own-clause-still g c = still_on c.args.crew.now.holds c.loop-plan.crew.holds c.play_lane.new.crew.holds c.loop-plan.invariant.still c.play_lane.ensures.still
+
+pub returns-in_err-own-clause-time : goal.returns-in_err-own-clause-time
+returns-in_err-own-clause-time g c = pass_on g.B.Berth.meaning c.args.crew.now.holds c.loop-plan.crew.holds c.play_lane.new.crew.holds c.loop-plan.invariant.time c.play_lane.ensures.time
+
+pub returns-in_err-put_lane-clause-still : goal.returns-in_err-put_lane-clause-still
+returns-in_err-put_lane-clause-still g c = still_on c.args.crew.now.holds c.loop-plan.crew.holds c.play_lane.new.crew.holds c.loop-plan.invariant.still c.play_lane.ensures.still
+
+pub returns-in_err-put_lane-clause-time : goal.returns-in_err-put_lane-clause-time
+returns-in_err-put_lane-clause-time g c = pass_on g.B.Berth.meaning c.args.crew.now.holds c.loop-plan.crew.holds c.play_lane.new.crew.holds c.loop-plan.invariant.time c.play_lane.ensures.time
+
+pub loop-plan-preserved : goal.loop-plan-preserved
+loop-plan-preserved g c =
+    let inv = c.loop-plan.invariant in
+    let fleet = c.args.crew.now.fleet in
+    let plan = c.in-Some.plan in
+    let rest = c.pop_front.new.self.items in
+    let items : c.loop-plan.rest.items ≡ plan ∷ rest = c.in-Some.ensures.items in
+    let plans = subst (AllByRecursion (IsPlan fleet)) items inv.plans in
+    let one = subst (λ (f : Fleet). LanePlayed g.B.Berth.meaning f plan.commands.items c.loop-plan.crew.holds c.in_ok-own.own.items c.play_lane.new.crew.holds) inv.fleet c.in_ok-own.ensures.played in
+    let sizes : length c.loop-plan.rest.items ≡ length (plan ∷ rest) = ap (λ (ps : List Plan). length ps) items in
+    record {
+      done = inv.done ++ commands_in plan ∷ [];
+      all = append_assoc inv.done (commands_in plan ∷ []) (map commands_in rest) ∙ (ap (λ (ls : List (List Command)). inv.done ++ ls) (sym (ap (λ (ps : List Plan). map commands_in ps) items)) ∙ inv.all);
+      number = omega (arith, length_snoc inv.done (commands_in plan), inv.number);
+      few = omega (arith, inv.few, sizes);
+      played = turns_go_on g.B.Berth.meaning fleet c.args.crew.now.holds c.loop-plan.crew.holds c.play_lane.new.crew.holds inv.done (commands_in plan) c.loop-plan.lines.items c.in_ok-own.own.items
+          c.put_lane.new.lines.items c.loop-plan.number inv.played one inv.number c.in_ok-put_lane.ensures;
+      plans = plans.1;
+      has = all_on fleet fleet c.loop-plan.crew.holds c.play_lane.new.crew.holds refl c.play_lane.ensures.still inv.has;
+      fleet = c.play_lane.ensures.fleet.0 ∙ inv.fleet;
+      tables = c.play_lane.ensures.fleet.1 ∙ inv.tables;
+      still = still_on c.args.crew.now.holds c.loop-plan.crew.holds c.play_lane.new.crew.holds inv.still c.play_lane.ensures.still;
+      time = pass_on g.B.Berth.meaning c.args.crew.now.holds c.loop-plan.crew.holds c.play_lane.new.crew.holds inv.time c.play_lane.ensures.time;
+    }

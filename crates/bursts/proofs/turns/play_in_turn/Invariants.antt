@@ -1,0 +1,27 @@
+use Rattle.std.proofs.Common.{◌≡◌, ◌+◌, ◌≤◌, ◌++◌, List, length, map}
+use Rattle.std.specs.List.{AllByRecursion}
+use Rattle.std.specs.VecDeque.{deque_len}
+use Rattle.script_text.specs.declared.command.Command.{Command}
+use Rattle.player.specs.Crew.{AllPass, HasAll, StillHas}
+use Rattle.bursts.specs.Needs.{IsPlan, commands_in}
+use Rattle.bursts.specs.Played.{TurnsPlayed}
+use Rattle.bursts.proofs.turns.play_in_turn.Given as goal
+
+-- some lanes were played, and the others are left
+abbrev pub invariant-loop-plan : goal.invariant-loop-plan
+invariant-loop-plan g l = record {
+  done : List (List Command);
+  all : done ++ map commands_in l.rest.items ≡ map commands_in l.fn.plans.items;
+  number : length done ≡ l.number;
+  few : l.number + length l.rest.items ≤ 16;
+  played : TurnsPlayed g.B.Berth.meaning l.initial.crew.fleet done l.initial.crew.holds l.lines.items l.crew.holds;
+  plans : AllByRecursion (IsPlan l.initial.crew.fleet) l.rest.items;
+  has : HasAll l.initial.crew.fleet l.crew.holds;
+  fleet : l.crew.fleet ≡ l.initial.crew.fleet;
+  tables : l.crew.tables ≡ l.initial.crew.tables;
+  still : StillHas l.initial.crew.holds l.crew.holds;
+  time : AllPass g.B.Berth.meaning l.initial.crew.holds l.crew.holds;
+}
+
+abbrev pub decreases-loop-plan : goal.decreases-loop-plan
+decreases-loop-plan g l = deque_len l.rest

@@ -1,0 +1,4 @@
+pub mod Items
+pub mod Needs
+pub mod Played
+pub mod Lent

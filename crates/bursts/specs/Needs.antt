@@ -1,0 +1,105 @@
+-- What the commands of a lane need, and whether a crew can lend it to every lane.
+use Rattle.std.specs.Prelude.{◌≡◌, ℕ, suc, ◌<◌, ◌≤◌, List, [], ◌∷◌, Bool, true, false, length, replicate, slice_set, count_by, Option, Some, None}
+use Rattle.std.specs.List.{AllByRecursion}
+use Rattle.script_text.specs.declared.command.Command.{Command}
+use Rattle.script_text.specs.declared.command.Command.TheVariants as command
+use Rattle.script_text.specs.Fits.{IsCommand}
+use Rattle.transcript.specs.Pieces.{Fleet, leaf_count, place_of}
+use Rattle.transcript.specs.Holds.{Hold}
+use Rattle.player.specs.Crew.{HasLeaf, HasSeats, Spares, is_set}
+use Rattle.bursts.specs.declared.plan.Needs.{Needs}
+use Rattle.bursts.specs.declared.plan.Plan.{Plan}
+
+-- the table that a command needs seats of callers at
+abbrev pub table_of : List (List ℕ) → Command → Option ℕ
+table_of names (command.Fleet machines per_machine tables) = None
+table_of names (command.Add leaf table rows) = Some table
+table_of names (command.Expire leaf table horizon) = Some table
+table_of names (command.Keep leaf table n) = Some table
+table_of names (command.Query q) = Some (place_of q.table names)
+table_of names (command.Flush leaf table) = None
+table_of names (command.Drain leaf stop) = None
+table_of names (command.Kill leaf) = None
+table_of names (command.Start leaf) = None
+
+-- the leaf whose steward it tells what to do
+abbrev pub leaf_of : Command → Option ℕ
+leaf_of (command.Fleet machines per_machine tables) = None
+leaf_of (command.Add leaf table rows) = None
+leaf_of (command.Expire leaf table horizon) = None
+leaf_of (command.Keep leaf table n) = None
+leaf_of (command.Query q) = None
+leaf_of (command.Flush leaf table) = Some leaf
+leaf_of (command.Drain leaf stop) = Some leaf
+leaf_of (command.Kill leaf) = Some leaf
+leaf_of (command.Start leaf) = Some leaf
+
+-- one place is marked, if any
+abbrev pub marked : Option ℕ → List Bool → List Bool
+marked None marks = marks
+marked (Some place) marks = slice_set marks place true
+
+-- the places that the commands need
+abbrev pub marked_by : (Command → Option ℕ) → List Command → List Bool → List Bool
+marked_by place [] marks = marks
+marked_by place (c ∷ cs) marks = marked_by place cs (marked (place c) marks)
+
+-- those of so many places
+abbrev pub needed : (Command → Option ℕ) → ℕ → List Command → List Bool
+needed place count commands = marked_by place commands (replicate count false)
+
+-- a place for each table and each leaf of the fleet
+pub record HasPlaces (fleet : Fleet) (needs : Needs) : Type 0 where
+  pub tables : length needs.tables.items ≡ length fleet.names
+  pub leaves : length needs.leaves.items ≡ leaf_count fleet
+
+-- what the commands of a lane need
+pub record AreNeeds (fleet : Fleet) (commands : List Command) (needs : Needs) : Type 0 where
+  pub tables : needs.tables.items ≡ needed (table_of fleet.names) (length fleet.names) commands
+  pub leaves : needs.leaves.items ≡ needed leaf_of (leaf_count fleet) commands
+
+abbrev pub commands_in : Plan → List Command
+commands_in plan = plan.commands.items
+
+-- commands of a lane, with what they need
+pub record IsPlan (fleet : Fleet) (plan : Plan) : Type 0 where
+  pub commands : AllByRecursion (IsCommand (leaf_count fleet) fleet.names) plan.commands.items
+  pub needs : AreNeeds fleet plan.commands.items plan.needs
+
+-- those of this lane
+pub record IsPlanOf (fleet : Fleet) (lane : List Command) (plan : Plan) : Type 0 where
+  pub is : IsPlan fleet plan
+  pub lane_is : plan.commands.items ≡ lane
+
+-- one for each lane
+abbrev pub ArePlans : Fleet → List (List Command) → List Plan → Type 0
+ArePlans fleet [] [] = Unit {0}
+ArePlans fleet [] (p ∷ ps) = ⊥
+ArePlans fleet (l ∷ ls) [] = ⊥
+ArePlans fleet (l ∷ ls) (p ∷ ps) = IsPlanOf fleet l p × ArePlans fleet ls ps
+
+-- ---- what can be lent
+
+-- the lane needs seats at that table
+abbrev pub needs_at : ℕ → Plan → Bool
+needs_at table plan = is_set plan.needs.tables.items table
+
+-- it acts on that leaf
+abbrev pub acts_on : ℕ → Plan → Bool
+acts_on leaf plan = is_set plan.needs.leaves.items leaf
+
+-- no leaf is acted on by two lanes
+abbrev pub AreAlone : List Plan → Type 0
+AreAlone plans = (leaf : ℕ) → count_by (acts_on leaf) plans ≤ 1
+
+-- each seat of callers has an id for each lane that needs one there, and one more
+abbrev pub AreSpare : {B : Type 0} → Fleet → List (Hold B) → List Plan → Type 0
+AreSpare fleet xs plans = (table : ℕ) → table < length fleet.names → Spares xs table (suc (count_by (needs_at table) plans))
+
+-- all of it can be cut off
+pub record CanLend {B : Type 0} (fleet : Fleet) (xs : List (Hold B)) (plans : List Plan) : Type 0 where
+  pub plans_are : AllByRecursion (IsPlan fleet) plans
+  pub alone : AreAlone plans
+  pub spare : AreSpare fleet xs plans
+  pub seats : (table : ℕ) → table < length fleet.names → HasSeats xs table
+  pub leaves : (leaf : ℕ) → 0 < count_by (acts_on leaf) plans → HasLeaf xs leaf

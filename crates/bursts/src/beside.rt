@@ -1,0 +1,180 @@
+// Lanes that play at once, each with what is cut off for it.
+ghost use Rattle.std.specs.Prelude.{◌≡◌, ◌+◌, ◌<◌, ◌≤◌, ◌∷◌, ◌++◌, [], ℕ, List, length, map, slice_index_or, vec_len, vec_capacity, IfOk, IsOk};
+ghost use Rattle.std.specs.List.{AllByRecursion};
+ghost use Rattle.std.specs.Thread.{IsSend, IsSync};
+ghost use Rattle.script_text.specs.declared.command.Command.{Command};
+ghost use Rattle.transcript.specs.Holds.{Hold};
+ghost use Rattle.player.specs.Crew.{AllPass, HasAll, HasSeats, StillHas};
+ghost use Rattle.bursts.specs.Needs.{AreAlone, AreSpare, CanLend, IsPlan, commands_in};
+ghost use Rattle.bursts.specs.Lent.{IsDone, IsReady, IsWorked, Lent, MayWork, TakenBack};
+ghost use Rattle.bursts.specs.Played.{BesidePlayed};
+
+use crate::lane::play_lane;
+use crate::lines::behind;
+use crate::plan::Plan;
+use crate::work::LaneWork;
+use berth_face::{Berth, Gate};
+use player::Crew;
+use printed_lines::Line;
+use std::alloc::{AllocError, Global};
+use std::mem::replace;
+use std::sync::Wait;
+use std::thread;
+use std::thread::Threads;
+
+/// Plays lanes at once. All seats meet before that, so that each lane knows what was done before the burst.
+/// The list of lanes is made before anything is cut off.
+pub fn play_beside<'t, R: Wait + Threads + Sync, B: Berth, G: Gate>(
+    rt: &R,
+    alloc: Global,
+    gate: &G,
+    crew: &mut Crew<'t, B>,
+    plans: Vec<Plan>,
+) -> Result<Vec<Line>, AllocError>
+    requires plans { AllByRecursion (IsPlan crew.old.fleet) plans.items }
+    requires few { length plans.items ≤ 16 }
+    requires alone { AreAlone plans.items }
+    requires spare { AreSpare crew.old.fleet crew.old.holds plans.items }
+    requires all { HasAll crew.old.fleet crew.old.holds }
+    ensures played { IfOk result (λ lines. BesidePlayed B.meaning crew.old.fleet (map commands_in plans.items) crew.old.holds lines.items crew.new.holds) }
+    ensures fleet { (crew.new.fleet ≡ crew.old.fleet) × (crew.new.tables ≡ crew.old.tables) }
+    ensures still { StillHas crew.old.holds crew.new.holds }
+    ensures time { AllPass B.meaning crew.old.holds crew.new.holds }
+{
+    let mut lanes = Vec::with_capacity(alloc, plans.len())?;
+    crew.meet_all();
+    match cut_all(alloc, crew, plans, &mut lanes) {
+        Ok(()) => {
+            work_all(rt, alloc, gate, lanes.as_mut_slice());
+            take_all_back(alloc, crew, lanes)
+        }
+        Err(fault) => {
+            let _ = take_all_back(alloc, crew, lanes);
+            Err(fault)
+        }
+    }
+}
+
+// Cuts off what each lane needs, that of the last lane first. For want of memory the others are not cut off.
+fn cut_all<'t, B: Berth>(
+    alloc: Global,
+    crew: &mut Crew<'t, B>,
+    plans: Vec<Plan>,
+    lanes: &mut Vec<LaneWork<'t, B>>,
+) -> Result<(), AllocError>
+    requires can { CanLend crew.old.fleet crew.old.holds plans.items }
+    requires few { length plans.items ≤ 16 }
+    requires none { lanes.old.items ≡ [] }
+    requires room { vec_len lanes.old + vec_len plans ≤ vec_capacity lanes.old }
+    ensures lent { (cut : List (List Command)) × Lent (length plans.items) (IsReady crew.old.fleet crew.old.tables) crew.old.holds lanes.new.items cut crew.new.holds × (IsOk result → cut ≡ map commands_in plans.items) }
+    ensures fleet { (crew.new.fleet ≡ crew.old.fleet) × (crew.new.tables ≡ crew.old.tables) }
+    ensures seats { (table : ℕ) → table < length crew.old.fleet.names → HasSeats crew.new.holds table }
+{
+    let mut plans = plans;
+    while let Some(plan) = plans.pop() {
+        let off = crew.cut_off(
+            alloc,
+            plan.needs.tables.as_slice(),
+            plan.needs.leaves.as_slice(),
+        )?;
+        let number = count(&plans);
+        put_last(
+            lanes,
+            LaneWork {
+                number,
+                crew: off,
+                commands: plan.commands,
+                lines: None,
+            },
+        );
+    }
+    Ok(())
+}
+
+// How many lanes these are.
+fn count(plans: &Vec<Plan>) -> u32
+    requires { length plans.now.items ≤ 16 }
+    ensures { result ≡ length plans.now.items }
+{
+    plans.len() as u32
+}
+
+// Puts a value behind the others, where room was left for it.
+fn put_last<T>(list: &mut Vec<T>, value: T)
+    requires { vec_len list.old < vec_capacity list.old }
+    ensures items { list.new.items ≡ list.old.items ++ value ∷ [] }
+    ensures len { vec_len list.new ≡ vec_len list.old + 1 }
+    ensures capacity { vec_capacity list.old ≤ vec_capacity list.new }
+{
+    match list.push(value) {
+        Ok(()) => {}
+        Err(_) => unreachable!(),
+    }
+}
+
+// Lets each lane play, all at once: each in a thread of its own where one can be made, and else in turn.
+fn work_all<'t, R: Wait + Threads + Sync, B: Berth, G: Gate>(
+    rt: &R,
+    alloc: Global,
+    gate: &G,
+    lanes: &mut [LaneWork<'t, B>],
+)
+    requires { (i : ℕ) (d : LaneWork B) → i < length lanes.old → MayWork (slice_index_or lanes.old i d) }
+    ensures each { (i : ℕ) (d : LaneWork B) → i < length lanes.old → IsDone B.meaning (slice_index_or lanes.old i d) (slice_index_or lanes.new i d) }
+    ensures same { length lanes.new ≡ length lanes.old }
+{
+    let threads = lanes.len();
+    if threads == 0 {
+        return;
+    }
+    thread::for_each_mut(
+        rt,
+        lanes,
+        threads,
+        &|_, lane: &mut LaneWork<B>|
+            requires { IsSync R.row × IsSync G.row × IsSend B.row × MayWork lane.old }
+            ensures { IsDone B.meaning lane.old lane.new }
+        { work(rt, alloc, gate, lane) },
+    );
+}
+
+// Plays a lane with what was cut off for it.
+fn work<'t, R: Wait + Threads + Sync, B: Berth, G: Gate>(
+    rt: &R,
+    alloc: Global,
+    gate: &G,
+    lane: &mut LaneWork<'t, B>,
+)
+    requires { MayWork lane.old }
+    ensures { IsDone B.meaning lane.old lane.new }
+{
+    let commands = replace(&mut lane.commands, Vec::new(alloc));
+    lane.lines = play_lane(rt, alloc, gate, lane.number, &mut lane.crew, commands).ok();
+}
+
+// Takes back what was cut off for each lane, that of the first lane first, and gives the lines of all.
+fn take_all_back<'t, B: Berth>(
+    alloc: Global,
+    crew: &mut Crew<'t, B>,
+    lanes: Vec<LaneWork<'t, B>>,
+) -> Result<Vec<Line>, AllocError>
+    requires lent { (xs : List (Hold B)) × (count : ℕ) × (cut : List (List Command)) × Lent count (IsWorked B.meaning crew.old.fleet crew.old.tables) xs lanes.items cut crew.old.holds }
+    requires seats { (table : ℕ) → table < length crew.old.fleet.names → HasSeats crew.old.holds table }
+    ensures back { (xs : List (Hold B)) (count : ℕ) (cut : List (List Command)) → Lent count (IsWorked B.meaning crew.old.fleet crew.old.tables) xs lanes.entry.items cut crew.old.holds → TakenBack B.meaning crew.old.fleet count cut xs result crew.new.holds }
+    ensures fleet { (crew.new.fleet ≡ crew.old.fleet) × (crew.new.tables ≡ crew.old.tables) }
+{
+    let mut lines = Ok(Vec::new(alloc));
+    let mut lanes = lanes;
+    while let Some(lane) = lanes.pop() {
+        let LaneWork {
+            number,
+            crew: off,
+            commands: _,
+            lines: own,
+        } = lane;
+        crew.take_back(off);
+        lines = behind(lines, number, own);
+    }
+    lanes.destroy_empty();
+    lines
+}

@@ -1,0 +1,44 @@
+// The lanes of a burst.
+ghost use Rattle.std.specs.Prelude.{◌≡◌, IfOk};
+ghost use Rattle.std.specs.List.{AllByRecursion};
+ghost use Rattle.script_text.specs.declared.item.Item.TheVariants.{Burst};
+ghost use Rattle.script_text.specs.Fits.{IsBurst};
+ghost use Rattle.printed_lines.specs.Lines.{IsOf};
+ghost use Rattle.transcript.specs.Pieces.{leaf_count};
+ghost use Rattle.player.specs.Crew.{AllPass, HasAll};
+ghost use Rattle.bursts.specs.Items.{ItemPlayed};
+
+use crate::beside::play_beside;
+use crate::plans::{are_spare, plan_all};
+use crate::turns::play_in_turn;
+use berth_face::{Berth, Gate};
+use player::Crew;
+use printed_lines::Line;
+use script_text::Commands;
+use std::alloc::{AllocError, Global};
+use std::sync::Wait;
+use std::thread::Threads;
+
+/// Plays the lanes of a burst: all at once where ids of callers are enough for them, and else in turn.
+pub fn play_burst<'t, R: Wait + Threads + Sync, B: Berth, G: Gate>(
+    rt: &R,
+    alloc: Global,
+    gate: &G,
+    crew: &mut Crew<'t, B>,
+    lanes: Vec<Commands>,
+) -> Result<Vec<Line>, AllocError>
+    requires burst { IsBurst (leaf_count crew.old.fleet) crew.old.fleet.names lanes.items }
+    requires all { HasAll crew.old.fleet crew.old.holds }
+    ensures played { IfOk result (λ lines. ItemPlayed B.meaning crew.old.fleet (Burst lanes.items) crew.old.holds lines.items crew.new.holds) }
+    ensures fleet { (crew.new.fleet ≡ crew.old.fleet) × (crew.new.tables ≡ crew.old.tables) }
+    ensures all { HasAll crew.new.fleet crew.new.holds }
+    ensures time { AllPass B.meaning crew.old.holds crew.new.holds }
+    ensures lines_fit { IfOk result (λ lines. AllByRecursion (IsOf crew.old.fleet.names) lines.items) }
+{
+    let plans = plan_all(alloc, crew, lanes)?;
+    if are_spare(crew, plans.as_slice()) {
+        play_beside(rt, alloc, gate, crew, plans)
+    } else {
+        play_in_turn(rt, alloc, gate, crew, plans)
+    }
+}

@@ -1,0 +1,38 @@
+// An item of a script: a command, or the lanes of a burst.
+ghost use Rattle.std.specs.Prelude.{◌≡◌, IfOk};
+ghost use Rattle.std.specs.List.{AllByRecursion};
+ghost use Rattle.printed_lines.specs.Lines.{IsOf};
+ghost use Rattle.player.specs.Crew.{AllPass, HasAll};
+ghost use Rattle.bursts.specs.Items.{ItemPlayed, MayPlayItem};
+
+use crate::burst::play_burst;
+use crate::command::play_one;
+use berth_face::{Berth, Gate};
+use player::Crew;
+use printed_lines::Line;
+use script_text::Item;
+use std::alloc::{AllocError, Global};
+use std::sync::Wait;
+use std::thread::Threads;
+
+/// Plays an item, and gives the lines that it prints. For want of memory all leaves and seats are back all the same.
+pub fn play_item<'t, R: Wait + Threads + Sync, B: Berth, G: Gate>(
+    rt: &R,
+    alloc: Global,
+    gate: &G,
+    crew: &mut Crew<'t, B>,
+    item: Item,
+) -> Result<Vec<Line>, AllocError>
+    requires may { MayPlayItem crew.old.fleet item }
+    requires all { HasAll crew.old.fleet crew.old.holds }
+    ensures played { IfOk result (λ lines. ItemPlayed B.meaning crew.old.fleet item crew.old.holds lines.items crew.new.holds) }
+    ensures fleet { (crew.new.fleet ≡ crew.old.fleet) × (crew.new.tables ≡ crew.old.tables) }
+    ensures all { HasAll crew.new.fleet crew.new.holds }
+    ensures time { AllPass B.meaning crew.old.holds crew.new.holds }
+    ensures lines_fit { IfOk result (λ lines. AllByRecursion (IsOf crew.old.fleet.names) lines.items) }
+{
+    match item {
+        Item::One(command) => play_one(rt, alloc, gate, crew, command),
+        Item::Burst(lanes) => play_burst(rt, alloc, gate, crew, lanes.into_inner()),
+    }
+}

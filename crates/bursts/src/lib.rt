@@ -1,0 +1,16 @@
+//! An item of a script, played over a crew: a command, or the lanes of a burst at once.
+#![tactic(auto)]
+
+mod beside;
+mod burst;
+mod command;
+mod item;
+mod lane;
+mod lines;
+mod needs;
+mod plan;
+mod plans;
+mod turns;
+mod work;
+
+pub use item::play_item;

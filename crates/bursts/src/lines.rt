@@ -1,0 +1,32 @@
+// The lines of a burst.
+ghost use Rattle.std.specs.Prelude.{◌≡◌, ◌∷◌, ◌++◌, IfOk, OnOk};
+ghost use Rattle.printed_lines.specs.declared.line.Line.TheVariants.{Lane};
+ghost use Rattle.bursts.specs.Played.{IsBehind};
+
+use printed_lines::Line;
+use std::alloc::AllocError;
+
+/// Puts the lines of the lane with that number behind those of the lanes before it.
+pub fn put_lane(lines: &mut Vec<Line>, number: u32, own: Vec<Line>) -> Result<(), AllocError>
+    ensures { OnOk result (lines.new.items ≡ lines.old.items ++ Lane number ∷ own.items) }
+{
+    let mut own = own;
+    lines.push(Line::Lane(number))?;
+    lines.append(&mut own)
+}
+
+/// The same where there was memory for both.
+pub fn behind(
+    lines: Result<Vec<Line>, AllocError>,
+    number: u32,
+    own: Option<Vec<Line>>,
+) -> Result<Vec<Line>, AllocError>
+    ensures { IfOk result (λ all. IsBehind lines number own all.items) }
+{
+    let mut lines = lines?;
+    match own {
+        Some(own) => put_lane(&mut lines, number, own)?,
+        None => return Err(AllocError),
+    }
+    Ok(lines)
+}

@@ -1,0 +1,65 @@
+// What the commands of a lane need.
+ghost use Rattle.std.specs.Prelude.{◌≡◌, false, replicate, IfOk};
+ghost use Rattle.std.specs.List.{AllByRecursion};
+ghost use Rattle.script_text.specs.Fits.{IsCommand};
+ghost use Rattle.transcript.specs.Pieces.{leaf_count};
+ghost use Rattle.bursts.specs.Needs.{AreNeeds, HasPlaces, leaf_of, marked, table_of};
+
+use crate::plan::Needs;
+use berth_face::Berth;
+use player::Crew;
+use script_text::Command;
+use std::alloc::{AllocError, Global};
+
+impl Needs {
+    /// What these commands need.
+    pub fn of<'t, B: Berth>(
+        alloc: Global,
+        crew: &Crew<'t, B>,
+        commands: &[Command],
+    ) -> Result<Needs, AllocError>
+        requires { AllByRecursion (IsCommand (leaf_count crew.now.fleet) crew.now.fleet.names) commands.now }
+        ensures { IfOk result (AreNeeds crew.now.fleet commands.now) }
+    {
+        let mut needs = Needs {
+            tables: unmarked(alloc, crew.table_count())?,
+            leaves: unmarked(alloc, crew.leaf_count())?,
+        };
+        for command in commands {
+            needs.mark(crew, command);
+        }
+        Ok(needs)
+    }
+
+    // Marks what one command needs.
+    fn mark<'t, B: Berth>(&mut self, crew: &Crew<'t, B>, command: &Command)
+        requires command { IsCommand (leaf_count crew.now.fleet) crew.now.fleet.names command.now }
+        requires places { HasPlaces crew.now.fleet self.old }
+        ensures tables { self.new.tables.items ≡ marked (table_of crew.now.fleet.names command.now) self.old.tables.items }
+        ensures leaves { self.new.leaves.items ≡ marked (leaf_of command.now) self.old.leaves.items }
+    {
+        match command {
+            Command::Fleet { .. } => {}
+            Command::Add { table, .. } => self.tables[*table as usize] = true,
+            Command::Expire { table, .. } => self.tables[*table as usize] = true,
+            Command::Keep { table, .. } => self.tables[*table as usize] = true,
+            Command::Query(query) => {
+                let table = crew.place_of(query.table.as_str());
+                self.tables[table as usize] = true;
+            }
+            Command::Flush { leaf, .. } => self.leaves[*leaf as usize] = true,
+            Command::Drain { leaf, .. } => self.leaves[*leaf as usize] = true,
+            Command::Kill(leaf) => self.leaves[*leaf as usize] = true,
+            Command::Start(leaf) => self.leaves[*leaf as usize] = true,
+        }
+    }
+}
+
+// So many places, none of which is marked.
+fn unmarked(alloc: Global, count: u32) -> Result<Vec<bool>, AllocError>
+    ensures { IfOk result (λ marks. marks.items ≡ replicate count false) }
+{
+    let mut marks = Vec::new(alloc);
+    marks.resize(count as usize, false)?;
+    Ok(marks)
+}

@@ -1,0 +1,71 @@
+// The lanes of a burst, each with what it needs.
+ghost use Rattle.std.specs.Prelude.{◌≡◌, ◌<◌, IfOk, IsTrue, count_by};
+ghost use Rattle.std.specs.List.{AllByRecursion};
+ghost use Rattle.script_text.specs.Fits.{IsCommand};
+ghost use Rattle.transcript.specs.Pieces.{leaf_count};
+ghost use Rattle.player.specs.Crew.{is_set};
+ghost use Rattle.bursts.specs.Needs.{ArePlans, AreSpare, IsPlanOf, needs_at};
+
+use crate::plan::{Needs, Plan};
+use berth_face::Berth;
+use player::Crew;
+use script_text::Commands;
+use std::alloc::{AllocError, Global};
+use std::collections::VecDeque;
+
+/// Each lane with what it needs.
+pub fn plan_all<'t, B: Berth>(
+    alloc: Global,
+    crew: &Crew<'t, B>,
+    lanes: Vec<Commands>,
+) -> Result<Vec<Plan>, AllocError>
+    requires { AllByRecursion (AllByRecursion (IsCommand (leaf_count crew.now.fleet) crew.now.fleet.names)) lanes.items }
+    ensures { IfOk result (λ plans. ArePlans crew.now.fleet lanes.items plans.items) }
+{
+    let mut plans = Vec::new(alloc);
+    let mut rest = VecDeque::from_vec(lanes);
+    while let Some(lane) = rest.pop_front() {
+        plans.push(plan(alloc, crew, lane)?)?;
+    }
+    Ok(plans)
+}
+
+fn plan<'t, B: Berth>(alloc: Global, crew: &Crew<'t, B>, lane: Commands) -> Result<Plan, AllocError>
+    requires { AllByRecursion (IsCommand (leaf_count crew.now.fleet) crew.now.fleet.names) lane }
+    ensures { IfOk result (λ made. IsPlanOf crew.now.fleet lane made) }
+{
+    let commands = lane.into_inner();
+    let needs = Needs::of(alloc, crew, commands.as_slice())?;
+    Ok(Plan { commands, needs })
+}
+
+/// Whether the callers' seats at each table have an id for each lane that needs one there, and one more.
+pub fn are_spare<'t, B: Berth>(crew: &Crew<'t, B>, plans: &[Plan]) -> bool
+    ensures { IsTrue result → AreSpare crew.now.fleet crew.now.holds plans.now }
+{
+    for table in 0..crew.table_count() {
+        if crew.spare(table) <= lanes_at(plans, table) {
+            return false;
+        }
+    }
+    true
+}
+
+// How many of the lanes need that table.
+fn lanes_at(plans: &[Plan], table: u32) -> u64
+    ensures { result ≡ count_by (needs_at table) plans.now }
+{
+    plans.iter().filter(|plan| plan.needs_table(table)).count() as u64
+}
+
+impl Plan {
+    fn needs_table(&self, table: u32) -> bool
+        ensures { result ≡ is_set self.now.needs.tables.items table }
+    {
+        self.needs
+            .tables
+            .get(table as usize)
+            .copied()
+            .unwrap_or(false)
+    }
+}

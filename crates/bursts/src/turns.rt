@@ -1,0 +1,44 @@
+// Lanes that are played one after another, since ids are too few to cut off.
+ghost use Rattle.std.specs.Prelude.{◌≡◌, ◌≤◌, length, IfOk, map};
+ghost use Rattle.std.specs.List.{AllByRecursion};
+ghost use Rattle.player.specs.Crew.{AllPass, HasAll, StillHas};
+ghost use Rattle.bursts.specs.Needs.{IsPlan, commands_in};
+ghost use Rattle.bursts.specs.Played.{TurnsPlayed};
+
+use crate::lane::play_lane;
+use crate::lines::put_lane;
+use crate::plan::Plan;
+use berth_face::{Berth, Gate};
+use player::Crew;
+use printed_lines::Line;
+use std::alloc::{AllocError, Global};
+use std::collections::VecDeque;
+use std::sync::Wait;
+use std::thread::Threads;
+
+/// Plays lanes one after another over the whole crew.
+pub fn play_in_turn<'t, R: Wait + Threads + Sync, B: Berth, G: Gate>(
+    rt: &R,
+    alloc: Global,
+    gate: &G,
+    crew: &mut Crew<'t, B>,
+    plans: Vec<Plan>,
+) -> Result<Vec<Line>, AllocError>
+    requires plans { AllByRecursion (IsPlan crew.old.fleet) plans.items }
+    requires few { length plans.items ≤ 16 }
+    requires all { HasAll crew.old.fleet crew.old.holds }
+    ensures played { IfOk result (λ lines. TurnsPlayed B.meaning crew.old.fleet (map commands_in plans.items) crew.old.holds lines.items crew.new.holds) }
+    ensures fleet { (crew.new.fleet ≡ crew.old.fleet) × (crew.new.tables ≡ crew.old.tables) }
+    ensures still { StillHas crew.old.holds crew.new.holds }
+    ensures time { AllPass B.meaning crew.old.holds crew.new.holds }
+{
+    let mut lines = Vec::new(alloc);
+    let mut number: u32 = 0;
+    let mut rest = VecDeque::from_vec(plans);
+    while let Some(plan) = rest.pop_front() {
+        let own = play_lane(rt, alloc, gate, number, crew, plan.commands)?;
+        put_lane(&mut lines, number, own)?;
+        number += 1;
+    }
+    Ok(lines)
+}

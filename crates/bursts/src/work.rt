@@ -1,0 +1,15 @@
+// A lane that plays by itself.
+use berth_face::Berth;
+use player::Crew;
+use printed_lines::Line;
+use script_text::Command;
+
+/// A lane, with what was cut off for it.
+#[derive(Drop)]
+pub struct LaneWork<'t, B: Berth> {
+    pub number: u32,
+    pub crew: Crew<'t, B>,
+    pub commands: Vec<Command>,
+    /// Those of all its commands: none before they are played, or for want of memory.
+    pub lines: Option<Vec<Line>>,
+}

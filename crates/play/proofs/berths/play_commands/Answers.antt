@@ -1,8 +1,0 @@
-use Rattle.std.proofs.Common.{rules, ◌≡◌, []}
-use Rattle.play.proofs.Ends.{nothing_written}
-use Rattle.play.proofs.berths.play_commands.Goals as goal
-
-pub returns-in-Ok-None-clause-done : goal.returns-in-Ok-None-clause-done
-returns-in-Ok-None-clause-done g c =
-    let none : c.args.commands ≡ [] = search rules in
-    λ e. nothing_written g.N.Bases.base g.B.Berth.meaning c.args.commands (g.K.Sink.written c.args.sink.now) c.args.berths.now.items none
