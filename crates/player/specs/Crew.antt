@@ -9,6 +9,7 @@ use Rattle.leaf_table.specs.Lists.{row}
 use Rattle.leaf_steward.specs.Seated.{Seated}
 use Rattle.script_text.specs.declared.command.Command.{Command}
 use Rattle.script_text.specs.declared.command.Command.TheVariants as command
+use Rattle.rollover_watch.specs.Watches.{Held}
 use Rattle.printed_lines.specs.declared.line.Line.{Line}
 use Rattle.printed_lines.specs.declared.line.Ending.{Ending}
 use Rattle.printed_lines.specs.Lines.{IsOf}
@@ -17,6 +18,7 @@ use Rattle.transcript.specs.Counts.{IsCounted, deeds_in}
 use Rattle.transcript.specs.Holds.{Hold, caller_in}
 use Rattle.transcript.specs.Stage.{Leaf, IsDown}
 use Rattle.transcript.specs.Steps.{Plays}
+use Rattle.transcript.specs.Watching.{Hears}
 
 -- the fleet, the tables of each leaf, and what is held of each leaf
 pub record CrewState (B : Type 0) : Type 0 where
@@ -67,6 +69,7 @@ HasFor fleet xs (command.Flush leaf table) = HasLeaf xs leaf
 HasFor fleet xs (command.Drain leaf stop) = HasLeaf xs leaf
 HasFor fleet xs (command.Kill leaf) = HasLeaf xs leaf
 HasFor fleet xs (command.Start leaf) = HasLeaf xs leaf
+HasFor fleet xs (command.Rollover percent) = (leaf : ℕ) → HasLeaf xs leaf
 
 -- all of it, as the run has between two items
 pub record HasAll {B : Type 0} (fleet : Fleet) (xs : List (Hold B)) : Type 0 where
@@ -108,12 +111,13 @@ pub record AllCounted {B : Type 0} (meaning : B → Meaning) (pieces : List Piec
   pub count : length ys ≡ length xs
   pub each : (leaf : ℕ) (x y : Hold B) → slice_get xs leaf ≡ Some x → slice_get ys leaf ≡ Some y → CountedIf meaning leaf pieces x.held y.held
 
--- what a command did, with its pieces, also where there was no memory for their lines
-pub record PlaysWith {B E : Type 0} (meaning : B → Meaning) (fleet : Fleet) (c : Command) (xs : List (Hold B)) (result : Result (Vec Line Global) E) (ys : List (Hold B)) : Type 0 where
+-- what a command did, with its pieces, and what the watches heard of it, also where there was no memory for their lines
+pub record PlaysWith {B E : Type 0} (meaning : B → Meaning) (fleet : Fleet) (c : Command) (xs : List (Hold B)) (before : List Held) (result : Result (Vec Line Global) E) (ys : List (Hold B)) (after : List Held) : Type 0 where
   pub pieces : List Piece
   pub plays : Plays meaning fleet c xs pieces ys
   pub counted : AllCounted meaning pieces xs ys
   pub fit : AllByRecursion (IsOf fleet.names) (lines_in pieces)
+  pub heard : Hears fleet (record { command = c; pieces = pieces }) before after
   pub lines_are : IfOk result (λ lines. lines.items ≡ lines_in pieces)
 
 -- ---- what is lent to a lane

@@ -9,6 +9,7 @@ use crate::call::Request;
 use crate::members::Members;
 use berth_face::{Berth, Gate};
 use printed_lines::Line;
+use rollover_watch::Watch;
 use script_text::Command;
 use std::alloc::{AllocError, Global};
 use std::sync::Wait;
@@ -21,6 +22,7 @@ impl<'t, B: Berth> Members<'t, B> {
         rt: &R,
         alloc: Global,
         gate: &G,
+        watches: &mut Vec<Box<dyn Watch>>,
         command: Command,
     ) -> Result<Vec<Line>, AllocError>
         requires members { AreMembers self.old }
@@ -28,7 +30,8 @@ impl<'t, B: Berth> Members<'t, B> {
         requires has { HasFor (fleet_in self.old) (holds_in self.old) command }
         ensures members { AreMembers self.new }
         ensures same { SameFleet self.old self.new }
-        ensures plays { PlaysWith B.meaning (fleet_in self.old) command (holds_in self.old) result (holds_in self.new) ⊎ (IsErr result × (holds_in self.new ≡ holds_in self.old)) }
+        ensures plays { PlaysWith B.meaning (fleet_in self.old) command (holds_in self.old) (map (λ watch. held watch) watches.old.items) result (holds_in self.new) (map (λ watch. held watch) watches.new.items)
+            ⊎ (IsErr result × (holds_in self.new ≡ holds_in self.old) × (map (λ watch. held watch) watches.new.items ≡ map (λ watch. held watch) watches.old.items)) }
         ensures still { StillHas (holds_in self.old) (holds_in self.new) }
         ensures time { AllPass B.meaning (holds_in self.old) (holds_in self.new) }
     {

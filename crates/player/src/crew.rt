@@ -25,6 +25,7 @@ use berth_face::{Berth, Gate};
 use leaf_model::Names;
 use leaf_table::{CallerSeats, FleetTables, StewardSeats};
 use printed_lines::Line;
+use rollover_watch::Watch;
 use script_text::Command;
 use std::alloc::{AllocError, Global};
 use std::marker::Model;
@@ -128,17 +129,19 @@ impl<'t, B: Berth> Crew<'t, B> {
         rt: &R,
         alloc: Global,
         gate: &G,
+        watches: &mut Vec<Box<dyn Watch>>,
         command: Command,
     ) -> Result<Vec<Line>, AllocError>
         requires may { MayPlay self.old.fleet command }
         requires has { HasFor self.old.fleet self.old.holds command }
-        ensures plays { PlaysWith B.meaning self.old.fleet command self.old.holds result self.new.holds ⊎ (IsErr result × (self.new.holds ≡ self.old.holds)) }
+        ensures plays { PlaysWith B.meaning self.old.fleet command self.old.holds (map (λ watch. held watch) watches.old.items) result self.new.holds (map (λ watch. held watch) watches.new.items)
+            ⊎ (IsErr result × (self.new.holds ≡ self.old.holds) × (map (λ watch. held watch) watches.new.items ≡ map (λ watch. held watch) watches.old.items)) }
         ensures fleet { (self.new.fleet ≡ self.old.fleet) × (self.new.tables ≡ self.old.tables) }
         ensures still { StillHas self.old.holds self.new.holds }
         ensures time { AllPass B.meaning self.old.holds self.new.holds }
         ensures lines_fit { IfOk result (λ lines. AllByRecursion (IsOf self.old.fleet.names) lines.items) }
     {
-        self.members.play(rt, alloc, gate, command)
+        self.members.play(rt, alloc, gate, watches, command)
     }
 
     /// Lets the seats of each leaf meet.

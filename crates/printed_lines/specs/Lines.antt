@@ -1,5 +1,5 @@
 -- The text of each printed line.
-use Rattle.std.specs.Prelude.{ℕ, zero, suc, ◌<◌, List, [], ◌∷◌, ◌++◌, length, ⊤, decimal, codes}
+use Rattle.std.specs.Prelude.{ℕ, zero, suc, ◌<◌, Bool, true, false, List, [], ◌∷◌, ◌++◌, length, ⊤, decimal, codes}
 use Rattle.std.specs.List.{flat_map}
 use Rattle.leaf_opening.specs.declared.ways.Way.{Way}
 use Rattle.leaf_opening.specs.declared.ways.Way.TheVariants.{Memory, Disk}
@@ -12,7 +12,7 @@ use Rattle.printed_lines.specs.declared.line.Ending.{Ending}
 use Rattle.printed_lines.specs.declared.line.Ending.TheVariants.{Done, Stopped, NotUp, NotDown, Started, FaultRegion, FaultRoom, FaultDisk, FaultDamaged, FaultMemory, FaultStranger, FaultWorn}
 use Rattle.printed_lines.specs.declared.line.Ending.TheVariants as ends
 use Rattle.printed_lines.specs.declared.line.Line.{Line}
-use Rattle.printed_lines.specs.declared.line.Line.TheVariants.{Entry, Worn, Answer, Ended, Lane}
+use Rattle.printed_lines.specs.declared.line.Line.TheVariants.{Entry, Worn, Answer, Ended, Lane, Wave, Rolled, Watch}
 
 -- what an entry's line says
 abbrev pub said_text : Said → List ℕ
@@ -93,6 +93,26 @@ ended_text names verb leaf ending = verb_text verb ++ (32 ∷ (decimal leaf ++ (
 abbrev pub lane_text : ℕ → List ℕ
 lane_text number = codes "lane " ++ (decimal number ++ 10 ∷ [])
 
+-- a leaf behind those of the same wave
+abbrev pub leaf_text : ℕ → List ℕ
+leaf_text leaf = 32 ∷ decimal leaf
+
+-- the line of a wave of so many, with its leaves
+abbrev pub wave_text : ℕ → ℕ → List ℕ → List ℕ
+wave_text number total leaves = codes "wave " ++ (decimal number ++ (codes " of " ++ (decimal total ++ (codes " leaves" ++ (flat_map leaf_text leaves ++ 10 ∷ [])))))
+
+-- how a rollover ended
+abbrev pub rolled_word : Bool → List ℕ
+rolled_word true = codes "halted "
+rolled_word false = codes "done "
+
+abbrev pub rolled_text : Bool → ℕ → ℕ → List ℕ
+rolled_text halted waves total = codes "rollover " ++ (rolled_word halted ++ (decimal waves ++ (codes " of " ++ (decimal total ++ 10 ∷ []))))
+
+-- the line of a watch
+abbrev pub watch_text : List ℕ → List ℕ
+watch_text text = codes "watch " ++ (text ++ 10 ∷ [])
+
 -- the text of a line, of a fleet whose tables have these names
 abbrev pub line_text : List (List ℕ) → Line → List ℕ
 line_text names (Entry leaf table number said) = entry_text leaf (name_at names table) number said
@@ -100,6 +120,9 @@ line_text names (Worn leaf table) = worn_text leaf (name_at names table)
 line_text names (Answer named leaves rows) = answer_text named leaves rows
 line_text names (Ended verb leaf ending) = ended_text names verb leaf ending
 line_text names (Lane number) = lane_text number
+line_text names (Wave number total leaves) = wave_text number total leaves
+line_text names (Rolled halted waves total) = rolled_text halted waves total
+line_text names (Watch text) = watch_text text
 
 abbrev pub lines_text : List (List ℕ) → List Line → List ℕ
 lines_text names lines = flat_map (line_text names) lines
@@ -127,3 +150,6 @@ IsOf names (Worn leaf table) = table < length names
 IsOf names (Answer named leaves rows) = ⊤
 IsOf names (Ended verb leaf ending) = EndsOf names ending
 IsOf names (Lane number) = ⊤
+IsOf names (Wave number total leaves) = ⊤
+IsOf names (Rolled halted waves total) = ⊤
+IsOf names (Watch text) = ⊤

@@ -1,6 +1,7 @@
 // The lines that a script's commands print.
 use leaf_model::{Text, Texts};
 use leaf_opening::Way;
+use rollover_plan::Wave;
 
 /// What an entry's line says after its number.
 #[derive(Debug, Clone, Copy, PartialEq, Eq)]
@@ -84,4 +85,18 @@ pub enum Line {
     },
     /// The lines of a burst's lane of this number, from 0, are those behind it.
     Lane(u32),
+    /// A wave of a rollover begins, of so many, numbered from 1.
+    Wave {
+        number: u32,
+        of: u32,
+        leaves: Wave,
+    },
+    /// A rollover began so many of its waves; it was halted where one was left out.
+    Rolled {
+        halted: bool,
+        waves: u32,
+        of: u32,
+    },
+    /// The line of a watch behind a rollover.
+    Watch(rollover_watch::Line),
 }

@@ -1,7 +1,7 @@
 // Lines behind what was printed before.
 ghost use Rattle.std.specs.Prelude.{◌≡◌, ◌<◌, ◌++◌, length, IfOk, OnOk, OnErr, string_bytes};
 ghost use Rattle.std.specs.List.{flat_map, AllByRecursion};
-ghost use Rattle.printed_lines.specs.Lines.{EndsOf, IsOf, row_line, entry_text, worn_text, answer_head, answer_text, ended_text, lane_text, line_text, lines_text};
+ghost use Rattle.printed_lines.specs.Lines.{EndsOf, IsOf, row_line, entry_text, worn_text, answer_head, answer_text, ended_text, lane_text, leaf_text, line_text, lines_text, rolled_text, rolled_word, watch_text, wave_text};
 
 use crate::line::{Ending, Line, Said, Verb};
 use crate::parts::{ending_string, name_of, said_string, verb_str};
@@ -58,6 +58,9 @@ fn line_bytes(alloc: Global, names: &Names, line: &Line) -> Result<Vec<u8>, Allo
         } => answer_bytes(alloc, *named, *leaves, rows.as_slice()),
         Line::Ended { verb, leaf, ending } => ended_bytes(alloc, names, *verb, *leaf, ending),
         Line::Lane(number) => lane_bytes(alloc, *number),
+        Line::Wave { number, of, leaves } => wave_bytes(alloc, *number, *of, leaves.as_slice()),
+        Line::Rolled { halted, waves, of } => rolled_bytes(alloc, *halted, *waves, *of),
+        Line::Watch(line) => watch_bytes(alloc, line.as_bytes()),
     }
 }
 
@@ -123,6 +126,61 @@ fn lane_bytes(alloc: Global, number: u32) -> Result<Vec<u8>, AllocError>
 {
     let text = format!(in alloc; "lane {number}\n")?;
     Ok(text.into_bytes())
+}
+
+fn wave_bytes(
+    alloc: Global,
+    number: u32,
+    of: u32,
+    leaves: &[u32],
+) -> Result<Vec<u8>, AllocError>
+    ensures { IfOk result (λ bytes. bytes.items ≡ wave_text number of leaves.now) }
+{
+    let text = format!(in alloc; "wave {number} of {of} leaves")?;
+    let mut bytes = text.into_bytes();
+    put_leaves(&mut bytes, leaves)?;
+    bytes.push(b'\n')?;
+    Ok(bytes)
+}
+
+fn put_leaves(out: &mut Vec<u8>, leaves: &[u32]) -> Result<(), AllocError>
+    ensures { OnOk result (out.new.items ≡ out.old.items ++ flat_map leaf_text leaves.now) }
+{
+    for leaf in leaves {
+        put_leaf(out, *leaf)?;
+    }
+    Ok(())
+}
+
+fn put_leaf(out: &mut Vec<u8>, leaf: u32) -> Result<(), AllocError>
+    ensures { OnOk result (out.new.items ≡ out.old.items ++ leaf_text leaf) }
+{
+    let text = format!(in *out.allocator(); " {leaf}")?;
+    out.extend_from_slice(text.as_bytes())
+}
+
+fn rolled_bytes(alloc: Global, halted: bool, waves: u32, of: u32) -> Result<Vec<u8>, AllocError>
+    ensures { IfOk result (λ bytes. bytes.items ≡ rolled_text halted waves of) }
+{
+    let word = rolled_word(halted);
+    let text = format!(in alloc; "rollover {word}{waves} of {of}\n")?;
+    Ok(text.into_bytes())
+}
+
+fn rolled_word(halted: bool) -> &'static str
+    ensures { result.now ≡ rolled_word halted }
+{
+    if halted { "halted " } else { "done " }
+}
+
+fn watch_bytes(alloc: Global, text: &[u8]) -> Result<Vec<u8>, AllocError>
+    ensures { IfOk result (λ bytes. bytes.items ≡ watch_text text.now) }
+{
+    let mut bytes = Vec::new(alloc);
+    bytes.extend_from_slice(b"watch ")?;
+    bytes.extend_from_slice(text)?;
+    bytes.push(b'\n')?;
+    Ok(bytes)
 }
 
 fn put_rows(out: &mut Vec<u8>, rows: &[Text]) -> Result<(), AllocError>

@@ -24,6 +24,7 @@ alone_fit (command.Flush leaf table ∷ commands) are = are
 alone_fit (command.Drain leaf stop ∷ commands) are = are
 alone_fit (command.Kill leaf ∷ commands) are = are
 alone_fit (command.Start leaf ∷ commands) are = are
+alone_fit (command.Rollover percent ∷ commands) are = are
 
 alone_map : (commands : List Command) → alone (map One commands) ≡ commands
 alone_map [] = refl

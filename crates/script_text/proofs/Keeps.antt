@@ -27,7 +27,7 @@ use Rattle.script_text.specs.Fits.{AreItems, IsBurst, IsCommand, IsItem, IsScrip
 use Rattle.script_text.specs.Lines.{is_blank}
 use Rattle.script_text.specs.Readings.{Begun, IsReading}
 use Rattle.script_text.specs.Script.{ParsesAs, begun, closed}
-use Rattle.script_text.specs.Stewards.{has_steward, have_steward, is_second, is_stewards}
+use Rattle.script_text.specs.Stewards.{have_steward, have_stewards, has_steward, has_stewards, is_a_stewards, is_second, is_stewards}
 use Rattle.script_text.proofs.Steps.{AllByRecursion-more}
 
 -- ---- lists
@@ -61,16 +61,51 @@ length_more xs x = length-append xs (x ∷ [])
 
 -- ---- the steward's commands of a burst
 
-second_of : (leaf : ℕ) (c : Command) (lanes : List (List Command)) → is_stewards leaf c ≡ true → is_second lanes c ≡ have_steward leaf lanes
-second_of leaf (command.Fleet machines per_machine tables) lanes is = absurd (true≢false (sym is))
-second_of leaf (command.Add number table rows) lanes is = absurd (true≢false (sym is))
-second_of leaf (command.Expire number table horizon) lanes is = absurd (true≢false (sym is))
-second_of leaf (command.Keep number table n) lanes is = absurd (true≢false (sym is))
-second_of leaf (command.Query query) lanes is = absurd (true≢false (sym is))
-second_of leaf (command.Flush number table) lanes is = ap (λ l. have_steward l lanes) (eqb-true number leaf is)
-second_of leaf (command.Drain number stop) lanes is = ap (λ l. have_steward l lanes) (eqb-true number leaf is)
-second_of leaf (command.Kill number) lanes is = ap (λ l. have_steward l lanes) (eqb-true number leaf is)
-second_of leaf (command.Start number) lanes is = ap (λ l. have_steward l lanes) (eqb-true number leaf is)
+-- a lane without a steward's command has none of any leaf
+or_none : (a b : Bool) → (a || b) ≡ false → (a ≡ false) × (b ≡ false)
+or_none true b e = absurd (true≢false e)
+or_none false b e = (refl, e)
+
+or_nones : (a b : Bool) → a ≡ false → b ≡ false → (a || b) ≡ false
+or_nones true b e f = absurd (true≢false e)
+or_nones false b e f = f
+
+not_his : (leaf : ℕ) (c : Command) → is_a_stewards c ≡ false → is_stewards leaf c ≡ false
+not_his leaf (command.Fleet machines per_machine tables) e = refl
+not_his leaf (command.Add number table rows) e = refl
+not_his leaf (command.Expire number table horizon) e = refl
+not_his leaf (command.Keep number table n) e = refl
+not_his leaf (command.Query query) e = refl
+not_his leaf (command.Flush number table) e = absurd (true≢false e)
+not_his leaf (command.Drain number stop) e = absurd (true≢false e)
+not_his leaf (command.Kill number) e = absurd (true≢false e)
+not_his leaf (command.Start number) e = absurd (true≢false e)
+not_his leaf (command.Rollover percent) e = absurd (true≢false e)
+
+lane_none : (leaf : ℕ) (lane : List Command) → has_stewards lane ≡ false → has_steward leaf lane ≡ false
+lane_none leaf [] e = refl
+lane_none leaf (c ∷ lane) e =
+    let parts = or_none (is_a_stewards c) (has_stewards lane) e in
+    or_nones (is_stewards leaf c) (has_steward leaf lane) (not_his leaf c parts.0) (lane_none leaf lane parts.1)
+
+lanes_none : (leaf : ℕ) (lanes : List (List Command)) → have_stewards lanes ≡ false → have_steward leaf lanes ≡ false
+lanes_none leaf [] e = refl
+lanes_none leaf (lane ∷ lanes) e =
+    let parts = or_none (has_stewards lane) (have_stewards lanes) e in
+    or_nones (has_steward leaf lane) (have_steward leaf lanes) (lane_none leaf lane parts.0) (lanes_none leaf lanes parts.1)
+
+-- a steward's command of a leaf that is no second one stands behind lanes without such
+not_second : (leaf : ℕ) (c : Command) (lanes : List (List Command)) → is_stewards leaf c ≡ true → is_second lanes c ≡ false → have_steward leaf lanes ≡ false
+not_second leaf (command.Fleet machines per_machine tables) lanes is not = absurd (true≢false (sym is))
+not_second leaf (command.Add number table rows) lanes is not = absurd (true≢false (sym is))
+not_second leaf (command.Expire number table horizon) lanes is not = absurd (true≢false (sym is))
+not_second leaf (command.Keep number table n) lanes is not = absurd (true≢false (sym is))
+not_second leaf (command.Query query) lanes is not = absurd (true≢false (sym is))
+not_second leaf (command.Flush number table) lanes is not = sym (ap (λ l. have_steward l lanes) (eqb-true number leaf is)) ∙ not
+not_second leaf (command.Drain number stop) lanes is not = sym (ap (λ l. have_steward l lanes) (eqb-true number leaf is)) ∙ not
+not_second leaf (command.Kill number) lanes is not = sym (ap (λ l. have_steward l lanes) (eqb-true number leaf is)) ∙ not
+not_second leaf (command.Start number) lanes is not = sym (ap (λ l. have_steward l lanes) (eqb-true number leaf is)) ∙ not
+not_second leaf (command.Rollover percent) lanes is not = lanes_none leaf lanes not
 
 one_if_few : (b : Bool) → one_if b ≤ 1
 one_if_few true = omega arith
@@ -85,7 +120,7 @@ stewards_more earlier lane c not one leaf = by (is_stewards leaf c) refl
   where
     by : (b : Bool) → is_stewards leaf c ≡ b → length (filter (has_steward leaf) (earlier ++ (lane ++ c ∷ []) ∷ [])) ≤ 1
     by true is =
-        let none : length (filter (has_steward leaf) earlier) ≡ 0 = none_pass (has_steward leaf) earlier (sym (second_of leaf c earlier is) ∙ not) in
+        let none : length (filter (has_steward leaf) earlier) ≡ 0 = none_pass (has_steward leaf) earlier (not_second leaf c earlier is not) in
         let few : one_if (has_steward leaf (lane ++ c ∷ [])) ≤ 1 = one_if_few (has_steward leaf (lane ++ c ∷ [])) in
         let count = count_more (has_steward leaf) earlier (lane ++ c ∷ []) in
         omega (arith, none, few, count)

@@ -8,7 +8,7 @@ use Rattle.row_json.specs.Row.{row_of}
 use Rattle.query_text.specs.declared.fault.QueryFault.{QueryFault}
 use Rattle.query_text.specs.Reading.{query_of}
 use Rattle.script_text.specs.declared.command.Command.{Command}
-use Rattle.script_text.specs.declared.command.Command.TheVariants.{Add, Expire, Keep, Flush, Drain, Kill, Start}
+use Rattle.script_text.specs.declared.command.Command.TheVariants.{Add, Expire, Keep, Flush, Drain, Kill, Start, Rollover}
 use Rattle.script_text.specs.declared.command.Command.TheVariants as command
 use Rattle.script_text.specs.declared.fault.Why.{Why}
 use Rattle.script_text.specs.declared.fault.Why.TheVariants as why
@@ -131,6 +131,7 @@ row_count (Flush leaf table) = 0
 row_count (Drain leaf stop) = 0
 row_count (Kill leaf) = 0
 row_count (Start leaf) = 0
+row_count (Rollover percent) = 0
 
 -- what was read before what is read after it, or the first fault
 abbrev pub with_first : {X : Type 0} → Result X Fault → Result (List X) Fault → Result (List X) Fault

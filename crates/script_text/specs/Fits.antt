@@ -5,7 +5,7 @@ use Rattle.leaf_model.specs.Values.{IsRow, IsTime}
 use Rattle.leaf_model.specs.Names.{AreDistinct, is_table_name}
 use Rattle.query_text.specs.Grammar.{IsQuery}
 use Rattle.script_text.specs.declared.command.Command.{Command}
-use Rattle.script_text.specs.declared.command.Command.TheVariants.{Fleet, Add, Expire, Keep, Flush, Drain, Kill, Start}
+use Rattle.script_text.specs.declared.command.Command.TheVariants.{Fleet, Add, Expire, Keep, Flush, Drain, Kill, Start, Rollover}
 use Rattle.script_text.specs.declared.command.Command.TheVariants as command
 use Rattle.script_text.specs.declared.item.Item.{Item}
 use Rattle.script_text.specs.declared.item.Item.TheVariants.{One, Burst}
@@ -37,6 +37,7 @@ IsCommand leaves tables (Flush leaf table) = (leaf < leaves) × (table < length 
 IsCommand leaves tables (Drain leaf stop) = (leaf < leaves) × IfSome stop (λ n. n ≤ 1000000)
 IsCommand leaves tables (Kill leaf) = leaf < leaves
 IsCommand leaves tables (Start leaf) = leaf < leaves
+IsCommand leaves tables (Rollover percent) = (0 < percent) × (percent ≤ 100)
 
 -- machines of as many leaves each: at least one of either, and at most 256 leaves in all
 pub record AreLeaves (machines per_machine : ℕ) : Type 0 where
@@ -56,6 +57,7 @@ AreCommands (Flush leaf table ∷ commands) = ⊥
 AreCommands (Drain leaf stop ∷ commands) = ⊥
 AreCommands (Kill leaf ∷ commands) = ⊥
 AreCommands (Start leaf ∷ commands) = ⊥
+AreCommands (Rollover percent ∷ commands) = ⊥
 
 -- At most one of these lanes has commands of a leaf's steward.
 abbrev pub OneSteward : List (List Command) → Type 0
@@ -84,6 +86,7 @@ AreBehind (Flush leaf table) items = ⊥
 AreBehind (Drain leaf stop) items = ⊥
 AreBehind (Kill leaf) items = ⊥
 AreBehind (Start leaf) items = ⊥
+AreBehind (Rollover percent) items = ⊥
 
 -- items, of which the first is a fleet, and no other is
 abbrev pub AreItems : List Item → Type 0

@@ -42,6 +42,8 @@ pub enum Command {
     },
     Kill(u32),
     Start(u32),
+    /// Every leaf is restarted, in waves of at most so many percent of the leaves, and at most one of a machine.
+    Rollover(u32),
 }
 
 /// The commands of a script, in their order. Contracts see them as the list.

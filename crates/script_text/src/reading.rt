@@ -341,5 +341,6 @@ fn row_count(command: &Command) -> u64
         Command::Drain { .. } => 0,
         Command::Kill(_) => 0,
         Command::Start(_) => 0,
+        Command::Rollover(_) => 0,
     }
 }

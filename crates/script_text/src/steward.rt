@@ -1,6 +1,6 @@
 // The commands of a leaf's steward among the lanes of a burst.
 ghost use Rattle.std.specs.Prelude.{◌≡◌};
-ghost use Rattle.script_text.specs.Stewards.{has_steward, have_steward, is_second, is_stewards};
+ghost use Rattle.script_text.specs.Stewards.{has_steward, has_stewards, have_steward, have_stewards, is_a_stewards, is_second, is_stewards};
 
 use crate::command::{Command, Commands};
 
@@ -18,6 +18,7 @@ pub fn is_second(lanes: &[Commands], command: &Command) -> bool
         Command::Drain { leaf, .. } => have_steward(*leaf, lanes),
         Command::Kill(leaf) => have_steward(*leaf, lanes),
         Command::Start(leaf) => have_steward(*leaf, lanes),
+        Command::Rollover(_) => have_stewards(lanes),
     }
 }
 
@@ -46,5 +47,35 @@ fn is_stewards(leaf: u32, command: &Command) -> bool
         Command::Drain { leaf: number, .. } => *number == leaf,
         Command::Kill(number) => *number == leaf,
         Command::Start(number) => *number == leaf,
+        Command::Rollover(_) => true,
+    }
+}
+
+fn have_stewards(lanes: &[Commands]) -> bool
+    ensures { result ≡ have_stewards lanes.now }
+{
+    lanes.iter().any(|lane| has_stewards(lane.as_slice()))
+}
+
+fn has_stewards(lane: &[Command]) -> bool
+    ensures { result ≡ has_stewards lane.now }
+{
+    lane.iter().any(|command| is_a_stewards(command))
+}
+
+fn is_a_stewards(command: &Command) -> bool
+    ensures { result ≡ is_a_stewards command.now }
+{
+    match command {
+        Command::Fleet { .. } => false,
+        Command::Add { .. } => false,
+        Command::Expire { .. } => false,
+        Command::Keep { .. } => false,
+        Command::Query(_) => false,
+        Command::Flush { .. } => true,
+        Command::Drain { .. } => true,
+        Command::Kill(_) => true,
+        Command::Start(_) => true,
+        Command::Rollover(_) => true,
     }
 }

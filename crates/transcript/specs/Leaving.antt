@@ -10,15 +10,17 @@ use Rattle.crash_moments.specs.Left.{NamedStates, Left}
 use Rattle.crash_moments.specs.Told as moments
 use Rattle.crash_states.specs.Standing.{tables_of}
 use Rattle.leaf_machine.specs.Leaving.{BeginsAgain}
+use Rattle.rollover_watch.specs.Watches.{Held}
 use Rattle.script_text.specs.declared.item.Item.{Item}
 use Rattle.printed_lines.specs.declared.line.Line.{Line}
 use Rattle.printed_lines.specs.Lines.{lines_text}
 use Rattle.transcript.specs.Base.{LogHas, unseen, watched_with}
-use Rattle.transcript.specs.Pieces.{all_lines, all_pieces, fleet_of, leaf_count}
+use Rattle.transcript.specs.Pieces.{all_lines, all_pieces, fleet_of, leaf_count, plays_in}
 use Rattle.transcript.specs.Life.{Life}
 use Rattle.transcript.specs.Counts.{IsCounted}
 use Rattle.transcript.specs.Strangers.{IsNamedBy, Strangers}
 use Rattle.transcript.specs.Transcript.{Known, Transcript}
+use Rattle.transcript.specs.Watching.{Watched}
 
 -- ---- one leaf's berth with a base
 
@@ -47,10 +49,12 @@ module _ {B : Type 0} (meaning : B → Meaning) (olds news : List B) where
   abbrev pub AreKnown : (ℕ → Option NamedStates) → (ℕ → Option Known) → Type 0
   AreKnown base known = (leaf : ℕ) (old : B) → slice_get olds leaf ≡ Some old → IsKnown (base leaf) (meaning old) (known leaf)
 
-  -- These lines are a transcript of the items, faults and strangers have their cause, and the berths are left so; those that no leaf uses are untouched.
-  pub record IsToldRun (items : List Item) (known : ℕ → Option Known) (lines : List Line) : Type 0 where
+  -- These lines are a transcript of the items, faults and strangers have their cause, the watches heard what the lines tell, and the berths are left so; those that no leaf uses are
+  -- untouched.
+  pub record IsToldRun (items : List Item) (known : ℕ → Option Known) (lines : List Line) (before after : List Held) : Type 0 where
     pub transcript : Transcript (fleet_of items) known items (lines_text (fleet_of items).names lines)
     pub lines_are : all_lines transcript.played ≡ lines
+    pub watched : Watched (fleet_of items) (plays_in transcript.played) before after
     pub counts : (leaf : ℕ) → leaf < (leaf_count (fleet_of items)) → AtBerth leaf (IsCounted leaf (all_pieces transcript.played))
     pub strangers : (leaf : ℕ) (k : Known) → leaf < (leaf_count (fleet_of items)) → known leaf ≡ Some k →
         Strangers (IsNamedBy (fleet_of items).names k.held) leaf (all_pieces transcript.played)
@@ -59,7 +63,7 @@ module _ {B : Type 0} (meaning : B → Meaning) (olds news : List B) where
     pub others : drop (leaf_count (fleet_of items)) news ≡ drop (leaf_count (fleet_of items)) olds
 
   -- The text of these lines was written, whatever is known of the berths' beginnings.
-  pub record IsWritten (base : ℕ → Option NamedStates) (items : List Item) (was now : Option (List ℕ)) : Type 0 where
+  pub record IsWritten (base : ℕ → Option NamedStates) (items : List Item) (was now : Option (List ℕ)) (before after : List Held) : Type 0 where
     pub lines : List Line
     pub written : Appends was now (lines_text (fleet_of items).names lines)
-    pub told : (known : ℕ → Option Known) → AreKnown base known → IsToldRun items known lines
+    pub told : (known : ℕ → Option Known) → AreKnown base known → IsToldRun items known lines before after

@@ -12,3 +12,4 @@ pub mod Stage
 pub mod Holds
 pub mod Steps
 pub mod Lanes
+pub mod Watching

@@ -1,6 +1,6 @@
 -- Which pieces a command prints, whatever the tables hold.
-use Rattle.std.specs.Prelude.{◌≡◌, ◌⊎◌, ℕ, zero, suc, List, [], ◌∷◌, ◌++◌, length, ⊤}
-use Rattle.std.specs.List.{flat_map}
+use Rattle.std.specs.Prelude.{◌≡◌, ◌⊎◌, ℕ, zero, suc, Bool, List, [], ◌∷◌, ◌++◌, length, map, nat_lt, None, ⊤}
+use Rattle.std.specs.List.{concat, flat_map}
 use Rattle.leaf_model.specs.declared.queries.Query.{Query}
 use Rattle.leaf_history.specs.Calls.{Call}
 use Rattle.leaf_history.specs.Calls as call
@@ -10,6 +10,7 @@ use Rattle.printed_lines.specs.declared.line.Said.{Said}
 use Rattle.printed_lines.specs.declared.line.Said.TheVariants.{Added, Removed, Asked, RefusedShut, RefusedFull, RefusedMemory}
 use Rattle.printed_lines.specs.declared.line.Ending.{Ending}
 use Rattle.printed_lines.specs.declared.line.Line.TheVariants as line
+use Rattle.rollover_plan.specs.Plan.{IsPlan}
 use Rattle.transcript.specs.Pieces.{Piece, Called, Worn, Acted, Says, Deed, Starts, Flushes, Drains, Kills, Noted, Fleet, leaf_count, place_of}
 
 -- what an add may be told
@@ -54,6 +55,12 @@ ActPieces leaf zero deed pieces = pieces ≡ []
 ActPieces leaf (suc count) deed [] = ⊥
 ActPieces leaf (suc count) deed (p ∷ ps) = ActPiece leaf deed p × ActPieces (suc leaf) count deed ps
 
+-- the same deed of each of these leaves, in order
+abbrev pub EachActs : Deed → List ℕ → List Piece → Type 0
+EachActs deed [] pieces = pieces ≡ []
+EachActs deed (leaf ∷ leaves) [] = ⊥
+EachActs deed (leaf ∷ leaves) (p ∷ ps) = ActPiece leaf deed p × EachActs deed leaves ps
+
 abbrev pub OnePiece : (Piece → Type 0) → List Piece → Type 0
 OnePiece P pieces = (p : Piece) × P p × (pieces ≡ p ∷ [])
 
@@ -78,6 +85,35 @@ pub record QueryPieces (fleet : Fleet) (q : Query) (pieces : List Piece) : Type 
   pub each : AskPieces 0 (leaf_count fleet) (place_of q.table fleet.names) (call.Ask q) asks
   pub are : pieces ≡ asks ++ Says (line.Answer (length (named asks)) (leaf_count fleet) rows) ∷ []
 
+-- a wave of so many: its line, a drain of each of its leaves, and a start of each
+pub record WavePieces (number total : ℕ) (leaves : List ℕ) (pieces : List Piece) : Type 0 where
+  pub drains : List Piece
+  pub starts : List Piece
+  pub drained : EachActs (Drains None) leaves drains
+  pub started : EachActs Starts leaves starts
+  pub are : pieces ≡ Says (line.Wave number total leaves) ∷ (drains ++ starts)
+
+-- the first of these waves, which are numbered from there on
+abbrev pub WavesPieces : ℕ → ℕ → List (List ℕ) → List (List Piece) → Type 0
+WavesPieces number total waves [] = ⊤
+WavesPieces number total [] (p ∷ ps) = ⊥
+WavesPieces number total (wave ∷ waves) (p ∷ ps) = WavePieces number total wave p × WavesPieces (suc number) total waves ps
+
+-- the waves of a plan that were begun; how it ended, halted just where one was left out; and a line for each watch that is left
+pub record RollPieces (plan : List (List ℕ)) (pieces : List Piece) : Type 0 where
+  pub begun : List (List Piece)
+  pub halted : Bool
+  pub texts : List (List ℕ)
+  pub each : WavesPieces 1 (length plan) plan begun
+  pub halt : halted ≡ nat_lt (length begun) (length plan)
+  pub are : pieces ≡ concat begun ++ (Says (line.Rolled halted (length begun) (length plan)) ∷ map (λ (text : List ℕ). Says (line.Watch text)) texts)
+
+-- a rollover of that share, by its plan
+pub record Rolls (fleet : Fleet) (percent : ℕ) (pieces : List Piece) : Type 0 where
+  pub plan : List (List ℕ)
+  pub is_plan : IsPlan fleet.machines fleet.per_machine percent plan
+  pub roll : RollPieces plan pieces
+
 -- One case a command. A new command adds a case.
 abbrev pub Prints : Fleet → Command → List Piece → Type 0
 Prints fleet (command.Fleet machines per_machine tables) pieces = ActPieces 0 (leaf_count fleet) Starts pieces
@@ -89,3 +125,4 @@ Prints fleet (command.Flush leaf table) pieces = OnePiece (ActPiece leaf (Flushe
 Prints fleet (command.Drain leaf stop) pieces = OnePiece (ActPiece leaf (Drains stop)) pieces
 Prints fleet (command.Kill leaf) pieces = OnePiece (ActPiece leaf Kills) pieces
 Prints fleet (command.Start leaf) pieces = OnePiece (ActPiece leaf Starts) pieces
+Prints fleet (command.Rollover percent) pieces = Rolls fleet percent pieces

@@ -404,6 +404,7 @@ MayPlay fleet (command.Flush leaf table) = IsCommand (leaf_count fleet) fleet.na
 MayPlay fleet (command.Drain leaf stop) = IsCommand (leaf_count fleet) fleet.names (command.Drain leaf stop)
 MayPlay fleet (command.Kill leaf) = IsCommand (leaf_count fleet) fleet.names (command.Kill leaf)
 MayPlay fleet (command.Start leaf) = IsCommand (leaf_count fleet) fleet.names (command.Start leaf)
+MayPlay fleet (command.Rollover percent) = IsCommand (leaf_count fleet) fleet.names (command.Rollover percent)
 
 -- What a command does. Its answer is over what the leaves hold then, however their histories go on.
 pub record Plays {B : Type 0} (meaning : B → Meaning) (fleet : Fleet) (c : Command) (xs : List (Hold B)) (pieces : List Piece) (ys : List (Hold B)) : Type 0 where
