@@ -113,3 +113,4 @@ module _ {B : Type 0} (meaning : B → Meaning) (fleet : Fleet) (known : ℕ →
   answers_known (command.Drain leaf stop) histories prints within answers = tt
   answers_known (command.Kill leaf) histories prints within answers = tt
   answers_known (command.Start leaf) histories prints within answers = tt
+  answers_known (command.Rollover percent) histories prints within answers = tt
