@@ -1,13 +1,11 @@
 -- What holds of what was read still holds with one line more.
-use Rattle.std.proofs.Common.{◌≡◌, ◌<◌, ◌≤◌, ◌+◌, ◌++◌, ◌&&◌, ◌||◌, ℕ, zero, suc, List, [], ◌∷◌, length, refl, ap, sym, ◌∙◌, arith, Result, Ok, Err, Bool, true, false, true≢false, subst, length-append}
-use Rattle.std.proofs.Math.Bool.{and-true}
-use Rattle.std.proofs.Math.Dec.{eqb-suc-zero}
+use Rattle.std.proofs.Common.{◌≡◌, ◌<◌, ◌≤◌, ◌+◌, ◌++◌, ◌||◌, ℕ, List, [], ◌∷◌, length, refl, ap, sym, ◌∙◌, arith, Result, Ok, Err, Bool, true, false, true≢false, subst, length-append}
 use Rattle.std.proofs.lemmas.Bool.{eqb-true}
 use Rattle.std.proofs.lemmas.Bool.Decides.{nat_tests}
-use Rattle.std.proofs.lemmas.List.Folds.{list_all-append, list_any-append}
+use Rattle.std.proofs.lemmas.List.Folds.{list_any-append}
 use Rattle.std.proofs.lemmas.List.Elements.{filter-append}
-use Rattle.std.specs.List.{AllByRecursion, filter, list_all, list_any}
-use Rattle.std.specs.Prelude.{IfOk, ◌==◌, if◌then◌else◌, nat_lt}
+use Rattle.std.specs.List.{AllByRecursion, filter, list_any}
+use Rattle.std.specs.Prelude.{IfOk, nat_lt}
 use Rattle.script_text.specs.declared.command.Command.{Command}
 use Rattle.script_text.specs.declared.command.Command.TheVariants as command
 use Rattle.script_text.specs.declared.fault.ScriptFault.{ScriptFault}
@@ -21,9 +19,9 @@ use Rattle.script_text.specs.declared.reading.Step.{Step}
 use Rattle.script_text.specs.declared.script.Script.{Script}
 use Rattle.script_text.specs.declared.verb.Verb.{Verb}
 use Rattle.script_text.specs.declared.verb.Verb.TheVariants as verb
-use Rattle.script_text.specs.Bursts.{end_burst, inside, next_burst, next_lane, opened, stepped, with_burst, with_item}
+use Rattle.script_text.specs.Bursts.{end_burst, inside, next_burst, next_lane, opened, stepped, with_item}
 use Rattle.script_text.specs.Commands.{Fault, IsFleet, leaves}
-use Rattle.script_text.specs.Fits.{AreItems, IsBurst, IsCommand, IsItem, IsScript, OneSteward, is_one}
+use Rattle.script_text.specs.Fits.{AreItems, IsBurst, IsCommand, IsItem, IsScript, OneSteward}
 use Rattle.script_text.specs.Lines.{is_blank}
 use Rattle.script_text.specs.Readings.{Begun, IsReading}
 use Rattle.script_text.specs.Script.{ParsesAs, begun, closed}
@@ -172,48 +170,37 @@ pub one_keeps : (fleet : Fleet) (script : Script) (c : Command) (rows : ℕ) →
 one_keeps fleet script c rows r fits = record {
   items = begun_more fleet script (item.One c) r.items fits;
   standing = tt;
-  bursts = r.bursts ∙ ap (λ b. b && true) (sym (and-true (list_all is_one script.items)) ∙ sym (list_all-append is_one script.items (item.One c ∷ [])));
 }
 
-and_false : (b : Bool) → (b && false) ≡ false
-and_false true = refl
-and_false false = refl
-
-first_burst : (line n : ℕ) → 0 < n → ((if line == 0 then n else line) == 0) ≡ false
-first_burst zero zero some = absurd (omega (arith, some))
-first_burst zero (suc n) some = eqb-suc-zero n
-first_burst (suc line) n some = ap (λ b. (if b then n else suc line) == 0) (eqb-suc-zero line) ∙ eqb-suc-zero line
-
-next_burst_by : (n : ℕ) (fleet : Fleet) (script : Script) (blank : Bool) (words : List ℕ) (s : Step) → is_blank words ≡ blank → 0 < n → Begun fleet script.items → next_burst n script words ≡ Ok s → IsReading fleet s.reading
-next_burst_by n fleet script true words s is some b read =
-    let same : Ok (stepped (with_burst n script) standing.Opened 0) ≡ Ok s = rw is at read in
-    let there : stepped (with_burst n script) standing.Opened 0 ≡ s = cc in
-    let now : IsReading fleet (stepped (with_burst n script) standing.Opened 0).reading = record {
+next_burst_by : (n : ℕ) (fleet : Fleet) (script : Script) (blank : Bool) (words : List ℕ) (s : Step) → is_blank words ≡ blank → Begun fleet script.items → next_burst n script words ≡ Ok s → IsReading fleet s.reading
+next_burst_by n fleet script true words s is b read =
+    let same : Ok (stepped script standing.Opened 0) ≡ Ok s = rw is at read in
+    let there : stepped script standing.Opened 0 ≡ s = cc in
+    let now : IsReading fleet (stepped script standing.Opened 0).reading = record {
       items = b;
       standing = tt;
-      bursts = first_burst script.burst_line n some ∙ sym (and_false (list_all is_one script.items));
     } in
     subst (λ (t : Step). IsReading fleet t.reading) there now
-next_burst_by n fleet script false words s is some b read = absurd (grind (arith, read, is))
+next_burst_by n fleet script false words s is b read = absurd (grind (arith, read, is))
 
-pub burst_keeps : (n : ℕ) (fleet : Fleet) (script : Script) (words : List ℕ) (s : Step) → 0 < n → Begun fleet script.items → next_burst n script words ≡ Ok s → IsReading fleet s.reading
-burst_keeps n fleet script words s some b read = next_burst_by n fleet script (is_blank words) words s refl some b read
+pub burst_keeps : (n : ℕ) (fleet : Fleet) (script : Script) (words : List ℕ) (s : Step) → Begun fleet script.items → next_burst n script words ≡ Ok s → IsReading fleet s.reading
+burst_keeps n fleet script words s b read = next_burst_by n fleet script (is_blank words) words s refl b read
 
-next_lane_by : (n : ℕ) (fleet : Fleet) (script : Script) (lanes : List (List Command)) (blank few : Bool) (words : List ℕ) (s : Step) → is_blank words ≡ blank → nat_lt (length lanes) 16 ≡ few → Begun fleet script.items → (script.burst_line == 0) ≡ (list_all is_one script.items && false) → AllByRecursion (AllByRecursion (IsCommand (leaves fleet) fleet.tables)) lanes → OneSteward lanes → next_lane n script lanes words ≡ Ok s → IsReading fleet s.reading
-next_lane_by n fleet script lanes true true words s is low b bursts each one read =
+next_lane_by : (n : ℕ) (fleet : Fleet) (script : Script) (lanes : List (List Command)) (blank few : Bool) (words : List ℕ) (s : Step) → is_blank words ≡ blank → nat_lt (length lanes) 16 ≡ few → Begun fleet script.items → AllByRecursion (AllByRecursion (IsCommand (leaves fleet) fleet.tables)) lanes → OneSteward lanes → next_lane n script lanes words ≡ Ok s → IsReading fleet s.reading
+next_lane_by n fleet script lanes true true words s is low b each one read =
     let same : Ok (stepped script (standing.Lane lanes []) 0) ≡ Ok s = rw (is, low) at read in
     let there : stepped script (standing.Lane lanes []) 0 ≡ s = cc in
     let below : length lanes < 16 = grind (arith, nat_tests, low) in
-    let now : IsReading fleet (stepped script (standing.Lane lanes []) 0).reading = record { items = b; standing = burst_lane (leaves fleet) fleet.tables lanes below each one; bursts = bursts } in
+    let now : IsReading fleet (stepped script (standing.Lane lanes []) 0).reading = record { items = b; standing = burst_lane (leaves fleet) fleet.tables lanes below each one } in
     subst (λ (t : Step). IsReading fleet t.reading) there now
-next_lane_by n fleet script lanes true false words s is low b bursts each one read = absurd (grind (arith, read, is, low))
-next_lane_by n fleet script lanes false few words s is low b bursts each one read = absurd (grind (arith, read, is))
+next_lane_by n fleet script lanes true false words s is low b each one read = absurd (grind (arith, read, is, low))
+next_lane_by n fleet script lanes false few words s is low b each one read = absurd (grind (arith, read, is))
 
 pub lane_keeps : (n : ℕ) (fleet : Fleet) (script : Script) (earlier : List (List Command)) (lane : List Command) (words : List ℕ) (s : Step) → IsReading fleet (record { script = script; standing = standing.Lane earlier lane }) → next_lane n script (earlier ++ lane ∷ []) words ≡ Ok s → IsReading fleet s.reading
 lane_keeps n fleet script earlier lane words s r read =
     let lanes = earlier ++ lane ∷ [] in
     let b : IsBurst (leaves fleet) fleet.tables lanes = r.standing in
-    next_lane_by n fleet script lanes (is_blank words) (nat_lt (length lanes) 16) words s refl refl r.items r.bursts b.each b.stewards read
+    next_lane_by n fleet script lanes (is_blank words) (nat_lt (length lanes) 16) words s refl refl r.items b.each b.stewards read
 
 no_stewards : OneSteward []
 no_stewards leaf = omega arith
@@ -227,31 +214,26 @@ opened_keeps last n fleet script words verb.Fleet s r read = absurd (grind (arit
 opened_keeps last n fleet script words verb.Burst s r read = absurd (grind (arith, read))
 opened_keeps last n fleet script words verb.Lane s r read =
     let lane : next_lane n script [] words ≡ Ok s = inside_ok last (next_lane n script [] words) s read in
-    next_lane_by n fleet script [] (is_blank words) true words s refl refl r.items r.bursts tt no_stewards lane
+    next_lane_by n fleet script [] (is_blank words) true words s refl refl r.items tt no_stewards lane
 opened_keeps last n fleet script words verb.End s r read = absurd (grind (arith, read))
 opened_keeps last n fleet script words (verb.Task task) s r read = absurd (grind (arith, read))
 
 pub command_keeps : (fleet : Fleet) (script : Script) (earlier : List (List Command)) (lane : List Command) (c : Command) (rows : ℕ) → is_second earlier c ≡ false → IsCommand (leaves fleet) fleet.tables c → IsReading fleet (record { script = script; standing = standing.Lane earlier lane }) → IsReading fleet (stepped script (standing.Lane earlier (lane ++ c ∷ [])) rows).reading
-command_keeps fleet script earlier lane c rows not fits r = record { items = r.items; standing = burst_more (leaves fleet) fleet.tables earlier lane c not fits r.standing; bursts = r.bursts }
+command_keeps fleet script earlier lane c rows not fits r = record { items = r.items; standing = burst_more (leaves fleet) fleet.tables earlier lane c not fits r.standing }
 
-and_false_true : (b : Bool) → ((b && false) && true) ≡ false
-and_false_true true = refl
-and_false_true false = refl
-
-end_burst_by : (n : ℕ) (fleet : Fleet) (script : Script) (lanes : List (List Command)) (blank : Bool) (words : List ℕ) (s : Step) → is_blank words ≡ blank → Begun fleet script.items → (script.burst_line == 0) ≡ (list_all is_one script.items && false) → IsBurst (leaves fleet) fleet.tables lanes → end_burst n script lanes words ≡ Ok s → IsReading fleet s.reading
-end_burst_by n fleet script lanes true words s is begun_items bursts b read =
+end_burst_by : (n : ℕ) (fleet : Fleet) (script : Script) (lanes : List (List Command)) (blank : Bool) (words : List ℕ) (s : Step) → is_blank words ≡ blank → Begun fleet script.items → IsBurst (leaves fleet) fleet.tables lanes → end_burst n script lanes words ≡ Ok s → IsReading fleet s.reading
+end_burst_by n fleet script lanes true words s is begun_items b read =
     let same : Ok (stepped (with_item script (item.Burst lanes)) standing.Outside 0) ≡ Ok s = rw is at read in
     let there : stepped (with_item script (item.Burst lanes)) standing.Outside 0 ≡ s = cc in
     let now : IsReading fleet (stepped (with_item script (item.Burst lanes)) standing.Outside 0).reading = record {
       items = begun_more fleet script (item.Burst lanes) begun_items b;
       standing = tt;
-      bursts = bursts ∙ and_false (list_all is_one script.items) ∙ sym (and_false_true (list_all is_one script.items)) ∙ ap (λ b. b && true) (sym (list_all-append is_one script.items (item.Burst lanes ∷ [])));
     } in
     subst (λ (t : Step). IsReading fleet t.reading) there now
-end_burst_by n fleet script lanes false words s is begun_items bursts b read = absurd (grind (arith, read, is))
+end_burst_by n fleet script lanes false words s is begun_items b read = absurd (grind (arith, read, is))
 
 pub end_keeps : (n : ℕ) (fleet : Fleet) (script : Script) (earlier : List (List Command)) (lane : List Command) (words : List ℕ) (s : Step) → IsReading fleet (record { script = script; standing = standing.Lane earlier lane }) → end_burst n script (earlier ++ lane ∷ []) words ≡ Ok s → IsReading fleet s.reading
-end_keeps n fleet script earlier lane words s r read = end_burst_by n fleet script (earlier ++ lane ∷ []) (is_blank words) words s refl r.items r.bursts r.standing read
+end_keeps n fleet script earlier lane words s r read = end_burst_by n fleet script (earlier ++ lane ∷ []) (is_blank words) words s refl r.items r.standing read
 
 pub end_keeps_as : (n : ℕ) (fleet : Fleet) (script : Script) (earlier : List (List Command)) (lane : List Command) (lanes : List (List Command)) (words : List ℕ) (r : Result Step ScriptFault) → IsReading fleet (record { script = script; standing = standing.Lane earlier lane }) → lanes ≡ earlier ++ lane ∷ [] → ParsesAs (λ step. step) r (end_burst n script lanes words) → IfOk r (λ step. IsReading fleet step.reading)
 end_keeps_as n fleet script earlier lane lanes words (Ok s) reading is exact = end_keeps n fleet script earlier lane words s reading (ap (λ ls. end_burst n script ls words) (sym is) ∙ exact)
@@ -264,12 +246,11 @@ opened_keeps_as last n fleet script words v (Err e) reading exact = tt
 -- ---- the whole script
 
 pub begun_reading : (n : ℕ) (fleet : Fleet) → IsReading fleet (begun n fleet)
-begun_reading n fleet = record { items = record { later = []; all = refl; each = tt }; standing = tt; bursts = refl }
+begun_reading n fleet = record { items = record { later = []; all = refl; each = tt }; standing = tt }
 
 fits_all : (fleet : Fleet) (script : Script) → IsFleet fleet → IsReading fleet (record { script = script; standing = standing.Outside }) → IsScript script
 fits_all fleet script f r = record {
   items = subst AreItems (sym r.items.all) (f.0, f.1, r.items.each);
-  bursts = r.bursts ∙ and-true (list_all is_one script.items);
 }
 
 closed_by : (last : ℕ) (fleet : Fleet) (script s : Script) (there : Standing) → IsFleet fleet → IsReading fleet (record { script = script; standing = there }) → closed last script there ≡ Ok s → IsScript s

@@ -24,9 +24,9 @@ use Rattle.script_text.specs.declared.verb.Verb.{Verb}
 use Rattle.script_text.specs.declared.verb.Verb.TheVariants as verb
 use Rattle.script_text.specs.Lines.{lines_of, is_blank, is_skipped}
 use Rattle.script_text.specs.Words.{words_of, first_word, behind_word, trimmed, number_of, count_of, time_of, place_of}
-use Rattle.script_text.specs.Commands.{Fault, or_words, fleet_of, leaves, leaf_in, target_at, target_in, TargetForm, target_words, one_row, with_first, rows_from, add_rows, row_number, add_with, add_of, expire_with, expire_of, keep_with, keep_of, query_at, one_query, query_command, one_number, leaf_of, FlushForm, flush_words, flush_at, flush_of, kill_of, DrainForm, drain_words, drain_at, drain_of, start_of, first_command, command_of, row_count, verb_of}
+use Rattle.script_text.specs.Commands.{Fault, or_words, fleet_of, leaves, leaf_in, target_at, target_in, TargetForm, target_words, one_row, with_first, rows_from, add_rows, row_number, add_with, add_of, expire_with, expire_of, keep_with, keep_of, query_at, one_query, query_command, one_number, leaf_of, FlushForm, flush_words, flush_at, flush_of, kill_of, DrainForm, drain_words, drain_at, drain_of, start_of, rollover_of, rollover_words, first_command, command_of, row_count, verb_of}
 use Rattle.script_text.specs.Script.{NumberedLine, begun, behind_step, closed, read_from, next_line, script_at, script_behind, script_of}
-use Rattle.script_text.specs.Bursts.{end_burst, in_lane, inside, lane_more, next_burst, next_lane, one_more, opened, outside, step_of, step_with, stepped, verb_at, with_burst, with_item}
+use Rattle.script_text.specs.Bursts.{end_burst, in_lane, inside, lane_more, next_burst, next_lane, one_more, opened, outside, step_of, step_with, stepped, verb_at, with_item}
 use Rattle.script_text.specs.Stewards.{is_second}
 
 -- a fault of a text alone
@@ -153,6 +153,10 @@ own_start : (r : Result ℕ Fault) → Own r → Own (start_of r)
 own_start (Ok leaf) h = tt
 own_start (Err found) h = h
 
+own_rollover : (n : ℕ) (percent : Option ℕ) → Own (rollover_of n percent)
+own_rollover n (Some percent) = tt
+own_rollover n None = tt
+
 -- a command
 own_first_command : (n : ℕ) (line : List ℕ) (v : Option Verb) → Own (first_command n line v)
 own_first_command n line None = tt
@@ -171,6 +175,7 @@ own_command n fleet task.Flush words more = own_flush n fleet (flush_words (word
 own_command n fleet task.Drain words more = own_drain n fleet (drain_words (words_of words))
 own_command n fleet task.Kill words more = own_kill (leaf_of n fleet (one_number (words_of words))) (own_leaf n fleet (one_number (words_of words)))
 own_command n fleet task.Start words more = own_start (leaf_of n fleet (one_number (words_of words))) (own_leaf n fleet (one_number (words_of words)))
+own_command n fleet task.Rollover words more = own_rollover n (rollover_words (words_of words))
 
 -- a line
 own_why : (b : Bool) (w : Why) → IsOwn w → IsOwn (if b then why.Place else w)
@@ -191,7 +196,7 @@ own_lane_more n script earlier lane (Ok c) h =
 own_lane_more n script earlier lane (Err found) h = h
 
 own_burst : (n : ℕ) (script : Script) (words : List ℕ) → Own (next_burst n script words)
-own_burst n script words = own_if {X = Step} (is_blank words) (Ok (stepped (with_burst n script) standing.Opened 0)) (Err (n, why.Words)) tt tt
+own_burst n script words = own_if {X = Step} (is_blank words) (Ok (stepped script standing.Opened 0)) (Err (n, why.Words)) tt tt
 
 own_lane : (n : ℕ) (script : Script) (lanes : List (List Command)) (words : List ℕ) → Own (next_lane n script lanes words)
 own_lane n script lanes words =

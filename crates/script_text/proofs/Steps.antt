@@ -81,7 +81,7 @@ pub parses_as : (r : Result Script ScriptFault) (a b : Result Script Fault) → 
 parses_as r a b is p = subst (ParsesAs (λ s. s) r) is p
 
 -- the whole script
-pub script_none : (text : List ℕ) (script : Script) → None ≡ next_line 1 (lines_of text) → script ≡ record { fleet_line = 0; burst_line = 0; items = [] } → script_of text ≡ Ok script
+pub script_none : (text : List ℕ) (script : Script) → None ≡ next_line 1 (lines_of text) → script ≡ record { fleet_line = 0; items = [] } → script_of text ≡ Ok script
 unfolding script_of
 script_none text script none is = ap (script_at (length (lines_of text))) (sym none) ∙ ap Ok (sym is)
 

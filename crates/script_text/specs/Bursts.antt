@@ -21,11 +21,7 @@ use Rattle.script_text.specs.Commands.{Fault, command_of, row_count, verb_of}
 
 -- the items of a script, and one more
 abbrev pub with_item : Script → Item → Script
-with_item script one = record { fleet_line = script.fleet_line; burst_line = script.burst_line; items = script.items ++ one ∷ [] }
-
--- a script with a burst that begins on line n
-abbrev pub with_burst : ℕ → Script → Script
-with_burst n script = record { fleet_line = script.fleet_line; burst_line = if script.burst_line == 0 then n else script.burst_line; items = script.items }
+with_item script one = record { fleet_line = script.fleet_line; items = script.items ++ one ∷ [] }
 
 -- what was read, where the next line stands there, behind so many rows
 abbrev pub stepped : Script → Standing → ℕ → Step
@@ -48,7 +44,7 @@ one_more script (Err found) = Err found
 
 -- `burst`
 abbrev pub next_burst : ℕ → Script → List ℕ → Result Step Fault
-next_burst n script words = if is_blank words then Ok (stepped (with_burst n script) standing.Opened 0) else Err (n, why.Words)
+next_burst n script words = if is_blank words then Ok (stepped script standing.Opened 0) else Err (n, why.Words)
 
 -- `lane`, behind these lanes
 abbrev pub next_lane : ℕ → Script → List (List Command) → List ℕ → Result Step Fault

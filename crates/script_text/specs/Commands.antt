@@ -35,7 +35,8 @@ task_of word = if bytes_eq word (codes "add") then Some task.Add
     else (if bytes_eq word (codes "flush") then Some task.Flush
     else (if bytes_eq word (codes "drain") then Some task.Drain
     else (if bytes_eq word (codes "kill") then Some task.Kill
-    else (if bytes_eq word (codes "start") then Some task.Start else None)))))))
+    else (if bytes_eq word (codes "start") then Some task.Start
+    else (if bytes_eq word (codes "rollover") then Some task.Rollover else None))))))))
 
 -- the verb that a word is
 abbrev pub verb_of : List ℕ → Option Verb
@@ -293,6 +294,22 @@ abbrev pub start_of : Result ℕ Fault → Result Command Fault
 start_of (Ok leaf) = Ok (Start leaf)
 start_of (Err found) = Err found
 
+-- a rollover of this percent of the leaves, which is at least 1 and at most 100
+abbrev pub percent_of : Option ℕ → Option ℕ
+percent_of (Some percent) = if nat_lt 0 percent && nat_le percent 100 then Some percent else None
+percent_of None = None
+
+-- the words of a rollover: none is 2 percent
+abbrev pub rollover_words : List (List ℕ) → Option ℕ
+rollover_words [] = Some 2
+rollover_words (percent ∷ []) = percent_of (number_of percent)
+rollover_words (percent ∷ word ∷ words) = None
+
+-- `rollover` or `rollover P`
+abbrev pub rollover_of : ℕ → Option ℕ → Result Command Fault
+rollover_of n (Some percent) = Ok (Rollover percent)
+rollover_of n None = Err (n, why.Words)
+
 -- the fleet of a line while none was read
 abbrev pub first_command : ℕ → List ℕ → Option Verb → Result Fleet Fault
 first_command n line None = Err (n, why.Command)
@@ -312,3 +329,4 @@ command_of n fleet task.Flush words more = flush_of n fleet (flush_words (words_
 command_of n fleet task.Drain words more = drain_of n fleet (drain_words (words_of words))
 command_of n fleet task.Kill words more = kill_of (leaf_of n fleet (one_number (words_of words)))
 command_of n fleet task.Start words more = start_of (leaf_of n fleet (one_number (words_of words)))
+command_of n fleet task.Rollover words more = rollover_of n (rollover_words (words_of words))

@@ -1,6 +1,6 @@
 -- What a caller knows of a script that was read.
-use Rattle.std.specs.Prelude.{◌≡◌, ◌*◌, ◌<◌, ◌≤◌, ℕ, List, [], ◌∷◌, length, ◌==◌, Bool, true, false, IsUtf8, IfSome}
-use Rattle.std.specs.List.{AllByRecursion, Contains, filter, list_all}
+use Rattle.std.specs.Prelude.{◌≡◌, ◌*◌, ◌<◌, ◌≤◌, ℕ, List, [], ◌∷◌, length, true, IsUtf8, IfSome}
+use Rattle.std.specs.List.{AllByRecursion, Contains, filter}
 use Rattle.leaf_model.specs.Values.{IsRow, IsTime}
 use Rattle.leaf_model.specs.Names.{AreDistinct, is_table_name}
 use Rattle.query_text.specs.Grammar.{IsQuery}
@@ -45,20 +45,6 @@ pub record AreLeaves (machines per_machine : ℕ) : Type 0 where
   pub some_leaves : 0 < per_machine
   pub few : machines * per_machine ≤ 256
 
--- commands, of which the first is a fleet, and no other is
-abbrev pub AreCommands : List Command → Type 0
-AreCommands [] = Unit {0}
-AreCommands (Fleet machines per_machine tables ∷ commands) = AreLeaves machines per_machine × AreTables tables × AllByRecursion (IsCommand (machines * per_machine) tables) commands
-AreCommands (Add leaf table rows ∷ commands) = ⊥
-AreCommands (Expire leaf table horizon ∷ commands) = ⊥
-AreCommands (Keep leaf table n ∷ commands) = ⊥
-AreCommands (command.Query query ∷ commands) = ⊥
-AreCommands (Flush leaf table ∷ commands) = ⊥
-AreCommands (Drain leaf stop ∷ commands) = ⊥
-AreCommands (Kill leaf ∷ commands) = ⊥
-AreCommands (Start leaf ∷ commands) = ⊥
-AreCommands (Rollover percent ∷ commands) = ⊥
-
 -- At most one of these lanes has commands of a leaf's steward.
 abbrev pub OneSteward : List (List Command) → Type 0
 OneSteward lanes = (leaf : ℕ) → length (filter (has_steward leaf) lanes) ≤ 1
@@ -94,18 +80,6 @@ AreItems [] = Unit {0}
 AreItems (One c ∷ items) = AreBehind c items
 AreItems (Burst lanes ∷ items) = ⊥
 
--- the commands that stand outside bursts
-abbrev pub alone : List Item → List Command
-alone [] = []
-alone (One c ∷ items) = c ∷ alone items
-alone (Burst lanes ∷ items) = alone items
-
--- an item that is no burst
-abbrev pub is_one : Item → Bool
-is_one (One c) = true
-is_one (Burst lanes) = false
-
--- a script that was read: the line of its first burst is 0 exactly where no item is one
+-- a script that was read
 pub record IsScript (script : Script) : Type 0 where
   pub items : AreItems script.items
-  pub bursts : (script.burst_line == 0) ≡ list_all is_one script.items

@@ -1,6 +1,6 @@
 -- What holds of what was read, between two lines.
-use Rattle.std.specs.Prelude.{◌≡◌, List, [], ◌∷◌, ◌++◌, ◌==◌, ◌&&◌, Bool, true, false}
-use Rattle.std.specs.List.{AllByRecursion, list_all}
+use Rattle.std.specs.Prelude.{◌≡◌, List, [], ◌∷◌, ◌++◌}
+use Rattle.std.specs.List.{AllByRecursion}
 use Rattle.script_text.specs.declared.fleet.Fleet.{Fleet}
 use Rattle.script_text.specs.declared.item.Item.{Item}
 use Rattle.script_text.specs.declared.item.Item.TheVariants as item
@@ -8,19 +8,13 @@ use Rattle.script_text.specs.declared.reading.Reading.{Reading}
 use Rattle.script_text.specs.declared.reading.Standing.{Standing}
 use Rattle.script_text.specs.declared.reading.Standing.TheVariants as standing
 use Rattle.script_text.specs.Commands.{fleet_command, leaves}
-use Rattle.script_text.specs.Fits.{IsBurst, IsItem, is_one}
+use Rattle.script_text.specs.Fits.{IsBurst, IsItem}
 
 -- the lanes of a burst that is open are those of a burst
 abbrev pub IsStanding : Fleet → Standing → Type 0
 IsStanding fleet standing.Outside = Unit {0}
 IsStanding fleet standing.Opened = Unit {0}
 IsStanding fleet (standing.Lane earlier lane) = IsBurst (leaves fleet) fleet.tables (earlier ++ lane ∷ [])
-
--- no burst is open
-abbrev pub is_outside : Standing → Bool
-is_outside standing.Outside = true
-is_outside standing.Opened = false
-is_outside (standing.Lane earlier lane) = false
 
 -- a fleet, and items behind it
 pub record Begun (fleet : Fleet) (items : List Item) : Type 0 where
@@ -32,4 +26,3 @@ pub record Begun (fleet : Fleet) (items : List Item) : Type 0 where
 pub record IsReading (fleet : Fleet) (reading : Reading) : Type 0 where
   pub items : Begun fleet reading.script.items
   pub standing : IsStanding fleet reading.standing
-  pub bursts : (reading.script.burst_line == 0) ≡ (list_all is_one reading.script.items && is_outside reading.standing)

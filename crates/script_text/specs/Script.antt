@@ -47,7 +47,7 @@ next_line n (line ∷ more) = if is_skipped line then next_line (n + 1) more els
 
 -- a fleet was read on line n, and nothing else
 abbrev pub begun : ℕ → Fleet → Reading
-begun n fleet = record { script = record { fleet_line = n; burst_line = 0; items = item.One (fleet_command fleet) ∷ [] }; standing = standing.Outside }
+begun n fleet = record { script = record { fleet_line = n; items = item.One (fleet_command fleet) ∷ [] }; standing = standing.Outside }
 
 -- the script that begins with this fleet
 abbrev pub script_behind : ℕ → NumberedLine → Result Fleet Fault → Result Script Fault
@@ -57,7 +57,7 @@ script_behind last line (Err found) = Err found
 -- the script whose first command stands on this line
 abbrev pub script_at : ℕ → Option NumberedLine → Result Script Fault
 script_at last (Some line) = script_behind last line (first_command line.number line.bytes (verb_of (first_word line.bytes)))
-script_at last None = Ok (record { fleet_line = 0; burst_line = 0; items = [] })
+script_at last None = Ok (record { fleet_line = 0; items = [] })
 
 -- the script that a text is, or the first line that has a fault
 unfoldable pub script_of : List ℕ → Result Script Fault

@@ -1,12 +1,7 @@
 // The items of a script: commands, and bursts of them.
-ghost use Rattle.std.specs.Prelude.{◌≡◌, Ok, None, IfOk, IfSome, false, map};
-ghost use Rattle.std.specs.List.{list_all};
-ghost use Rattle.script_text.specs.declared.item.Item.TheVariants.{One};
-ghost use Rattle.script_text.specs.Fits.{is_one};
+ghost use Rattle.std.specs.Prelude.{◌≡◌};
 
 use crate::command::{Command, Commands};
-use std::alloc::{AllocError, Global};
-use std::collections::VecDeque;
 use std::marker::Model;
 
 /// A command, or the lanes of a burst, each of them commands.
@@ -84,28 +79,4 @@ impl Items {
     {
         self.inner
     }
-
-    /// The commands, where no item is a burst.
-    pub fn into_commands(self, alloc: Global) -> Result<Option<Commands>, AllocError>
-        ensures some { IfOk result (λ found. IfSome found (λ commands. map One commands ≡ self)) }
-        ensures none { result ≡ Ok None → list_all is_one self ≡ false }
-    {
-        commands_of(alloc, self.inner)
-    }
-}
-
-/// The commands that items are, where none of them is a burst.
-fn commands_of(alloc: Global, items: Vec<Item>) -> Result<Option<Commands>, AllocError>
-    ensures some { IfOk result (λ found. IfSome found (λ commands. map One commands ≡ items.items)) }
-    ensures none { result ≡ Ok None → list_all is_one items.items ≡ false }
-{
-    let mut commands = Vec::new(alloc);
-    let mut rest = VecDeque::from_vec(items);
-    while let Some(item) = rest.pop_front() {
-        match item {
-            Item::One(command) => commands.push(command)?,
-            Item::Burst(_) => return Ok(None),
-        }
-    }
-    Ok(Some(Commands::of(commands)))
 }

@@ -15,6 +15,7 @@ use crate::fleet::Fleet;
 use crate::flush::flush;
 use crate::keep::keep;
 use crate::query::query;
+use crate::rollover::rollover;
 use crate::target::leaf_in;
 use crate::verb::Task;
 use crate::words::{next_word, number_of, trimmed};
@@ -50,6 +51,7 @@ pub fn command(
             let leaf = leaf_of(fleet, words, number)?;
             Ok(Command::Start(leaf))
         }
+        Task::Rollover => rollover(words, number),
     }
 }
 

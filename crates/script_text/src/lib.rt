@@ -15,6 +15,7 @@ mod lines;
 mod parsing;
 mod query;
 mod reading;
+mod rollover;
 mod script;
 mod steward;
 mod target;

@@ -32,7 +32,6 @@ pub fn parse(alloc: Global, text: &[u8]) -> Result<Script, ScriptFault>
     let Some(first) = next_line(text, 0) else {
         return Ok(Script {
             fleet_line: 0,
-            burst_line: 0,
             items: Items::of(Vec::new(alloc)),
         });
     };
@@ -86,7 +85,6 @@ fn begun(alloc: Global, fleet: &Fleet, fleet_line: u64) -> Result<Reading, Alloc
     }))?;
     let script = Script {
         fleet_line,
-        burst_line: 0,
         items: Items::of(items),
     };
     Ok(Reading {
@@ -138,7 +136,6 @@ fn next_line(text: &[u8], lines_before: u64) -> Option<Line>
         ≡ next_line (lines_before + 1) (lines_of text.now) }
     ensures place { IfSome result (λ line. line.number + length line.after.now ≤ lines_before + length text.now) }
     ensures shorter { IfSome result (λ line. length line.after.now < length text.now) }
-    ensures some { IfSome result (λ line. 0 < line.number) }
 {
     let mut rest = text;
     let mut number = lines_before;

@@ -1,5 +1,5 @@
 // What was read of a script, and what one line more does to it.
-ghost use Rattle.std.specs.Prelude.{◌≡◌, ◌==◌, ◌+◌, ◌++◌, ◌<◌, ◌≤◌, ◌^◌, [], ◌∷◌, if◌then◌else◌, IfOk, length};
+ghost use Rattle.std.specs.Prelude.{◌≡◌, ◌+◌, ◌++◌, ◌<◌, ◌≤◌, ◌^◌, [], ◌∷◌, IfOk, length};
 ghost use Rattle.script_text.specs.declared.reading.Standing.TheVariants as standing;
 ghost use Rattle.script_text.specs.Lines.{lines_of};
 ghost use Rattle.script_text.specs.Commands.{IsFleet, command_of, row_count};
@@ -66,7 +66,6 @@ pub fn read_line<'a>(
     after: &'a [u8],
 ) -> Result<Step, ScriptFault>
     requires fleet { IsFleet fleet.now }
-    requires some { 0 < number }
     requires place { number + length after.now < 2 ^ 64 }
     requires reading { IsReading fleet.now reading }
     ensures exact { ParsesAs (λ step. step) result (step_of last number fleet.now reading bytes.now (lines_of after.now)) }
@@ -102,7 +101,6 @@ fn outside(
     line: &CommandLine,
 ) -> Result<Step, ScriptFault>
     requires fleet { IsFleet fleet.now }
-    requires some { 0 < line.now.number }
     requires place { line.now.number + length line.now.after.now < 2 ^ 64 }
     requires reading { IsReading fleet.now (record { script = script; standing = standing.Outside }) }
     ensures exact { ParsesAs (λ step. step) result (outside last line.now.number fleet.now script line.now.words.now (lines_of line.now.after.now) line.now.verb) }
@@ -216,19 +214,7 @@ fn next_burst(number: u64, script: Script, words: &[u8]) -> Result<Step, ScriptF
     if !is_blank(words) {
         return Err(fault_at(number, Why::Words));
     }
-    let script = Script {
-        fleet_line: script.fleet_line,
-        burst_line: first_line(script.burst_line, number),
-        items: script.items,
-    };
     Ok(stepped(script, Standing::Opened, 0))
-}
-
-/// The line of the first burst, where one begins on this line and 0 says that none began before.
-fn first_line(burst_line: u64, number: u64) -> u64
-    ensures { result ≡ (if burst_line == 0 then number else burst_line) }
-{
-    if burst_line == 0 { number } else { burst_line }
 }
 
 /// One more lane behind these.
@@ -288,7 +274,6 @@ fn with_item(script: Script, item: Item) -> Result<Script, AllocError>
     items.push(item)?;
     Ok(Script {
         fleet_line: script.fleet_line,
-        burst_line: script.burst_line,
         items: Items::of(items),
     })
 }

@@ -14,6 +14,7 @@ pub enum Task {
     Drain,
     Kill,
     Start,
+    Rollover,
 }
 
 /// What a line with a command is.
@@ -66,6 +67,8 @@ fn task_of(word: &[u8]) -> Option<Task>
         Some(Task::Kill)
     } else if is_word(word, "start") {
         Some(Task::Start)
+    } else if is_word(word, "rollover") {
+        Some(Task::Rollover)
     } else {
         None
     }
