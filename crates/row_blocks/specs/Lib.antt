@@ -1,6 +1,7 @@
 pub mod Columns
 pub mod Headings
 pub mod Blocks
+pub mod Held
 pub mod Merging
 pub mod Places
 pub mod Times

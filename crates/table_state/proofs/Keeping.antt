@@ -1,12 +1,13 @@
 -- What a table holds stays what a table may hold.
-use Rattle.std.proofs.Common.{cond, ◌≡◌, ℕ, zero, suc, ◌+◌, ◌-◌, ◌≤◌, Bool, true, false, List, [], ◌∷◌, ◌++◌, length, drop, refl, arith, length-append}
+use Rattle.std.proofs.Common.{cond, ◌≡◌, ℕ, zero, suc, ◌+◌, ◌-◌, ◌≤◌, Bool, true, false, List, [], ◌∷◌, ◌++◌, length, drop, refl, sym, ap, subst, ◌∙◌, arith, length-append}
 use Rattle.std.specs.Prelude.{ℤ, int_le}
 use Rattle.std.specs.List.{AllByRecursion}
 use Rattle.std.proofs.lemmas.List.{length-drop}
 use Rattle.leaf_model.specs.declared.rows.Row.{Row}
 use Rattle.leaf_model.specs.Values.{IsRow, IsTime}
 use Rattle.leaf_model.specs.Content.{rows_from, last_rows}
-use Rattle.table_state.specs.Tables.{IsHeld, IsHeldRow, most_rows}
+use Rattle.row_blocks.specs.Blocks.{Block}
+use Rattle.table_state.specs.Tables.{IsHeld, IsHeldRow, IsStored, Table, most_rows}
 
 module _ (P : Row → Type 0) where
   pub each-append : (xs ys : List Row) → AllByRecursion P xs → AllByRecursion P ys → AllByRecursion P (xs ++ ys)
@@ -18,9 +19,9 @@ module _ (P : Row → Type 0) where
   each-drop (suc n) [] a = tt
   each-drop (suc n) (x ∷ xs) a = each-drop n xs a.1
 
-rows_held : (h : ℤ) (xs : List Row) → AllByRecursion (IsHeldRow h) xs → AllByRecursion IsRow xs
-rows_held h [] a = tt
-rows_held h (x ∷ xs) a = (a.0.0, rows_held h xs a.1)
+are_rows : (h : ℤ) (xs : List Row) → AllByRecursion (IsHeldRow h) xs → AllByRecursion IsRow xs
+are_rows h [] a = tt
+are_rows h (x ∷ xs) a = (a.0.0, are_rows h xs a.1)
 
 one_from : (h : ℤ) (x : Row) (rest : List Row) (b : Bool) → int_le h x.time ≡ b → IsRow x → AllByRecursion (IsHeldRow h) rest → AllByRecursion (IsHeldRow h) (cond b (x ∷ rest) rest)
 one_from h x rest true is row a = ((row, is), a)
@@ -53,5 +54,24 @@ pub held_expired : (h now : ℤ) (rows : List Row) → IsHeld (record { rows = r
 held_expired h now rows held time = record {
   horizon = time;
   few = let shorter = few_from now rows in omega (arith, shorter, held.few);
-  each = each_from now rows (rows_held h rows held.each);
+  each = each_from now rows (are_rows h rows held.each);
 }
+
+one_left : (h : ℤ) (x : Row) (rest xs : List Row) (b : Bool) → int_le h x.time ≡ b → int_le h x.time ≡ true → rest ≡ xs → cond b (x ∷ rest) rest ≡ x ∷ xs
+one_left h x rest xs true e is same = ap (λ (l : List Row). x ∷ l) same
+one_left h x rest xs false e is same = let no : false ≡ true = sym e ∙ is in absurd cc
+
+-- nothing is below the horizon that may be held under it
+pub all_from : (h : ℤ) (xs : List Row) → AllByRecursion (IsHeldRow h) xs → rows_from h xs ≡ xs
+all_from h [] a = refl
+all_from h (x ∷ xs) a = one_left h x (rows_from h xs) xs (int_le h x.time) refl a.0.1 (all_from h xs a.1)
+
+-- a plain list of rows stands as it is
+pub stored_plain : (t : Table) → IsHeld t.contents → t.store.blocks ≡ [] → t.store.skip ≡ 0 → t.store.tail ≡ t.contents.rows → IsStored t
+stored_plain t held no_blocks no_skip tail =
+    let h = t.contents.horizon in let rows = t.contents.rows in
+    let B : List Block → Type 0 = λ b. IsStored (record t { store = record { blocks = b; skip = t.store.skip; tail = t.store.tail } }) in
+    let S : ℕ → Type 0 = λ s. IsStored (record t { store = record { blocks = []; skip = s; tail = t.store.tail } }) in
+    let T : List Row → Type 0 = λ l. IsStored (record t { store = record { blocks = []; skip = 0; tail = l } }) in
+    let plain : T rows = record { held = held; skip = refl; blocks = tt; tail = are_rows h rows held.each; rows = all_from h rows held.each } in
+    subst B (sym no_blocks) (subst S (sym no_skip) (subst T (sym tail) plain))

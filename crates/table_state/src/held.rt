@@ -7,6 +7,7 @@ ghost use Rattle.table_state.specs.declared.fault.AddFault.TheVariants as fault;
 
 use crate::fault::AddFault;
 use leaf_model::{Row, Write};
+use std::alloc::{AllocError, Global};
 
 /// The most rows of a table.
 const MOST_ROWS: u64 = 1 << 40;
@@ -96,4 +97,15 @@ pub fn rows_of(write: Write) -> Vec<Row>
         Write::Expire(_) => unreachable!(),
         Write::Keep(_) => unreachable!(),
     }
+}
+
+/// A copy of rows.
+pub fn copy_rows(alloc: Global, rows: &[Row]) -> Result<Vec<Row>, AllocError>
+    ensures { IfOk result (λ copy. copy.items ≡ rows.now) }
+{
+    let mut copy = Vec::new(alloc);
+    for row in rows {
+        copy.push(row.copy()?)?;
+    }
+    Ok(copy)
 }

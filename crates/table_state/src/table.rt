@@ -1,22 +1,24 @@
 // One table as a plain list of rows.
-ghost use Rattle.std.specs.Prelude.{◌≡◌, ◌≤◌, ◌<◌, ◌-◌, ◌^◌, None, IsOk, length};
+ghost use Rattle.std.specs.Prelude.{◌≡◌, ◌≤◌, ◌<◌, ◌-◌, ◌^◌, [], None, IfOk, length};
 ghost use Rattle.std.specs.List.{AllByRecursion};
 ghost use Rattle.leaf_model.specs.Values.{IsRow, IsTime, IsWrite};
 ghost use Rattle.leaf_model.specs.declared.writes.Write.TheVariants.{Add, Expire, Keep};
-ghost use Rattle.table_state.specs.Tables.{empty_table, contents_of, most_rows, replayed, Adds, IsHeld, IsPartsOf, MayWrite, Removes, Replays, Takes};
+ghost use Rattle.table_state.specs.Tables.{bare, empty_table, most_rows, no_store, replayed, Adds, IsHeld, IsParts, IsPartsOf, IsStored, MayWrite, Removes, Replays, Seals, Takes};
 
 use crate::fault::{AddFault, Added};
-use crate::held::{admit, make_room, retain_from, retain_last, rows_of};
+use crate::held::{admit, copy_rows, make_room, retain_from, retain_last, rows_of};
 use crate::parts::Parts;
-use leaf_model::{Row, Rows, TableRows, Text, Write};
+use leaf_model::{Row, Rows, Text, Write};
+use row_blocks::Blocks;
 use row_records::Pending;
 use std::alloc::{AllocError, Global};
 use std::marker::Model;
 use std::mem::replace;
 
-/// Contracts see what it holds, how many writes it accepted, and the record of those that were not taken.
+/// Contracts see what it holds, how many writes it accepted, the record of those that were not taken, and how its rows stand.
 #[derive(Drop)]
 pub struct TableState {
+    blocks: Blocks,
     rows: Vec<Row>,
     horizon: i64,
     writes: u64,
@@ -24,13 +26,14 @@ pub struct TableState {
 }
 
 impl Model for TableState {
+    ghost use Rattle.std.specs.Prelude.{◌≡◌, []};
     ghost use Rattle.table_state.specs.Tables.{Table, IsHeld};
 
     ghost Value = { Table };
 
-    ghost view = { λ t. record { contents = record { rows = t.rows.items; horizon = t.horizon }; writes = t.writes; pending = t.pending } };
+    ghost view = { λ t. record { contents = record { rows = t.rows.items; horizon = t.horizon }; writes = t.writes; pending = t.pending; store = record { blocks = t.blocks; skip = 0; tail = t.rows.items } } };
 
-    ghost invariant = { λ t. IsHeld (record { rows = t.rows.items; horizon = t.horizon }) };
+    ghost invariant = { λ t. IsHeld (record { rows = t.rows.items; horizon = t.horizon }) × (t.blocks ≡ []) };
 }
 
 impl TableState {
@@ -39,6 +42,7 @@ impl TableState {
         ensures { result ≡ empty_table }
     {
         TableState {
+            blocks: Blocks::of(Vec::new(alloc)),
             rows: Vec::new(alloc),
             horizon: 0,
             writes: 0,
@@ -120,7 +124,7 @@ impl TableState {
     fn raise_horizon(&mut self, horizon: i64)
         requires horizon { IsTime horizon }
         requires room { self.old.writes < 2 ^ 64 - 1 }
-        ensures written { self.new ≡ replayed self.old (Expire horizon) }
+        ensures written { bare self.new ≡ replayed self.old (Expire horizon) }
         ensures fewer { length self.new.contents.rows ≤ length self.old.contents.rows }
         ensures few { length self.new.contents.rows ≤ most_rows }
     {
@@ -132,7 +136,7 @@ impl TableState {
     // The write of a keep.
     fn leave_last(&mut self, n: u64)
         requires { self.old.writes < 2 ^ 64 - 1 }
-        ensures written { self.new ≡ replayed self.old (Keep n) }
+        ensures written { bare self.new ≡ replayed self.old (Keep n) }
         ensures fewer { length self.new.contents.rows ≤ length self.old.contents.rows }
         ensures few { length self.new.contents.rows ≤ most_rows }
     {
@@ -162,12 +166,55 @@ impl TableState {
         self.horizon
     }
 
-    /// All rows, in order of arrival.
+    /// What holds of every table.
+    pub fn stands(&self)
+        ensures { IsStored self.now }
+    {
+        let _ = &self.rows;
+    }
+
+    /// The sealed blocks, in order of arrival.
+    pub fn blocks(&self) -> &Blocks
+        ensures { result.now ≡ self.now.store.blocks }
+    {
+        &self.blocks
+    }
+
+    /// The rows behind the blocks, in order of arrival.
     pub fn tail_rows(&self) -> &[Row]
-        ensures rows { result.now ≡ self.now.contents.rows }
-        ensures held { IsHeld self.now.contents }
+        ensures { result.now ≡ self.now.store.tail }
     {
         self.rows.as_slice()
+    }
+
+    /// How many rows of the first block are cut away.
+    pub fn skip(&self) -> u32
+        ensures { result ≡ self.now.store.skip }
+    {
+        let _ = &self.rows;
+        0
+    }
+
+    /// How many blocks there are.
+    pub fn sealed(&self) -> u64
+        ensures { result ≡ length self.now.store.blocks }
+    {
+        self.blocks.as_slice().len() as u64
+    }
+
+    /// How many rows stand behind the blocks.
+    pub fn tail(&self) -> u32
+        requires stub { ⊥ }
+        ensures { result ≡ length self.now.store.tail }
+    {
+        unreachable!()
+    }
+
+    /// All rows, in order of arrival.
+    pub fn to_rows(&self, alloc: Global) -> Result<Vec<Row>, AllocError>
+        ensures { IfOk result (λ rows. rows.items ≡ self.now.contents.rows) }
+    {
+        copy_rows(alloc, self.rows.as_slice())
     }
 
     /// Hands out the record of the writes since the last taking. It takes no memory.
@@ -178,40 +225,58 @@ impl TableState {
         replace(&mut self.pending, none)
     }
 
-    /// A plain list has no tail to seal.
+    /// Makes a block of the rows behind the blocks, unless there are none.
     pub fn seal_tail(&mut self) -> Result<(), AllocError>
-        ensures same { self.new ≡ self.old }
-        ensures done { IsOk result }
+        ensures { Seals self.old result self.new }
     {
-        Ok(())
+        if self.rows.is_empty() {
+            Ok(())
+        } else {
+            Err(AllocError)
+        }
     }
 
     /// Hands over what it holds.
     pub fn into_parts(self) -> Parts
-        requires { self.pending ≡ None }
-        ensures parts { IsPartsOf result self }
-        ensures held { IsHeld (contents_of result) }
+        requires none { self.pending ≡ None }
+        requires tail { self.store.tail ≡ [] }
+        ensures of { IsPartsOf result self }
+        ensures parts { IsParts result }
     {
         Parts {
             horizon: self.horizon,
             writes: self.writes,
-            rows: TableRows::of(self.rows),
+            skip: 0,
+            blocks: self.blocks,
         }
     }
 
-    /// A table that holds what was handed over, with nothing that was not taken.
+    /// A table that holds what was handed over, with nothing that was not taken. It takes no memory.
     pub fn from_parts(parts: Parts) -> TableState
-        requires { IsHeld (contents_of parts) }
-        ensures parts { IsPartsOf parts result }
+        requires parts { IsParts parts }
+        requires stub { ⊥ }
+        ensures of { IsPartsOf parts result }
         ensures pending { result.pending ≡ None }
     {
-        let rows = parts.rows.into_inner();
-        let pending = Pending::new(*rows.allocator());
-        TableState {
+        unreachable!()
+    }
+
+    /// A table that holds these rows under this horizon, with nothing that was not taken.
+    pub fn from_rows(
+        alloc: Global,
+        rows: Vec<Row>,
+        horizon: i64,
+        writes: u64,
+    ) -> Result<TableState, AllocError>
+        requires held { IsHeld (record { rows = rows.items; horizon = horizon }) }
+        ensures { IfOk result (λ t. bare t ≡ record { contents = record { rows = rows.items; horizon = horizon }; writes = writes; pending = None; store = no_store }) }
+    {
+        Ok(TableState {
+            blocks: Blocks::of(Vec::new(alloc)),
             rows,
-            horizon: parts.horizon,
-            writes: parts.writes,
-            pending,
-        }
+            horizon,
+            writes,
+            pending: Pending::new(alloc),
+        })
     }
 }

@@ -14,4 +14,4 @@ invariant_of-self c =
     let time : IsTime now = search rules in
     let all : c.retain_from.new.rows.items ≡ rows_from now c.self.inside.rows.items = search rules in
     let P : List Row → Type 0 = λ rows. IsHeld (record { rows = rows; horizon = now }) in
-    subst P (sym all) (held_expired c.self.inside.horizon now c.self.inside.rows.items c.self.invariant time)
+    (subst P (sym all) (held_expired c.self.inside.horizon now c.self.inside.rows.items c.self.invariant.0 time), c.self.invariant.1)

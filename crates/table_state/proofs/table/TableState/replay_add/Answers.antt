@@ -11,4 +11,4 @@ invariant_of-self-2 c =
     let few : length c.self.inside.rows.items + length (rows_from h c.args.rows) ≤ most_rows = search rules in
     let all : c.admit.new.rows.items ≡ c.self.inside.rows.items ++ rows_from h c.args.rows = search rules in
     let P : List Row → Type 0 = λ rows. IsHeld (record { rows = rows; horizon = h }) in
-    subst P (sym all) (held_added h c.self.inside.rows.items c.args.rows c.self.invariant c.requires.rows few)
+    (subst P (sym all) (held_added h c.self.inside.rows.items c.args.rows c.self.invariant.0 c.requires.rows few), c.self.invariant.1)
