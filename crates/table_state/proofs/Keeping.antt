@@ -1,5 +1,5 @@
 -- What a table holds stays what a table may hold.
-use Rattle.std.proofs.Common.{cond, ◌≡◌, ℕ, zero, suc, ◌+◌, ◌-◌, ◌≤◌, Bool, true, false, List, [], ◌∷◌, ◌++◌, length, drop, refl, sym, ap, subst, ◌∙◌, arith, length-append}
+use Rattle.std.proofs.Common.{cond, ◌≡◌, ℕ, zero, suc, ◌+◌, ◌-◌, ◌≤◌, Bool, true, false, List, [], ◌∷◌, ◌++◌, length, take, drop, refl, sym, ap, subst, ◌∙◌, arith, length-append}
 use Rattle.std.specs.Prelude.{ℤ, int_le}
 use Rattle.std.specs.List.{AllByRecursion}
 use Rattle.std.proofs.lemmas.List.{length-drop}
@@ -14,12 +14,17 @@ module _ (P : Row → Type 0) where
   each-append [] ys a b = b
   each-append (x ∷ xs) ys a b = (a.0, each-append xs ys a.1 b)
 
+  pub each-take : (n : ℕ) (xs : List Row) → AllByRecursion P xs → AllByRecursion P (take n xs)
+  each-take zero xs a = tt
+  each-take (suc n) [] a = tt
+  each-take (suc n) (x ∷ xs) a = (a.0, each-take n xs a.1)
+
   pub each-drop : (n : ℕ) (xs : List Row) → AllByRecursion P xs → AllByRecursion P (drop n xs)
   each-drop zero xs a = a
   each-drop (suc n) [] a = tt
   each-drop (suc n) (x ∷ xs) a = each-drop n xs a.1
 
-are_rows : (h : ℤ) (xs : List Row) → AllByRecursion (IsHeldRow h) xs → AllByRecursion IsRow xs
+pub are_rows : (h : ℤ) (xs : List Row) → AllByRecursion (IsHeldRow h) xs → AllByRecursion IsRow xs
 are_rows h [] a = tt
 are_rows h (x ∷ xs) a = (a.0.0, are_rows h xs a.1)
 
@@ -32,30 +37,21 @@ pub each_from : (h : ℤ) (xs : List Row) → AllByRecursion IsRow xs → AllByR
 each_from h [] a = tt
 each_from h (x ∷ xs) a = one_from h x (rows_from h xs) (int_le h x.time) refl a.0 (each_from h xs a.1)
 
+one_late : (x : Row) (rest : List Row) (b : Bool) → IsRow x → AllByRecursion IsRow rest → AllByRecursion IsRow (cond b (x ∷ rest) rest)
+one_late x rest true is a = (is, a)
+one_late x rest false is a = a
+
+pub each_late : (h : ℤ) (xs : List Row) → AllByRecursion IsRow xs → AllByRecursion IsRow (rows_from h xs)
+each_late h [] a = tt
+each_late h (x ∷ xs) a = one_late x (rows_from h xs) (int_le h x.time) a.0 (each_late h xs a.1)
+
 one_more : (x : Row) (rest : List Row) (b : Bool) (n : ℕ) → length rest ≤ n → length (cond b (x ∷ rest) rest) ≤ suc n
 one_more x rest true n h = omega arith
 one_more x rest false n h = omega arith
 
-few_from : (h : ℤ) (xs : List Row) → length (rows_from h xs) ≤ length xs
+pub few_from : (h : ℤ) (xs : List Row) → length (rows_from h xs) ≤ length xs
 few_from h [] = omega arith
 few_from h (x ∷ xs) = one_more x (rows_from h xs) (int_le h x.time) (length xs) (few_from h xs)
-
--- an add keeps what may be held
-pub held_added : (h : ℤ) (rows more : List Row) → IsHeld (record { rows = rows; horizon = h }) → AllByRecursion IsRow more → length rows + length (rows_from h more) ≤ most_rows
-    → IsHeld (record { rows = rows ++ rows_from h more; horizon = h })
-held_added h rows more held are few = record {
-  horizon = held.horizon;
-  few = omega (arith, length-append rows (rows_from h more));
-  each = each-append (IsHeldRow h) rows (rows_from h more) held.each (each_from h more are);
-}
-
--- so does an expiry
-pub held_expired : (h now : ℤ) (rows : List Row) → IsHeld (record { rows = rows; horizon = h }) → IsTime now → IsHeld (record { rows = rows_from now rows; horizon = now })
-held_expired h now rows held time = record {
-  horizon = time;
-  few = let shorter = few_from now rows in omega (arith, shorter, held.few);
-  each = each_from now rows (are_rows h rows held.each);
-}
 
 one_left : (h : ℤ) (x : Row) (rest xs : List Row) (b : Bool) → int_le h x.time ≡ b → int_le h x.time ≡ true → rest ≡ xs → cond b (x ∷ rest) rest ≡ x ∷ xs
 one_left h x rest xs true e is same = ap (λ (l : List Row). x ∷ l) same
@@ -65,13 +61,3 @@ one_left h x rest xs false e is same = let no : false ≡ true = sym e ∙ is in
 pub all_from : (h : ℤ) (xs : List Row) → AllByRecursion (IsHeldRow h) xs → rows_from h xs ≡ xs
 all_from h [] a = refl
 all_from h (x ∷ xs) a = one_left h x (rows_from h xs) xs (int_le h x.time) refl a.0.1 (all_from h xs a.1)
-
--- a plain list of rows stands as it is
-pub stored_plain : (t : Table) → IsHeld t.contents → t.store.blocks ≡ [] → t.store.skip ≡ 0 → t.store.tail ≡ t.contents.rows → IsStored t
-stored_plain t held no_blocks no_skip tail =
-    let h = t.contents.horizon in let rows = t.contents.rows in
-    let B : List Block → Type 0 = λ b. IsStored (record t { store = record { blocks = b; skip = t.store.skip; tail = t.store.tail } }) in
-    let S : ℕ → Type 0 = λ s. IsStored (record t { store = record { blocks = []; skip = s; tail = t.store.tail } }) in
-    let T : List Row → Type 0 = λ l. IsStored (record t { store = record { blocks = []; skip = 0; tail = l } }) in
-    let plain : T rows = record { held = held; skip = refl; blocks = tt; tail = are_rows h rows held.each; rows = all_from h rows held.each } in
-    subst B (sym no_blocks) (subst S (sym no_skip) (subst T (sym tail) plain))

@@ -68,6 +68,7 @@ pub record IsStored (t : Table) : Type 0 where
   pub skip : IsSkip t.store.skip t.store.blocks
   pub blocks : AllByRecursion IsBlock t.store.blocks
   pub tail : AllByRecursion IsRow t.store.tail
+  pub short : length t.store.tail ≤ 65535
   pub rows : rows_held t.store.blocks t.store.tail t.store.skip t.contents.horizon ≡ t.contents.rows
 
 -- a write of a table of this name may be called for: the name is the table's own, and its writes can still be counted

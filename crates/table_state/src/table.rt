@@ -1,4 +1,4 @@
-// One table as a plain list of rows.
+// One table: sealed blocks, and a tail of rows behind them.
 ghost use Rattle.std.specs.Prelude.{◌≡◌, ◌≤◌, ◌<◌, ◌-◌, ◌^◌, [], None, IfOk, length};
 ghost use Rattle.std.specs.List.{AllByRecursion};
 ghost use Rattle.leaf_model.specs.Values.{IsRow, IsTime, IsWrite};
@@ -6,8 +6,11 @@ ghost use Rattle.leaf_model.specs.declared.writes.Write.TheVariants.{Add, Expire
 ghost use Rattle.table_state.specs.Tables.{bare, empty_table, most_rows, no_store, replayed, Adds, IsHeld, IsParts, IsPartsOf, IsStored, MayWrite, Removes, Replays, Seals, Takes};
 
 use crate::fault::{AddFault, Added};
-use crate::held::{admit, copy_rows, make_room, retain_from, retain_last, rows_of};
+use crate::front::{copy_blocks, count_live, cut_front, leave_live};
+use crate::held::{copy_rows, drop_first, retain_from, rows_of};
 use crate::parts::Parts;
+use crate::sealing::{admit, prepare, seal_behind};
+use expiry::{cut_for, masks_and_cuts};
 use leaf_model::{Row, Rows, Text, Write};
 use row_blocks::Blocks;
 use row_records::Pending;
@@ -19,21 +22,24 @@ use std::mem::replace;
 #[derive(Drop)]
 pub struct TableState {
     blocks: Blocks,
-    rows: Vec<Row>,
+    skip: u32,
+    live: u64,
+    tail: Vec<Row>,
     horizon: i64,
     writes: u64,
     pending: Pending,
 }
 
 impl Model for TableState {
-    ghost use Rattle.std.specs.Prelude.{◌≡◌, []};
-    ghost use Rattle.table_state.specs.Tables.{Table, IsHeld};
+    ghost use Rattle.std.specs.Prelude.{◌++◌};
+    ghost use Rattle.table_state.specs.Tables.{Table};
+    ghost use Rattle.table_state.specs.Stored.{Stands, sealed_rows};
 
     ghost Value = { Table };
 
-    ghost view = { λ t. record { contents = record { rows = t.rows.items; horizon = t.horizon }; writes = t.writes; pending = t.pending; store = record { blocks = t.blocks; skip = 0; tail = t.rows.items } } };
+    ghost view = { λ t. record { contents = record { rows = sealed_rows t.blocks t.skip t.horizon ++ t.tail.items; horizon = t.horizon }; writes = t.writes; pending = t.pending; store = record { blocks = t.blocks; skip = t.skip; tail = t.tail.items } } };
 
-    ghost invariant = { λ t. IsHeld (record { rows = t.rows.items; horizon = t.horizon }) × (t.blocks ≡ []) };
+    ghost invariant = { λ t. Stands t.blocks t.skip t.tail.items t.horizon t.live };
 }
 
 impl TableState {
@@ -42,8 +48,10 @@ impl TableState {
         ensures { result ≡ empty_table }
     {
         TableState {
-            blocks: Blocks::of(Vec::new(alloc)),
-            rows: Vec::new(alloc),
+            blocks: Blocks::new(alloc),
+            skip: 0,
+            live: 0,
+            tail: Vec::new(alloc),
             horizon: 0,
             writes: 0,
             pending: Pending::new(alloc),
@@ -56,13 +64,21 @@ impl TableState {
         requires rows { AllByRecursion IsRow rows }
         ensures { Adds table.now self.old rows result self.new }
     {
-        let kept = make_room(&mut self.rows, self.horizon, rows.as_slice())?;
+        let sealed = self.blocks.as_slice().len();
+        let kept = prepare(
+            self.live,
+            &mut self.blocks,
+            &mut self.tail,
+            self.horizon,
+            rows.as_slice(),
+        )?;
         let late = rows.as_slice().len() as u64 - kept;
         let write = Write::Add(rows);
         if self.pending.push(table, &write).is_err() {
+            self.blocks.truncate(sealed);
             return Err(AddFault::NoMemory);
         }
-        admit(&mut self.rows, self.horizon, rows_of(write));
+        self.live += admit(&mut self.tail, self.horizon, rows_of(write));
         self.writes += 1;
         Ok(Added { kept, late })
     }
@@ -73,10 +89,10 @@ impl TableState {
         requires horizon { IsTime horizon }
         ensures { Removes table.now self.old (Expire horizon) result self.new }
     {
+        let held = self.rows();
         self.pending.push(table, &Write::Expire(horizon))?;
-        let held = self.rows.len();
         self.raise_horizon(horizon);
-        Ok((held - self.rows.len()) as u64)
+        Ok(held - self.rows())
     }
 
     /// Leaves the last n rows in order of arrival, and answers how many it removed.
@@ -84,10 +100,10 @@ impl TableState {
         requires may { MayWrite table.now self.old }
         ensures { Removes table.now self.old (Keep n) result self.new }
     {
+        let held = self.rows();
         self.pending.push(table, &Write::Keep(n))?;
-        let held = self.rows.len();
         self.leave_last(n);
-        Ok((held - self.rows.len()) as u64)
+        Ok(held - self.rows())
     }
 
     /// One accepted write that the disk has already.
@@ -114,8 +130,14 @@ impl TableState {
         requires room { self.old.writes < 2 ^ 64 - 1 }
         ensures { Replays self.old (Add rows) result self.new }
     {
-        make_room(&mut self.rows, self.horizon, rows.as_slice())?;
-        admit(&mut self.rows, self.horizon, rows.into_inner());
+        prepare(
+            self.live,
+            &mut self.blocks,
+            &mut self.tail,
+            self.horizon,
+            rows.as_slice(),
+        )?;
+        self.live += admit(&mut self.tail, self.horizon, rows.into_inner());
         self.writes += 1;
         Ok(())
     }
@@ -128,8 +150,11 @@ impl TableState {
         ensures fewer { length self.new.contents.rows ≤ length self.old.contents.rows }
         ensures few { length self.new.contents.rows ≤ most_rows }
     {
+        masks_and_cuts();
         self.horizon = self.horizon.max(horizon);
-        retain_from(&mut self.rows, self.horizon);
+        self.skip = leave_live(&mut self.blocks, self.skip, self.horizon);
+        self.live = count_live(self.blocks.as_slice(), self.skip, self.horizon);
+        retain_from(&mut self.tail, self.horizon);
         self.writes += 1;
     }
 
@@ -140,8 +165,11 @@ impl TableState {
         ensures fewer { length self.new.contents.rows ≤ length self.old.contents.rows }
         ensures few { length self.new.contents.rows ≤ most_rows }
     {
-        let kept = n.min(self.rows.len() as u64) as usize;
-        retain_last(&mut self.rows, kept);
+        let gone = cut_for(self.live + self.tail.len() as u64, n);
+        let first = gone.min(self.live);
+        self.skip = cut_front(&mut self.blocks, self.skip, self.horizon, first);
+        self.live -= first;
+        drop_first(&mut self.tail, (gone - first) as usize);
         self.writes += 1;
     }
 
@@ -149,7 +177,7 @@ impl TableState {
     pub fn rows(&self) -> u64
         ensures { result ≡ length self.now.contents.rows }
     {
-        self.rows.len() as u64
+        self.live + self.tail.len() as u64
     }
 
     /// How many writes it accepted.
@@ -170,7 +198,7 @@ impl TableState {
     pub fn stands(&self)
         ensures { IsStored self.now }
     {
-        let _ = &self.rows;
+        let _ = &self.tail;
     }
 
     /// The sealed blocks, in order of arrival.
@@ -184,15 +212,14 @@ impl TableState {
     pub fn tail_rows(&self) -> &[Row]
         ensures { result.now ≡ self.now.store.tail }
     {
-        self.rows.as_slice()
+        self.tail.as_slice()
     }
 
     /// How many rows of the first block are cut away.
     pub fn skip(&self) -> u32
         ensures { result ≡ self.now.store.skip }
     {
-        let _ = &self.rows;
-        0
+        self.skip
     }
 
     /// How many blocks there are.
@@ -204,24 +231,26 @@ impl TableState {
 
     /// How many rows stand behind the blocks.
     pub fn tail(&self) -> u32
-        requires stub { ⊥ }
         ensures { result ≡ length self.now.store.tail }
     {
-        unreachable!()
+        self.tail.len() as u32
     }
 
     /// All rows, in order of arrival.
     pub fn to_rows(&self, alloc: Global) -> Result<Vec<Row>, AllocError>
         ensures { IfOk result (λ rows. rows.items ≡ self.now.contents.rows) }
     {
-        copy_rows(alloc, self.rows.as_slice())
+        let mut rows = copy_blocks(alloc, self.blocks.as_slice(), self.skip, self.horizon)?;
+        let mut tail = copy_rows(alloc, self.tail.as_slice())?;
+        rows.append(&mut tail)?;
+        Ok(rows)
     }
 
     /// Hands out the record of the writes since the last taking. It takes no memory.
     pub fn take_pending(&mut self) -> Pending
         ensures { Takes self.old result self.new }
     {
-        let none = Pending::new(*self.rows.allocator());
+        let none = Pending::new(*self.tail.allocator());
         replace(&mut self.pending, none)
     }
 
@@ -229,11 +258,13 @@ impl TableState {
     pub fn seal_tail(&mut self) -> Result<(), AllocError>
         ensures { Seals self.old result self.new }
     {
-        if self.rows.is_empty() {
-            Ok(())
-        } else {
-            Err(AllocError)
+        if self.tail.is_empty() {
+            return Ok(());
         }
+        seal_behind(&mut self.blocks, &self.tail)?;
+        self.live += self.tail.len() as u64;
+        self.tail.clear();
+        Ok(())
     }
 
     /// Hands over what it holds.
@@ -246,19 +277,29 @@ impl TableState {
         Parts {
             horizon: self.horizon,
             writes: self.writes,
-            skip: 0,
+            skip: self.skip,
             blocks: self.blocks,
         }
     }
 
     /// A table that holds what was handed over, with nothing that was not taken. It takes no memory.
     pub fn from_parts(parts: Parts) -> TableState
-        requires parts { IsParts parts }
-        requires stub { ⊥ }
+        requires { IsParts parts }
         ensures of { IsPartsOf parts result }
         ensures pending { result.pending ≡ None }
     {
-        unreachable!()
+        let blocks = parts.blocks.into_inner();
+        let alloc = *blocks.allocator();
+        let live = count_live(blocks.as_slice(), parts.skip, parts.horizon);
+        TableState {
+            blocks: Blocks::of(blocks),
+            skip: parts.skip,
+            live,
+            tail: Vec::new(alloc),
+            horizon: parts.horizon,
+            writes: parts.writes,
+            pending: Pending::new(alloc),
+        }
     }
 
     /// A table that holds these rows under this horizon, with nothing that was not taken.
@@ -271,9 +312,17 @@ impl TableState {
         requires held { IsHeld (record { rows = rows.items; horizon = horizon }) }
         ensures { IfOk result (λ t. bare t ≡ record { contents = record { rows = rows.items; horizon = horizon }; writes = writes; pending = None; store = no_store }) }
     {
+        let mut blocks = Blocks::new(alloc);
+        let mut tail = Vec::new(alloc);
+        let Ok(_kept) = prepare(0, &mut blocks, &mut tail, horizon, rows.as_slice()) else {
+            return Err(AllocError);
+        };
+        let live = admit(&mut tail, horizon, rows);
         Ok(TableState {
-            blocks: Blocks::of(Vec::new(alloc)),
-            rows,
+            blocks,
+            skip: 0,
+            live,
+            tail,
             horizon,
             writes,
             pending: Pending::new(alloc),
