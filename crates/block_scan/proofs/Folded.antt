@@ -10,7 +10,7 @@ use Rattle.group_table.specs.Joined.{IsWithin}
 use Rattle.group_table.proofs.Within.{groups_grow}
 use Rattle.row_blocks.specs.declared.column.BlockColumn.{BlockColumn}
 use Rattle.row_blocks.specs.Blocks.{Block, row_at, rows_in, time_of, value_in}
-use Rattle.block_scan.specs.Held.{live_rows}
+use Rattle.row_blocks.specs.Held.{live_rows}
 use Rattle.block_scan.specs.Reads.{is_wanted, row_of, wanted_places}
 use Rattle.block_scan.proofs.Lists.{all_within, both_tests, drop_range, filter_mapped, filter_within, map_within, no_longer, weaker_test}
 use Rattle.block_scan.proofs.Narrowed.{groups_of}

@@ -13,7 +13,7 @@ use Rattle.leaf_model.specs.Groups.{groups}
 use Rattle.group_table.specs.Joined.{FitsGroup, IsWithin, joined}
 use Rattle.group_table.proofs.Within.{groups_grow, joined_fit}
 use Rattle.row_blocks.specs.Blocks.{Block}
-use Rattle.block_scan.specs.Held.{blocks_held, rows_held}
+use Rattle.row_blocks.specs.Held.{blocks_held, rows_held}
 use Rattle.block_scan.specs.Seen.{IsFolded, SeenBlock, StandFor, seen_rows}
 use Rattle.block_scan.proofs.Scanned.{held_split}
 

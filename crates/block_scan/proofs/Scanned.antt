@@ -16,7 +16,7 @@ use Rattle.group_table.specs.Joined.{joined}
 use Rattle.group_table.proofs.Laws.{groups-append, joined-nil}
 use Rattle.row_blocks.specs.declared.column.BlockColumn.{BlockColumn}
 use Rattle.row_blocks.specs.Blocks.{Block, IsBlock, row_at, rows_in}
-use Rattle.block_scan.specs.Held.{IsSkip, block_rows, blocks_held, live_rows, rows_held}
+use Rattle.row_blocks.specs.Held.{IsSkip, block_rows, blocks_held, live_rows, rows_held}
 use Rattle.block_scan.specs.Scanning.{block_steps, is_named, most_steps, named_columns}
 use Rattle.block_scan.specs.Seen.{SeenBlock, StandFor, named_block, seen, seen_rows}
 use Rattle.block_scan.proofs.Lists.{filter_mapped, map_alike, map_map, or_left}

@@ -1,4 +1,3 @@
-pub mod Held
 pub mod Scanning
 pub mod Reads
 pub mod Seen

@@ -8,7 +8,7 @@ use Rattle.leaf_model.specs.declared.groups.Group.{Group}
 use Rattle.leaf_model.specs.Groups.{groups}
 use Rattle.group_table.specs.Joined.{IsWithin}
 use Rattle.row_blocks.specs.Blocks.{Block}
-use Rattle.block_scan.specs.Held.{blocks_held, live_rows}
+use Rattle.row_blocks.specs.Held.{blocks_held, live_rows}
 use Rattle.block_scan.specs.Scanning.{named_columns}
 
 -- a block, and which of its rows are held: those behind a cut, from a horizon on

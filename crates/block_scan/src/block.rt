@@ -3,7 +3,7 @@ ghost use Rattle.std.specs.Prelude.{◌≡◌, ℕ, ◌+◌, ◌≤◌, true, fa
 ghost use Rattle.std.specs.List.{AllByRecursion};
 ghost use Rattle.leaf_model.specs.Groups.{groups};
 ghost use Rattle.row_blocks.specs.Blocks.{AreTimes, IsOther};
-ghost use Rattle.block_scan.specs.Held.{IsSkip, live_rows};
+ghost use Rattle.row_blocks.specs.Held.{IsSkip, live_rows};
 ghost use Rattle.block_scan.specs.Scanning.{meets, most_steps, named_columns};
 ghost use Rattle.block_scan.specs.Seen.{StandFor, named_block, seen};
 

@@ -4,7 +4,7 @@ ghost use Rattle.std.specs.List.{AllByRecursion};
 ghost use Rattle.leaf_model.specs.Groups.{groups, passes};
 ghost use Rattle.group_table.specs.Joined.{IsWithin};
 ghost use Rattle.row_blocks.specs.Blocks.{AreTimes};
-ghost use Rattle.block_scan.specs.Held.{live_rows};
+ghost use Rattle.row_blocks.specs.Held.{live_rows};
 ghost use Rattle.block_scan.specs.Reads.{IsRead, columns_of, row_of};
 ghost use Rattle.block_scan.specs.Slots.{AreSlots};
 

@@ -3,7 +3,7 @@ ghost use Rattle.std.specs.Prelude.{◌≡◌, ◌+◌, ◌≤◌, ◌^◌, leng
 ghost use Rattle.std.specs.List.{AllByRecursion};
 ghost use Rattle.leaf_model.specs.Groups.{groups};
 ghost use Rattle.group_table.specs.Joined.{IsWithin};
-ghost use Rattle.block_scan.specs.Held.{IsSkip, rows_held};
+ghost use Rattle.row_blocks.specs.Held.{IsSkip, rows_held};
 ghost use Rattle.block_scan.specs.Scanning.{most_steps};
 
 use crate::block::read_blocks;

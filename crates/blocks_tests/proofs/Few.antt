@@ -5,7 +5,7 @@ use Rattle.std.proofs.lemmas.List.Concat.{flat_map-append}
 use Rattle.std.proofs.lemmas.List.FromFn.{length-map-range_with_len}
 use Rattle.leaf_model.specs.declared.rows.Row.{Row}
 use Rattle.row_blocks.specs.Blocks.{Block, row_at, rows_in}
-use Rattle.block_scan.specs.Held.{block_rows, rows_held}
+use Rattle.row_blocks.specs.Held.{block_rows, rows_held}
 use Rattle.block_scan.proofs.Lists.{no_longer}
 
 pub few_more : (blocks : List Block) (i : ℕ) (b : Block) → i < length blocks → b ≡ get_or blocks i b → b.rows ≤ 65536 → length (block_rows (take i blocks)) ≤ 65536 * i

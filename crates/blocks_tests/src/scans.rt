@@ -2,7 +2,7 @@
 ghost use Rattle.std.specs.Prelude.{◌≡◌, ℕ, ◌<◌, ◌≤◌, ◌^◌, length, ℤ, IfOk, IfSome, IsTrue};
 ghost use Rattle.std.specs.List.{AllByRecursion};
 ghost use Rattle.leaf_model.specs.Values.{IsRow};
-ghost use Rattle.block_scan.specs.Held.{IsSkip, rows_held};
+ghost use Rattle.row_blocks.specs.Held.{IsSkip, rows_held};
 
 use block_scan::scan;
 use group_table::fold_rows;

@@ -7,3 +7,4 @@ pub mod Sealed
 pub mod Standing
 pub mod Accepted
 pub mod Adjacent
+pub mod LivePlaces

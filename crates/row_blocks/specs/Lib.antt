@@ -1,6 +1,8 @@
 pub mod Columns
 pub mod Headings
 pub mod Blocks
+pub mod Held
+pub mod Live
 pub mod Merging
 pub mod Places
 pub mod Times

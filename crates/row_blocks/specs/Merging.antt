@@ -16,6 +16,10 @@ use Rattle.row_blocks.specs.Blocks.{IsOther, cells_at}
 abbrev pub lent : List (Bor (List Cell)) → List (List Cell)
 lent rests = map (λ (rest : Bor (List Cell)). rest.now) rests
 
+-- what some rows that are lent are
+abbrev pub lent_rows : List (Bor Row) → List Row
+lent_rows rows = map (λ (row : Bor Row). row.now) rows
+
 abbrev pub cells_of_rows : List Row → List (List Cell)
 cells_of_rows rows = map (λ (row : Row). row.cells) rows
 

@@ -1,7 +1,9 @@
 // Blocks in order.
-ghost use Rattle.std.specs.Prelude.{◌≡◌};
+ghost use Rattle.std.specs.Prelude.{◌≡◌, ◌≤◌, ◌++◌, [], length, take, drop, filter, OnOk, OnErr};
+ghost use Rattle.row_blocks.specs.Live.{has_live};
 
 use crate::block::RowBlock;
+use std::alloc::{AllocError, Global};
 use std::marker::Model;
 
 /// Blocks in order. Contracts see them as the list.
@@ -20,6 +22,14 @@ impl Model for Blocks {
 }
 
 impl Blocks {
+    pub fn new(alloc: Global) -> Blocks
+        ensures { result ≡ [] }
+    {
+        Blocks {
+            inner: Vec::new(alloc),
+        }
+    }
+
     pub fn of(inner: Vec<RowBlock>) -> Blocks
         ensures { result ≡ inner.items }
     {
@@ -36,5 +46,37 @@ impl Blocks {
         ensures { result.items ≡ self }
     {
         self.inner
+    }
+
+    /// Puts blocks behind those that are there.
+    pub fn append(&mut self, mut more: Vec<RowBlock>) -> Result<(), AllocError>
+        ensures done { OnOk result (self.new ≡ self.old ++ more.items) }
+        ensures kept { OnErr result (self.new ≡ self.old) }
+    {
+        self.inner.append(&mut more)
+    }
+
+    /// Leaves the first blocks, at most so many.
+    pub fn truncate(&mut self, count: usize)
+        ensures { self.new ≡ take count self.old }
+    {
+        self.inner.truncate(count);
+    }
+
+    /// Lets go of the first blocks.
+    pub fn drop_first(&mut self, count: usize)
+        requires { count ≤ length self.old }
+        ensures { self.new ≡ drop count self.old }
+    {
+        let left = self.inner.len() - count;
+        self.inner.rotate_left(count);
+        self.inner.truncate(left);
+    }
+
+    /// Leaves the blocks of which some row is at or after the horizon. It takes no memory.
+    pub fn retain_live(&mut self, horizon: i64)
+        ensures { self.new ≡ filter (has_live horizon) self.old }
+    {
+        self.inner.retain(|block| block.has_live(horizon));
     }
 }

@@ -2,7 +2,7 @@
 ghost use Rattle.std.specs.Prelude.{◌≡◌, map, Option, option_map, IfOk};
 ghost use Rattle.leaf_model.specs.declared.rows.Cell.{Cell};
 ghost use Rattle.row_blocks.specs.Headings.{heading_of};
-ghost use Rattle.row_blocks.specs.Merging.{IsEarliest, cells_of_rows, earlier, front_value, lent, rest_after};
+ghost use Rattle.row_blocks.specs.Merging.{IsEarliest, cells_of_rows, earlier, front_value, lent, lent_rows, rest_after};
 
 use crate::headings::compare_cells;
 use leaf_model::{Cell, Row, Value};
@@ -10,8 +10,8 @@ use std::alloc::{AllocError, Global};
 use std::cmp::Ordering;
 
 /// The cells of each row.
-pub(crate) fn rests_of(alloc: Global, rows: &[Row]) -> Result<Vec<&[Cell]>, AllocError>
-    ensures { IfOk result (λ rests. lent rests.items ≡ cells_of_rows rows.now) }
+pub(crate) fn rests_of<'a>(alloc: Global, rows: &[&'a Row]) -> Result<Vec<&'a [Cell]>, AllocError>
+    ensures { IfOk result (λ rests. lent rests.items ≡ cells_of_rows (lent_rows rows.now)) }
 {
     let mut rests = Vec::with_capacity(alloc, rows.len())?;
     for row in rows {

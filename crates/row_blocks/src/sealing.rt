@@ -9,7 +9,7 @@ ghost use Rattle.column_bytes.specs.declared.kind.Kind.TheVariants.{Ints};
 ghost use Rattle.row_blocks.specs.Blocks.{AreTimes, rows_in, times_of};
 ghost use Rattle.row_blocks.specs.Columns.{MeanCells, cells_in};
 ghost use Rattle.row_blocks.specs.Headings.{heading, heading_of};
-ghost use Rattle.row_blocks.specs.Merging.{HoldCells, front_value, lent};
+ghost use Rattle.row_blocks.specs.Merging.{HoldCells, front_value, lent, lent_rows};
 
 use crate::block::RowBlock;
 use crate::column::{BlockColumn, BlockColumns, ColumnBytes};
@@ -55,11 +55,11 @@ fn next_column(alloc: Global, like: &Cell, rests: &[&[Cell]]) -> Result<BlockCol
 }
 
 /// The columns of the rows' cells, in their order.
-fn other_columns(alloc: Global, rows: &[Row]) -> Result<Vec<BlockColumn>, AllocError>
-    requires some { 0 < length rows.now }
-    requires few { length rows.now ≤ 65536 }
-    requires rows { AllByRecursion IsRow rows.now }
-    ensures { IfOk result (λ columns. HoldCells rows.now columns.items) }
+fn other_columns(alloc: Global, rows: &[&Row]) -> Result<Vec<BlockColumn>, AllocError>
+    requires some { 0 < length (lent_rows rows.now) }
+    requires few { length (lent_rows rows.now) ≤ 65536 }
+    requires rows { AllByRecursion IsRow (lent_rows rows.now) }
+    ensures { IfOk result (λ columns. HoldCells (lent_rows rows.now) columns.items) }
 {
     let mut rests = rests_of(alloc, rows)?;
     let mut columns = Vec::new(alloc);
@@ -70,12 +70,12 @@ fn other_columns(alloc: Global, rows: &[Row]) -> Result<Vec<BlockColumn>, AllocE
     Ok(columns)
 }
 
-/// The block of 1 to 65,536 rows.
-pub fn seal(alloc: Global, rows: &[Row]) -> Result<RowBlock, AllocError>
+/// The block of 1 to 65,536 rows that are lent.
+pub fn seal_refs(alloc: Global, rows: &[&Row]) -> Result<RowBlock, AllocError>
     requires some { 0 < length rows.now }
     requires few { length rows.now ≤ 65536 }
-    requires rows { AllByRecursion IsRow rows.now }
-    ensures { IfOk result (λ block. rows_in block ≡ rows.now) }
+    requires rows { AllByRecursion IsRow (lent_rows rows.now) }
+    ensures { IfOk result (λ block. rows_in block ≡ lent_rows rows.now) }
 {
     let times = times_of(alloc, rows)?;
     let range = range_of(&times);
@@ -84,4 +84,25 @@ pub fn seal(alloc: Global, rows: &[Row]) -> Result<RowBlock, AllocError>
     columns.push(times_column(alloc, &times)?)?;
     columns.append(&mut others)?;
     Ok(RowBlock::of(rows.len() as u32, range, BlockColumns::of(columns)))
+}
+
+fn refs_to(alloc: Global, rows: &[Row]) -> Result<Vec<&Row>, AllocError>
+    ensures { IfOk result (λ refs. lent_rows refs.items ≡ rows.now) }
+{
+    let mut refs = Vec::with_capacity(alloc, rows.len())?;
+    for row in rows {
+        refs.push(row)?;
+    }
+    Ok(refs)
+}
+
+/// The block of 1 to 65,536 rows.
+pub fn seal(alloc: Global, rows: &[Row]) -> Result<RowBlock, AllocError>
+    requires some { 0 < length rows.now }
+    requires few { length rows.now ≤ 65536 }
+    requires rows { AllByRecursion IsRow rows.now }
+    ensures { IfOk result (λ block. rows_in block ≡ rows.now) }
+{
+    let refs = refs_to(alloc, rows)?;
+    seal_refs(alloc, refs.as_slice())
 }

@@ -2,6 +2,7 @@
 ghost use Rattle.std.specs.Prelude.{◌≡◌, ℕ, ◌<◌, length, map, slice_index_or, ℤ, pos, ◌≤ℤ◌, IfOk, Some};
 ghost use Rattle.leaf_model.specs.declared.rows.Value.TheVariants.{Int};
 ghost use Rattle.row_blocks.specs.Blocks.{IsAmong, IsRange, times_of};
+ghost use Rattle.row_blocks.specs.Merging.{lent_rows};
 
 use leaf_model::{Row, Value};
 use std::alloc::{AllocError, Global};
@@ -42,10 +43,14 @@ pub(crate) fn range_of(times: &[i64]) -> (i64, i64)
     (least_of(times), greatest_of(times))
 }
 
-pub(crate) fn times_of(alloc: Global, rows: &[Row]) -> Result<Vec<i64>, AllocError>
-    ensures { IfOk result (λ times. times.items ≡ times_of rows.now) }
+pub(crate) fn times_of(alloc: Global, rows: &[&Row]) -> Result<Vec<i64>, AllocError>
+    ensures { IfOk result (λ times. times.items ≡ times_of (lent_rows rows.now)) }
 {
-    rows.iter().map(|row| row.time).collect(alloc)
+    let mut times = Vec::with_capacity(alloc, rows.len())?;
+    for row in rows {
+        times.push(row.time)?;
+    }
+    Ok(times)
 }
 
 /// The cells of a column of times.

@@ -1,1 +1,4 @@
 mod Keeping
+mod Fronts
+mod Runs
+mod Stood

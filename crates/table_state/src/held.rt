@@ -1,12 +1,13 @@
 // Plain work on a table's rows.
 ghost use Rattle.std.specs.Prelude.{◌≡◌, ◌+◌, ◌-◌, ◌≤◌, ◌<◌, ◌++◌, drop, length, vec_len, vec_capacity, Err, IfOk};
-ghost use Rattle.leaf_model.specs.Content.{rows_from, last_rows};
+ghost use Rattle.leaf_model.specs.Content.{rows_from};
 ghost use Rattle.table_state.specs.Added.{added_rows, IsAdd};
 ghost use Rattle.table_state.specs.Tables.{most_rows};
 ghost use Rattle.table_state.specs.declared.fault.AddFault.TheVariants as fault;
 
 use crate::fault::AddFault;
 use leaf_model::{Row, Write};
+use std::alloc::{AllocError, Global};
 
 /// The most rows of a table.
 const MOST_ROWS: u64 = 1 << 40;
@@ -25,34 +26,30 @@ pub fn count_from(horizon: i64, rows: &[Row]) -> u64
     kept
 }
 
-/// Makes room for those of the new rows that are not late, unless there would be more than 2^40, and answers how many those are.
-pub fn make_room(rows: &mut Vec<Row>, horizon: i64, more: &[Row]) -> Result<u64, AddFault>
-    requires held { vec_len rows.old ≤ most_rows }
-    requires few { length more.now ≤ 100000 }
-    ensures rows { rows.new.items ≡ rows.old.items }
+/// Makes room in the tail for those of the new rows that are not late, unless there would be more than 2^40 rows, and answers how many those are.
+pub fn make_room(
+    live: u64,
+    tail: &mut Vec<Row>,
+    horizon: i64,
+    more: &[Row],
+) -> Result<u64, AddFault>
+    requires held { live + length tail.old.items ≤ most_rows }
+    requires few { length more.now ≤ most_rows }
+    ensures rows { tail.new.items ≡ tail.old.items }
     ensures few { IfOk result (λ kept. kept ≤ length more.now) }
     ensures count { IfOk result (λ kept. kept ≡ length (rows_from horizon more.now)) }
-    ensures fits { IfOk result (λ kept. length rows.old.items + kept ≤ most_rows) }
-    ensures room { IfOk result (λ kept. vec_len rows.new + kept ≤ vec_capacity rows.new) }
-    ensures full { result ≡ Err fault.Full → most_rows < length rows.old.items + length (rows_from horizon more.now) }
+    ensures fits { IfOk result (λ kept. live + length tail.old.items + kept ≤ most_rows) }
+    ensures room { IfOk result (λ kept. vec_len tail.new + kept ≤ vec_capacity tail.new) }
+    ensures full { result ≡ Err fault.Full → most_rows < live + length tail.old.items + length (rows_from horizon more.now) }
 {
     let kept = count_from(horizon, more);
-    if rows.len() as u64 + kept > MOST_ROWS {
+    if live + tail.len() as u64 + kept > MOST_ROWS {
         return Err(AddFault::Full);
     }
-    if rows.reserve(kept as usize).is_err() {
+    if tail.reserve(kept as usize).is_err() {
         return Err(AddFault::NoMemory);
     }
     Ok(kept)
-}
-
-/// Puts those of the new rows that are not late behind the others, for which there is room.
-pub fn admit(rows: &mut Vec<Row>, horizon: i64, mut more: Vec<Row>)
-    requires { vec_len rows.old + length (rows_from horizon more.items) ≤ vec_capacity rows.old }
-    ensures { rows.new.items ≡ rows.old.items ++ rows_from horizon more.items }
-{
-    retain_from(&mut more, horizon);
-    append_reserved(rows, &mut more);
 }
 
 /// Removes the rows below the horizon.
@@ -64,15 +61,15 @@ pub fn retain_from(rows: &mut Vec<Row>, horizon: i64)
     rows.retain(|row| row.time >= horizon);
 }
 
-/// Leaves the last n rows.
-pub fn retain_last(rows: &mut Vec<Row>, n: usize)
-    requires { n ≤ vec_len rows.old }
-    ensures rows { rows.new.items ≡ last_rows n rows.old.items }
+/// Lets go of the first rows.
+pub fn drop_first(rows: &mut Vec<Row>, count: usize)
+    requires { count ≤ vec_len rows.old }
+    ensures rows { rows.new.items ≡ drop count rows.old.items }
     ensures capacity { vec_capacity rows.new ≡ vec_capacity rows.old }
 {
-    let gone = rows.len() - n;
-    rows.rotate_left(gone);
-    rows.truncate(n);
+    let left = rows.len() - count;
+    rows.rotate_left(count);
+    rows.truncate(left);
 }
 
 /// Puts rows behind those that are there, for which there is room.
@@ -96,4 +93,15 @@ pub fn rows_of(write: Write) -> Vec<Row>
         Write::Expire(_) => unreachable!(),
         Write::Keep(_) => unreachable!(),
     }
+}
+
+/// A copy of rows.
+pub fn copy_rows(alloc: Global, rows: &[Row]) -> Result<Vec<Row>, AllocError>
+    ensures { IfOk result (λ copy. copy.items ≡ rows.now) }
+{
+    let mut copy = Vec::new(alloc);
+    for row in rows {
+        copy.push(row.copy()?)?;
+    }
+    Ok(copy)
 }

@@ -1,9 +1,11 @@
-//! One table: its rows, its horizon, and the record of the writes that the disk was not given.
+//! One table: its rows, as sealed blocks and a tail, its horizon, and the record of the writes that the disk was not given.
 #![tactic(auto)]
 
 mod fault;
+mod front;
 mod held;
 mod parts;
+mod sealing;
 mod table;
 
 pub use fault::{AddFault, Added};

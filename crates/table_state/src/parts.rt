@@ -1,10 +1,11 @@
 // What a table hands over.
-use leaf_model::TableRows;
+use row_blocks::Blocks;
 
-/// What a table hands over: its rows, its horizon, and how many writes it accepted.
+/// What a table hands over: its blocks, how many rows of the first are cut away, its horizon, and how many writes it accepted.
 #[derive(Drop)]
 pub struct Parts {
     pub horizon: i64,
     pub writes: u64,
-    pub rows: TableRows,
+    pub skip: u32,
+    pub blocks: Blocks,
 }

@@ -1,36 +1,45 @@
-// One table as a plain list of rows.
-ghost use Rattle.std.specs.Prelude.{◌≡◌, ◌≤◌, ◌<◌, ◌-◌, ◌^◌, None, IsOk, length};
+// One table: sealed blocks, and a tail of rows behind them.
+ghost use Rattle.std.specs.Prelude.{◌≡◌, ◌≤◌, ◌<◌, ◌-◌, ◌^◌, [], None, IfOk, length};
 ghost use Rattle.std.specs.List.{AllByRecursion};
 ghost use Rattle.leaf_model.specs.Values.{IsRow, IsTime, IsWrite};
 ghost use Rattle.leaf_model.specs.declared.writes.Write.TheVariants.{Add, Expire, Keep};
-ghost use Rattle.table_state.specs.Tables.{empty_table, contents_of, most_rows, replayed, Adds, IsHeld, IsPartsOf, MayWrite, Removes, Replays, Takes};
+ghost use Rattle.table_state.specs.Tables.{bare, empty_table, most_rows, no_store, replayed, Adds, IsHeld, IsParts, IsPartsOf, IsStored, MayWrite, Removes, Replays, Seals, Takes};
 
 use crate::fault::{AddFault, Added};
-use crate::held::{admit, make_room, retain_from, retain_last, rows_of};
+use crate::front::{copy_blocks, count_live, cut_front, leave_live};
+use crate::held::{copy_rows, drop_first, retain_from, rows_of};
 use crate::parts::Parts;
-use leaf_model::{Row, Rows, TableRows, Text, Write};
+use crate::sealing::{admit, prepare, seal_behind};
+use expiry::{cut_for, masks_and_cuts};
+use leaf_model::{Row, Rows, Text, Write};
+use row_blocks::Blocks;
 use row_records::Pending;
 use std::alloc::{AllocError, Global};
 use std::marker::Model;
 use std::mem::replace;
 
-/// Contracts see what it holds, how many writes it accepted, and the record of those that were not taken.
+/// Contracts see what it holds, how many writes it accepted, the record of those that were not taken, and how its rows stand.
 #[derive(Drop)]
 pub struct TableState {
-    rows: Vec<Row>,
+    blocks: Blocks,
+    skip: u32,
+    live: u64,
+    tail: Vec<Row>,
     horizon: i64,
     writes: u64,
     pending: Pending,
 }
 
 impl Model for TableState {
-    ghost use Rattle.table_state.specs.Tables.{Table, IsHeld};
+    ghost use Rattle.std.specs.Prelude.{◌++◌};
+    ghost use Rattle.table_state.specs.Tables.{Table};
+    ghost use Rattle.table_state.specs.Stored.{Stands, sealed_rows};
 
     ghost Value = { Table };
 
-    ghost view = { λ t. record { contents = record { rows = t.rows.items; horizon = t.horizon }; writes = t.writes; pending = t.pending } };
+    ghost view = { λ t. record { contents = record { rows = sealed_rows t.blocks t.skip t.horizon ++ t.tail.items; horizon = t.horizon }; writes = t.writes; pending = t.pending; store = record { blocks = t.blocks; skip = t.skip; tail = t.tail.items } } };
 
-    ghost invariant = { λ t. IsHeld (record { rows = t.rows.items; horizon = t.horizon }) };
+    ghost invariant = { λ t. Stands t.blocks t.skip t.tail.items t.horizon t.live };
 }
 
 impl TableState {
@@ -39,7 +48,10 @@ impl TableState {
         ensures { result ≡ empty_table }
     {
         TableState {
-            rows: Vec::new(alloc),
+            blocks: Blocks::new(alloc),
+            skip: 0,
+            live: 0,
+            tail: Vec::new(alloc),
             horizon: 0,
             writes: 0,
             pending: Pending::new(alloc),
@@ -52,13 +64,21 @@ impl TableState {
         requires rows { AllByRecursion IsRow rows }
         ensures { Adds table.now self.old rows result self.new }
     {
-        let kept = make_room(&mut self.rows, self.horizon, rows.as_slice())?;
+        let sealed = self.blocks.as_slice().len();
+        let kept = prepare(
+            self.live,
+            &mut self.blocks,
+            &mut self.tail,
+            self.horizon,
+            rows.as_slice(),
+        )?;
         let late = rows.as_slice().len() as u64 - kept;
         let write = Write::Add(rows);
         if self.pending.push(table, &write).is_err() {
+            self.blocks.truncate(sealed);
             return Err(AddFault::NoMemory);
         }
-        admit(&mut self.rows, self.horizon, rows_of(write));
+        self.live += admit(&mut self.tail, self.horizon, rows_of(write));
         self.writes += 1;
         Ok(Added { kept, late })
     }
@@ -69,10 +89,10 @@ impl TableState {
         requires horizon { IsTime horizon }
         ensures { Removes table.now self.old (Expire horizon) result self.new }
     {
+        let held = self.rows();
         self.pending.push(table, &Write::Expire(horizon))?;
-        let held = self.rows.len();
         self.raise_horizon(horizon);
-        Ok((held - self.rows.len()) as u64)
+        Ok(held - self.rows())
     }
 
     /// Leaves the last n rows in order of arrival, and answers how many it removed.
@@ -80,10 +100,10 @@ impl TableState {
         requires may { MayWrite table.now self.old }
         ensures { Removes table.now self.old (Keep n) result self.new }
     {
+        let held = self.rows();
         self.pending.push(table, &Write::Keep(n))?;
-        let held = self.rows.len();
         self.leave_last(n);
-        Ok((held - self.rows.len()) as u64)
+        Ok(held - self.rows())
     }
 
     /// One accepted write that the disk has already.
@@ -110,8 +130,14 @@ impl TableState {
         requires room { self.old.writes < 2 ^ 64 - 1 }
         ensures { Replays self.old (Add rows) result self.new }
     {
-        make_room(&mut self.rows, self.horizon, rows.as_slice())?;
-        admit(&mut self.rows, self.horizon, rows.into_inner());
+        prepare(
+            self.live,
+            &mut self.blocks,
+            &mut self.tail,
+            self.horizon,
+            rows.as_slice(),
+        )?;
+        self.live += admit(&mut self.tail, self.horizon, rows.into_inner());
         self.writes += 1;
         Ok(())
     }
@@ -120,24 +146,30 @@ impl TableState {
     fn raise_horizon(&mut self, horizon: i64)
         requires horizon { IsTime horizon }
         requires room { self.old.writes < 2 ^ 64 - 1 }
-        ensures written { self.new ≡ replayed self.old (Expire horizon) }
+        ensures written { bare self.new ≡ replayed self.old (Expire horizon) }
         ensures fewer { length self.new.contents.rows ≤ length self.old.contents.rows }
         ensures few { length self.new.contents.rows ≤ most_rows }
     {
+        masks_and_cuts();
         self.horizon = self.horizon.max(horizon);
-        retain_from(&mut self.rows, self.horizon);
+        self.skip = leave_live(&mut self.blocks, self.skip, self.horizon);
+        self.live = count_live(self.blocks.as_slice(), self.skip, self.horizon);
+        retain_from(&mut self.tail, self.horizon);
         self.writes += 1;
     }
 
     // The write of a keep.
     fn leave_last(&mut self, n: u64)
         requires { self.old.writes < 2 ^ 64 - 1 }
-        ensures written { self.new ≡ replayed self.old (Keep n) }
+        ensures written { bare self.new ≡ replayed self.old (Keep n) }
         ensures fewer { length self.new.contents.rows ≤ length self.old.contents.rows }
         ensures few { length self.new.contents.rows ≤ most_rows }
     {
-        let kept = n.min(self.rows.len() as u64) as usize;
-        retain_last(&mut self.rows, kept);
+        let gone = cut_for(self.live + self.tail.len() as u64, n);
+        let first = gone.min(self.live);
+        self.skip = cut_front(&mut self.blocks, self.skip, self.horizon, first);
+        self.live -= first;
+        drop_first(&mut self.tail, (gone - first) as usize);
         self.writes += 1;
     }
 
@@ -145,7 +177,7 @@ impl TableState {
     pub fn rows(&self) -> u64
         ensures { result ≡ length self.now.contents.rows }
     {
-        self.rows.len() as u64
+        self.live + self.tail.len() as u64
     }
 
     /// How many writes it accepted.
@@ -162,56 +194,138 @@ impl TableState {
         self.horizon
     }
 
-    /// All rows, in order of arrival.
-    pub fn tail_rows(&self) -> &[Row]
-        ensures rows { result.now ≡ self.now.contents.rows }
-        ensures held { IsHeld self.now.contents }
+    /// What holds of every table.
+    pub fn stands(&self)
+        ensures { IsStored self.now }
     {
-        self.rows.as_slice()
+        let _ = &self.tail;
+    }
+
+    /// The sealed blocks, in order of arrival.
+    pub fn blocks(&self) -> &Blocks
+        ensures { result.now ≡ self.now.store.blocks }
+    {
+        &self.blocks
+    }
+
+    /// The rows behind the blocks, in order of arrival.
+    pub fn tail_rows(&self) -> &[Row]
+        ensures { result.now ≡ self.now.store.tail }
+    {
+        self.tail.as_slice()
+    }
+
+    /// How many rows of the first block are cut away.
+    pub fn skip(&self) -> u32
+        ensures { result ≡ self.now.store.skip }
+    {
+        self.skip
+    }
+
+    /// How many blocks there are.
+    pub fn sealed(&self) -> u64
+        ensures { result ≡ length self.now.store.blocks }
+    {
+        self.blocks.as_slice().len() as u64
+    }
+
+    /// How many rows stand behind the blocks.
+    pub fn tail(&self) -> u32
+        ensures { result ≡ length self.now.store.tail }
+    {
+        self.tail.len() as u32
+    }
+
+    /// All rows, in order of arrival.
+    pub fn to_rows(&self, alloc: Global) -> Result<Vec<Row>, AllocError>
+        ensures { IfOk result (λ rows. rows.items ≡ self.now.contents.rows) }
+    {
+        let mut rows = copy_blocks(alloc, self.blocks.as_slice(), self.skip, self.horizon)?;
+        let mut tail = copy_rows(alloc, self.tail.as_slice())?;
+        rows.append(&mut tail)?;
+        Ok(rows)
     }
 
     /// Hands out the record of the writes since the last taking. It takes no memory.
     pub fn take_pending(&mut self) -> Pending
         ensures { Takes self.old result self.new }
     {
-        let none = Pending::new(*self.rows.allocator());
+        let none = Pending::new(*self.tail.allocator());
         replace(&mut self.pending, none)
     }
 
-    /// A plain list has no tail to seal.
+    /// Makes a block of the rows behind the blocks, unless there are none.
     pub fn seal_tail(&mut self) -> Result<(), AllocError>
-        ensures same { self.new ≡ self.old }
-        ensures done { IsOk result }
+        ensures { Seals self.old result self.new }
     {
+        if self.tail.is_empty() {
+            return Ok(());
+        }
+        seal_behind(&mut self.blocks, &self.tail)?;
+        self.live += self.tail.len() as u64;
+        self.tail.clear();
         Ok(())
     }
 
     /// Hands over what it holds.
     pub fn into_parts(self) -> Parts
-        requires { self.pending ≡ None }
-        ensures parts { IsPartsOf result self }
-        ensures held { IsHeld (contents_of result) }
+        requires none { self.pending ≡ None }
+        requires tail { self.store.tail ≡ [] }
+        ensures of { IsPartsOf result self }
+        ensures parts { IsParts result }
     {
         Parts {
             horizon: self.horizon,
             writes: self.writes,
-            rows: TableRows::of(self.rows),
+            skip: self.skip,
+            blocks: self.blocks,
         }
     }
 
-    /// A table that holds what was handed over, with nothing that was not taken.
+    /// A table that holds what was handed over, with nothing that was not taken. It takes no memory.
     pub fn from_parts(parts: Parts) -> TableState
-        requires { IsHeld (contents_of parts) }
-        ensures parts { IsPartsOf parts result }
+        requires { IsParts parts }
+        ensures of { IsPartsOf parts result }
         ensures pending { result.pending ≡ None }
     {
-        let rows = parts.rows.into_inner();
-        let pending = Pending::new(*rows.allocator());
+        let blocks = parts.blocks.into_inner();
+        let alloc = *blocks.allocator();
+        let live = count_live(blocks.as_slice(), parts.skip, parts.horizon);
         TableState {
-            rows,
+            blocks: Blocks::of(blocks),
+            skip: parts.skip,
+            live,
+            tail: Vec::new(alloc),
             horizon: parts.horizon,
             writes: parts.writes,
-            pending,
+            pending: Pending::new(alloc),
         }
+    }
+
+    /// A table that holds these rows under this horizon, with nothing that was not taken.
+    pub fn from_rows(
+        alloc: Global,
+        rows: Vec<Row>,
+        horizon: i64,
+        writes: u64,
+    ) -> Result<TableState, AllocError>
+        requires held { IsHeld (record { rows = rows.items; horizon = horizon }) }
+        ensures { IfOk result (λ t. bare t ≡ record { contents = record { rows = rows.items; horizon = horizon }; writes = writes; pending = None; store = no_store }) }
+    {
+        let mut blocks = Blocks::new(alloc);
+        let mut tail = Vec::new(alloc);
+        let Ok(_kept) = prepare(0, &mut blocks, &mut tail, horizon, rows.as_slice()) else {
+            return Err(AllocError);
+        };
+        let live = admit(&mut tail, horizon, rows);
+        Ok(TableState {
+            blocks,
+            skip: 0,
+            live,
+            tail,
+            horizon,
+            writes,
+            pending: Pending::new(alloc),
+        })
     }
 }

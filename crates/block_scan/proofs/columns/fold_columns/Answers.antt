@@ -8,7 +8,7 @@ use Rattle.leaf_model.specs.declared.groups.Group.{Group}
 use Rattle.leaf_model.specs.Groups.{groups, passes}
 use Rattle.group_table.specs.Joined.{IsWithin}
 use Rattle.row_blocks.specs.Blocks.{time_of, value_in}
-use Rattle.block_scan.specs.Held.{live_rows}
+use Rattle.row_blocks.specs.Held.{live_rows}
 use Rattle.block_scan.specs.Decoded.{conds_hold}
 use Rattle.block_scan.specs.Reads.{columns_of, is_wanted, row_of, wanted_places}
 use Rattle.block_scan.proofs.Decodes.{groups_narrow}

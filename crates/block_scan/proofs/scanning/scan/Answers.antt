@@ -9,7 +9,7 @@ use Rattle.leaf_model.specs.Content.{rows_from}
 use Rattle.leaf_model.specs.Groups.{groups}
 use Rattle.group_table.specs.Joined.{IsWithin}
 use Rattle.row_blocks.specs.Blocks.{Block}
-use Rattle.block_scan.specs.Held.{blocks_held}
+use Rattle.row_blocks.specs.Held.{blocks_held}
 use Rattle.block_scan.specs.Seen.{SeenBlock, StandFor, seen_rows}
 use Rattle.block_scan.proofs.Lists.{if_ok}
 use Rattle.block_scan.proofs.Scanned.{held_split}

@@ -1,5 +1,5 @@
 use Rattle.std.proofs.Common.{◌≤◌, ◌*◌, length, take}
-use Rattle.block_scan.specs.Held.{block_rows}
+use Rattle.row_blocks.specs.Held.{block_rows}
 use Rattle.blocks_tests.proofs.scans.are_few.Given as goal
 
 abbrev pub invariant-loop-block : goal.invariant-loop-block

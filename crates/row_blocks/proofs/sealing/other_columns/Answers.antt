@@ -5,19 +5,19 @@ use Rattle.column_bytes.specs.Coding.{AreOfKind}
 use Rattle.row_blocks.specs.declared.column.BlockColumn.{BlockColumn}
 use Rattle.row_blocks.specs.Columns.{MeanCells, cells_in}
 use Rattle.row_blocks.specs.Headings.{heading_of}
-use Rattle.row_blocks.specs.Merging.{AreTaken, IsEarliest, cells_left, front_value, lent, rest_after}
+use Rattle.row_blocks.specs.Merging.{AreTaken, IsEarliest, cells_left, front_value, lent, lent_rows, rest_after}
 use Rattle.row_blocks.proofs.Taking.{fronts_are_of_kind, left_smaller, none_taken, one_more_taken, rest_are}
 use Rattle.row_blocks.proofs.sealing.other_columns.Goals as goal
 
 pub loop-like-init : goal.loop-like-init
-loop-like-init c = subst (λ (columns : List BlockColumn). AreTaken c.args.rows.now columns (lent c.in_ok-rests.rests.items)) (sym c.new-columns.ensures.items)
-    (none_taken c.args.rows.now (lent c.in_ok-rests.rests.items) c.in_ok-rests.ensures)
+loop-like-init c = subst (λ (columns : List BlockColumn). AreTaken (lent_rows c.args.rows.now) columns (lent c.in_ok-rests.rests.items)) (sym c.new-columns.ensures.items)
+    (none_taken (lent_rows c.args.rows.now) (lent c.in_ok-rests.rests.items) c.in_ok-rests.ensures)
 
 pub next_column-requires-clause-kind : goal.next_column-requires-clause-kind
 next_column-requires-clause-kind c =
     let h = heading_of c.in-Some.like.now in
     subst (λ (items : List (Bor (List Cell))). AreOfKind h.kind (map (front_value h) (lent items))) (sym c.deref-in-Some.ensures.value)
-    (fronts_are_of_kind h (lent c.loop-like.rests.items) (λ i within. rest_are c.args.rows.now c.loop-like.columns.items (lent c.loop-like.rests.items) i c.requires.rows c.loop-like.invariant within))
+    (fronts_are_of_kind h (lent c.loop-like.rests.items) (λ i within. rest_are (lent_rows c.args.rows.now) c.loop-like.columns.items (lent c.loop-like.rests.items) i c.requires.rows c.loop-like.invariant within))
 
 pub loop-like-smaller : goal.loop-like-smaller
 loop-like-smaller c =
@@ -34,7 +34,7 @@ loop-like-smaller c =
 pub loop-like-preserved : goal.loop-like-preserved
 loop-like-preserved c =
     let h = heading_of c.in-Some.like.now in let items = c.loop-like.rests.items in let column = c.in_ok-next_column.field-0 in
-    let rows = c.args.rows.now in let columns = c.loop-like.columns.items in
+    let rows = (lent_rows c.args.rows.now) in let columns = c.loop-like.columns.items in
     let first : IsEarliest (Some c.in-Some.like.now) (lent items) = subst (λ (l : List (Bor (List Cell))). IsEarliest (Some c.in-Some.like.now) (lent l)) c.deref.ensures.value c.in-Some.ensures in
     let moved : lent c.move_on.new.rests ≡ map (rest_after h) (lent items) = c.move_on.ensures ∙ ap (λ (l : List (Bor (List Cell))). map (rest_after h) (lent l)) c.deref_mut.ensures.value in
     let counted : length c.move_on.new.rests ≡ c.loop-like.rests.len

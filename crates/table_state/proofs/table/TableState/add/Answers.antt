@@ -1,14 +1,45 @@
-use Rattle.std.proofs.Common.{◌≡◌, ◌+◌, ◌≤◌, ◌++◌, List, length, sym, subst, rules}
+use Rattle.std.proofs.Common.{◌≡◌, ◌≤◌, ◌+◌, ◌-◌, ◌++◌, ℕ, List, Option, Some, length, drop, ap₂, ap, subst, to_z, of_z, ◌∙◌, arith, rules}
+use Rattle.std.specs.Int.{w64}
 use Rattle.leaf_model.specs.declared.rows.Row.{Row}
-use Rattle.leaf_model.specs.Content.{rows_from}
-use Rattle.table_state.specs.Tables.{IsHeld, most_rows}
-use Rattle.table_state.proofs.Keeping.{held_added}
+use Rattle.leaf_model.specs.declared.writes.Write.TheVariants.{Add}
+use Rattle.leaf_model.specs.Content.{content_after, kept_count, late_count, rows_from}
+use Rattle.row_records.specs.Records.{LogRecord}
+use Rattle.row_records.specs.Pending.{with_push}
+use Rattle.table_state.specs.Stored.{in_runs, sealed_rows}
+use Rattle.table_state.specs.Tables.{Table, bare, most_rows, no_store, replayed, table_with_write}
+use Rattle.table_state.proofs.Stood.{add_rows, add_stands, held_count}
 use Rattle.table_state.proofs.table.TableState.add.Goals as goal
 
 pub invariant_of-self-2 : goal.invariant_of-self-2
 invariant_of-self-2 c =
-    let h = c.self.inside.horizon in
-    let few : length c.self.inside.rows.items + length (rows_from h c.args.rows) ≤ most_rows = search rules in
-    let all : c.admit.new.rows.items ≡ c.self.inside.rows.items ++ rows_from h c.args.rows = search rules in
-    let P : List Row → Type 0 = λ rows. IsHeld (record { rows = rows; horizon = h }) in
-    subst P (sym all) (held_added h c.self.inside.rows.items c.args.rows c.self.invariant c.requires.rows few)
+    let t = c.self.inside in let h = t.horizon in let all = t.tail.items ++ rows_from h c.args.rows in
+    let lent : c.as_slice.result.now ≡ c.args.rows = search rules in
+    let at : to_z w64 (of_z w64 h) ≡ h = search rules in
+    let rest : c.admit.new.tail.items ≡ drop (in_runs (length all)) all = search rules in
+    let count : c.admit.result ≡ in_runs (length all) = search rules in
+    let few : t.live + length t.tail.items + length (rows_from h c.args.rows) ≤ most_rows = search rules in
+    add_stands t.blocks t.skip t.tail.items h t.live c.self.invariant c.args.rows c.as_slice.result.now c.requires.rows lent (to_z w64 (of_z w64 h)) at c.prepare.new.blocks c.in_ok-kept.ensures.sealed c.admit.new.tail.items rest
+    c.admit.result count few
+
+pub returns : goal.returns
+returns c =
+    let t = c.self.inside in let h = t.horizon in let all = t.tail.items ++ rows_from h c.args.rows in
+    let lent : c.as_slice.result.now ≡ c.args.rows = search rules in
+    let at : to_z w64 (of_z w64 h) ≡ h = search rules in
+    let rest : c.admit.new.tail.items ≡ drop (in_runs (length all)) all = search rules in
+    let kept : c.in_ok-kept.kept ≡ length (rows_from h c.args.rows) = search rules in
+    let len : length c.as_slice-2.result.now ≡ length c.args.rows = search rules in
+    let pushed : c.push.new.self ≡ Some (with_push c.args.table.now (Add c.args.rows) t.pending) = search rules in
+    let table : Table = record { contents = record { rows = sealed_rows c.prepare.new.blocks t.skip h ++ c.admit.new.tail.items; horizon = h }; writes = t.writes + 1; pending = c.push.new.self; store = no_store } in
+    let made : List Row → Option LogRecord → Table = λ rows p. record { contents = record { rows = rows; horizon = h }; writes = t.writes + 1; pending = p; store = no_store } in
+    let P : Table → Type 0
+    = λ x. (length x.contents.rows + kept_count x.contents c.args.rows ≤ most_rows) × (c.in_ok-kept.kept ≡ kept_count x.contents c.args.rows)
+    × (length c.as_slice-2.result.now - c.in_ok-kept.kept ≡ late_count x.contents c.args.rows) × (table ≡ table_with_write c.args.table.now x (Add c.args.rows)) in
+    subst P c.self.view_is (
+      omega (arith, held_count t.blocks t.skip t.tail.items h t.live c.self.invariant, c.in_ok-kept.ensures.fits, kept),
+      kept,
+      ap₂ (λ (m n : ℕ). m - n) len kept,
+      ap₂ made
+          (add_rows t.blocks t.skip t.tail.items h t.live c.self.invariant c.args.rows c.as_slice.result.now c.requires.rows lent (to_z w64 (of_z w64 h)) at c.prepare.new.blocks c.in_ok-kept.ensures.sealed c.admit.new.tail.items rest)
+          pushed,
+    )

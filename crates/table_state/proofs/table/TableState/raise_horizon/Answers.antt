@@ -1,17 +1,86 @@
-use Rattle.std.proofs.Common.{◌≡◌, List, sym, subst, rules}
-use mir.Val.{to_z, of_z}
-use mir.Syntax.{w64}
-use Rattle.leaf_model.specs.declared.rows.Row.{Row}
+use Rattle.std.proofs.Common.{◌≡◌, ◌≤◌, ◌+◌, ◌++◌, ℤ, List, length, to_z, of_z, sym, ap, ap₂, subst, ◌∙◌, arith, rules}
+use Rattle.std.specs.Int.{int_max, w64}
+use Rattle.std.proofs.lemmas.Int.{to_z-of_z}
+use Rattle.leaf_model.specs.declared.writes.Write.TheVariants.{Expire}
+use Rattle.leaf_model.specs.Content.{Contents, rows_from}
 use Rattle.leaf_model.specs.Values.{IsTime}
-use Rattle.leaf_model.specs.Content.{rows_from}
-use Rattle.table_state.specs.Tables.{IsHeld}
-use Rattle.table_state.proofs.Keeping.{held_expired}
+use Rattle.row_blocks.specs.Blocks.{Block}
+use Rattle.table_state.specs.Stored.{sealed_rows}
+use Rattle.table_state.specs.Tables.{Table, most_rows, no_store, replayed}
+use Rattle.table_state.proofs.Stood.{held_count, raised_contents, raised_few, raised_length, raised_stands}
 use Rattle.table_state.proofs.table.TableState.raise_horizon.Goals as goal
+
+pub count_live-self-inside-requires-clause-few : goal.count_live-self-inside-requires-clause-few
+count_live-self-inside-requires-clause-few c =
+    let t = c.self.inside in let left = c.leave_live-self-inside.new.blocks in let cut = c.leave_live-self-inside.result in
+    let now = to_z w64 (of_z w64 c.max-self-inside.result) in
+    let at : to_z w64 (of_z w64 t.horizon) ≡ t.horizon = search rules in
+    let fits : now ≡ c.max-self-inside.result = search rules in
+    let later = fits ∙ c.max-self-inside.ensures.value ∙ ap₂ int_max at (to_z-of_z w64 c.args.horizon c.ranges.horizon) in
+    let same : to_z w64 (of_z w64 now) ≡ now = ap (λ (z : ℤ). to_z w64 (of_z w64 z)) fits in
+    let rows = subst (λ (z : ℤ). sealed_rows left cut z ≡ sealed_rows t.blocks t.skip z) same c.leave_live-self-inside.ensures.rows in
+    let law = c.masks_and_cuts.ensures.horizons in
+    subst (λ (l : List Block). length (sealed_rows l cut (to_z w64 (of_z w64 now))) ≤ most_rows) (sym c.as_slice.ensures)
+    (subst (λ (z : ℤ). length (sealed_rows left cut z) ≤ most_rows) (sym same) (raised_few t.blocks t.skip t.tail.items t.horizon c.args.horizon now later t.live c.self.invariant law left cut rows))
 
 pub invariant_of-self : goal.invariant_of-self
 invariant_of-self c =
+    let t = c.self.inside in let left = c.leave_live-self-inside.new.blocks in let cut = c.leave_live-self-inside.result in
     let now = to_z w64 (of_z w64 c.max-self-inside.result) in
+    let at : to_z w64 (of_z w64 t.horizon) ≡ t.horizon = search rules in
+    let fits : now ≡ c.max-self-inside.result = search rules in
+    let later = fits ∙ c.max-self-inside.ensures.value ∙ ap₂ int_max at (to_z-of_z w64 c.args.horizon c.ranges.horizon) in
+    let same : to_z w64 (of_z w64 now) ≡ now = ap (λ (z : ℤ). to_z w64 (of_z w64 z)) fits in
+    let rows = subst (λ (z : ℤ). sealed_rows left cut z ≡ sealed_rows t.blocks t.skip z) same c.leave_live-self-inside.ensures.rows in
+    let law = c.masks_and_cuts.ensures.horizons in
+    let rest = subst (λ (z : ℤ). c.retain_from.new.rows.items ≡ rows_from z t.tail.items) same c.retain_from.ensures.rows in
     let time : IsTime now = search rules in
-    let all : c.retain_from.new.rows.items ≡ rows_from now c.self.inside.rows.items = search rules in
-    let P : List Row → Type 0 = λ rows. IsHeld (record { rows = rows; horizon = now }) in
-    subst P (sym all) (held_expired c.self.inside.horizon now c.self.inside.rows.items c.self.invariant time)
+    let count = c.count_live-self-inside.ensures ∙ ap₂ (λ (l : List Block) (z : ℤ). length (sealed_rows l cut z)) c.as_slice.ensures same in
+    raised_stands t.blocks t.skip t.tail.items t.horizon c.args.horizon now later t.live c.self.invariant law left cut rows c.retain_from.new.rows.items c.count_live-self-inside.result rest time
+    c.leave_live-self-inside.ensures.cut c.leave_live-self-inside.ensures.sealed count
+
+pub returns-clause-written : goal.returns-clause-written
+returns-clause-written c =
+    let t = c.self.inside in let left = c.leave_live-self-inside.new.blocks in let cut = c.leave_live-self-inside.result in
+    let now = to_z w64 (of_z w64 c.max-self-inside.result) in
+    let at : to_z w64 (of_z w64 t.horizon) ≡ t.horizon = search rules in
+    let fits : now ≡ c.max-self-inside.result = search rules in
+    let later = fits ∙ c.max-self-inside.ensures.value ∙ ap₂ int_max at (to_z-of_z w64 c.args.horizon c.ranges.horizon) in
+    let same : to_z w64 (of_z w64 now) ≡ now = ap (λ (z : ℤ). to_z w64 (of_z w64 z)) fits in
+    let rows = subst (λ (z : ℤ). sealed_rows left cut z ≡ sealed_rows t.blocks t.skip z) same c.leave_live-self-inside.ensures.rows in
+    let law = c.masks_and_cuts.ensures.horizons in
+    let rest = subst (λ (z : ℤ). c.retain_from.new.rows.items ≡ rows_from z t.tail.items) same c.retain_from.ensures.rows in
+    let made : Contents → Table = λ k. record { contents = k; writes = t.writes + 1; pending = t.pending; store = no_store } in
+    ap made (raised_contents t.blocks t.skip t.tail.items t.horizon c.args.horizon now later t.live c.self.invariant law left cut rows c.retain_from.new.rows.items rest)
+    ∙ ap (λ (x : Table). replayed x (Expire c.args.horizon)) c.self.view_is
+
+pub returns-clause-fewer : goal.returns-clause-fewer
+returns-clause-fewer c =
+    let t = c.self.inside in let left = c.leave_live-self-inside.new.blocks in let cut = c.leave_live-self-inside.result in
+    let now = to_z w64 (of_z w64 c.max-self-inside.result) in
+    let at : to_z w64 (of_z w64 t.horizon) ≡ t.horizon = search rules in
+    let fits : now ≡ c.max-self-inside.result = search rules in
+    let later = fits ∙ c.max-self-inside.ensures.value ∙ ap₂ int_max at (to_z-of_z w64 c.args.horizon c.ranges.horizon) in
+    let same : to_z w64 (of_z w64 now) ≡ now = ap (λ (z : ℤ). to_z w64 (of_z w64 z)) fits in
+    let rows = subst (λ (z : ℤ). sealed_rows left cut z ≡ sealed_rows t.blocks t.skip z) same c.leave_live-self-inside.ensures.rows in
+    let law = c.masks_and_cuts.ensures.horizons in
+    let rest = subst (λ (z : ℤ). c.retain_from.new.rows.items ≡ rows_from z t.tail.items) same c.retain_from.ensures.rows in
+    let P : Table → Type 0 = λ x. length (sealed_rows left cut now ++ c.retain_from.new.rows.items) ≤ length x.contents.rows in
+    subst P c.self.view_is (omega (
+      arith,
+      raised_length t.blocks t.skip t.tail.items t.horizon c.args.horizon now later t.live c.self.invariant law left cut rows c.retain_from.new.rows.items rest,
+      held_count t.blocks t.skip t.tail.items t.horizon t.live c.self.invariant,
+    ))
+
+pub returns-clause-few : goal.returns-clause-few
+returns-clause-few c =
+    let t = c.self.inside in let left = c.leave_live-self-inside.new.blocks in let cut = c.leave_live-self-inside.result in
+    let now = to_z w64 (of_z w64 c.max-self-inside.result) in
+    let at : to_z w64 (of_z w64 t.horizon) ≡ t.horizon = search rules in
+    let fits : now ≡ c.max-self-inside.result = search rules in
+    let later = fits ∙ c.max-self-inside.ensures.value ∙ ap₂ int_max at (to_z-of_z w64 c.args.horizon c.ranges.horizon) in
+    let same : to_z w64 (of_z w64 now) ≡ now = ap (λ (z : ℤ). to_z w64 (of_z w64 z)) fits in
+    let rows = subst (λ (z : ℤ). sealed_rows left cut z ≡ sealed_rows t.blocks t.skip z) same c.leave_live-self-inside.ensures.rows in
+    let law = c.masks_and_cuts.ensures.horizons in
+    let rest = subst (λ (z : ℤ). c.retain_from.new.rows.items ≡ rows_from z t.tail.items) same c.retain_from.ensures.rows in
+    omega (arith, raised_length t.blocks t.skip t.tail.items t.horizon c.args.horizon now later t.live c.self.invariant law left cut rows c.retain_from.new.rows.items rest, c.self.invariant.few)

@@ -1,0 +1,105 @@
+// The rows of a block that are at or after a horizon, counted and found without memory.
+ghost use Rattle.std.specs.Prelude.{◌≡◌, ◌<◌, ◌≤◌, length, drop, int_le};
+ghost use Rattle.row_blocks.specs.Held.{live_rows};
+ghost use Rattle.row_blocks.specs.Live.{AreTimesOf, has_live, time_at};
+
+use crate::block::RowBlock;
+use crate::reading::view_of;
+use column_bytes::{ColumnView, ValueRef};
+
+/// The times of the rows, as they are read.
+pub(crate) fn times_view(block: &RowBlock) -> ColumnView<'_>
+    ensures { AreTimesOf result block.now }
+{
+    block.is_block();
+    match block.columns() {
+        [] => unreachable!(),
+        [times, ..] => match view_of(times.bytes.as_slice()) {
+            Some(view) => view,
+            None => unreachable!(),
+        },
+    }
+}
+
+/// The time of the row at a place.
+pub(crate) fn time_at(block: &RowBlock, times: &ColumnView, place: u32) -> i64
+    requires times { AreTimesOf times.now block.now }
+    requires place { place < block.now.rows }
+    ensures { result ≡ time_at block.now place }
+{
+    match times.cell(place) {
+        Some(ValueRef::Int(time)) => time,
+        Some(ValueRef::Text(_)) | None => unreachable!(),
+    }
+}
+
+fn is_live(block: &RowBlock, times: &ColumnView, place: u32, horizon: i64) -> bool
+    requires times { AreTimesOf times.now block.now }
+    requires place { place < block.now.rows }
+    ensures { result ≡ int_le horizon (time_at block.now place) }
+{
+    horizon <= time_at(block, times, place)
+}
+
+fn count_from(block: &RowBlock, times: &ColumnView, skip: u32, horizon: i64) -> u32
+    requires times { AreTimesOf times.now block.now }
+    requires skip { skip ≤ block.now.rows }
+    ensures { result ≡ length (live_rows skip horizon block.now) }
+{
+    let mut live = 0;
+    for place in skip..block.rows() {
+        live += u32::from(is_live(block, times, place, horizon));
+    }
+    live
+}
+
+fn place_from(block: &RowBlock, times: &ColumnView, skip: u32, horizon: i64, n: u32) -> u32
+    requires times { AreTimesOf times.now block.now }
+    requires few { n < length (live_rows skip horizon block.now) }
+    ensures place { result < block.now.rows }
+    ensures left { live_rows result horizon block.now ≡ drop n (live_rows skip horizon block.now) }
+{
+    let mut left = n;
+    for place in skip..block.rows() {
+        if left == 0 {
+            return place;
+        }
+        left -= u32::from(is_live(block, times, place, horizon));
+    }
+    unreachable!()
+}
+
+impl RowBlock {
+    /// Whether some row is at or after the horizon.
+    pub fn has_live(&self, horizon: i64) -> bool
+        ensures { result ≡ has_live horizon self.now }
+    {
+        horizon <= self.range().1
+    }
+
+    /// How many of the rows behind the first `skip` are at or after the horizon. It takes no memory.
+    pub fn count_live(&self, skip: u32, horizon: i64) -> u32
+        requires { skip ≤ self.now.rows }
+        ensures { result ≡ length (live_rows skip horizon self.now) }
+    {
+        if horizon <= self.range().0 {
+            self.rows() - skip
+        } else {
+            count_from(self, &times_view(self), skip, horizon)
+        }
+    }
+
+    /// The place behind the first n of the rows that are behind the first `skip` and at or after the horizon. It takes no memory.
+    pub fn place_behind(&self, skip: u32, horizon: i64, n: u32) -> u32
+        requires { n < length (live_rows skip horizon self.now) }
+        ensures place { result < self.now.rows }
+        ensures left { live_rows result horizon self.now ≡ drop n (live_rows skip horizon self.now) }
+    {
+        self.is_block();
+        if horizon <= self.range().0 {
+            skip + n
+        } else {
+            place_from(self, &times_view(self), skip, horizon, n)
+        }
+    }
+}

@@ -1,0 +1,9 @@
+use Rattle.std.proofs.Common.{pos, rules}
+use Rattle.table_state.proofs.Stood.{none_stand, none_told}
+use Rattle.table_state.proofs.table.TableState.new.Goals as goal
+
+pub invariant_of-result : goal.invariant_of-result
+invariant_of-result c = none_stand c.new.result c.new-2.result.items (pos 0) c.new.ensures c.new-2.ensures.items (search rules)
+
+pub returns : goal.returns
+returns c = none_told c.new.result c.new-2.result.items c.new-3.result c.new.ensures c.new-2.ensures.items c.new-3.ensures

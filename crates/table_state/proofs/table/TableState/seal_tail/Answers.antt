@@ -1,0 +1,24 @@
+use Rattle.std.proofs.Common.{◌≡◌, ◌+◌, ◌++◌, ℕ, List, [], length, sym, ap, subst, ◌∙◌, rules}
+use Rattle.leaf_model.specs.declared.rows.Row.{Row}
+use Rattle.table_state.specs.Stored.{Stands, sealed_rows}
+use Rattle.table_state.specs.Tables.{Table, bare, no_store}
+use Rattle.table_state.proofs.Stood.{tail_rows, tail_stands}
+use Rattle.table_state.proofs.table.TableState.seal_tail.Goals as goal
+
+pub invariant_of-self-2 : goal.invariant_of-self-2
+invariant_of-self-2 c =
+    let t = c.self.inside in let now = c.seal_behind.new.blocks in
+    let count : c.len.result ≡ length t.tail.items = search rules in
+    subst (λ (l : List Row). Stands now t.skip l t.horizon (t.live + c.len.result)) (sym c.clear.ensures.items)
+    (subst (λ (n : ℕ). Stands now t.skip [] t.horizon (t.live + n)) (sym count)
+    (tail_stands t.blocks t.skip t.tail.items t.horizon t.live c.self.invariant now c.in_ok-seal_behind.ensures.sealed))
+
+pub returns : goal.returns
+returns c =
+    let t = c.self.inside in let now = c.seal_behind.new.blocks in (
+      ap (λ (rows : List Row). record { contents = record { rows = rows; horizon = t.horizon }; writes = t.writes; pending = t.pending; store = no_store })
+          (ap (λ (l : List Row). sealed_rows now t.skip t.horizon ++ l) c.clear.ensures.items
+          ∙ tail_rows t.blocks t.skip t.tail.items t.horizon t.live c.self.invariant now c.in_ok-seal_behind.ensures.sealed)
+          ∙ ap (λ (x : Table). bare x) c.self.view_is,
+      c.clear.ensures.items,
+    )

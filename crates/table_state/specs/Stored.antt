@@ -1,0 +1,45 @@
+-- Rows as they stand: sealed blocks, of the first of which some rows are cut away, and a tail behind them.
+use Rattle.std.specs.Prelude.{◌≡◌, ℕ, ◌+◌, ◌*◌, ◌/◌, ◌≤◌, List, [], ◌∷◌, ◌++◌, length, if◌then◌else◌, ℤ}
+use Rattle.std.specs.List.{AllByRecursion}
+use Rattle.leaf_model.specs.declared.rows.Row.{Row}
+use Rattle.leaf_model.specs.Values.{IsTime}
+use Rattle.row_blocks.specs.Blocks.{Block, IsBlock}
+use Rattle.row_blocks.specs.Held.{IsSkip, block_rows, blocks_held}
+use Rattle.row_blocks.specs.Live.{has_live}
+use Rattle.table_state.specs.Tables.{IsHeldRow, most_rows}
+
+-- of so many rows, how many stand in whole runs of 65,536
+abbrev pub in_runs : ℕ → ℕ
+in_runs n = n / 65536 * 65536
+
+-- the rows that the blocks hold
+unfoldable pub sealed_rows : List Block → ℕ → ℤ → List Row
+sealed_rows blocks skip horizon = blocks_held blocks skip horizon
+
+-- a cut ends inside the first block, or where it ends
+abbrev pub IsCut : ℕ → List Block → Type 0
+IsCut cut [] = cut ≡ 0
+IsCut cut (b ∷ blocks) = cut ≤ b.rows
+
+-- what a table's fields keep: the cut leaves some row of the first block, the tail is short and has no row below the horizon, and the live rows
+-- of the blocks are counted
+pub record Stands (blocks : List Block) (skip : ℕ) (tail : List Row) (horizon : ℤ) (live : ℕ) : Type 0 where
+  pub time : IsTime horizon
+  pub cut : IsSkip skip blocks
+  pub sealed : AllByRecursion IsBlock blocks
+  pub each : AllByRecursion (IsHeldRow horizon) tail
+  pub short : length tail ≤ 65535
+  pub counted : live ≡ length (sealed_rows blocks skip horizon)
+  pub few : live + length tail ≤ most_rows
+
+-- these rows were sealed behind the blocks
+pub record AreSealed (blocks : List Block) (rows : List Row) (now : List Block) : Type 0 where
+  pub more : List Block
+  pub is : now ≡ blocks ++ more
+  pub each : AllByRecursion IsBlock more
+  pub same : block_rows more ≡ rows
+
+-- the cut of what is left where blocks without a live row leave
+abbrev pub skip_left : ℕ → ℤ → List Block → ℕ
+skip_left skip horizon [] = 0
+skip_left skip horizon (b ∷ blocks) = if has_live horizon b then skip else 0

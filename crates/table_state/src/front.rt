@@ -1,0 +1,131 @@
+// The blocks of a table: how many of their rows are live, and how rows leave them.
+ghost use Rattle.std.specs.Prelude.{◌≡◌, ◌≤◌, drop, length, IfOk};
+ghost use Rattle.std.specs.List.{AllByRecursion};
+ghost use Rattle.row_blocks.specs.Blocks.{IsBlock};
+ghost use Rattle.row_blocks.specs.Held.{IsSkip, live_rows};
+ghost use Rattle.table_state.specs.Stored.{IsCut, sealed_rows, skip_left};
+ghost use Rattle.table_state.specs.Tables.{most_rows};
+
+use crate::held::{drop_first, retain_from};
+use leaf_model::Row;
+use row_blocks::{Blocks, RowBlock};
+use std::alloc::{AllocError, Global};
+
+/// How many blocks leave from the front, and how many rows of the next one are cut away.
+#[derive(Clone, Copy)]
+struct Front {
+    blocks: usize,
+    skip: u32,
+}
+
+/// How many live rows the blocks have. It takes no memory.
+pub fn count_live(blocks: &[RowBlock], skip: u32, horizon: i64) -> u64
+    requires cut { IsCut skip blocks.now }
+    requires few { length (sealed_rows blocks.now skip horizon) ≤ most_rows }
+    ensures { result ≡ length (sealed_rows blocks.now skip horizon) }
+{
+    let mut live = 0;
+    let mut cut = skip;
+    for block in blocks {
+        live += u64::from(block.count_live(cut, horizon));
+        cut = 0;
+    }
+    live
+}
+
+fn skip_left(blocks: &[RowBlock], skip: u32, horizon: i64) -> u32
+    ensures { result ≡ skip_left skip horizon blocks.now }
+{
+    match blocks {
+        [] => 0,
+        [first, ..] => { if first.has_live(horizon) { skip } else { 0 } }
+    }
+}
+
+/// Lets go of the blocks that have no row at or after the horizon, and answers how many rows of the first one are cut away then. It takes no memory.
+pub fn leave_live(blocks: &mut Blocks, skip: u32, horizon: i64) -> u32
+    requires cut { IsSkip skip blocks.old }
+    requires sealed { AllByRecursion IsBlock blocks.old }
+    ensures cut { IsSkip result blocks.new }
+    ensures sealed { AllByRecursion IsBlock blocks.new }
+    ensures rows { sealed_rows blocks.new result horizon ≡ sealed_rows blocks.old skip horizon }
+{
+    let left = skip_left(blocks.as_slice(), skip, horizon);
+    blocks.retain_live(horizon);
+    left
+}
+
+/// Where the first live rows end.
+fn front_of(blocks: &[RowBlock], skip: u32, horizon: i64, gone: u64) -> Front
+    requires cut { IsCut skip blocks.now }
+    requires few { gone ≤ length (sealed_rows blocks.now skip horizon) }
+    ensures blocks { result.blocks ≤ length blocks.now }
+    ensures cut { IsSkip result.skip (drop result.blocks blocks.now) }
+    ensures rows { sealed_rows (drop result.blocks blocks.now) result.skip horizon ≡ drop gone (sealed_rows blocks.now skip horizon) }
+{
+    let mut left = gone;
+    let mut cut = skip;
+    for i in 0..blocks.len() {
+        let live = blocks[i].count_live(cut, horizon);
+        if left < u64::from(live) {
+            let skip = blocks[i].place_behind(cut, horizon, left as u32);
+            return Front { blocks: i, skip };
+        }
+        left -= u64::from(live);
+        cut = 0;
+    }
+    Front {
+        blocks: blocks.len(),
+        skip: 0,
+    }
+}
+
+/// Lets go of the first live rows, with each block that they are the last of, and answers how many rows of the first block are cut away then.
+pub fn cut_front(blocks: &mut Blocks, skip: u32, horizon: i64, gone: u64) -> u32
+    requires cut { IsSkip skip blocks.old }
+    requires sealed { AllByRecursion IsBlock blocks.old }
+    requires few { gone ≤ length (sealed_rows blocks.old skip horizon) }
+    ensures cut { IsSkip result blocks.new }
+    ensures sealed { AllByRecursion IsBlock blocks.new }
+    ensures rows { sealed_rows blocks.new result horizon ≡ drop gone (sealed_rows blocks.old skip horizon) }
+{
+    let front = front_of(blocks.as_slice(), skip, horizon, gone);
+    blocks.drop_first(front.blocks);
+    front.skip
+}
+
+/// A copy of the live rows of a block.
+fn copy_block(
+    alloc: Global,
+    block: &RowBlock,
+    cut: u32,
+    horizon: i64,
+) -> Result<Vec<Row>, AllocError>
+    requires { cut ≤ block.now.rows }
+    ensures { IfOk result (λ rows. rows.items ≡ live_rows cut horizon block.now) }
+{
+    let mut rows = block.to_rows(alloc)?;
+    drop_first(&mut rows, cut as usize);
+    retain_from(&mut rows, horizon);
+    Ok(rows)
+}
+
+/// A copy of the live rows of the blocks.
+pub fn copy_blocks(
+    alloc: Global,
+    blocks: &[RowBlock],
+    skip: u32,
+    horizon: i64,
+) -> Result<Vec<Row>, AllocError>
+    requires { IsCut skip blocks.now }
+    ensures { IfOk result (λ rows. rows.items ≡ sealed_rows blocks.now skip horizon) }
+{
+    let mut rows = Vec::new(alloc);
+    let mut cut = skip;
+    for block in blocks {
+        let mut live = copy_block(alloc, block, cut, horizon)?;
+        rows.append(&mut live)?;
+        cut = 0;
+    }
+    Ok(rows)
+}
