@@ -17,12 +17,13 @@ use leaf_table::{ClosedTable, Taken};
 use row_records::Pending;
 use std::collections::VecDeque;
 use std::sync::Wait;
+use std::thread::Threads;
 use table_state::TableState;
 
 impl<'t> Seats<'t> {
     /// Takes the writes of the table in that place that were not taken, and notes that: how many it had accepted, and the record of the new ones.
     /// None where the seat has seen 2^62 entries: then no entry is made.
-    pub fn take<R: Wait, B: Berth, G: Gate>(
+    pub fn take<R: Wait + Threads + Sync, B: Berth, G: Gate>(
         &mut self,
         rt: &R,
         table: u32,
@@ -52,7 +53,7 @@ impl<'t> Seats<'t> {
     }
 
     /// Notes that the disk holds the first writes of the table in that place. The steward has taken as many.
-    pub fn flushed<R: Wait, B: Berth, G: Gate>(
+    pub fn flushed<R: Wait + Threads + Sync, B: Berth, G: Gate>(
         &mut self,
         rt: &R,
         table: u32,
@@ -74,7 +75,7 @@ impl<'t> Seats<'t> {
     }
 
     /// Shuts the table in that place, notes that, and hands out its content with the record of what was not taken, and how many writes it had accepted.
-    pub fn shut<R: Wait, B: Berth, G: Gate>(
+    pub fn shut<R: Wait + Threads + Sync, B: Berth, G: Gate>(
         &mut self,
         rt: &R,
         table: u32,
@@ -100,7 +101,7 @@ impl<'t> Seats<'t> {
     }
 
     /// Shuts each table from that place on, notes each, and drops what they held.
-    pub fn shut_rest<R: Wait, B: Berth, G: Gate>(
+    pub fn shut_rest<R: Wait + Threads + Sync, B: Berth, G: Gate>(
         &mut self,
         rt: &R,
         first: u32,
@@ -123,7 +124,7 @@ impl<'t> Seats<'t> {
     }
 
     /// Notes each table as handed over.
-    pub fn hand_over<R: Wait, B: Berth, G: Gate>(
+    pub fn hand_over<R: Wait + Threads + Sync, B: Berth, G: Gate>(
         &mut self,
         rt: &R,
         berth: &B,
@@ -143,7 +144,7 @@ impl<'t> Seats<'t> {
     }
 
     /// Opens each table with what is handed in, and notes that. No seat has seen 2^62 entries.
-    pub fn open_all<R: Wait, B: Berth, G: Gate>(
+    pub fn open_all<R: Wait + Threads + Sync, B: Berth, G: Gate>(
         &mut self,
         rt: &R,
         tables: Vec<TableState>,
@@ -172,7 +173,7 @@ impl<'t> Seats<'t> {
     }
 
     // Notes that the table in that place was drained.
-    fn hand<R: Wait, B: Berth, G: Gate>(
+    fn hand<R: Wait + Threads + Sync, B: Berth, G: Gate>(
         &mut self,
         rt: &R,
         table: u32,
@@ -194,7 +195,7 @@ impl<'t> Seats<'t> {
     }
 
     // Opens the table in that place, and notes that.
-    fn open<R: Wait, B: Berth, G: Gate>(
+    fn open<R: Wait + Threads + Sync, B: Berth, G: Gate>(
         &mut self,
         rt: &R,
         table: u32,

@@ -13,6 +13,7 @@ use group_table::fold_rows;
 use leaf_model::{Query, Rows, Text};
 use std::alloc::Global;
 use std::mem::replace;
+use std::thread::Threads;
 use table_state::{AddFault, TableState};
 use turnstile::Object;
 
@@ -130,7 +131,7 @@ impl Object for LeafTable {
 
     ghost may = { λ b h by turn. MayTurn b.base h by turn };
 
-    fn step(&mut self, call: Turn, _number: u64) -> Answer {
+    fn step<R: Threads + Sync>(&mut self, _rt: &R, call: Turn, _number: u64) -> Answer {
         match call {
             Turn::Add(rows) => self.add(rows),
             Turn::Expire(horizon) => self.expire(horizon),

@@ -2,6 +2,7 @@
 ghost use Rattle.std.specs.Prelude.{ℕ};
 
 use std::marker::Brand;
+use std::thread::Threads;
 
 /// One call and its reply. Its number is its place in the history, from 1.
 pub struct Entry<C, R> {
@@ -35,7 +36,7 @@ pub trait Object: Send + Drop {
     ghost use Rattle.turnstile.specs.Objects.{MayStep, Steps};
 
     /// Makes the call, whose entry has this number.
-    fn step(&mut self, call: Self::Call, number: u64) -> Self::Reply
+    fn step<R: Threads + Sync>(&mut self, rt: &R, call: Self::Call, number: u64) -> Self::Reply
         requires { MayStep legal stands may self.old call number }
         ensures { Steps legal stands may self.old call number result self.new };
 }
