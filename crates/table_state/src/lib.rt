@@ -5,7 +5,9 @@ mod fault;
 mod held;
 mod parts;
 mod table;
+mod tables;
 
 pub use fault::{AddFault, Added};
 pub use parts::Parts;
 pub use table::TableState;
+pub use tables::Tables;
