@@ -18,7 +18,7 @@ use row_records::Pending;
 use std::collections::VecDeque;
 use std::sync::Wait;
 use std::thread::Threads;
-use table_state::TableState;
+use table_state::{TableState, Tables};
 
 impl<'t> Seats<'t> {
     /// Takes the writes of the table in that place that were not taken, and notes that: how many it had accepted, and the record of the new ones.
@@ -147,24 +147,24 @@ impl<'t> Seats<'t> {
     pub fn open_all<R: Wait + Threads + Sync, B: Berth, G: Gate>(
         &mut self,
         rt: &R,
-        tables: Vec<TableState>,
+        tables: Tables,
         berth: &B,
         gate: &G,
         notes: &mut Notes,
     )
         requires none { notes.old ≡ [] }
-        requires one { length tables.items ≡ length self.old.tables }
+        requires one { length tables ≡ length self.old.tables }
         requires shut { AtEach (λ place t v. IsShut t v) self.old }
         requires fresh { AtEach (λ place t v. IsFresh v) self.old }
         requires content { (place : ℕ) (t : Shared) (v : SeatView) (table : Table) → slice_get self.old.tables place ≡ Some t → slice_get self.old.seats place ≡ Some v
-            → slice_get tables.items place ≡ Some table → MayHandIn (is_founded (base_seen t)) (state_seen (base_seen t) v) table.writes table }
+            → slice_get tables place ≡ Some table → MayHandIn (is_founded (base_seen t)) (state_seen (base_seen t) v) table.writes table }
         ensures made { Makes (B.meaning berth.now).clock (B.meaning berth.now).clock self.old notes.new self.new }
-        ensures each { OpenedNotes 0 tables.items notes.new }
+        ensures each { OpenedNotes 0 tables notes.new }
         ensures open_ { AtEach (λ place t v. IsOpen t v) self.new }
         ensures spares { AtEach (λ place t v. Spares 1000 t v) self.new }
     {
         self.sits();
-        let mut rest = VecDeque::from_vec(tables);
+        let mut rest = VecDeque::from_vec(tables.into_inner());
         let mut table = 0;
         while let Some(content) = rest.pop_front() {
             self.open(rt, table, content, berth, gate, notes);
