@@ -29,7 +29,7 @@ NamesNobody NoMemory = ⊤
 
 -- the tables of these names out of those of the image, or the first that has none of them
 abbrev pub Arranges : List (List ℕ) → Image → Result Adopted AdoptFault → Type 0
-Arranges names image (Ok a) = (stranger_of names image.tables ≡ None) × (a.tables.items ≡ tables_of names image.tables) × (a.log_end ≡ image.log_end)
+Arranges names image (Ok a) = (stranger_of names image.tables ≡ None) × (a.tables ≡ tables_of names image.tables) × (a.log_end ≡ image.log_end)
 Arranges names image (Err RegionFault) = ⊥
 Arranges names image (Err (Stranger name)) = stranger_of names image.tables ≡ Some name
 Arranges names image (Err NoMemory) = ⊤

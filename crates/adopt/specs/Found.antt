@@ -51,7 +51,7 @@ IsWhy region why.NoImage = (head_of region ≡ head.Version layout) × IsNoImage
 -- the tables of these names out of the region's image, none of whose tables has another name; or the region is none
 abbrev pub IsFound : List (List ℕ) → List ℕ → Found → Type 0
 IsFound names region (NoTables w) = IsWhy region w
-IsFound names region (Tables a) = (images : List TableImage) × IsImage layout region images a.log_end × (stranger_of names images ≡ None) × (a.tables.items ≡ tables_of names images)
+IsFound names region (Tables a) = (images : List TableImage) × IsImage layout region images a.log_end × (stranger_of names images ≡ None) × (a.tables ≡ tables_of names images)
 
 -- after a fault of the region: it has its length and its bytes, but for the flag where that was open
 pub record IsBroken (old new : List ℕ) : Type 0 where
@@ -73,7 +73,7 @@ Adopts names old new (Err NoMemory) = new ≡ left_behind old
 -- On every berth, whether it tells its contents or not: one table for each name, none of which owes the log anything, and what a log can be told.
 abbrev pub AreAdopted : ℕ → Found → Type 0
 AreAdopted count (NoTables w) = ⊤
-AreAdopted count (Tables a) = (length a.tables.items ≡ count) × AllByRecursion (λ t. (t.pending ≡ None) × (t.writes < 2 ^ 63)) a.tables.items × (a.log_end < 2 ^ 63)
+AreAdopted count (Tables a) = (length a.tables ≡ count) × AllByRecursion (λ t. (t.pending ≡ None) × (t.writes < 2 ^ 63)) a.tables × (a.log_end < 2 ^ 63)
 
 -- A pair of a moment of an adoption comes from one before: the disk is the same; the region is lost, or has its length and its bytes but for the flag where
 -- that was open.

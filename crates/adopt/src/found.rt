@@ -5,7 +5,7 @@ ghost use Rattle.adopt.specs.declared.found.AdoptFault.TheVariants.{RegionFault,
 use berth_face::Failed;
 use leaf_model::Text;
 use std::alloc::AllocError;
-use table_state::TableState;
+use table_state::Tables;
 
 /// Why the region is no image of tables.
 #[derive(Clone, Copy, Debug, PartialEq, Eq)]
@@ -23,7 +23,7 @@ pub enum WhyDisk {
 /// One table for each name, in their order; a table that the image does not name is empty. And where the log ends.
 #[derive(Drop)]
 pub struct Adopted {
-    pub tables: Vec<TableState>,
+    pub tables: Tables,
     pub log_end: u64,
 }
 

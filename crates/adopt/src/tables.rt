@@ -2,6 +2,7 @@
 ghost use Rattle.std.specs.Prelude.{◌≡◌, None, Some, IfOk, IfErr, OnOk};
 ghost use Rattle.std.specs.List.{AllByRecursion, list_any, position};
 ghost use Rattle.std.specs.Str.{bytes_eq};
+ghost use Rattle.table_state.specs.Tables.{bare};
 ghost use Rattle.region_layout.specs.Images.{is_named, table_named, table_of, tables_of};
 ghost use Rattle.leaf_model.specs.Names.{AreDistinct};
 ghost use Rattle.region_layout.specs.Region.{IsTableImage};
@@ -12,7 +13,7 @@ use crate::found::{AdoptFault, Adopted};
 use leaf_model::Text;
 use region_layout::{Image, TableImage};
 use std::alloc::{AllocError, Global};
-use table_state::{Parts, TableState};
+use table_state::{TableState, Tables};
 
 /// For each name its table, where no table of the image has another.
 pub fn adopt_tables(alloc: Global, names: &[Text], image: Image) -> Result<Adopted, AdoptFault>
@@ -61,27 +62,31 @@ fn arranged(
     alloc: Global,
     names: &[Text],
     mut images: Vec<TableImage>,
-) -> Result<Vec<TableState>, AllocError>
+) -> Result<Tables, AllocError>
     requires distinct { AreDistinct names.now }
     requires each { AllByRecursion IsTableImage images.items }
-    ensures { IfOk result (λ tables. tables.items ≡ tables_of names.now images.items) }
+    ensures { IfOk result (λ tables. tables ≡ tables_of names.now images.items) }
 {
     let mut tables = Vec::with_capacity(alloc, names.len())?;
     for name in names {
-        tables.push(take_named(alloc, name.as_str(), &mut images))?;
+        tables.push(take_named(alloc, name.as_str(), &mut images)?)?;
     }
-    Ok(tables)
+    Ok(Tables::of(tables))
 }
 
 /// Takes the table of that name, and where there is none an empty one.
-fn take_named(alloc: Global, name: &str, images: &mut Vec<TableImage>) -> TableState
+fn take_named(
+    alloc: Global,
+    name: &str,
+    images: &mut Vec<TableImage>,
+) -> Result<TableState, AllocError>
     requires { AllByRecursion IsTableImage images.old.items }
-    ensures taken { result ≡ table_of (table_named images.old.items name.now) }
+    ensures taken { IfOk result (λ t. bare t ≡ table_of (table_named images.old.items name.now)) }
     ensures left { images.new.items ≡ without name.now images.old.items }
 {
     match place_of(name, images) {
-        Some(place) => table_in(images.remove(place)),
-        None => TableState::new(alloc),
+        Some(place) => table_in(alloc, images.remove(place)),
+        None => Ok(TableState::new(alloc)),
     }
 }
 
@@ -91,13 +96,9 @@ fn place_of(name: &str, images: &[TableImage]) -> Option<usize>
     images.iter().position(|image| image.name.as_str() == name)
 }
 
-fn table_in(image: TableImage) -> TableState
+fn table_in(alloc: Global, image: TableImage) -> Result<TableState, AllocError>
     requires { IsTableImage image }
-    ensures { result ≡ table_of image }
+    ensures { IfOk result (λ t. bare t ≡ table_of image) }
 {
-    TableState::from_parts(Parts {
-        horizon: image.horizon,
-        writes: image.writes,
-        rows: image.rows,
-    })
+    TableState::from_rows(alloc, image.rows.into_inner(), image.horizon, image.writes)
 }

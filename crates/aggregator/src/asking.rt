@@ -72,7 +72,7 @@ fn ask_both<'q, R: Threads + Wait + Sync, G: Gate>(
 }
 
 // Asks the first leaf, where there is a seat at it.
-fn ask_first<'q, R: Wait, G: Gate>(
+fn ask_first<'q, R: Wait + Threads + Sync, G: Gate>(
     rt: &R,
     gate: &G,
     question: &Question<'q>,
@@ -90,7 +90,7 @@ fn ask_first<'q, R: Wait, G: Gate>(
 }
 
 // Asks one leaf.
-fn ask_leaf<'q, R: Wait, G: Gate>(
+fn ask_leaf<'q, R: Wait + Threads + Sync, G: Gate>(
     rt: &R,
     gate: &G,
     question: &Question<'q>,

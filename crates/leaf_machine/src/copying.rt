@@ -16,6 +16,7 @@ use drain_copy::{Drain, DrainStep};
 use leaf_steward::{Notes, Seats};
 use std::marker::Model;
 use std::sync::Wait;
+use std::thread::Threads;
 
 /// A leaf that copies its tables into the region. It borrows them, all of which are shut, and owns its steward's seats and its berth. Contracts see them.
 #[derive(Drop)]
@@ -45,7 +46,7 @@ pub enum Copied<'t, B: Berth> {
 impl<'t, B: Berth> Copying<'t, B> {
     /// Makes one step of the copy: the region is begun; all is written but the flag; the flag is written, and each table is noted as handed over.
     /// A fault leaves the leaf at rest. It takes no memory.
-    pub fn step<R: Wait, G: Gate>(
+    pub fn step<R: Wait + Threads + Sync, G: Gate>(
         self,
         rt: &R,
         gate: &G,

@@ -27,6 +27,7 @@ use log_steward::StewardLog;
 use std::alloc::{AllocError, Global};
 use std::marker::Model;
 use std::sync::Wait;
+use std::thread::Threads;
 use table_state::TableState;
 
 /// Why a step did not end. It may be made again.
@@ -102,7 +103,7 @@ impl<'t, B: Berth> Preparing<'t, B> {
 
     /// Settles what the log is owed and notes its table as flushed. Then it treats the next table: it shuts it, settles what it accepted since the last
     /// taking, and notes it as closed and as flushed. Where all tables are treated it plans the copy of them into the region.
-    pub fn step<R: Wait, G: Gate>(
+    pub fn step<R: Wait + Threads + Sync, G: Gate>(
         self,
         rt: &R,
         alloc: Global,
@@ -130,7 +131,12 @@ impl<'t, B: Berth> Preparing<'t, B> {
     }
 
     /// Shuts each open table and notes it as closed, and drops what they all held. It calls nothing of the berth and takes no memory.
-    pub fn kill<R: Wait, G: Gate>(self, rt: &R, gate: &G, notes: &mut Notes) -> Down<'t, B>
+    pub fn kill<R: Wait + Threads + Sync, G: Gate>(
+        self,
+        rt: &R,
+        gate: &G,
+        notes: &mut Notes,
+    ) -> Down<'t, B>
         ensures berth { result.1 ≡ self.entry.1 }
         ensures made { Makes (B.meaning self.entry.1).clock (B.meaning self.entry.1).clock self.entry.0.serving.seated notes.new result.0 }
         ensures each { (count : ℕ) × (length self.entry.0.closed + count ≡ length self.entry.0.serving.seated.tables) × EachNoted IsClosedNote (length self.entry.0.closed) count notes.new }
@@ -203,7 +209,7 @@ impl<'t, B: Berth> Preparing<'t, B> {
     }
 
     // Treats one table more.
-    fn treat_next<R: Wait, G: Gate>(
+    fn treat_next<R: Wait + Threads + Sync, G: Gate>(
         &mut self,
         rt: &R,
         gate: &G,
@@ -226,7 +232,7 @@ impl<'t, B: Berth> Preparing<'t, B> {
     }
 
     // Settles what the log is owed, and notes its table as flushed.
-    fn settle<R: Wait, G: Gate>(
+    fn settle<R: Wait + Threads + Sync, G: Gate>(
         &mut self,
         rt: &R,
         gate: &G,
@@ -246,7 +252,7 @@ impl<'t, B: Berth> Preparing<'t, B> {
     }
 
     // Shuts the next table and brings its record onto the disk, where nothing is owed.
-    fn shut_next<R: Wait, G: Gate>(
+    fn shut_next<R: Wait + Threads + Sync, G: Gate>(
         &mut self,
         rt: &R,
         gate: &G,

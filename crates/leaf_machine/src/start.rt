@@ -23,12 +23,13 @@ use leaf_steward::Notes;
 use log_steward::StewardLog;
 use std::alloc::Global;
 use std::sync::Wait;
+use std::thread::Threads;
 
 impl<'t, B: Berth> Down<'t, B> {
     /// Adopts the tables of the region's image; where the region is none, it reads the log to its end and applies each record to its table. An open flag is
     /// closed before anything else. A table that neither names is empty. Then each table is opened and noted. Where a seat is worn nothing is touched.
     /// The disk then reads as it did, but for the first byte of one that had at most one.
-    pub fn start<R: Wait, G: Gate>(
+    pub fn start<R: Wait + Threads + Sync, G: Gate>(
         self,
         rt: &R,
         alloc: Global,

@@ -25,6 +25,7 @@ use log_steward::StewardLog;
 use std::alloc::{AllocError, Global};
 use std::marker::Model;
 use std::sync::Wait;
+use std::thread::Threads;
 
 /// What became of a flush.
 #[derive(Clone, Copy, Debug, PartialEq, Eq)]
@@ -75,7 +76,7 @@ impl<'t, B: Berth> Up<'t, B> {
 
     /// Settles what the log is owed and notes its table as flushed; then takes what the table accepted since the last taking, settles that,
     /// and notes the table as flushed. A DiskFault leaves the record owed, and the next flush or drain goes on with it. It takes no memory.
-    pub fn flush<R: Wait, G: Gate>(
+    pub fn flush<R: Wait + Threads + Sync, G: Gate>(
         &mut self,
         rt: &R,
         table: u32,
@@ -117,7 +118,12 @@ impl<'t, B: Berth> Up<'t, B> {
     }
 
     /// Shuts each table and notes it as closed, and drops what they held. It calls nothing of the berth and takes no memory.
-    pub fn kill<R: Wait, G: Gate>(self, rt: &R, gate: &G, notes: &mut Notes) -> Down<'t, B>
+    pub fn kill<R: Wait + Threads + Sync, G: Gate>(
+        self,
+        rt: &R,
+        gate: &G,
+        notes: &mut Notes,
+    ) -> Down<'t, B>
         ensures berth { result.1 ≡ self.entry.1 }
         ensures made { Makes (B.meaning self.entry.1).clock (B.meaning self.entry.1).clock self.entry.0.seated notes.new result.0 }
         ensures each { EachNoted IsClosedNote 0 (length self.entry.0.seated.tables) notes.new }
@@ -144,7 +150,7 @@ impl<'t, B: Berth> Up<'t, B> {
 }
 
 /// The steps of a flush, over the parts of a leaf.
-fn flush_table<R: Wait, B: Berth, G: Gate>(
+fn flush_table<R: Wait + Threads + Sync, B: Berth, G: Gate>(
     rt: &R,
     seats: &mut Seats,
     log: &mut StewardLog,

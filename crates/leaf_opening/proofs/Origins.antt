@@ -26,7 +26,7 @@ module _ (names : List (List ℕ)) (tables : List Table) (log : LogState) where
     started_by : (w : Way) → way ≡ w → IsCome names old.held.region new.held.disk served w → new.held.disk ≡ disk_after w old.held.disk → Started names old new served way
     started_by w is come disk = subst (λ (v : Way). Started names old new served v) (sym is) (record { come = come; region = region; disk = disk })
 
-    pub started_by_memory : (a : Adopted) → IsFound names old.held.region (Tables a) → tables ≡ a.tables.items → log ≡ log_at a.log_end → way ≡ Memory → new.held.disk ≡ old.held.disk → Started names old new served way
+    pub started_by_memory : (a : Adopted) → IsFound names old.held.region (Tables a) → tables ≡ a.tables → log ≡ log_at a.log_end → way ≡ Memory → new.held.disk ≡ old.held.disk → Started names old new served way
     started_by_memory a found are at is disk = started_by Memory is (found.0, a.log_end, found.1, found.2, are ∙ found.3, at) disk
 
     pub started_by_disk : (w : WhyDisk) → IsWhy old.held.region w → IsRecovered names new.held.disk tables log → way ≡ Disk w → new.held.disk ≡ begun old.held.disk → Started names old new served way

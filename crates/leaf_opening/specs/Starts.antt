@@ -66,7 +66,7 @@ IsOpeningRefusal names old new NoMemory = new.held.region ≡ left_behind old.he
 
 -- the leaf that serves what was opened
 abbrev pub opened_leaf : List (List ℕ) → Opened → OpenedLeaf
-opened_leaf names o = record { names = names; tables = o.tables.items; log = o.log }
+opened_leaf names o = record { names = names; tables = o.tables; log = o.log }
 
 -- ---- what a crash leaves while a leaf starts
 

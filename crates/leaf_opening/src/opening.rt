@@ -18,12 +18,12 @@ use disk_backup::BackupLog;
 use leaf_model::Names;
 use log_recovery::{Recovered, recover};
 use std::alloc::Global;
-use table_state::TableState;
+use table_state::Tables;
 
 /// One table for each name, in their order; the log, which is owed nothing; and where they come from.
 #[derive(Drop)]
 pub struct Opened {
-    pub tables: Vec<TableState>,
+    pub tables: Tables,
     pub log: BackupLog,
     pub way: Way,
 }
@@ -36,9 +36,9 @@ pub fn open_tables<B: Berth>(
     berth: &mut B,
 ) -> Result<Opened, OpenFault>
     requires names { AreNames names.now }
-    ensures one { IfOk result (λ o. length o.tables.items ≡ length names.now) }
-    ensures fresh { IfOk result (λ o. AreFresh o.tables.items × (o.log.owed ≡ None)) }
-    ensures room { IfOk result (λ o. AllByRecursion (λ t. t.writes < 2 ^ 63) o.tables.items) }
+    ensures one { IfOk result (λ o. length o.tables ≡ length names.now) }
+    ensures fresh { IfOk result (λ o. AreFresh o.tables × (o.log.owed ≡ None)) }
+    ensures room { IfOk result (λ o. AllByRecursion (λ t. t.writes < 2 ^ 63) o.tables) }
     // Where the berth tells its contents.
     ensures told { IsTrue (B.meaning berth.old).tells → IfOk result (λ o. Started names.now (B.meaning berth.old) (B.meaning berth.new) (opened_leaf names.now o) o.way) }
     ensures way { IsTrue (B.meaning berth.old).tells → IfOk result (λ o. IsWayOf (B.meaning berth.old).held.region o.way) }
@@ -70,7 +70,7 @@ pub fn open_tables<B: Berth>(
 /// The tables of an image. The log goes on where that says it ended.
 fn from_image(alloc: Global, adopted: Adopted) -> Opened
     requires { adopted.log_end < 2 ^ 63 }
-    ensures tables { result.tables.items ≡ adopted.tables.items }
+    ensures tables { result.tables ≡ adopted.tables }
     ensures log { result.log ≡ record { end = adopted.log_end; owed = None; laid = false } }
     ensures way { result.way ≡ way.Memory }
 {
@@ -83,12 +83,12 @@ fn from_image(alloc: Global, adopted: Adopted) -> Opened
 
 /// The tables of a log that was read to its end, since the region was no image.
 fn from_log(why: WhyDisk, recovered: Recovered) -> Opened
-    ensures tables { result.tables.items ≡ recovered.tables }
+    ensures tables { result.tables ≡ recovered.tables }
     ensures log { result.log ≡ recovered.log }
     ensures way { result.way ≡ way.Disk why }
 {
     Opened {
-        tables: recovered.tables.into_inner(),
+        tables: recovered.tables,
         log: recovered.log,
         way: Way::Disk(why),
     }

@@ -17,12 +17,13 @@ use leaf_table::{ClosedTable, Taken};
 use row_records::Pending;
 use std::collections::VecDeque;
 use std::sync::Wait;
-use table_state::TableState;
+use std::thread::Threads;
+use table_state::{TableState, Tables};
 
 impl<'t> Seats<'t> {
     /// Takes the writes of the table in that place that were not taken, and notes that: how many it had accepted, and the record of the new ones.
     /// None where the seat has seen 2^62 entries: then no entry is made.
-    pub fn take<R: Wait, B: Berth, G: Gate>(
+    pub fn take<R: Wait + Threads + Sync, B: Berth, G: Gate>(
         &mut self,
         rt: &R,
         table: u32,
@@ -52,7 +53,7 @@ impl<'t> Seats<'t> {
     }
 
     /// Notes that the disk holds the first writes of the table in that place. The steward has taken as many.
-    pub fn flushed<R: Wait, B: Berth, G: Gate>(
+    pub fn flushed<R: Wait + Threads + Sync, B: Berth, G: Gate>(
         &mut self,
         rt: &R,
         table: u32,
@@ -74,7 +75,7 @@ impl<'t> Seats<'t> {
     }
 
     /// Shuts the table in that place, notes that, and hands out its content with the record of what was not taken, and how many writes it had accepted.
-    pub fn shut<R: Wait, B: Berth, G: Gate>(
+    pub fn shut<R: Wait + Threads + Sync, B: Berth, G: Gate>(
         &mut self,
         rt: &R,
         table: u32,
@@ -100,7 +101,7 @@ impl<'t> Seats<'t> {
     }
 
     /// Shuts each table from that place on, notes each, and drops what they held.
-    pub fn shut_rest<R: Wait, B: Berth, G: Gate>(
+    pub fn shut_rest<R: Wait + Threads + Sync, B: Berth, G: Gate>(
         &mut self,
         rt: &R,
         first: u32,
@@ -123,7 +124,7 @@ impl<'t> Seats<'t> {
     }
 
     /// Notes each table as handed over.
-    pub fn hand_over<R: Wait, B: Berth, G: Gate>(
+    pub fn hand_over<R: Wait + Threads + Sync, B: Berth, G: Gate>(
         &mut self,
         rt: &R,
         berth: &B,
@@ -143,27 +144,27 @@ impl<'t> Seats<'t> {
     }
 
     /// Opens each table with what is handed in, and notes that. No seat has seen 2^62 entries.
-    pub fn open_all<R: Wait, B: Berth, G: Gate>(
+    pub fn open_all<R: Wait + Threads + Sync, B: Berth, G: Gate>(
         &mut self,
         rt: &R,
-        tables: Vec<TableState>,
+        tables: Tables,
         berth: &B,
         gate: &G,
         notes: &mut Notes,
     )
         requires none { notes.old ≡ [] }
-        requires one { length tables.items ≡ length self.old.tables }
+        requires one { length tables ≡ length self.old.tables }
         requires shut { AtEach (λ place t v. IsShut t v) self.old }
         requires fresh { AtEach (λ place t v. IsFresh v) self.old }
         requires content { (place : ℕ) (t : Shared) (v : SeatView) (table : Table) → slice_get self.old.tables place ≡ Some t → slice_get self.old.seats place ≡ Some v
-            → slice_get tables.items place ≡ Some table → MayHandIn (is_founded (base_seen t)) (state_seen (base_seen t) v) table.writes table }
+            → slice_get tables place ≡ Some table → MayHandIn (is_founded (base_seen t)) (state_seen (base_seen t) v) table.writes table }
         ensures made { Makes (B.meaning berth.now).clock (B.meaning berth.now).clock self.old notes.new self.new }
-        ensures each { OpenedNotes 0 tables.items notes.new }
+        ensures each { OpenedNotes 0 tables notes.new }
         ensures open_ { AtEach (λ place t v. IsOpen t v) self.new }
         ensures spares { AtEach (λ place t v. Spares 1000 t v) self.new }
     {
         self.sits();
-        let mut rest = VecDeque::from_vec(tables);
+        let mut rest = VecDeque::from_vec(tables.into_inner());
         let mut table = 0;
         while let Some(content) = rest.pop_front() {
             self.open(rt, table, content, berth, gate, notes);
@@ -172,7 +173,7 @@ impl<'t> Seats<'t> {
     }
 
     // Notes that the table in that place was drained.
-    fn hand<R: Wait, B: Berth, G: Gate>(
+    fn hand<R: Wait + Threads + Sync, B: Berth, G: Gate>(
         &mut self,
         rt: &R,
         table: u32,
@@ -194,7 +195,7 @@ impl<'t> Seats<'t> {
     }
 
     // Opens the table in that place, and notes that.
-    fn open<R: Wait, B: Berth, G: Gate>(
+    fn open<R: Wait + Threads + Sync, B: Berth, G: Gate>(
         &mut self,
         rt: &R,
         table: u32,

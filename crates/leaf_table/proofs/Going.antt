@@ -14,7 +14,7 @@ use Rattle.leaf_history.specs.History.{HistoryState, LegalFrom, Allowed, opened,
 use Rattle.leaf_history.specs.Laws.{HasSoundCounts}
 use Rattle.leaf_history.proofs.Histories.{counts_stay, length_take}
 use Rattle.row_records.specs.Pending.{with_push}
-use Rattle.table_state.specs.Tables.{Table, table_with_write, empty_table}
+use Rattle.table_state.specs.Tables.{Table, bare, table_with_write, empty_table}
 use Rattle.group_table.proofs.Within.{groups_grow}
 use Rattle.leaf_table.specs.declared.base.TableBase.{TableBase}
 use Rattle.leaf_table.specs.declared.turns.Turn.{Turn}
@@ -94,18 +94,22 @@ record_end : (name : List ℕ) (ws : List Write) → [] ≡ ws → None ≡ reco
 record_end name ws is = ap (record_for name) is
 
 -- an open table after one more write
-writes_on : (name : List ℕ) (s : HistoryState) (n : ℕ) (v : LeafTable) (w : Write) → HasSoundCounts s → IsTableOf name s n v → s.live ≡ true → IsTableOf name (written s w) (n + 1) (record v { table = table_with_write v.name v.table w })
-writes_on name s n v w c i live =
+writes_on : (name : List ℕ) (s : HistoryState) (n : ℕ) (v u : LeafTable) (w : Write) → HasSoundCounts s → IsTableOf name s n v → s.live ≡ true
+    → u.name ≡ v.name → u.live ≡ v.live → bare u.table ≡ table_with_write v.name v.table w → IsTableOf name (written s w) (n + 1) u
+writes_on name s n v u w c i live named lives table =
     let count = i.writes live in
     let few = i.few live in
-    let more = longer s.writes w in record {
-      named = i.named;
+    let more = longer s.writes w in
+    let wrote = ap (λ (t : Table). t.writes) table in record {
+      named = named ∙ i.named;
       short = i.short;
-      live = i.live;
-      contents = λ _. ap (λ x. content_after x w) (i.contents live) ∙ held_push s.before s.writes w;
-      writes = λ _. omega (arith, count, more);
-      pending = λ _. ap (λ (x : List ℕ). Some (with_push x w v.table.pending)) i.named ∙ (ap (λ p. Some (with_push name w p)) (i.pending live) ∙ (record_push name (untaken s) w ∙ ap (record_for name) (drop_push (s.taken - s.handed_in) s.writes w (omega (arith, c.taken)))));
-      few = λ _. omega (arith, few);
+      live = lives ∙ i.live;
+      contents = λ _. ap (λ (t : Table). t.contents) table ∙ (ap (λ x. content_after x w) (i.contents live) ∙ held_push s.before s.writes w);
+      writes = λ _. omega (arith, wrote, count, more);
+      pending = λ _.
+          ap (λ (t : Table). t.pending) table
+          ∙ (ap (λ (x : List ℕ). Some (with_push x w v.table.pending)) i.named ∙ (ap (λ p. Some (with_push name w p)) (i.pending live) ∙ (record_push name (untaken s) w ∙ ap (record_for name) (drop_push (s.taken - s.handed_in) s.writes w (omega (arith, c.taken))))));
+      few = λ _. omega (arith, wrote, few);
     }
 
 pub added : (name : List ℕ) (founded : Bool) (s : HistoryState) (n by clock : ℕ) (v : LeafTable) (rows : List Row) (a : Answer) (w : LeafTable) → HasSoundCounts s → IsTableOf name s n v → (0 < by) × AllByRecursion IsRow rows → AddsTo v rows a w → Goes name founded s n by clock (turn.Add rows) a w
@@ -115,7 +119,7 @@ added name founded s n by clock v rows (answer.Added kept late) w c i caller is 
     record {
       allowed = (caller.0, (live, subst (λ x. length x.rows + kept_count x rows ≤ 2 ^ 40) same is.1, is.2 ∙ ap (λ x. kept_count x rows) same, is.3 ∙ ap (λ x. late_count x rows) same));
       hands = (tt, tt);
-      stands = subst (λ x. IsTableOf name (written s (write.Add rows)) (n + 1) x) (sym is.4) (writes_on name s n v (write.Add rows) c i live);
+      stands = writes_on name s n v w (write.Add rows) c i live is.4 is.5 is.6;
     }
 added name founded s n by clock v rows answer.Full w c i caller is =
     let live : s.live ≡ true = sym i.live ∙ is.0 in record {
@@ -132,7 +136,7 @@ added name founded s n by clock v rows (answer.Closed table) w c i caller is = a
 added name founded s n by clock v rows answer.Noted w c i caller is = absurd is
 
 pub expired : (name : List ℕ) (founded : Bool) (s : HistoryState) (n by clock : ℕ) (v : LeafTable) (horizon : ℤ) (a : Answer) (w : LeafTable) → HasSoundCounts s → IsTableOf name s n v → (0 < by) × IsTime horizon → RemovesFrom v (write.Expire horizon) a w → Goes name founded s n by clock (turn.Expire horizon) a w
-expired name founded s n by clock v horizon (answer.Removed k) w c i caller is = let live : s.live ≡ true = sym i.live ∙ is.0 in record { allowed = (caller.0, (live, is.1 ∙ ap (λ x. removed_count x (write.Expire horizon)) (i.contents live))); hands = (tt, tt); stands = subst (λ x. IsTableOf name (written s (write.Expire horizon)) (n + 1) x) (sym is.2) (writes_on name s n v (write.Expire horizon) c i live) }
+expired name founded s n by clock v horizon (answer.Removed k) w c i caller is = let live : s.live ≡ true = sym i.live ∙ is.0 in record { allowed = (caller.0, (live, is.1 ∙ ap (λ x. removed_count x (write.Expire horizon)) (i.contents live))); hands = (tt, tt); stands = writes_on name s n v w (write.Expire horizon) c i live is.2 is.3 is.4 }
 expired name founded s n by clock v horizon answer.NoMemory w c i caller is = record { allowed = (caller.0, sym i.live ∙ is.0); hands = (tt, tt); stands = subst (λ x. IsTableOf name s (n + 1) x) (sym is.1) (stays name s n v i) }
 expired name founded s n by clock v horizon answer.Shut w c i caller is = record { allowed = (caller.0, sym i.live ∙ is.0); hands = (tt, tt); stands = subst (λ x. IsTableOf name s (n + 1) x) (sym is.1) (stays name s n v i) }
 expired name founded s n by clock v horizon (answer.Added kept late) w c i caller is = absurd is
@@ -143,7 +147,7 @@ expired name founded s n by clock v horizon (answer.Closed table) w c i caller i
 expired name founded s n by clock v horizon answer.Noted w c i caller is = absurd is
 
 pub cut_to : (name : List ℕ) (founded : Bool) (s : HistoryState) (n by clock : ℕ) (v : LeafTable) (count : ℕ) (a : Answer) (w : LeafTable) → HasSoundCounts s → IsTableOf name s n v → 0 < by → RemovesFrom v (write.Keep count) a w → Goes name founded s n by clock (turn.Keep count) a w
-cut_to name founded s n by clock v count (answer.Removed k) w c i caller is = let live : s.live ≡ true = sym i.live ∙ is.0 in record { allowed = (caller, (live, is.1 ∙ ap (λ x. removed_count x (write.Keep count)) (i.contents live))); hands = (tt, tt); stands = subst (λ x. IsTableOf name (written s (write.Keep count)) (n + 1) x) (sym is.2) (writes_on name s n v (write.Keep count) c i live) }
+cut_to name founded s n by clock v count (answer.Removed k) w c i caller is = let live : s.live ≡ true = sym i.live ∙ is.0 in record { allowed = (caller, (live, is.1 ∙ ap (λ x. removed_count x (write.Keep count)) (i.contents live))); hands = (tt, tt); stands = writes_on name s n v w (write.Keep count) c i live is.2 is.3 is.4 }
 cut_to name founded s n by clock v count answer.NoMemory w c i caller is = record { allowed = (caller, sym i.live ∙ is.0); hands = (tt, tt); stands = subst (λ x. IsTableOf name s (n + 1) x) (sym is.1) (stays name s n v i) }
 cut_to name founded s n by clock v count answer.Shut w c i caller is = record { allowed = (caller, sym i.live ∙ is.0); hands = (tt, tt); stands = subst (λ x. IsTableOf name s (n + 1) x) (sym is.1) (stays name s n v i) }
 cut_to name founded s n by clock v count (answer.Added kept late) w c i caller is = absurd is

@@ -15,13 +15,20 @@ use leaf_model::{Query, Rows};
 use std::marker::Brand;
 use std::snapshot::Snapshot;
 use std::sync::Wait;
+use std::thread::Threads;
 
 /// From here on a seat makes no more entries.
 pub(crate) const WORN: u64 = 1 << 62;
 
 impl SharedTable {
     /// Adds rows to the table, where it is open.
-    pub fn add<R: Wait, G: Gate>(&self, rt: &R, seat: &mut Seat, rows: Rows, gate: &G) -> Reply
+    pub fn add<R: Wait + Threads + Sync, G: Gate>(
+        &self,
+        rt: &R,
+        seat: &mut Seat,
+        rows: Rows,
+        gate: &G,
+    ) -> Reply
         requires seat { IsSeatOf seat.old self.now.site }
         requires caller { IsCaller seat.old }
         requires rows { AllByRecursion IsRow rows }
@@ -37,7 +44,13 @@ impl SharedTable {
     }
 
     /// Raises the horizon of the table, where it is open.
-    pub fn expire<R: Wait, G: Gate>(&self, rt: &R, seat: &mut Seat, horizon: i64, gate: &G) -> Reply
+    pub fn expire<R: Wait + Threads + Sync, G: Gate>(
+        &self,
+        rt: &R,
+        seat: &mut Seat,
+        horizon: i64,
+        gate: &G,
+    ) -> Reply
         requires seat { IsSeatOf seat.old self.now.site }
         requires caller { IsCaller seat.old }
         requires horizon { IsTime horizon }
@@ -53,7 +66,13 @@ impl SharedTable {
     }
 
     /// Leaves the last n rows of the table, where it is open.
-    pub fn keep<R: Wait, G: Gate>(&self, rt: &R, seat: &mut Seat, n: u64, gate: &G) -> Reply
+    pub fn keep<R: Wait + Threads + Sync, G: Gate>(
+        &self,
+        rt: &R,
+        seat: &mut Seat,
+        n: u64,
+        gate: &G,
+    ) -> Reply
         requires seat { IsSeatOf seat.old self.now.site }
         requires caller { IsCaller seat.old }
         ensures seat { IsSeatOf seat.new self.now.site }
@@ -68,7 +87,13 @@ impl SharedTable {
     }
 
     /// Asks the table, where it is open. A query that cannot be copied takes its turn all the same.
-    pub fn ask<R: Wait, G: Gate>(&self, rt: &R, seat: &mut Seat, query: &Query, gate: &G) -> Reply
+    pub fn ask<R: Wait + Threads + Sync, G: Gate>(
+        &self,
+        rt: &R,
+        seat: &mut Seat,
+        query: &Query,
+        gate: &G,
+    ) -> Reply
         requires seat { IsSeatOf seat.old self.now.site }
         requires caller { IsCaller seat.old }
         ensures seat { IsSeatOf seat.new self.now.site }

@@ -1,6 +1,7 @@
 //! A table of a leaf that callers and the leaf's steward share by turns.
 #![tactic(auto)]
 
+mod asking;
 mod base;
 mod callers;
 mod fleet;

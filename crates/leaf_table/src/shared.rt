@@ -12,6 +12,7 @@ use leaf_model::Text;
 use std::alloc::{AllocError, Global};
 use std::marker::{Brand, Model};
 use std::sync::Wait;
+use std::thread::Threads;
 use table_state::TableState;
 use turnstile::{Clock, Turnstile};
 
@@ -116,7 +117,7 @@ impl SharedTable {
     }
 
     // Takes one turn.
-    pub(crate) fn turn<C: Clock, R: Wait, G: Gate>(
+    pub(crate) fn turn<C: Clock, R: Wait + Threads + Sync, G: Gate>(
         &self,
         rt: &R,
         seat: &mut Seat,
@@ -134,7 +135,7 @@ impl SharedTable {
     }
 
     // Takes one turn at the clock C, which is the berth's.
-    fn turn_at<C: Clock, R: Wait, B: Berth, G: Gate>(
+    fn turn_at<C: Clock, R: Wait + Threads + Sync, B: Berth, G: Gate>(
         &self,
         rt: &R,
         steward: &mut Seat,
@@ -153,7 +154,7 @@ impl SharedTable {
     }
 
     // Takes one turn of the steward, whose entry carries the berth's clock.
-    pub(crate) fn steward_turn<R: Wait, B: Berth, G: Gate>(
+    pub(crate) fn steward_turn<R: Wait + Threads + Sync, B: Berth, G: Gate>(
         &self,
         rt: &R,
         steward: &mut Seat,

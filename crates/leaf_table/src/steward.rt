@@ -12,11 +12,12 @@ use crate::shared::{Seat, SharedTable};
 use crate::turns::{Answer, Turn};
 use berth_face::{Berth, Gate};
 use std::sync::Wait;
+use std::thread::Threads;
 use table_state::TableState;
 
 impl SharedTable {
     /// Takes the writes that were not taken. The steward knows that the table is open.
-    pub fn take<R: Wait, B: Berth, G: Gate>(
+    pub fn take<R: Wait + Threads + Sync, B: Berth, G: Gate>(
         &self,
         rt: &R,
         steward: &mut Seat,
@@ -53,7 +54,7 @@ impl SharedTable {
     }
 
     /// Notes that the disk holds the first writes. The steward has taken as many.
-    pub fn flushed<R: Wait, B: Berth, G: Gate>(
+    pub fn flushed<R: Wait + Threads + Sync, B: Berth, G: Gate>(
         &self,
         rt: &R,
         steward: &mut Seat,
@@ -75,7 +76,7 @@ impl SharedTable {
     }
 
     /// Shuts the table, and hands out its content. The steward knows that it is open.
-    pub fn shut<R: Wait, B: Berth, G: Gate>(
+    pub fn shut<R: Wait + Threads + Sync, B: Berth, G: Gate>(
         &self,
         rt: &R,
         steward: &mut Seat,
@@ -108,7 +109,7 @@ impl SharedTable {
     }
 
     /// Notes that the table was drained. The steward knows that it is shut.
-    pub fn done<R: Wait, B: Berth, G: Gate>(
+    pub fn done<R: Wait + Threads + Sync, B: Berth, G: Gate>(
         &self,
         rt: &R,
         steward: &mut Seat,
@@ -130,7 +131,7 @@ impl SharedTable {
 
     /// Opens the table with a content. The steward knows that it is shut, and of a founded one that this is the content of
     /// its first writes. A worn seat is given the table back.
-    pub fn reopen<R: Wait, B: Berth, G: Gate>(
+    pub fn reopen<R: Wait + Threads + Sync, B: Berth, G: Gate>(
         &self,
         rt: &R,
         steward: &mut Seat,

@@ -7,12 +7,15 @@ ghost use Rattle.table_state.specs.Tables.{MayWrite};
 ghost use Rattle.leaf_table.specs.declared.turns.Answer.TheVariants.{Noted};
 ghost use Rattle.leaf_table.specs.Steps.{AddsTo, RemovesFrom, AsksOf, TakesFrom, Shuts};
 
+use crate::asking::groups_of;
 use crate::base::Origin;
 use crate::turns::{Answer, Turn};
-use group_table::fold_rows;
 use leaf_model::{Query, Rows, Text};
 use std::alloc::Global;
+use std::marker::Brand;
 use std::mem::replace;
+use std::sync::ledger::Blank;
+use std::thread::Threads;
 use table_state::{AddFault, TableState};
 use turnstile::Object;
 
@@ -71,7 +74,7 @@ impl LeafTable {
         }
     }
 
-    fn ask(&self, copy: Option<Query>) -> Answer
+    fn ask<R: Threads + Sync>(&self, rt: &R, copy: Option<Query>) -> Answer
         ensures { AsksOf self.now copy result }
     {
         if !self.live {
@@ -81,7 +84,7 @@ impl LeafTable {
             Some(query) => query,
             None => return Answer::NoMemory,
         };
-        match fold_rows(self.alloc, &query, self.table.tail_rows()) {
+        match groups_of::<Brand, R>(rt, self.alloc, &query, &self.table, Blank::new(1)) {
             Ok(groups) => Answer::Groups(groups),
             Err(_) => Answer::NoMemory,
         }
@@ -130,12 +133,12 @@ impl Object for LeafTable {
 
     ghost may = { λ b h by turn. MayTurn b.base h by turn };
 
-    fn step(&mut self, call: Turn, _number: u64) -> Answer {
+    fn step<R: Threads + Sync>(&mut self, rt: &R, call: Turn, _number: u64) -> Answer {
         match call {
             Turn::Add(rows) => self.add(rows),
             Turn::Expire(horizon) => self.expire(horizon),
             Turn::Keep(n) => self.keep(n),
-            Turn::Ask { query: _, copy } => self.ask(copy),
+            Turn::Ask { query: _, copy } => self.ask(rt, copy),
             Turn::Take => self.take(),
             Turn::Flushed(_) => Answer::Noted,
             Turn::Shut => self.shut(),

@@ -1,5 +1,5 @@
 -- One record more, for the tables of all names.
-use Rattle.std.proofs.Common.{◌≡◌, ℕ, zero, suc, ◌+◌, ◌-◌, ◌<◌, ◌≤◌, ◌^◌, inl, inr, Bool, true, false, cond, not, List, [], ◌∷◌, ◌++◌, length, take, get_or, set, find, Option, Some, None, option_map, refl, sym, ap, ap₂, subst, ◌∙◌, append-nil, length-append, arith}
+use Rattle.std.proofs.Common.{◌≡◌, ℕ, zero, suc, ◌+◌, ◌-◌, ◌<◌, ◌≤◌, ◌^◌, inl, inr, Bool, true, false, cond, not, List, [], ◌∷◌, ◌++◌, length, take, get_or, set, find, map, Option, Some, None, option_map, refl, sym, ap, ap₂, subst, ◌∙◌, append-nil, length-append, arith}
 use Rattle.std.specs.Prelude.{◌≢◌, Err}
 use Rattle.std.specs.List.{AllByRecursion, list_any}
 use Rattle.std.specs.Str.{bytes_eq}
@@ -10,7 +10,7 @@ use Rattle.std.proofs.lemmas.Slice.Eq.{bytes_eq-Decides}
 use Rattle.leaf_model.specs.declared.writes.Write.{Write}
 use Rattle.leaf_model.specs.Content.{Contents, content_after, content_from, content}
 use Rattle.row_records.specs.Records.{LogRecord}
-use Rattle.table_state.specs.Tables.{Table}
+use Rattle.table_state.specs.Tables.{Table, bare, no_store}
 use Rattle.table_state.specs.declared.fault.AddFault.{AddFault}
 use Rattle.table_state.specs.declared.fault.AddFault.TheVariants as add
 use Rattle.log_recovery.specs.Faults.{told_of_add}
@@ -21,6 +21,12 @@ use Rattle.log_recovery.specs.Recovery.{table_of, tables_of, is_stranger, strang
 use Rattle.log_recovery.specs.Applying.{Applies, HasApplied, ReplaysAll, count_of}
 use Rattle.log_recovery.proofs.Replaying.{table_after}
 use Rattle.log_recovery.proofs.Places.{StandsAt, differ}
+
+-- ---- the tables of records have no store
+
+pub bare_tables : (names : List (List ℕ)) (records : List LogRecord) → map bare (tables_of names records) ≡ tables_of names records
+bare_tables [] records = refl
+bare_tables (n ∷ names) records = ap (λ (ts : List Table). table_of records n ∷ ts) (bare_tables names records)
 
 -- ---- the writes of one name
 
@@ -58,10 +64,10 @@ module _ (records : List LogRecord) (r : LogRecord) where
   -- ---- the tables
 
   abbrev with_writes : List Write → Table
-  with_writes writes = record { contents = content writes; writes = length writes; pending = None }
+  with_writes writes = record { contents = content writes; writes = length writes; pending = None; store = no_store }
 
   abbrev with_both : Contents → ℕ → Table
-  with_both c n = record { contents = c; writes = n; pending = None }
+  with_both c n = record { contents = c; writes = n; pending = None; store = no_store }
 
   table_here : table_after (table_of records r.name) r.writes ≡ table_of more r.name
   table_here = ap₂ with_both (sym (fold-append content_after (content []) (writes_of r.name records) r.writes)) (sym (length-append (writes_of r.name records) r.writes)) ∙ ap with_writes (sym writes_here)

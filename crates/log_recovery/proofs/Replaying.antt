@@ -8,26 +8,26 @@ use Rattle.std.specs.List.{AllByRecursion}
 use Rattle.leaf_model.specs.declared.writes.Write.{Write}
 use Rattle.leaf_model.specs.Values.{IsWrite}
 use Rattle.leaf_model.specs.Content.{Contents, content_after, content_from}
-use Rattle.table_state.specs.Tables.{Table, replayed, Replays}
+use Rattle.table_state.specs.Tables.{Table, bare, no_store, replayed, Replays}
 use Rattle.table_state.specs.declared.fault.AddFault.{AddFault}
 use Rattle.table_state.specs.declared.fault.AddFault.TheVariants as add
 use Rattle.log_recovery.specs.Applying.{ReplaysAll}
 
 -- a table after so many writes
 abbrev pub table_after : Table → List Write → Table
-table_after t writes = record t { contents = content_from t.contents writes; writes = t.writes + length writes }
+table_after t writes = record { contents = content_from t.contents writes; writes = t.writes + length writes; pending = t.pending; store = no_store }
 
 -- of all writes some are done, and the rest is left
 pub record Replayed (from : Table) (all rest : List Write) (now : Table) : Type 0 where
   pub done : List Write
   pub is : all ≡ done ++ rest
   pub within : (k : ℕ) → length (content_from from.contents (take k done)).rows ≤ 2 ^ 40
-  pub now_is : now ≡ table_after from done
+  pub now_is : bare now ≡ table_after from done
   pub each : AllByRecursion IsWrite rest
 
--- the same table with other contents and another count
+-- a bare table with other contents and another count
 abbrev pub with_both : Table → Contents → ℕ → Table
-with_both t c n = record t { contents = c; writes = n }
+with_both t c n = record { contents = c; writes = n; pending = t.pending; store = no_store }
 
 module _ (from : Table) (all rest : List Write) (w : Write) (mid : Table) (so_far : Replayed from all (w ∷ rest) mid) where
   abbrev pub next_done : List Write
@@ -49,7 +49,7 @@ module _ (from : Table) (all rest : List Write) (w : Write) (mid : Table) (so_fa
         subst (λ (l : List Write). length (content_from from.contents l).rows ≤ 2 ^ 40) (sym (take_all k next_done past)) now
   ]
 
-  pub replayed_more : (now : Table) → length (content_after mid.contents w).rows ≤ 2 ^ 40 → now ≡ replayed mid w → Replayed from all rest now
+  pub replayed_more : (now : Table) → length (content_after mid.contents w).rows ≤ 2 ^ 40 → bare now ≡ replayed mid w → Replayed from all rest now
   replayed_more now few is =
       let count : from.writes + length so_far.done + 1 ≡ from.writes + length next_done = omega (arith, length_push so_far.done w) in
       record {

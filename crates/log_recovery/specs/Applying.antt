@@ -4,7 +4,7 @@ use Rattle.std.specs.List.{list_any}
 use Rattle.leaf_model.specs.declared.writes.Write.{Write}
 use Rattle.leaf_model.specs.Content.{content_from}
 use Rattle.row_records.specs.Records.{LogRecord}
-use Rattle.table_state.specs.Tables.{Table}
+use Rattle.table_state.specs.Tables.{Table, bare, no_store}
 use Rattle.table_state.specs.declared.fault.AddFault.{AddFault}
 use Rattle.table_state.specs.declared.fault.AddFault.TheVariants as add
 use Rattle.disk_backup.specs.Logs.{IsBounded}
@@ -17,7 +17,7 @@ use Rattle.log_recovery.specs.Recovery.{IsTooLong, stranger_in, tables_of}
 -- so many writes more: after none of them has the table more than 2^40 rows, or after some of them it would have
 abbrev pub ReplaysAll : Table → List Write → Result (Unit {0}) AddFault → Table → Type 0
 ReplaysAll t writes (Ok done) now = ((k : ℕ) → length (content_from t.contents (take k writes)).rows ≤ 2 ^ 40)
-    × (now ≡ record t { contents = content_from t.contents writes; writes = t.writes + length writes })
+    × (bare now ≡ record { contents = content_from t.contents writes; writes = t.writes + length writes; pending = t.pending; store = no_store })
 ReplaysAll t writes (Err add.Full) now = (k : ℕ) × (2 ^ 40 < length (content_from t.contents (take k writes)).rows)
 ReplaysAll t writes (Err add.NoMemory) now = ⊤
 

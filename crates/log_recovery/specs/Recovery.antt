@@ -3,7 +3,7 @@ use Rattle.std.specs.Prelude.{◌≡◌, ◌⊎◌, ℕ, ◌<◌, ◌^◌, Bool,
 use Rattle.std.specs.List.{find, list_any}
 use Rattle.leaf_model.specs.Content.{content}
 use Rattle.row_records.specs.Records.{LogRecord}
-use Rattle.table_state.specs.Tables.{Table}
+use Rattle.table_state.specs.Tables.{Table, no_store}
 use Rattle.disk_backup.specs.Logs.{ClosedLog, IsBounded, writes_of}
 use Rattle.disk_backup.specs.State.{LogState}
 use Rattle.disk_backup.specs.Scanning.{Scanned, Damaged}
@@ -12,7 +12,7 @@ use Rattle.log_recovery.specs.declared.fault.RecoveryFault.TheVariants.{DiskFaul
 
 -- a table of this name after the writes of the records
 abbrev pub table_of : List LogRecord → List ℕ → Table
-table_of records name = record { contents = content (writes_of name records); writes = length (writes_of name records); pending = None }
+table_of records name = record { contents = content (writes_of name records); writes = length (writes_of name records); pending = None; store = no_store }
 
 -- the tables of these names, in their order
 abbrev pub tables_of : List (List ℕ) → List LogRecord → List Table

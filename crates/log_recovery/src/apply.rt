@@ -1,15 +1,15 @@
 // Applying a record to the table of its name.
-ghost use Rattle.std.specs.Prelude.{◌≡◌, ◌+◌, ◌-◌, ◌<◌, ◌≤◌, ◌^◌, List, [], length, IfOk, bytes_eq};
+ghost use Rattle.std.specs.Prelude.{◌≡◌, ◌+◌, ◌-◌, ◌<◌, ◌≤◌, ◌^◌, List, [], length, map, IfOk, bytes_eq};
 ghost use Rattle.std.specs.List.{AllByRecursion, position};
 ghost use Rattle.leaf_model.specs.Values.{IsWrite};
 ghost use Rattle.row_records.specs.Records.{LogRecord, IsRecord};
 ghost use Rattle.disk_backup.specs.Scanning.{record_is};
 ghost use Rattle.leaf_model.specs.Names.{AreDistinct};
+ghost use Rattle.table_state.specs.Tables.{bare};
 ghost use Rattle.log_recovery.specs.Recovery.{tables_of};
 ghost use Rattle.log_recovery.specs.Applying.{Applies, HasApplied, MayApply, ReplaysAll};
 
 use crate::fault::RecoveryFault;
-use crate::recovered::Tables;
 use disk_backup::FlushRecord;
 use leaf_model::{Names, Text, Write};
 use std::alloc::{AllocError, Global};
@@ -17,27 +17,31 @@ use std::collections::VecDeque;
 use table_state::{AddFault, TableState};
 
 /// A table that had no write for each name.
-pub fn empty_tables(alloc: Global, names: &Names) -> Result<Tables, AllocError>
-    ensures { IfOk result (λ tables. tables ≡ tables_of names.now []) }
+pub fn empty_tables(alloc: Global, names: &Names) -> Result<Vec<TableState>, AllocError>
+    ensures { IfOk result (λ tables. tables.items ≡ tables_of names.now []) }
 {
-    let mut inner = Vec::new(alloc);
+    let mut tables = Vec::new(alloc);
     for _name in names.as_slice() {
-        inner.push(TableState::new(alloc))?;
+        tables.push(TableState::new(alloc))?;
     }
-    Ok(Tables { inner })
+    Ok(tables)
 }
 
 /// Applies a record to the table of its name.
 #[tactic(auto, using(crate::proofs::Places::stands_nowhere))]
-pub fn apply(tables: &mut Tables, names: &Names, flush: FlushRecord) -> Result<(), RecoveryFault>
+pub fn apply(
+    tables: &mut Vec<TableState>,
+    names: &Names,
+    flush: FlushRecord,
+) -> Result<(), RecoveryFault>
     requires distinct { AreDistinct names.now }
     requires record { IsRecord (record_is flush) }
-    requires may { MayApply names.now (length flush.writes) tables.old }
-    ensures { (records : List LogRecord) → HasApplied names.now records tables.old → Applies names.now records (record_is flush) result tables.new }
+    requires may { MayApply names.now (length flush.writes) (map bare tables.old.items) }
+    ensures { (records : List LogRecord) → HasApplied names.now records (map bare tables.old.items) → Applies names.now records (record_is flush) result (map bare tables.new.items) }
 {
     match place_of(names.as_slice(), flush.table.as_str()) {
         None => Err(RecoveryFault::Stranger(flush.table)),
-        Some(place) => Ok(replay_all(&mut tables.inner[place], flush.writes.into_inner())?),
+        Some(place) => Ok(replay_all(&mut tables[place], flush.writes.into_inner())?),
     }
 }
 

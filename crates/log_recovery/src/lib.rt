@@ -7,5 +7,5 @@ mod recovered;
 mod recovery;
 
 pub use fault::RecoveryFault;
-pub use recovered::{Recovered, Tables};
+pub use recovered::Recovered;
 pub use recovery::recover;

@@ -1,5 +1,5 @@
 // Reading a log to its end.
-ghost use Rattle.std.specs.Prelude.{◌≡◌, ◌≢◌, ◌+◌, ◌-◌, ◌<◌, ◌≤◌, ◌^◌, [], None, Err, length, IsTrue, OnOk, IfOk, IfErr};
+ghost use Rattle.std.specs.Prelude.{◌≡◌, ◌≢◌, ◌+◌, ◌-◌, ◌<◌, ◌≤◌, ◌^◌, [], None, Err, length, map, IsTrue, OnOk, IfOk, IfErr};
 ghost use Rattle.std.specs.List.{AllByRecursion};
 ghost use Rattle.berth_face.specs.Causes.{Rose};
 ghost use Rattle.berth_face.specs.Berth.{Passes, Stays};
@@ -8,15 +8,17 @@ ghost use Rattle.disk_backup.specs.Logs.{IsSound};
 ghost use Rattle.disk_backup.specs.Scanning.{StepsFrom, BeginsScan, begun};
 ghost use Rattle.log_recovery.specs.declared.fault.RecoveryFault.TheVariants as fault;
 ghost use Rattle.leaf_model.specs.Names.{AreDistinct};
+ghost use Rattle.table_state.specs.Tables.{bare};
 ghost use Rattle.log_recovery.specs.Recovery.{IsRecovered, IsRecoveryRefusal, tables_of};
 
 use crate::apply::{apply, empty_tables};
 use crate::fault::RecoveryFault;
-use crate::recovered::{Recovered, Tables};
+use crate::recovered::Recovered;
 use berth_face::Berth;
 use disk_backup::{BackupLog, LogScan, LogStep};
 use leaf_model::Names;
 use std::alloc::Global;
+use table_state::{TableState, Tables};
 
 /// Reads the berth's log to its end, and applies each record to the table of its name. A table that the log does not name is empty.
 /// Before the first read a disk of at most one byte is made one gate that is not open, and is synced; a longer one is synced.
@@ -48,7 +50,10 @@ pub fn recover<B: Berth>(
     let mut tables = empty_tables(alloc, names)?;
     let scan = LogScan::begin(berth)?;
     let log = read_on(alloc, names, scan, &mut tables, berth)?;
-    Ok(Recovered { tables, log })
+    Ok(Recovered {
+        tables: Tables::of(tables),
+        log,
+    })
 }
 
 /// Applies each record that a scan gives, to its end.
@@ -56,21 +61,21 @@ fn read_on<B: Berth>(
     alloc: Global,
     names: &Names,
     scan: LogScan,
-    tables: &mut Tables,
+    tables: &mut Vec<TableState>,
     berth: &mut B,
 ) -> Result<BackupLog, RecoveryFault>
     requires distinct { AreDistinct names.now }
     requires start { scan.at ≡ 0 }
     requires whole { IsTrue (B.meaning berth.old).tells → (scan.len ≡ length (B.meaning berth.old).held.disk) × (0 < length (B.meaning berth.old).held.disk) }
-    requires empty { tables.old ≡ tables_of names.now [] }
+    requires empty { map bare tables.old.items ≡ tables_of names.now [] }
     ensures stays { IsTrue (B.meaning berth.old).tells → Stays (B.meaning berth.old) (B.meaning berth.new) }
     ensures time { Passes (B.meaning berth.old) (B.meaning berth.new) }
     ensures cause { result ≡ Err fault.DiskFault → Rose (B.meaning berth.old).disk_faults (B.meaning berth.new).disk_faults }
-    ensures told { IsTrue (B.meaning berth.old).tells → IfOk result (λ log. IsRecovered names.now (B.meaning berth.old).held.disk tables.new log) }
+    ensures told { IsTrue (B.meaning berth.old).tells → IfOk result (λ log. IsRecovered names.now (B.meaning berth.old).held.disk (map bare tables.new.items) log) }
     ensures refused { IsTrue (B.meaning berth.old).tells → IfErr result (IsRecoveryRefusal names.now (B.meaning berth.old).held.disk) }
-    ensures one { OnOk result (length tables.new ≡ length names.now) }
+    ensures one { OnOk result (length (map bare tables.new.items) ≡ length names.now) }
     ensures none_owed { IfOk result (λ log. (log.owed ≡ None) × (log.end < 2 ^ 63)) }
-    ensures settled { OnOk result (AllByRecursion (λ t. (t.pending ≡ None) × (t.writes < 2 ^ 63)) tables.new) }
+    ensures settled { OnOk result (AllByRecursion (λ t. (t.pending ≡ None) × (t.writes < 2 ^ 63)) (map bare tables.new.items)) }
 {
     let mut scan = scan;
     loop {

@@ -18,6 +18,7 @@ use leaf_steward::{Notes, Seats};
 use row_records::Pending;
 use std::marker::Model;
 use std::sync::Wait;
+use std::thread::Threads;
 
 /// The log of a leaf, and whose record it is owed. Contracts see the three.
 #[derive(Drop)]
@@ -58,7 +59,7 @@ impl StewardLog {
     }
 
     /// Settles what the log is owed, and notes its table as flushed. A fault leaves it owed, and the next call goes on with it. It takes no memory.
-    pub fn settle_owed<R: Wait, B: Berth, G: Gate>(
+    pub fn settle_owed<R: Wait + Threads + Sync, B: Berth, G: Gate>(
         &mut self,
         rt: &R,
         seats: &mut Seats,
@@ -86,7 +87,7 @@ impl StewardLog {
 
     /// Brings the record of what was just taken of the table in that place onto the disk, where there is one, and notes the table as flushed with so many writes.
     /// A fault leaves the record owed. It takes no memory.
-    pub fn bring<R: Wait, B: Berth, G: Gate>(
+    pub fn bring<R: Wait + Threads + Sync, B: Berth, G: Gate>(
         &mut self,
         rt: &R,
         seats: &mut Seats,
@@ -122,7 +123,7 @@ impl StewardLog {
     }
 
     // Settles the record that is owed, and notes its table as flushed.
-    fn settle<R: Wait, B: Berth, G: Gate>(
+    fn settle<R: Wait + Threads + Sync, B: Berth, G: Gate>(
         &mut self,
         rt: &R,
         seats: &mut Seats,
@@ -148,7 +149,7 @@ impl StewardLog {
     }
 
     // Notes the owner as flushed. The log is owed nothing.
-    fn note<R: Wait, B: Berth, G: Gate>(
+    fn note<R: Wait + Threads + Sync, B: Berth, G: Gate>(
         &self,
         rt: &R,
         seats: &mut Seats,

@@ -21,6 +21,7 @@ use leaf_table::Seat;
 use printed_lines::{Line, Verb};
 use std::alloc::{AllocError, Global};
 use std::sync::Wait;
+use std::thread::Threads;
 
 /// What a leaf's steward is told to do.
 #[derive(Drop)]
@@ -35,7 +36,7 @@ pub enum Task {
 
 impl<'t, B: Berth> Members<'t, B> {
     /// Starts each leaf, one after another.
-    pub fn start_all<R: Wait, G: Gate>(
+    pub fn start_all<R: Wait + Threads + Sync, G: Gate>(
         &mut self,
         rt: &R,
         alloc: Global,
@@ -56,7 +57,7 @@ impl<'t, B: Berth> Members<'t, B> {
     }
 
     /// Lets the steward of that leaf do what it is told, and gives the lines of that.
-    pub fn act<R: Wait, G: Gate>(
+    pub fn act<R: Wait + Threads + Sync, G: Gate>(
         &mut self,
         rt: &R,
         alloc: Global,
@@ -93,7 +94,7 @@ impl<'t, B: Berth> Members<'t, B> {
 }
 
 // Lets a leaf's steward do what it is told. All seats of the leaf meet before that and behind it.
-fn act_on<'t, R: Wait, B: Berth, G: Gate>(
+fn act_on<'t, R: Wait + Threads + Sync, B: Berth, G: Gate>(
     rt: &R,
     alloc: Global,
     gate: &G,
@@ -120,7 +121,7 @@ fn act_on<'t, R: Wait, B: Berth, G: Gate>(
 }
 
 // Does what the leaf's steward is told.
-fn do_task<'t, R: Wait, B: Berth, G: Gate>(
+fn do_task<'t, R: Wait + Threads + Sync, B: Berth, G: Gate>(
     rt: &R,
     alloc: Global,
     gate: &G,
@@ -142,7 +143,7 @@ fn do_task<'t, R: Wait, B: Berth, G: Gate>(
 }
 
 // Starts a leaf.
-fn start<'t, R: Wait, B: Berth, G: Gate>(
+fn start<'t, R: Wait + Threads + Sync, B: Berth, G: Gate>(
     rt: &R,
     alloc: Global,
     gate: &G,
@@ -160,7 +161,7 @@ fn start<'t, R: Wait, B: Berth, G: Gate>(
 }
 
 // Flushes the table in that place.
-fn flush<'t, R: Wait, B: Berth, G: Gate>(
+fn flush<'t, R: Wait + Threads + Sync, B: Berth, G: Gate>(
     rt: &R,
     alloc: Global,
     gate: &G,
@@ -181,7 +182,7 @@ fn flush<'t, R: Wait, B: Berth, G: Gate>(
 }
 
 // Kills a leaf.
-fn kill<'t, R: Wait, B: Berth, G: Gate>(
+fn kill<'t, R: Wait + Threads + Sync, B: Berth, G: Gate>(
     rt: &R,
     alloc: Global,
     gate: &G,
@@ -199,7 +200,7 @@ fn kill<'t, R: Wait, B: Berth, G: Gate>(
 }
 
 // Drains a leaf, and stops that after so many steps where it has not ended by then.
-fn drain<'t, R: Wait, B: Berth, G: Gate>(
+fn drain<'t, R: Wait + Threads + Sync, B: Berth, G: Gate>(
     rt: &R,
     alloc: Global,
     gate: &G,

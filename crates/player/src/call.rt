@@ -18,6 +18,7 @@ use leaf_table::{Reply, Seat, SharedTable};
 use printed_lines::Line;
 use std::alloc::{AllocError, Global};
 use std::sync::Wait;
+use std::thread::Threads;
 
 /// What a caller asks of a table.
 #[derive(Drop)]
@@ -29,7 +30,7 @@ pub enum Request {
 
 impl<'t, B: Berth> Members<'t, B> {
     /// Plays a caller's call of that leaf's table, and gives its line.
-    pub fn call<R: Wait, G: Gate>(
+    pub fn call<R: Wait + Threads + Sync, G: Gate>(
         &mut self,
         rt: &R,
         alloc: Global,
@@ -54,7 +55,7 @@ impl<'t, B: Berth> Members<'t, B> {
 }
 
 // Calls the table in that place, by the seat there of the leaf's column.
-fn call_one<R: Wait, G: Gate>(
+fn call_one<R: Wait + Threads + Sync, G: Gate>(
     rt: &R,
     gate: &G,
     tables: &[SharedTable],
@@ -78,7 +79,7 @@ fn call_one<R: Wait, G: Gate>(
 }
 
 // Calls a table by a seat.
-fn call_by<R: Wait, G: Gate>(
+fn call_by<R: Wait + Threads + Sync, G: Gate>(
     rt: &R,
     gate: &G,
     shared: &SharedTable,

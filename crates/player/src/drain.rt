@@ -19,6 +19,7 @@ use leaf_machine::{Copied, Copying, Down, Notes, PrepareFault, Prepared, Prepari
 use printed_lines::{Ending, Line};
 use std::alloc::{AllocError, Global};
 use std::sync::Wait;
+use std::thread::Threads;
 
 /// How the shutting of a leaf's tables ended.
 #[derive(Drop)]
@@ -36,7 +37,7 @@ pub enum Shut<'t, B: Berth> {
 }
 
 /// Treats the tables that are left, and copies them all into the region. Where that has not ended after so many steps, it kills the leaf.
-pub fn drain<'t, R: Wait, B: Berth, G: Gate>(
+pub fn drain<'t, R: Wait + Threads + Sync, B: Berth, G: Gate>(
     rt: &R,
     alloc: Global,
     gate: &G,
@@ -69,7 +70,7 @@ pub fn drain<'t, R: Wait, B: Berth, G: Gate>(
 }
 
 /// Treats one table after another until the copy of all is planned, or no step is left, or one fails.
-fn shut_all<'t, R: Wait, B: Berth, G: Gate>(
+fn shut_all<'t, R: Wait + Threads + Sync, B: Berth, G: Gate>(
     rt: &R,
     alloc: Global,
     gate: &G,
@@ -102,7 +103,7 @@ fn shut_all<'t, R: Wait, B: Berth, G: Gate>(
 }
 
 /// Gives up a leaf whose drain is stopped, with the lines of its notes behind the others.
-fn killed<'t, R: Wait, B: Berth, G: Gate>(
+fn killed<'t, R: Wait + Threads + Sync, B: Berth, G: Gate>(
     rt: &R,
     gate: &G,
     number: u32,
@@ -118,7 +119,7 @@ fn killed<'t, R: Wait, B: Berth, G: Gate>(
 }
 
 /// Copies the tables to the end, or until no step is left or the region fails.
-fn copy_all<'t, R: Wait, B: Berth, G: Gate>(
+fn copy_all<'t, R: Wait + Threads + Sync, B: Berth, G: Gate>(
     rt: &R,
     gate: &G,
     leaf: Copying<'t, B>,

@@ -22,6 +22,7 @@ use leaf_table::Seat;
 use printed_lines::{Ending, Line};
 use std::alloc::{AllocError, Global};
 use std::sync::Wait;
+use std::thread::Threads;
 
 /// One leaf: down, up, or shutting its tables. A leaf that copies them never rests between two commands.
 #[derive(Drop)]
@@ -55,7 +56,7 @@ impl<'t, B: Berth> OneLeaf<'t, B> {
     }
 
     /// Starts a leaf that is down.
-    pub fn start<R: Wait, G: Gate>(
+    pub fn start<R: Wait + Threads + Sync, G: Gate>(
         self,
         rt: &R,
         alloc: Global,
@@ -81,7 +82,7 @@ impl<'t, B: Berth> OneLeaf<'t, B> {
     }
 
     /// Flushes the table in that place of a leaf that is up.
-    pub fn flush<R: Wait, G: Gate>(
+    pub fn flush<R: Wait + Threads + Sync, G: Gate>(
         &mut self,
         rt: &R,
         table: u32,
@@ -105,7 +106,7 @@ impl<'t, B: Berth> OneLeaf<'t, B> {
     }
 
     /// Gives up a leaf that is not down, with what its tables hold.
-    pub fn kill<R: Wait, G: Gate>(
+    pub fn kill<R: Wait + Threads + Sync, G: Gate>(
         self,
         rt: &R,
         gate: &G,
@@ -126,7 +127,7 @@ impl<'t, B: Berth> OneLeaf<'t, B> {
     }
 
     /// Drains a leaf that is not down, and gives the lines of its notes, told with its number. Where that has not ended after so many steps, it kills the leaf.
-    pub fn drain<R: Wait, G: Gate>(
+    pub fn drain<R: Wait + Threads + Sync, G: Gate>(
         self,
         rt: &R,
         alloc: Global,

@@ -3,7 +3,7 @@ use Rattle.std.specs.Prelude.{ℕ, List, [], ◌∷◌, map, None, Option, unwra
 use Rattle.std.specs.List.{find}
 use Rattle.std.specs.Str.{bytes_eq}
 use Rattle.leaf_model.specs.Content.{Contents}
-use Rattle.table_state.specs.Tables.{Table}
+use Rattle.table_state.specs.Tables.{Table, no_store}
 use Rattle.region_layout.specs.declared.image.TableImage.{TableImage}
 
 -- a table of this name as an image has it
@@ -22,7 +22,7 @@ contents_of t = record { rows = t.rows; horizon = t.horizon }
 
 -- the table that a table of an image is
 abbrev pub table_of : TableImage → Table
-table_of t = record { contents = contents_of t; writes = t.writes; pending = None }
+table_of t = record { contents = contents_of t; writes = t.writes; pending = None; store = no_store }
 
 -- a table that had no write
 abbrev pub empty_image : List ℕ → TableImage

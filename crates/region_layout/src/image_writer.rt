@@ -91,7 +91,8 @@ fn put_counted_rows(out: &mut Vec<u8>, table: &TableState) -> Result<(), AllocEr
     ensures bytes { OnOk result (out.new.items ≡ out.old.items ++ (u64_bytes (length table.now.contents.rows) ++ rows_bytes table.now.contents.rows)) }
     ensures held { OnOk result (IsHeld table.now.contents) }
 {
-    let rows = table.tail_rows();
+    table.stands();
+    let rows = table.to_rows(*out.allocator())?;
     put_u64(out, rows.len() as u64)?;
-    put_rows(out, rows)
+    put_rows(out, &rows)
 }

@@ -7,7 +7,9 @@ mod held;
 mod parts;
 mod sealing;
 mod table;
+mod tables;
 
 pub use fault::{AddFault, Added};
 pub use parts::Parts;
 pub use table::TableState;
+pub use tables::Tables;

@@ -92,7 +92,7 @@ fn added(reply: &Reply) -> (u64, u64, u64) {
 }
 
 /// Opens a table that is not founded with nothing in it. The number of the entry.
-fn open_empty<R: Wait>(
+fn open_empty<R: Wait + Threads + Sync>(
     rt: &R,
     alloc: Global,
     shared: &SharedTable,
@@ -114,7 +114,7 @@ fn open_empty<R: Wait>(
 }
 
 /// Takes what was not taken, and flushes that.
-fn take_and_flush<R: Wait>(
+fn take_and_flush<R: Wait + Threads + Sync>(
     rt: &R,
     shared: &SharedTable,
     steward: &mut Seat,
@@ -141,7 +141,7 @@ fn take_and_flush<R: Wait>(
 }
 
 /// Asks a table that is shut, opens it with nothing in it, and adds a row.
-fn begin<R: Wait>(
+fn begin<R: Wait + Threads + Sync>(
     rt: &R,
     alloc: Global,
     shared: &SharedTable,
@@ -168,7 +168,7 @@ fn begin<R: Wait>(
 }
 
 /// Shuts the table, adds a row to it, and hands it over.
-fn end<R: Wait>(
+fn end<R: Wait + Threads + Sync>(
     rt: &R,
     alloc: Global,
     shared: &SharedTable,
@@ -191,7 +191,7 @@ fn end<R: Wait>(
 }
 
 /// Lives the life of a table. What its parts tell, and how many entries the caller and the steward have then seen.
-fn live<R: Wait>(
+fn live<R: Wait + Threads + Sync>(
     rt: &R,
     alloc: Global,
     berth: &MemBerth,
@@ -218,7 +218,12 @@ fn one_life(rt: HostRuntime) -> Result<(), Fail> {
 }
 
 /// Adds in a thread that owns its seat. The number of the entry.
-fn adder<R: Wait>(rt: &R, shared: &SharedTable, seat: Seat, rows: Rows) -> (Seat, u64)
+fn adder<R: Wait + Threads + Sync>(
+    rt: &R,
+    shared: &SharedTable,
+    seat: Seat,
+    rows: Rows,
+) -> (Seat, u64)
     requires seat { IsSeatOf seat shared.now.site }
     requires caller { IsCaller seat }
     requires rows { AllByRecursion IsRow rows }
@@ -258,7 +263,7 @@ fn add_both<R: Threads + Wait + Sync>(
 }
 
 /// Counts the rows.
-fn count<R: Wait>(
+fn count<R: Wait + Threads + Sync>(
     rt: &R,
     alloc: Global,
     shared: &SharedTable,
@@ -299,7 +304,7 @@ fn removed(reply: &Reply) -> (u64, u64) {
 }
 
 /// Removes the rows before the time 6, and then all but none.
-fn remove<R: Wait>(rt: &R, shared: &SharedTable, seat: &mut Seat) -> Removed
+fn remove<R: Wait + Threads + Sync>(rt: &R, shared: &SharedTable, seat: &mut Seat) -> Removed
     requires seat { IsSeatOf seat.old shared.now.site × IsCaller seat.old }
     ensures seat { IsSeatOf seat.new shared.now.site }
 {

@@ -2,6 +2,7 @@
 ghost use Rattle.std.specs.Prelude.{ℕ};
 
 use std::marker::Brand;
+use std::thread::Threads;
 
 /// One call and its reply. Its number is its place in the history, from 1.
 pub struct Entry<C, R> {
@@ -32,11 +33,13 @@ pub trait Object: Send + Drop {
     ghost may: { Self.Base → List (Entry Self.Call Self.Reply) → ℕ → Self.Call → Type 0 };
 
     ghost use Rattle.std.specs.Prelude.{ℕ, List};
+    ghost use Rattle.std.specs.Thread.{IsSync};
     ghost use Rattle.turnstile.specs.Objects.{MayStep, Steps};
 
     /// Makes the call, whose entry has this number.
-    fn step(&mut self, call: Self::Call, number: u64) -> Self::Reply
-        requires { MayStep legal stands may self.old call number }
+    fn step<R: Threads + Sync>(&mut self, rt: &R, call: Self::Call, number: u64) -> Self::Reply
+        requires sync { IsSync R.row }
+        requires ready { MayStep legal stands may self.old call number }
         ensures { Steps legal stands may self.old call number result self.new };
 }
 

@@ -18,6 +18,7 @@ use std::alloc::{AllocError, Global};
 use std::marker::Brand;
 use std::snapshot::Snapshot;
 use std::sync::Wait;
+use std::thread::Threads;
 
 // Draws a ticket.
 fn draw<O: Object>(turns: &Turns<O>, place: &mut Place<O>) -> u64
@@ -130,7 +131,7 @@ fn leave<O: Object>(turns: &Turns<O>, place: &mut Place<O>, ticket: u64, value: 
 }
 
 // Takes one turn: the value comes out, makes its step, its entry is posted, and it goes back.
-pub(crate) fn take_turn<O: Object, C: Clock, R: Wait, G: Gate>(
+pub(crate) fn take_turn<O: Object, C: Clock, R: Wait + Threads + Sync, G: Gate>(
     rt: &R,
     turns: &Turns<O>,
     place: &mut Place<O>,
@@ -153,7 +154,7 @@ pub(crate) fn take_turn<O: Object, C: Clock, R: Wait, G: Gate>(
     let (ticket, mut value) = enter(rt, turns, place);
     gate.within(leaf, table);
     let said = Snapshot::of(&call);
-    let reply = value.step(call, ticket + 1);
+    let reply = value.step(rt, call, ticket + 1);
     post_call::<O, C>(turns, place, ticket, &said, &reply, id);
     leave(turns, place, ticket, value);
     (reply, ticket + 1)

@@ -10,6 +10,7 @@ use berth_face::Gate;
 use std::alloc::{AllocError, Global};
 use std::marker::Model;
 use std::sync::Wait;
+use std::thread::Threads;
 
 /// An object shared by turns. Each call draws a ticket, waits until it is served, makes one step of the object, and posts
 /// one entry of its history. The history is not kept in memory; its length is.
@@ -66,7 +67,7 @@ impl<O: Object> Turnstile<O> {
 
     /// Takes a turn, makes one step and posts its entry, whose number is then the seat's `seen`. The gate is called inside
     /// the turn with the numbers of leaf and table, which are for it alone.
-    pub fn call<C: Clock, R: Wait, G: Gate>(
+    pub fn call<C: Clock, R: Wait + Threads + Sync, G: Gate>(
         &self,
         rt: &R,
         seat: &mut Seat<O>,

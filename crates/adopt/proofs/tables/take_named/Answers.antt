@@ -1,5 +1,7 @@
-use Rattle.std.proofs.Common.{◌≡◌, rules, length, position, Option, Some, None, unwrap_or, refl, sym, ap, ◌∙◌}
+use Rattle.std.proofs.Common.{◌≡◌, rules, length, position, Option, Some, None, unwrap_or, refl, sym, ap, subst, ◌∙◌}
+use Rattle.std.specs.Prelude.{IfOk}
 use Rattle.std.proofs.lemmas.Option.{slice_get_read}
+use Rattle.table_state.specs.Tables.{Table, bare}
 use Rattle.region_layout.specs.declared.image.TableImage.{TableImage}
 use Rattle.region_layout.specs.Images.{empty_image, is_named, table_of}
 use Rattle.region_layout.specs.Region.{IsTableImage}
@@ -22,7 +24,7 @@ returns-in-Some-clause-taken c =
     let at : position (is_named name) items ≡ Some i = search rules in
     let found = named_at (is_named name) items i at in
     let here = slice_get_read items (length items) i c.remove.result refl found.0 c.remove.ensures.value in
-    c.table_in.ensures ∙ sym (ap (λ (o : Option TableImage). table_of (unwrap_or o (empty_image name))) (found.1 ∙ here))
+    subst (λ (t : Table). IfOk c.table_in.result (λ u. bare u ≡ t)) (sym (ap (λ (o : Option TableImage). table_of (unwrap_or o (empty_image name))) (found.1 ∙ here))) c.table_in.ensures
 
 pub returns-in-Some-clause-left : goal.returns-in-Some-clause-left
 returns-in-Some-clause-left c =
@@ -37,7 +39,7 @@ returns-in-None-clause-taken c =
     let items = c.args.images.now.items in
     let name = c.args.name.now in
     let none : position (is_named name) items ≡ None = search rules in
-    c.new.ensures ∙ sym (ap (λ (o : Option TableImage). table_of (unwrap_or o (empty_image name))) (named_nowhere (is_named name) items none))
+    ap bare c.new.ensures ∙ sym (ap (λ (o : Option TableImage). table_of (unwrap_or o (empty_image name))) (named_nowhere (is_named name) items none))
 
 pub returns-in-None-clause-left : goal.returns-in-None-clause-left
 returns-in-None-clause-left c =

@@ -93,12 +93,12 @@ returns-in-Tables-clause-one g c =
 pub returns-in-Tables-clause-fresh : goal.returns-in-Tables-clause-fresh
 returns-in-Tables-clause-fresh g c =
     let adopted = subst (AreAdopted (length c.args.names.now)) c.in-Tables.is c.in_ok-found.ensures.adopted in
-    (are_fresh c.from_image.result.tables.items (subst AreSettled (sym c.from_image.ensures.tables) adopted.1), ap (λ (l : LogState). l.owed) c.from_image.ensures.log)
+    (are_fresh c.from_image.result.tables (subst AreSettled (sym c.from_image.ensures.tables) adopted.1), ap (λ (l : LogState). l.owed) c.from_image.ensures.log)
 
 pub returns-in-Tables-clause-room : goal.returns-in-Tables-clause-room
 returns-in-Tables-clause-room g c =
     let adopted = subst (AreAdopted (length c.args.names.now)) c.in-Tables.is c.in_ok-found.ensures.adopted in
-    have_room c.from_image.result.tables.items (subst AreSettled (sym c.from_image.ensures.tables) adopted.1)
+    have_room c.from_image.result.tables (subst AreSettled (sym c.from_image.ensures.tables) adopted.1)
 
 pub returns-in-Tables-clause-told : goal.returns-in-Tables-clause-told
 returns-in-Tables-clause-told g c =
@@ -109,7 +109,7 @@ returns-in-Tables-clause-told g c =
     let opened = c.from_image.result in
     let answer = c.in_ok-found.ensures.told told in
     let found = subst (IsFound names old.held.region) c.in-Tables.is answer.0 in
-    started_by_memory names opened.tables.items opened.log opened.way old new answer.1 c.in-Tables.adopted found c.from_image.ensures.tables c.from_image.ensures.log c.from_image.ensures.way (c.adopt.ensures.disk told)
+    started_by_memory names opened.tables opened.log opened.way old new answer.1 c.in-Tables.adopted found c.from_image.ensures.tables c.from_image.ensures.log c.from_image.ensures.way (c.adopt.ensures.disk told)
 
 pub returns-in-Tables-clause-way : goal.returns-in-Tables-clause-way
 returns-in-Tables-clause-way g c =
@@ -146,14 +146,14 @@ returns-in_ok-recovered-in-NoTables-clause-one g c =
 pub returns-in_ok-recovered-in-NoTables-clause-fresh :
     goal.returns-in_ok-recovered-in-NoTables-clause-fresh
 returns-in_ok-recovered-in-NoTables-clause-fresh g c = (
-  are_fresh c.from_log.result.tables.items (subst AreSettled (sym c.from_log.ensures.tables) c.in_ok-recovered-in-NoTables.ensures.settled),
+  are_fresh c.from_log.result.tables (subst AreSettled (sym c.from_log.ensures.tables) c.in_ok-recovered-in-NoTables.ensures.settled),
   ap (λ (l : LogState). l.owed) c.from_log.ensures.log ∙ c.in_ok-recovered-in-NoTables.ensures.none_owed.0,
 )
 
 pub returns-in_ok-recovered-in-NoTables-clause-room :
     goal.returns-in_ok-recovered-in-NoTables-clause-room
 returns-in_ok-recovered-in-NoTables-clause-room g c =
-    have_room c.from_log.result.tables.items (subst AreSettled (sym c.from_log.ensures.tables) c.in_ok-recovered-in-NoTables.ensures.settled)
+    have_room c.from_log.result.tables (subst AreSettled (sym c.from_log.ensures.tables) c.in_ok-recovered-in-NoTables.ensures.settled)
 
 pub returns-in_ok-recovered-in-NoTables-clause-told :
     goal.returns-in_ok-recovered-in-NoTables-clause-told
@@ -171,7 +171,7 @@ returns-in_ok-recovered-in-NoTables-clause-told g c =
     let read = recovered_as names new.held.disk (sym c.from_log.ensures.tables) (sym c.from_log.ensures.log) (said.told told_mid) in
     let disk : new.held.disk ≡ begun old.held.disk = said.disk told_mid ∙ ap begun (c.adopt.ensures.disk told) in
     let region = c.recover.ensures.region told_mid ∙ answer.1 in
-    started_by_disk names opened.tables.items opened.log opened.way old new region c.in-NoTables.why why read c.from_log.ensures.way disk
+    started_by_disk names opened.tables opened.log opened.way old new region c.in-NoTables.why why read c.from_log.ensures.way disk
 
 pub returns-in_ok-recovered-in-NoTables-clause-way :
     goal.returns-in_ok-recovered-in-NoTables-clause-way

@@ -1,12 +1,17 @@
-use Rattle.std.proofs.Common.{◌≡◌, ◌∙◌, List, ℕ, length, IsTrue, sym, subst}
+use Rattle.std.proofs.Common.{◌≡◌, ◌∙◌, List, ℕ, [], length, map, IsTrue, sym, ap, subst}
 use Rattle.std.proofs.lemmas.Result.{err_from_is_err_and}
 use Rattle.berth_face.specs.Berth.{Pair}
 use Rattle.disk_backup.specs.Scanning.{StepsFrom, BeginsScan}
 use Rattle.disk_backup.proofs.Staying.{through_stay}
 use Rattle.log_recovery.specs.declared.fault.RecoveryFault.TheVariants as fault
 use Rattle.log_recovery.specs.Recovery.{IsRecoveryRefusal}
+use Rattle.table_state.specs.Tables.{bare}
+use Rattle.log_recovery.proofs.Applying.{bare_tables}
 use Rattle.log_recovery.proofs.Reading.{err_is, never_refused}
 use Rattle.log_recovery.proofs.recovery.recover.Goals as goal
+
+pub read_on-requires-clause-empty : goal.read_on-requires-clause-empty
+read_on-requires-clause-empty g c κs within = ap (map bare) c.in_ok-tables.ensures ∙ bare_tables c.args.names.now []
 
 pub returns-in_err-log-clause-sound : goal.returns-in_err-log-clause-sound
 returns-in_err-log-clause-sound g c =

@@ -1,4 +1,4 @@
-use Rattle.std.proofs.Common.{subst, sym}
+use Rattle.std.proofs.Common.{rules, ◌≡◌, subst, sym}
 use Rattle.std.specs.List.{AllByRecursion}
 use Rattle.leaf_model.specs.Values.{IsRow}
 use Rattle.region_layout.proofs.Tables.{are_rows}
@@ -6,5 +6,5 @@ use Rattle.region_layout.proofs.image_writer.put_counted_rows.Goals as goal
 
 pub put_rows-requires : goal.put_rows-requires
 put_rows-requires c =
-    let held = c.tail_rows-rows.ensures.held in
-    subst (AllByRecursion IsRow) (sym c.tail_rows-rows.ensures.rows) (are_rows c.args.table.now.contents.horizon c.args.table.now.contents.rows held.each)
+    let all : c.deref.result.now ≡ c.args.table.now.contents.rows = search rules in
+    subst (AllByRecursion IsRow) (sym all) (are_rows c.args.table.now.contents.horizon c.args.table.now.contents.rows c.stands.ensures.held.each)
