@@ -1,5 +1,5 @@
 -- A text that is cut at line ends means what its parts mean.
-use Rattle.std.proofs.Common.{◌≡◌, ◌<◌, ◌≤◌, ◌+◌, ◌-◌, ◌^◌, ◌⊎◌, inl, inr, ℕ, suc, zero, List, [], ◌∷◌, ◌++◌, length, take, drop, map, refl, ap, sym, subst, ◌∙◌, arith, add-one, zero-add, Bool, true, false, eqb, Result, Ok, Err, Bor, add-zero, append_assoc, length-append}
+use Rattle.std.proofs.Common.{◌≡◌, ◌<◌, ◌≤◌, ◌+◌, ◌-◌, ◌⊎◌, inl, inr, ℕ, suc, zero, List, [], ◌∷◌, ◌++◌, length, take, drop, map, refl, ap, sym, subst, ◌∙◌, arith, zero-add, Bool, true, false, eqb, Result, Ok, Err, Bor, add-zero, append_assoc, length-append}
 use Rattle.std.specs.Prelude.{IfOk, IfErr}
 use Rattle.std.specs.List.{AllByRecursion, AllZip, onto_first}
 use Rattle.std.proofs.lemmas.Bool.{eqb-true}
@@ -12,7 +12,7 @@ use Rattle.script_text.specs.declared.fault.ScriptFault.{ScriptFault}
 use Rattle.script_text.specs.declared.fault.ScriptFault.TheVariants.{At, NoMemory}
 use Rattle.script_text.specs.Lines.{before, behind, lines, lines_of, without_return}
 use Rattle.script_text.specs.Commands.{Fault, joined, with_first, one_row, rows_from}
-use Rattle.script_text.specs.Script.{IfAt, ParsesAs}
+use Rattle.script_text.specs.Script.{IfAt}
 use Rattle.script_text.specs.Parts.{IsLineCut, IsPartRead, IsTextCut, ends_line, fault_behind, lines_of_parts}
 use Rattle.script_text.proofs.Cut.{pieces_cut, drop_next}
 

@@ -1,8 +1,6 @@
 -- Lines and rows, read one after another.
-use Rattle.std.proofs.Common.{◌≡◌, ◌+◌, ◌++◌, ℕ, zero, suc, List, [], ◌∷◌, take, drop, refl, ap, sym, ◌∙◌, arith, Option, Some, None, Result, Ok, Err, Bool, true, false, append_assoc, add-zero, subst}
+use Rattle.std.proofs.Common.{◌≡◌, ◌+◌, ◌++◌, ℕ, zero, suc, List, [], ◌∷◌, drop, refl, ap, sym, ◌∙◌, arith, Option, Some, None, Result, Ok, Err, Bool, true, false, append_assoc, add-zero, subst}
 use Rattle.std.specs.List.{AllByRecursion}
-use Rattle.leaf_model.specs.declared.rows.Row.{Row}
-use Rattle.row_json.specs.Row.{row_of}
 use Rattle.script_text.specs.declared.fleet.Fleet.{Fleet}
 use Rattle.script_text.specs.declared.fault.ScriptFault.{ScriptFault}
 use Rattle.script_text.specs.declared.fault.ScriptFault.TheVariants.{At, NoMemory}
@@ -11,7 +9,7 @@ use Rattle.script_text.specs.declared.reading.Step.{Step}
 use Rattle.script_text.specs.declared.script.Script.{Script}
 use Rattle.script_text.specs.Words.{first_word}
 use Rattle.script_text.specs.Lines.{is_skipped}
-use Rattle.script_text.specs.Commands.{Fault, joined, with_first, first_command, verb_of, one_row, rows_from}
+use Rattle.script_text.specs.Commands.{Fault, joined, with_first, first_command, verb_of}
 use Rattle.script_text.specs.Bursts.{step_of}
 use Rattle.script_text.specs.Script.{NumberedLine, IfAt, ParsesAs, begun, behind_step, closed, read_from, next_line, script_at, script_behind, script_of}
 use Rattle.script_text.specs.Lines.{lines_of}
