@@ -91,12 +91,14 @@ adds() {
   }'
 }
 
-# once NAME INPUT COMMAND..: runs a command over an input; adds its processor seconds and its peak memory in KiB to the runs of that name, and keeps its answer
+# once NAME INPUT COMMAND..: runs a command over an input; adds its processor seconds, its peak memory in KiB and its seconds by the clock to the runs of that
+# name, and keeps its answer
 once() {
-  local name=$1 input=$2
+  local name=$1 input=$2 begun
   shift 2
+  begun=$EPOCHREALTIME
   /usr/bin/time -o "$out/time" -f '%U %S %M' "$@" <"$input" >"$out/$name.answer" 2>"$out/error" || fail "$name failed: $(tail -n 1 "$out/error")"
-  awk '{ print $1 + $2, $3 }' "$out/time" >>"$out/$name.times"
+  awk -v begun="$begun" -v ended="$EPOCHREALTIME" '{ printf "%s %s %.6f\n", $1 + $2, $3, ended - begun }' "$out/time" >>"$out/$name.times"
 }
 
 # median NAME [COLUMN]: of the figures of its runs, of their first column where none is named

@@ -1,13 +1,14 @@
 -- The rows of a text, and how many have a time in a range.
-use Rattle.std.specs.Prelude.{ℕ, ◌+◌, ◌&&◌, List, [], ◌∷◌, map, count_by, Bool, if◌then◌else◌, Result, Ok, Err}
+use Rattle.std.specs.Prelude.{◌≡◌, ℕ, ◌+◌, ◌&&◌, List, [], ◌∷◌, map, count_by, length, Bool, if◌then◌else◌, Result, Ok, Err, IfOk, IfErr}
 use Rattle.std.specs.Int.RustNames.{int_le}
 use Rattle.leaf_model.specs.declared.rows.Row.{Row}
 use Rattle.row_json.specs.declared.object.RowFault.{RowFault}
 use Rattle.row_json.specs.Row.{row_of}
-use Rattle.script_text.specs.Lines.{lines, without_return, is_blank}
+use Rattle.script_text.specs.Lines.{lines, lines_of, without_return, is_blank}
 use Rattle.play.specs.declared.count.CountError.{CountError}
 use Rattle.play.specs.declared.count.CountError.TheVariants.{Fault, NoMemory}
 use Rattle.play.specs.declared.count.LineFault.{LineFault}
+use Rattle.play.specs.declared.count.PartCount.{PartCount}
 use Rattle.play.specs.declared.words.Range.{Range}
 
 -- the row of line n before those of the lines after it, or the first fault
@@ -41,3 +42,14 @@ count_of range text = count_in range (rows_of text)
 abbrev pub IfFault : CountError → (LineFault → Type 0) → Type 0
 IfFault (Fault found) P = P found
 IfFault NoMemory P = Unit {0}
+
+-- what was counted of a part of a text, whose first line has the number 1
+pub record IsPartCounted (range : Range) (part : List ℕ) (counted : Result PartCount CountError) : Type 0 where
+  pub lines : IfOk counted (λ count. count.lines ≡ length (lines_of part))
+  pub rows : IfOk counted (λ count. count_of range part ≡ Ok count.rows)
+  pub refused : IfErr counted (λ e. IfFault e (λ f. count_of range part ≡ Err f))
+
+-- the error of a part, with a fault's line counted in the whole, where so many lines stand before the part
+abbrev pub error_behind : ℕ → CountError → CountError
+error_behind lines (Fault found) = Fault (record { line = lines + found.line; fault = found.fault })
+error_behind lines NoMemory = NoMemory

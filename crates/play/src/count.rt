@@ -1,9 +1,13 @@
 // The rows of a source whose time is in a range.
-ghost use Rattle.std.specs.Prelude.{◌≡◌, ◌≢◌, Ok, Err, IfOk, IfErr, IfSome};
+ghost use Rattle.std.specs.Prelude.{◌≡◌, ◌≢◌, ◌+◌, ◌<◌, ◌^◌, ℕ, List, length, Ok, Err, IfOk, IfErr, IfSome};
+ghost use Rattle.std.specs.Borrow.{Bor};
+ghost use Rattle.std.specs.List.{AllZip};
 ghost use Rattle.row_json.specs.Row.{row_of};
 ghost use Rattle.berth_face.specs.Causes.{Rose};
 ghost use Rattle.berth_face.specs.Streams.{TakesAtMost};
-ghost use Rattle.play.specs.Count.{count_of, is_in, IfFault};
+ghost use Rattle.script_text.specs.Lines.{lines_of};
+ghost use Rattle.play.specs.declared.count.CountError.TheVariants.{NoMemory};
+ghost use Rattle.play.specs.Count.{count_of, is_in, IfFault, IsPartCounted, error_behind};
 ghost use Rattle.play.specs.Outcome.{IsCounted, IsCutShort, IsNoRows, IfScript, UnlessCutOff, UnlessWritten, TakesText, count_verdict};
 ghost use Rattle.play.specs.Source.{most_taken};
 
@@ -12,9 +16,12 @@ use crate::stream::{ReadError, read_all, write_all};
 use crate::words::Range;
 use berth_face::{Sink, Source};
 use leaf_model::Row;
+use rayon::prelude::*;
 use row_json::RowFault;
-use script_text::{Why, cut_line, is_blank, without_return};
-use std::alloc::Global;
+use script_text::{Why, cut_line, is_blank, parts_of, without_return};
+use std::alloc::{AllocError, Global};
+use std::collections::VecDeque;
+use std::thread::Threads;
 
 /// A line that is no row: its number, from 1, and its first fault.
 #[derive(Debug, Drop)]
@@ -29,8 +36,24 @@ pub enum CountError {
     NoMemory,
 }
 
+impl From<AllocError> for CountError {
+    ghost from_gives = { λ _ e. e ≡ NoMemory };
+
+    fn from(_e: AllocError) -> CountError {
+        CountError::NoMemory
+    }
+}
+
+/// What was counted of a part of a text: its lines, and its rows that are in the range.
+#[derive(Clone, Copy, Debug)]
+pub struct PartCount {
+    pub lines: u64,
+    pub rows: u64,
+}
+
 /// Reads a source, counts its rows that are in the range, and writes the line that tells the count.
-pub fn count_source<S: Source, K: Sink>(
+pub fn count_source<R: Threads + Sync, S: Source, K: Sink>(
+    rt: &R,
     alloc: Global,
     range: Range,
     source: &mut S,
@@ -58,7 +81,7 @@ pub fn count_source<S: Source, K: Sink>(
         }
         Err(ReadError::NoMemory) => return Status::NoMemory,
     };
-    let count = match count_rows(alloc, text.as_slice(), range) {
+    let count = match count_rows(rt, alloc, text.as_slice(), range) {
         Ok(count) => count,
         Err(CountError::Fault(found)) => {
             return Status::Script {
@@ -77,12 +100,67 @@ pub fn count_source<S: Source, K: Sink>(
     }
 }
 
-/// How many rows of the text are in the range.
-fn count_rows(alloc: Global, text: &[u8], range: Range) -> Result<u64, CountError>
+/// How many rows of the text are in the range. Its parts are read by threads side by side; the first fault in the order of
+/// the lines decides, whichever part is read first.
+fn count_rows<R: Threads + Sync>(
+    rt: &R,
+    alloc: Global,
+    text: &[u8],
+    range: Range,
+) -> Result<u64, CountError>
     ensures counted { IfOk result (λ n. count_of range text.now ≡ Ok n) }
     ensures refused { IfErr result (λ e. IfFault e (λ f. count_of range text.now ≡ Err f)) }
 {
-    let mut rest = text;
+    let parts = parts_of(alloc, text)?;
+    let mut counts = VecDeque::from_vec(count_each(rt, alloc, &range, parts.as_slice())?);
+    let mut lines = 0u64;
+    let mut rows = 0u64;
+    while let Some(count) = counts.pop_front() {
+        match count {
+            Ok(part) => {
+                lines += part.lines;
+                rows += part.rows;
+            }
+            Err(error) => return Err(error_behind(lines, error)),
+        }
+    }
+    Ok(rows)
+}
+
+/// The count of each part, in order, by as many threads as there are processors.
+fn count_each<R: Threads + Sync>(
+    rt: &R,
+    alloc: Global,
+    range: &Range,
+    parts: &[&[u8]],
+) -> Result<Vec<Result<PartCount, CountError>>, AllocError>
+    ensures { IfOk result (λ counts. AllZip (λ (part : Bor (List ℕ)) count. IsPartCounted range.now part.now count) parts.now counts.items) }
+{
+    parts
+        .par_iter()
+        .with_min_len(1)
+        .map(
+            |part: &&[u8]| -> Result<PartCount, CountError>
+                ensures { IsPartCounted range.entry.now part.now.now result }
+            { count_one(alloc, range, part) },
+        )
+        .collect(rt, alloc)
+}
+
+fn count_one(alloc: Global, range: &Range, part: &[u8]) -> Result<PartCount, CountError>
+    ensures { IsPartCounted range.now part.now result }
+{
+    count_part(alloc, *range, part)
+}
+
+/// How many lines a part has, and how many of its rows are in the range. The line of a fault is counted from the part's
+/// first, which is 1.
+fn count_part(alloc: Global, range: Range, part: &[u8]) -> Result<PartCount, CountError>
+    ensures lines { IfOk result (λ count. count.lines ≡ length (lines_of part.now)) }
+    ensures rows { IfOk result (λ count. count_of range part.now ≡ Ok count.rows) }
+    ensures refused { IfErr result (λ e. IfFault e (λ f. count_of range part.now ≡ Err f)) }
+{
+    let mut rest = part;
     let mut line_number = 0u64;
     let mut count = 0u64;
     while !rest.is_empty() {
@@ -100,7 +178,24 @@ fn count_rows(alloc: Global, text: &[u8], range: Range) -> Result<u64, CountErro
             }
         }
     }
-    Ok(count)
+    Ok(PartCount {
+        lines: line_number,
+        rows: count,
+    })
+}
+
+/// The error of a part behind so many lines: a fault's line is counted from the first of all.
+fn error_behind(lines: u64, error: CountError) -> CountError
+    requires { IfFault error (λ found. lines + found.line < 2 ^ 64) }
+    ensures { result ≡ error_behind lines error }
+{
+    match error {
+        CountError::Fault(found) => CountError::Fault(LineFault {
+            line: lines + found.line,
+            fault: found.fault,
+        }),
+        CountError::NoMemory => CountError::NoMemory,
+    }
 }
 
 /// The row that the line of this number is.

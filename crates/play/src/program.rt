@@ -63,7 +63,7 @@ pub fn run<N: Bases, R: Wait + Threads + Sync, S: Source, K: Sink, B: Berth, G: 
 {
     match request_of(words) {
         None => Status::Words,
-        Some(Request::Count(range)) => count_source(alloc, range, source, sink),
+        Some(Request::Count(range)) => count_source(rt, alloc, range, source, sink),
         Some(Request::Play) => {
             play_source::<N, R, S, K, B, G>(rt, alloc, source, sink, berths, gate)
         },

@@ -49,7 +49,7 @@ pub fn play_source<N: Bases, R: Wait + Threads + Sync, S: Source, K: Sink, B: Be
         }
         Err(ReadError::NoMemory) => return Status::NoMemory,
     };
-    let script = match parse(alloc, text.as_slice()) {
+    let script = match parse(rt, alloc, text.as_slice()) {
         Ok(script) => script,
         Err(fault) => return status_of(fault),
     };

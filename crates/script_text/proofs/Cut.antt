@@ -88,8 +88,3 @@ pub drop_next : {X : Type 0} (xs : List X) (i : ℕ) (x : X) (rest : List X) →
 drop_next xs i x rest is =
     let more : length (drop i xs) ≡ length (x ∷ rest) = ap length is in
     (rw (← drop-drop 1 i xs) (ap (drop 1) is), omega (arith, more, length-drop i xs))
-
-pub drop_end : {X : Type 0} (xs : List X) (i : ℕ) → drop i xs ≡ [] → length xs ≤ i
-drop_end xs i is =
-    let none : length (drop i xs) ≡ 0 = ap length is in
-    omega (arith, none, length-drop i xs)

@@ -1,8 +1,6 @@
 -- Lines and rows, read one after another.
-use Rattle.std.proofs.Common.{◌≡◌, ◌+◌, ◌++◌, ℕ, zero, suc, List, [], ◌∷◌, take, drop, refl, ap, sym, ◌∙◌, arith, Option, Some, None, Result, Ok, Err, Bool, true, false, append_assoc, add-zero, subst}
+use Rattle.std.proofs.Common.{◌≡◌, ◌+◌, ◌++◌, ℕ, zero, suc, List, [], ◌∷◌, drop, refl, ap, sym, ◌∙◌, arith, Option, Some, None, Result, Ok, Err, Bool, true, false, append_assoc, add-zero, subst}
 use Rattle.std.specs.List.{AllByRecursion}
-use Rattle.leaf_model.specs.declared.rows.Row.{Row}
-use Rattle.row_json.specs.Row.{row_of}
 use Rattle.script_text.specs.declared.fleet.Fleet.{Fleet}
 use Rattle.script_text.specs.declared.fault.ScriptFault.{ScriptFault}
 use Rattle.script_text.specs.declared.fault.ScriptFault.TheVariants.{At, NoMemory}
@@ -11,7 +9,7 @@ use Rattle.script_text.specs.declared.reading.Step.{Step}
 use Rattle.script_text.specs.declared.script.Script.{Script}
 use Rattle.script_text.specs.Words.{first_word}
 use Rattle.script_text.specs.Lines.{is_skipped}
-use Rattle.script_text.specs.Commands.{Fault, joined, with_first, first_command, verb_of, one_row, rows_from}
+use Rattle.script_text.specs.Commands.{Fault, joined, with_first, first_command, verb_of}
 use Rattle.script_text.specs.Bursts.{step_of}
 use Rattle.script_text.specs.Script.{NumberedLine, IfAt, ParsesAs, begun, behind_step, closed, read_from, next_line, script_at, script_behind, script_of}
 use Rattle.script_text.specs.Lines.{lines_of}
@@ -25,14 +23,6 @@ joined_more first x (Err found) = refl
 pub AllByRecursion-more : {X : Type 0} (P : X → Type 0) (xs : List X) (x : X) → AllByRecursion P xs → P x → AllByRecursion P (xs ++ x ∷ [])
 AllByRecursion-more P [] x all is = (is, tt)
 AllByRecursion-more P (y ∷ ys) x all is = (all.0, AllByRecursion-more P ys x all.1 is)
-
--- one more row
-pub rows_next : (rows more : List Row) (row : Row) (n m k left : ℕ) (line : List ℕ) (lines rest : List (List ℕ)) (whole : Result (List Row) Fault) → lines ≡ line ∷ rest → one_row n (row_of line) ≡ Ok row → more ≡ rows ++ row ∷ [] → m ≡ n + 1 → left ≡ suc k → joined rows (rows_from n (take left lines)) ≡ whole → joined more (rows_from m (take k rest)) ≡ whole
-rows_next rows more row n m k left line lines rest whole cut is items next fewer so_far =
-    let first : joined rows (rows_from n (take (suc k) (line ∷ rest))) ≡ whole = subst (λ ls. joined rows (rows_from n (take (suc k) ls)) ≡ whole) cut (subst (λ j. joined rows (rows_from n (take j lines)) ≡ whole) fewer so_far) in
-    let one : joined rows (with_first (Ok row) (rows_from (n + 1) (take k rest))) ≡ whole = subst (λ read. joined rows (with_first read (rows_from (n + 1) (take k rest))) ≡ whole) is first in
-    let there : joined (rows ++ row ∷ []) (rows_from (n + 1) (take k rest)) ≡ whole = sym (joined_more rows row (rows_from (n + 1) (take k rest))) ∙ one in
-    subst (λ rs. joined rs (rows_from m (take k rest)) ≡ whole) (sym items) (subst (λ j. joined (rows ++ row ∷ []) (rows_from j (take k rest)) ≡ whole) (sym next) there)
 
 -- what is read of a line and of those after it
 abbrev pub line_with : ℕ → Fleet → NumberedLine → Result Step Fault → Result Script Fault

@@ -4,5 +4,6 @@ pub mod Commands
 pub mod Stewards
 pub mod Bursts
 pub mod Script
+pub mod Parts
 pub mod Fits
 pub mod Readings

@@ -20,9 +20,11 @@ use crate::target::leaf_in;
 use crate::verb::Task;
 use crate::words::{next_word, number_of, trimmed};
 use std::alloc::Global;
+use std::thread::Threads;
 
 /// The command that a task is with the words behind it, on the line of this number, where this text follows.
-pub fn command(
+pub fn command<R: Threads + Sync>(
+    rt: &R,
     alloc: Global,
     fleet: &Fleet,
     task: Task,
@@ -37,7 +39,7 @@ pub fn command(
     ensures enough { IfOk result (λ c. row_count c ≤ length (lines_of after.now)) }
 {
     match task {
-        Task::Add => add(alloc, fleet, words, number, after),
+        Task::Add => add(rt, alloc, fleet, words, number, after),
         Task::Expire => expire(fleet, words, number),
         Task::Keep => keep(fleet, words, number),
         Task::Query => query(alloc, fleet, trimmed(words), number),

@@ -13,9 +13,14 @@ mod keep;
 mod later;
 mod lines;
 mod parsing;
+mod parts;
 mod query;
 mod reading;
+<<<<<<< HEAD
 mod rollover;
+=======
+mod row_parts;
+>>>>>>> h-rows
 mod script;
 mod steward;
 mod target;
@@ -27,5 +32,6 @@ pub use fault::{ScriptFault, Why};
 pub use item::{Item, Items, LaneList};
 pub use lines::{cut_line, is_blank, without_return};
 pub use parsing::parse;
+pub use parts::parts_of;
 pub use script::Script;
 pub use words::time_of;

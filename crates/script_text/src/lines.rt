@@ -1,6 +1,7 @@
 // The lines of a text, and the pieces of a line.
-ghost use Rattle.std.specs.Prelude.{◌≡◌, ◌<◌, ◌≤◌, ◌+◌, ◌∷◌, ℕ, None, IfSome, length, drop, nat_le};
+ghost use Rattle.std.specs.Prelude.{◌≡◌, ◌<◌, ◌≤◌, ◌+◌, ◌-◌, ◌∷◌, ℕ, None, IfSome, length, take, drop, nat_le};
 ghost use Rattle.script_text.specs.Lines.{before, behind, lines, lines_of, without_return, is_blank, is_comment, is_skipped};
+ghost use Rattle.script_text.specs.Parts.{IsLineCut, IsTextCut};
 
 use memchr::memchr;
 
@@ -20,6 +21,7 @@ pub fn cut_line(text: &[u8]) -> (&[u8], &[u8])
     requires { 0 < length text.now }
     ensures lines { lines text.now ≡ result.0.now ∷ lines result.1.now }
     ensures shorter { length result.1.now < length text.now }
+    ensures cut { IsLineCut text.now result.0.now result.1.now }
 {
     cut_at(b'\n', text)
 }
@@ -57,11 +59,13 @@ fn is_comment(line: &[u8]) -> bool
     }
 }
 
-/// The text behind so many lines, where it has so many.
-pub fn behind_lines(text: &[u8], count: u64) -> Option<&[u8]>
-    ensures found { IfSome result (λ rest. lines_of rest.now ≡ drop count (lines_of text.now)) }
+/// The first lines of a text, so many, and the text behind them, where it has so many.
+pub fn cut_lines(text: &[u8], count: u64) -> Option<(&[u8], &[u8])>
+    ensures cut { IfSome result (λ cut. IsTextCut text.now cut.0.now cut.1.now) }
+    ensures front { IfSome result (λ cut. lines_of cut.0.now ≡ take count (lines_of text.now)) }
+    ensures behind { IfSome result (λ cut. lines_of cut.1.now ≡ drop count (lines_of text.now)) }
     ensures enough { IfSome result (λ _. count ≤ length (lines_of text.now)) }
-    ensures shorter { IfSome result (λ rest. count + length rest.now ≤ length text.now) }
+    ensures shorter { IfSome result (λ cut. count + length cut.1.now ≤ length text.now) }
     ensures none { result ≡ None → length (lines_of text.now) < count }
 {
     let mut rest = text;
@@ -72,5 +76,5 @@ pub fn behind_lines(text: &[u8], count: u64) -> Option<&[u8]>
         let (_, after) = cut_line(rest);
         rest = after;
     }
-    Some(rest)
+    Some(text.split_at(text.len() - rest.len()))
 }

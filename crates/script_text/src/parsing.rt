@@ -9,10 +9,11 @@ use crate::command::Command;
 use crate::fault::{ScriptFault, Why, fault_at};
 use crate::fleet::{Fleet, first_command};
 use crate::item::{Item, Items};
-use crate::lines::{behind_lines, cut_line, is_skipped, without_return};
+use crate::lines::{cut_line, cut_lines, is_skipped, without_return};
 use crate::reading::{Reading, Standing, read_line};
 use crate::script::Script;
 use std::alloc::{AllocError, Global};
+use std::thread::Threads;
 
 /// A line that may be a command, its number from 1, and the text behind it.
 #[derive(Clone, Copy)]
@@ -23,7 +24,7 @@ struct Line<'a> {
 }
 
 /// The script that a text is, or the first line that has a fault.
-pub fn parse(alloc: Global, text: &[u8]) -> Result<Script, ScriptFault>
+pub fn parse<R: Threads + Sync>(rt: &R, alloc: Global, text: &[u8]) -> Result<Script, ScriptFault>
     ensures parsed { IfOk result (λ script. script_of text.now ≡ Ok script) }
     ensures refused { IfErr result (λ fault. IfAt fault (λ line why. script_of text.now ≡ Err (line, why))) }
     // What is known of a script that was read.
@@ -36,12 +37,20 @@ pub fn parse(alloc: Global, text: &[u8]) -> Result<Script, ScriptFault>
         });
     };
     let fleet = first_command(alloc, first.bytes, first.number)?;
-    script_behind(alloc, &fleet, line_count(text), first.number, first.after)
+    script_behind(
+        rt,
+        alloc,
+        &fleet,
+        line_count(text),
+        first.number,
+        first.after,
+    )
 }
 
 /// The script that begins with this fleet, which stands on the line of this number, where this text follows it and the
 /// text's last line has that number.
-fn script_behind(
+fn script_behind<R: Threads + Sync>(
+    rt: &R,
     alloc: Global,
     fleet: &Fleet,
     last: u64,
@@ -58,6 +67,7 @@ fn script_behind(
     let mut last_line = fleet_line;
     while let Some(line) = next_line(rest, last_line) {
         let step = read_line(
+            rt,
             alloc,
             fleet,
             last,
@@ -123,8 +133,8 @@ fn behind_rows(text: &[u8], count: u64) -> &[u8]
     ensures lines { lines_of result.now ≡ drop count (lines_of text.now) }
     ensures shorter { count + length result.now ≤ length text.now }
 {
-    match behind_lines(text, count) {
-        Some(rest) => rest,
+    match cut_lines(text, count) {
+        Some((_, rest)) => rest,
         None => unreachable!(),
     }
 }

@@ -18,6 +18,7 @@ use crate::steward::is_second;
 use crate::verb::{Task, Verb, verb_of};
 use crate::words::cut_word;
 use std::alloc::{AllocError, Global};
+use std::thread::Threads;
 
 /// The most lanes of a burst.
 const MAX_LANES: usize = 16;
@@ -56,7 +57,8 @@ struct CommandLine<'a> {
 }
 
 /// What is read with the line of this number, where this text follows it and the text's last line has that number.
-pub fn read_line<'a>(
+pub fn read_line<'a, R: Threads + Sync>(
+    rt: &R,
     alloc: Global,
     fleet: &Fleet,
     last: u64,
@@ -84,16 +86,17 @@ pub fn read_line<'a>(
     };
     let Reading { script, standing } = reading;
     match standing {
-        Standing::Outside => outside(alloc, fleet, last, script, &line),
+        Standing::Outside => outside(rt, alloc, fleet, last, script, &line),
         Standing::Opened => opened(alloc, last, script, &line),
         Standing::Lane { earlier, lane } => in_lane(
-            alloc, fleet, last, script, earlier, lane, &line,
+            rt, alloc, fleet, last, script, earlier, lane, &line,
         ),
     }
 }
 
 /// What is read with a line outside bursts.
-fn outside(
+fn outside<R: Threads + Sync>(
+    rt: &R,
     alloc: Global,
     fleet: &Fleet,
     last: u64,
@@ -114,7 +117,7 @@ fn outside(
             Err(fault) => Err(fault_inside(last, fault)),
         },
         Verb::Task(task) => {
-            let command = command(alloc, fleet, task, line.words, line.number, line.after)?;
+            let command = command(rt, alloc, fleet, task, line.words, line.number, line.after)?;
             let rows = row_count(&command);
             let script = with_item(script, Item::One(command))?;
             Ok(stepped(script, Standing::Outside, rows))
@@ -142,7 +145,8 @@ fn opened(alloc: Global, last: u64, script: Script, line: &CommandLine) -> Resul
 }
 
 /// What is read with a line of a burst's lane, behind earlier ones.
-fn in_lane(
+fn in_lane<R: Threads + Sync>(
+    rt: &R,
     alloc: Global,
     fleet: &Fleet,
     last: u64,
@@ -172,7 +176,7 @@ fn in_lane(
             end_burst(line.number, script, lanes, line.words)
         }
         Verb::Task(task) => {
-            match task_in_lane(alloc, fleet, script, earlier, lane, task, line) {
+            match task_in_lane(rt, alloc, fleet, script, earlier, lane, task, line) {
                 Ok(step) => Ok(step),
                 Err(fault) => Err(fault_inside(last, fault)),
             }
@@ -181,7 +185,8 @@ fn in_lane(
 }
 
 /// What is read with a command of a burst's lane.
-fn task_in_lane(
+fn task_in_lane<R: Threads + Sync>(
+    rt: &R,
     alloc: Global,
     fleet: &Fleet,
     script: Script,
@@ -197,7 +202,7 @@ fn task_in_lane(
     ensures is_reading { IfOk result (λ step. IsReading fleet.now step.reading) }
     ensures enough { IfOk result (λ step. step.rows ≤ length (lines_of line.now.after.now)) }
 {
-    let command = command(alloc, fleet, task, line.words, line.number, line.after)?;
+    let command = command(rt, alloc, fleet, task, line.words, line.number, line.after)?;
     if is_second(earlier.as_slice(), &command) {
         return Err(fault_at(line.number, Why::TwoStewards));
     }

@@ -1,13 +1,9 @@
-use Rattle.std.proofs.Common.{◌≡◌, ◌+◌, ◌≤◌, length}
-use Rattle.play.specs.Count.{count_of}
-use Rattle.play.proofs.Counts.{count_after, more_by}
+use Rattle.std.specs.VecDeque.{deque_len}
+use Rattle.play.proofs.Counts.{AreCounted}
 use Rattle.play.proofs.count.count_rows.Given as goal
 
-abbrev pub invariant-loop-rest : goal.invariant-loop-rest
-invariant-loop-rest l =
-    (count_of l.range l.text ≡ more_by l.count (count_after l.range l.line_number l.rest))
-    × (l.count + length l.rest ≤ length l.text)
-    × (l.line_number + length l.rest ≤ length l.text)
+abbrev pub invariant-loop-count : goal.invariant-loop-count
+invariant-loop-count g l = AreCounted l.fn.range l.text l.lines l.rows l.counts.items
 
-abbrev pub decreases-loop-rest : goal.decreases-loop-rest
-decreases-loop-rest l = length l.rest
+abbrev pub decreases-loop-count : goal.decreases-loop-count
+decreases-loop-count g l = deque_len l.counts

@@ -1,4 +1,5 @@
 use Rattle.script_text.proofs.Cut.{pieces_cut, behind_shorter}
+use Rattle.script_text.proofs.InParts.{line_cut}
 use Rattle.script_text.proofs.lines.cut_line.Goals as goal
 
 pub returns-clause-lines : goal.returns-clause-lines
@@ -6,3 +7,6 @@ returns-clause-lines c = rw (c.cut_at.ensures.before, c.cut_at.ensures.behind) (
 
 pub returns-clause-shorter : goal.returns-clause-shorter
 returns-clause-shorter c = rw c.cut_at.ensures.behind (behind_shorter 10 c.args.text.now c.requires)
+
+pub returns-clause-cut : goal.returns-clause-cut
+returns-clause-cut c = line_cut c.args.text.now c.cut_at.result.0.now c.cut_at.result.1.now c.cut_at.ensures.before c.cut_at.ensures.behind

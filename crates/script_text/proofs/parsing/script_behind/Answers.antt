@@ -6,7 +6,7 @@ use Rattle.script_text.proofs.Steps.{parses_as, read_end, read_step, refused_at}
 use Rattle.script_text.proofs.parsing.script_behind.Goals as goal
 
 pub returns-in_err-step-clause-exact : goal.returns-in_err-step-clause-exact
-returns-in_err-step-clause-exact c =
+returns-in_err-step-clause-exact g c =
     let fleet = c.args.fleet.now in
     let line : NumberedLine = record { number = c.in-Some.line.number; bytes = c.in-Some.line.bytes.now; after = lines_of c.in-Some.line.after.now } in
     let whole = read_from c.args.last fleet 0 (c.args.fleet_line + 1) (begun c.args.fleet_line fleet) (lines_of c.args.text.now) in
@@ -15,7 +15,7 @@ returns-in_err-step-clause-exact c =
     search (rules, fault)
 
 pub loop-line-preserved : goal.loop-line-preserved
-loop-line-preserved c =
+loop-line-preserved g c =
     let fleet = c.args.fleet.now in
     let line : NumberedLine = record { number = c.in-Some.line.number; bytes = c.in-Some.line.bytes.now; after = lines_of c.in-Some.line.after.now } in
     let step = c.in_ok-step.step in
@@ -27,11 +27,11 @@ loop-line-preserved c =
     )
 
 pub returns-clause-exact : goal.returns-clause-exact
-returns-clause-exact c =
+returns-clause-exact g c =
     let fleet = c.args.fleet.now in
     let whole = read_from c.args.last fleet 0 (c.args.fleet_line + 1) (begun c.args.fleet_line fleet) (lines_of c.args.text.now) in
     let read = read_end c.args.last (c.loop-line.last_line + 1) fleet c.loop-line.reading (lines_of c.loop-line.rest.now) whole c.in_default.ensures.exact c.loop-line.invariant.0 in
     parses_as c.closed.result _ whole read c.closed.ensures.exact
 
 pub returns-clause-fits : goal.returns-clause-fits
-returns-clause-fits c = closed_fits_as c.args.last c.args.fleet.now c.loop-line.reading c.closed.result c.requires.fleet c.loop-line.invariant.2 c.closed.ensures.exact
+returns-clause-fits g c = closed_fits_as c.args.last c.args.fleet.now c.loop-line.reading c.closed.result c.requires.fleet c.loop-line.invariant.2 c.closed.ensures.exact

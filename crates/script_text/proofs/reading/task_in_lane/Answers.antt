@@ -8,7 +8,7 @@ use Rattle.script_text.proofs.Keeps.{command_keeps}
 use Rattle.script_text.proofs.reading.task_in_lane.Goals as goal
 
 pub returns-clause-is_reading : goal.returns-clause-is_reading
-returns-clause-is_reading c =
+returns-clause-is_reading g c =
     let fleet = c.args.fleet.now in
     let found = c.in_ok-command.command in
     let not : is_second c.args.earlier found ≡ false = ap (λ lanes. is_second lanes found) (sym c.as_slice.ensures) ∙ sym c.if-is_second.ensures in

@@ -1,0 +1,44 @@
+-- A text in parts that are cut at line ends, and the rows of each.
+use Rattle.std.specs.Prelude.{◌≡◌, ◌==◌, ◌+◌, ◌⊎◌, ℕ, List, [], ◌∷◌, ◌++◌, Bool, true, Result, IfOk}
+use Rattle.std.specs.Borrow.{Bor}
+use Rattle.std.specs.List.{AllByRecursion, flat_map}
+use Rattle.leaf_model.specs.declared.rows.Row.{Row}
+use Rattle.leaf_model.specs.Values.{IsRow}
+use Rattle.script_text.specs.declared.fault.ScriptFault.{ScriptFault}
+use Rattle.script_text.specs.declared.fault.ScriptFault.TheVariants.{At, NoMemory}
+use Rattle.script_text.specs.Commands.{rows_from}
+use Rattle.script_text.specs.Lines.{lines_of}
+use Rattle.script_text.specs.Script.{ParsesAs}
+
+-- The text is a line, a byte 10 and the rest; or it is its last line, which has no end.
+abbrev pub IsLineCut : List ℕ → List ℕ → List ℕ → Type 0
+IsLineCut text line rest = (text ≡ line ++ 10 ∷ rest) ⊎ ((text ≡ line) × (rest ≡ []))
+
+-- whether a text is nothing, or its last line has its end
+abbrev pub ends_line : List ℕ → Bool
+ends_line [] = true
+ends_line (b ∷ []) = b == 10
+ends_line (b ∷ c ∷ bs) = ends_line (c ∷ bs)
+
+-- a text in two, whose lines are those of both
+pub record IsTextCut (text front back : List ℕ) : Type 0 where
+  pub joined : front ++ back ≡ text
+  pub lines : lines_of front ++ lines_of back ≡ lines_of text
+
+-- the bytes of parts, one part behind another
+abbrev pub bytes_of_parts : List (Bor (List ℕ)) → List ℕ
+bytes_of_parts parts = flat_map (λ (part : Bor (List ℕ)). part.now) parts
+
+-- the lines of parts, one part behind another
+abbrev pub lines_of_parts : List (Bor (List ℕ)) → List (List ℕ)
+lines_of_parts parts = flat_map (λ (part : Bor (List ℕ)). lines_of part.now) parts
+
+-- What was read of a part: the rows that its lines are, or its first fault, where its first line has the number 1.
+pub record IsPartRead (part : List ℕ) (read : Result (List Row) ScriptFault) : Type 0 where
+  pub exact : ParsesAs (λ (rows : List Row). rows) read (rows_from 1 (lines_of part))
+  pub are_rows : IfOk read (AllByRecursion IsRow)
+
+-- the fault of a part, with its line's number in the whole, where so many lines stand before the part
+abbrev pub fault_behind : ℕ → ScriptFault → ScriptFault
+fault_behind lines (At line why) = At (lines + line) why
+fault_behind lines NoMemory = NoMemory

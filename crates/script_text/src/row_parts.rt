@@ -1,0 +1,117 @@
+// The rows of an add, read by threads side by side.
+ghost use Rattle.std.specs.Prelude.{◌≡◌, ◌+◌, ◌≤◌, ◌<◌, ◌^◌, IfOk, List, ℕ, length};
+ghost use Rattle.std.specs.Borrow.{Bor};
+ghost use Rattle.std.specs.List.{AllByRecursion, AllZip};
+ghost use Rattle.row_json.specs.Row.{row_of};
+ghost use Rattle.leaf_model.specs.Values.{IsRow};
+ghost use Rattle.script_text.specs.Lines.{lines_of};
+ghost use Rattle.script_text.specs.Commands.{one_row, rows_from};
+ghost use Rattle.script_text.specs.Parts.{IsPartRead, fault_behind};
+ghost use Rattle.script_text.specs.Script.{IfAt, ParsesAs};
+
+use crate::fault::{ScriptFault, Why, fault_at};
+use crate::lines::{cut_line, without_return};
+use crate::parts::parts_of;
+use leaf_model::{Row, Rows, TableRows};
+use rayon::prelude::*;
+use row_json::RowFault;
+use std::alloc::{AllocError, Global};
+use std::collections::VecDeque;
+use std::thread::Threads;
+
+/// The most rows of an add.
+pub const MAX_ROWS: u64 = 100_000;
+
+/// The rows that the lines of a text are, so many, where the line before them has this number. The first fault in the
+/// order of the lines decides, whichever part is read first.
+pub fn read_rows<R: Threads + Sync>(
+    rt: &R,
+    alloc: Global,
+    text: &[u8],
+    number: u64,
+    count: u64,
+) -> Result<Rows, ScriptFault>
+    requires lines { length (lines_of text.now) ≡ count }
+    requires few { count ≤ MAX_ROWS }
+    requires place { number + count < 2 ^ 64 }
+    ensures exact { ParsesAs (λ rows. rows) result (rows_from (number + 1) (lines_of text.now)) }
+    ensures are_rows { IfOk result (AllByRecursion IsRow) }
+    ensures count { IfOk result (λ rows. length rows ≡ count) }
+{
+    let parts = parts_of(alloc, text)?;
+    let mut read = VecDeque::from_vec(read_each(rt, alloc, parts.as_slice())?);
+    let mut rows = Vec::with_capacity(alloc, count as usize)?;
+    while let Some(part) = read.pop_front() {
+        match part {
+            Ok(part) => rows.append(&mut part.into_inner())?,
+            Err(fault) => return Err(fault_behind(number + rows.len() as u64, fault)),
+        }
+    }
+    Ok(Rows::of(rows))
+}
+
+/// What is read of each part, in order, by as many threads as there are processors.
+fn read_each<R: Threads + Sync>(
+    rt: &R,
+    alloc: Global,
+    parts: &[&[u8]],
+) -> Result<Vec<Result<TableRows, ScriptFault>>, AllocError>
+    ensures { IfOk result (λ read. AllZip (λ (part : Bor (List ℕ)) rows. IsPartRead part.now rows) parts.now read.items) }
+{
+    parts
+        .par_iter()
+        .with_min_len(1)
+        .map(
+            |part: &&[u8]| -> Result<TableRows, ScriptFault>
+                ensures { IsPartRead part.now.now result }
+            { read_one(alloc, part) },
+        )
+        .collect(rt, alloc)
+}
+
+fn read_one(alloc: Global, part: &[u8]) -> Result<TableRows, ScriptFault>
+    ensures { IsPartRead part.now result }
+{
+    read_part(alloc, part)
+}
+
+/// The rows that the lines of a part are, where its first line has the number 1.
+fn read_part(alloc: Global, part: &[u8]) -> Result<TableRows, ScriptFault>
+    ensures exact { ParsesAs (λ rows. rows) result (rows_from 1 (lines_of part.now)) }
+    ensures are_rows { IfOk result (AllByRecursion IsRow) }
+{
+    let mut rows = Vec::new(alloc);
+    let mut rest = part;
+    while !rest.is_empty() {
+        let (line, after) = cut_line(rest);
+        let number = rows.len() as u64 + 1;
+        rows.push(row(alloc, without_return(line), number)?)?;
+        rest = after;
+    }
+    Ok(TableRows::of(rows))
+}
+
+/// The row that the line of this number is.
+fn row(alloc: Global, line: &[u8], number: u64) -> Result<Row, ScriptFault>
+    ensures exact { ParsesAs (λ row. row) result (one_row number (row_of line.now)) }
+    ensures is_row { IfOk result IsRow }
+{
+    match row_json::row(alloc, line) {
+        Ok(row) => Ok(row),
+        Err(fault) => match fault {
+            RowFault::NoMemory => Err(ScriptFault::NoMemory),
+            fault => Err(fault_at(number, Why::Row(fault))),
+        },
+    }
+}
+
+/// The fault of a part behind so many lines: its line is counted from the first of all.
+fn fault_behind(lines: u64, fault: ScriptFault) -> ScriptFault
+    requires { IfAt fault (λ line _. lines + line < 2 ^ 64) }
+    ensures { result ≡ fault_behind lines fault }
+{
+    match fault {
+        ScriptFault::At { line, why } => fault_at(lines + line, why),
+        ScriptFault::NoMemory => ScriptFault::NoMemory,
+    }
+}
