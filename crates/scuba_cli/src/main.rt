@@ -7,9 +7,13 @@ ghost use Rattle.play.specs.Played.{AreBases};
 ghost use Rattle.scuba_cli.specs.Exit.{exit_number};
 ghost use Rattle.scuba_cli.specs.Fresh.{IsEmptyBerth};
 
+
+mod command_line;
+
 use berth_face::{Berth, OpenGate};
 use berth_files::{FileBerth, StdSink, StdSource};
 use berth_mem::MemBerth;
+use command_line::{CommandLine, Refusal, split};
 use play::{Bases, EmptyBerths, Status, fault_text, run};
 use std::alloc::{AllocError, Global};
 use std::marker::Brand;
@@ -28,14 +32,12 @@ const WORDS: u8 = 2;
 const NO_MEMORY: u8 = 6;
 
 fn main(rt: HostRuntime) -> ExitCode {
-    let words = match words_of(&rt) {
-        Ok(words) => words,
-        Err(error) => return ExitCode::from(refusal_number(&error)),
+    let line = match read_line(&rt) {
+        Ok(line) => line,
+        Err(refusal) => return ExitCode::from(refusal_number(refusal)),
     };
-    let Some((folder, words)) = words.split_first() else {
-        return ExitCode::from(WORDS);
-    };
-    match folder.as_str() {
+    let words = line.words.as_slice();
+    match line.folder.as_str() {
         "mem" => serve::<EmptyBerths, _, _>(&rt, words, fresh_berths(rt.alloc())),
         folder => serve::<Brand, _, _>(&rt, words, file_berths(rt, folder)),
     }
@@ -104,13 +106,10 @@ fn tell<R: AllocGlobal + Eprint>(rt: &R, status: &Status) {
     }
 }
 
-/// The words of the command line after the program's name.
-fn words_of(rt: &HostRuntime) -> io::Result<Vec<String>> {
-    let mut words = Vec::new(rt.alloc());
-    for word in env::args(rt)?.skip(1) {
-        words.push(word)?;
-    }
-    Ok(words)
+/// The command line, the program's name apart.
+fn read_line(rt: &HostRuntime) -> Result<CommandLine, Refusal> {
+    let words: Vec<String> = env::args(rt)?.collect(rt.alloc())?;
+    split(rt.alloc(), words.as_slice())
 }
 
 /// The number of a status as the program ends with it.
@@ -127,11 +126,10 @@ fn status_number(status: &Status) -> u8
     }
 }
 
-/// The number of the status where the words could not be had: want of memory, or a word that is no text.
-fn refusal_number(error: &io::Error) -> u8 {
-    if error.kind() == io::ErrorKind::OutOfMemory {
-        NO_MEMORY
-    } else {
-        WORDS
+/// The number of the status where there is no command line.
+fn refusal_number(refusal: Refusal) -> u8 {
+    match refusal {
+        Refusal::Words => WORDS,
+        Refusal::NoMemory => NO_MEMORY,
     }
 }

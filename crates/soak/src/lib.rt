@@ -1,6 +1,10 @@
 //! The script of a soak, which a seed decides.
 #![tactic(auto)]
 
+mod draw;
 mod making;
+mod queries;
+mod row;
+mod texts;
 
 pub use making::script;

@@ -1,0 +1,61 @@
+// Rows that are drawn one after another.
+ghost use Rattle.std.specs.Prelude.{◌≡◌, ◌+◌, ◌-◌, ◌*◌, ◌^◌, ◌<◌, ◌≤◌, IfOk};
+ghost use Rattle.soak.specs.Soak.{generator_behind, row_at, rows_between};
+
+use crate::row::row_with;
+use leaf_model::{Row, Rows};
+use rand_core::utils::NextWord;
+use rand_pcg::Lcg64Xsh32;
+use std::alloc::{AllocError, Global};
+
+/// The rows of a seed in their order: what the generator is behind those that were drawn, and the number of the next one.
+#[derive(Drop)]
+pub struct Draw {
+    seed: u64,
+    next: u32,
+    generator: Lcg64Xsh32,
+    ghost behind: { generator ≡ generator_behind seed (2 * next) },
+}
+
+impl Draw {
+    pub fn new(seed: u64) -> Draw
+        ensures seed { result.seed ≡ seed }
+        ensures next { result.next ≡ 0 }
+    {
+        Draw {
+            seed,
+            next: 0,
+            generator: Lcg64Xsh32::new(seed, 0),
+        }
+    }
+
+    /// The next row. It counts as drawn where memory ran out, too.
+    fn row(&mut self, alloc: Global) -> Result<Row, AllocError>
+        requires { self.old.next + 1 < 2 ^ 32 }
+        ensures seed { self.new.seed ≡ self.old.seed }
+        ensures next { self.new.next ≡ self.old.next + 1 }
+        ensures exact { IfOk result (λ row. row ≡ row_at self.old.seed self.old.next) }
+    {
+        let number = self.next;
+        let host = self.generator.next_word();
+        let code = self.generator.next_word();
+        self.next = number + 1;
+        row_with(alloc, number, host, code)
+    }
+
+    /// The rows from the next one up to but without the row of this number.
+    pub fn rows(&mut self, alloc: Global, end: u32) -> Result<Rows, AllocError>
+        requires order { self.old.next ≤ end }
+        requires few { end - self.old.next ≤ 100000 }
+        ensures seed { self.new.seed ≡ self.old.seed }
+        ensures next { IfOk result (λ _. self.new.next ≡ end) }
+        ensures exact { IfOk result (λ rows. rows ≡ rows_between self.old.seed self.old.next end) }
+    {
+        let mut rows = Vec::new(alloc);
+        while self.next < end {
+            let row = self.row(alloc)?;
+            rows.push(row)?;
+        }
+        Ok(Rows::of(rows))
+    }
+}
