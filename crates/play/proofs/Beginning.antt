@@ -14,6 +14,7 @@ use Rattle.leaf_table.specs.Fleet.{IsNewFleet}
 use Rattle.leaf_table.specs.Lists.{row}
 use Rattle.leaf_steward.specs.Seated.{AreAlike, AreFounded, AtEach, Seated}
 use Rattle.leaf_machine.specs.States.{MayBegin}
+use Rattle.rollover_watch.specs.Watches.{Held}
 use Rattle.transcript.specs.Pieces.{Fleet, leaf_count}
 use Rattle.transcript.specs.Counts.{IsCounted}
 use Rattle.transcript.specs.Holds.{Hold}
@@ -190,15 +191,16 @@ module _ {B : Type 0} (base : ℕ → Option NamedStates) (meaning : B → Meani
   taken_are = length-take leaves berths ∙ omega (arith, enough)
 
   -- nothing was written yet
-  pub run_begins : (fleet : Fleet) (was : Option (List ℕ)) (xs : List (Hold B)) → leaf_count fleet ≡ leaves → fleet.names ≡ names
+  pub run_begins : (fleet : Fleet) (was : Option (List ℕ)) (watches : List Held) (xs : List (Hold B)) → leaf_count fleet ≡ leaves → fleet.names ≡ names
       → xs ≡ new_holds 0 names rows stewards callers taken
       → ((leaf : ℕ) (x : Hold B) (l : Leaf) (b : B) (states : NamedStates) → slice_get xs leaf ≡ Some x → x.held ≡ Some (l, b) → AreFounded (seated_of l) → MayBegin states (meaning b)
       → StartAs states (seated_of l) → Stands states l (meaning b))
-      → RunSoFar base meaning fleet (berths_in xs) was was [] xs
-  run_begins fleet was xs count named made stands = record {
+      → RunSoFar base meaning fleet (berths_in xs) was was watches watches [] xs
+  run_begins fleet was watches xs count named made stands = record {
     played = [];
     items_are = refl;
     text = appends_nothing was;
+    heard = refl;
     counted = λ leaf old x l b at now held. subst (λ (c : B). IsCounted leaf [] (meaning c) (meaning b)) (same_berth leaf old x l b at now held) (counted_nothing leaf (meaning b));
     keeps = record {
       as_many = sym (ap (λ (bs : List B). length bs) had ∙ (sym (as_many_holds names rows stewards callers 0 taken) ∙ ap (λ (ys : List (Hold B)). length ys) (sym made)));

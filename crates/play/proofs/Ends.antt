@@ -6,6 +6,7 @@ use Rattle.berth_face.specs.Berth.{Meaning}
 use Rattle.berth_face.specs.Streams.{ReadsAll}
 use Rattle.region_layout.specs.Names.{AreNames, IsName}
 use Rattle.crash_moments.specs.Left.{NamedStates}
+use Rattle.rollover_watch.specs.Watches.{Held}
 use Rattle.script_text.specs.declared.command.Command.TheVariants as command
 use Rattle.script_text.specs.declared.item.Item.{Item}
 use Rattle.script_text.specs.declared.item.Item.TheVariants as item
@@ -15,13 +16,14 @@ use Rattle.script_text.specs.Script.{script_of}
 use Rattle.script_text.specs.Fits.{AreItems, AreTables, IsItem, IsTableName}
 use Rattle.printed_lines.specs.declared.line.Line.{Line}
 use Rattle.printed_lines.specs.Lines.{lines_text}
-use Rattle.transcript.specs.Pieces.{Fleet, PlayedItem, all_lines, all_pieces, fleet_of, item_of, leaf_count}
+use Rattle.transcript.specs.Pieces.{Fleet, PlayedItem, all_lines, all_pieces, fleet_of, item_of, leaf_count, plays_in}
 use Rattle.transcript.specs.Counts.{IsCounted}
 use Rattle.transcript.specs.Strangers.{IsNamedBy, Strangers}
 use Rattle.transcript.specs.Transcript.{Known, Transcript, first_life}
 use Rattle.transcript.specs.Holds.{Hold}
 use Rattle.transcript.specs.Leaving.{AtBerth, IsToldRun, IsWritten, LeavesBerth}
 use Rattle.transcript.specs.Stage.{Leaf}
+use Rattle.transcript.specs.Watching.{Watched}
 use Rattle.sessions.specs.Laws.{IsToldFleet}
 use Rattle.player.specs.Crew.{berth_in}
 use Rattle.bursts.specs.Items.{MayPlayItem}
@@ -71,6 +73,7 @@ plan_is (item.One (command.Flush leaf table) ∷ more) c some machines per_machi
 plan_is (item.One (command.Drain leaf stop) ∷ more) c some machines per_machine names e f h = absurd c
 plan_is (item.One (command.Kill leaf) ∷ more) c some machines per_machine names e f h = absurd c
 plan_is (item.One (command.Start leaf) ∷ more) c some machines per_machine names e f h = absurd c
+plan_is (item.One (command.Rollover percent) ∷ more) c some machines per_machine names e f h = absurd c
 plan_is (item.Burst lanes ∷ more) c some machines per_machine names e f h = absurd c
 
 -- ---- no item
@@ -79,9 +82,9 @@ none_below : (leaf : ℕ) → leaf < 0 → ⊥
 none_below leaf below = omega (arith, below)
 
 -- nothing was done to any berth
-pub nothing_written : {B : Type 0} (base : ℕ → Option NamedStates) (meaning : B → Meaning) (items : List Item) (was : Option (List ℕ)) (berths : List B) → items ≡ []
-    → IsWritten meaning berths berths base items was was
-nothing_written base meaning items was berths e = rw e (record {
+pub nothing_written : {B : Type 0} (base : ℕ → Option NamedStates) (meaning : B → Meaning) (items : List Item) (was : Option (List ℕ)) (berths : List B) (watches : List Held) → items ≡ []
+    → IsWritten meaning berths berths base items was was watches watches
+nothing_written base meaning items was berths watches e = rw e (record {
   lines = [];
   written = appends_nothing was;
   told = λ known are. record {
@@ -99,6 +102,7 @@ nothing_written base meaning items was berths e = rw e (record {
       worn = tt;
     };
     lines_are = refl;
+    watched = refl;
     counts = λ leaf below. absurd (none_below leaf below);
     strangers = λ leaf k below is. absurd (none_below leaf below);
     leaves = λ leaf k below is. absurd (none_below leaf below);
@@ -175,25 +179,27 @@ module _ {B : Type 0} (meaning : B → Meaning) (front rest own : List B) (xs : 
 
   -- ---- what it is
 
-  module _ (known : ℕ → Option Known) where
+  module _ (known : ℕ → Option Known) (watching watched : List Held) where
     -- what these lines are, of a fleet
     record ToldBy (lines : List Line) (fleet : Fleet) (items : List Item) : Type 0 where
       transcript : Transcript fleet known items (lines_text fleet.names lines)
       lines_are : all_lines transcript.played ≡ lines
+      heard : Watched fleet (plays_in transcript.played) watching watched
       counts : (leaf : ℕ) → leaf < (leaf_count fleet) → AtBerth meaning olds news leaf (IsCounted leaf (all_pieces transcript.played))
       strangers : (leaf : ℕ) (k : Known) → leaf < (leaf_count fleet) → known leaf ≡ Some k → Strangers (IsNamedBy fleet.names k.held) leaf (all_pieces transcript.played)
       leaves : (leaf : ℕ) (k : Known) → leaf < (leaf_count fleet) → known leaf ≡ Some k →
           AtBerth meaning olds news leaf (LeavesBerth fleet.names k.base (transcript.lives leaf) (transcript.histories leaf))
       others : drop (leaf_count fleet) news ≡ drop (leaf_count fleet) olds
 
-    fleet_told : (fleet : Fleet) (played : List PlayedItem) → leaf_count fleet ≡ length front → AreCounted meaning front xs (all_pieces played) → IsToldFleet meaning fleet known played front xs
+    fleet_told : (fleet : Fleet) (played : List PlayedItem) → leaf_count fleet ≡ length front → AreCounted meaning front xs (all_pieces played) → Watched fleet (plays_in played) watching watched → IsToldFleet meaning fleet known played front xs
         → ToldBy (all_lines played) fleet (map item_of played)
-    fleet_told fleet played size counted told =
+    fleet_told fleet played size counted heard told =
         let t : Transcript fleet known (map item_of played) (lines_text fleet.names (all_lines played)) = told.transcript in
         let same : t.played ≡ played = told.played_is in
         record {
           transcript = t;
           lines_are = ap all_lines same;
+          heard = subst (λ (ps : List PlayedItem). Watched fleet (plays_in ps) watching watched) (sym same) heard;
           counts = λ leaf below. at_berth (IsCounted leaf (all_pieces t.played)) leaf (omega (arith, below, size))
               (λ old x l new at now held. subst (λ (ps : List PlayedItem). IsCounted leaf (all_pieces ps) (meaning old) (meaning new)) (sym same) (counted leaf old x l new at now held));
           strangers = λ leaf k below is. subst (λ (ps : List PlayedItem). Strangers (IsNamedBy fleet.names k.held) leaf (all_pieces ps)) (sym same) (told.strangers leaf k below is);
@@ -202,18 +208,18 @@ module _ {B : Type 0} (meaning : B → Meaning) (front rest own : List B) (xs : 
           others = subst (λ n. drop n news ≡ drop n olds) (sym size) same_behind;
         }
 
-    run_told : (lines : List Line) (items : List Item) → ToldBy lines (fleet_of items) items → IsToldRun meaning olds news items known lines
-    run_told lines items t = record { transcript = t.transcript; lines_are = t.lines_are; counts = t.counts; strangers = t.strangers; leaves = t.leaves; others = t.others }
+    run_told : (lines : List Line) (items : List Item) → ToldBy lines (fleet_of items) items → IsToldRun meaning olds news items known lines watching watched
+    run_told lines items t = record { transcript = t.transcript; lines_are = t.lines_are; watched = t.heard; counts = t.counts; strangers = t.strangers; leaves = t.leaves; others = t.others }
 
-  run_written : (base : ℕ → Option NamedStates) (items : List Item) (was now : Option (List ℕ)) → leaf_count (fleet_of items) ≡ length front
-      → IsRun base meaning (fleet_of items) front was now items xs → IsWritten meaning olds news base items was now
-  run_written base items was now size run = record {
+  run_written : (base : ℕ → Option NamedStates) (items : List Item) (was now : Option (List ℕ)) (watching watched : List Held) → leaf_count (fleet_of items) ≡ length front
+      → IsRun base meaning (fleet_of items) front was now watching watched items xs → IsWritten meaning olds news base items was now watching watched
+  run_written base items was now watching watched size run = record {
     lines = all_lines run.played;
     written = run.text;
     told = λ known bases.
-        let told = fleet_told known (fleet_of items) run.played size run.counted
+        let told = fleet_told known watching watched (fleet_of items) run.played size run.counted run.heard
         (run.told known (λ leaf old at. bases leaf old (front_at front rest leaf (within front leaf old at) ∙ at))) in
-        run_told known (all_lines run.played) items (subst (λ (is : List Item). ToldBy known (all_lines run.played) (fleet_of items) is) run.items_are told);
+        run_told known watching watched (all_lines run.played) items (subst (λ (is : List Item). ToldBy known watching watched (all_lines run.played) (fleet_of items) is) run.items_are told);
   }
 
 -- ---- over all berths
@@ -233,15 +239,16 @@ module _ {B : Type 0} (meaning : B → Meaning) (olds news own : List B) (old_xs
   abbrev parts : front ++ drop leaves olds ≡ olds
   parts = take-append-drop leaves olds
 
-  pub crew_written : (base : ℕ → Option NamedStates) (items : List Item) (fleet : Fleet) (was now : Option (List ℕ)) → fleet_of items ≡ fleet → leaf_count fleet ≡ leaves
-      → IsRun base meaning fleet (berths_in old_xs) was now items xs → IsWritten meaning olds news base items was now
-  crew_written base items fleet was now is size run =
-      let here : IsRun base meaning (fleet_of items) front was now items xs =
-      subst (λ (f : Fleet). IsRun base meaning f front was now items xs) (sym is) (subst (λ (bs : List B). IsRun base meaning fleet bs was now items xs) had run) in
+  pub crew_written : (base : ℕ → Option NamedStates) (items : List Item) (fleet : Fleet) (was now : Option (List ℕ)) (watching watched : List Held) → fleet_of items ≡ fleet → leaf_count fleet ≡ leaves
+      → IsRun base meaning fleet (berths_in old_xs) was now watching watched items xs → IsWritten meaning olds news base items was now watching watched
+  crew_written base items fleet was now watching watched is size run =
+      let here : IsRun base meaning (fleet_of items) front was now watching watched items xs =
+      subst (λ (f : Fleet). IsRun base meaning f front was now watching watched items xs) (sym is)
+      (subst (λ (bs : List B). IsRun base meaning fleet bs was now watching watched items xs) had run) in
       let sized : leaf_count (fleet_of items) ≡ length front = ap (λ (f : Fleet). leaf_count f) is ∙ (size ∙ sym front_is) in
-      subst (λ (bs : List B). IsWritten meaning bs news base items was now) parts
-      (subst (λ (bs : List B). IsWritten meaning (front ++ drop leaves olds) bs base items was now) (sym has)
-      (run_written meaning front (drop leaves olds) own xs are count_front base items was now sized here))
+      subst (λ (bs : List B). IsWritten meaning bs news base items was now watching watched) parts
+      (subst (λ (bs : List B). IsWritten meaning (front ++ drop leaves olds) bs base items was now watching watched) (sym has)
+      (run_written meaning front (drop leaves olds) own xs are count_front base items was now watching watched sized here))
 
   pub crew_leaves : HoldsKeep meaning (berths_in old_xs) xs → LeavesBerths meaning leaves olds news
   crew_leaves keeps =
@@ -270,6 +277,7 @@ few_leaves (item.One (command.Flush leaf table) ∷ more) c = absurd c
 few_leaves (item.One (command.Drain leaf stop) ∷ more) c = absurd c
 few_leaves (item.One (command.Kill leaf) ∷ more) c = absurd c
 few_leaves (item.One (command.Start leaf) ∷ more) c = absurd c
+few_leaves (item.One (command.Rollover percent) ∷ more) c = absurd c
 few_leaves (item.Burst lanes ∷ more) c = absurd c
 
 more_leaves : {B : Type 0} (meaning : B → Meaning) (few many : ℕ) (olds news : List B) → few ≤ many → LeavesBerths meaning few olds news → LeavesBerths meaning many olds news

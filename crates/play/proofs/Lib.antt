@@ -8,3 +8,5 @@ pub mod Own
 pub mod Ends
 pub mod Listing
 pub mod KeepsBase
+pub mod Statuses
+pub mod Soaked

@@ -8,6 +8,7 @@ use Rattle.std.proofs.lemmas.Grind.{flat_map-append}
 use Rattle.std.proofs.lemmas.List.{append-nil, append_assoc, map-append}
 use Rattle.berth_face.specs.Berth.{Meaning, Passes}
 use Rattle.crash_moments.specs.Left.{NamedStates}
+use Rattle.rollover_watch.specs.Watches.{Held}
 use Rattle.script_text.specs.declared.command.Command.{Command}
 use Rattle.script_text.specs.declared.command.Command.TheVariants as command
 use Rattle.script_text.specs.declared.item.Item.{Item}
@@ -21,6 +22,7 @@ use Rattle.transcript.specs.Counts.{Counted, IsCounted, deeds_in, disk_faults_in
 use Rattle.transcript.specs.Stage.{Leaf}
 use Rattle.transcript.specs.Holds.{HasMet, Hold}
 use Rattle.transcript.specs.Steps.{MayPlay}
+use Rattle.transcript.specs.Watching.{Watched}
 use Rattle.player.specs.Crew.{AllPass, CountedIf, PassesIf}
 use Rattle.bursts.specs.Items.{ItemPlayed, MayPlayItem}
 use Rattle.sessions.specs.Laws as sessions
@@ -130,6 +132,14 @@ pieces_snoc ps p =
 lines_snoc : (ps : List PlayedItem) (p : PlayedItem) → all_lines (ps ++ p ∷ []) ≡ all_lines ps ++ item_lines p
 lines_snoc ps p = flat_map-append item_lines ps (p ∷ []) ∙ ap (λ xs. all_lines ps ++ xs) (append-nil (item_lines p))
 
+plays_snoc : (ps : List PlayedItem) (p : PlayedItem) → plays_in (ps ++ p ∷ []) ≡ plays_in ps ++ plays_of p
+plays_snoc ps p = flat_map-append plays_of ps (p ∷ []) ∙ ap (λ (qs : List Played). plays_in ps ++ qs) (append-nil (plays_of p))
+
+-- what watches heard of some commands, and then of others
+heard_on : (fleet : Fleet) (ps qs : List Played) (a b c : List Held) → Watched fleet ps a b → Watched fleet qs b c → Watched fleet (ps ++ qs) a c
+heard_on fleet [] qs a b c first next = subst (λ (watches : List Held). Watched fleet qs watches c) first next
+heard_on fleet (p ∷ ps) qs a b c first next = (first.0, first.1, heard_on fleet ps qs first.0 b c first.2 next)
+
 -- a command behind the fleet may be played
 pub may_later : (fleet : Fleet) (c : Command) → IsCommand (leaf_count fleet) fleet.names c → MayPlay fleet c
 may_later fleet (command.Fleet m p ts) h = absurd h
@@ -141,6 +151,7 @@ may_later fleet (command.Flush leaf table) h = h
 may_later fleet (command.Drain leaf stop) h = h
 may_later fleet (command.Kill leaf) h = h
 may_later fleet (command.Start leaf) h = h
+may_later fleet (command.Rollover percent) h = h
 
 -- each command of a burst's lanes may be played
 each_may : (fleet : Fleet) (x : Item) → MayPlayItem fleet x → sessions.MayPlayItem fleet x
@@ -149,13 +160,13 @@ each_may fleet (item.Burst lanes) may =
     All-weaken (λ (lane : List Command). AllByRecursion (IsCommand (leaf_count fleet) fleet.names) lane) (λ (lane : List Command). AllByRecursion (MayPlay fleet) lane)
     (λ lane each. All-weaken (IsCommand (leaf_count fleet) fleet.names) (MayPlay fleet) (may_later fleet) lane each) lanes may.each
 
-pub run_goes_on : {B : Type 0} (base : ℕ → Option NamedStates) (meaning : B → Meaning) (fleet : Fleet) (olds : List B) (was written after : Option (List ℕ)) (items : List Item) (x : Item) (xs ys : List (Hold B))
-    → RunSoFar base meaning fleet olds was written items xs
+pub run_goes_on : {B : Type 0} (base : ℕ → Option NamedStates) (meaning : B → Meaning) (fleet : Fleet) (olds : List B) (was written after : Option (List ℕ)) (watching between watched : List Held) (items : List Item) (x : Item) (xs ys : List (Hold B))
+    → RunSoFar base meaning fleet olds was written watching between items xs
     → MayPlayItem fleet x
-    → Advances meaning fleet xs ys written after x
+    → Advances meaning fleet xs ys written after between watched x
     → AllPass meaning xs ys
-    → RunSoFar base meaning fleet olds was after (items ++ x ∷ []) ys
-run_goes_on {B} base meaning fleet olds was written after items x xs ys run may step passes =
+    → RunSoFar base meaning fleet olds was after watching watched (items ++ x ∷ []) ys
+run_goes_on {B} base meaning fleet olds was written after watching between watched items x xs ys run may step passes =
     let p : PlayedItem = step.played in
     let text : Appends was after (lines_text fleet.names (all_lines run.played ++ item_lines p)) =
     subst (Appends was after) (sym (flat_map-append (line_text fleet.names) (all_lines run.played) (item_lines p)))
@@ -165,6 +176,8 @@ run_goes_on {B} base meaning fleet olds was written after items x xs ys run may 
       played = run.played ++ p ∷ [];
       items_are = map-append item_of run.played (p ∷ []) ∙ ap₂ (λ (is js : List Item). is ++ js) run.items_are (ap (λ (i : Item). i ∷ []) step.item_is);
       text = subst (λ ls. Appends was after (lines_text fleet.names ls)) (sym (lines_snoc run.played p)) text;
+      heard = subst (λ (qs : List Played). Watched fleet qs watching watched) (sym (plays_snoc run.played p))
+          (heard_on fleet (plays_in run.played) (plays_of p) watching between watched run.heard step.heard);
       counted = λ leaf old y l new at now held.
           let had = held_before leaf y now in
           let before = counted_before meaning leaf (all_pieces (p ∷ [])) had.0 y l new (step.counted.each leaf had.0 y had.1 now) held in
@@ -179,28 +192,31 @@ run_goes_on {B} base meaning fleet olds was written after items x xs ys run may 
     held_before leaf y now = element_at xs leaf (omega (arith, within ys leaf y now, passes.count))
 
 -- what an item did, once its lines were written
-pub advances : {B E F : Type 0} (meaning : B → Meaning) (fleet : Fleet) (x : Item) (xs ys : List (Hold B)) (was now : Option (List ℕ)) (lines : Result (Vec Line Global) E) (written : Result (Unit {0}) F)
-    → IfOk lines (λ ls. ItemPlayed meaning fleet x xs ls.items ys)
+pub advances : {B E F : Type 0} (meaning : B → Meaning) (fleet : Fleet) (x : Item) (xs ys : List (Hold B)) (was now : Option (List ℕ)) (watching watched : List Held) (lines : Result (Vec Line Global) E) (written : Result (Unit {0}) F)
+    → IfOk lines (λ ls. ItemPlayed meaning fleet x xs watching ls.items ys watched)
     → OnOk written (IsOk lines)
     → OnOk written (IfOk lines (λ ls. Appends was now (lines_text fleet.names ls.items)))
-    → OnOk written (Advances meaning fleet xs ys was now x)
-advances meaning fleet x xs ys was now lines (Err e) played made text = tt
-advances meaning fleet x xs ys was now (Err e) (Ok u) played made text = absurd cc
-advances meaning fleet x xs ys was now (Ok ls) (Ok u) played made text = record {
+    → OnOk written (Advances meaning fleet xs ys was now watching watched x)
+advances meaning fleet x xs ys was now watching watched lines (Err e) played made text = tt
+advances meaning fleet x xs ys was now watching watched (Err e) (Ok u) played made text = absurd cc
+advances meaning fleet x xs ys was now watching watched (Ok ls) (Ok u) played made text = record {
   played = played.played;
   item_is = played.item_is;
   plays = played.plays;
   text = subst (λ ks. Appends was now (lines_text fleet.names ks)) played.lines_are text;
+  heard = played.heard;
   counted = played.counted;
 }
 
 -- once all seats have met again, the run is told
-pub run_ends : {B : Type 0} (base : ℕ → Option NamedStates) (meaning : B → Meaning) (fleet : Fleet) (olds : List B) (was now : Option (List ℕ)) (items : List Item) (xs : List (Hold B))
-    → RunSoFar base meaning fleet olds was now items xs → ((leaf : ℕ) (x : Hold B) → slice_get xs leaf ≡ Some x → HasMet meaning x) → IsRun base meaning fleet olds was now items xs
-run_ends base meaning fleet olds was now items xs run met = record {
+pub run_ends : {B : Type 0} (base : ℕ → Option NamedStates) (meaning : B → Meaning) (fleet : Fleet) (olds : List B) (was now : Option (List ℕ)) (watching watched : List Held) (items : List Item) (xs : List (Hold B))
+    → RunSoFar base meaning fleet olds was now watching watched items xs → ((leaf : ℕ) (x : Hold B) → slice_get xs leaf ≡ Some x → HasMet meaning x)
+    → IsRun base meaning fleet olds was now watching watched items xs
+run_ends base meaning fleet olds was now watching watched items xs run met = record {
   played = run.played;
   items_are = run.items_are;
   text = run.text;
+  heard = run.heard;
   counted = run.counted;
   told = λ known is. ended meaning olds fleet known run.played xs (run.session known is) met;
 }

@@ -6,6 +6,7 @@ use Rattle.leaf_history.specs.History.{Entry, base_of, no_base}
 use Rattle.crash_moments.specs.Left.{NamedStates}
 use Rattle.crash_states.specs.Standing.{tables_of}
 use Rattle.leaf_machine.specs.Leaving.{IsFrontOf}
+use Rattle.rollover_watch.specs.Watches.{Held}
 use Rattle.transcript.specs.Base.{watched_with}
 use Rattle.transcript.specs.Pieces.{Fleet, fleet_of, leaf_count}
 use Rattle.transcript.specs.Leaving.{AreKnown}
@@ -67,8 +68,8 @@ pub record KeepsEach {B : Type 0} (meaning : B → Meaning) (berths : List B) (f
       → KeepsOne fleet leaf (known leaf) (histories leaf) (meaning berth) kept
 
 -- A play over berths with these bases was done, and what is kept is the base that it left of each, by the histories of its transcript.
-pub record LeavesKnown {B : Type 0} (base : ℕ → Option NamedStates) (meaning : B → Meaning) (before after was now : Option (List ℕ)) (old new : List B) (next : List (Option (List Kept))) : Type 0 where
-  pub played : IsPlayed base meaning before after was now old new
+pub record LeavesKnown {B : Type 0} (base : ℕ → Option NamedStates) (meaning : B → Meaning) (before after was now : Option (List ℕ)) (old new : List B) (watching watched : List Held) (next : List (Option (List Kept))) : Type 0 where
+  pub played : IsPlayed base meaning before after was now old new watching watched
   pub known : ℕ → Option Known
   pub are_known : AreKnown meaning old new base known
   pub keeps : KeepsEach meaning new (fleet_of played.script.items) known (played.written.told known are_known).transcript.histories next
@@ -76,8 +77,9 @@ pub record LeavesKnown {B : Type 0} (base : ℕ → Option NamedStates) (meaning
 -- ---- two runs
 
 -- one play was done, and then another over what the first left, with the bases that are kept of it
-pub record ArePlayedTwice {B : Type 0} (base : ℕ → Option NamedStates) (meaning : B → Meaning) (before after was now : Option (List ℕ)) (next_before next_after next_was next_now : Option (List ℕ)) (old new : List B) : Type 0 where
+pub record ArePlayedTwice {B : Type 0} (base : ℕ → Option NamedStates) (meaning : B → Meaning) (before after was now : Option (List ℕ)) (next_before next_after next_was next_now : Option (List ℕ)) (old new : List B) (watching watched : List Held) : Type 0 where
   pub between : List B
   pub next : List (Option (List Kept))
-  pub first : LeavesKnown base meaning before after was now old between next
-  pub second : IsPlayed (bases_of next) meaning next_before next_after next_was next_now between new
+  pub meanwhile : List Held
+  pub first : LeavesKnown base meaning before after was now old between watching meanwhile next
+  pub second : IsPlayed (bases_of next) meaning next_before next_after next_was next_now between new meanwhile watched

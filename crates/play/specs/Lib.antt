@@ -7,3 +7,4 @@ pub mod Runs
 pub mod Outcome
 pub mod Faults
 pub mod Keeping
+pub mod Complete

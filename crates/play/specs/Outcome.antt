@@ -4,6 +4,7 @@ use Rattle.std.specs.Io.KnownBytes.{Appends}
 use Rattle.berth_face.specs.Berth.{Meaning}
 use Rattle.berth_face.specs.Streams.{ReadsAll, TakesAtMost, TakesCount, WritesFront}
 use Rattle.crash_moments.specs.Left.{NamedStates}
+use Rattle.rollover_watch.specs.Watches.{Held}
 use Rattle.script_text.specs.declared.fault.Why.{Why}
 use Rattle.script_text.specs.declared.fault.Why.TheVariants as why
 use Rattle.script_text.specs.declared.fault.ScriptFault.{ScriptFault}
@@ -12,13 +13,13 @@ use Rattle.script_text.specs.declared.script.Script.{Script}
 use Rattle.script_text.specs.Commands.{Fault}
 use Rattle.script_text.specs.Script.{script_of}
 use Rattle.play.specs.Count.{rows_of, count_of}
-use Rattle.play.specs.Played.{IsPlayed, leaves_in}
+use Rattle.play.specs.Played.{IsPlayed, IsSoaked, leaves_in, soak_leaves}
 use Rattle.play.specs.Source.{longest_text, most_taken}
 use Rattle.play.specs.declared.count.LineFault.{LineFault}
 use Rattle.play.specs.declared.status.Status.{Status}
 use Rattle.play.specs.declared.words.Range.{Range}
 use Rattle.play.specs.declared.words.Request.{Request}
-use Rattle.play.specs.declared.words.Request.TheVariants.{Count, Play}
+use Rattle.play.specs.declared.words.Request.TheVariants.{Count, Play, Soak}
 
 -- ---- counts
 
@@ -41,10 +42,11 @@ IsCutShort range before after was now = (count : ℕ) × IsCountOf range before 
 -- ---- what was done
 
 -- all was done that the request asks for
-abbrev pub IsDone : {B : Type 0} → (ℕ → Option NamedStates) → (B → Meaning) → Option Request → Option (List ℕ) → Option (List ℕ) → Option (List ℕ) → Option (List ℕ) → List B → List B → Type 0
-IsDone base meaning None before after was now old new = ⊥
-IsDone base meaning (Some (Count range)) before after was now old new = IsCounted range before after was now
-IsDone base meaning (Some Play) before after was now old new = IsPlayed base meaning before after was now old new
+abbrev pub IsDone : {B : Type 0} → (ℕ → Option NamedStates) → (B → Meaning) → Option Request → Option (List ℕ) → Option (List ℕ) → Option (List ℕ) → Option (List ℕ) → List B → List B → List Held → List Held → Type 0
+IsDone base meaning None before after was now old new watching watched = ⊥
+IsDone base meaning (Some (Count range)) before after was now old new watching watched = IsCounted range before after was now
+IsDone base meaning (Some Play) before after was now old new watching watched = IsPlayed base meaning before after was now old new watching watched
+IsDone base meaning (Some (Soak seed rows)) before after was now old new watching watched = (after ≡ before) × IsSoaked base meaning seed rows was now old new watching watched
 
 -- ---- why a source is refused
 
@@ -93,10 +95,15 @@ IsNoPlay berths before after line why.Lanes = IsNoScript before after line why.L
 IsNoPlay berths before after line why.TwoStewards = IsNoScript before after line why.TwoStewards
 IsNoPlay berths before after line why.Short = IsNoScript before after line why.Short
 
+-- of a soak: there are fewer berths than leaves
+abbrev pub IsNoSoak : ℕ → ℕ → Why → Type 0
+IsNoSoak berths line fault = (line ≡ 0) × (fault ≡ why.NoBerth) × (nat_lt berths soak_leaves ≡ true)
+
 abbrev pub IsTextRefused : ℕ → Option Request → Option (List ℕ) → Option (List ℕ) → ℕ → Why → Type 0
 IsTextRefused berths None before after line fault = ⊥
 IsTextRefused berths (Some (Count range)) before after line fault = IsNoRows before after line fault
 IsTextRefused berths (Some Play) before after line fault = IsNoPlay berths before after line fault
+IsTextRefused berths (Some (Soak seed rows)) before after line fault = IsNoSoak berths line fault
 
 -- what holds of the line and the cause of a refused text
 abbrev pub IfScript : Status → (ℕ → Why → Type 0) → Type 0
@@ -136,11 +143,16 @@ count_verdict range text = if_short text (status_of (count_of range text))
 abbrev pub play_verdict : ℕ → List ℕ → Status
 play_verdict berths text = if_short text (status_played berths (script_of text))
 
+-- the status of a soak over so many berths
+abbrev pub soak_verdict : ℕ → Status
+soak_verdict berths = if nat_lt berths soak_leaves then Status.Script 0 why.NoBerth else Status.Done
+
 -- the status that a request and the source's whole text decide, where there are so many berths
 abbrev pub verdict : ℕ → Option Request → List ℕ → Status
 verdict berths None text = Status.Words
 verdict berths (Some (Count range)) text = count_verdict range text
 verdict berths (Some Play) text = play_verdict berths text
+verdict berths (Some (Soak seed rows)) text = soak_verdict berths
 
 -- what holds unless the outside failed or memory ran out
 abbrev pub UnlessCutOff : Status → Type 0 → Type 0
@@ -174,6 +186,14 @@ abbrev pub IfCount : Option Request → (Range → Type 0) → Type 0
 IfCount None P = Unit {0}
 IfCount (Some (Count range)) P = P range
 IfCount (Some Play) P = Unit {0}
+IfCount (Some (Soak seed rows)) P = Unit {0}
+
+-- what holds where the words ask for nothing that reads the source
+abbrev pub IfUnread : Option Request → Type 0 → Type 0
+IfUnread None P = P
+IfUnread (Some (Count range)) P = Unit {0}
+IfUnread (Some Play) P = Unit {0}
+IfUnread (Some (Soak seed rows)) P = P
 
 -- one byte more than a text may have is taken where it is refused as too long, and never otherwise
 abbrev pub TakesText : Status → Option (List ℕ) → Option (List ℕ) → Type 0

@@ -5,12 +5,16 @@ use Rattle.berth_face.specs.Streams.{ReadsAll}
 use Rattle.crash_moments.specs.Left.{NamedStates}
 use Rattle.leaf_history.specs.History.{base_of}
 use Rattle.leaf_machine.specs.States.{MayBegin}
+use Rattle.rollover_watch.specs.Watches.{Held}
 use Rattle.script_text.specs.declared.item.Item.{Item}
 use Rattle.script_text.specs.declared.script.Script.{Script}
 use Rattle.script_text.specs.Commands.{Fault}
 use Rattle.script_text.specs.Script.{script_of}
+use Rattle.soak.specs.Soak.{soak_script}
 use Rattle.transcript.specs.Pieces.{fleet_of, leaf_count}
 use Rattle.transcript.specs.Leaving.{IsWritten}
+use Rattle.play.specs.declared.words.Request.{Request}
+use Rattle.play.specs.declared.words.Request.TheVariants.{Count, Play, Soak}
 
 -- how many leaves a script's fleet has
 abbrev pub leaves_in : List Item → ℕ
@@ -33,14 +37,23 @@ AreBases {B} base meaning berths = (leaf : ℕ) (b : B) → slice_get berths lea
 
 -- ---- what was done
 
--- The source was read to its end, its text is a script, and what was written is a transcript of it.
-pub record IsPlayed {B : Type 0} (base : ℕ → Option NamedStates) (meaning : B → Meaning) (before after was now : Option (List ℕ)) (old new : List B) : Type 0 where
+-- The source was read to its end, its text is a script, what was written is a transcript of it, and the watches heard what that tells.
+pub record IsPlayed {B : Type 0} (base : ℕ → Option NamedStates) (meaning : B → Meaning) (before after was now : Option (List ℕ)) (old new : List B) (watching watched : List Held) : Type 0 where
   pub text : List ℕ
   pub script : Script
   pub read : ReadsAll before after text
   pub is_script : script_of text ≡ Ok script
   pub enough : leaves_in script.items ≤ length old
-  pub written : IsWritten meaning old new base script.items was now
+  pub written : IsWritten meaning old new base script.items was now watching watched
+
+-- how many leaves the fleet of a soak has
+abbrev pub soak_leaves : ℕ
+soak_leaves = 8
+
+-- Nothing was read, what was written is a transcript of the script of a soak, and the watches heard what that tells.
+pub record IsSoaked {B : Type 0} (base : ℕ → Option NamedStates) (meaning : B → Meaning) (seed rows : ℕ) (was now : Option (List ℕ)) (old new : List B) (watching watched : List Held) : Type 0 where
+  pub enough : soak_leaves ≤ length old
+  pub written : IsWritten meaning old new base (soak_script seed rows).items was now watching watched
 
 -- what a run leaves of a berth in any case: no count of faults falls
 pub record KeepsCounts (old new : Meaning) : Type 0 where
@@ -57,6 +70,13 @@ leaves_of (Err found) = 0
 abbrev pub leaves_told : Option (List ℕ) → ℕ
 leaves_told (Some text) = leaves_of (script_of text)
 leaves_told None = 256
+
+-- how many leaves what the words ask for makes
+abbrev pub leaves_asked : Option Request → Option (List ℕ) → ℕ
+leaves_asked None before = 0
+leaves_asked (Some (Count range)) before = 0
+leaves_asked (Some Play) before = leaves_told before
+leaves_asked (Some (Soak seed rows)) before = soak_leaves
 
 -- The berths are in their places. So many of them the leaves used, and no count of their faults fell; all others are untouched.
 pub record LeavesBerths {B : Type 0} (meaning : B → Meaning) (leaves : ℕ) (olds news : List B) : Type 0 where

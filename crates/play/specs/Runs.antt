@@ -6,16 +6,18 @@ use Rattle.berth_face.specs.Berth.{Meaning}
 use Rattle.crash_moments.specs.Left.{NamedStates}
 use Rattle.region_layout.specs.Names.{AreNames}
 use Rattle.leaf_table.specs.declared.base.TableBase.{TableBase}
+use Rattle.rollover_watch.specs.Watches.{Held}
 use Rattle.script_text.specs.declared.item.Item.{Item}
 use Rattle.script_text.specs.Fits.{AreLeaves}
 use Rattle.printed_lines.specs.Lines.{lines_text, name_at}
-use Rattle.transcript.specs.Pieces.{Fleet, Piece, PlayedItem, all_lines, all_pieces, fleet_of, item_lines, item_of}
+use Rattle.transcript.specs.Pieces.{Fleet, Piece, PlayedItem, all_lines, all_pieces, fleet_of, item_lines, item_of, plays_in, plays_of}
 use Rattle.transcript.specs.Counts.{IsCounted}
 use Rattle.transcript.specs.Transcript.{Known}
 use Rattle.transcript.specs.Leaving.{AreKnown}
 use Rattle.transcript.specs.Stage.{Leaf}
 use Rattle.transcript.specs.Holds.{Hold}
 use Rattle.transcript.specs.Lanes.{PlaysItem}
+use Rattle.transcript.specs.Watching.{Watched}
 use Rattle.sessions.specs.Session.{Session}
 use Rattle.sessions.specs.Laws.{IsToldFleet}
 use Rattle.player.specs.Crew.{AllCounted, berth_in}
@@ -67,28 +69,31 @@ AreCounted meaning olds xs pieces = AtHolds meaning olds xs (λ leaf old now. Is
 
 -- ---- items
 
--- What holds after these items, whose lines were written: of a fleet whose leaves had these berths when the run began, and are these since.
-pub record RunSoFar {B : Type 0} (base : ℕ → Option NamedStates) (meaning : B → Meaning) (fleet : Fleet) (olds : List B) (was written : Option (List ℕ)) (items : List Item) (xs : List (Hold B)) : Type 0 where
+-- What holds after these items, whose lines were written and of which the watches heard: of a fleet whose leaves had these berths when the run began, and are these since.
+pub record RunSoFar {B : Type 0} (base : ℕ → Option NamedStates) (meaning : B → Meaning) (fleet : Fleet) (olds : List B) (was written : Option (List ℕ)) (watching watched : List Held) (items : List Item) (xs : List (Hold B)) : Type 0 where
   pub played : List PlayedItem
   pub items_are : map item_of played ≡ items
   pub text : Appends was written (lines_text fleet.names (all_lines played))
+  pub heard : Watched fleet (plays_in played) watching watched
   pub counted : AreCounted meaning olds xs (all_pieces played)
   pub keeps : HoldsKeep meaning olds xs
   pub session : (known : ℕ → Option Known) → AreKnown meaning olds olds base known → Session meaning fleet known olds played xs
 
 -- one item more, whose lines were written
-pub record Advances {B : Type 0} (meaning : B → Meaning) (fleet : Fleet) (xs ys : List (Hold B)) (was written : Option (List ℕ)) (item : Item) : Type 0 where
+pub record Advances {B : Type 0} (meaning : B → Meaning) (fleet : Fleet) (xs ys : List (Hold B)) (was written : Option (List ℕ)) (watching watched : List Held) (item : Item) : Type 0 where
   pub played : PlayedItem
   pub item_is : item_of played ≡ item
   pub plays : PlaysItem meaning fleet xs played ys
   pub text : Appends was written (lines_text fleet.names (item_lines played))
+  pub heard : Watched fleet (plays_of played) watching watched
   pub counted : AllCounted meaning (all_pieces (played ∷ [])) xs ys
 
 -- a run of all the items
-pub record IsRun {B : Type 0} (base : ℕ → Option NamedStates) (meaning : B → Meaning) (fleet : Fleet) (olds : List B) (was now : Option (List ℕ)) (items : List Item) (xs : List (Hold B)) : Type 0 where
+pub record IsRun {B : Type 0} (base : ℕ → Option NamedStates) (meaning : B → Meaning) (fleet : Fleet) (olds : List B) (was now : Option (List ℕ)) (watching watched : List Held) (items : List Item) (xs : List (Hold B)) : Type 0 where
   pub played : List PlayedItem
   pub items_are : map item_of played ≡ items
   pub text : Appends was now (lines_text fleet.names (all_lines played))
+  pub heard : Watched fleet (plays_in played) watching watched
   pub counted : AreCounted meaning olds xs (all_pieces played)
   pub told : (known : ℕ → Option Known) → AreKnown meaning olds olds base known → IsToldFleet meaning fleet known played olds xs
 

@@ -1,5 +1,5 @@
 // A script's play over the berths.
-ghost use Rattle.std.specs.Prelude.{◌≡◌, ◌≤◌, [], length, OnOk, IfOk, IfSome, None, IsErrOf, IsOk};
+ghost use Rattle.std.specs.Prelude.{◌≡◌, ◌≤◌, [], length, map, OnOk, IfOk, IfSome, None, IsErrOf, IsOk};
 ghost use Rattle.std.specs.List.{AllByRecursion};
 ghost use Rattle.std.specs.Io.KnownBytes.{Appends};
 ghost use Rattle.berth_face.specs.Causes.{Rose};
@@ -20,6 +20,7 @@ use bursts::play_item;
 use leaf_model::Names;
 use player::Crew;
 use printed_lines::{Line, put_lines};
+use rollover_watch::Watch;
 use script_text::{Command, Item, Items};
 use std::alloc::{AllocError, Global};
 use std::collections::VecDeque;
@@ -94,18 +95,20 @@ pub fn play_items<N: Bases, R: Wait + Threads + Sync, K: Sink, B: Berth, G: Gate
     sink: &mut K,
     berths: &mut Vec<B>,
     gate: &G,
+    watches: &mut Vec<Box<dyn Watch>>,
 ) -> Status
     requires items { AreItems items }
     requires enough { leaves_in items ≤ length berths.old.items }
     requires bases { AreBases N.base B.meaning berths.old.items }
-    ensures done { result ≡ Status.Done → IsWritten B.meaning berths.old.items berths.new.items N.base items (K.written sink.old) (K.written sink.new) }
+    ensures done { result ≡ Status.Done → IsWritten B.meaning berths.old.items berths.new.items N.base items (K.written sink.old) (K.written sink.new)
+        (map (λ watch. held watch) watches.old.items) (map (λ watch. held watch) watches.new.items) }
     ensures ends { IsEnd result }
     ensures write_fault { result ≡ Status.WriteFault → Rose (K.faults sink.old) (K.faults sink.new) }
     ensures berths { LeavesBerths B.meaning (leaves_in items) berths.old.items berths.new.items }
 {
     match plan_of(&items) {
         Ok(Some(plan)) => {
-            play_over::<N, R, K, B, G>(rt, alloc, &plan, items, sink, berths, gate)
+            play_over::<N, R, K, B, G>(rt, alloc, &plan, items, sink, berths, gate, watches)
         }
         Ok(None) => Status::Done,
         Err(_) => Status::NoMemory,
@@ -121,11 +124,13 @@ fn play_over<N: Bases, R: Wait + Threads + Sync, K: Sink, B: Berth, G: Gate>(
     sink: &mut K,
     berths: &mut Vec<B>,
     gate: &G,
+    watches: &mut Vec<Box<dyn Watch>>,
 ) -> Status
     requires plan { IsFleetOf items plan.now.machines plan.now.per_machine plan.now.names }
     requires enough { leaves_in items ≤ length berths.old.items }
     requires bases { AreBases N.base B.meaning berths.old.items }
-    ensures done { result ≡ Status.Done → IsWritten B.meaning berths.old.items berths.new.items N.base items (K.written sink.old) (K.written sink.new) }
+    ensures done { result ≡ Status.Done → IsWritten B.meaning berths.old.items berths.new.items N.base items (K.written sink.old) (K.written sink.new)
+        (map (λ watch. held watch) watches.old.items) (map (λ watch. held watch) watches.new.items) }
     ensures ends { IsEnd result }
     ensures write_fault { result ≡ Status.WriteFault → Rose (K.faults sink.old) (K.faults sink.new) }
     ensures berths { LeavesBerths B.meaning (leaves_in items) berths.old.items berths.new.items }
@@ -163,6 +168,7 @@ fn play_over<N: Bases, R: Wait + Threads + Sync, K: Sink, B: Berth, G: Gate>(
         items.into_inner(),
         sink,
         gate,
+        watches,
     );
     crew.abandon(berths);
     status
@@ -177,12 +183,15 @@ fn play_all<'t, N: Bases, R: Wait + Threads + Sync, K: Sink, B: Berth, G: Gate>(
     items: Vec<Item>,
     sink: &mut K,
     gate: &G,
+    watches: &mut Vec<Box<dyn Watch>>,
 ) -> Status
     requires names { crew.old.fleet.names ≡ names.now }
     requires may_play { AllByRecursion (MayPlayItem crew.old.fleet) items.items }
     requires all { HasAll crew.old.fleet crew.old.holds }
-    requires begun { RunSoFar N.base B.meaning crew.old.fleet (berths_in crew.old.holds) (K.written sink.old) (K.written sink.old) [] crew.old.holds }
-    ensures done { result ≡ Status.Done → RunSoFar N.base B.meaning crew.old.fleet (berths_in crew.old.holds) (K.written sink.old) (K.written sink.new) items.items crew.new.holds }
+    requires begun { RunSoFar N.base B.meaning crew.old.fleet (berths_in crew.old.holds) (K.written sink.old) (K.written sink.old)
+        (map (λ watch. held watch) watches.old.items) (map (λ watch. held watch) watches.old.items) [] crew.old.holds }
+    ensures done { result ≡ Status.Done → RunSoFar N.base B.meaning crew.old.fleet (berths_in crew.old.holds) (K.written sink.old) (K.written sink.new)
+        (map (λ watch. held watch) watches.old.items) (map (λ watch. held watch) watches.new.items) items.items crew.new.holds }
     ensures ends { IsEnd result }
     ensures write_fault { result ≡ Status.WriteFault → Rose (K.faults sink.old) (K.faults sink.new) }
     ensures keeps { HoldsKeep B.meaning (berths_in crew.old.holds) crew.new.holds }
@@ -190,7 +199,7 @@ fn play_all<'t, N: Bases, R: Wait + Threads + Sync, K: Sink, B: Berth, G: Gate>(
 {
     let mut rest = VecDeque::from_vec(items);
     while let Some(item) = rest.pop_front() {
-        match play_next(rt, alloc, names, crew, item, sink, gate) {
+        match play_next(rt, alloc, names, crew, item, sink, gate, watches) {
             Ok(()) => {}
             Err(WriteError::Failed) => return Status::WriteFault,
             Err(WriteError::NoMemory) => return Status::NoMemory,
@@ -208,18 +217,20 @@ fn play_next<'t, R: Wait + Threads + Sync, K: Sink, B: Berth, G: Gate>(
     item: Item,
     sink: &mut K,
     gate: &G,
+    watches: &mut Vec<Box<dyn Watch>>,
 ) -> Result<(), WriteError>
     requires names { crew.old.fleet.names ≡ names.now }
     requires may_play { MayPlayItem crew.old.fleet item }
     requires all { HasAll crew.old.fleet crew.old.holds }
-    ensures played { OnOk result (Advances B.meaning crew.old.fleet crew.old.holds crew.new.holds (K.written sink.old) (K.written sink.new) item) }
+    ensures played { OnOk result (Advances B.meaning crew.old.fleet crew.old.holds crew.new.holds (K.written sink.old) (K.written sink.new)
+        (map (λ watch. held watch) watches.old.items) (map (λ watch. held watch) watches.new.items) item) }
     ensures fleet { crew.new.fleet ≡ crew.old.fleet }
     ensures all { HasAll crew.new.fleet crew.new.holds }
     ensures time { AllPass B.meaning crew.old.holds crew.new.holds }
     ensures failed { IsErrOf result WriteError.Failed → Rose (K.faults sink.old) (K.faults sink.new) }
     ensures later { K.faults sink.old ≤ K.faults sink.new }
 {
-    let lines = play_item(rt, alloc, gate, crew, item);
+    let lines = play_item(rt, alloc, gate, crew, watches, item);
     write_lines(alloc, names, lines, sink)
 }
 

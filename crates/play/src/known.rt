@@ -2,9 +2,10 @@
 ghost use Rattle.std.specs.Prelude.{◌≡◌, ◌↔◌, List, Option, None, Some, IfOk, IfSome, IsSome, length, map, string_bytes};
 ghost use Rattle.berth_face.specs.Causes.{Rose};
 ghost use Rattle.berth_face.specs.Streams.{TakesAtMost};
+ghost use Rattle.rollover_watch.specs.Watches.{Held};
 ghost use Rattle.play.specs.Keeping.{ArePlayedTwice, IsKeptBase, Kept, LeavesKnown, bases_of, states_of};
-ghost use Rattle.play.specs.Outcome.{IsDone, IsCutShort, IfScript, IsTextRefused, IfCount, UnlessCutOff, UnlessPlayed, UnlessWritten, TakesText, verdict};
-ghost use Rattle.play.specs.Played.{AreBases, IsBase, IsPlayed, LeavesBerths, leaves_told};
+ghost use Rattle.play.specs.Outcome.{IsDone, IsCutShort, IfScript, IsTextRefused, IfCount, IfUnread, UnlessCutOff, UnlessPlayed, UnlessWritten, TakesText, verdict};
+ghost use Rattle.play.specs.Played.{AreBases, IsBase, IsPlayed, LeavesBerths, leaves_asked};
 ghost use Rattle.play.specs.Source.{most_taken};
 ghost use Rattle.play.specs.Words.{request_of};
 ghost use Rattle.play.specs.declared.words.Request.TheVariants.{Play};
@@ -14,6 +15,7 @@ use crate::kept::{Choice, KnownBerths};
 use crate::program::run;
 use crate::status::Status;
 use berth_face::{Berth, Gate, Sink, Source};
+use rollover_watch::Watch;
 use std::alloc::{AllocError, Global};
 use std::marker::Brand;
 use std::snapshot::Snapshot;
@@ -45,11 +47,13 @@ pub fn run_known<R: Wait + Threads + Sync, S: Source, K: Sink, B: Berth, G: Gate
     sink: &mut K,
     berths: &mut Vec<B>,
     gate: &G,
+    watches: &mut Vec<Box<dyn Watch>>,
     known: &KnownBerths,
 ) -> Status
     requires bases { AreBases (bases_of known.now) B.meaning berths.old.items }
     ensures done { result ≡ Status.Done → IsDone (bases_of known.now) B.meaning (request_of (map string_bytes words.now))
-        (S.left source.old) (S.left source.new) (K.written sink.old) (K.written sink.new) berths.old.items berths.new.items }
+        (S.left source.old) (S.left source.new) (K.written sink.old) (K.written sink.new) berths.old.items berths.new.items
+        (map (λ watch. held watch) watches.old.items) (map (λ watch. held watch) watches.new.items) }
     ensures words { (result ≡ Status.Words) ↔ (request_of (map string_bytes words.now) ≡ None) }
     ensures script { IfScript result (IsTextRefused (length berths.old.items) (request_of (map string_bytes words.now)) (S.left source.old) (S.left source.new)) }
     ensures read_fault { result ≡ Status.ReadFault → Rose (S.faults source.old) (S.faults source.new) }
@@ -58,16 +62,18 @@ pub fn run_known<R: Wait + Threads + Sync, S: Source, K: Sink, B: Berth, G: Gate
         (λ text. UnlessCutOff result (result ≡ verdict (length berths.old.items) (request_of (map string_bytes words.now)) text)) }
     ensures takes { TakesAtMost (S.left source.old) (S.left source.new) most_taken }
     ensures too_long { TakesText result (S.left source.old) (S.left source.new) }
-    ensures unread { result ≡ Status.Words → source.new ≡ source.old }
+    ensures unread { IfUnread (request_of (map string_bytes words.now)) (source.new ≡ source.old) }
     ensures unwritten { UnlessPlayed result (sink.new ≡ sink.old) }
     ensures unplayed { UnlessPlayed result (berths.new ≡ berths.old) }
+    ensures unwatched { UnlessPlayed result (watches.new ≡ watches.old) }
     ensures count_unwritten { IfCount (request_of (map string_bytes words.now)) (λ range. UnlessWritten result (sink.new ≡ sink.old)) }
     ensures count_cut_short { IfCount (request_of (map string_bytes words.now)) (λ range. result ≡ Status.WriteFault →
         IsCutShort range (S.left source.old) (S.left source.new) (K.written sink.old) (K.written sink.new)) }
     ensures count_unplayed { IfCount (request_of (map string_bytes words.now)) (λ range. berths.new ≡ berths.old) }
-    ensures berths { LeavesBerths B.meaning (leaves_told (S.left source.old)) berths.old.items berths.new.items }
+    ensures count_unwatched { IfCount (request_of (map string_bytes words.now)) (λ range. watches.new ≡ watches.old) }
+    ensures berths { LeavesBerths B.meaning (leaves_asked (request_of (map string_bytes words.now)) (S.left source.old)) berths.old.items berths.new.items }
 {
-    run_for::<Brand, R, S, K, B, G>(rt, alloc, words, source, sink, berths, gate, known)
+    run_for::<Brand, R, S, K, B, G>(rt, alloc, words, source, sink, berths, gate, watches, known)
 }
 
 // A run over berths with the bases of N, which the caller picks by what is known.
@@ -79,11 +85,13 @@ fn run_for<N: Bases, R: Wait + Threads + Sync, S: Source, K: Sink, B: Berth, G: 
     sink: &mut K,
     berths: &mut Vec<B>,
     gate: &G,
+    watches: &mut Vec<Box<dyn Watch>>,
     _known: &KnownBerths,
 ) -> Status
     requires bases { AreBases N.base B.meaning berths.old.items }
     ensures done { result ≡ Status.Done → IsDone N.base B.meaning (request_of (map string_bytes words.now))
-        (S.left source.old) (S.left source.new) (K.written sink.old) (K.written sink.new) berths.old.items berths.new.items }
+        (S.left source.old) (S.left source.new) (K.written sink.old) (K.written sink.new) berths.old.items berths.new.items
+        (map (λ watch. held watch) watches.old.items) (map (λ watch. held watch) watches.new.items) }
     ensures words { (result ≡ Status.Words) ↔ (request_of (map string_bytes words.now) ≡ None) }
     ensures script { IfScript result (IsTextRefused (length berths.old.items) (request_of (map string_bytes words.now)) (S.left source.old) (S.left source.new)) }
     ensures read_fault { result ≡ Status.ReadFault → Rose (S.faults source.old) (S.faults source.new) }
@@ -92,16 +100,18 @@ fn run_for<N: Bases, R: Wait + Threads + Sync, S: Source, K: Sink, B: Berth, G: 
         (λ text. UnlessCutOff result (result ≡ verdict (length berths.old.items) (request_of (map string_bytes words.now)) text)) }
     ensures takes { TakesAtMost (S.left source.old) (S.left source.new) most_taken }
     ensures too_long { TakesText result (S.left source.old) (S.left source.new) }
-    ensures unread { result ≡ Status.Words → source.new ≡ source.old }
+    ensures unread { IfUnread (request_of (map string_bytes words.now)) (source.new ≡ source.old) }
     ensures unwritten { UnlessPlayed result (sink.new ≡ sink.old) }
     ensures unplayed { UnlessPlayed result (berths.new ≡ berths.old) }
+    ensures unwatched { UnlessPlayed result (watches.new ≡ watches.old) }
     ensures count_unwritten { IfCount (request_of (map string_bytes words.now)) (λ range. UnlessWritten result (sink.new ≡ sink.old)) }
     ensures count_cut_short { IfCount (request_of (map string_bytes words.now)) (λ range. result ≡ Status.WriteFault →
         IsCutShort range (S.left source.old) (S.left source.new) (K.written sink.old) (K.written sink.new)) }
     ensures count_unplayed { IfCount (request_of (map string_bytes words.now)) (λ range. berths.new ≡ berths.old) }
-    ensures berths { LeavesBerths B.meaning (leaves_told (S.left source.old)) berths.old.items berths.new.items }
+    ensures count_unwatched { IfCount (request_of (map string_bytes words.now)) (λ range. watches.new ≡ watches.old) }
+    ensures berths { LeavesBerths B.meaning (leaves_asked (request_of (map string_bytes words.now)) (S.left source.old)) berths.old.items berths.new.items }
 {
-    run::<N, R, S, K, B, G>(rt, alloc, words, source, sink, berths, gate)
+    run::<N, R, S, K, B, G>(rt, alloc, words, source, sink, berths, gate, watches)
 }
 
 /// A play, and behind one that was done what it left known of the berths, where there was memory for that.
@@ -113,18 +123,22 @@ pub fn run_keeping<N: Bases, R: Wait + Threads + Sync, S: Source, K: Sink, B: Be
     sink: &mut K,
     berths: &mut Vec<B>,
     gate: &G,
+    watches: &mut Vec<Box<dyn Watch>>,
 ) -> (Status, Option<KnownBerths>)
     requires words { request_of (map string_bytes words.now) ≡ Some Play }
     requires bases { AreBases N.base B.meaning berths.old.items }
-    ensures done { result.0 ≡ Status.Done → IsPlayed N.base B.meaning (S.left source.old) (S.left source.new) (K.written sink.old) (K.written sink.new) berths.old.items berths.new.items }
-    ensures known { IfSome result.1 (λ known. LeavesKnown N.base B.meaning (S.left source.old) (S.left source.new) (K.written sink.old) (K.written sink.new) berths.old.items berths.new.items known) }
+    ensures done { result.0 ≡ Status.Done → IsPlayed N.base B.meaning (S.left source.old) (S.left source.new) (K.written sink.old) (K.written sink.new) berths.old.items berths.new.items
+        (map (λ watch. held watch) watches.old.items) (map (λ watch. held watch) watches.new.items) }
+    ensures known { IfSome result.1 (λ known. LeavesKnown N.base B.meaning (S.left source.old) (S.left source.new) (K.written sink.old) (K.written sink.new) berths.old.items berths.new.items
+        (map (λ watch. held watch) watches.old.items) (map (λ watch. held watch) watches.new.items) known) }
     ensures only_done { IsSome result.1 → result.0 ≡ Status.Done }
-    ensures berths { LeavesBerths B.meaning (leaves_told (S.left source.old)) berths.old.items berths.new.items }
+    ensures berths { LeavesBerths B.meaning (leaves_asked (request_of (map string_bytes words.now)) (S.left source.old)) berths.old.items berths.new.items }
 {
     let source_was = Snapshot::of(&*source);
     let sink_was = Snapshot::of(&*sink);
     let berths_were = Snapshot::of(&*berths);
-    let status = run::<N, R, S, K, B, G>(rt, alloc, words, source, sink, berths, gate);
+    let watches_were = Snapshot::of(&*watches);
+    let status = run::<N, R, S, K, B, G>(rt, alloc, words, source, sink, berths, gate, watches);
     match status {
         Status::Done => {}
         status => return (status, None),
@@ -134,24 +148,28 @@ pub fn run_keeping<N: Bases, R: Wait + Threads + Sync, S: Source, K: Sink, B: Be
         &source_was,
         &sink_was,
         &berths_were,
+        &watches_were,
         source,
         sink,
         berths,
+        watches,
     ) {
         Ok(known) => (Status::Done, Some(known)),
         Err(_) => (Status::Done, None),
     }
 }
 
-// Keeps what N says of these berths. What they, the source and the sink were and are is for the pick alone.
+// Keeps what N says of these berths. What they, the source, the sink and the watches were and are is for the pick alone.
 fn keep_left<N: Choice, S, K, B>(
     alloc: Global,
     _source_was: &Snapshot<S>,
     _sink_was: &Snapshot<K>,
     _berths_were: &Snapshot<Vec<B>>,
+    _watches_were: &Snapshot<Vec<Box<dyn Watch>>>,
     _source: &S,
     _sink: &K,
     _berths: &Vec<B>,
+    _watches: &Vec<Box<dyn Watch>>,
 ) -> Result<KnownBerths, AllocError>
     requires { (known : List (Option (List Kept))) × N.fits known }
     ensures { IfOk result (λ known. N.fits known) }
@@ -171,18 +189,20 @@ pub fn run_twice<N: Bases, R: Wait + Threads + Sync, S: Source, K: Sink, B: Bert
     next_sink: &mut K,
     berths: &mut Vec<B>,
     gate: &G,
+    watches: &mut Vec<Box<dyn Watch>>,
 ) -> (Status, Option<Status>)
     requires words { request_of (map string_bytes words.now) ≡ Some Play }
     requires bases { AreBases N.base B.meaning berths.old.items }
 
     // Where the first is done, it was told over the bases of N; where the second is too, over a base that the first left.
-    ensures first { result.0 ≡ Status.Done → (between : List B) × IsPlayed N.base B.meaning (S.left source.old) (S.left source.new) (K.written sink.old) (K.written sink.new) berths.old.items between }
+    ensures first { result.0 ≡ Status.Done → (between : List B) × (meanwhile : List Held) × IsPlayed N.base B.meaning (S.left source.old) (S.left source.new) (K.written sink.old) (K.written sink.new) berths.old.items between
+        (map (λ watch. held watch) watches.old.items) meanwhile }
     ensures both { result.1 ≡ Some Status.Done → ArePlayedTwice N.base B.meaning (S.left source.old) (S.left source.new) (K.written sink.old) (K.written sink.new)
         (S.left next_source.old) (S.left next_source.new) (K.written next_sink.old) (K.written next_sink.new) berths.old.items berths.new.items }
     ensures in_order { IsSome result.1 → result.0 ≡ Status.Done }
 {
     let (status, known) = run_keeping::<N, R, S, K, B, G>(
-        rt, alloc, words, source, sink, berths, gate,
+        rt, alloc, words, source, sink, berths, gate, watches,
     );
     match known {
         Some(known) => {
@@ -194,6 +214,7 @@ pub fn run_twice<N: Bases, R: Wait + Threads + Sync, S: Source, K: Sink, B: Bert
                 next_sink,
                 berths,
                 gate,
+                watches,
                 &known,
             );
             (status, Some(next))

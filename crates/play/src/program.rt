@@ -2,17 +2,19 @@
 ghost use Rattle.std.specs.Prelude.{◌≡◌, ◌↔◌, None, IfSome, length, map, string_bytes};
 ghost use Rattle.berth_face.specs.Causes.{Rose};
 ghost use Rattle.berth_face.specs.Streams.{TakesAtMost};
-ghost use Rattle.play.specs.Outcome.{IsDone, IsCutShort, IfScript, IsTextRefused, IfCount, UnlessCutOff, UnlessPlayed, UnlessWritten, TakesText, verdict};
-ghost use Rattle.play.specs.Played.{AreBases, LeavesBerths, leaves_told};
+ghost use Rattle.play.specs.Outcome.{IsDone, IsCutShort, IfScript, IsTextRefused, IfCount, IfUnread, UnlessCutOff, UnlessPlayed, UnlessWritten, TakesText, verdict};
+ghost use Rattle.play.specs.Played.{AreBases, LeavesBerths, leaves_asked};
 ghost use Rattle.play.specs.Source.{most_taken};
 ghost use Rattle.play.specs.Words.{request_of};
 
 use crate::bases::Bases;
 use crate::count::count_source;
 use crate::script::play_source;
+use crate::soaking::play_soak;
 use crate::status::Status;
 use crate::words::{Request, request_of};
 use berth_face::{Berth, Gate, Sink, Source};
+use rollover_watch::Watch;
 use std::alloc::Global;
 use std::sync::Wait;
 use std::thread::Threads;
@@ -26,12 +28,14 @@ pub fn run<N: Bases, R: Wait + Threads + Sync, S: Source, K: Sink, B: Berth, G: 
     sink: &mut K,
     berths: &mut Vec<B>,
     gate: &G,
+    watches: &mut Vec<Box<dyn Watch>>,
 ) -> Status
     // Leaf L uses berth L. N says of which the base is known; a leaf with that base may begin there.
     requires bases { AreBases N.base B.meaning berths.old.items }
 
     ensures done { result ≡ Status.Done → IsDone N.base B.meaning (request_of (map string_bytes words.now))
-        (S.left source.old) (S.left source.new) (K.written sink.old) (K.written sink.new) berths.old.items berths.new.items }
+        (S.left source.old) (S.left source.new) (K.written sink.old) (K.written sink.new) berths.old.items berths.new.items
+        (map (λ watch. held watch) watches.old.items) (map (λ watch. held watch) watches.new.items) }
 
     // Each other status has its cause, but for want of memory.
     ensures words { (result ≡ Status.Words) ↔ (request_of (map string_bytes words.now) ≡ None) }
@@ -46,26 +50,31 @@ pub fn run<N: Bases, R: Wait + Threads + Sync, S: Source, K: Sink, B: Berth, G: 
     // What a run takes: one byte too much exactly where the text is refused as too long.
     ensures takes { TakesAtMost (S.left source.old) (S.left source.new) most_taken }
     ensures too_long { TakesText result (S.left source.old) (S.left source.new) }
-    ensures unread { result ≡ Status.Words → source.new ≡ source.old }
+    ensures unread { IfUnread (request_of (map string_bytes words.now)) (source.new ≡ source.old) }
 
-    // Where the words, the text or the source are at fault nothing is written, and nothing is played.
+    // Where the words, the text or the source are at fault nothing is written, nothing is played, and no watch is told anything.
     ensures unwritten { UnlessPlayed result (sink.new ≡ sink.old) }
     ensures unplayed { UnlessPlayed result (berths.new ≡ berths.old) }
+    ensures unwatched { UnlessPlayed result (watches.new ≡ watches.old) }
 
-    // What a count writes: nothing but at Done and WriteFault, and then the line or a front of it. It plays nothing.
+    // What a count writes: nothing but at Done and WriteFault, and then the line or a front of it. It plays nothing, and tells no watch anything.
     ensures count_unwritten { IfCount (request_of (map string_bytes words.now)) (λ range. UnlessWritten result (sink.new ≡ sink.old)) }
     ensures count_cut_short { IfCount (request_of (map string_bytes words.now)) (λ range. result ≡ Status.WriteFault →
         IsCutShort range (S.left source.old) (S.left source.new) (K.written sink.old) (K.written sink.new)) }
     ensures count_unplayed { IfCount (request_of (map string_bytes words.now)) (λ range. berths.new ≡ berths.old) }
+    ensures count_unwatched { IfCount (request_of (map string_bytes words.now)) (λ range. watches.new ≡ watches.old) }
 
-    // The berths come back in their places, and none has changed but those of the leaves that the text makes.
-    ensures berths { LeavesBerths B.meaning (leaves_told (S.left source.old)) berths.old.items berths.new.items }
+    // The berths come back in their places, and none has changed but those of the leaves that the words and the text make.
+    ensures berths { LeavesBerths B.meaning (leaves_asked (request_of (map string_bytes words.now)) (S.left source.old)) berths.old.items berths.new.items }
 {
     match request_of(words) {
         None => Status::Words,
         Some(Request::Count(range)) => count_source(rt, alloc, range, source, sink),
         Some(Request::Play) => {
-            play_source::<N, R, S, K, B, G>(rt, alloc, source, sink, berths, gate)
-        },
+            play_source::<N, R, S, K, B, G>(rt, alloc, source, sink, berths, gate, watches)
+        }
+        Some(Request::Soak { seed, rows }) => {
+            play_soak::<N, R, K, B, G>(rt, alloc, seed, rows, sink, berths, gate, watches)
+        }
     }
 }

@@ -1,5 +1,5 @@
 // A source that is a script, and its play.
-ghost use Rattle.std.specs.Prelude.{◌≡◌, ◌≢◌, ◌<◌, ◌∷◌, [], length, Some, None, IfSome, IfOk, IfErr};
+ghost use Rattle.std.specs.Prelude.{◌≡◌, ◌≢◌, ◌<◌, ◌∷◌, [], length, map, Some, None, IfSome, IfOk, IfErr};
 ghost use Rattle.berth_face.specs.Causes.{Rose};
 ghost use Rattle.berth_face.specs.Streams.{TakesAtMost};
 ghost use Rattle.play.specs.Outcome.{IsNoPlay, IfScript, UnlessCutOff, UnlessPlayed, TakesText, play_verdict, status_of_fault};
@@ -11,6 +11,7 @@ use crate::berths::{leaf_count, play_items};
 use crate::status::Status;
 use crate::stream::{ReadError, read_all};
 use berth_face::{Berth, Gate, Sink, Source};
+use rollover_watch::Watch;
 use script_text::{ScriptFault, Why, parse};
 use std::alloc::Global;
 use std::sync::Wait;
@@ -24,9 +25,11 @@ pub fn play_source<N: Bases, R: Wait + Threads + Sync, S: Source, K: Sink, B: Be
     sink: &mut K,
     berths: &mut Vec<B>,
     gate: &G,
+    watches: &mut Vec<Box<dyn Watch>>,
 ) -> Status
     requires { AreBases N.base B.meaning berths.old.items }
-    ensures done { result ≡ Status.Done → IsPlayed N.base B.meaning (S.left source.old) (S.left source.new) (K.written sink.old) (K.written sink.new) berths.old.items berths.new.items }
+    ensures done { result ≡ Status.Done → IsPlayed N.base B.meaning (S.left source.old) (S.left source.new) (K.written sink.old) (K.written sink.new) berths.old.items berths.new.items
+        (map (λ watch. held watch) watches.old.items) (map (λ watch. held watch) watches.new.items) }
     ensures known_words { result ≢ Status.Words }
     ensures script { IfScript result (IsNoPlay (length berths.old.items) (S.left source.old) (S.left source.new)) }
     ensures read_fault { result ≡ Status.ReadFault → Rose (S.faults source.old) (S.faults source.new) }
@@ -36,6 +39,7 @@ pub fn play_source<N: Bases, R: Wait + Threads + Sync, S: Source, K: Sink, B: Be
     ensures too_long { TakesText result (S.left source.old) (S.left source.new) }
     ensures unwritten { UnlessPlayed result (sink.new ≡ sink.old) }
     ensures unplayed { UnlessPlayed result (berths.new ≡ berths.old) }
+    ensures unwatched { UnlessPlayed result (watches.new ≡ watches.old) }
     ensures berths { LeavesBerths B.meaning (leaves_told (S.left source.old)) berths.old.items berths.new.items }
 {
     let text = match read_all(alloc, source) {
@@ -59,7 +63,7 @@ pub fn play_source<N: Bases, R: Wait + Threads + Sync, S: Source, K: Sink, B: Be
             why: Why::NoBerth,
         };
     }
-    play_items::<N, R, K, B, G>(rt, alloc, script.items, sink, berths, gate)
+    play_items::<N, R, K, B, G>(rt, alloc, script.items, sink, berths, gate, watches)
 }
 
 /// The status of a text that is no script.

@@ -1,4 +1,4 @@
-//! Tests of whole runs: over streams and berths that fail, over what a crash leaves, and over two leaves that are asked at once.
+//! Tests of whole runs: over streams and berths that fail, over what a crash leaves, over two leaves that are asked at once, and with rollovers.
 #![tactic(auto)]
 
 #[cfg(test)]
@@ -9,5 +9,7 @@ mod faults;
 mod gates;
 #[cfg(test)]
 mod plays;
+#[cfg(test)]
+mod rollovers;
 #[cfg(test)]
 mod streams;

@@ -2,6 +2,7 @@
 use berth_face::{Gate, OpenGate, Sink, Source};
 use berth_mem::{Fail, Fails, MemBerth, MemSink, MemSource, Method};
 use play::{Status, run};
+use rollover_watch::Watch;
 use std::alloc::{AllocError, Global};
 use std::marker::Brand;
 use std::sync::Wait;
@@ -20,6 +21,7 @@ pub fn run_line<R: Wait + Threads + Sync, S: Source, K: Sink>(
     for word in line.split_whitespace() {
         words.push(String::from_str(alloc, word)?)?;
     }
+    let mut unheard: Vec<Box<dyn Watch>> = Vec::new(alloc);
     Ok(run::<Brand, R, S, K, MemBerth, OpenGate>(
         rt,
         alloc,
@@ -28,6 +30,7 @@ pub fn run_line<R: Wait + Threads + Sync, S: Source, K: Sink>(
         sink,
         berths,
         &OpenGate,
+        &mut unheard,
     ))
 }
 
@@ -60,6 +63,19 @@ pub fn lines_of<R: Wait + Threads + Sync, G: Gate>(
     berths: u32,
     gate: &G,
 ) -> Result<String, AllocError> {
+    let mut unheard: Vec<Box<dyn Watch>> = Vec::new(alloc);
+    lines_heard(rt, alloc, script, berths, gate, &mut unheard)
+}
+
+/// The same, with what these watches hear of it.
+pub fn lines_heard<R: Wait + Threads + Sync, G: Gate>(
+    rt: &R,
+    alloc: Global,
+    script: &str,
+    berths: u32,
+    gate: &G,
+    watches: &mut Vec<Box<dyn Watch>>,
+) -> Result<String, AllocError> {
     let mut words = Vec::new(alloc);
     words.push(String::from_str(alloc, "play")?)?;
     let mut source = MemSource::new(script.as_bytes().to_vec(alloc)?);
@@ -76,6 +92,7 @@ pub fn lines_of<R: Wait + Threads + Sync, G: Gate>(
         &mut sink,
         &mut empty,
         gate,
+        watches,
     );
     match (status, String::from_utf8(sink.bytes().to_vec(alloc)?)) {
         (Status::Done, Ok(lines)) => Ok(lines),

@@ -15,6 +15,7 @@ use berth_files::{FileBerth, StdSink, StdSource};
 use berth_mem::MemBerth;
 use command_line::{CommandLine, Refusal, split};
 use play::{Bases, EmptyBerths, Status, fault_text, run};
+use rollover_watch::{CountWatch, Watch};
 use std::alloc::{AllocError, Global};
 use std::marker::Brand;
 use std::process::ExitCode;
@@ -54,6 +55,13 @@ fn serve<
     let Ok(mut berths) = berths else {
         return ExitCode::from(NO_MEMORY);
     };
+    let Ok(count) = Box::new(rt.alloc(), CountWatch::new()) else {
+        return ExitCode::from(NO_MEMORY);
+    };
+    let mut watches: Vec<Box<dyn Watch>> = Vec::new(rt.alloc());
+    if watches.push(count).is_err() {
+        return ExitCode::from(NO_MEMORY);
+    }
     let mut source = StdSource::new(rt.reader());
     let mut sink = StdSink::new(io::writer(rt));
     let status = run::<N, R, _, _, B, OpenGate>(
@@ -64,6 +72,7 @@ fn serve<
         &mut sink,
         &mut berths,
         &OpenGate,
+        &mut watches,
     );
     tell(rt, &status);
     ExitCode::from(status_number(&status))

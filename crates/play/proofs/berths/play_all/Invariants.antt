@@ -1,4 +1,4 @@
-use Rattle.std.proofs.Common.{◌≡◌, ◌++◌, ◌≤◌, List}
+use Rattle.std.proofs.Common.{◌≡◌, ◌++◌, ◌≤◌, List, map}
 use Rattle.std.specs.List.{AllByRecursion}
 use Rattle.std.specs.VecDeque.{deque_len}
 use Rattle.script_text.specs.declared.item.Item.{Item}
@@ -12,7 +12,10 @@ abbrev pub invariant-loop-item : goal.invariant-loop-item
 invariant-loop-item g l =
     (done : List Item)
     × (done ++ l.rest.items ≡ l.fn.items.items)
-    × RunSoFar g.N.Bases.base g.B.Berth.meaning l.initial.crew.fleet (berths_in l.initial.crew.holds) (g.K.Sink.written l.initial.sink) (g.K.Sink.written l.sink) done l.crew.holds
+    × RunSoFar g.N.Bases.base g.B.Berth.meaning l.initial.crew.fleet (berths_in l.initial.crew.holds) (g.K.Sink.written l.initial.sink) (g.K.Sink.written l.sink)
+        (map (λ b. (goal.Watch-dyn g (b.vtable, b.value)).held b.value) l.fn.watches.items)
+        (map (λ b. (goal.Watch-dyn g (b.vtable, b.value)).held b.value) l.watches.items)
+        done l.crew.holds
     × (l.crew.fleet ≡ l.initial.crew.fleet)
     × AllByRecursion (MayPlayItem l.initial.crew.fleet) l.rest.items
     × (g.K.Sink.faults l.initial.sink ≤ g.K.Sink.faults l.sink)

@@ -12,5 +12,5 @@ pub returns-clause-played : goal.returns-clause-played
 returns-clause-played g c =
     let was = g.K.Sink.written c.args.sink.now in
     let now = g.K.Sink.written c.write_lines.new.sink in
-    advances g.B.Berth.meaning c.args.crew.now.fleet c.args.item c.args.crew.now.holds c.play_item-lines.new.crew.holds was now c.play_item-lines.result c.write_lines.result c.play_item-lines.ensures.played c.write_lines.ensures.made
+    advances g.B.Berth.meaning c.args.crew.now.fleet c.args.item c.args.crew.now.holds c.play_item-lines.new.crew.holds was now _ _ c.play_item-lines.result c.write_lines.result c.play_item-lines.ensures.played c.write_lines.ensures.made
     (subst (λ ns. OnOk c.write_lines.result (IfOk c.play_item-lines.result (λ lines. Appends was now (lines_text ns lines.items)))) (sym c.requires.names) c.write_lines.ensures.written)

@@ -54,7 +54,7 @@ play_all-status-requires-clause-begun g c κs within =
     let is : crew.fleet ≡ fleet_with plan.machines plan.per_machine plan.names = new.fleet ∙ ap (fleet_with plan.machines plan.per_machine) c.in-Ok.ensures in
     let enough : leaves ≤ length berths = subst (λ n. n ≤ length berths) (ap leaf_count c.requires.plan.is) c.requires.enough in
     run_begins g.N.Bases.base g.B.Berth.meaning berths plan.names leaves made.tables made.stewards made.callers c.requires.bases enough c.requires.plan.are_names c.in-Ok-new_tables.ensures
-    crew.fleet (g.K.Sink.written c.args.sink.now) crew.holds (ap leaf_count is) (ap (λ f. f.names) is)
+    crew.fleet (g.K.Sink.written c.args.sink.now) _ crew.holds (ap leaf_count is) (ap (λ f. f.names) is)
     (new.holds ∙ ap (λ ns. new_holds 0 ns made.tables made.stewards made.callers (take leaves berths)) c.in-Ok.ensures) new.stands
 
 pub abandon-requires-clause-room : goal.abandon-requires-clause-room
@@ -87,11 +87,11 @@ returns-clause-done g c =
     let enough : leaves ≤ length berths = subst (λ n. n ≤ length berths) (ap leaf_count c.requires.plan.is) c.requires.enough in
     let had : berths_in crew.holds ≡ take leaves berths = ap berths_in new.holds ∙ berths_of_holds c.in-Ok.copy made.tables made.stewards made.callers 0 (take leaves berths) in
     λ e.
-    let run : IsRun g.N.Bases.base g.B.Berth.meaning crew.fleet (berths_in crew.holds) was now c.into_inner.result.items after =
-    run_ends g.N.Bases.base g.B.Berth.meaning crew.fleet (berths_in crew.holds) was now c.into_inner.result.items after (c.play_all-status.ensures.done e) c.abandon.ensures.met in
+    let run : IsRun g.N.Bases.base g.B.Berth.meaning crew.fleet (berths_in crew.holds) was now _ _ c.into_inner.result.items after =
+    run_ends g.N.Bases.base g.B.Berth.meaning crew.fleet (berths_in crew.holds) was now _ _ c.into_inner.result.items after (c.play_all-status.ensures.done e) c.abandon.ensures.met in
     crew_written g.B.Berth.meaning berths c.abandon.new.berths.items back.0 crew.holds after leaves enough had back.1 (back.2 ∙ ap (λ bs. back.0 ++ bs) new.berths) c.play_all-status.ensures.keeps.as_many
-    g.N.Bases.base c.args.items crew.fleet was now (c.requires.plan.is ∙ sym is) (ap leaf_count is)
-    (subst (λ cs. IsRun g.N.Bases.base g.B.Berth.meaning crew.fleet (berths_in crew.holds) was now cs after) c.into_inner.ensures run)
+    g.N.Bases.base c.args.items crew.fleet was now _ _ (c.requires.plan.is ∙ sym is) (ap leaf_count is)
+    (subst (λ cs. IsRun g.N.Bases.base g.B.Berth.meaning crew.fleet (berths_in crew.holds) was now _ _ cs after) c.into_inner.ensures run)
 
 pub returns-clause-berths : goal.returns-clause-berths
 returns-clause-berths g c =

@@ -1,0 +1,56 @@
+// The play of a script that two numbers make.
+ghost use Rattle.std.specs.Prelude.{◌≡◌, ◌≢◌, ◌≤◌, length, map};
+ghost use Rattle.berth_face.specs.Causes.{Rose};
+ghost use Rattle.play.specs.Outcome.{IfScript, IsNoSoak, UnlessCutOff, UnlessPlayed, soak_verdict};
+ghost use Rattle.play.specs.Played.{AreBases, IsSoaked, LeavesBerths, soak_leaves};
+
+use crate::bases::Bases;
+use crate::berths::play_items;
+use crate::status::Status;
+use berth_face::{Berth, Gate, Sink};
+use rollover_watch::Watch;
+use script_text::Why;
+use std::alloc::Global;
+use std::sync::Wait;
+use std::thread::Threads;
+
+/// How many leaves the fleet of a soak has.
+const LEAVES: usize = 8;
+
+/// Plays the script of a seed and a number of rows. It reads no source.
+#[tactic(auto, using(crate::proofs::Soaked::soak_count))]
+pub fn play_soak<N: Bases, R: Wait + Threads + Sync, K: Sink, B: Berth, G: Gate>(
+    rt: &R,
+    alloc: Global,
+    seed: u64,
+    rows: u32,
+    sink: &mut K,
+    berths: &mut Vec<B>,
+    gate: &G,
+    watches: &mut Vec<Box<dyn Watch>>,
+) -> Status
+    requires rows { (8 ≤ rows) × (rows ≤ 800000) }
+    requires bases { AreBases N.base B.meaning berths.old.items }
+    ensures done { result ≡ Status.Done → IsSoaked N.base B.meaning seed rows (K.written sink.old) (K.written sink.new) berths.old.items berths.new.items
+        (map (λ watch. held watch) watches.old.items) (map (λ watch. held watch) watches.new.items) }
+    ensures known_words { result ≢ Status.Words }
+    ensures script { IfScript result (IsNoSoak (length berths.old.items)) }
+    ensures unread { result ≢ Status.ReadFault }
+    ensures write_fault { result ≡ Status.WriteFault → Rose (K.faults sink.old) (K.faults sink.new) }
+    ensures exact { UnlessCutOff result (result ≡ soak_verdict (length berths.old.items)) }
+    ensures unwritten { UnlessPlayed result (sink.new ≡ sink.old) }
+    ensures unplayed { UnlessPlayed result (berths.new ≡ berths.old) }
+    ensures unwatched { UnlessPlayed result (watches.new ≡ watches.old) }
+    ensures berths { LeavesBerths B.meaning soak_leaves berths.old.items berths.new.items }
+{
+    if berths.len() < LEAVES {
+        return Status::Script {
+            line: 0,
+            why: Why::NoBerth,
+        };
+    }
+    let Ok(script) = soak::script(alloc, seed, rows) else {
+        return Status::NoMemory;
+    };
+    play_items::<N, R, K, B, G>(rt, alloc, script.items, sink, berths, gate, watches)
+}
