@@ -1,6 +1,5 @@
 -- One more line, and one more part, of a text whose rows are counted.
 use Rattle.std.proofs.Common.{◌≡◌, ℕ, suc, ◌+◌, ◌<◌, ◌≤◌, List, [], ◌∷◌, ◌++◌, map, length, Bool, true, false, cond, Result, Ok, Err, Bor, refl, ap, sym, subst, ◌∙◌, arith, zero-add, add-zero, add_assoc, length-append}
-use Rattle.std.specs.Prelude.{IfOk, IfErr}
 use Rattle.std.specs.List.{AllZip}
 use Rattle.std.proofs.lemmas.List.Sums.{sum_by-cons}
 use Rattle.leaf_model.specs.declared.rows.Row.{Row}
@@ -220,7 +219,7 @@ module _ (range : Range) (text : List ℕ) (lines rows : ℕ) (counts rest : Lis
       record {
         left = next.others;
         whole = ap (λ (k : ℕ). more_by (rows + count.rows) (count_lines range (lines + k) (lines_of_parts next.others))) many
-        ∙ sym (then_ok range lines rows count.rows (lines_of next.part) (lines_of_parts next.others) (sym (count_is range next.part) ∙ (next_ok count ok).rows)) ∙ whole_cut;
+            ∙ sym (then_ok range lines rows count.rows (lines_of next.part) (lines_of_parts next.others) (sym (count_is range next.part) ∙ (next_ok count ok).rows)) ∙ whole_cut;
         count = omega (arith, count_cut, many);
         within = omega (arith, many, few, so_far.within);
         each = next.each;
