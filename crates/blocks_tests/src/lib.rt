@@ -7,3 +7,5 @@ mod blocks;
 mod masks;
 #[cfg(test)]
 mod scans;
+#[cfg(test)]
+mod tables;
