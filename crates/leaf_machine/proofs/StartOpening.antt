@@ -53,7 +53,7 @@ table_count : (x : Seated) → AreSeated x → length x.tables ≡ length x.name
 table_count x seated = sym (length-map x.tables name_of) ∙ ap (λ (names : List (List ℕ)). length names) seated.names
 
 -- as many were opened as there are
-pub opened_count : (x : Seated) (o : Opened) (names : List (List ℕ)) → AreSeated x → names ≡ x.names → length o.tables.items ≡ length names → length o.tables.items ≡ length x.tables
+pub opened_count : (x : Seated) (o : Opened) (names : List (List ℕ)) → AreSeated x → names ≡ x.names → length o.tables ≡ length names → length o.tables ≡ length x.tables
 opened_count x o names seated same count = count ∙ ap (λ (own : List (List ℕ)). length own) same ∙ sym (table_count x seated)
 
 some_watched : (x : Seated) → AreSeated x → 0 < length (watched_by x)
@@ -80,35 +80,35 @@ module _ (x : Seated) (seated : AreSeated x) (a b : Meaning) (o : Opened) where
   abbrev ws : List Watched
   ws = watched_by x
 
-  pub finds : (others : NamedStates) (least : List ℕ → List Write) (next : Option LogRecord) → Rests ws others least next a → StartOpened x a b o → (writes : List ℕ → List Write) × Finds ws o.log o.tables.items writes b
+  pub finds : (others : NamedStates) (least : List ℕ → List Write) (next : Option LogRecord) → Rests ws others least next a → StartOpened x a b o → (writes : List ℕ → List Write) × Finds ws o.log o.tables writes b
   finds others least next rests opened =
       let started : Started (names_of ws) a b (opened_leaf (names_of ws) o) o.way = subst (λ (names : List (List ℕ)). Started names a b (opened_leaf names o) o.way) (sym (watch_names x seated)) opened.started in
       found ws others least next a b o rests opened.made started opened.durable
 
   -- what is found may be handed in, at each place
-  founded_hand : AreFounded x → (writes : List ℕ → List Write) → Finds ws o.log o.tables.items writes b → AreFresh o.tables.items → AllByRecursion (λ (t : Table). t.writes < 2 ^ 63) o.tables.items
-      → (place : ℕ) (t : Shared) (v : SeatView) (table : Table) → slice_get x.tables place ≡ Some t → slice_get x.seats place ≡ Some v → slice_get o.tables.items place ≡ Some table
+  founded_hand : AreFounded x → (writes : List ℕ → List Write) → Finds ws o.log o.tables writes b → AreFresh o.tables → AllByRecursion (λ (t : Table). t.writes < 2 ^ 63) o.tables
+      → (place : ℕ) (t : Shared) (v : SeatView) (table : Table) → slice_get x.tables place ≡ Some t → slice_get x.seats place ≡ Some v → slice_get o.tables place ≡ Some table
       → MayHandIn (is_founded (base_seen t)) (state_seen (base_seen t) v) table.writes table
   founded_hand founded writes has fresh room place t v table here sat at =
       let there : slice_get ws place ≡ Some (watched t v) = watch_get x place t v here sat in
       let is_base : is_founded (base_seen t) ≡ true = watch_all (λ (u : Shared). is_founded (base_seen u) ≡ true) x.tables place t founded here in
       hand_in (is_founded (base_seen t)) (state_seen (base_seen t) v) table
-      (watch_all (λ (u : Table). u.pending ≡ None) o.tables.items place table fresh at)
-      (watch_all (λ (u : Table). u.writes < 2 ^ 63) o.tables.items place table room at)
+      (watch_all (λ (u : Table). u.pending ≡ None) o.tables place table fresh at)
+      (watch_all (λ (u : Table). u.writes < 2 ^ 63) o.tables place table room at)
       (may_hold t v (writes (name_of t)) table is_base (has.contents place (watched t v) table there at) (openable ws o.log writes b place (watched t v) has.may there))
 
-  other_hand : AllByRecursion (λ (t : Shared). is_founded (base_seen t) ≡ false) x.tables → AreFresh o.tables.items → AllByRecursion (λ (t : Table). t.writes < 2 ^ 63) o.tables.items
-      → (place : ℕ) (t : Shared) (v : SeatView) (table : Table) → slice_get x.tables place ≡ Some t → slice_get x.seats place ≡ Some v → slice_get o.tables.items place ≡ Some table
+  other_hand : AllByRecursion (λ (t : Shared). is_founded (base_seen t) ≡ false) x.tables → AreFresh o.tables → AllByRecursion (λ (t : Table). t.writes < 2 ^ 63) o.tables
+      → (place : ℕ) (t : Shared) (v : SeatView) (table : Table) → slice_get x.tables place ≡ Some t → slice_get x.seats place ≡ Some v → slice_get o.tables place ≡ Some table
       → MayHandIn (is_founded (base_seen t)) (state_seen (base_seen t) v) table.writes table
   other_hand none fresh room place t v table here sat at =
       let no_base : is_founded (base_seen t) ≡ false = watch_all (λ (u : Shared). is_founded (base_seen u) ≡ false) x.tables place t none here in
       hand_in (is_founded (base_seen t)) (state_seen (base_seen t) v) table
-      (watch_all (λ (u : Table). u.pending ≡ None) o.tables.items place table fresh at)
-      (watch_all (λ (u : Table). u.writes < 2 ^ 63) o.tables.items place table room at)
+      (watch_all (λ (u : Table). u.pending ≡ None) o.tables place table fresh at)
+      (watch_all (λ (u : Table). u.writes < 2 ^ 63) o.tables place table room at)
       (subst (λ (b : Bool). OpenAllowed b (state_seen (base_seen t) v) table.writes table.contents) (sym no_base) tt)
 
-  pub may_hand : AreAlike x → DownStands x a → (IsTrue a.tells → StartOpened x a b o) → AreFresh o.tables.items → AllByRecursion (λ (t : Table). t.writes < 2 ^ 63) o.tables.items
-      → (place : ℕ) (t : Shared) (v : SeatView) (table : Table) → slice_get x.tables place ≡ Some t → slice_get x.seats place ≡ Some v → slice_get o.tables.items place ≡ Some table
+  pub may_hand : AreAlike x → DownStands x a → (IsTrue a.tells → StartOpened x a b o) → AreFresh o.tables → AllByRecursion (λ (t : Table). t.writes < 2 ^ 63) o.tables
+      → (place : ℕ) (t : Shared) (v : SeatView) (table : Table) → slice_get x.tables place ≡ Some t → slice_get x.seats place ≡ Some v → slice_get o.tables place ≡ Some table
       → MayHandIn (is_founded (base_seen t)) (state_seen (base_seen t) v) table.writes table
   may_hand (inl founded) stands opened fresh room =
       let stood = stands founded in
@@ -117,11 +117,11 @@ module _ (x : Seated) (seated : AreSeated x) (a b : Meaning) (o : Opened) where
   may_hand (inr none) stands opened fresh room = other_hand none fresh room
 
   -- and then it runs
-  module _ (y : Seated) (notes : List Note) (count : length o.tables.items ≡ length x.tables) (makes : Makes b.clock b.clock x notes y) (each : OpenedNotes 0 o.tables.items notes) where
-    opens_found : AreFounded x → (owner : ℕ) (writes : List ℕ → List Write) → Finds ws o.log o.tables.items writes b → Opens ws (watched_by y) owner o.log writes b
+  module _ (y : Seated) (notes : List Note) (count : length o.tables ≡ length x.tables) (makes : Makes b.clock b.clock x notes y) (each : OpenedNotes 0 o.tables notes) where
+    opens_found : AreFounded x → (owner : ℕ) (writes : List ℕ → List Write) → Finds ws o.log o.tables writes b → Opens ws (watched_by y) owner o.log writes b
     opens_found founded owner writes has =
         let all : OpensAll b.clock writes ws (watched_by y) =
-        makes_opens b.clock x o.tables.items writes notes y seated founded makes each count (λ place w t there at. (has.contents place w t there at).count) has.may.each in
+        makes_opens b.clock x o.tables writes notes y seated founded makes each count (λ place w t there at. (has.contents place w t there at).count) has.may.each in
         opens ws (watched_by y) owner o.log writes b has.may (some_watched x seated) all
 
     pub start_runs : AreFounded x → (owner : ℕ) (others : NamedStates) (least : List ℕ → List Write) (next : Option LogRecord) → Rests ws others least next a → StartOpened x a b o

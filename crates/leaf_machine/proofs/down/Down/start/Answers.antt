@@ -86,7 +86,7 @@ returns-in-Ok-clause-start g c =
       makes_tables n.clock n.clock x c.open_all.new.notes y c.open_all.ensures.made,
       ap (λ (log : Owing). log.log.owed) c.of.ensures ∙ c.in-Ok.ensures.fresh.1,
       subst (λ (n : ℕ). EachNoted IsOpenedNote 0 n c.open_all.new.notes) (opened_count x o c.names.result.now c.sits.ensures c.names.ensures c.in-Ok.ensures.one)
-          (opened_each 0 o.tables.items c.open_all.new.notes c.open_all.ensures.each),
+          (opened_each 0 o.tables c.open_all.new.notes c.open_all.ensures.each),
     )
 
 pub returns-in-Ok-clause-made : goal.returns-in-Ok-clause-made
