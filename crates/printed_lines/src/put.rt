@@ -1,10 +1,10 @@
 // Lines behind what was printed before.
-ghost use Rattle.std.specs.Prelude.{◌≡◌, ◌<◌, ◌++◌, length, IfOk, OnOk, OnErr, string_bytes};
+ghost use Rattle.std.specs.Prelude.{◌≡◌, ◌<◌, ◌∷◌, ◌++◌, [], codes, decimal, length, IfOk, OnOk, OnErr, string_bytes};
 ghost use Rattle.std.specs.List.{flat_map, AllByRecursion};
-ghost use Rattle.printed_lines.specs.Lines.{EndsOf, IsOf, row_line, entry_text, worn_text, answer_head, answer_text, ended_text, lane_text, leaf_text, line_text, lines_text, rolled_text, rolled_word, watch_text, wave_text};
+ghost use Rattle.printed_lines.specs.Lines.{EndsOf, IsOf, row_line, said_text, entry_text, worn_text, answer_head, answer_text, ended_text, lane_text, leaf_text, line_text, lines_text, rolled_text, rolled_word, watch_text, wave_text};
 
 use crate::line::{Ending, Line, Said, Verb};
-use crate::parts::{ending_string, name_of, said_string, verb_str};
+use crate::parts::{append_counted, append_number, append_said, ending_string, name_of, verb_str};
 use leaf_model::{Names, Text};
 use std::alloc::{AllocError, Global};
 
@@ -34,7 +34,7 @@ fn lines_bytes(alloc: Global, names: &Names, lines: &[Line]) -> Result<Vec<u8>, 
 {
     let mut bytes = Vec::new(alloc);
     for line in lines {
-        put_line(&mut bytes, names, line)?;
+        append_line(&mut bytes, names, line)?;
     }
     Ok(bytes)
 }
@@ -43,59 +43,86 @@ fn line_bytes(alloc: Global, names: &Names, line: &Line) -> Result<Vec<u8>, Allo
     requires { IsOf names.now line.now }
     ensures { IfOk result (λ bytes. bytes.items ≡ line_text names.now line.now) }
 {
+    let mut bytes = Vec::new(alloc);
+    append_line(&mut bytes, names, line)?;
+    Ok(bytes)
+}
+
+// Puts a line behind what is there. For want of memory a part of it may stand there.
+fn append_line(out: &mut Vec<u8>, names: &Names, line: &Line) -> Result<(), AllocError>
+    requires { IsOf names.now line.now }
+    ensures { OnOk result (out.new.items ≡ out.old.items ++ line_text names.now line.now) }
+{
     match line {
         Line::Entry {
             leaf,
             table,
             number,
             said,
-        } => entry_bytes(alloc, *leaf, name_of(names, *table), *number, *said),
-        Line::Worn { leaf, table } => worn_bytes(alloc, *leaf, name_of(names, *table)),
+        } => append_entry(out, *leaf, name_of(names, *table), *number, *said),
+        Line::Worn { leaf, table } => append_worn(out, *leaf, name_of(names, *table)),
         Line::Answer {
             named,
             leaves,
             rows,
-        } => answer_bytes(alloc, *named, *leaves, rows.as_slice()),
-        Line::Ended { verb, leaf, ending } => ended_bytes(alloc, names, *verb, *leaf, ending),
-        Line::Lane(number) => lane_bytes(alloc, *number),
-        Line::Wave { number, of, leaves } => wave_bytes(alloc, *number, *of, leaves.as_slice()),
-        Line::Rolled { halted, waves, of } => rolled_bytes(alloc, *halted, *waves, *of),
-        Line::Watch(line) => watch_bytes(alloc, line.as_bytes()),
+        } => append_answer(out, *named, *leaves, rows.as_slice()),
+        Line::Ended { verb, leaf, ending } => append_ended(out, names, *verb, *leaf, ending),
+        Line::Lane(number) => append_lane(out, *number),
+        Line::Wave { number, of, leaves } => append_wave(out, *number, *of, leaves.as_slice()),
+        Line::Rolled { halted, waves, of } => append_rolled(out, *halted, *waves, *of),
+        Line::Watch(line) => append_watch(out, line.as_bytes()),
     }
 }
 
-fn entry_bytes(
-    alloc: Global,
+// Entries are most of what a script prints, so their pieces are put straight behind one another.
+fn append_entry(
+    out: &mut Vec<u8>,
     leaf: u32,
     name: &str,
     number: u64,
     said: Said,
-) -> Result<Vec<u8>, AllocError>
-    ensures { IfOk result (λ bytes. bytes.items ≡ entry_text leaf name.now number said) }
+) -> Result<(), AllocError>
+    ensures { OnOk result (out.new.items ≡ out.old.items ++ entry_text leaf name.now number said) }
 {
-    let said = said_string(alloc, said)?;
-    let text = format!(in alloc; "{leaf} {name} #{number} {said}\n")?;
-    Ok(text.into_bytes())
+    append_place(out, leaf, name)?;
+    append_told(out, number, said)
 }
 
-fn worn_bytes(alloc: Global, leaf: u32, name: &str) -> Result<Vec<u8>, AllocError>
-    ensures { IfOk result (λ bytes. bytes.items ≡ worn_text leaf name.now) }
+fn append_place(out: &mut Vec<u8>, leaf: u32, name: &str) -> Result<(), AllocError>
+    ensures { OnOk result (out.new.items ≡ out.old.items ++ (decimal leaf ++ 32 ∷ name.now)) }
 {
-    let text = format!(in alloc; "{leaf} {name} refused worn\n")?;
-    Ok(text.into_bytes())
+    append_number(out, leaf as u64)?;
+    out.extend_from_slice(b" ")?;
+    out.extend_from_slice(name.as_bytes())
 }
 
-fn answer_bytes(
-    alloc: Global,
+fn append_told(out: &mut Vec<u8>, number: u64, said: Said) -> Result<(), AllocError>
+    ensures { OnOk result (out.new.items ≡ out.old.items ++ (codes " #" ++ (decimal number ++ (32 ∷ (said_text said ++ 10 ∷ []))))) }
+{
+    append_counted(out, b" #", number)?;
+    out.extend_from_slice(b" ")?;
+    append_said(out, said)?;
+    out.extend_from_slice(b"\n")
+}
+
+fn append_worn(out: &mut Vec<u8>, leaf: u32, name: &str) -> Result<(), AllocError>
+    ensures { OnOk result (out.new.items ≡ out.old.items ++ worn_text leaf name.now) }
+{
+    let text = format!(in *out.allocator(); "{leaf} {name} refused worn\n")?;
+    out.extend_from_slice(text.as_bytes())
+}
+
+fn append_answer(
+    out: &mut Vec<u8>,
     named: u64,
     leaves: u32,
     rows: &[Text],
-) -> Result<Vec<u8>, AllocError>
-    ensures { IfOk result (λ bytes. bytes.items ≡ answer_text named leaves rows.now) }
+) -> Result<(), AllocError>
+    ensures { OnOk result (out.new.items ≡ out.old.items ++ answer_text named leaves rows.now) }
 {
-    let mut bytes = head_bytes(alloc, named, leaves, rows.len())?;
-    put_rows(&mut bytes, rows)?;
-    Ok(bytes)
+    let head = head_bytes(*out.allocator(), named, leaves, rows.len())?;
+    out.extend_from_slice(head.as_slice())?;
+    put_rows(out, rows)
 }
 
 fn head_bytes(alloc: Global, named: u64, leaves: u32, count: usize) -> Result<Vec<u8>, AllocError>
@@ -105,42 +132,42 @@ fn head_bytes(alloc: Global, named: u64, leaves: u32, count: usize) -> Result<Ve
     Ok(text.into_bytes())
 }
 
-fn ended_bytes(
-    alloc: Global,
+fn append_ended(
+    out: &mut Vec<u8>,
     names: &Names,
     verb: Verb,
     leaf: u32,
     ending: &Ending,
-) -> Result<Vec<u8>, AllocError>
+) -> Result<(), AllocError>
     requires { EndsOf names.now ending.now }
-    ensures { IfOk result (λ bytes. bytes.items ≡ ended_text names.now verb leaf ending.now) }
+    ensures { OnOk result (out.new.items ≡ out.old.items ++ ended_text names.now verb leaf ending.now) }
 {
+    let alloc = *out.allocator();
     let verb = verb_str(verb);
     let ending = ending_string(alloc, names, ending)?;
     let text = format!(in alloc; "{verb} {leaf} {ending}\n")?;
-    Ok(text.into_bytes())
+    out.extend_from_slice(text.as_bytes())
 }
 
-fn lane_bytes(alloc: Global, number: u32) -> Result<Vec<u8>, AllocError>
-    ensures { IfOk result (λ bytes. bytes.items ≡ lane_text number) }
+fn append_lane(out: &mut Vec<u8>, number: u32) -> Result<(), AllocError>
+    ensures { OnOk result (out.new.items ≡ out.old.items ++ lane_text number) }
 {
-    let text = format!(in alloc; "lane {number}\n")?;
-    Ok(text.into_bytes())
+    let text = format!(in *out.allocator(); "lane {number}\n")?;
+    out.extend_from_slice(text.as_bytes())
 }
 
-fn wave_bytes(
-    alloc: Global,
+fn append_wave(
+    out: &mut Vec<u8>,
     number: u32,
     of: u32,
     leaves: &[u32],
-) -> Result<Vec<u8>, AllocError>
-    ensures { IfOk result (λ bytes. bytes.items ≡ wave_text number of leaves.now) }
+) -> Result<(), AllocError>
+    ensures { OnOk result (out.new.items ≡ out.old.items ++ wave_text number of leaves.now) }
 {
-    let text = format!(in alloc; "wave {number} of {of} leaves")?;
-    let mut bytes = text.into_bytes();
-    put_leaves(&mut bytes, leaves)?;
-    bytes.push(b'\n')?;
-    Ok(bytes)
+    let text = format!(in *out.allocator(); "wave {number} of {of} leaves")?;
+    out.extend_from_slice(text.as_bytes())?;
+    put_leaves(out, leaves)?;
+    out.push(b'\n')
 }
 
 fn put_leaves(out: &mut Vec<u8>, leaves: &[u32]) -> Result<(), AllocError>
@@ -159,12 +186,12 @@ fn put_leaf(out: &mut Vec<u8>, leaf: u32) -> Result<(), AllocError>
     out.extend_from_slice(text.as_bytes())
 }
 
-fn rolled_bytes(alloc: Global, halted: bool, waves: u32, of: u32) -> Result<Vec<u8>, AllocError>
-    ensures { IfOk result (λ bytes. bytes.items ≡ rolled_text halted waves of) }
+fn append_rolled(out: &mut Vec<u8>, halted: bool, waves: u32, of: u32) -> Result<(), AllocError>
+    ensures { OnOk result (out.new.items ≡ out.old.items ++ rolled_text halted waves of) }
 {
     let word = rolled_word(halted);
-    let text = format!(in alloc; "rollover {word}{waves} of {of}\n")?;
-    Ok(text.into_bytes())
+    let text = format!(in *out.allocator(); "rollover {word}{waves} of {of}\n")?;
+    out.extend_from_slice(text.as_bytes())
 }
 
 fn rolled_word(halted: bool) -> &'static str
@@ -173,14 +200,12 @@ fn rolled_word(halted: bool) -> &'static str
     if halted { "halted " } else { "done " }
 }
 
-fn watch_bytes(alloc: Global, text: &[u8]) -> Result<Vec<u8>, AllocError>
-    ensures { IfOk result (λ bytes. bytes.items ≡ watch_text text.now) }
+fn append_watch(out: &mut Vec<u8>, text: &[u8]) -> Result<(), AllocError>
+    ensures { OnOk result (out.new.items ≡ out.old.items ++ watch_text text.now) }
 {
-    let mut bytes = Vec::new(alloc);
-    bytes.extend_from_slice(b"watch ")?;
-    bytes.extend_from_slice(text)?;
-    bytes.push(b'\n')?;
-    Ok(bytes)
+    out.extend_from_slice(b"watch ")?;
+    out.extend_from_slice(text)?;
+    out.push(b'\n')
 }
 
 fn put_rows(out: &mut Vec<u8>, rows: &[Text]) -> Result<(), AllocError>
