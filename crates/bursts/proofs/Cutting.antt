@@ -14,10 +14,10 @@ use Rattle.transcript.specs.Stage.{Leaf}
 use Rattle.transcript.specs.Lanes.{CutsOff, CutsOffAt, SplitsIf}
 use Rattle.player.specs.Crew.{HasAll, HasLeaf, HasSeats, Spares, StillHas, is_set}
 use Rattle.bursts.specs.declared.plan.Plan.{Plan}
-use Rattle.bursts.specs.Needs.{AreAlone, AreSpare, CanLend, IsPlan, acts_on, leaf_of, needed, needs_at, table_of}
+use Rattle.bursts.specs.Needs.{AreAlone, AreSpare, CanLend, IsAmong, IsPlan, acts_on, leaves_of, needed, needs_at, table_of}
 use Rattle.bursts.specs.Played.{MayPlayOn}
 use Rattle.bursts.proofs.Held.{still_leaf, still_seats, there_too}
-use Rattle.bursts.proofs.Needed.{all_marked, has_for, leaf_below, marked_by_length, table_below}
+use Rattle.bursts.proofs.Needed.{all_marked, has_for, marked_by_length, set_below, table_below}
 
 -- ---- one seat
 
@@ -152,12 +152,7 @@ module _ {B : Type 0} (fleet : Fleet) (plans : List Plan) (plan : Plan) (xs : Li
 
   pub marks_leaves : length plan.needs.leaves.items ≡ leaf_count fleet
   marks_leaves = ap (λ (ms : List Bool). length ms) last_plan.needs.leaves
-      ∙ (marked_by_length leaf_of plan.commands.items (replicate (leaf_count fleet) false) ∙ length-replicate (leaf_count fleet) false)
-
-  set_below : (marks : List Bool) (i : ℕ) → is_set marks i ≡ true → i < length marks
-  set_below [] i e = absurd cc
-  set_below (m ∷ ms) zero e = omega arith
-  set_below (m ∷ ms) (suc i) e = let below = set_below ms i e in omega (arith, below)
+      ∙ (marked_by_length leaves_of plan.commands.items (replicate (leaf_count fleet) false) ∙ length-replicate (leaf_count fleet) false)
 
   pub lends_seats : (table : ℕ) → is_set plan.needs.tables.items table ≡ true → HasSeats xs table × Spares xs table 2
   lends_seats table marked =
@@ -185,8 +180,8 @@ module _ {B : Type 0} (fleet : Fleet) (plans : List Plan) (plan : Plan) (xs : Li
     }
 
     lane_may : (cs : List Command) → AllByRecursion (IsCommand (leaf_count fleet) fleet.names) cs
-        → AllByRecursion (λ (c : Command). (i : ℕ) → table_of fleet.names c ≡ Some i → i < length fleet.names → is_set plan.needs.tables.items i ≡ true) cs
-        → AllByRecursion (λ (c : Command). (i : ℕ) → leaf_of c ≡ Some i → i < leaf_count fleet → is_set plan.needs.leaves.items i ≡ true) cs
+        → AllByRecursion (λ (c : Command). (i : ℕ) → IsAmong (table_of fleet.names c) i → i < length fleet.names → is_set plan.needs.tables.items i ≡ true) cs
+        → AllByRecursion (λ (c : Command). (i : ℕ) → IsAmong (leaves_of c) i → i < leaf_count fleet → is_set plan.needs.leaves.items i ≡ true) cs
         → AllByRecursion (MayPlayOn fleet off) cs
     lane_may [] are tables leaves = tt
     lane_may (c ∷ cs) are tables leaves = (
@@ -195,7 +190,7 @@ module _ {B : Type 0} (fleet : Fleet) (plans : List Plan) (plan : Plan) (xs : Li
         has_for fleet off c are.0
             (λ table at. let marked = tables.0 table at (table_below fleet c table are.0 at) in
             off_seats (is_set plan.needs.tables.items) (is_set plan.needs.leaves.items) xs off rest cut table marked (lends_seats table marked).0)
-            (λ leaf at. let marked = leaves.0 leaf at (leaf_below fleet c leaf are.0 at) in
+            (λ leaf at below. let marked = leaves.0 leaf at below in
             off_leaf (is_set plan.needs.tables.items) (is_set plan.needs.leaves.items) xs off rest cut leaf marked (lends_leaf leaf marked)),
       ),
       lane_may cs are.1 tables.1 leaves.1,
@@ -206,10 +201,10 @@ module _ {B : Type 0} (fleet : Fleet) (plans : List Plan) (plan : Plan) (xs : Li
     lane_ready =
         let cs = plan.commands.items in
         lane_may cs last_plan.commands
-        (subst (λ (ms : List Bool). AllByRecursion (λ (c : Command). (i : ℕ) → table_of fleet.names c ≡ Some i → i < length fleet.names → is_set ms i ≡ true) cs) (sym last_plan.needs.tables)
+        (subst (λ (ms : List Bool). AllByRecursion (λ (c : Command). (i : ℕ) → IsAmong (table_of fleet.names c) i → i < length fleet.names → is_set ms i ≡ true) cs) (sym last_plan.needs.tables)
         (all_marked (table_of fleet.names) cs (replicate (length fleet.names) false) (length fleet.names) (length-replicate (length fleet.names) false)))
-        (subst (λ (ms : List Bool). AllByRecursion (λ (c : Command). (i : ℕ) → leaf_of c ≡ Some i → i < leaf_count fleet → is_set ms i ≡ true) cs) (sym last_plan.needs.leaves)
-        (all_marked leaf_of cs (replicate (leaf_count fleet) false) (leaf_count fleet) (length-replicate (leaf_count fleet) false)))
+        (subst (λ (ms : List Bool). AllByRecursion (λ (c : Command). (i : ℕ) → IsAmong (leaves_of c) i → i < leaf_count fleet → is_set ms i ≡ true) cs) (sym last_plan.needs.leaves)
+        (all_marked leaves_of cs (replicate (leaf_count fleet) false) (leaf_count fleet) (length-replicate (leaf_count fleet) false)))
 
 -- all of it is there before anything is cut off
 pub can_lend : {B : Type 0} (fleet fleet' : Fleet) (xs ys : List (Hold B)) (plans : List Plan) → fleet' ≡ fleet → AllByRecursion (IsPlan fleet) plans → AreAlone plans → AreSpare fleet xs plans → HasAll fleet xs

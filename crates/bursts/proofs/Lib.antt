@@ -1,6 +1,8 @@
 pub mod Held
 pub mod Needed
+pub mod Hearing
 pub mod Playing
+pub mod Handing
 pub mod Cutting
 pub mod Lending
 pub mod Taking

@@ -1,9 +1,9 @@
 -- What a command needs, and what is marked for the commands of a lane.
-use Rattle.std.proofs.Common.{◌≡◌, ◌⊎◌, inl, inr, ap₂, drop, ◌++◌, ℕ, zero, suc, ◌+◌, ◌<◌, ◌≤◌, ◌==◌, ◌||◌, Bool, true, false, cond, List, [], ◌∷◌, length, Option, Some, None, refl, sym, ap, subst, ◌∙◌, arith, eq-eqb}
+use Rattle.std.proofs.Common.{◌≡◌, ◌⊎◌, inl, inr, ap₂, drop, ◌++◌, ℕ, zero, suc, ◌+◌, ◌<◌, ◌≤◌, ◌==◌, ◌||◌, Bool, true, false, cond, List, [], ◌∷◌, length, refl, sym, ap, subst, ◌∙◌, arith, eq-eqb}
 use Rattle.std.specs.Prelude.{slice_index_or, slice_set, replicate}
 use Rattle.std.specs.List.{AllByRecursion, Contains, filter}
 use Rattle.std.specs.Str.{bytes_eq}
-use Rattle.std.proofs.lemmas.List.{length-set}
+use Rattle.std.proofs.lemmas.List.{length-replicate, length-set}
 use Rattle.std.proofs.lemmas.List.Sums.{length-filter}
 use Rattle.std.proofs.lemmas.Slice.Eq.{bytes_eq-Decides}
 use Rattle.script_text.specs.declared.command.Command.{Command}
@@ -15,7 +15,7 @@ use Rattle.transcript.specs.Holds.{Hold}
 use Rattle.transcript.specs.Steps.{MayPlay}
 use Rattle.player.specs.Crew.{HasAll, HasFor, HasLeaf, HasSeats, StillHas, is_set}
 use Rattle.bursts.specs.declared.plan.Plan.{Plan}
-use Rattle.bursts.specs.Needs.{AreAlone, ArePlans, IsPlan, IsPlanOf, acts_on, leaf_of, marked, marked_by, needed, table_of}
+use Rattle.bursts.specs.Needs.{AreAlone, ArePlans, Everywhere, IsAmong, IsPlan, IsPlanOf, Nowhere, OnlyAt, Places, acts_on, leaves_of, marked, marked_by, needed, table_of}
 use Rattle.bursts.specs.Played.{MayPlayOn}
 use Rattle.bursts.proofs.Held.{still_leaf, still_seats}
 
@@ -39,28 +39,17 @@ pub place_below : (name : List ℕ) (names : List (List ℕ)) → Contains names
 place_below name names has = known_place name names has.0 has.1 has.2
 
 -- the table that a command needs seats at is one of the fleet's
-pub table_below : (fleet : Fleet) (c : Command) (table : ℕ) → IsCommand (leaf_count fleet) fleet.names c → table_of fleet.names c ≡ Some table → table < length fleet.names
+pub table_below : (fleet : Fleet) (c : Command) (table : ℕ) → IsCommand (leaf_count fleet) fleet.names c → IsAmong (table_of fleet.names c) table → table < length fleet.names
 table_below fleet (command.Fleet machines per_machine tables) table is at = absurd is
-table_below fleet (command.Add leaf t rows) table is at = let same : t ≡ table = cc in subst (λ k. k < length fleet.names) same is.1
-table_below fleet (command.Expire leaf t horizon) table is at = let same : t ≡ table = cc in subst (λ k. k < length fleet.names) same is.1
-table_below fleet (command.Keep leaf t n) table is at = let same : t ≡ table = cc in subst (λ k. k < length fleet.names) same is.1
-table_below fleet (command.Query q) table is at = let same : place_of q.table fleet.names ≡ table = cc in subst (λ k. k < length fleet.names) same (place_below q.table fleet.names is.0)
-table_below fleet (command.Flush leaf t) table is at = absurd cc
-table_below fleet (command.Drain leaf stop) table is at = absurd cc
-table_below fleet (command.Kill leaf) table is at = absurd cc
-table_below fleet (command.Start leaf) table is at = absurd cc
-
--- and so is the leaf that it acts on
-pub leaf_below : (fleet : Fleet) (c : Command) (leaf : ℕ) → IsCommand (leaf_count fleet) fleet.names c → leaf_of c ≡ Some leaf → leaf < leaf_count fleet
-leaf_below fleet (command.Fleet machines per_machine tables) leaf is at = absurd is
-leaf_below fleet (command.Add l t rows) leaf is at = absurd cc
-leaf_below fleet (command.Expire l t horizon) leaf is at = absurd cc
-leaf_below fleet (command.Keep l t n) leaf is at = absurd cc
-leaf_below fleet (command.Query q) leaf is at = absurd cc
-leaf_below fleet (command.Flush l t) leaf is at = let same : l ≡ leaf = cc in subst (λ k. k < leaf_count fleet) same is.0
-leaf_below fleet (command.Drain l stop) leaf is at = let same : l ≡ leaf = cc in subst (λ k. k < leaf_count fleet) same is.0
-leaf_below fleet (command.Kill l) leaf is at = let same : l ≡ leaf = cc in subst (λ k. k < leaf_count fleet) same is
-leaf_below fleet (command.Start l) leaf is at = let same : l ≡ leaf = cc in subst (λ k. k < leaf_count fleet) same is
+table_below fleet (command.Add leaf t rows) table is at = subst (λ k. k < length fleet.names) at is.1
+table_below fleet (command.Expire leaf t horizon) table is at = subst (λ k. k < length fleet.names) at is.1
+table_below fleet (command.Keep leaf t n) table is at = subst (λ k. k < length fleet.names) at is.1
+table_below fleet (command.Query q) table is at = subst (λ k. k < length fleet.names) at (place_below q.table fleet.names is.0)
+table_below fleet (command.Flush leaf t) table is at = absurd at
+table_below fleet (command.Drain leaf stop) table is at = absurd at
+table_below fleet (command.Kill leaf) table is at = absurd at
+table_below fleet (command.Start leaf) table is at = absurd at
+table_below fleet (command.Rollover percent) table is at = absurd at
 
 pub may_play : (fleet : Fleet) (c : Command) → IsCommand (leaf_count fleet) fleet.names c → MayPlay fleet c
 may_play fleet (command.Fleet machines per_machine tables) is = absurd is
@@ -72,22 +61,24 @@ may_play fleet (command.Flush leaf t) is = is
 may_play fleet (command.Drain leaf stop) is = is
 may_play fleet (command.Kill leaf) is = is
 may_play fleet (command.Start leaf) is = is
+may_play fleet (command.Rollover percent) is = is
 
 module _ {B : Type 0} (fleet : Fleet) (xs : List (Hold B)) where
-  pub has_for : (c : Command) → IsCommand (leaf_count fleet) fleet.names c → ((table : ℕ) → table_of fleet.names c ≡ Some table → HasSeats xs table)
-      → ((leaf : ℕ) → leaf_of c ≡ Some leaf → HasLeaf xs leaf) → HasFor fleet xs c
+  pub has_for : (c : Command) → IsCommand (leaf_count fleet) fleet.names c → ((table : ℕ) → IsAmong (table_of fleet.names c) table → HasSeats xs table)
+      → ((leaf : ℕ) → IsAmong (leaves_of c) leaf → leaf < leaf_count fleet → HasLeaf xs leaf) → HasFor fleet xs c
   has_for (command.Fleet machines per_machine tables) is seats leaves = absurd is
   has_for (command.Add leaf t rows) is seats leaves = seats t refl
   has_for (command.Expire leaf t horizon) is seats leaves = seats t refl
   has_for (command.Keep leaf t n) is seats leaves = seats t refl
   has_for (command.Query q) is seats leaves = seats (place_of q.table fleet.names) refl
-  has_for (command.Flush leaf t) is seats leaves = leaves leaf refl
-  has_for (command.Drain leaf stop) is seats leaves = leaves leaf refl
-  has_for (command.Kill leaf) is seats leaves = leaves leaf refl
-  has_for (command.Start leaf) is seats leaves = leaves leaf refl
+  has_for (command.Flush leaf t) is seats leaves = leaves leaf refl is.0
+  has_for (command.Drain leaf stop) is seats leaves = leaves leaf refl is.0
+  has_for (command.Kill leaf) is seats leaves = leaves leaf refl is
+  has_for (command.Start leaf) is seats leaves = leaves leaf refl is
+  has_for (command.Rollover percent) is seats leaves = λ leaf below. leaves leaf tt below
 
   pub all_has_command : HasAll fleet xs → (c : Command) → IsCommand (leaf_count fleet) fleet.names c → HasFor fleet xs c
-  all_has_command all c is = has_for c is (λ table at. all.seats table (table_below fleet c table is at)) (λ leaf at. all.leaves leaf)
+  all_has_command all c is = has_for c is (λ table at. all.seats table (table_below fleet c table is at)) (λ leaf at below. all.leaves leaf)
 
   pub all_has_for : HasAll fleet xs → (c : Command) → MayPlay fleet c → HasFor fleet xs c
   all_has_for all (command.Fleet machines per_machine tables) may = all.leaves
@@ -99,6 +90,7 @@ module _ {B : Type 0} (fleet : Fleet) (xs : List (Hold B)) where
   all_has_for all (command.Drain leaf stop) may = all.leaves leaf
   all_has_for all (command.Kill leaf) may = all.leaves leaf
   all_has_for all (command.Start leaf) may = all.leaves leaf
+  all_has_for all (command.Rollover percent) may = λ leaf below. all.leaves leaf
 
   pub all_may : HasAll fleet xs → (cs : List Command) → AllByRecursion (IsCommand (leaf_count fleet) fleet.names) cs → AllByRecursion (MayPlayOn fleet xs) cs
   all_may all [] are = tt
@@ -115,6 +107,7 @@ module _ {B : Type 0} (fleet : Fleet) (xs ys : List (Hold B)) (still : StillHas 
   still_for (command.Drain leaf stop) has = still_leaf xs ys still leaf has
   still_for (command.Kill leaf) has = still_leaf xs ys still leaf has
   still_for (command.Start leaf) has = still_leaf xs ys still leaf has
+  still_for (command.Rollover percent) has = λ leaf below. still_leaf xs ys still leaf (has leaf below)
 
   pub still_may : (cs : List Command) → AllByRecursion (MayPlayOn fleet xs) cs → AllByRecursion (MayPlayOn fleet ys) cs
   still_may [] may = tt
@@ -150,39 +143,54 @@ none_set zero i = refl
 none_set (suc n) zero = refl
 none_set (suc n) (suc i) = none_set n i
 
-pub marked_length : (place : Option ℕ) (marks : List Bool) → length (marked place marks) ≡ length marks
-marked_length None marks = refl
-marked_length (Some j) marks = length-set marks j true
+all_set : (n i : ℕ) → i < n → is_set (replicate n true) i ≡ true
+all_set zero i below = absurd (omega (arith, below))
+all_set (suc n) zero below = refl
+all_set (suc n) (suc i) below = all_set n i (omega (arith, below))
 
-pub marked_by_length : (place : Command → Option ℕ) (cs : List Command) (marks : List Bool) → length (marked_by place cs marks) ≡ length marks
+pub set_below : (marks : List Bool) (i : ℕ) → is_set marks i ≡ true → i < length marks
+set_below [] i e = absurd cc
+set_below (m ∷ ms) zero e = omega arith
+set_below (m ∷ ms) (suc i) e = let below = set_below ms i e in omega (arith, below)
+
+pub marked_length : (place : Places) (marks : List Bool) → length (marked place marks) ≡ length marks
+marked_length Nowhere marks = refl
+marked_length (OnlyAt j) marks = length-set marks j true
+marked_length Everywhere marks = length-replicate (length marks) true
+
+pub marked_by_length : (place : Command → Places) (cs : List Command) (marks : List Bool) → length (marked_by place cs marks) ≡ length marks
 marked_by_length place [] marks = refl
 marked_by_length place (c ∷ cs) marks = marked_by_length place cs (marked (place c) marks) ∙ marked_length (place c) marks
 
-marked_kept : (place : Option ℕ) (marks : List Bool) (i : ℕ) → is_set marks i ≡ true → is_set (marked place marks) i ≡ true
-marked_kept None marks i e = e
-marked_kept (Some j) marks i e = set_kept marks j i e
+marked_kept : (place : Places) (marks : List Bool) (i : ℕ) → is_set marks i ≡ true → is_set (marked place marks) i ≡ true
+marked_kept Nowhere marks i e = e
+marked_kept (OnlyAt j) marks i e = set_kept marks j i e
+marked_kept Everywhere marks i e = all_set (length marks) i (set_below marks i e)
 
-all_kept : (place : Command → Option ℕ) (cs : List Command) (marks : List Bool) (i : ℕ) → is_set marks i ≡ true → is_set (marked_by place cs marks) i ≡ true
+all_kept : (place : Command → Places) (cs : List Command) (marks : List Bool) (i : ℕ) → is_set marks i ≡ true → is_set (marked_by place cs marks) i ≡ true
 all_kept place [] marks i e = e
 all_kept place (c ∷ cs) marks i e = all_kept place cs (marked (place c) marks) i (marked_kept (place c) marks i e)
 
-marked_there : (place : Option ℕ) (marks : List Bool) (i : ℕ) → place ≡ Some i → i < length marks → is_set (marked place marks) i ≡ true
-marked_there place marks i at below = subst (λ (p : Option ℕ). is_set (marked p marks) i ≡ true) (sym at) (set_there marks i below)
+marked_there : (place : Places) (marks : List Bool) (i : ℕ) → IsAmong place i → i < length marks → is_set (marked place marks) i ≡ true
+marked_there Nowhere marks i at below = absurd at
+marked_there (OnlyAt j) marks i at below =
+    subst (λ k. is_set (slice_set marks j true) k ≡ true) at (set_there marks j (subst (λ k. k < length marks) (sym at) below))
+marked_there Everywhere marks i at below = all_set (length marks) i below
 
 -- whatever a command needs is marked
-pub all_marked : (place : Command → Option ℕ) (cs : List Command) (marks : List Bool) (n : ℕ) → length marks ≡ n
-    → AllByRecursion (λ (c : Command). (i : ℕ) → place c ≡ Some i → i < n → is_set (marked_by place cs marks) i ≡ true) cs
+pub all_marked : (place : Command → Places) (cs : List Command) (marks : List Bool) (n : ℕ) → length marks ≡ n
+    → AllByRecursion (λ (c : Command). (i : ℕ) → IsAmong (place c) i → i < n → is_set (marked_by place cs marks) i ≡ true) cs
 all_marked place [] marks n long = tt
 all_marked place (c ∷ cs) marks n long = (
   λ i at below. all_kept place cs (marked (place c) marks) i (marked_there (place c) marks i at (omega (arith, below, long))),
   all_marked place cs (marked (place c) marks) n (marked_length (place c) marks ∙ long),
 )
 
-or_left : (a b : Bool) → a ≡ true → (a || b) ≡ true
+pub or_left : (a b : Bool) → a ≡ true → (a || b) ≡ true
 or_left true b e = refl
 or_left false b e = absurd cc
 
-or_right : (a b : Bool) → b ≡ true → (a || b) ≡ true
+pub or_right : (a b : Bool) → b ≡ true → (a || b) ≡ true
 or_right true b e = refl
 or_right false b e = e
 
@@ -194,7 +202,7 @@ by_steward leaf marks i e = by (set_only marks leaf i e)
     by (inr set) = inr set
 
 -- a leaf is marked where a command of its steward stands
-marked_steward : (c : Command) (marks : List Bool) (i : ℕ) → is_set (marked (leaf_of c) marks) i ≡ true → (is_stewards i c ≡ true) ⊎ (is_set marks i ≡ true)
+marked_steward : (c : Command) (marks : List Bool) (i : ℕ) → is_set (marked (leaves_of c) marks) i ≡ true → (is_stewards i c ≡ true) ⊎ (is_set marks i ≡ true)
 marked_steward (command.Fleet machines per_machine tables) marks i e = inr e
 marked_steward (command.Add leaf t rows) marks i e = inr e
 marked_steward (command.Expire leaf t horizon) marks i e = inr e
@@ -204,20 +212,21 @@ marked_steward (command.Flush leaf t) marks i e = by_steward leaf marks i e
 marked_steward (command.Drain leaf stop) marks i e = by_steward leaf marks i e
 marked_steward (command.Kill leaf) marks i e = by_steward leaf marks i e
 marked_steward (command.Start leaf) marks i e = by_steward leaf marks i e
+marked_steward (command.Rollover percent) marks i e = inl refl
 
-marked_stewards : (cs : List Command) (marks : List Bool) (i : ℕ) → is_set (marked_by leaf_of cs marks) i ≡ true → (has_steward i cs ≡ true) ⊎ (is_set marks i ≡ true)
+marked_stewards : (cs : List Command) (marks : List Bool) (i : ℕ) → is_set (marked_by leaves_of cs marks) i ≡ true → (has_steward i cs ≡ true) ⊎ (is_set marks i ≡ true)
 marked_stewards [] marks i e = inr e
-marked_stewards (c ∷ cs) marks i e = by (marked_stewards cs (marked (leaf_of c) marks) i e)
+marked_stewards (c ∷ cs) marks i e = by (marked_stewards cs (marked (leaves_of c) marks) i e)
   where
     first : (is_stewards i c ≡ true) ⊎ (is_set marks i ≡ true) → (has_steward i (c ∷ cs) ≡ true) ⊎ (is_set marks i ≡ true)
     first (inl steward) = inl (or_left (is_stewards i c) (has_steward i cs) steward)
     first (inr set) = inr set
 
-    by : (has_steward i cs ≡ true) ⊎ (is_set (marked (leaf_of c) marks) i ≡ true) → (has_steward i (c ∷ cs) ≡ true) ⊎ (is_set marks i ≡ true)
+    by : (has_steward i cs ≡ true) ⊎ (is_set (marked (leaves_of c) marks) i ≡ true) → (has_steward i (c ∷ cs) ≡ true) ⊎ (is_set marks i ≡ true)
     by (inl more) = inl (or_right (is_stewards i c) (has_steward i cs) more)
     by (inr set) = first (marked_steward c marks i set)
 
-pub needed_steward : (cs : List Command) (n i : ℕ) → is_set (needed leaf_of n cs) i ≡ true → has_steward i cs ≡ true
+pub needed_steward : (cs : List Command) (n i : ℕ) → is_set (needed leaves_of n cs) i ≡ true → has_steward i cs ≡ true
 needed_steward cs n i e = by (marked_stewards cs (replicate n false) i e)
   where
     by : (has_steward i cs ≡ true) ⊎ (is_set (replicate n false) i ≡ true) → has_steward i cs ≡ true
@@ -264,7 +273,7 @@ fewer leaf fleet (l ∷ ls) (p ∷ ps) are =
   where
     marks : acts_on leaf p ≡ true → has_steward leaf l ≡ true
     marks e =
-        let here : is_set (needed leaf_of (leaf_count fleet) p.commands.items) leaf ≡ true = subst (λ (ms : List Bool). is_set ms leaf ≡ true) are.0.is.needs.leaves e in
+        let here : is_set (needed leaves_of (leaf_count fleet) p.commands.items) leaf ≡ true = subst (λ (ms : List Bool). is_set ms leaf ≡ true) are.0.is.needs.leaves e in
         subst (λ (cs : List Command). has_steward leaf cs ≡ true) are.0.lane_is (needed_steward p.commands.items (leaf_count fleet) leaf here)
 
     by : (a b : Bool) (us : List Plan) (vs : List (List Command)) → (a ≡ true → b ≡ true) → length us ≤ length vs → length (cond a (p ∷ us) us) ≤ length (cond b (l ∷ vs) vs)

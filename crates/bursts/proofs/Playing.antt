@@ -6,6 +6,7 @@ use Rattle.std.proofs.lemmas.Grind.{flat_map-append}
 use Rattle.std.proofs.lemmas.List.{append-nil, map-append, length-map}
 use Rattle.berth_face.specs.Berth.{Meaning}
 use Rattle.script_text.specs.declared.command.Command.{Command}
+use Rattle.rollover_watch.specs.Watches.{Held}
 use Rattle.printed_lines.specs.declared.line.Line.{Line}
 use Rattle.printed_lines.specs.declared.line.Line.TheVariants.{Lane}
 use Rattle.printed_lines.specs.Lines.{IsOf}
@@ -14,7 +15,9 @@ use Rattle.transcript.specs.Holds.{Hold}
 use Rattle.transcript.specs.Lanes.{PlaysOn}
 use Rattle.player.specs.Crew.{AllCounted, PlaysWith}
 use Rattle.bursts.specs.Played.{CommandPlayed, LanePlayed, TurnsPlayed, all_of}
+use Rattle.transcript.specs.Watching.{Watched}
 use Rattle.bursts.proofs.Held.{all_counted_on, counted_none}
+use Rattle.bursts.proofs.Hearing.{watched_join, watched_one}
 
 -- ---- lists
 
@@ -62,20 +65,21 @@ module _ {B : Type 0} (meaning : B → Meaning) (fleet : Fleet) where
   plays_join xs a ys b zs (PlaysOn.more k l w p others between step rest is) on =
       PlaysOn.more xs (a ++ b) zs p (others ++ b) between step (plays_join between others ys b zs rest on) (ap (λ (ls : List Played). ls ++ b) is)
 
-  pub lane_begins : (xs : List (Hold B)) (lines : List Line) → lines ≡ [] → LanePlayed meaning fleet [] xs lines xs
-  lane_begins xs lines empty = record {
+  pub lane_begins : (xs : List (Hold B)) (ws : List Held) (lines : List Line) → lines ≡ [] → LanePlayed meaning fleet [] xs ws lines xs ws
+  lane_begins xs ws lines empty = record {
     played = [];
     commands_are = refl;
     plays = plays_none xs;
     counted = counted_none meaning xs;
     fit = subst (AllByRecursion (IsOf fleet.names)) (sym empty) tt;
+    heard = refl;
     lines_are = empty;
   }
 
   -- one command more
-  pub lane_goes_on : (xs ys zs : List (Hold B)) (done : List Command) (c : Command) (lines more all : List Line) → LanePlayed meaning fleet done xs lines ys → CommandPlayed meaning fleet c ys more zs
-      → all ≡ lines ++ more → LanePlayed meaning fleet (done ++ c ∷ []) xs all zs
-  lane_goes_on xs ys zs done c lines more all a b is =
+  pub lane_goes_on : (xs ys zs : List (Hold B)) (us vs ws : List Held) (done : List Command) (c : Command) (lines more all : List Line) → LanePlayed meaning fleet done xs us lines ys vs
+      → CommandPlayed meaning fleet c ys vs more zs ws → all ≡ lines ++ more → LanePlayed meaning fleet (done ++ c ∷ []) xs us all zs ws
+  lane_goes_on xs ys zs us vs ws done c lines more all a b is =
       let p : Played = record { command = c; pieces = b.pieces } in
       record {
         played = a.played ++ p ∷ [];
@@ -83,32 +87,35 @@ module _ {B : Type 0} (meaning : B → Meaning) (fleet : Fleet) where
         plays = plays_join xs a.played ys (p ∷ []) zs a.plays (PlaysOn.more ys (p ∷ []) zs p [] zs b.plays (plays_none zs) refl);
         counted = subst (λ ps. AllCounted meaning ps xs zs) (sym (pieces_snoc a.played p)) (all_counted_on meaning xs ys zs (pieces_in a.played) b.pieces a.counted b.counted);
         fit = subst (AllByRecursion (IsOf fleet.names)) (sym is) (all_append (IsOf fleet.names) lines more a.fit b.fit);
+        heard = watched_join fleet a.played (p ∷ []) us vs ws a.heard (watched_one fleet p vs ws b.heard);
         lines_are = is ∙ (ap₂ (λ (ls ms : List Line). ls ++ ms) a.lines_are b.lines_are
             ∙ (sym (flat_map-append piece_lines (pieces_in a.played) b.pieces) ∙ ap lines_in (sym (pieces_snoc a.played p))));
       }
 
   -- ---- lanes one after another
 
-  pub turns_begin : (xs : List (Hold B)) (lines : List Line) → lines ≡ [] → TurnsPlayed meaning fleet [] xs lines xs
-  turns_begin xs lines empty = record {
+  pub turns_begin : (xs : List (Hold B)) (ws : List Held) (lines : List Line) → lines ≡ [] → TurnsPlayed meaning fleet [] xs ws lines xs ws
+  turns_begin xs ws lines empty = record {
     played = [];
     lanes_are = refl;
     plays = plays_none xs;
     counted = counted_none meaning xs;
     fit = subst (AllByRecursion (IsOf fleet.names)) (sym empty) tt;
+    heard = refl;
     lines_are = empty;
   }
 
   -- one lane more
-  pub turns_go_on : (xs ys zs : List (Hold B)) (done : List (List Command)) (lane : List Command) (lines own all : List Line) (number : ℕ) → TurnsPlayed meaning fleet done xs lines ys
-      → LanePlayed meaning fleet lane ys own zs → length done ≡ number → all ≡ lines ++ Lane number ∷ own → TurnsPlayed meaning fleet (done ++ lane ∷ []) xs all zs
-  turns_go_on xs ys zs done lane lines own all number a b count is = record {
+  pub turns_go_on : (xs ys zs : List (Hold B)) (us vs ws : List Held) (done : List (List Command)) (lane : List Command) (lines own all : List Line) (number : ℕ) → TurnsPlayed meaning fleet done xs us lines ys vs
+      → LanePlayed meaning fleet lane ys vs own zs ws → length done ≡ number → all ≡ lines ++ Lane number ∷ own → TurnsPlayed meaning fleet (done ++ lane ∷ []) xs us all zs ws
+  turns_go_on xs ys zs us vs ws done lane lines own all number a b count is = record {
     played = a.played ++ b.played ∷ [];
     lanes_are = lanes_snoc a.played b.played ∙ ap₂ (λ (ls : List (List Command)) (l : List Command). ls ++ l ∷ []) a.lanes_are b.commands_are;
     plays = subst (λ ps. PlaysOn meaning fleet xs ps zs) (sym (all_snoc a.played b.played)) (plays_join xs (all_of a.played) ys b.played zs a.plays b.plays);
     counted = subst (λ ps. AllCounted meaning ps xs zs) (sym (pieces_all_snoc a.played b.played))
         (all_counted_on meaning xs ys zs (pieces_in (all_of a.played)) (pieces_in b.played) a.counted b.counted);
     fit = subst (AllByRecursion (IsOf fleet.names)) (sym is) (all_append (IsOf fleet.names) lines (Lane number ∷ own) a.fit (tt, b.fit));
+    heard = subst (λ ps. Watched fleet ps us ws) (sym (all_snoc a.played b.played)) (watched_join fleet (all_of a.played) b.played us vs ws a.heard b.heard);
     lines_are = is ∙ (ap₂ (λ (ls ms : List Line). ls ++ Lane number ∷ ms) a.lines_are b.lines_are
         ∙ sym (lane_snoc 0 a.played b.played number (same_count a.played done number a.lanes_are count)));
   }
@@ -116,10 +123,19 @@ module _ {B : Type 0} (meaning : B → Meaning) (fleet : Fleet) where
   -- ---- one command
 
   -- what a command did, where there was memory for its lines
-  pub command_played : {E : Type 0} (c : Command) (xs ys : List (Hold B)) (result : Result (Vec Line Global) E)
-      → (PlaysWith meaning fleet c xs result ys) ⊎ (IsErr result × (ys ≡ xs))
+  pub command_played : {E : Type 0} (c : Command) (xs ys : List (Hold B)) (us vs : List Held) (result : Result (Vec Line Global) E)
+      → (PlaysWith meaning fleet c xs us result ys vs) ⊎ (IsErr result × (ys ≡ xs) × (vs ≡ us))
       → IfOk result (λ lines. AllByRecursion (IsOf fleet.names) lines.items)
-      → IfOk result (λ lines. CommandPlayed meaning fleet c xs lines.items ys)
-  command_played c xs ys (Err e) played fit = tt
-  command_played c xs ys (Ok lines) (inr failed) fit = absurd cc
-  command_played c xs ys (Ok lines) (inl p) fit = record { pieces = p.pieces; plays = p.plays; counted = p.counted; fit = fit; lines_are = p.lines_are }
+      → IfOk result (λ lines. CommandPlayed meaning fleet c xs us lines.items ys vs)
+  command_played c xs ys us vs (Err e) played fit = tt
+  command_played c xs ys us vs (Ok lines) (inr failed) fit = absurd cc
+  command_played c xs ys us vs (Ok lines) (inl p) fit = record { pieces = p.pieces; plays = p.plays; counted = p.counted; fit = fit; heard = p.heard; lines_are = p.lines_are }
+
+-- ---- the same fleet
+
+module _ {B : Type 0} (meaning : B → Meaning) (fleet fleet' : Fleet) (same : fleet' ≡ fleet) (xs ys : List (Hold B)) (us vs : List Held) (lines : List Line) where
+  pub command_over : (c : Command) → CommandPlayed meaning fleet' c xs us lines ys vs → CommandPlayed meaning fleet c xs us lines ys vs
+  command_over c played = subst (λ (f : Fleet). CommandPlayed meaning f c xs us lines ys vs) same played
+
+  pub lane_over : (commands : List Command) → LanePlayed meaning fleet' commands xs us lines ys vs → LanePlayed meaning fleet commands xs us lines ys vs
+  lane_over commands played = subst (λ (f : Fleet). LanePlayed meaning f commands xs us lines ys vs) same played

@@ -1,5 +1,5 @@
 -- What was cut off comes back.
-use Rattle.std.proofs.Common.{◌≡◌, ◌⊎◌, inl, inr, ℕ, suc, ◌+◌, ◌<◌, Bool, true, false, List, [], ◌∷◌, ◌++◌, length, Option, Some, None, Result, Vec, Global, refl, sym, ap, ap₂, subst, ◌∙◌, arith, append_assoc, length-append}
+use Rattle.std.proofs.Common.{◌≡◌, ◌⊎◌, inl, inr, ℕ, zero, suc, ◌+◌, ◌<◌, ◌≤◌, Bool, true, false, List, [], ◌∷◌, ◌++◌, length, Option, Some, None, Result, Vec, Global, refl, sym, ap, ap₂, subst, ◌∙◌, arith, append_assoc, length-append}
 use Rattle.std.specs.Prelude.{slice_get, is_some, Ok, Err, IfOk, IfSome, MatchBool}
 use Rattle.std.specs.List.{AllByRecursion}
 use Rattle.std.proofs.lemmas.List.{append-nil}
@@ -8,6 +8,7 @@ use Rattle.leaf_table.specs.Turns.{Shared}
 use Rattle.leaf_table.specs.Calls.{SeatView}
 use Rattle.script_text.specs.declared.command.Command.{Command}
 use Rattle.printed_lines.specs.declared.line.Ending.{Ending}
+use Rattle.rollover_watch.specs.Watches.{Held}
 use Rattle.printed_lines.specs.declared.line.Line.{Line}
 use Rattle.printed_lines.specs.declared.line.Line.TheVariants.{Lane}
 use Rattle.printed_lines.specs.Lines.{IsOf}
@@ -20,10 +21,13 @@ use Rattle.player.specs.Crew.{AllCounted, AllPass, CountedIf, CrewState, HasSeat
 use Rattle.bursts.specs.declared.work.LaneWork.{LaneWork}
 use Rattle.bursts.specs.Lent.{IsWorked, Lent, TakenBack, TakingBack}
 use Rattle.bursts.specs.Played.{FansPlayed, IsBehind, LanePlayed, all_of}
+use Rattle.bursts.specs.Rolling.{Between, has_rollover, one_if, rolling}
+use Rattle.transcript.specs.Watching.{Watched}
+use Rattle.bursts.proofs.Hearing.{one_if_false, one_if_true, quiet_lane, rolling_append, watched_join}
 use Rattle.bursts.proofs.Held.{counted_first, counted_none, counted_second, pass_none, still_same, there_too}
 use Rattle.bursts.proofs.Cutting.{rest_same}
 use Rattle.bursts.proofs.Lending.{Last, lent_last, lent_nothing}
-use Rattle.bursts.proofs.Playing.{all_append, lane_snoc, lanes_snoc, pieces_all_snoc, same_count}
+use Rattle.bursts.proofs.Playing.{all_append, all_snoc, lane_snoc, lanes_snoc, pieces_all_snoc, same_count}
 
 no_some : {A : Type 0} (h : Option A) → is_some h ≡ false → h ≡ None
 no_some None e = refl
@@ -180,33 +184,35 @@ module _ {B : Type 0} (needs acts : ℕ → Bool) (xs off rest off' rest' : List
 -- ---- lanes
 
 module _ {B : Type 0} (meaning : B → Meaning) (fleet : Fleet) where
-  pub fans_begin : (xs : List (Hold B)) (lines : List Line) → lines ≡ [] → FansPlayed meaning fleet [] xs lines xs
-  fans_begin xs lines empty = record {
+  pub fans_begin : (xs : List (Hold B)) (ws : List Held) (lines : List Line) → lines ≡ [] → FansPlayed meaning fleet [] xs ws lines xs ws
+  fans_begin xs ws lines empty = record {
     played = [];
     lanes_are = refl;
     fans = Fans.none xs [] xs refl refl;
     counted = counted_none meaning xs;
     fit = subst (AllByRecursion (IsOf fleet.names)) (sym empty) tt;
+    heard = refl;
     lines_are = empty;
   }
 
   pub fans_go_on : (needs acts : ℕ → Bool) (xs off rest off' rest' zs : List (Hold B)) → CutsOff needs acts xs off rest → TakesBack meaning rest' off' zs
-      → (back : List (List Command)) (lane : List Command) (lines own all : List Line) (number : ℕ) → FansPlayed meaning fleet back rest lines rest' → LanePlayed meaning fleet lane off own off'
-      → length back ≡ number → all ≡ lines ++ Lane number ∷ own → FansPlayed meaning fleet (back ++ lane ∷ []) xs all zs
-  fans_go_on needs acts xs off rest off' rest' zs cut takes back lane lines own all number a b count is = record {
+      → (back : List (List Command)) (lane : List Command) (us vs ws : List Held) (lines own all : List Line) (number : ℕ) → FansPlayed meaning fleet back rest us lines rest' vs
+      → LanePlayed meaning fleet lane off vs own off' ws → length back ≡ number → all ≡ lines ++ Lane number ∷ own → FansPlayed meaning fleet (back ++ lane ∷ []) xs us all zs ws
+  fans_go_on needs acts xs off rest off' rest' zs cut takes back lane us vs ws lines own all number a b count is = record {
     played = a.played ++ b.played ∷ [];
     lanes_are = lanes_snoc a.played b.played ∙ ap₂ (λ (ls : List (List Command)) (l : List Command). ls ++ l ∷ []) a.lanes_are b.commands_are;
     fans = Fans.beside xs (a.played ++ b.played ∷ []) zs a.played b.played needs acts off rest rest' off' cut a.fans b.plays takes refl;
     counted = subst (λ ps. AllCounted meaning ps xs zs) (sym (pieces_all_snoc a.played b.played))
         (counts_back meaning needs acts xs off rest off' rest' zs cut takes (pieces_in (all_of a.played)) (pieces_in b.played) b.counted a.counted);
     fit = subst (AllByRecursion (IsOf fleet.names)) (sym is) (all_append (IsOf fleet.names) lines (Lane number ∷ own) a.fit (tt, b.fit));
+    heard = subst (λ ps. Watched fleet ps us ws) (sym (all_snoc a.played b.played)) (watched_join fleet (all_of a.played) b.played us vs ws a.heard b.heard);
     lines_are = is ∙ (ap₂ (λ (ls ms : List Line). ls ++ Lane number ∷ ms) a.lines_are b.lines_are
         ∙ sym (lane_snoc 0 a.played b.played number (same_count a.played back number a.lanes_are count)));
   }
 
-module _ {B E : Type 0} (meaning : B → Meaning) (fleet : Fleet) (tables : List (List Shared)) (count : ℕ) (cut : List (List Command)) (xs : List (Hold B)) where
-  pub taking_begins : (works : List (LaneWork B)) (lines : Result (Vec Line Global) E) (ys : List (Hold B)) → Lent count (IsWorked meaning fleet tables) xs works cut ys
-      → ((table : ℕ) → table < length fleet.names → HasSeats ys table) → IfOk lines (λ ls. ls.items ≡ []) → TakingBack meaning fleet tables count cut xs works lines ys
+module _ {B X E : Type 0} {Y : X → Type 0} (hear : LaneWork B X Y → List Held) (meaning : B → Meaning) (fleet : Fleet) (tables : List (List Shared)) (count : ℕ) (cut : List (List Command)) (was : List Held) (xs : List (Hold B)) (left : List Held) where
+  pub taking_begins : (works : List (LaneWork B X Y)) (lines : Result (Vec Line Global) E) (ys : List (Hold B)) → Lent count (IsWorked hear was meaning fleet tables) xs works cut ys
+      → ((table : ℕ) → table < length fleet.names → HasSeats ys table) → IfOk lines (λ ls. ls.items ≡ []) → TakingBack hear meaning fleet tables count cut was xs works left lines ys left
   taking_begins works lines ys lent seats empty = record {
     back = [];
     away = cut;
@@ -216,17 +222,18 @@ module _ {B E : Type 0} (meaning : B → Meaning) (fleet : Fleet) (tables : List
     still = still_same ys;
     time = pass_none meaning ys;
     seats = seats;
-    played = λ all. by lines empty;
+    kept = λ none. refl;
+    played = λ all few before after same. by before after same lines empty;
   }
     where
-      by : (r : Result (Vec Line Global) E) → IfOk r (λ ls. ls.items ≡ []) → IfOk r (λ ls. FansPlayed meaning fleet [] ys ls.items ys)
-      by (Ok ls) none = fans_begin meaning fleet ys ls.items none
-      by (Err e) none = tt
+      by : (before after : List Held) → after ≡ before → (r : Result (Vec Line Global) E) → IfOk r (λ ls. ls.items ≡ []) → IfOk r (λ ls. FansPlayed meaning fleet [] ys before ls.items ys after)
+      by before after same (Ok ls) none = subst (λ (ws : List Held). FansPlayed meaning fleet [] ys before ls.items ys ws) (sym same) (fans_begin meaning fleet ys before ls.items none)
+      by before after same (Err e) none = tt
 
-  module _ (earlier : List (LaneWork B)) (work : LaneWork B) (works : List (LaneWork B)) (lines : Result (Vec Line Global) E) (ys : List (Hold B)) (taking : TakingBack meaning fleet tables count cut xs works lines ys)
+  module _ (earlier : List (LaneWork B X Y)) (work : LaneWork B X Y) (works : List (LaneWork B X Y)) (lines : Result (Vec Line Global) E) (ys : List (Hold B)) (now : List Held) (taking : TakingBack hear meaning fleet tables count cut was xs works left lines ys now)
       (is : works ≡ earlier ++ work ∷ []) where
-    last : Last count (IsWorked meaning fleet tables) xs earlier work taking.away taking.rest
-    last = lent_last count (IsWorked meaning fleet tables) xs earlier work works taking.away taking.rest is taking.lent
+    last : Last count (IsWorked hear was meaning fleet tables) xs earlier work taking.away taking.rest
+    last = lent_last count (IsWorked hear was meaning fleet tables) xs earlier work works taking.away taking.rest is taking.lent
 
     pub may_take : (crew : CrewState B) → crew.fleet ≡ fleet → crew.tables ≡ tables → crew.holds ≡ ys → MayTakeBack crew work.crew
     may_take crew fleet_is tables_are holds_are = record {
@@ -248,39 +255,94 @@ module _ {B E : Type 0} (meaning : B → Meaning) (fleet : Fleet) (tables : List
         let here : length taking.away ≡ suc (length last.later) = ap (λ (ls : List (List Command)). length ls) last.lanes_are in
         omega (arith, all, sizes, here, last.number)
 
+    lane_rolls : rolling (taking.back ++ last.lane ∷ []) ≡ rolling taking.back + one_if (has_rollover last.lane)
+    lane_rolls = let more = rolling_append taking.back (last.lane ∷ []) in omega (arith, more)
+
+    all_roll : rolling cut ≡ rolling taking.back + (one_if (has_rollover last.lane) + rolling last.later)
+    all_roll = ap (λ (ls : List (List Command)). rolling ls) (sym taking.split)
+        ∙ (rolling_append taking.back taking.away ∙ ap (λ (ls : List (List Command)). rolling taking.back + rolling ls) last.lanes_are)
+
     -- one lane more is back
-    pub taking_goes_on : (after : Result (Vec Line Global) E) (zs : List (Hold B)) → TakesBack meaning ys work.crew.holds zs → SameSeats ys zs → IfOk after (λ all. IsBehind lines work.number work.lines all.items)
-        → TakingBack meaning fleet tables count cut xs earlier after zs
-    taking_goes_on after zs takes same behind = record {
-      back = taking.back ++ last.lane ∷ [];
-      away = last.later;
-      rest = last.between;
-      split = append_assoc taking.back (last.lane ∷ []) last.later ∙ (ap (λ (ls : List (List Command)). taking.back ++ ls) (sym last.lanes_are) ∙ taking.split);
-      lent = last.lent;
-      still = has_back meaning last.needs last.acts last.between last.off taking.rest work.crew.holds ys zs last.cut takes last.is.still taking.still same;
-      time = time_back meaning last.needs last.acts last.between last.off taking.rest work.crew.holds ys zs last.cut takes last.is.time taking.time;
-      seats = seats_on zs same;
-      played = λ all. by after behind all;
-    }
-      where
-        by : (r : Result (Vec Line Global) E) → IfOk r (λ all. IsBehind lines work.number work.lines all.items) → length cut ≡ count
-            → IfOk r (λ ls. FansPlayed meaning fleet (taking.back ++ last.lane ∷ []) last.between ls.items zs)
-        by (Err e) b all = tt
-        by (Ok ls) b all =
-            fans_go_on meaning fleet last.needs last.acts last.between last.off taking.rest work.crew.holds ys zs last.cut takes taking.back last.lane b.before.items b.its.items ls.items work.number
-            (subst (λ (r : Result (Vec Line Global) E). IfOk r (λ ms. FansPlayed meaning fleet taking.back taking.rest ms.items ys)) b.lines_are (taking.played all))
-            (subst (λ (o : Option (Vec Line Global)). IfSome o (λ ms. LanePlayed meaning fleet last.lane last.off ms.items work.crew.holds)) b.own_is last.is.played)
-            (number_is all) b.all_are
+    module _ (after : Result (Vec Line Global) E) (zs : List (Hold B)) (takes : TakesBack meaning ys work.crew.holds zs) (same : SameSeats ys zs) (behind : IfOk after (λ all. IsBehind lines work.number work.lines all.items))
+        (told : List Held) where
+      -- its lines are behind the others, where the watches go on so
+      one_more : length cut ≡ count → (us vs ws : List Held) → IfOk lines (λ ls. FansPlayed meaning fleet taking.back taking.rest us ls.items ys vs)
+          → IfSome work.lines (λ ls. LanePlayed meaning fleet last.lane last.off vs ls.items work.crew.holds ws) → IfOk after (λ ls. FansPlayed meaning fleet (taking.back ++ last.lane ∷ []) last.between us ls.items zs ws)
+      one_more all us vs ws fans lane = by after behind
+        where
+          by : (r : Result (Vec Line Global) E) → IfOk r (λ all. IsBehind lines work.number work.lines all.items) → IfOk r (λ ls. FansPlayed meaning fleet (taking.back ++ last.lane ∷ []) last.between us ls.items zs ws)
+          by (Err e) b = tt
+          by (Ok ls) b =
+              fans_go_on meaning fleet last.needs last.acts last.between last.off taking.rest work.crew.holds ys zs last.cut takes taking.back last.lane us vs ws b.before.items b.its.items ls.items work.number
+              (subst (λ (r : Result (Vec Line Global) E). IfOk r (λ ms. FansPlayed meaning fleet taking.back taking.rest us ms.items ys vs)) b.lines_are fans)
+              (subst (λ (o : Option (Vec Line Global)). IfSome o (λ ms. LanePlayed meaning fleet last.lane last.off vs ms.items work.crew.holds ws)) b.own_is lane)
+              (number_is all) b.all_are
+
+      -- a lane without a rollover left the watches where they were
+      quiet_more : has_rollover last.lane ≡ false → told ≡ now → length cut ≡ count → rolling cut ≤ 1 → (us vs : List Held) → Between (rolling (taking.back ++ last.lane ∷ [])) was told us vs
+          → IfOk after (λ ls. FansPlayed meaning fleet (taking.back ++ last.lane ∷ []) last.between us ls.items zs vs)
+      quiet_more never stay all few us vs between =
+          let as_many : rolling (taking.back ++ last.lane ∷ []) ≡ rolling taking.back = omega (arith, lane_rolls, one_if_false (has_rollover last.lane) never) in
+          let before = subst (λ (ws : List Held). Between (rolling taking.back) was ws us vs) stay (subst (λ (n : ℕ). Between n was told us vs) as_many between) in
+          one_more all us vs vs (taking.played all few us vs before) (by work.lines last.is.played)
+        where
+          by : (o : Option (Vec Line Global)) → IfSome o (λ ls. LanePlayed meaning fleet last.lane last.off last.is.had ls.items work.crew.holds (hear work))
+              → IfSome o (λ ls. LanePlayed meaning fleet last.lane last.off vs ls.items work.crew.holds vs)
+          by None played = tt
+          by (Some ls) played = quiet_lane meaning fleet last.lane last.off last.is.had ls.items work.crew.holds (hear work) played never vs
+
+      -- the lane with the rollover had the watches
+      rolls_more : has_rollover last.lane ≡ true → told ≡ hear work → length cut ≡ count → rolling cut ≤ 1 → (us vs : List Held) → Between (rolling (taking.back ++ last.lane ∷ [])) was told us vs
+          → IfOk after (λ ls. FansPlayed meaning fleet (taking.back ++ last.lane ∷ []) last.between us ls.items zs vs)
+      rolls_more sure comes all few us vs between =
+          let none : rolling taking.back ≡ 0 = omega (arith, all_roll, few, one_if_true (has_rollover last.lane) sure) in
+          let one : rolling (taking.back ++ last.lane ∷ []) ≡ 1 = omega (arith, lane_rolls, none, one_if_true (has_rollover last.lane) sure) in
+          let ends : (us ≡ was) × (vs ≡ told) = subst (λ (n : ℕ). Between n was told us vs) one between in
+          let start : us ≡ last.is.had = ends.0 ∙ sym (last.is.watches sure) in
+          one_more all us us vs (taking.played all few us us (subst (λ (n : ℕ). Between n was now us us) (sym none) refl))
+          (subst (λ (ws : List Held). IfSome work.lines (λ ls. LanePlayed meaning fleet last.lane last.off us ls.items work.crew.holds ws)) (sym (ends.1 ∙ comes))
+          (subst (λ (ws : List Held). IfSome work.lines (λ ls. LanePlayed meaning fleet last.lane last.off ws ls.items work.crew.holds (hear work))) (sym start) last.is.played))
+
+      pub taking_goes_on : MatchBool work.rolls (told ≡ hear work) (told ≡ now) → TakingBack hear meaning fleet tables count cut was xs earlier left after zs told
+      taking_goes_on over =
+          let come : MatchBool (has_rollover last.lane) (told ≡ hear work) (told ≡ now) = subst (λ (b : Bool). MatchBool b (told ≡ hear work) (told ≡ now)) last.is.rolls over in
+          record {
+            back = taking.back ++ last.lane ∷ [];
+            away = last.later;
+            rest = last.between;
+            split = append_assoc taking.back (last.lane ∷ []) last.later ∙ (ap (λ (ls : List (List Command)). taking.back ++ ls) (sym last.lanes_are) ∙ taking.split);
+            lent = last.lent;
+            still = has_back meaning last.needs last.acts last.between last.off taking.rest work.crew.holds ys zs last.cut takes last.is.still taking.still same;
+            time = time_back meaning last.needs last.acts last.between last.off taking.rest work.crew.holds ys zs last.cut takes last.is.time taking.time;
+            seats = seats_on zs same;
+            kept = stay (has_rollover last.lane) refl come;
+            played = by (has_rollover last.lane) refl come;
+          }
+        where
+          stay : (b : Bool) → has_rollover last.lane ≡ b → MatchBool b (told ≡ hear work) (told ≡ now) → rolling (taking.back ++ last.lane ∷ []) ≡ 0 → told ≡ left
+          stay true is comes none = absurd (omega (arith, lane_rolls, none, one_if_true (has_rollover last.lane) is))
+          stay false is stays none = stays ∙ taking.kept (omega (arith, lane_rolls, none))
+
+          by : (b : Bool) → has_rollover last.lane ≡ b → MatchBool b (told ≡ hear work) (told ≡ now) → length cut ≡ count → rolling cut ≤ 1 → (us vs : List Held) → Between (rolling (taking.back ++ last.lane ∷ [])) was told us vs
+              → IfOk after (λ ls. FansPlayed meaning fleet (taking.back ++ last.lane ∷ []) last.between us ls.items zs vs)
+          by true is comes = rolls_more is comes
+          by false is stays = quiet_more is stays
 
   -- all are
-  pub taking_ends : (works : List (LaneWork B)) (lines : Result (Vec Line Global) E) (ys : List (Hold B)) → TakingBack meaning fleet tables count cut xs works lines ys → works ≡ []
-      → TakenBack meaning fleet count cut xs lines ys
-  taking_ends works lines ys taking empty =
-      let end = lent_nothing count (IsWorked meaning fleet tables) xs works taking.away taking.rest empty taking.lent in
+  pub taking_ends : (works : List (LaneWork B X Y)) (lines : Result (Vec Line Global) E) (ys : List (Hold B)) (now : List Held) → TakingBack hear meaning fleet tables count cut was xs works left lines ys now → works ≡ []
+      → TakenBack meaning fleet count cut was xs left lines ys now
+  taking_ends works lines ys now taking empty =
+      let end = lent_nothing count (IsWorked hear was meaning fleet tables) xs works taking.away taking.rest empty taking.lent in
       let all : taking.back ≡ cut = sym (append-nil taking.back) ∙ (ap (λ (ls : List (List Command)). taking.back ++ ls) (sym end.lanes_are) ∙ taking.split) in
       record {
         still = subst (λ (hs : List (Hold B)). StillHas hs ys) end.rest_is taking.still;
         time = subst (λ (hs : List (Hold B)). AllPass meaning hs ys) end.rest_is taking.time;
-        played = λ whole. subst (λ (ls : List (List Command)). IfOk lines (λ ms. FansPlayed meaning fleet ls xs ms.items ys)) all
-            (subst (λ (hs : List (Hold B)). IfOk lines (λ ms. FansPlayed meaning fleet taking.back hs ms.items ys)) end.rest_is (taking.played whole));
+        played = λ whole few given. subst (λ (ls : List (List Command)). IfOk lines (λ ms. FansPlayed meaning fleet ls xs was ms.items ys now)) all
+            (subst (λ (hs : List (Hold B)). IfOk lines (λ ms. FansPlayed meaning fleet taking.back hs was ms.items ys now)) end.rest_is
+            (taking.played whole few was now (between (rolling taking.back)
+            (λ none. taking.kept none ∙ given (ap (λ (ls : List (List Command)). rolling ls) (sym all) ∙ none)))));
       }
+    where
+      between : (n : ℕ) → (n ≡ 0 → now ≡ was) → Between n was now was now
+      between zero same = same refl
+      between (suc n) same = (refl, refl)

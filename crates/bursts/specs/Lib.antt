@@ -1,4 +1,5 @@
 pub mod Items
 pub mod Needs
+pub mod Rolling
 pub mod Played
 pub mod Lent

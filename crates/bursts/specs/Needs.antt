@@ -1,5 +1,5 @@
 -- What the commands of a lane need, and whether a crew can lend it to every lane.
-use Rattle.std.specs.Prelude.{◌≡◌, ℕ, suc, ◌<◌, ◌≤◌, List, [], ◌∷◌, Bool, true, false, length, replicate, slice_set, count_by, Option, Some, None}
+use Rattle.std.specs.Prelude.{◌≡◌, ℕ, suc, ◌<◌, ◌≤◌, List, [], ◌∷◌, Bool, true, false, length, replicate, slice_set, count_by, ⊤}
 use Rattle.std.specs.List.{AllByRecursion}
 use Rattle.script_text.specs.declared.command.Command.{Command}
 use Rattle.script_text.specs.declared.command.Command.TheVariants as command
@@ -10,42 +10,57 @@ use Rattle.player.specs.Crew.{HasLeaf, HasSeats, Spares, is_set}
 use Rattle.bursts.specs.declared.plan.Needs.{Needs}
 use Rattle.bursts.specs.declared.plan.Plan.{Plan}
 
+-- the places at which a command needs something
+pub data Places : Type 0 where
+  Nowhere : Places
+  OnlyAt : (place : ℕ) → Places
+  Everywhere : Places
+
 -- the table that a command needs seats of callers at
-abbrev pub table_of : List (List ℕ) → Command → Option ℕ
-table_of names (command.Fleet machines per_machine tables) = None
-table_of names (command.Add leaf table rows) = Some table
-table_of names (command.Expire leaf table horizon) = Some table
-table_of names (command.Keep leaf table n) = Some table
-table_of names (command.Query q) = Some (place_of q.table names)
-table_of names (command.Flush leaf table) = None
-table_of names (command.Drain leaf stop) = None
-table_of names (command.Kill leaf) = None
-table_of names (command.Start leaf) = None
+abbrev pub table_of : List (List ℕ) → Command → Places
+table_of names (command.Fleet machines per_machine tables) = Nowhere
+table_of names (command.Add leaf table rows) = OnlyAt table
+table_of names (command.Expire leaf table horizon) = OnlyAt table
+table_of names (command.Keep leaf table n) = OnlyAt table
+table_of names (command.Query q) = OnlyAt (place_of q.table names)
+table_of names (command.Flush leaf table) = Nowhere
+table_of names (command.Drain leaf stop) = Nowhere
+table_of names (command.Kill leaf) = Nowhere
+table_of names (command.Start leaf) = Nowhere
+table_of names (command.Rollover percent) = Nowhere
 
--- the leaf whose steward it tells what to do
-abbrev pub leaf_of : Command → Option ℕ
-leaf_of (command.Fleet machines per_machine tables) = None
-leaf_of (command.Add leaf table rows) = None
-leaf_of (command.Expire leaf table horizon) = None
-leaf_of (command.Keep leaf table n) = None
-leaf_of (command.Query q) = None
-leaf_of (command.Flush leaf table) = Some leaf
-leaf_of (command.Drain leaf stop) = Some leaf
-leaf_of (command.Kill leaf) = Some leaf
-leaf_of (command.Start leaf) = Some leaf
+-- the leaves whose stewards it tells what to do
+abbrev pub leaves_of : Command → Places
+leaves_of (command.Fleet machines per_machine tables) = Nowhere
+leaves_of (command.Add leaf table rows) = Nowhere
+leaves_of (command.Expire leaf table horizon) = Nowhere
+leaves_of (command.Keep leaf table n) = Nowhere
+leaves_of (command.Query q) = Nowhere
+leaves_of (command.Flush leaf table) = OnlyAt leaf
+leaves_of (command.Drain leaf stop) = OnlyAt leaf
+leaves_of (command.Kill leaf) = OnlyAt leaf
+leaves_of (command.Start leaf) = OnlyAt leaf
+leaves_of (command.Rollover percent) = Everywhere
 
--- one place is marked, if any
-abbrev pub marked : Option ℕ → List Bool → List Bool
-marked None marks = marks
-marked (Some place) marks = slice_set marks place true
+-- this place is one of them
+abbrev pub IsAmong : Places → ℕ → Type 0
+IsAmong Nowhere i = ⊥
+IsAmong (OnlyAt place) i = place ≡ i
+IsAmong Everywhere i = ⊤
+
+-- these places are marked
+abbrev pub marked : Places → List Bool → List Bool
+marked Nowhere marks = marks
+marked (OnlyAt place) marks = slice_set marks place true
+marked Everywhere marks = replicate (length marks) true
 
 -- the places that the commands need
-abbrev pub marked_by : (Command → Option ℕ) → List Command → List Bool → List Bool
+abbrev pub marked_by : (Command → Places) → List Command → List Bool → List Bool
 marked_by place [] marks = marks
 marked_by place (c ∷ cs) marks = marked_by place cs (marked (place c) marks)
 
 -- those of so many places
-abbrev pub needed : (Command → Option ℕ) → ℕ → List Command → List Bool
+abbrev pub needed : (Command → Places) → ℕ → List Command → List Bool
 needed place count commands = marked_by place commands (replicate count false)
 
 -- a place for each table and each leaf of the fleet
@@ -56,7 +71,7 @@ pub record HasPlaces (fleet : Fleet) (needs : Needs) : Type 0 where
 -- what the commands of a lane need
 pub record AreNeeds (fleet : Fleet) (commands : List Command) (needs : Needs) : Type 0 where
   pub tables : needs.tables.items ≡ needed (table_of fleet.names) (length fleet.names) commands
-  pub leaves : needs.leaves.items ≡ needed leaf_of (leaf_count fleet) commands
+  pub leaves : needs.leaves.items ≡ needed leaves_of (leaf_count fleet) commands
 
 abbrev pub commands_in : Plan → List Command
 commands_in plan = plan.commands.items

@@ -3,53 +3,59 @@ ghost use Rattle.std.specs.Prelude.{◌≡◌, ◌+◌, ◌<◌, ◌≤◌, ◌�
 ghost use Rattle.std.specs.List.{AllByRecursion};
 ghost use Rattle.std.specs.Thread.{IsSend, IsSync};
 ghost use Rattle.script_text.specs.declared.command.Command.{Command};
+ghost use Rattle.rollover_watch.specs.Watches.{Held};
 ghost use Rattle.transcript.specs.Holds.{Hold};
 ghost use Rattle.player.specs.Crew.{AllPass, HasAll, HasSeats, StillHas};
 ghost use Rattle.bursts.specs.Needs.{AreAlone, AreSpare, CanLend, IsPlan, commands_in};
 ghost use Rattle.bursts.specs.Lent.{IsDone, IsReady, IsWorked, Lent, MayWork, TakenBack};
 ghost use Rattle.bursts.specs.Played.{BesidePlayed};
+ghost use Rattle.bursts.specs.Rolling.{rolling};
 
 use crate::lane::play_lane;
 use crate::lines::behind;
 use crate::plan::Plan;
+use crate::watches::{hand_over, has_rollover, take_over};
 use crate::work::LaneWork;
 use berth_face::{Berth, Gate};
 use player::Crew;
 use printed_lines::Line;
+use rollover_watch::Watch;
 use std::alloc::{AllocError, Global};
 use std::mem::replace;
 use std::sync::Wait;
 use std::thread;
 use std::thread::Threads;
 
-/// Plays lanes at once. All seats meet before that, so that each lane knows what was done before the burst.
+/// Plays lanes at once. All seats meet before that, so that each lane knows what was done before the burst. The watches go with the lane that has a rollover.
 /// The list of lanes is made before anything is cut off.
 pub fn play_beside<'t, R: Wait + Threads + Sync, B: Berth, G: Gate>(
     rt: &R,
     alloc: Global,
     gate: &G,
     crew: &mut Crew<'t, B>,
+    watches: &mut Vec<Box<dyn Watch>>,
     plans: Vec<Plan>,
 ) -> Result<Vec<Line>, AllocError>
     requires plans { AllByRecursion (IsPlan crew.old.fleet) plans.items }
     requires few { length plans.items ≤ 16 }
     requires alone { AreAlone plans.items }
+    requires one { rolling (map commands_in plans.items) ≤ 1 }
     requires spare { AreSpare crew.old.fleet crew.old.holds plans.items }
     requires all { HasAll crew.old.fleet crew.old.holds }
-    ensures played { IfOk result (λ lines. BesidePlayed B.meaning crew.old.fleet (map commands_in plans.items) crew.old.holds lines.items crew.new.holds) }
+    ensures played { IfOk result (λ lines. BesidePlayed B.meaning crew.old.fleet (map commands_in plans.items) crew.old.holds (map (λ watch. held watch) watches.old.items) lines.items crew.new.holds (map (λ watch. held watch) watches.new.items)) }
     ensures fleet { (crew.new.fleet ≡ crew.old.fleet) × (crew.new.tables ≡ crew.old.tables) }
     ensures still { StillHas crew.old.holds crew.new.holds }
     ensures time { AllPass B.meaning crew.old.holds crew.new.holds }
 {
     let mut lanes = Vec::with_capacity(alloc, plans.len())?;
     crew.meet_all();
-    match cut_all(alloc, crew, plans, &mut lanes) {
+    match cut_all(alloc, crew, watches, plans, &mut lanes) {
         Ok(()) => {
             work_all(rt, alloc, gate, lanes.as_mut_slice());
-            take_all_back(alloc, crew, lanes)
+            take_all_back(alloc, crew, watches, lanes)
         }
         Err(fault) => {
-            let _ = take_all_back(alloc, crew, lanes);
+            let _ = take_all_back(alloc, crew, watches, lanes);
             Err(fault)
         }
     }
@@ -59,14 +65,17 @@ pub fn play_beside<'t, R: Wait + Threads + Sync, B: Berth, G: Gate>(
 fn cut_all<'t, B: Berth>(
     alloc: Global,
     crew: &mut Crew<'t, B>,
+    watches: &mut Vec<Box<dyn Watch>>,
     plans: Vec<Plan>,
     lanes: &mut Vec<LaneWork<'t, B>>,
 ) -> Result<(), AllocError>
     requires can { CanLend crew.old.fleet crew.old.holds plans.items }
     requires few { length plans.items ≤ 16 }
+    requires one { rolling (map commands_in plans.items) ≤ 1 }
     requires none { lanes.old.items ≡ [] }
     requires room { vec_len lanes.old + vec_len plans ≤ vec_capacity lanes.old }
-    ensures lent { (cut : List (List Command)) × Lent (length plans.items) (IsReady crew.old.fleet crew.old.tables) crew.old.holds lanes.new.items cut crew.new.holds × (IsOk result → cut ≡ map commands_in plans.items) }
+    ensures lent { (cut : List (List Command)) × Lent (length plans.items) (IsReady (λ work. map (λ watch. held watch) work.watches.items) (map (λ watch. held watch) watches.old.items) crew.old.fleet crew.old.tables) crew.old.holds lanes.new.items cut crew.new.holds × (IsOk result → cut ≡ map commands_in plans.items)
+        × (rolling cut ≡ 0 → map (λ watch. held watch) watches.new.items ≡ map (λ watch. held watch) watches.old.items) }
     ensures fleet { (crew.new.fleet ≡ crew.old.fleet) × (crew.new.tables ≡ crew.old.tables) }
     ensures seats { (table : ℕ) → table < length crew.old.fleet.names → HasSeats crew.new.holds table }
 {
@@ -78,12 +87,15 @@ fn cut_all<'t, B: Berth>(
             plan.needs.leaves.as_slice(),
         )?;
         let number = count(&plans);
+        let rolls = has_rollover(plan.commands.as_slice());
         put_last(
             lanes,
             LaneWork {
                 number,
                 crew: off,
                 commands: plan.commands,
+                rolls,
+                watches: hand_over(alloc, watches, rolls),
                 lines: None,
             },
         );
@@ -119,8 +131,8 @@ fn work_all<'t, R: Wait + Threads + Sync, B: Berth, G: Gate>(
     gate: &G,
     lanes: &mut [LaneWork<'t, B>],
 )
-    requires { (i : ℕ) (d : LaneWork B) → i < length lanes.old → MayWork (slice_index_or lanes.old i d) }
-    ensures each { (i : ℕ) (d : LaneWork B) → i < length lanes.old → IsDone B.meaning (slice_index_or lanes.old i d) (slice_index_or lanes.new i d) }
+    requires { (i : ℕ) (d : _) → i < length lanes.old → MayWork (slice_index_or lanes.old i d) }
+    ensures each { (i : ℕ) (d : _) → i < length lanes.old → IsDone (λ work. map (λ watch. held watch) work.watches.items) B.meaning (slice_index_or lanes.old i d) (slice_index_or lanes.new i d) }
     ensures same { length lanes.new ≡ length lanes.old }
 {
     let threads = lanes.len();
@@ -133,7 +145,7 @@ fn work_all<'t, R: Wait + Threads + Sync, B: Berth, G: Gate>(
         threads,
         &|_, lane: &mut LaneWork<B>|
             requires { IsSync R.row × IsSync G.row × IsSend B.row × MayWork lane.old }
-            ensures { IsDone B.meaning lane.old lane.new }
+            ensures { IsDone (λ work. map (λ watch. held watch) work.watches.items) B.meaning lane.old lane.new }
         { work(rt, alloc, gate, lane) },
     );
 }
@@ -146,21 +158,31 @@ fn work<'t, R: Wait + Threads + Sync, B: Berth, G: Gate>(
     lane: &mut LaneWork<'t, B>,
 )
     requires { MayWork lane.old }
-    ensures { IsDone B.meaning lane.old lane.new }
+    ensures { IsDone (λ work. map (λ watch. held watch) work.watches.items) B.meaning lane.old lane.new }
 {
     let commands = replace(&mut lane.commands, Vec::new(alloc));
-    lane.lines = play_lane(rt, alloc, gate, lane.number, &mut lane.crew, commands).ok();
+    lane.lines = play_lane(
+        rt,
+        alloc,
+        gate,
+        lane.number,
+        &mut lane.crew,
+        &mut lane.watches,
+        commands,
+    )
+    .ok();
 }
 
 // Takes back what was cut off for each lane, that of the first lane first, and gives the lines of all.
 fn take_all_back<'t, B: Berth>(
     alloc: Global,
     crew: &mut Crew<'t, B>,
+    watches: &mut Vec<Box<dyn Watch>>,
     lanes: Vec<LaneWork<'t, B>>,
 ) -> Result<Vec<Line>, AllocError>
-    requires lent { (xs : List (Hold B)) × (count : ℕ) × (cut : List (List Command)) × Lent count (IsWorked B.meaning crew.old.fleet crew.old.tables) xs lanes.items cut crew.old.holds }
+    requires lent { (xs : List (Hold B)) × (count : ℕ) × (cut : List (List Command)) × (was : List Held) × Lent count (IsWorked (λ work. map (λ watch. held watch) work.watches.items) was B.meaning crew.old.fleet crew.old.tables) xs lanes.items cut crew.old.holds }
     requires seats { (table : ℕ) → table < length crew.old.fleet.names → HasSeats crew.old.holds table }
-    ensures back { (xs : List (Hold B)) (count : ℕ) (cut : List (List Command)) → Lent count (IsWorked B.meaning crew.old.fleet crew.old.tables) xs lanes.entry.items cut crew.old.holds → TakenBack B.meaning crew.old.fleet count cut xs result crew.new.holds }
+    ensures back { (xs : List (Hold B)) (count : ℕ) (cut : List (List Command)) (was : List Held) → Lent count (IsWorked (λ work. map (λ watch. held watch) work.watches.items) was B.meaning crew.old.fleet crew.old.tables) xs lanes.entry.items cut crew.old.holds → TakenBack B.meaning crew.old.fleet count cut was xs (map (λ watch. held watch) watches.old.items) result crew.new.holds (map (λ watch. held watch) watches.new.items) }
     ensures fleet { (crew.new.fleet ≡ crew.old.fleet) × (crew.new.tables ≡ crew.old.tables) }
 {
     let mut lines = Ok(Vec::new(alloc));
@@ -170,9 +192,12 @@ fn take_all_back<'t, B: Berth>(
             number,
             crew: off,
             commands: _,
+            rolls,
+            watches: its,
             lines: own,
         } = lane;
         crew.take_back(off);
+        take_over(watches, rolls, its);
         lines = behind(lines, number, own);
     }
     lanes.destroy_empty();

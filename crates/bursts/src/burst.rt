@@ -1,5 +1,5 @@
 // The lanes of a burst.
-ghost use Rattle.std.specs.Prelude.{◌≡◌, IfOk};
+ghost use Rattle.std.specs.Prelude.{◌≡◌, IfOk, map};
 ghost use Rattle.std.specs.List.{AllByRecursion};
 ghost use Rattle.script_text.specs.declared.item.Item.TheVariants.{Burst};
 ghost use Rattle.script_text.specs.Fits.{IsBurst};
@@ -14,6 +14,7 @@ use crate::turns::play_in_turn;
 use berth_face::{Berth, Gate};
 use player::Crew;
 use printed_lines::Line;
+use rollover_watch::Watch;
 use script_text::Commands;
 use std::alloc::{AllocError, Global};
 use std::sync::Wait;
@@ -25,11 +26,12 @@ pub fn play_burst<'t, R: Wait + Threads + Sync, B: Berth, G: Gate>(
     alloc: Global,
     gate: &G,
     crew: &mut Crew<'t, B>,
+    watches: &mut Vec<Box<dyn Watch>>,
     lanes: Vec<Commands>,
 ) -> Result<Vec<Line>, AllocError>
     requires burst { IsBurst (leaf_count crew.old.fleet) crew.old.fleet.names lanes.items }
     requires all { HasAll crew.old.fleet crew.old.holds }
-    ensures played { IfOk result (λ lines. ItemPlayed B.meaning crew.old.fleet (Burst lanes.items) crew.old.holds lines.items crew.new.holds) }
+    ensures played { IfOk result (λ lines. ItemPlayed B.meaning crew.old.fleet (Burst lanes.items) crew.old.holds (map (λ watch. held watch) watches.old.items) lines.items crew.new.holds (map (λ watch. held watch) watches.new.items)) }
     ensures fleet { (crew.new.fleet ≡ crew.old.fleet) × (crew.new.tables ≡ crew.old.tables) }
     ensures all { HasAll crew.new.fleet crew.new.holds }
     ensures time { AllPass B.meaning crew.old.holds crew.new.holds }
@@ -37,8 +39,8 @@ pub fn play_burst<'t, R: Wait + Threads + Sync, B: Berth, G: Gate>(
 {
     let plans = plan_all(alloc, crew, lanes)?;
     if are_spare(crew, plans.as_slice()) {
-        play_beside(rt, alloc, gate, crew, plans)
+        play_beside(rt, alloc, gate, crew, watches, plans)
     } else {
-        play_in_turn(rt, alloc, gate, crew, plans)
+        play_in_turn(rt, alloc, gate, crew, watches, plans)
     }
 }

@@ -1,5 +1,5 @@
 // An item of a script: a command, or the lanes of a burst.
-ghost use Rattle.std.specs.Prelude.{◌≡◌, IfOk};
+ghost use Rattle.std.specs.Prelude.{◌≡◌, IfOk, map};
 ghost use Rattle.std.specs.List.{AllByRecursion};
 ghost use Rattle.printed_lines.specs.Lines.{IsOf};
 ghost use Rattle.player.specs.Crew.{AllPass, HasAll};
@@ -10,29 +10,31 @@ use crate::command::play_one;
 use berth_face::{Berth, Gate};
 use player::Crew;
 use printed_lines::Line;
+use rollover_watch::Watch;
 use script_text::Item;
 use std::alloc::{AllocError, Global};
 use std::sync::Wait;
 use std::thread::Threads;
 
-/// Plays an item, and gives the lines that it prints. For want of memory all leaves and seats are back all the same.
+/// Plays an item, and gives the lines that it prints; the watches are told of its rollovers. For want of memory all leaves and seats are back all the same, and so are the watches.
 pub fn play_item<'t, R: Wait + Threads + Sync, B: Berth, G: Gate>(
     rt: &R,
     alloc: Global,
     gate: &G,
     crew: &mut Crew<'t, B>,
+    watches: &mut Vec<Box<dyn Watch>>,
     item: Item,
 ) -> Result<Vec<Line>, AllocError>
     requires may { MayPlayItem crew.old.fleet item }
     requires all { HasAll crew.old.fleet crew.old.holds }
-    ensures played { IfOk result (λ lines. ItemPlayed B.meaning crew.old.fleet item crew.old.holds lines.items crew.new.holds) }
+    ensures played { IfOk result (λ lines. ItemPlayed B.meaning crew.old.fleet item crew.old.holds (map (λ watch. held watch) watches.old.items) lines.items crew.new.holds (map (λ watch. held watch) watches.new.items)) }
     ensures fleet { (crew.new.fleet ≡ crew.old.fleet) × (crew.new.tables ≡ crew.old.tables) }
     ensures all { HasAll crew.new.fleet crew.new.holds }
     ensures time { AllPass B.meaning crew.old.holds crew.new.holds }
     ensures lines_fit { IfOk result (λ lines. AllByRecursion (IsOf crew.old.fleet.names) lines.items) }
 {
     match item {
-        Item::One(command) => play_one(rt, alloc, gate, crew, command),
-        Item::Burst(lanes) => play_burst(rt, alloc, gate, crew, lanes.into_inner()),
+        Item::One(command) => play_one(rt, alloc, gate, crew, watches, command),
+        Item::Burst(lanes) => play_burst(rt, alloc, gate, crew, watches, lanes.into_inner()),
     }
 }

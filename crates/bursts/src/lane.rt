@@ -1,5 +1,5 @@
 // The commands of a lane.
-ghost use Rattle.std.specs.Prelude.{◌≡◌, IfOk};
+ghost use Rattle.std.specs.Prelude.{◌≡◌, IfOk, map};
 ghost use Rattle.std.specs.List.{AllByRecursion};
 ghost use Rattle.player.specs.Crew.{AllPass, StillHas};
 ghost use Rattle.bursts.specs.Played.{LanePlayed, MayPlayOn};
@@ -8,6 +8,7 @@ use crate::command::play_command;
 use berth_face::{Berth, Gate};
 use player::Crew;
 use printed_lines::Line;
+use rollover_watch::Watch;
 use script_text::Command;
 use std::alloc::{AllocError, Global};
 use std::collections::VecDeque;
@@ -21,10 +22,11 @@ pub fn play_lane<'t, R: Wait + Threads + Sync, B: Berth, G: Gate>(
     gate: &G,
     number: u32,
     crew: &mut Crew<'t, B>,
+    watches: &mut Vec<Box<dyn Watch>>,
     commands: Vec<Command>,
 ) -> Result<Vec<Line>, AllocError>
     requires { AllByRecursion (MayPlayOn crew.old.fleet crew.old.holds) commands.items }
-    ensures played { IfOk result (λ lines. LanePlayed B.meaning crew.old.fleet commands.items crew.old.holds lines.items crew.new.holds) }
+    ensures played { IfOk result (λ lines. LanePlayed B.meaning crew.old.fleet commands.items crew.old.holds (map (λ watch. held watch) watches.old.items) lines.items crew.new.holds (map (λ watch. held watch) watches.new.items)) }
     ensures fleet { (crew.new.fleet ≡ crew.old.fleet) × (crew.new.tables ≡ crew.old.tables) }
     ensures still { StillHas crew.old.holds crew.new.holds }
     ensures time { AllPass B.meaning crew.old.holds crew.new.holds }
@@ -34,7 +36,7 @@ pub fn play_lane<'t, R: Wait + Threads + Sync, B: Berth, G: Gate>(
     let mut rest = VecDeque::from_vec(commands);
     while let Some(command) = rest.pop_front() {
         gate.pass(number, step);
-        let mut more = play_command(rt, alloc, gate, crew, command)?;
+        let mut more = play_command(rt, alloc, gate, crew, watches, command)?;
         lines.append(&mut more)?;
         step = step.wrapping_add(1);
     }

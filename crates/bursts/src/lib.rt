@@ -11,6 +11,7 @@ mod needs;
 mod plan;
 mod plans;
 mod turns;
+mod watches;
 mod work;
 
 pub use item::play_item;

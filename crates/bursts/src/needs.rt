@@ -1,9 +1,9 @@
 // What the commands of a lane need.
-ghost use Rattle.std.specs.Prelude.{◌≡◌, false, replicate, IfOk};
+ghost use Rattle.std.specs.Prelude.{◌≡◌, false, true, length, replicate, IfOk};
 ghost use Rattle.std.specs.List.{AllByRecursion};
 ghost use Rattle.script_text.specs.Fits.{IsCommand};
 ghost use Rattle.transcript.specs.Pieces.{leaf_count};
-ghost use Rattle.bursts.specs.Needs.{AreNeeds, HasPlaces, leaf_of, marked, table_of};
+ghost use Rattle.bursts.specs.Needs.{AreNeeds, HasPlaces, leaves_of, marked, table_of};
 
 use crate::plan::Needs;
 use berth_face::Berth;
@@ -36,7 +36,7 @@ impl Needs {
         requires command { IsCommand (leaf_count crew.now.fleet) crew.now.fleet.names command.now }
         requires places { HasPlaces crew.now.fleet self.old }
         ensures tables { self.new.tables.items ≡ marked (table_of crew.now.fleet.names command.now) self.old.tables.items }
-        ensures leaves { self.new.leaves.items ≡ marked (leaf_of command.now) self.old.leaves.items }
+        ensures leaves { self.new.leaves.items ≡ marked (leaves_of command.now) self.old.leaves.items }
     {
         match command {
             Command::Fleet { .. } => {}
@@ -51,8 +51,16 @@ impl Needs {
             Command::Drain { leaf, .. } => self.leaves[*leaf as usize] = true,
             Command::Kill(leaf) => self.leaves[*leaf as usize] = true,
             Command::Start(leaf) => self.leaves[*leaf as usize] = true,
+            Command::Rollover(_) => mark_all(&mut self.leaves),
         }
     }
+}
+
+// Marks all places.
+fn mark_all(marks: &mut Vec<bool>)
+    ensures { marks.new.items ≡ replicate (length marks.old.items) true }
+{
+    marks.as_mut_slice().fill(true);
 }
 
 // So many places, none of which is marked.

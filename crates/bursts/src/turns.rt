@@ -11,23 +11,25 @@ use crate::plan::Plan;
 use berth_face::{Berth, Gate};
 use player::Crew;
 use printed_lines::Line;
+use rollover_watch::Watch;
 use std::alloc::{AllocError, Global};
 use std::collections::VecDeque;
 use std::sync::Wait;
 use std::thread::Threads;
 
-/// Plays lanes one after another over the whole crew.
+/// Plays lanes one after another over the whole crew. All of them have the same watches.
 pub fn play_in_turn<'t, R: Wait + Threads + Sync, B: Berth, G: Gate>(
     rt: &R,
     alloc: Global,
     gate: &G,
     crew: &mut Crew<'t, B>,
+    watches: &mut Vec<Box<dyn Watch>>,
     plans: Vec<Plan>,
 ) -> Result<Vec<Line>, AllocError>
     requires plans { AllByRecursion (IsPlan crew.old.fleet) plans.items }
     requires few { length plans.items ≤ 16 }
     requires all { HasAll crew.old.fleet crew.old.holds }
-    ensures played { IfOk result (λ lines. TurnsPlayed B.meaning crew.old.fleet (map commands_in plans.items) crew.old.holds lines.items crew.new.holds) }
+    ensures played { IfOk result (λ lines. TurnsPlayed B.meaning crew.old.fleet (map commands_in plans.items) crew.old.holds (map (λ watch. held watch) watches.old.items) lines.items crew.new.holds (map (λ watch. held watch) watches.new.items)) }
     ensures fleet { (crew.new.fleet ≡ crew.old.fleet) × (crew.new.tables ≡ crew.old.tables) }
     ensures still { StillHas crew.old.holds crew.new.holds }
     ensures time { AllPass B.meaning crew.old.holds crew.new.holds }
@@ -36,7 +38,7 @@ pub fn play_in_turn<'t, R: Wait + Threads + Sync, B: Berth, G: Gate>(
     let mut number: u32 = 0;
     let mut rest = VecDeque::from_vec(plans);
     while let Some(plan) = rest.pop_front() {
-        let own = play_lane(rt, alloc, gate, number, crew, plan.commands)?;
+        let own = play_lane(rt, alloc, gate, number, crew, watches, plan.commands)?;
         put_lane(&mut lines, number, own)?;
         number += 1;
     }

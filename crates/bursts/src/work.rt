@@ -2,6 +2,7 @@
 use berth_face::Berth;
 use player::Crew;
 use printed_lines::Line;
+use rollover_watch::Watch;
 use script_text::Command;
 
 /// A lane, with what was cut off for it.
@@ -10,6 +11,10 @@ pub struct LaneWork<'t, B: Berth> {
     pub number: u32,
     pub crew: Crew<'t, B>,
     pub commands: Vec<Command>,
+    /// Whether one of its commands is a rollover.
+    pub rolls: bool,
+    /// Those of the burst where one is, and else none.
+    pub watches: Vec<Box<dyn Watch>>,
     /// Those of all its commands: none before they are played, or for want of memory.
     pub lines: Option<Vec<Line>>,
 }

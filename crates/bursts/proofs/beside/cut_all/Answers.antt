@@ -1,4 +1,4 @@
-use Rattle.std.proofs.Common.{◌≡◌, suc, Bool, true, List, [], ◌∷◌, ◌++◌, length, map, refl, sym, ap, subst, ◌∙◌, append_assoc, arith}
+use Rattle.std.proofs.Common.{◌≡◌, suc, Bool, true, List, [], ◌∷◌, ◌++◌, length, map, refl, sym, ap, subst, ◌∙◌, append_assoc, arith, rules}
 use Rattle.std.proofs.lemmas.List.{append-nil, map-append}
 use Rattle.transcript.specs.Pieces.{Fleet, leaf_count}
 use Rattle.script_text.specs.declared.command.Command.{Command}
@@ -8,7 +8,9 @@ use Rattle.bursts.specs.declared.plan.Plan.{Plan}
 use Rattle.bursts.specs.Lent.{IsReady, Lent}
 use Rattle.bursts.specs.Needs.{CanLend, commands_in}
 use Rattle.bursts.proofs.Cutting.{lends_leaf, lends_on, lends_seats, length_snoc, marks_leaves, marks_tables}
-use Rattle.bursts.proofs.Lending.{cut_more, lent_none}
+use Rattle.bursts.specs.Rolling.{has_rollover}
+use Rattle.bursts.proofs.Handing.{all_split, few_left, first_quiet, its_watches, left_watches, none_rolled, others_quiet}
+use Rattle.bursts.proofs.Lending.{cut_more, empty_of, lent_left, lent_none}
 use Rattle.bursts.proofs.beside.cut_all.Goals as goal
 
 pub loop-plan-init : goal.loop-plan-init
@@ -16,12 +18,12 @@ loop-plan-init g c =
     let crew = c.args.crew.now in record {
       cut = [];
       all = append-nil (map commands_in c.args.plans.items);
-      lent = subst (λ ws. Lent (length c.args.plans.items) (IsReady crew.fleet crew.tables) crew.holds ws [] crew.holds) (sym c.requires.none)
-          (lent_none (length c.args.plans.items) (IsReady crew.fleet crew.tables) crew.holds);
+      lent = lent_none (length c.args.plans.items) _ crew.holds _ c.requires.none;
       can = c.requires.can;
       few = c.requires.few;
       count = omega arith;
       room = c.requires.room;
+      left = λ none. refl;
       fleet = refl;
       tables = refl;
     }
@@ -60,13 +62,24 @@ loop-plan-preserved g c =
     let half = subst (λ (ms : List Bool). CutsOff (is_set ms) (is_set c.as_slice-in-Some.result.now) c.loop-plan.crew.holds c.in_ok-off.off.holds c.cut_off.new.self.holds) c.as_slice.ensures.value c.in_ok-off.ensures.cut in
     let cut = subst (λ (ms : List Bool). CutsOff (is_set plan.needs.tables.items) (is_set ms) c.loop-plan.crew.holds c.in_ok-off.off.holds c.cut_off.new.self.holds) c.as_slice-in-Some.ensures.value half in
     let sizes : length c.loop-plan.plans.items ≡ suc (length plans) = ap (λ (ps : List Plan). length ps) items ∙ length_snoc plans plan in
+    let one = few_left (commands_in plan) inv.cut (map commands_in plans) (map commands_in c.args.plans.items) (all_split plans plan c.loop-plan.plans.items inv.cut (map commands_in c.args.plans.items) items inv.all) c.requires.one in
+    let rolls : c.has_rollover-rolls.result ≡ has_rollover plan.commands.items = c.has_rollover-rolls.ensures ∙ ap (λ (cs : List Command). has_rollover cs) c.as_slice-in-Some-2.ensures.value in
     record {
       cut = commands_in plan ∷ inv.cut;
-      all = sym (append_assoc (map commands_in plans) (commands_in plan ∷ []) inv.cut)
-          ∙ (ap (λ (ls : List (List Command)). ls ++ inv.cut) (sym (ap (λ (ps : List Plan). map commands_in ps) items ∙ map-append commands_in plans (plan ∷ []))) ∙ inv.all);
-      lent = cut_more fleet c.args.crew.now.tables (length c.args.plans.items) c.args.crew.now.holds c.loop-plan.crew.holds c.cut_off.new.self.holds c.loop-plan.lanes.items c.put_last.new.list.items inv.cut
+      all = all_split plans plan c.loop-plan.plans.items inv.cut (map commands_in c.args.plans.items) items inv.all;
+      lent = cut_more _ _ fleet c.args.crew.now.tables (length c.args.plans.items) c.args.crew.now.holds c.loop-plan.crew.holds c.cut_off.new.self.holds c.loop-plan.lanes.items c.put_last.new.list.items _ inv.cut
           c.in_ok-off.off plan c.count-number.result plans inv.lent cut can (c.in_ok-off.ensures.off.0 ∙ inv.fleet) (c.in_ok-off.ensures.off.1 ∙ inv.tables)
-          (omega (arith, c.count-number.ensures, inv.count, sizes)) c.put_last.ensures.items;
+          (omega (arith, c.count-number.ensures, inv.count, sizes))
+          (record {
+            number_is = refl;
+            crew_is = refl;
+            commands_are = refl;
+            rolls = rolls;
+            watches = λ sure. its_watches _ _ _ c.has_rollover-rolls.result (rolls ∙ sure) c.hand_over.ensures ∙ inv.left (none_rolled (commands_in plan) inv.cut one sure);
+            unplayed = refl;
+          })
+          c.put_last.ensures.items;
+      left = λ none. left_watches _ _ _ c.has_rollover-rolls.result (rolls ∙ first_quiet (commands_in plan) inv.cut none) c.hand_over.ensures ∙ inv.left (others_quiet (commands_in plan) inv.cut none);
       can = lends_on fleet plans plan c.loop-plan.crew.holds can c.in_ok-off.off.holds c.cut_off.new.self.holds cut;
       few = omega (arith, inv.few, sizes);
       count = omega (arith, inv.count, sizes);
@@ -79,3 +92,22 @@ pub count-number-requires : goal.count-number-requires
 count-number-requires g c =
     let sizes : length c.loop-plan.plans.items ≡ suc (length c.pop.new.self.items) = ap (λ (ps : List Plan). length ps) c.in-Some.ensures.items ∙ length_snoc c.pop.new.self.items c.in-Some.plan in
     omega (arith, c.loop-plan.invariant.few, sizes)
+
+pub returns-in_err-off-clause-lent : goal.returns-in_err-off-clause-lent
+returns-in_err-off-clause-lent g c =
+    let inv = c.loop-plan.invariant in (
+      inv.cut,
+      lent_left (length c.args.plans.items) _ c.args.crew.now.holds _ inv.cut c.loop-plan.crew.holds c.cut_off.new.self.holds (c.in_err-off.ensures.refused refl) inv.lent,
+      search rules,
+      inv.left,
+    )
+
+pub returns-clause-lent : goal.returns-clause-lent
+returns-clause-lent g c =
+    let inv = c.loop-plan.invariant in
+    let none : c.loop-plan.plans.items ≡ [] = empty_of c.loop-plan.plans.items (omega (arith, c.in_default.ensures.cases.0, c.loop-plan.plans.ok.0)) in (
+      inv.cut,
+      inv.lent,
+      λ ok. ap (λ (ps : List Plan). map commands_in ps ++ inv.cut) (sym none) ∙ inv.all,
+      inv.left,
+    )

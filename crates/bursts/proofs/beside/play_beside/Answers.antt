@@ -1,9 +1,10 @@
-use Rattle.std.proofs.Common.{◌≡◌, ℕ, ◌<◌, List, length, map, refl, sym, ap, subst, ◌∙◌, arith}
+use Rattle.std.proofs.Common.{◌≡◌, ℕ, ◌<◌, ◌≤◌, List, length, map, refl, sym, ap, subst, ◌∙◌, arith}
 use Rattle.std.specs.Prelude.{slice_index_or}
 use Rattle.std.proofs.lemmas.List.{length-map}
 use Rattle.script_text.specs.declared.command.Command.{Command}
 use Rattle.bursts.specs.Lent.{MayWork}
 use Rattle.bursts.specs.Needs.{commands_in}
+use Rattle.bursts.specs.Rolling.{rolling}
 use Rattle.bursts.proofs.Cutting.{can_lend}
 use Rattle.bursts.proofs.Held.{pass_on, still_on}
 use Rattle.bursts.proofs.Items.{beside_from}
@@ -19,7 +20,7 @@ pub work_all-requires-after_bounds : goal.work_all-requires-after_bounds
 work_all-requires-after_bounds g c κs within =
     let crew = c.meet_all.new.self in
     subst (λ ws. (i : ℕ) (d : _) → i < length ws → MayWork (slice_index_or ws i d)) (sym c.as_mut_slice.ensures.value)
-    (all_may_work g.B.Berth.meaning crew.fleet crew.tables (length c.args.plans.items) crew.holds c.cut_all.new.lanes.items c.in-Ok.ensures.lent.0 c.cut_all.new.crew.holds c.in-Ok.ensures.lent.1)
+    (all_may_work _ _ g.B.Berth.meaning crew.fleet crew.tables (length c.args.plans.items) crew.holds c.cut_all.new.lanes.items c.in-Ok.ensures.lent.0 c.cut_all.new.crew.holds c.in-Ok.ensures.lent.1)
 
 pub take_all_back-requires-clause-lent : goal.take_all_back-requires-clause-lent
 take_all_back-requires-clause-lent g c κs within =
@@ -29,7 +30,8 @@ take_all_back-requires-clause-lent g c κs within =
       crew.holds,
       length c.args.plans.items,
       lent.0,
-      all_played g.B.Berth.meaning crew.fleet now.fleet crew.tables now.tables (length c.args.plans.items) crew.holds now.holds c.cut_all.new.lanes.items lent.0 c.cut_all.ensures.fleet.0 c.cut_all.ensures.fleet.1 lent.1
+      _,
+      all_played _ _ g.B.Berth.meaning crew.fleet now.fleet crew.tables now.tables (length c.args.plans.items) crew.holds now.holds c.cut_all.new.lanes.items lent.0 c.cut_all.ensures.fleet.0 c.cut_all.ensures.fleet.1 lent.1
           c.as_mut_slice.result.now c.work_all.new.lanes c.cut_all.new.lanes.len c.as_mut_slice.ensures.value c.work_all.ensures.same (omega (arith, c.cut_all.new.lanes.ok.0)) c.work_all.ensures.each,
     )
 
@@ -41,7 +43,8 @@ take_all_back-requires-in-Err-clause-lent g c κs within =
       crew.holds,
       length c.args.plans.items,
       lent.0,
-      none_played g.B.Berth.meaning crew.fleet now.fleet crew.tables now.tables (length c.args.plans.items) crew.holds now.holds c.cut_all.new.lanes.items lent.0 c.cut_all.ensures.fleet.0 c.cut_all.ensures.fleet.1 lent.1,
+      _,
+      none_played _ _ g.B.Berth.meaning crew.fleet now.fleet crew.tables now.tables (length c.args.plans.items) crew.holds now.holds c.cut_all.new.lanes.items lent.0 c.cut_all.ensures.fleet.0 c.cut_all.ensures.fleet.1 lent.1,
     )
 
 pub returns-in-Ok-clause-played : goal.returns-in-Ok-clause-played
@@ -51,19 +54,19 @@ returns-in-Ok-clause-played g c =
     let lent = c.in-Ok.ensures.lent in
     let all : lent.0 ≡ map commands_in c.args.plans.items = lent.2 refl in
     let whole : length lent.0 ≡ length c.args.plans.items = ap (λ (ls : List (List Command)). length ls) all ∙ length-map c.args.plans.items commands_in in
-    let back = c.take_all_back.ensures.back crew.holds (length c.args.plans.items) lent.0
-    (all_played g.B.Berth.meaning crew.fleet now.fleet crew.tables now.tables (length c.args.plans.items) crew.holds now.holds c.cut_all.new.lanes.items lent.0 c.cut_all.ensures.fleet.0 c.cut_all.ensures.fleet.1 lent.1
+    let back = c.take_all_back.ensures.back crew.holds (length c.args.plans.items) lent.0 _
+    (all_played _ _ g.B.Berth.meaning crew.fleet now.fleet crew.tables now.tables (length c.args.plans.items) crew.holds now.holds c.cut_all.new.lanes.items lent.0 c.cut_all.ensures.fleet.0 c.cut_all.ensures.fleet.1 lent.1
     c.as_mut_slice.result.now c.work_all.new.lanes c.cut_all.new.lanes.len c.as_mut_slice.ensures.value c.work_all.ensures.same (omega (arith, c.cut_all.new.lanes.ok.0)) c.work_all.ensures.each) in
-    beside_from g.B.Berth.meaning c.args.crew.now.fleet now.fleet c.args.crew.now.holds crew.holds c.take_all_back.new.crew.holds lent.0 (map commands_in c.args.plans.items) c.take_all_back.result
-    (c.cut_all.ensures.fleet.0 ∙ c.meet_all.ensures.fleet.0) all c.meet_all.ensures.met (back.played whole)
+    beside_from g.B.Berth.meaning c.args.crew.now.fleet now.fleet c.args.crew.now.holds crew.holds c.take_all_back.new.crew.holds _ _ lent.0 (map commands_in c.args.plans.items) c.take_all_back.result
+    (c.cut_all.ensures.fleet.0 ∙ c.meet_all.ensures.fleet.0) all c.meet_all.ensures.met (back.played whole (subst (λ (ls : List (List Command)). rolling ls ≤ 1) (sym all) c.requires.one) lent.3)
 
 pub returns-in-Ok-clause-still : goal.returns-in-Ok-clause-still
 returns-in-Ok-clause-still g c =
     let crew = c.meet_all.new.self in
     let now = c.cut_all.new.crew in
     let lent = c.in-Ok.ensures.lent in
-    let back = c.take_all_back.ensures.back crew.holds (length c.args.plans.items) lent.0
-    (all_played g.B.Berth.meaning crew.fleet now.fleet crew.tables now.tables (length c.args.plans.items) crew.holds now.holds c.cut_all.new.lanes.items lent.0 c.cut_all.ensures.fleet.0 c.cut_all.ensures.fleet.1 lent.1
+    let back = c.take_all_back.ensures.back crew.holds (length c.args.plans.items) lent.0 _
+    (all_played _ _ g.B.Berth.meaning crew.fleet now.fleet crew.tables now.tables (length c.args.plans.items) crew.holds now.holds c.cut_all.new.lanes.items lent.0 c.cut_all.ensures.fleet.0 c.cut_all.ensures.fleet.1 lent.1
     c.as_mut_slice.result.now c.work_all.new.lanes c.cut_all.new.lanes.len c.as_mut_slice.ensures.value c.work_all.ensures.same (omega (arith, c.cut_all.new.lanes.ok.0)) c.work_all.ensures.each) in
     still_on c.args.crew.now.holds crew.holds c.take_all_back.new.crew.holds c.meet_all.ensures.still back.still
 
@@ -72,8 +75,8 @@ returns-in-Ok-clause-time g c =
     let crew = c.meet_all.new.self in
     let now = c.cut_all.new.crew in
     let lent = c.in-Ok.ensures.lent in
-    let back = c.take_all_back.ensures.back crew.holds (length c.args.plans.items) lent.0
-    (all_played g.B.Berth.meaning crew.fleet now.fleet crew.tables now.tables (length c.args.plans.items) crew.holds now.holds c.cut_all.new.lanes.items lent.0 c.cut_all.ensures.fleet.0 c.cut_all.ensures.fleet.1 lent.1
+    let back = c.take_all_back.ensures.back crew.holds (length c.args.plans.items) lent.0 _
+    (all_played _ _ g.B.Berth.meaning crew.fleet now.fleet crew.tables now.tables (length c.args.plans.items) crew.holds now.holds c.cut_all.new.lanes.items lent.0 c.cut_all.ensures.fleet.0 c.cut_all.ensures.fleet.1 lent.1
     c.as_mut_slice.result.now c.work_all.new.lanes c.cut_all.new.lanes.len c.as_mut_slice.ensures.value c.work_all.ensures.same (omega (arith, c.cut_all.new.lanes.ok.0)) c.work_all.ensures.each) in
     pass_on g.B.Berth.meaning c.args.crew.now.holds crew.holds c.take_all_back.new.crew.holds c.meet_all.ensures.time back.time
 
@@ -82,8 +85,8 @@ returns-in-Err-clause-still g c =
     let crew = c.meet_all.new.self in
     let now = c.cut_all.new.crew in
     let lent = c.in-Err.ensures.lent in
-    let back = c.take_all_back-in-Err.ensures.back crew.holds (length c.args.plans.items) lent.0
-    (none_played g.B.Berth.meaning crew.fleet now.fleet crew.tables now.tables (length c.args.plans.items) crew.holds now.holds c.cut_all.new.lanes.items lent.0 c.cut_all.ensures.fleet.0 c.cut_all.ensures.fleet.1 lent.1) in
+    let back = c.take_all_back-in-Err.ensures.back crew.holds (length c.args.plans.items) lent.0 _
+    (none_played _ _ g.B.Berth.meaning crew.fleet now.fleet crew.tables now.tables (length c.args.plans.items) crew.holds now.holds c.cut_all.new.lanes.items lent.0 c.cut_all.ensures.fleet.0 c.cut_all.ensures.fleet.1 lent.1) in
     still_on c.args.crew.now.holds crew.holds c.take_all_back-in-Err.new.crew.holds c.meet_all.ensures.still back.still
 
 pub returns-in-Err-clause-time : goal.returns-in-Err-clause-time
@@ -91,6 +94,6 @@ returns-in-Err-clause-time g c =
     let crew = c.meet_all.new.self in
     let now = c.cut_all.new.crew in
     let lent = c.in-Err.ensures.lent in
-    let back = c.take_all_back-in-Err.ensures.back crew.holds (length c.args.plans.items) lent.0
-    (none_played g.B.Berth.meaning crew.fleet now.fleet crew.tables now.tables (length c.args.plans.items) crew.holds now.holds c.cut_all.new.lanes.items lent.0 c.cut_all.ensures.fleet.0 c.cut_all.ensures.fleet.1 lent.1) in
+    let back = c.take_all_back-in-Err.ensures.back crew.holds (length c.args.plans.items) lent.0 _
+    (none_played _ _ g.B.Berth.meaning crew.fleet now.fleet crew.tables now.tables (length c.args.plans.items) crew.holds now.holds c.cut_all.new.lanes.items lent.0 c.cut_all.ensures.fleet.0 c.cut_all.ensures.fleet.1 lent.1) in
     pass_on g.B.Berth.meaning c.args.crew.now.holds crew.holds c.take_all_back-in-Err.new.crew.holds c.meet_all.ensures.time back.time

@@ -1,9 +1,10 @@
-use Rattle.std.proofs.Common.{List, subst, arith}
-use Rattle.std.specs.Prelude.{IfOk}
+use Rattle.std.proofs.Common.{◌≤◌, List, map, subst, sym, arith}
 use Rattle.script_text.specs.declared.command.Command.{Command}
-use Rattle.bursts.specs.Played.{BesidePlayed, TurnsPlayed}
+use Rattle.bursts.specs.Needs.{commands_in}
 use Rattle.bursts.proofs.Items.{all_on, beside_played, plans_lanes, turns_played}
+use Rattle.bursts.proofs.Hearing.{one_rolls}
 use Rattle.bursts.proofs.Needed.{alone, plans_all, plans_count}
+use Rattle.bursts.specs.Rolling.{rolling}
 use Rattle.bursts.proofs.burst.play_burst.Goals as goal
 
 pub play_beside-requires-clause-plans : goal.play_beside-requires-clause-plans
@@ -21,12 +22,16 @@ play_in_turn-requires-clause-few g c κs within = omega (arith, plans_count c.ar
 pub play_beside-requires-clause-alone : goal.play_beside-requires-clause-alone
 play_beside-requires-clause-alone g c κs within = alone c.args.crew.now.fleet c.args.lanes.items c.in_ok-plans.plans.items c.in_ok-plans.ensures c.requires.burst.stewards
 
+pub play_beside-requires-clause-one : goal.play_beside-requires-clause-one
+play_beside-requires-clause-one g c κs within =
+    let lanes = plans_lanes c.args.crew.now.fleet c.args.lanes.items c.in_ok-plans.plans.items c.in_ok-plans.ensures in
+    subst (λ (ls : List (List Command)). rolling ls ≤ 1) (sym lanes) (one_rolls c.args.lanes.items c.requires.burst.stewards)
+
 pub returns-then-are_spare-clause-played : goal.returns-then-are_spare-clause-played
 returns-then-are_spare-clause-played g c =
     let crew = c.args.crew.now in
-    let lanes = plans_lanes crew.fleet c.args.lanes.items c.in_ok-plans.plans.items c.in_ok-plans.ensures in
-    beside_played g.B.Berth.meaning crew.fleet crew.holds c.play_beside.new.crew.holds c.args.lanes.items c.play_beside.result
-    (subst (λ (ls : List (List Command)). IfOk c.play_beside.result (λ lines. BesidePlayed g.B.Berth.meaning crew.fleet ls crew.holds lines.items c.play_beside.new.crew.holds)) lanes c.play_beside.ensures.played)
+    beside_played g.B.Berth.meaning crew.fleet crew.holds c.play_beside.new.crew.holds _ _ (map commands_in c.in_ok-plans.plans.items) c.args.lanes.items c.play_beside.result
+    (plans_lanes crew.fleet c.args.lanes.items c.in_ok-plans.plans.items c.in_ok-plans.ensures) c.play_beside.ensures.played
 
 pub returns-then-are_spare-clause-all : goal.returns-then-are_spare-clause-all
 returns-then-are_spare-clause-all g c =
@@ -35,9 +40,8 @@ returns-then-are_spare-clause-all g c =
 pub returns-else-are_spare-clause-played : goal.returns-else-are_spare-clause-played
 returns-else-are_spare-clause-played g c =
     let crew = c.args.crew.now in
-    let lanes = plans_lanes crew.fleet c.args.lanes.items c.in_ok-plans.plans.items c.in_ok-plans.ensures in
-    turns_played g.B.Berth.meaning crew.fleet crew.holds c.play_in_turn.new.crew.holds c.args.lanes.items c.play_in_turn.result
-    (subst (λ (ls : List (List Command)). IfOk c.play_in_turn.result (λ lines. TurnsPlayed g.B.Berth.meaning crew.fleet ls crew.holds lines.items c.play_in_turn.new.crew.holds)) lanes c.play_in_turn.ensures.played)
+    turns_played g.B.Berth.meaning crew.fleet crew.holds c.play_in_turn.new.crew.holds _ _ (map commands_in c.in_ok-plans.plans.items) c.args.lanes.items c.play_in_turn.result
+    (plans_lanes crew.fleet c.args.lanes.items c.in_ok-plans.plans.items c.in_ok-plans.ensures) c.play_in_turn.ensures.played
 
 pub returns-else-are_spare-clause-all : goal.returns-else-are_spare-clause-all
 returns-else-are_spare-clause-all g c =

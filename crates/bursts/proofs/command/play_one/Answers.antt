@@ -7,7 +7,7 @@ play_command-requires-clause-has g c κs within = all_has_for c.args.crew.now.fl
 
 pub returns-clause-played : goal.returns-clause-played
 returns-clause-played g c =
-    one_played g.B.Berth.meaning c.args.crew.now.fleet c.args.crew.now.holds c.play_command.new.crew.holds c.args.command c.play_command.result c.play_command.ensures.played
+    one_played g.B.Berth.meaning c.args.crew.now.fleet c.args.crew.now.holds c.play_command.new.crew.holds _ _ c.args.command c.play_command.result c.play_command.ensures.played
 
 pub returns-clause-all : goal.returns-clause-all
 returns-clause-all g c =

@@ -3,17 +3,17 @@ use Rattle.std.specs.List.{AllByRecursion}
 use Rattle.script_text.specs.Fits.{IsCommand}
 use Rattle.transcript.specs.Pieces.{Fleet, leaf_count}
 use Rattle.player.specs.Crew.{HasFor}
-use Rattle.bursts.specs.Played.{CommandPlayed, MayPlayOn}
+use Rattle.bursts.specs.Played.{MayPlayOn}
 use Rattle.bursts.proofs.Held.{pass_none, pass_on, still_on, still_same}
 use Rattle.bursts.proofs.Needed.{may_play, still_may}
-use Rattle.bursts.proofs.Playing.{lane_begins, lane_goes_on}
+use Rattle.bursts.proofs.Playing.{command_over, lane_begins, lane_goes_on}
 use Rattle.bursts.proofs.lane.play_lane.Goals as goal
 
 pub loop-command-init : goal.loop-command-init
 loop-command-init g c = record {
   done = [];
   all = c.from_vec-rest.ensures.items;
-  played = lane_begins g.B.Berth.meaning c.args.crew.now.fleet c.args.crew.now.holds c.new-lines.result.items c.new-lines.ensures.items;
+  played = lane_begins g.B.Berth.meaning c.args.crew.now.fleet c.args.crew.now.holds _ c.new-lines.result.items c.new-lines.ensures.items;
   may = subst (AllByRecursion (MayPlayOn c.args.crew.now.fleet c.args.crew.now.holds)) (sym c.from_vec-rest.ensures.items) c.requires;
   fleet = refl;
   tables = refl;
@@ -42,11 +42,11 @@ loop-command-preserved g c =
     let rest = c.pop_front.new.self.items in
     let items : c.loop-command.rest.items ≡ c.in-Some.command ∷ rest = c.in-Some.ensures.items in
     let may = subst (AllByRecursion (MayPlayOn fleet c.loop-command.crew.holds)) items inv.may in
-    let one = subst (λ (f : Fleet). CommandPlayed g.B.Berth.meaning f c.in-Some.command c.loop-command.crew.holds c.in_ok-more.more.items c.play_command.new.crew.holds) inv.fleet c.in_ok-more.ensures.played in
+    let one = command_over g.B.Berth.meaning fleet c.loop-command.crew.fleet inv.fleet c.loop-command.crew.holds c.play_command.new.crew.holds _ _ c.in_ok-more.more.items c.in-Some.command c.in_ok-more.ensures.played in
     record {
       done = inv.done ++ c.in-Some.command ∷ [];
       all = append_assoc inv.done (c.in-Some.command ∷ []) rest ∙ (ap (λ r. inv.done ++ r) (sym items) ∙ inv.all);
-      played = lane_goes_on g.B.Berth.meaning fleet c.args.crew.now.holds c.loop-command.crew.holds c.play_command.new.crew.holds inv.done c.in-Some.command
+      played = lane_goes_on g.B.Berth.meaning fleet c.args.crew.now.holds c.loop-command.crew.holds c.play_command.new.crew.holds _ _ _ inv.done c.in-Some.command
           c.loop-command.lines.items c.in_ok-more.more.items c.append.new.self.items inv.played one c.in_ok-append.ensures.items;
       may = still_may fleet c.loop-command.crew.holds c.play_command.new.crew.holds c.play_command.ensures.still rest may.1;
       fleet = c.play_command.ensures.fleet.0 ∙ inv.fleet;

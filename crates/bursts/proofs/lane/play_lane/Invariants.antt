@@ -1,4 +1,4 @@
-use Rattle.std.proofs.Common.{◌≡◌, ◌++◌, List}
+use Rattle.std.proofs.Common.{◌≡◌, ◌++◌, List, map}
 use Rattle.std.specs.List.{AllByRecursion}
 use Rattle.std.specs.VecDeque.{deque_len}
 use Rattle.script_text.specs.declared.command.Command.{Command}
@@ -11,7 +11,8 @@ abbrev pub invariant-loop-command : goal.invariant-loop-command
 invariant-loop-command g l = record {
   done : List Command;
   all : done ++ l.rest.items ≡ l.fn.commands.items;
-  played : LanePlayed g.B.Berth.meaning l.initial.crew.fleet done l.initial.crew.holds l.lines.items l.crew.holds;
+  played : LanePlayed g.B.Berth.meaning l.initial.crew.fleet done l.initial.crew.holds (map (λ b. (goal.Watch-dyn g (b.vtable, b.value)).held b.value) l.initial.watches.items) l.lines.items l.crew.holds
+      (map (λ b. (goal.Watch-dyn g (b.vtable, b.value)).held b.value) l.watches.items);
   may : AllByRecursion (MayPlayOn l.initial.crew.fleet l.crew.holds) l.rest.items;
   fleet : l.crew.fleet ≡ l.initial.crew.fleet;
   tables : l.crew.tables ≡ l.initial.crew.tables;

@@ -4,12 +4,12 @@ use Rattle.script_text.specs.declared.command.Command.{Command}
 use Rattle.transcript.specs.Pieces.{Fleet}
 use Rattle.bursts.specs.declared.plan.Plan.{Plan}
 use Rattle.bursts.specs.Needs.{IsPlan, commands_in}
-use Rattle.bursts.specs.Played.{LanePlayed, MayPlayOn}
+use Rattle.bursts.specs.Played.{MayPlayOn}
 use Rattle.bursts.proofs.Cutting.{length_snoc}
 use Rattle.bursts.proofs.Held.{pass_none, pass_on, still_on, still_same}
 use Rattle.bursts.proofs.Items.{all_on}
 use Rattle.bursts.proofs.Needed.{all_may}
-use Rattle.bursts.proofs.Playing.{turns_begin, turns_go_on}
+use Rattle.bursts.proofs.Playing.{lane_over, turns_begin, turns_go_on}
 use Rattle.bursts.proofs.turns.play_in_turn.Goals as goal
 
 pub loop-plan-init : goal.loop-plan-init
@@ -21,7 +21,7 @@ loop-plan-init g c =
       all = ap (λ (ps : List Plan). map commands_in ps) items;
       number = refl;
       few = let sizes : length c.from_vec-rest.result.items ≡ length c.args.plans.items = ap (λ (ps : List Plan). length ps) items in omega (arith, sizes, c.requires.few);
-      played = turns_begin g.B.Berth.meaning crew.fleet crew.holds c.new-lines.result.items c.new-lines.ensures.items;
+      played = turns_begin g.B.Berth.meaning crew.fleet crew.holds _ c.new-lines.result.items c.new-lines.ensures.items;
       plans = subst (AllByRecursion (IsPlan crew.fleet)) (sym items) c.requires.plans;
       has = c.requires.all;
       fleet = refl;
@@ -58,14 +58,14 @@ loop-plan-preserved g c =
     let rest = c.pop_front.new.self.items in
     let items : c.loop-plan.rest.items ≡ plan ∷ rest = c.in-Some.ensures.items in
     let plans = subst (AllByRecursion (IsPlan fleet)) items inv.plans in
-    let one = subst (λ (f : Fleet). LanePlayed g.B.Berth.meaning f plan.commands.items c.loop-plan.crew.holds c.in_ok-own.own.items c.play_lane.new.crew.holds) inv.fleet c.in_ok-own.ensures.played in
+    let one = lane_over g.B.Berth.meaning fleet c.loop-plan.crew.fleet inv.fleet c.loop-plan.crew.holds c.play_lane.new.crew.holds _ _ c.in_ok-own.own.items plan.commands.items c.in_ok-own.ensures.played in
     let sizes : length c.loop-plan.rest.items ≡ length (plan ∷ rest) = ap (λ (ps : List Plan). length ps) items in
     record {
       done = inv.done ++ commands_in plan ∷ [];
       all = append_assoc inv.done (commands_in plan ∷ []) (map commands_in rest) ∙ (ap (λ (ls : List (List Command)). inv.done ++ ls) (sym (ap (λ (ps : List Plan). map commands_in ps) items)) ∙ inv.all);
       number = omega (arith, length_snoc inv.done (commands_in plan), inv.number);
       few = omega (arith, inv.few, sizes);
-      played = turns_go_on g.B.Berth.meaning fleet c.args.crew.now.holds c.loop-plan.crew.holds c.play_lane.new.crew.holds inv.done (commands_in plan) c.loop-plan.lines.items c.in_ok-own.own.items
+      played = turns_go_on g.B.Berth.meaning fleet c.args.crew.now.holds c.loop-plan.crew.holds c.play_lane.new.crew.holds _ _ _ inv.done (commands_in plan) c.loop-plan.lines.items c.in_ok-own.own.items
           c.put_lane.new.lines.items c.loop-plan.number inv.played one inv.number c.in_ok-put_lane.ensures;
       plans = plans.1;
       has = all_on fleet fleet c.loop-plan.crew.holds c.play_lane.new.crew.holds refl c.play_lane.ensures.still inv.has;

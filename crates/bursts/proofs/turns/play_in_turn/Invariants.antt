@@ -14,7 +14,8 @@ invariant-loop-plan g l = record {
   all : done ++ map commands_in l.rest.items ≡ map commands_in l.fn.plans.items;
   number : length done ≡ l.number;
   few : l.number + length l.rest.items ≤ 16;
-  played : TurnsPlayed g.B.Berth.meaning l.initial.crew.fleet done l.initial.crew.holds l.lines.items l.crew.holds;
+  played : TurnsPlayed g.B.Berth.meaning l.initial.crew.fleet done l.initial.crew.holds (map (λ b. (goal.Watch-dyn g (b.vtable, b.value)).held b.value) l.initial.watches.items) l.lines.items l.crew.holds
+      (map (λ b. (goal.Watch-dyn g (b.vtable, b.value)).held b.value) l.watches.items);
   plans : AllByRecursion (IsPlan l.initial.crew.fleet) l.rest.items;
   has : HasAll l.initial.crew.fleet l.crew.holds;
   fleet : l.crew.fleet ≡ l.initial.crew.fleet;

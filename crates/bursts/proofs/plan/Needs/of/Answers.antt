@@ -4,7 +4,7 @@ use Rattle.std.proofs.lemmas.List.{length-replicate}
 use Rattle.script_text.specs.declared.command.Command.{Command}
 use Rattle.script_text.specs.Fits.{IsCommand}
 use Rattle.transcript.specs.Pieces.{leaf_count}
-use Rattle.bursts.specs.Needs.{leaf_of, marked_by, table_of}
+use Rattle.bursts.specs.Needs.{leaves_of, marked_by, table_of}
 use Rattle.bursts.proofs.Needed.{drop_next, marked_length}
 use Rattle.bursts.proofs.plan.Needs.of.Goals as goal
 
@@ -15,7 +15,7 @@ loop-command-init g c =
     let leaves : c.in_ok-unmarked-2.field-0.items ≡ replicate (leaf_count fleet) false = c.in_ok-unmarked-2.ensures ∙ ap (λ n. replicate n false) c.leaf_count.ensures in
     record {
       tables = ap (λ (ms : List Bool). marked_by (table_of fleet.names) c.args.commands.now ms) tables;
-      leaves = ap (λ (ms : List Bool). marked_by leaf_of c.args.commands.now ms) leaves;
+      leaves = ap (λ (ms : List Bool). marked_by leaves_of c.args.commands.now ms) leaves;
       places = record {
         tables = ap (λ (ms : List Bool). length ms) tables ∙ length-replicate (length fleet.names) false;
         leaves = ap (λ (ms : List Bool). length ms) leaves ∙ length-replicate (leaf_count fleet) false;
@@ -33,11 +33,11 @@ loop-command-preserved g c =
     record {
       tables = ap (λ (ms : List Bool). marked_by (table_of fleet.names) rest ms) c.mark.ensures.tables
           ∙ (sym (ap (λ (cs : List Command). marked_by (table_of fleet.names) cs c.loop-command.needs.tables.items) next) ∙ inv.tables);
-      leaves = ap (λ (ms : List Bool). marked_by leaf_of rest ms) c.mark.ensures.leaves
-          ∙ (sym (ap (λ (cs : List Command). marked_by leaf_of cs c.loop-command.needs.leaves.items) next) ∙ inv.leaves);
+      leaves = ap (λ (ms : List Bool). marked_by leaves_of rest ms) c.mark.ensures.leaves
+          ∙ (sym (ap (λ (cs : List Command). marked_by leaves_of cs c.loop-command.needs.leaves.items) next) ∙ inv.leaves);
       places = record {
         tables = ap (λ (ms : List Bool). length ms) c.mark.ensures.tables ∙ (marked_length (table_of fleet.names one) c.loop-command.needs.tables.items ∙ inv.places.tables);
-        leaves = ap (λ (ms : List Bool). length ms) c.mark.ensures.leaves ∙ (marked_length (leaf_of one) c.loop-command.needs.leaves.items ∙ inv.places.leaves);
+        leaves = ap (λ (ms : List Bool). length ms) c.mark.ensures.leaves ∙ (marked_length (leaves_of one) c.loop-command.needs.leaves.items ∙ inv.places.leaves);
       };
       may = (subst (AllByRecursion (IsCommand (leaf_count fleet) fleet.names)) next inv.may).1;
     }

@@ -1,0 +1,111 @@
+-- What the watches hear of commands one after another, and which lane has the rollover.
+use Rattle.std.proofs.Common.{◌≡◌, ◌⊎◌, inl, inr, ℕ, zero, suc, ◌+◌, ◌≤◌, ◌||◌, Bool, true, false, cond, List, [], ◌∷◌, ◌++◌, length, refl, sym, ap, subst, ◌∙◌, arith}
+use Rattle.std.specs.List.{filter}
+use Rattle.berth_face.specs.Berth.{Meaning}
+use Rattle.script_text.specs.declared.command.Command.{Command}
+use Rattle.script_text.specs.declared.command.Command.TheVariants as command
+use Rattle.script_text.specs.Fits.{OneSteward}
+use Rattle.script_text.specs.Stewards.{has_steward, is_stewards}
+use Rattle.rollover_watch.specs.Watches.{Held}
+use Rattle.printed_lines.specs.declared.line.Line.{Line}
+use Rattle.transcript.specs.Pieces.{Fleet, Piece, Played, commands_in}
+use Rattle.transcript.specs.Holds.{Hold}
+use Rattle.transcript.specs.Watching.{Hears, Watched}
+use Rattle.bursts.specs.Played.{LanePlayed}
+use Rattle.bursts.specs.Rolling.{has_rollover, is_rollover, one_if, rolling}
+use Rattle.bursts.proofs.Needed.{or_left, or_right}
+
+-- ---- what is heard
+
+pub watched_join : (fleet : Fleet) (a b : List Played) (old mid new : List Held) → Watched fleet a old mid → Watched fleet b mid new → Watched fleet (a ++ b) old new
+watched_join fleet [] b old mid new heard more = subst (λ (ws : List Held). Watched fleet b ws new) heard more
+watched_join fleet (p ∷ ps) b old mid new heard more = (heard.0, heard.1, watched_join fleet ps b heard.0 mid new heard.2 more)
+
+pub watched_one : (fleet : Fleet) (p : Played) (old new : List Held) → Hears fleet p old new → Watched fleet (p ∷ []) old new
+watched_one fleet p old new heard = (new, heard, refl)
+
+or_false : (a b : Bool) → (a || b) ≡ false → (a ≡ false) × (b ≡ false)
+or_false true b e = absurd cc
+or_false false b e = (refl, e)
+
+-- of another command than a rollover nothing is heard
+quiet_one : (fleet : Fleet) (c : Command) (pieces : List Piece) (ws : List Held) → is_rollover c ≡ false → Hears fleet (record { command = c; pieces = pieces }) ws ws
+quiet_one fleet (command.Fleet machines per_machine tables) pieces ws never = refl
+quiet_one fleet (command.Add leaf t rows) pieces ws never = refl
+quiet_one fleet (command.Expire leaf t horizon) pieces ws never = refl
+quiet_one fleet (command.Keep leaf t n) pieces ws never = refl
+quiet_one fleet (command.Query q) pieces ws never = refl
+quiet_one fleet (command.Flush leaf t) pieces ws never = refl
+quiet_one fleet (command.Drain leaf stop) pieces ws never = refl
+quiet_one fleet (command.Kill leaf) pieces ws never = refl
+quiet_one fleet (command.Start leaf) pieces ws never = refl
+quiet_one fleet (command.Rollover percent) pieces ws never = absurd cc
+
+quiet : (fleet : Fleet) (ps : List Played) (ws : List Held) → has_rollover (commands_in ps) ≡ false → Watched fleet ps ws ws
+quiet fleet [] ws never = refl
+quiet fleet (p ∷ ps) ws never =
+    let both = or_false (is_rollover p.command) (has_rollover (commands_in ps)) never in
+    (ws, quiet_one fleet p.command p.pieces ws both.0, quiet fleet ps ws both.1)
+
+-- a lane without a rollover leaves any watches as they are
+pub quiet_lane : {B : Type 0} (meaning : B → Meaning) (fleet : Fleet) (lane : List Command) (xs : List (Hold B)) (old : List Held) (lines : List Line) (ys : List (Hold B)) (new : List Held)
+    → LanePlayed meaning fleet lane xs old lines ys new → has_rollover lane ≡ false → (ws : List Held) → LanePlayed meaning fleet lane xs ws lines ys ws
+quiet_lane meaning fleet lane xs old lines ys new l never ws = record {
+  played = l.played;
+  commands_are = l.commands_are;
+  plays = l.plays;
+  counted = l.counted;
+  fit = l.fit;
+  heard = quiet fleet l.played ws (ap (λ (cs : List Command). has_rollover cs) l.commands_are ∙ never);
+  lines_are = l.lines_are;
+}
+
+-- ---- which lane has the rollover
+
+pub rolling_append : (xs ys : List (List Command)) → rolling (xs ++ ys) ≡ rolling xs + rolling ys
+rolling_append [] ys = omega arith
+rolling_append (x ∷ xs) ys = let more = rolling_append xs ys in omega (arith, more)
+
+roll_is : (c : Command) → is_rollover c ≡ true → is_stewards 0 c ≡ true
+roll_is (command.Fleet machines per_machine tables) e = absurd cc
+roll_is (command.Add leaf t rows) e = absurd cc
+roll_is (command.Expire leaf t horizon) e = absurd cc
+roll_is (command.Keep leaf t n) e = absurd cc
+roll_is (command.Query q) e = absurd cc
+roll_is (command.Flush leaf t) e = absurd cc
+roll_is (command.Drain leaf stop) e = absurd cc
+roll_is (command.Kill leaf) e = absurd cc
+roll_is (command.Start leaf) e = absurd cc
+roll_is (command.Rollover percent) e = refl
+
+or_either : (a b : Bool) → (a || b) ≡ true → (a ≡ true) ⊎ (b ≡ true)
+or_either true b e = inl refl
+or_either false b e = inr e
+
+rolls_steward : (cs : List Command) → has_rollover cs ≡ true → has_steward 0 cs ≡ true
+rolls_steward [] e = absurd cc
+rolls_steward (c ∷ cs) e = by (or_either (is_rollover c) (has_rollover cs) e) (rolls_steward cs)
+  where
+    by : (is_rollover c ≡ true) ⊎ (has_rollover cs ≡ true) → (has_rollover cs ≡ true → has_steward 0 cs ≡ true) → has_steward 0 (c ∷ cs) ≡ true
+    by (inl here) more = or_left (is_stewards 0 c) (has_steward 0 cs) (roll_is c here)
+    by (inr there) more = or_right (is_stewards 0 c) (has_steward 0 cs) (more there)
+
+fewer_roll : (lanes : List (List Command)) → rolling lanes ≤ length (filter (has_steward 0) lanes)
+fewer_roll [] = omega arith
+fewer_roll (l ∷ ls) = by (has_rollover l) (has_steward 0 l) (filter (has_steward 0) ls) (rolling ls) (rolls_steward l) (fewer_roll ls)
+  where
+    by : (a b : Bool) (vs : List (List Command)) (n : ℕ) → (a ≡ true → b ≡ true) → n ≤ length vs → one_if a + n ≤ length (cond b (l ∷ vs) vs)
+    by true true vs n m le = omega (arith, le)
+    by true false vs n m le = let wrong : false ≡ true = m refl in absurd cc
+    by false true vs n m le = omega (arith, le)
+    by false false vs n m le = omega (arith, le)
+
+-- a rollover is a steward's command of each leaf, so that one lane at most has one
+pub one_rolls : (lanes : List (List Command)) → OneSteward lanes → rolling lanes ≤ 1
+one_rolls lanes one = omega (arith, fewer_roll lanes, one 0)
+
+pub one_if_true : (b : Bool) → b ≡ true → one_if b ≡ 1
+one_if_true b e = ap one_if e
+
+pub one_if_false : (b : Bool) → b ≡ false → one_if b ≡ 0
+one_if_false b e = ap one_if e

@@ -1,0 +1,41 @@
+-- Which lane of a burst has a rollover, and how the watches go with it.
+use Rattle.std.specs.Prelude.{◌≡◌, ℕ, zero, suc, ◌+◌, List, [], ◌∷◌, Bool, true, false}
+use Rattle.std.specs.List.{list_any}
+use Rattle.script_text.specs.declared.command.Command.{Command}
+use Rattle.script_text.specs.declared.command.Command.TheVariants as command
+use Rattle.rollover_watch.specs.Watches.{Held}
+
+abbrev pub is_rollover : Command → Bool
+is_rollover (command.Fleet machines per_machine tables) = false
+is_rollover (command.Add leaf table rows) = false
+is_rollover (command.Expire leaf table horizon) = false
+is_rollover (command.Keep leaf table n) = false
+is_rollover (command.Query q) = false
+is_rollover (command.Flush leaf table) = false
+is_rollover (command.Drain leaf stop) = false
+is_rollover (command.Kill leaf) = false
+is_rollover (command.Start leaf) = false
+is_rollover (command.Rollover percent) = true
+
+-- one of these commands is a rollover
+abbrev pub has_rollover : List Command → Bool
+has_rollover commands = list_any is_rollover commands
+
+abbrev pub one_if : Bool → ℕ
+one_if true = 1
+one_if false = 0
+
+-- how many of these lanes have one
+abbrev pub rolling : List (List Command) → ℕ
+rolling [] = 0
+rolling (lane ∷ lanes) = one_if (has_rollover lane) + rolling lanes
+
+-- A lane with a rollover has the watches that stood there, of which none is left; another lane leaves them.
+abbrev pub IsHandedOver : Bool → List Held → List Held → List Held → Type 0
+IsHandedOver true was left its = (its ≡ was) × (left ≡ [])
+IsHandedOver false was left its = left ≡ was
+
+-- what the watches heard of lanes, of which so many have a rollover: nothing, or those handed out heard it, and are then what stands there now
+abbrev pub Between : ℕ → List Held → List Held → List Held → List Held → Type 0
+Between zero was now before after = after ≡ before
+Between (suc n) was now before after = (before ≡ was) × (after ≡ now)

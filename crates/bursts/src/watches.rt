@@ -1,0 +1,56 @@
+// The watches of a burst: they go with the lane that has a rollover.
+ghost use Rattle.std.specs.Prelude.{◌≡◌, map, MatchBool};
+ghost use Rattle.bursts.specs.Rolling.{IsHandedOver, has_rollover, is_rollover};
+
+use rollover_watch::Watch;
+use script_text::Command;
+use std::alloc::Global;
+use std::mem::swap;
+
+/// Whether one of these commands is a rollover.
+pub fn has_rollover(commands: &[Command]) -> bool
+    ensures { result ≡ has_rollover commands.now }
+{
+    commands.iter().any(|command| is_rollover(command))
+}
+
+fn is_rollover(command: &Command) -> bool
+    ensures { result ≡ is_rollover command.now }
+{
+    match command {
+        Command::Rollover(_) => true,
+        Command::Fleet { .. }
+        | Command::Add { .. }
+        | Command::Expire { .. }
+        | Command::Keep { .. }
+        | Command::Query(_)
+        | Command::Flush { .. }
+        | Command::Drain { .. }
+        | Command::Kill(_)
+        | Command::Start(_) => false,
+    }
+}
+
+/// The watches of a lane: all of them where it has a rollover, and else none.
+pub fn hand_over(
+    alloc: Global,
+    watches: &mut Vec<Box<dyn Watch>>,
+    rolls: bool,
+) -> Vec<Box<dyn Watch>>
+    ensures { IsHandedOver rolls (map (λ watch. held watch) watches.old.items) (map (λ watch. held watch) watches.new.items) (map (λ watch. held watch) result.items) }
+{
+    let mut its = Vec::new(alloc);
+    if rolls {
+        swap(&mut its, watches);
+    }
+    its
+}
+
+/// Takes over those of a lane that has a rollover.
+pub fn take_over(watches: &mut Vec<Box<dyn Watch>>, rolls: bool, its: Vec<Box<dyn Watch>>)
+    ensures { MatchBool rolls (map (λ watch. held watch) watches.new.items ≡ map (λ watch. held watch) its.items) (map (λ watch. held watch) watches.new.items ≡ map (λ watch. held watch) watches.old.items) }
+{
+    if rolls {
+        *watches = its;
+    }
+}
