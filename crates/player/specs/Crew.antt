@@ -13,7 +13,7 @@ use Rattle.rollover_watch.specs.Watches.{Held}
 use Rattle.printed_lines.specs.declared.line.Line.{Line}
 use Rattle.printed_lines.specs.declared.line.Ending.{Ending}
 use Rattle.printed_lines.specs.Lines.{IsOf}
-use Rattle.transcript.specs.Pieces.{Deed, Fleet, Piece, lines_in, place_of}
+use Rattle.transcript.specs.Pieces.{Deed, Fleet, Piece, leaf_count, lines_in, place_of}
 use Rattle.transcript.specs.Counts.{IsCounted, deeds_in}
 use Rattle.transcript.specs.Holds.{Hold, caller_in}
 use Rattle.transcript.specs.Stage.{Leaf, IsDown}
@@ -69,7 +69,7 @@ HasFor fleet xs (command.Flush leaf table) = HasLeaf xs leaf
 HasFor fleet xs (command.Drain leaf stop) = HasLeaf xs leaf
 HasFor fleet xs (command.Kill leaf) = HasLeaf xs leaf
 HasFor fleet xs (command.Start leaf) = HasLeaf xs leaf
-HasFor fleet xs (command.Rollover percent) = (leaf : ℕ) → HasLeaf xs leaf
+HasFor fleet xs (command.Rollover percent) = (leaf : ℕ) → leaf < leaf_count fleet → HasLeaf xs leaf
 
 -- all of it, as the run has between two items
 pub record HasAll {B : Type 0} (fleet : Fleet) (xs : List (Hold B)) : Type 0 where
