@@ -1,6 +1,6 @@
 -- Which pieces a command prints, whatever the tables hold.
 use Rattle.std.specs.Prelude.{◌≡◌, ◌⊎◌, ℕ, zero, suc, Bool, List, [], ◌∷◌, ◌++◌, length, map, nat_lt, None, ⊤}
-use Rattle.std.specs.List.{concat, flat_map}
+use Rattle.std.specs.List.{flat_map}
 use Rattle.leaf_model.specs.declared.queries.Query.{Query}
 use Rattle.leaf_history.specs.Calls.{Call}
 use Rattle.leaf_history.specs.Calls as call
@@ -106,7 +106,7 @@ pub record RollPieces (plan : List (List ℕ)) (pieces : List Piece) : Type 0 wh
   pub texts : List (List ℕ)
   pub each : WavesPieces 1 (length plan) plan begun
   pub halt : halted ≡ nat_lt (length begun) (length plan)
-  pub are : pieces ≡ concat begun ++ (Says (line.Rolled halted (length begun) (length plan)) ∷ map (λ (text : List ℕ). Says (line.Watch text)) texts)
+  pub are : pieces ≡ flat_map (λ (wave : List Piece). wave) begun ++ (Says (line.Rolled halted (length begun) (length plan)) ∷ map (λ (text : List ℕ). Says (line.Watch text)) texts)
 
 -- a rollover of that share, by its plan
 pub record Rolls (fleet : Fleet) (percent : ℕ) (pieces : List Piece) : Type 0 where
