@@ -17,6 +17,7 @@ use Rattle.transcript.specs.Holds.{Hold, caller_in, with_callers, with_leaf}
 use Rattle.transcript.specs.Steps as step
 use Rattle.transcript.specs.Steps.{CallStep, DeedStep, Goes, noted_all}
 use Rattle.transcript.specs.Stage.{Leaf}
+use Rattle.player.specs.declared.answer.Answer.{Answer}
 use Rattle.player.specs.Crew.{AllPass, CountedIf, PassesIf, StillHas}
 use Rattle.player.specs.Lines.{AreJoined, CallsWith}
 use Rattle.player.specs.Members.{GoesWith}
@@ -144,11 +145,11 @@ module _ {B : Type 0} (meaning : B → Meaning) where
 
   -- a deed
   pub one_act : {E : Type 0} (names : List (List ℕ)) (xs ys : List (Hold B)) (number : ℕ) (deed : Deed) (x : Hold B) (l l' : Leaf) (b b' : B) (callers : List (Option SeatView))
-      (result : Result (Vec Line Global) E) → slice_get xs number ≡ Some x → x.held ≡ Some (l, b) → ys ≡ slice_set xs number (with_leaf x l' b' callers)
+      (answer : Answer) (result : Result (Vec Line Global) E) → slice_get xs number ≡ Some x → x.held ≡ Some (l, b) → ys ≡ slice_set xs number (with_leaf x l' b' callers)
       → ((table : ℕ) → is_some (caller_in callers table) ≡ is_some (caller_in x.callers table))
-      → (acts : ActsWith meaning names number deed l x.callers b result l' callers b') → Passes (meaning b) (meaning b')
+      → (acts : ActsWith meaning names number deed l x.callers b answer result l' callers b') → Passes (meaning b) (meaning b')
       → GoesWith meaning names xs result (acts.piece ∷ []) ys
-  one_act names xs ys number deed x l l' b b' callers result at held now seats acts time =
+  one_act names xs ys number deed x l l' b b' callers answer result at held now seats acts time =
       let y : Hold B = with_leaf x l' b' callers in
       subst (λ (zs : List (Hold B)). GoesWith meaning names xs result (acts.piece ∷ []) zs) (sym now) (record {
         goes = step.act xs (acts.piece ∷ []) (slice_set xs number y) number deed x l l' b b' callers acts.piece [] at held acts.step

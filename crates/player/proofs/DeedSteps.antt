@@ -21,7 +21,8 @@ use Rattle.transcript.specs.Steps as step
 use Rattle.transcript.specs.Steps.{Moves, StartMoves, FlushMoves, KillMoves, DrainMoves, IsWornFor, ending_of, ending_of_flush, noted_all}
 use Rattle.player.specs.Stage.{IsMember, KeepsSeats}
 use Rattle.player.specs.Lines.{AreEnded}
-use Rattle.player.specs.Commands.{ActsWith}
+use Rattle.player.specs.declared.answer.Answer.{Answer}
+use Rattle.player.specs.Commands.{ActsWith, answer_of}
 use Rattle.player.specs.Moves.{ArePlaces, FaultRose}
 use Rattle.player.proofs.NoteTables.{notes_at, count_of}
 use Rattle.player.proofs.CommandLines.{counted, deed_fits, one_piece}
@@ -78,7 +79,7 @@ deed_ends names Kills m m' x leaf notes ends leaf' fits keeps moves = kill_ends 
 -- ---- a deed between two meetings, which do not touch the berth
 
 module _ {B E : Type 0} (number : ℕ) (meaning : B → Meaning) (b b1 b2 b3 : B) (leaf met moved after : Leaf) (callers met_callers after_callers : List (Option SeatView)) (notes : List Note) (ends : Ending)
-    (names : List (List ℕ)) (deed : Deed) (result : Result (Vec Line Global) E) (rows : List (List SeatView)) (first_berth : b1 ≡ b) (second_berth : b3 ≡ b2) where
+    (names : List (List ℕ)) (deed : Deed) (answer : Answer) (result : Result (Vec Line Global) E) (rows : List (List SeatView)) (first_berth : b1 ≡ b) (second_berth : b3 ≡ b2) where
   between : (P : Meaning → Meaning → Type 0) → P (meaning b1) (meaning b2) → P (meaning b) (meaning b3)
   between P p = subst (λ (x : B). P (meaning x) (meaning b3)) first_berth (subst (λ (x : B). P (meaning b1) (meaning x)) (sym second_berth) p)
 
@@ -97,8 +98,9 @@ module _ {B E : Type 0} (number : ℕ) (meaning : B → Meaning) (b b1 b2 b3 : B
       → FaultRose ends (meaning b1) (meaning b2)
       → (reads_disk deed ends ≡ false → (meaning b2).disk_reads ≡ (meaning b1).disk_reads)
       → IfOk result (λ lines. AreEnded number (verb_of deed) notes ends lines.items)
-      → ActsWith meaning names number deed leaf callers b result after after_callers b3
-  acts fits keeps first second moves carries time cause reads told = record {
+      → answer ≡ answer_of ends
+      → ActsWith meaning names number deed leaf callers b answer result after after_callers b3
+  acts fits keeps first second moves carries time cause reads told answered = record {
     piece = Acted number deed (noted_all notes) ends;
     step = record {
       met = met;
@@ -116,6 +118,7 @@ module _ {B E : Type 0} (number : ℕ) (meaning : B → Meaning) (b b1 b2 b3 : B
         (between (λ (m m' : Meaning). reads_disk deed ends ≡ false → m'.disk_reads ≡ m.disk_reads) reads);
     fit = deed_fits number names deed notes ends (places fits keeps carries)
         (deed_ends names deed (meaning b1) (meaning b2) (seated_of leaf) met notes ends moved fits.seats keeps moves);
+    answered = answered;
     lines_are = IfOk-weaker result (λ lines. AreEnded number (verb_of deed) notes ends lines.items) (λ lines. lines.items ≡ lines_in (Acted number deed (noted_all notes) ends ∷ []))
         (λ lines are. are ∙ sym (one_piece (Acted number deed (noted_all notes) ends))) told;
   }

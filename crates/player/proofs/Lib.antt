@@ -30,5 +30,9 @@ pub mod Ending
 pub mod MeetLeaves
 pub mod Lent
 pub mod CutInTwo
+mod Restarting
+mod Rolling
+mod Weaving
+mod RollPlays
 pub mod Returned
 pub mod TakenBack

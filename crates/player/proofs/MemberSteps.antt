@@ -13,13 +13,14 @@ use Rattle.transcript.specs.Holds.{Hold, caller_in, with_callers, with_leaf}
 use Rattle.transcript.specs.Steps.{noted_all}
 use Rattle.player.specs.declared.leaf.OneLeaf.{OneLeaf}
 use Rattle.player.specs.declared.members.Members.{Members}
+use Rattle.player.specs.declared.answer.Answer.{Answer}
 use Rattle.player.specs.declared.call.Request.{Request}
 use Rattle.player.specs.Crew.{HasLeaf, column}
 use Rattle.player.specs.Rows.{AreCalled, IsColumn, OnlyColumn}
 use Rattle.player.specs.Stage.{IsMember, berth_of, hold_at, seats_of, state_of}
 use Rattle.player.specs.Lines.{CallsWith}
 use Rattle.player.specs.Members.{AreMembers, IsLeafOf, fleet_in, holds_from, holds_in}
-use Rattle.player.specs.Commands.{ActsAt, ActsWith, CallsAt, call_of}
+use Rattle.player.specs.Commands.{ActsWith, CallsAt, DeedAt, call_of}
 use Rattle.player.proofs.CallPieces.{call_prints}
 use Rattle.player.proofs.Chains.{one_act, one_called}
 use Rattle.player.proofs.Columns.{caller_at, element_at, only_rows}
@@ -139,14 +140,15 @@ module _ {B : Type 0} where
         ∙ holds_set 0 number number x.tables.now x.leaves.items (Some next) (lists_in x.rows.items) (lists_in rows.items) (omega arith) only.others
 
     -- a deed of that leaf
-    pub acts_at : {E : Type 0} (meaning : B → Meaning) (deed : Deed) (result : Result (Vec Line Global) E)
-        → ActsWith meaning x.names number deed (state_of one) (column number (lists_in x.rows.items)) (berth_of one) result (state_of next) (column number (lists_in rows.items)) (berth_of next)
-        → Passes (meaning (berth_of one)) (meaning (berth_of next)) → ActsAt meaning number deed x result (with_parts x leaves rows)
-    acts_at meaning deed result acts time = record {
+    pub deed_at : {E : Type 0} (meaning : B → Meaning) (deed : Deed) (answer : Answer) (result : Result (Vec Line Global) E)
+        → ActsWith meaning x.names number deed (state_of one) (column number (lists_in x.rows.items)) (berth_of one) answer result (state_of next) (column number (lists_in rows.items)) (berth_of next)
+        → Passes (meaning (berth_of one)) (meaning (berth_of next)) → DeedAt meaning number deed x answer result (with_parts x leaves rows)
+    deed_at meaning deed answer result acts time = record {
       piece = acts.piece;
       prints = (noted_all acts.step.notes, acts.step.ends, acts.step.piece_is);
+      answered = acts.answered;
       goes = one_act meaning x.names (holds_in x) (holds_in (with_parts x leaves rows)) number deed (hold_at number x.tables.now (lists_in x.rows.items) (Some one))
-          (state_of one) (state_of next) (berth_of one) (berth_of next) (column number (lists_in rows.items)) result
+          (state_of one) (state_of next) (berth_of one) (berth_of next) (column number (lists_in rows.items)) answer result
           (holds_at 0 number number x.tables.now x.leaves.items (Some one) (lists_in x.rows.items) (omega arith) at) refl holds_then
           (seats_still number (lists_in x.rows.items) (lists_in rows.items) only.lengths) acts time;
     }

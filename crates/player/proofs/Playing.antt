@@ -5,6 +5,7 @@ use Rattle.std.specs.List.{AllByRecursion}
 use Rattle.std.proofs.lemmas.Result.{IfOk-weaker}
 use Rattle.leaf_model.specs.declared.queries.Query.{Query}
 use Rattle.berth_face.specs.Berth.{Meaning}
+use Rattle.rollover_watch.specs.Watches.{Held}
 use Rattle.script_text.specs.declared.command.Command.{Command}
 use Rattle.script_text.specs.declared.command.Command.TheVariants as command
 use Rattle.printed_lines.specs.declared.line.Line.{Line}
@@ -18,30 +19,37 @@ use Rattle.player.specs.Members.{fleet_in, holds_in}
 use Rattle.player.specs.Commands.{AsksAll, CallsAt}
 use Rattle.player.proofs.Chains.{still_none, time_none}
 
-module _ {B E : Type 0} (meaning : B → Meaning) (x y : Members B) (result : Result (Vec Line Global) E) where
-  pub expire_plays : (leaf table : ℕ) (horizon : ℤ) → CallsAt meaning leaf table (request.Expire horizon) x result y
-      → PlaysWith meaning (fleet_in x) (command.Expire leaf table horizon) (holds_in x) result (holds_in y)
-  expire_plays leaf table horizon calls = record {
+module _ {B E : Type 0} (meaning : B → Meaning) (x y : Members B) (watches : List Held) (result : Result (Vec Line Global) E) where
+  expired : (leaf table : ℕ) (horizon : ℤ) → CallsAt meaning leaf table (request.Expire horizon) x result y
+      → PlaysWith meaning (fleet_in x) (command.Expire leaf table horizon) (holds_in x) watches result (holds_in y) watches
+  expired leaf table horizon calls = record {
     pieces = calls.piece ∷ [];
     plays = record { goes = calls.goes.goes; prints = (calls.piece, calls.prints, refl); answers = λ histories go. tt };
     counted = calls.goes.counted;
     fit = calls.goes.fit;
+    heard = refl;
     lines_are = calls.goes.lines_are;
   }
 
-  query_plays : (q : Query) → AsksAll meaning q x result y → PlaysWith meaning (fleet_in x) (command.Query q) (holds_in x) result (holds_in y)
+  pub expire_plays : (leaf table : ℕ) (horizon : ℤ) (c : Command) → c ≡ command.Expire leaf table horizon → CallsAt meaning leaf table (request.Expire horizon) x result y
+      → PlaysWith meaning (fleet_in x) c (holds_in x) watches result (holds_in y) watches
+  expire_plays leaf table horizon c is calls =
+      subst (λ (d : Command). PlaysWith meaning (fleet_in x) d (holds_in x) watches result (holds_in y) watches) (sym is) (expired leaf table horizon calls)
+
+  query_plays : (q : Query) → AsksAll meaning q x result y → PlaysWith meaning (fleet_in x) (command.Query q) (holds_in x) watches result (holds_in y) watches
   query_plays q asks = record {
     pieces = asks.pieces;
     plays = record { goes = asks.goes.goes; prints = asks.prints; answers = asks.answers };
     counted = asks.goes.counted;
     fit = asks.goes.fit;
+    heard = refl;
     lines_are = asks.goes.lines_are;
   }
 
   pub query_or_none : (q : Query) (c : Command) → c ≡ command.Query q → AsksAll meaning q x result y ⊎ (IsErr result × (holds_in y ≡ holds_in x))
-      → PlaysWith meaning (fleet_in x) c (holds_in x) result (holds_in y) ⊎ (IsErr result × (holds_in y ≡ holds_in x))
+      → PlaysWith meaning (fleet_in x) c (holds_in x) watches result (holds_in y) watches ⊎ (IsErr result × (holds_in y ≡ holds_in x) × (watches ≡ watches))
   query_or_none q c is asks =
-      ⊎_elim (λ h. inl (subst (λ (d : Command). PlaysWith meaning (fleet_in x) d (holds_in x) result (holds_in y)) (sym is) (query_plays q h))) (λ h. inr h) asks
+      ⊎_elim (λ h. inl (subst (λ (d : Command). PlaysWith meaning (fleet_in x) d (holds_in x) watches result (holds_in y) watches) (sym is) (query_plays q h))) (λ h. inr (h.0, h.1, refl)) asks
 
 -- a query leaves what is held
 pub query_still : {B E : Type 0} (meaning : B → Meaning) (q : Query) (x y : Members B) (result : Result (Vec Line Global) E) → AsksAll meaning q x result y ⊎ (IsErr result × (holds_in y ≡ holds_in x))
@@ -60,9 +68,9 @@ no_fit P (Ok a) err = absurd (never err)
 no_fit P (Err e) err = tt
 
 -- the lines are of the fleet's tables
-pub lines_fit : {B E : Type 0} (meaning : B → Meaning) (fleet : Fleet) (c : Command) (xs ys : List (Hold B)) (result : Result (Vec Line Global) E)
-    → PlaysWith meaning fleet c xs result ys ⊎ (IsErr result × (ys ≡ xs)) → IfOk result (λ lines. AllByRecursion (IsOf fleet.names) lines.items)
-lines_fit meaning fleet c xs ys result played =
-    ⊎_elim (λ (h : PlaysWith meaning fleet c xs result ys). IfOk-weaker result (λ lines. lines.items ≡ lines_in h.pieces) (λ lines. AllByRecursion (IsOf fleet.names) lines.items)
+pub lines_fit : {B E : Type 0} (meaning : B → Meaning) (fleet : Fleet) (c : Command) (xs ys : List (Hold B)) (before after : List Held) (result : Result (Vec Line Global) E)
+    → PlaysWith meaning fleet c xs before result ys after ⊎ (IsErr result × (ys ≡ xs) × (after ≡ before)) → IfOk result (λ lines. AllByRecursion (IsOf fleet.names) lines.items)
+lines_fit meaning fleet c xs ys before after result played =
+    ⊎_elim (λ (h : PlaysWith meaning fleet c xs before result ys after). IfOk-weaker result (λ lines. lines.items ≡ lines_in h.pieces) (λ lines. AllByRecursion (IsOf fleet.names) lines.items)
     (λ lines are. subst (AllByRecursion (IsOf fleet.names)) (sym are) h.fit) h.lines_are)
     (λ h. no_fit (λ lines. AllByRecursion (IsOf fleet.names) lines.items) result h.0) played

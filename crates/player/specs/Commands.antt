@@ -30,6 +30,8 @@ use Rattle.transcript.specs.Answers.{Answers}
 use Rattle.transcript.specs.Holds.{GoOn, grounds_in}
 use Rattle.transcript.specs.Stage.{Leaf, Carries}
 use Rattle.transcript.specs.Steps.{DeedStep, Moves}
+use Rattle.transcript.specs.Watching.{drained_by, started_by}
+use Rattle.player.specs.declared.answer.Answer.{Answer}
 use Rattle.player.specs.declared.act.Task.{Task}
 use Rattle.player.specs.declared.act.Task.TheVariants as task
 use Rattle.player.specs.declared.call.Request.{Request}
@@ -40,6 +42,10 @@ use Rattle.player.specs.Members.{GoesWith, fleet_in, holds_in}
 use Rattle.player.specs.Moves.{FaultRose}
 
 -- ---- deeds
+
+-- how a deed ended, as it is told where it was a drain, and where it was a start
+abbrev pub answer_of : Ending → Answer
+answer_of ends = record { drained = drained_by ends; started = started_by ends }
 
 -- what a leaf's steward is told to do
 abbrev pub deed_of : Task → Deed
@@ -56,7 +62,7 @@ IsTask names (task.Drain stop) = ⊤
 IsTask names task.Kill = ⊤
 
 -- what the steward of the leaf with this number did, by its notes and its ending, with their lines
-pub record Does {E : Type 0} (number : ℕ) (deed : Deed) (m m' : Meaning) (leaf : Leaf) (lines : Result (Vec Line Global) E) (leaf' : Leaf) : Type 0 where
+pub record Does {E : Type 0} (number : ℕ) (deed : Deed) (m m' : Meaning) (leaf : Leaf) (answer : Answer) (lines : Result (Vec Line Global) E) (leaf' : Leaf) : Type 0 where
   pub notes : List Note
   pub ends : Ending
   pub moves : Moves deed m m' leaf notes ends leaf'
@@ -64,20 +70,29 @@ pub record Does {E : Type 0} (number : ℕ) (deed : Deed) (m m' : Meaning) (leaf
   pub cause : FaultRose ends m m'
   pub reads : reads_disk deed ends ≡ false → m'.disk_reads ≡ m.disk_reads
   pub told : IfOk lines (λ lines. AreEnded number (verb_of deed) notes ends lines.items)
+  pub answered : answer ≡ answer_of ends
 
 -- the same between two meetings of all seats, with its piece
 pub record ActsWith {B E : Type 0} (meaning : B → Meaning) (names : List (List ℕ)) (number : ℕ) (deed : Deed) (leaf : Leaf) (callers : List (Option SeatView)) (b : B)
-    (result : Result (Vec Line Global) E) (leaf' : Leaf) (callers' : List (Option SeatView)) (b' : B) : Type 0 where
+    (answer : Answer) (result : Result (Vec Line Global) E) (leaf' : Leaf) (callers' : List (Option SeatView)) (b' : B) : Type 0 where
   pub piece : Piece
   pub step : DeedStep number deed (meaning b) (meaning b') leaf callers piece leaf' callers'
   pub counted : IsCounted number (piece ∷ []) (meaning b) (meaning b')
   pub fit : AllByRecursion (IsOf names) (lines_in (piece ∷ []))
   pub lines_are : IfOk result (λ lines. lines.items ≡ lines_in (piece ∷ []))
+  pub answered : answer ≡ answer_of step.ends
 
 -- a deed of one of the leaves
 pub record ActsAt {B E : Type 0} (meaning : B → Meaning) (number : ℕ) (deed : Deed) (x : Members B) (result : Result (Vec Line Global) E) (y : Members B) : Type 0 where
   pub piece : Piece
   pub prints : ActPiece number deed piece
+  pub goes : GoesWith meaning x.names (holds_in x) result (piece ∷ []) (holds_in y)
+
+-- the same, with how it ended
+pub record DeedAt {B E : Type 0} (meaning : B → Meaning) (number : ℕ) (deed : Deed) (x : Members B) (answer : Answer) (result : Result (Vec Line Global) E) (y : Members B) : Type 0 where
+  pub piece : Piece
+  pub prints : ActPiece number deed piece
+  pub answered : answer ≡ answer_of prints.1
   pub goes : GoesWith meaning x.names (holds_in x) result (piece ∷ []) (holds_in y)
 
 -- the first k leaves were started

@@ -5,6 +5,8 @@ pub mod Stage
 pub mod Lines
 pub mod Moves
 pub mod Members
+pub mod Restarts
+pub mod Rolled
 pub mod Commands
 pub mod Beginning
 pub mod Lending

@@ -1,5 +1,5 @@
 // Each command of a script.
-ghost use Rattle.std.specs.Prelude.{◌≡◌, ◌⊎◌, IsErr};
+ghost use Rattle.std.specs.Prelude.{◌≡◌, ◌⊎◌, map, IsErr};
 ghost use Rattle.transcript.specs.Steps.{MayPlay};
 ghost use Rattle.player.specs.Crew.{AllPass, HasFor, PlaysWith, StillHas};
 ghost use Rattle.player.specs.Members.{AreMembers, SameFleet, fleet_in, holds_in};
@@ -67,6 +67,7 @@ impl<'t, B: Berth> Members<'t, B> {
                 Request::Keep(n),
             ),
             Command::Query(query) => self.ask(rt, alloc, gate, &query),
+            Command::Rollover(percent) => self.rollover(rt, alloc, gate, watches, percent),
         }
     }
 }

@@ -2,6 +2,7 @@
 #![tactic(auto)]
 
 mod act;
+mod answer;
 mod ask;
 mod begin;
 mod call;
@@ -15,6 +16,9 @@ mod lend;
 mod meet;
 mod meet_all;
 mod members;
+mod restarts;
+mod rolled;
+mod rollover;
 mod slots;
 mod steps;
 mod take_back;

@@ -3,6 +3,7 @@ ghost use Rattle.std.specs.Prelude.{◌≡◌, ◌+◌, ◌<◌, ◌≤◌, vec_
 ghost use Rattle.std.specs.List.{insert};
 
 use crate::leaf::OneLeaf;
+use crate::restarts::Leaves;
 use berth_face::Berth;
 use leaf_model::Names;
 use leaf_table::{FleetTables, Seat};
@@ -16,6 +17,14 @@ pub struct Members<'t, B: Berth> {
     pub tables: &'t FleetTables,
     pub leaves: Vec<Option<OneLeaf<'t, B>>>,
     pub rows: Vec<Vec<Seat>>,
+}
+
+impl<'t, B: Berth> Leaves for Members<'t, B> {
+    ghost use Rattle.player.specs.Restarts.{HasDone, MayDo};
+
+    ghost may = { λ x leaf. MayDo x leaf };
+
+    ghost did = { λ x leaf task result y. HasDone B.meaning leaf task x result y };
 }
 
 /// Puts an item in a place of the list, where room was left for it.

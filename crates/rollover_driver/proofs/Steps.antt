@@ -15,13 +15,13 @@ use Rattle.rollover_driver.proofs.Told.{or_false, told_both, drains_both, starts
 told_one : (first : RollEvent) (old new : List Held) (asked : Bool) → AreTold first old new → asked ≡ is_halt_asked first old → AreAllTold (first ∷ []) old asked new
 told_one first old new asked told halt = (new, false, told, (refl, refl), halt ∙ sym (or_false (is_halt_asked first old)))
 
-module _ {F : Type 0} (has : F → ℕ → Bool) (stands : F → List Call → F → Type 0) where
+module _ {F : Type 0} (has : F → ℕ → Type 0) (stands : F → List Call → F → Type 0) where
   -- one step, and then another
   pub done_then : (P Q R : List Call → Type 0) (first : List RollEvent) (f g h : F) (old mid new : List Held) (x y : Bool)
       → HasDone has stands P first f old x g mid → HasDone has stands Q [] g mid y h new → ((cs ds : List Call) → P cs → Q ds → R (cs ++ ds))
       → HasDone has stands R first f old (x || y) h new
   done_then P Q R first f g h old mid new x y a b joins = record {
-    same = λ leaf. b.same leaf ∙ a.same leaf;
+    same = λ leaf had. b.same leaf (a.same leaf had);
     calls = a.calls ++ b.calls;
     are = joins a.calls b.calls a.are b.are;
     goes = λ begun before stood. subst (λ (cs : List Call). stands begun cs h) (append_assoc before a.calls b.calls) (b.goes begun (before ++ a.calls) (a.goes begun before stood));
@@ -30,13 +30,13 @@ module _ {F : Type 0} (has : F → ℕ → Bool) (stands : F → List Call → F
         (told_both (first ++ map event_of a.calls) (map event_of b.calls) old mid new x y a.told b.told);
   }
 
-  pub one_drained : (f g : F) (leaf : ℕ) (got : Drained) (old new : List Held) (asked : Bool) → ((other : ℕ) → has g other ≡ has f other)
+  pub one_drained : (f g : F) (leaf : ℕ) (got : Drained) (old new : List Held) (asked : Bool) → ((other : ℕ) → has f other → has g other)
       → ((begun : F) (before : List Call) → stands begun before f → stands begun (before ++ Drains leaf got ∷ []) g)
       → AreTold (event.Drain leaf got) old new → asked ≡ is_halt_asked (event.Drain leaf got) old → HasDone has stands (AreDrains (leaf ∷ [])) [] f old asked g new
   one_drained f g leaf got old new asked same goes told halt =
       record { same = same; calls = Drains leaf got ∷ []; are = (refl, tt); goes = goes; told = told_one (event.Drain leaf got) old new asked told halt }
 
-  pub one_started : (f g : F) (leaf : ℕ) (got : Started) (old new : List Held) (asked : Bool) → ((other : ℕ) → has g other ≡ has f other)
+  pub one_started : (f g : F) (leaf : ℕ) (got : Started) (old new : List Held) (asked : Bool) → ((other : ℕ) → has f other → has g other)
       → ((begun : F) (before : List Call) → stands begun before f → stands begun (before ++ Starts leaf got ∷ []) g)
       → AreTold (event.Start leaf got) old new → asked ≡ is_halt_asked (event.Start leaf got) old → HasDone has stands (AreStarts (leaf ∷ [])) [] f old asked g new
   one_started f g leaf got old new asked same goes told halt =
@@ -65,7 +65,7 @@ module _ {F : Type 0} (has : F → ℕ → Bool) (stands : F → List Call → F
       done_then (AreDrains leaves) (AreStarts leaves) (AreOfWave wave) (event.Wave number total ∷ []) f g h old mid new (x || y) z
       (done_then (λ cs. cs ≡ []) (AreDrains leaves) (AreDrains leaves) (event.Wave number total ∷ []) f f g old first mid x y
       (record {
-        same = λ leaf. refl;
+        same = λ leaf had. had;
         calls = [];
         are = refl;
         goes = λ begun before stood. subst (λ (cs : List Call). stands begun cs f) (sym (append-nil before)) stood;

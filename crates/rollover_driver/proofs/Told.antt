@@ -48,7 +48,7 @@ all_at P (x ∷ xs) zero d all inside = all.0
 all_at P (x ∷ xs) (suc i) d all inside = all_at P xs i d all.1 (omega arith)
 
 -- what a fleet has, one that has the same leaves has too
-pub all_still : {F : Type 0} (has : F → ℕ → Bool) (f g : F) (leaves : List ℕ) → ((leaf : ℕ) → has g leaf ≡ has f leaf) → AllByRecursion (λ leaf. has f leaf ≡ true) leaves
-    → AllByRecursion (λ leaf. has g leaf ≡ true) leaves
+pub all_still : {F : Type 0} (has : F → ℕ → Type 0) (f g : F) (leaves : List ℕ) → ((leaf : ℕ) → has f leaf → has g leaf) → AllByRecursion (λ leaf. has f leaf) leaves
+    → AllByRecursion (λ leaf. has g leaf) leaves
 all_still has f g [] same all = tt
-all_still has f g (leaf ∷ leaves) same all = (same leaf ∙ all.0, all_still has f g leaves same all.1)
+all_still has f g (leaf ∷ leaves) same all = (same leaf all.0, all_still has f g leaves same all.1)

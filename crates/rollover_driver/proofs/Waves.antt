@@ -12,9 +12,9 @@ use Rattle.rollover_driver.specs.Done.{HasDone, HasRolled, wave_begins}
 use Rattle.rollover_driver.proofs.Told.{all_at, all_still}
 
 -- so many waves were begun; whatever those behind them come to completes the rollover
-pub record IsRolling {F : Type 0} (has : F → ℕ → Bool) (stands : F → List Call → F → Type 0) (waves : List (List ℕ)) (f : F) (old : List Held) (begun : ℕ) (asked : Bool)
+pub record IsRolling {F : Type 0} (has : F → ℕ → Type 0) (stands : F → List Call → F → Type 0) (waves : List (List ℕ)) (f : F) (old : List Held) (begun : ℕ) (asked : Bool)
     (g : F) (now : List Held) : Type 0 where
-  pub same : (leaf : ℕ) → has g leaf ≡ has f leaf
+  pub same : (leaf : ℕ) → has f leaf → has g leaf
   pub calls : List Call
   pub goes : (first : F) (before : List Call) → stands first before f → stands first (before ++ calls) g
   pub further : (rest : List Call) (rolled : Rolled) (new : List Held) → WavesGo (length waves) begun (drop begun waves) asked now rest rolled new
@@ -27,10 +27,10 @@ made begun halted = record { waves = begun; halted = halted }
 pub rolled_at : {begun i : ℕ} (halted : Bool) → begun ≡ i → made begun halted ≡ made i halted
 rolled_at halted same = ap (λ (n : ℕ). made n halted) same
 
-module _ {F : Type 0} (has : F → ℕ → Bool) (stands : F → List Call → F → Type 0) (waves : List (List ℕ)) (f : F) (old : List Held) where
+module _ {F : Type 0} (has : F → ℕ → Type 0) (stands : F → List Call → F → Type 0) (waves : List (List ℕ)) (f : F) (old : List Held) where
   pub rolling_none : IsRolling has stands waves f old 0 false f old
   rolling_none = record {
-    same = λ leaf. refl;
+    same = λ leaf had. had;
     calls = [];
     goes = λ first before stood. subst (λ (cs : List Call). stands first cs f) (sym (append-nil before)) stood;
     further = λ rest rolled new goes. goes;
@@ -40,7 +40,7 @@ module _ {F : Type 0} (has : F → ℕ → Bool) (stands : F → List Call → F
   pub rolling_more : (i : ℕ) (wave : List ℕ) (asked later : Bool) (g h : F) (mid now : List Held) → IsRolling has stands waves f old i asked g mid → asked ≡ false → i < length waves
       → wave ≡ get_or waves i wave → HasDone has stands (AreOfWave wave) (event.Wave (i + 1) (length waves) ∷ []) g mid later h now → IsRolling has stands waves f old (i + 1) later h now
   rolling_more i wave asked later g h mid now so_far none inside is done = record {
-    same = λ leaf. done.same leaf ∙ so_far.same leaf;
+    same = λ leaf had. done.same leaf (so_far.same leaf had);
     calls = so_far.calls ++ done.calls;
     goes = λ first before stood. subst (λ (cs : List Call). stands first cs h) (append_assoc before so_far.calls done.calls) (done.goes first (before ++ so_far.calls) (so_far.goes first before stood));
     further = λ rest rolled new goes.
@@ -88,10 +88,10 @@ module _ {F : Type 0} (has : F → ℕ → Bool) (stands : F → List Call → F
       (subst (λ (k : ℕ). HasDone has stands (AreOfWave wave) (event.Wave (begun + 1) k ∷ []) g mid asked h now) all done)
 
   -- the leaves of a wave are had
-  pub are_had : (i : ℕ) (wave : List ℕ) (g : F) → AllByRecursion (λ w. AllByRecursion (λ leaf. has f leaf ≡ true) w) waves → ((leaf : ℕ) → has g leaf ≡ has f leaf)
-      → i < length waves → wave ≡ get_or waves i wave → AllByRecursion (λ leaf. has g leaf ≡ true) wave
+  pub are_had : (i : ℕ) (wave : List ℕ) (g : F) → AllByRecursion (λ w. AllByRecursion (λ leaf. has f leaf) w) waves → ((leaf : ℕ) → has f leaf → has g leaf)
+      → i < length waves → wave ≡ get_or waves i wave → AllByRecursion (λ leaf. has g leaf) wave
   are_had i wave g all same inside is =
-      all_still has f g wave same (subst (λ (w : List ℕ). AllByRecursion (λ leaf. has f leaf ≡ true) w) (sym is) (all_at (λ w. AllByRecursion (λ leaf. has f leaf ≡ true) w) waves i wave all inside))
+      all_still has f g wave same (subst (λ (w : List ℕ). AllByRecursion (λ leaf. has f leaf) w) (sym is) (all_at (λ w. AllByRecursion (λ leaf. has f leaf) w) waves i wave all inside))
 
   -- and at last it is told that it ended
   pub drive_ends : (same_waves : List (List ℕ)) (g : F) (between new : List Held) (rolled : Rolled) → HasRolled has stands waves f old rolled g between → waves ≡ same_waves

@@ -1,5 +1,5 @@
 // The waves of a rollover, one after another.
-ghost use Rattle.std.specs.Prelude.{◌≡◌, ◌<◌, ◌^◌, ℕ, true, List, [], ◌∷◌, length, map};
+ghost use Rattle.std.specs.Prelude.{◌≡◌, ◌<◌, ◌^◌, ℕ, List, [], ◌∷◌, length, map};
 ghost use Rattle.std.specs.List.{AllByRecursion};
 ghost use Rattle.rollover_driver.specs.Calls.{Call, AreDrains, AreStarts, AreOfWave};
 ghost use Rattle.rollover_driver.specs.Drives.{Drives};
@@ -19,7 +19,7 @@ pub struct Rolled {
 /// Drains a leaf and tells it. The answer is whether a halt was asked.
 #[tactic(auto, using(crate::proofs::Steps::one_drained))]
 fn drain<F: Fleet>(fleet: &mut F, leaf: u32, watches: &mut Vec<Box<dyn Watch>>) -> bool
-    requires { F.has fleet.old leaf ≡ true }
+    requires { F.has fleet.old leaf }
     ensures { HasDone F.has F.stands (AreDrains (leaf ∷ [])) [] fleet.old (map (λ watch. held watch) watches.old.items) result fleet.new (map (λ watch. held watch) watches.new.items) }
 {
     let got = fleet.drain(leaf);
@@ -29,7 +29,7 @@ fn drain<F: Fleet>(fleet: &mut F, leaf: u32, watches: &mut Vec<Box<dyn Watch>>) 
 /// Starts a leaf and tells it. The answer is whether a halt was asked.
 #[tactic(auto, using(crate::proofs::Steps::one_started))]
 fn start<F: Fleet>(fleet: &mut F, leaf: u32, watches: &mut Vec<Box<dyn Watch>>) -> bool
-    requires { F.has fleet.old leaf ≡ true }
+    requires { F.has fleet.old leaf }
     ensures { HasDone F.has F.stands (AreStarts (leaf ∷ [])) [] fleet.old (map (λ watch. held watch) watches.old.items) result fleet.new (map (λ watch. held watch) watches.new.items) }
 {
     let got = fleet.start(leaf);
@@ -38,7 +38,7 @@ fn start<F: Fleet>(fleet: &mut F, leaf: u32, watches: &mut Vec<Box<dyn Watch>>) 
 
 /// Drains each leaf in order and tells each. The answer is whether a halt was asked.
 fn drain_all<F: Fleet>(fleet: &mut F, leaves: &[u32], watches: &mut Vec<Box<dyn Watch>>) -> bool
-    requires { AllByRecursion (λ leaf. F.has fleet.old leaf ≡ true) leaves.now }
+    requires { AllByRecursion (λ leaf. F.has fleet.old leaf) leaves.now }
     ensures { HasDone F.has F.stands (AreDrains leaves.now) [] fleet.old (map (λ watch. held watch) watches.old.items) result fleet.new (map (λ watch. held watch) watches.new.items) }
 {
     let mut asked = false;
@@ -50,7 +50,7 @@ fn drain_all<F: Fleet>(fleet: &mut F, leaves: &[u32], watches: &mut Vec<Box<dyn 
 
 /// Starts each leaf in order and tells each. The answer is whether a halt was asked.
 fn start_all<F: Fleet>(fleet: &mut F, leaves: &[u32], watches: &mut Vec<Box<dyn Watch>>) -> bool
-    requires { AllByRecursion (λ leaf. F.has fleet.old leaf ≡ true) leaves.now }
+    requires { AllByRecursion (λ leaf. F.has fleet.old leaf) leaves.now }
     ensures { HasDone F.has F.stands (AreStarts leaves.now) [] fleet.old (map (λ watch. held watch) watches.old.items) result fleet.new (map (λ watch. held watch) watches.new.items) }
 {
     let mut asked = false;
@@ -68,7 +68,7 @@ fn roll_wave<F: Fleet>(
     wave: &Wave,
     watches: &mut Vec<Box<dyn Watch>>,
 ) -> bool
-    requires { AllByRecursion (λ leaf. F.has fleet.old leaf ≡ true) wave.now }
+    requires { AllByRecursion (λ leaf. F.has fleet.old leaf) wave.now }
     ensures { HasDone F.has F.stands (AreOfWave wave.now) (wave_begins number of) fleet.old (map (λ watch. held watch) watches.old.items) result fleet.new (map (λ watch. held watch) watches.new.items) }
 {
     let leaves = wave.as_slice();
@@ -81,7 +81,7 @@ fn roll_wave<F: Fleet>(
 /// Goes through the waves until a halt was asked. The wave in which it was asked is finished.
 fn roll_all<F: Fleet>(fleet: &mut F, waves: &[Wave], watches: &mut Vec<Box<dyn Watch>>) -> Rolled
     requires few { length waves.now < 2 ^ 32 }
-    requires known { AllByRecursion (λ wave. AllByRecursion (λ leaf. F.has fleet.old leaf ≡ true) wave) waves.now }
+    requires known { AllByRecursion (λ wave. AllByRecursion (λ leaf. F.has fleet.old leaf) wave) waves.now }
     ensures { HasRolled F.has F.stands waves.now fleet.old (map (λ watch. held watch) watches.old.items) result fleet.new (map (λ watch. held watch) watches.new.items) }
 {
     let of = waves.len() as u32;
@@ -108,8 +108,8 @@ fn roll_all<F: Fleet>(fleet: &mut F, waves: &[Wave], watches: &mut Vec<Box<dyn W
 /// further wave begins. It takes no memory.
 pub fn drive<F: Fleet>(fleet: &mut F, waves: &Waves, watches: &mut Vec<Box<dyn Watch>>) -> Rolled
     requires few { length waves.now < 2 ^ 32 }
-    requires known { AllByRecursion (λ wave. AllByRecursion (λ leaf. F.has fleet.old leaf ≡ true) wave) waves.now }
-    ensures same { (leaf : ℕ) → F.has fleet.new leaf ≡ F.has fleet.old leaf }
+    requires known { AllByRecursion (λ wave. AllByRecursion (λ leaf. F.has fleet.old leaf) wave) waves.now }
+    ensures same { (leaf : ℕ) → F.has fleet.old leaf → F.has fleet.new leaf }
     ensures drives { (calls : List Call) × F.stands fleet.old calls fleet.new × Drives waves.now (map (λ watch. held watch) watches.old.items) calls result (map (λ watch. held watch) watches.new.items) }
 {
     let rolled = roll_all(fleet, waves.as_slice(), watches);

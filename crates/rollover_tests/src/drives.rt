@@ -1,5 +1,5 @@
 // A small fleet that is driven through its waves.
-ghost use Rattle.std.specs.Prelude.{◌≡◌, true, refl};
+ghost use Rattle.std.specs.Prelude.{◌≡◌, ⊤, refl};
 ghost use Rattle.rollover_tests.specs.Leavers.{halting};
 
 use rollover_driver::{Fleet, Rolled, drive};
@@ -15,7 +15,7 @@ struct SmallFleet {
 }
 
 impl Fleet for SmallFleet {
-    ghost has = { λ fleet leaf. true };
+    ghost has = { λ fleet leaf. ⊤ };
 
     ghost stands = { λ first calls now. now ≡ first };
 

@@ -13,5 +13,5 @@ returns-clause-acts g c =
     let does = done.ensures.does in
     acts c.args.number g.B.Berth.meaning (berth_of c.args.leaf) (berth_of c.meet.new.leaf) (berth_of done.result.0) (berth_of c.meet-2.new.leaf)
     (state_of c.args.leaf) (state_of c.meet.new.leaf) (state_of done.result.0) (state_of c.meet-2.new.leaf) _ _ _ does.notes does.ends
-    c.args.names.now (deed_of c.args.task) done.result.1 _ c.meet.ensures.berth c.meet-2.ensures.berth
-    c.requires.member c.meet.ensures.keeps c.meet.ensures.met c.meet-2.ensures.met does.moves does.carries done.ensures.time does.cause does.reads does.told
+    c.args.names.now (deed_of c.args.task) done.result.1 done.result.2 _ c.meet.ensures.berth c.meet-2.ensures.berth
+    c.requires.member c.meet.ensures.keeps c.meet.ensures.met c.meet-2.ensures.met does.moves does.carries done.ensures.time does.cause does.reads does.told does.answered

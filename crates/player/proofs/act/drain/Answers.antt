@@ -14,4 +14,5 @@ returns-clause-does g c =
       cause = done.ensures.cause;
       reads = λ none. drains.reads;
       told = ended_result c.args.number Drain drains.notes done.result.1 done.result.2 c.with_ending.result drains.told c.with_ending.ensures;
+      answered = c.of-answer.ensures;
     }

@@ -12,4 +12,5 @@ returns-clause-does g c =
       cause = done.ensures.cause;
       reads = λ none. ap (λ b. (g.B.Berth.meaning b).disk_reads) done.ensures.berth;
       told = c.steward_lines-lines.ensures;
+      answered = c.of-answer.ensures;
     }

@@ -14,4 +14,4 @@ pub returns-clause-lines_fit : goal.returns-clause-lines_fit
 returns-clause-lines_fit g c =
     let x = c.self.inside.members in
     subst (λ (s : CrewState g.row.B.Denot). IfOk c.play.result (λ lines. AllByRecursion (IsOf s.fleet.names) lines.items)) c.self.view_is
-    (lines_fit g.B.Berth.meaning (fleet_in x) c.args.command (holds_in x) (holds_in c.play.new.self) c.play.result c.play.ensures.plays)
+    (lines_fit g.B.Berth.meaning (fleet_in x) c.args.command (holds_in x) (holds_in c.play.new.self) _ _ c.play.result c.play.ensures.plays)

@@ -1,10 +1,8 @@
-use Rattle.std.proofs.Common.{ℤ, inl, w64, sym, subst}
+use Rattle.std.proofs.Common.{ℤ, inl, w64, subst}
 use Rattle.std.proofs.lemmas.Int.{to_z-of_z}
-use Rattle.script_text.specs.declared.command.Command.{Command}
 use Rattle.transcript.specs.Steps.{MayPlay}
 use Rattle.player.specs.declared.call.Request.TheVariants as request
-use Rattle.player.specs.Crew.{PlaysWith}
-use Rattle.player.specs.Members.{fleet_in, holds_in}
+use Rattle.player.specs.Members.{fleet_in}
 use Rattle.player.specs.Commands.{CallsAt}
 use Rattle.player.proofs.NamePlaces.{known_place}
 use Rattle.player.proofs.Playing.{expire_plays, query_or_none, query_still}
@@ -22,12 +20,11 @@ returns-in-Expire-clause-plays g c =
     let then = c.call-in-Expire in
     let may = subst (MayPlay (fleet_in x)) expire.is c.requires.may in
     let calls = subst (λ (z : ℤ). CallsAt g.B.Berth.meaning expire.leaf expire.table (request.Expire z) x then.result then.new.self) (to_z-of_z w64 expire.horizon may.2.1) then.ensures.calls in
-    inl (subst (λ (d : Command). PlaysWith g.B.Berth.meaning (fleet_in x) d (holds_in x) then.result (holds_in then.new.self)) (sym expire.is)
-    (expire_plays g.B.Berth.meaning x then.new.self then.result expire.leaf expire.table expire.horizon calls))
+    inl (expire_plays g.B.Berth.meaning x then.new.self _ then.result expire.leaf expire.table expire.horizon c.args.command expire.is calls)
 
 pub returns-in-Query-clause-plays : goal.returns-in-Query-clause-plays
 returns-in-Query-clause-plays g c =
-    query_or_none g.B.Berth.meaning c.args.self.now c.ask.new.self c.ask.result c.in-Query.query c.args.command c.in-Query.is c.ask.ensures.asks
+    query_or_none g.B.Berth.meaning c.args.self.now c.ask.new.self _ c.ask.result c.in-Query.query c.args.command c.in-Query.is c.ask.ensures.asks
 
 pub returns-in-Query-clause-still : goal.returns-in-Query-clause-still
 returns-in-Query-clause-still g c = query_still g.B.Berth.meaning c.in-Query.query c.args.self.now c.ask.new.self c.ask.result c.ask.ensures.asks

@@ -1,8 +1,8 @@
 use Rattle.std.proofs.Common.{Some, sym, ap, ◌∙◌}
 use Rattle.std.specs.Prelude.{slice_set}
 use Rattle.player.specs.Commands.{deed_of}
-use Rattle.player.proofs.MemberSteps.{acts_at, member_at, members_then, none_is_not, set_twice, slot_at, slot_held}
-use Rattle.player.proofs.members.Members.act.Goals as goal
+use Rattle.player.proofs.MemberSteps.{deed_at, member_at, members_then, none_is_not, set_twice, slot_at, slot_held}
+use Rattle.player.proofs.members.Members.deed.Goals as goal
 
 pub unreachable-requires : goal.unreachable-requires
 unreachable-requires g c =
@@ -23,10 +23,10 @@ returns-clause-members g c =
     let now = ap (λ o. slice_set (slice_set x.leaves.items c.args.number c.take.new.self) c.args.number o) c.put.ensures ∙ set_twice x.leaves.items c.args.number c.take.new.self (Some then.result.0) in
     members_then x c.args.number c.in-Some.leaf then.result.0 _ then.new.rows c.requires.members at now then.ensures.only then.ensures.member then.ensures.keeps.tables
 
-pub returns-clause-acts : goal.returns-clause-acts
-returns-clause-acts g c =
+pub returns-clause-deed : goal.returns-clause-deed
+returns-clause-deed g c =
     let x = c.args.self.now in
     let at = slot_at x c.args.number c.index_mut.result.now c.in-Some.leaf c.requires.members c.requires.leaf c.index_mut.ensures.value (sym c.take.ensures.value ∙ c.in-Some.is) in
     let then = c.act_on-moved in
     let now = ap (λ o. slice_set (slice_set x.leaves.items c.args.number c.take.new.self) c.args.number o) c.put.ensures ∙ set_twice x.leaves.items c.args.number c.take.new.self (Some then.result.0) in
-    acts_at x c.args.number c.in-Some.leaf then.result.0 _ then.new.rows c.requires.members at now then.ensures.only g.B.Berth.meaning (deed_of c.args.task) then.result.1 then.ensures.acts then.ensures.time
+    deed_at x c.args.number c.in-Some.leaf then.result.0 _ then.new.rows c.requires.members at now then.ensures.only g.B.Berth.meaning (deed_of c.args.task) then.result.1 then.result.2 then.ensures.acts then.ensures.time

@@ -1,0 +1,122 @@
+-- Leaves are drained and started one after another.
+use Rattle.std.proofs.Common.{◌≡◌, ℕ, ◌<◌, List, [], ◌∷◌, ◌++◌, map, Option, None, Result, Ok, Err, Vec, Global, refl, sym, ap, subst, ◌∙◌, append_assoc, append-nil}
+use Rattle.std.specs.Prelude.{IfOk}
+use Rattle.std.proofs.lemmas.List.{map-append}
+use Rattle.berth_face.specs.Berth.{Meaning}
+use Rattle.rollover_driver.specs.Calls.{Call}
+use Rattle.rollover_driver.specs.Calls as call
+use Rattle.printed_lines.specs.declared.line.Line.{Line}
+use Rattle.transcript.specs.Pieces.{Fleet, Piece, leaf_count, lines_in, piece_lines}
+use Rattle.transcript.specs.Holds.{Hold}
+use Rattle.player.specs.declared.answer.Answer.{Answer}
+use Rattle.player.specs.declared.act.Task.{Task}
+use Rattle.player.specs.declared.act.Task.TheVariants as task
+use Rattle.player.specs.declared.members.Members.{Members}
+use Rattle.player.specs.Crew.{HasLeaf, StillHas}
+use Rattle.player.specs.Members.{AreMembers, GoesWith, SameFleet, fleet_in, holds_in}
+use Rattle.player.specs.Commands.{answer_of}
+use Rattle.player.specs.Restarts as restart
+use Rattle.player.specs.Restarts.{AreAnswered, ArePartsOf, Chain, HasDone, MayDo, PartJoins, Restarted, lines_of, no_lines}
+use Rattle.player.proofs.Chains.{goes_with_more, goes_with_none}
+use Rattle.player.proofs.HoldLists.{still_leaf}
+
+answered_more : (cs ds : List Call) (ps qs : List Piece) → AreAnswered cs ps → AreAnswered ds qs → AreAnswered (cs ++ ds) (ps ++ qs)
+answered_more [] ds [] qs front back = back
+answered_more [] ds (p ∷ ps) qs front back = absurd front
+answered_more (call.Drains leaf got ∷ cs) ds [] qs front back = absurd front
+answered_more (call.Starts leaf got ∷ cs) ds [] qs front back = absurd front
+answered_more (call.Drains leaf got ∷ cs) ds (p ∷ ps) qs front back = (front.0, answered_more cs ds ps qs front.1 back)
+answered_more (call.Starts leaf got ∷ cs) ds (p ∷ ps) qs front back = (front.0, answered_more cs ds ps qs front.1 back)
+
+-- the lines of one deed more
+part_more : (before mid after : List (Vec Line Global)) (part : Vec Line Global) (ps : List Piece) (p : Piece) → lines_of mid ≡ lines_of before ++ map piece_lines ps → part.items ≡ lines_in (p ∷ [])
+    → after ≡ mid ++ part ∷ [] → lines_of after ≡ lines_of before ++ map piece_lines (ps ++ p ∷ [])
+part_more before mid after part ps p so_far one is =
+    ap (λ (vs : List (Vec Line Global)). lines_of vs) is
+    ∙ (map-append (λ (v : Vec Line Global). v.items) mid (part ∷ [])
+    ∙ (ap (λ (ls : List (List Line)). ls ++ part.items ∷ []) so_far
+    ∙ (ap (λ (l : List Line). (lines_of before ++ map piece_lines ps) ++ l ∷ []) (one ∙ append-nil (piece_lines p))
+    ∙ (append_assoc (lines_of before) (map piece_lines ps) (piece_lines p ∷ [])
+    ∙ ap (λ (ls : List (List Line)). lines_of before ++ ls) (sym (map-append piece_lines ps (p ∷ [])))))))
+
+parts_more : {E : Type 0} (told told' told'' : Result (Vec (Vec Line Global) Global) E) (lines : Result (Vec Line Global) E) (ps : List Piece) (p : Piece)
+    → IfOk told' (λ after. ArePartsOf told ps after.items) → IfOk lines (λ part. part.items ≡ lines_in (p ∷ [])) → IfOk told'' (λ parts. PartJoins told' lines parts.items)
+    → IfOk told'' (λ after. ArePartsOf told (ps ++ p ∷ []) after.items)
+parts_more (Ok before) (Ok mid) (Ok after) (Ok part) ps p so_far one is = part_more before.items mid.items after.items part ps p so_far one is
+parts_more (Err e) (Ok mid) (Ok after) (Ok part) ps p so_far one is = absurd so_far
+parts_more told (Ok mid) (Ok after) (Err e) ps p so_far one is = absurd is
+parts_more told (Err e) (Ok after) lines ps p so_far one is = absurd is
+parts_more told told' (Err e) lines ps p so_far one is = tt
+
+module _ {B E : Type 0} (meaning : B → Meaning) where
+  pub restarted_none : (x : Members B) (told : Result (Vec (Vec Line Global) Global) E) → Restarted meaning x told [] x told
+  restarted_none x told = record {
+    pieces = [];
+    answered = tt;
+    members = λ are. are;
+    same = record { fleet = refl; tables = refl };
+    goes = goes_with_none meaning x.names (holds_in x) no_lines tt;
+    parts = by told;
+  }
+    where
+      by : (o : Result (Vec (Vec Line Global) Global) E) → IfOk o (λ after. ArePartsOf o [] after.items)
+      by (Ok before) = sym (append-nil (lines_of before.items))
+      by (Err e) = tt
+
+  restarted_more : (x y z : Members B) (told told' told'' : Result (Vec (Vec Line Global) Global) E) (calls : List Call) (c : Call) (number : ℕ) (t : Task) (answer : Answer) (lines : Result (Vec Line Global) E)
+      → Restarted meaning x told calls y told' → (done : HasDone meaning number t y (answer, lines) z) → IfOk told'' (λ parts. PartJoins told' lines parts.items)
+      → AreAnswered (c ∷ []) (done.deed.piece ∷ []) → Restarted meaning x told (calls ++ c ∷ []) z told''
+  restarted_more x y z told told' told'' calls c number t answer lines so_far done parts one = record {
+    pieces = so_far.pieces ++ done.deed.piece ∷ [];
+    answered = answered_more calls (c ∷ []) so_far.pieces (done.deed.piece ∷ []) so_far.answered one;
+    members = λ are. done.members;
+    same = record { fleet = done.same.fleet ∙ so_far.same.fleet; tables = done.same.tables ∙ so_far.same.tables };
+    goes = goes_with_more meaning x.names (holds_in x) (holds_in y) (holds_in z) so_far.pieces (done.deed.piece ∷ []) no_lines no_lines no_lines so_far.goes
+        (subst (λ (names : List (List ℕ)). GoesWith meaning names (holds_in y) no_lines (done.deed.piece ∷ []) (holds_in z)) (ap (λ (f : Fleet). f.names) so_far.same.fleet)
+        (record {
+          goes = done.deed.goes.goes;
+          counted = done.deed.goes.counted;
+          time = done.deed.goes.time;
+          still = done.deed.goes.still;
+          fit = done.deed.goes.fit;
+          lines_are = tt;
+        }))
+        tt;
+    parts = parts_more told told' told'' lines so_far.pieces done.deed.piece so_far.parts done.deed.goes.lines_are parts;
+  }
+
+  pub drained_more : (x y z : Members B) (told told' told'' : Result (Vec (Vec Line Global) Global) E) (calls : List Call) (number : ℕ) (answer : Answer) (lines : Result (Vec Line Global) E)
+      → Restarted meaning x told calls y told' → HasDone meaning number (task.Drain None) y (answer, lines) z → IfOk told'' (λ parts. PartJoins told' lines parts.items)
+      → Restarted meaning x told (calls ++ call.Drains number answer.drained ∷ []) z told''
+  drained_more x y z told told' told'' calls number answer lines so_far done parts =
+      restarted_more x y z told told' told'' calls (call.Drains number answer.drained) number (task.Drain None) answer lines so_far done parts
+      ((done.deed.prints.0, done.deed.prints.1, done.deed.prints.2, ap (λ (a : Answer). a.drained) done.deed.answered), tt)
+
+  pub started_more : (x y z : Members B) (told told' told'' : Result (Vec (Vec Line Global) Global) E) (calls : List Call) (number : ℕ) (answer : Answer) (lines : Result (Vec Line Global) E)
+      → Restarted meaning x told calls y told' → HasDone meaning number task.Start y (answer, lines) z → IfOk told'' (λ parts. PartJoins told' lines parts.items)
+      → Restarted meaning x told (calls ++ call.Starts number answer.started ∷ []) z told''
+  started_more x y z told told' told'' calls number answer lines so_far done parts =
+      restarted_more x y z told told' told'' calls (call.Starts number answer.started) number task.Start answer lines so_far done parts
+      ((done.deed.prints.0, done.deed.prints.1, done.deed.prints.2, ap (λ (a : Answer). a.started) done.deed.answered), tt)
+
+  -- a chain of deeds
+  pub chained : (x y : Members B) (told told' : Result (Vec (Vec Line Global) Global) E) (calls : List Call) → Chain (λ x leaf t r y. HasDone meaning leaf t x r y) x told calls y told'
+      → Restarted meaning x told calls y told'
+  chained x y told told' calls (restart.none cs z o none same kept) =
+      subst (λ (ds : List Call). Restarted meaning x told ds z o) (sym none)
+      (subst (λ (w : Members B). Restarted meaning x told [] w o) (sym same) (subst (λ (q : Result (Vec (Vec Line Global) Global) E). Restarted meaning x told [] x q) (sym kept) (restarted_none x told)))
+  chained x y told told' calls (restart.drained cs z o earlier mid told_mid leaf answer lines so_far done parts is) =
+      subst (λ (ds : List Call). Restarted meaning x told ds z o) (sym is)
+      (drained_more x mid z told told_mid o earlier leaf answer lines (chained x mid told told_mid earlier so_far) done parts)
+  chained x y told told' calls (restart.started cs z o earlier mid told_mid leaf answer lines so_far done parts is) =
+      subst (λ (ds : List Call). Restarted meaning x told ds z o) (sym is)
+      (started_more x mid z told told_mid o earlier leaf answer lines (chained x mid told told_mid earlier so_far) done parts)
+
+-- what may be done of a leaf may be done of each other, once one was drained or started
+pub may_still : {B E : Type 0} (meaning : B → Meaning) (number : ℕ) (t : Task) (x y : Members B) (result : Answer × Result (Vec Line Global) E) → HasDone meaning number t x result y
+    → (other : ℕ) → MayDo x other → MayDo y other
+may_still meaning number t x y result done other may = record {
+  members = done.members;
+  within = subst (λ (f : Fleet). other < leaf_count f) (sym done.same.fleet) may.within;
+  held = λ leaf. still_leaf (holds_in x) (holds_in y) done.deed.goes.still leaf (may.held leaf);
+}

@@ -1,0 +1,233 @@
+-- The pieces of a rollover: those of its deeds, with a line before each wave.
+use Rattle.std.proofs.Common.{◌≡◌, ℕ, zero, suc, ◌+◌, ◌≤◌, Bool, true, false, List, [], ◌∷◌, ◌++◌, length, take, drop, map, Option, None, refl, sym, ap, subst, ◌∙◌, append_assoc, append-nil, arith, nat_lt}
+use Rattle.std.specs.List.{flat_map}
+use Rattle.std.proofs.lemmas.List.{length-append, length-map, map-append}
+use Rattle.rollover_watch.specs.Watches.{Held}
+use Rattle.rollover_driver.specs.declared.driving.Rolled.{Rolled}
+use Rattle.rollover_driver.specs.Calls.{AreDrains, AreStarts, Call}
+use Rattle.rollover_driver.specs.Calls as call
+use Rattle.rollover_driver.specs.Drives as drives
+use Rattle.rollover_driver.specs.Drives.{WavesGo}
+use Rattle.printed_lines.specs.declared.line.Ending.{Ending}
+use Rattle.printed_lines.specs.declared.line.Line.{Line}
+use Rattle.printed_lines.specs.declared.line.Line.TheVariants as line
+use Rattle.printed_lines.specs.Lines.{IsOf}
+use Rattle.transcript.specs.Pieces.{Acted, Drains, Noted, Piece, Says, Starts, lines_in, piece_lines}
+use Rattle.transcript.specs.Shapes.{EachActs, WavePieces, WavesPieces}
+use Rattle.transcript.specs.Watching.{calls_in, piece_calls}
+use Rattle.player.specs.Restarts.{AreAnswered}
+use Rattle.player.proofs.Chains.{lines_more}
+use Rattle.player.specs.Rolled.{deed_count, joined_parts, wave_lines, waves_lines}
+
+-- the same pieces, with lines between them that name no table
+pub data Woven : (deeds all : List Piece) → Type 0 where
+  ends : (deeds all : List Piece)
+      → deeds ≡ []
+      → all ≡ []
+      → Woven deeds all
+  says : (deeds all : List Piece) (l : Line) (others : List Piece)
+      → ((names : List (List ℕ)) → IsOf names l)
+      → Woven deeds others
+      → all ≡ Says l ∷ others
+      → Woven deeds all
+  deed : (deeds all : List Piece) (p : Piece) (rest others : List Piece)
+      → deeds ≡ p ∷ rest
+      → Woven rest others
+      → all ≡ p ∷ others
+      → Woven deeds all
+
+woven_front : (front deeds all : List Piece) → Woven deeds all → Woven (front ++ deeds) (front ++ all)
+woven_front [] deeds all woven = woven
+woven_front (p ∷ front) deeds all woven = Woven.deed (p ∷ (front ++ deeds)) (p ∷ (front ++ all)) p (front ++ deeds) (front ++ all) refl (woven_front front deeds all woven) refl
+
+calls_more : (ps qs : List Piece) → calls_in (ps ++ qs) ≡ calls_in ps ++ calls_in qs
+calls_more [] qs = refl
+calls_more (p ∷ ps) qs = ap (λ (cs : List Call). piece_calls p ++ cs) (calls_more ps qs) ∙ sym (append_assoc (piece_calls p) (calls_in ps) (calls_in qs))
+
+-- pieces of calls that are joined come apart
+pub record Apart (cs ds : List Call) (ps : List Piece) : Type 0 where
+  pub front : List Piece
+  pub back : List Piece
+  pub is : ps ≡ front ++ back
+  pub first : AreAnswered cs front
+  pub second : AreAnswered ds back
+
+apart : (cs ds : List Call) (ps : List Piece) → AreAnswered (cs ++ ds) ps → Apart cs ds ps
+apart [] ds ps are = record { front = []; back = ps; is = refl; first = tt; second = are }
+apart (call.Drains leaf got ∷ cs) ds [] are = absurd are
+apart (call.Starts leaf got ∷ cs) ds [] are = absurd are
+apart (call.Drains leaf got ∷ cs) ds (p ∷ ps) are =
+    let rest = apart cs ds ps are.1 in
+    record { front = p ∷ rest.front; back = rest.back; is = ap (λ (qs : List Piece). p ∷ qs) rest.is; first = (are.0, rest.first); second = rest.second }
+apart (call.Starts leaf got ∷ cs) ds (p ∷ ps) are =
+    let rest = apart cs ds ps are.1 in
+    record { front = p ∷ rest.front; back = rest.back; is = ap (λ (qs : List Piece). p ∷ qs) rest.is; first = (are.0, rest.first); second = rest.second }
+
+-- the drains of these leaves
+drains_act : (leaves : List ℕ) (cs : List Call) (ps : List Piece) → AreDrains leaves cs → AreAnswered cs ps → EachActs (Drains None) leaves ps
+drains_act [] [] [] are answered = refl
+drains_act [] [] (p ∷ ps) are answered = absurd answered
+drains_act [] (c ∷ cs) ps are answered = absurd are
+drains_act (leaf ∷ leaves) [] ps are answered = absurd are
+drains_act (leaf ∷ leaves) (call.Starts other got ∷ cs) ps are answered = absurd are
+drains_act (leaf ∷ leaves) (call.Drains other got ∷ cs) [] are answered = absurd answered
+drains_act (leaf ∷ leaves) (call.Drains other got ∷ cs) (p ∷ ps) are answered =
+    let one = answered.0 in
+    ((one.0, one.1, one.2 ∙ ap (λ (n : ℕ). Acted n (Drains None) one.0 one.1) are.0), drains_act leaves cs ps are.1 answered.1)
+
+starts_act : (leaves : List ℕ) (cs : List Call) (ps : List Piece) → AreStarts leaves cs → AreAnswered cs ps → EachActs Starts leaves ps
+starts_act [] [] [] are answered = refl
+starts_act [] [] (p ∷ ps) are answered = absurd answered
+starts_act [] (c ∷ cs) ps are answered = absurd are
+starts_act (leaf ∷ leaves) [] ps are answered = absurd are
+starts_act (leaf ∷ leaves) (call.Drains other got ∷ cs) ps are answered = absurd are
+starts_act (leaf ∷ leaves) (call.Starts other got ∷ cs) [] are answered = absurd answered
+starts_act (leaf ∷ leaves) (call.Starts other got ∷ cs) (p ∷ ps) are answered =
+    let one = answered.0 in
+    ((one.0, one.1, one.2 ∙ ap (λ (n : ℕ). Acted n Starts one.0 one.1) are.0), starts_act leaves cs ps are.1 answered.1)
+
+-- the calls that the pieces tell are those that they answer
+pub told_calls : (cs : List Call) (ps : List Piece) → AreAnswered cs ps → calls_in ps ≡ cs
+told_calls [] [] are = refl
+told_calls [] (p ∷ ps) are = absurd are
+told_calls (call.Drains leaf got ∷ cs) [] are = absurd are
+told_calls (call.Starts leaf got ∷ cs) [] are = absurd are
+told_calls (call.Drains leaf got ∷ cs) (p ∷ ps) are =
+    let one = are.0 in
+    ap (λ (q : Piece). piece_calls q ++ calls_in ps) one.2
+    ∙ (ap (λ (ds : List Call). (call.Drains leaf _ ∷ []) ++ ds) (told_calls cs ps are.1) ∙ ap (λ g. call.Drains leaf g ∷ cs) (sym one.3))
+told_calls (call.Starts leaf got ∷ cs) (p ∷ ps) are =
+    let one = are.0 in
+    ap (λ (q : Piece). piece_calls q ++ calls_in ps) one.2
+    ∙ (ap (λ (ds : List Call). (call.Starts leaf _ ∷ []) ++ ds) (told_calls cs ps are.1) ∙ ap (λ g. call.Starts leaf g ∷ cs) (sym one.3))
+
+pub woven_calls : (deeds all : List Piece) → Woven deeds all → calls_in all ≡ calls_in deeds
+woven_calls deeds all (Woven.ends d a none empty) = ap (λ (ps : List Piece). calls_in ps) (empty ∙ sym none)
+woven_calls deeds all (Woven.says d a l others fits woven is) = ap (λ (ps : List Piece). calls_in ps) is ∙ woven_calls d others woven
+woven_calls deeds all (Woven.deed d a p rest others first woven is) =
+    ap (λ (ps : List Piece). calls_in ps) is ∙ (ap (λ (cs : List Call). piece_calls p ++ cs) (woven_calls rest others woven) ∙ ap (λ (ps : List Piece). calls_in ps) (sym first))
+
+-- ---- lists
+
+take_none : {A : Type 0} (xs : List A) → take 0 xs ≡ []
+take_none [] = refl
+take_none (x ∷ xs) = refl
+
+drop_none : {A : Type 0} (xs : List A) → drop 0 xs ≡ xs
+drop_none [] = refl
+drop_none (x ∷ xs) = refl
+
+take_front : {A : Type 0} (n : ℕ) (xs ys : List A) → n ≡ length xs → take n (xs ++ ys) ≡ xs
+take_front zero [] ys is = take_none ys
+take_front (suc n) [] ys is = absurd (omega (arith, is))
+take_front zero (x ∷ xs) ys is = absurd (omega (arith, is))
+take_front (suc n) (x ∷ xs) ys is = ap (λ zs. x ∷ zs) (take_front n xs ys (omega (arith, is)))
+
+drop_front : {A : Type 0} (n : ℕ) (xs ys : List A) → n ≡ length xs → drop n (xs ++ ys) ≡ ys
+drop_front zero [] ys is = drop_none ys
+drop_front (suc n) [] ys is = absurd (omega (arith, is))
+drop_front zero (x ∷ xs) ys is = absurd (omega (arith, is))
+drop_front (suc n) (x ∷ xs) ys is = drop_front n xs ys (omega (arith, is))
+
+joined_all : (ps : List Piece) → joined_parts (map piece_lines ps) ≡ lines_in ps
+joined_all [] = refl
+joined_all (p ∷ ps) = ap (λ (ls : List Line). piece_lines p ++ ls) (joined_all ps)
+
+drains_count : (leaves : List ℕ) (cs : List Call) (ps : List Piece) → AreDrains leaves cs → AreAnswered cs ps → length ps ≡ length leaves
+drains_count [] [] [] are answered = refl
+drains_count [] [] (p ∷ ps) are answered = absurd answered
+drains_count [] (c ∷ cs) ps are answered = absurd are
+drains_count (leaf ∷ leaves) [] ps are answered = absurd are
+drains_count (leaf ∷ leaves) (call.Starts other got ∷ cs) ps are answered = absurd are
+drains_count (leaf ∷ leaves) (call.Drains other got ∷ cs) [] are answered = absurd answered
+drains_count (leaf ∷ leaves) (call.Drains other got ∷ cs) (p ∷ ps) are answered = ap suc (drains_count leaves cs ps are.1 answered.1)
+
+starts_count : (leaves : List ℕ) (cs : List Call) (ps : List Piece) → AreStarts leaves cs → AreAnswered cs ps → length ps ≡ length leaves
+starts_count [] [] [] are answered = refl
+starts_count [] [] (p ∷ ps) are answered = absurd answered
+starts_count [] (c ∷ cs) ps are answered = absurd are
+starts_count (leaf ∷ leaves) [] ps are answered = absurd are
+starts_count (leaf ∷ leaves) (call.Drains other got ∷ cs) ps are answered = absurd are
+starts_count (leaf ∷ leaves) (call.Starts other got ∷ cs) [] are answered = absurd answered
+starts_count (leaf ∷ leaves) (call.Starts other got ∷ cs) (p ∷ ps) are answered = ap suc (starts_count leaves cs ps are.1 answered.1)
+
+none_answered : (ps : List Piece) → AreAnswered [] ps → ps ≡ []
+none_answered [] are = refl
+none_answered (p ∷ ps) are = absurd are
+
+-- ---- waves
+
+-- the pieces of waves, of which these are the deeds
+pub record Rolling (total begun : ℕ) (waves : List (List ℕ)) (rolled : Rolled) (deeds : List Piece) : Type 0 where
+  pub pieces : List (List Piece)
+  pub each : WavesPieces (suc begun) total waves pieces
+  pub count : rolled.waves ≡ begun + length pieces
+  pub halted : rolled.halted ≡ nat_lt (length pieces) (length waves)
+  pub woven : Woven deeds (flat_map (λ (wave : List Piece). wave) pieces)
+  pub lines : lines_in (flat_map (λ (wave : List Piece). wave) pieces) ≡ waves_lines (suc begun) total (take (length pieces) waves) (map piece_lines deeds)
+
+-- no further wave is begun
+no_more : (total begun : ℕ) (waves : List (List ℕ)) (rolled : Rolled) (deeds : List Piece) → deeds ≡ [] → rolled ≡ record { waves = begun; halted = nat_lt 0 (length waves) } → Rolling total begun waves rolled deeds
+no_more total begun waves rolled deeds none is = record {
+  pieces = [];
+  each = tt;
+  count = ap (λ (r : Rolled). r.waves) is ∙ omega arith;
+  halted = ap (λ (r : Rolled). r.halted) is;
+  woven = Woven.ends deeds [] none refl;
+  lines = ap (λ (ws : List (List ℕ)). waves_lines (suc begun) total ws (map piece_lines deeds)) (sym (take_none waves));
+}
+
+-- a wave, and those behind it
+one_wave : (total begun : ℕ) (first : List ℕ) (others : List (List ℕ)) (rolled : Rolled) (fd fs fr deeds : List Piece) → deeds ≡ fd ++ (fs ++ fr) → EachActs (Drains None) first fd → EachActs Starts first fs
+    → length fd ≡ length first → length fs ≡ length first → Rolling total (suc begun) others rolled fr → Rolling total begun (first ∷ others) rolled deeds
+one_wave total begun first others rolled fd fs fr deeds is drained started drains starts sub =
+    let l : Line = line.Wave (suc begun) total first in
+    let joined : deeds ≡ (fd ++ fs) ++ fr = is ∙ sym (append_assoc fd fs fr) in
+    let rest : List Piece = flat_map (λ (wave : List Piece). wave) sub.pieces in
+    let size : deed_count first ≡ length (map piece_lines (fd ++ fs)) = both_counts first fd fs drains starts in
+    let parts : map piece_lines deeds ≡ map piece_lines (fd ++ fs) ++ map piece_lines fr = ap (λ (ps : List Piece). map piece_lines ps) joined ∙ map-append piece_lines (fd ++ fs) fr in
+    record {
+      pieces = (Says l ∷ (fd ++ fs)) ∷ sub.pieces;
+      each = (record { drains = fd; starts = fs; drained = drained; started = started; are = refl }, sub.each);
+      count = sub.count ∙ omega arith;
+      halted = sub.halted;
+      woven = Woven.says deeds (Says l ∷ ((fd ++ fs) ++ rest)) l ((fd ++ fs) ++ rest) (λ names. tt)
+          (subst (λ (ps : List Piece). Woven ps ((fd ++ fs) ++ rest)) (sym joined) (woven_front (fd ++ fs) fr rest sub.woven)) refl;
+      lines = ap (λ (ls : List Line). l ∷ ls) (lines_more (fd ++ fs) rest)
+          ∙ (ap (λ (ls : List Line). l ∷ (lines_in (fd ++ fs) ++ ls)) sub.lines
+          ∙ (ap (λ (ls : List Line). (l ∷ ls) ++ waves_lines (suc (suc begun)) total (take (length sub.pieces) others) (map piece_lines fr))
+          (sym (joined_all (fd ++ fs)) ∙ ap (λ (ls : List (List Line)). joined_parts ls) (sym (take_front (deed_count first) (map piece_lines (fd ++ fs)) (map piece_lines fr) size)))
+          ∙ (ap (λ (ls : List (List Line)). (l ∷ joined_parts (take (deed_count first) (map piece_lines (fd ++ fs) ++ map piece_lines fr))) ++ waves_lines (suc (suc begun)) total (take (length sub.pieces) others) ls)
+          (sym (drop_front (deed_count first) (map piece_lines (fd ++ fs)) (map piece_lines fr) size))
+          ∙ ap (λ (ls : List (List Line)). waves_lines (suc begun) total (first ∷ take (length sub.pieces) others) ls) (sym parts))));
+    }
+  where
+    both_counts : (first : List ℕ) (fd fs : List Piece) → length fd ≡ length first → length fs ≡ length first → deed_count first ≡ length (map piece_lines (fd ++ fs))
+    both_counts first fd fs one other = omega (arith, one, other, length-map (fd ++ fs) piece_lines, length-append fd fs)
+
+pub rolled_waves : (total begun : ℕ) (waves : List (List ℕ)) (asked : Bool) (old : List Held) (calls : List Call) (rolled : Rolled) (new : List Held) → WavesGo total begun waves asked old calls rolled new
+    → (deeds : List Piece) → AreAnswered calls deeds → Rolling total begun waves rolled deeds
+rolled_waves total begun waves asked old calls rolled new (drives.none t b ws a o cs r n all none is same) deeds answered =
+    no_more t b ws r deeds (none_answered deeds (subst (λ (ds : List Call). AreAnswered ds deeds) none answered))
+    (is ∙ ap (λ (k : List (List ℕ)). record { waves = b; halted = nat_lt 0 (length k) }) (sym all))
+rolled_waves total begun waves asked old calls rolled new (drives.left t b ws a o cs r n first others all halt none is same) deeds answered =
+    no_more t b ws r deeds (none_answered deeds (subst (λ (ds : List Call). AreAnswered ds deeds) none answered))
+    (is ∙ ap (λ (k : List (List ℕ)). record { waves = b; halted = nat_lt 0 (length k) }) (sym all))
+rolled_waves total begun waves asked old calls rolled new (drives.next t b ws a o cs r n first others drains starts rest later between all none drained started joined told go) deeds answered =
+    let one = apart drains (starts ++ rest) deeds (subst (λ (ds : List Call). AreAnswered ds deeds) joined answered) in
+    let two = apart starts rest one.back one.second in
+    let next : b + 1 ≡ suc b = omega arith in
+    subst (λ (k : List (List ℕ)). Rolling t b k r deeds) (sym all)
+    (one_wave t b first others r one.front two.front two.back deeds (one.is ∙ ap (λ (ps : List Piece). one.front ++ ps) two.is)
+    (drains_act first drains one.front drained one.first) (starts_act first starts two.front started two.first)
+    (drains_count first drains one.front drained one.first) (starts_count first starts two.front started two.first)
+    (subst (λ (k : ℕ). Rolling t k others r two.back) next (rolled_waves t (b + 1) others later between rest r n go two.back two.second)))
+
+-- lines behind all
+pub woven_behind : (deeds all more : List Piece) → Woven deeds all → Woven [] more → Woven deeds (all ++ more)
+woven_behind deeds all more (Woven.ends d a none empty) back =
+    subst (λ (ps : List Piece). Woven ps (a ++ more)) (sym none) (subst (λ (ps : List Piece). Woven [] (ps ++ more)) (sym empty) back)
+woven_behind deeds all more (Woven.says d a l others fits woven is) back =
+    Woven.says d (a ++ more) l (others ++ more) fits (woven_behind d others more woven back) (ap (λ (ps : List Piece). ps ++ more) is)
+woven_behind deeds all more (Woven.deed d a p rest others first woven is) back =
+    Woven.deed d (a ++ more) p rest (others ++ more) first (woven_behind rest others more woven back) (ap (λ (ps : List Piece). ps ++ more) is)

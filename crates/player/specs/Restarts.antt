@@ -1,0 +1,126 @@
+-- What the leaves of a crew do while a rollover restarts them.
+use Rattle.std.specs.Prelude.{◌≡◌, ◌⊎◌, ℕ, ◌<◌, List, [], ◌∷◌, ◌++◌, map, Option, None, Result, Ok, Err, Vec, IfOk, ⊤}
+use Rattle.std.specs.Global.{Global}
+use denote.Ref.{MutBor}
+use denote.Param.Members.{Shared}
+use Rattle.berth_face.specs.Berth.{Meaning}
+use Rattle.rollover_watch.specs.declared.event.Drained.{Drained}
+use Rattle.rollover_watch.specs.declared.event.Started.{Started}
+use Rattle.rollover_driver.specs.Calls.{Call}
+use Rattle.rollover_driver.specs.Calls as call
+use Rattle.printed_lines.specs.declared.line.Ending.{Ending}
+use Rattle.printed_lines.specs.declared.line.Line.{Line}
+use Rattle.transcript.specs.Pieces.{Acted, Deed, Drains, Noted, Piece, Starts, leaf_count, piece_lines}
+use Rattle.transcript.specs.Watching.{drained_by, started_by}
+use Rattle.player.specs.declared.answer.Answer.{Answer}
+use Rattle.player.specs.declared.act.Task.{Task}
+use Rattle.player.specs.declared.act.Task.TheVariants as task
+use Rattle.player.specs.declared.members.Members.{Members}
+use Rattle.player.specs.Crew.{HasLeaf}
+use Rattle.player.specs.Members.{AreMembers, GoesWith, SameFleet, fleet_in, holds_in}
+use Rattle.player.specs.Commands.{DeedAt, deed_of}
+
+-- ---- deeds
+
+-- a drain to its end, or a start
+abbrev pub IsRestart : Task → Type 0
+IsRestart task.Start = ⊤
+IsRestart (task.Flush table) = ⊥
+IsRestart (task.Drain stop) = stop ≡ None
+IsRestart task.Kill = ⊥
+
+-- a leaf of a crew that has all its leaves may be drained and started
+pub record MayDo {B : Type 0} (x : Members B) (number : ℕ) : Type 0 where
+  pub members : AreMembers x
+  pub within : number < leaf_count (fleet_in x)
+  pub held : (leaf : ℕ) → HasLeaf (holds_in x) leaf
+
+-- a leaf was drained or started
+pub record HasDone {B E : Type 0} (meaning : B → Meaning) (number : ℕ) (task : Task) (x : Members B) (result : Answer × Result (Vec Line Global) E) (y : Members B) : Type 0 where
+  pub members : AreMembers y
+  pub same : SameFleet x y
+  pub deed : DeedAt meaning number (deed_of task) x result.0 result.1 y
+
+module _ {F T E : Type 0} (g : Shared F (MutBor T × (ℕ × (Task × Unit {0}))) ((Answer × Result (Vec Line Global) E) × (MutBor T × Unit {0}))) (f : F)
+    (may : T → ℕ → Type 0) (did : T → ℕ → Task → Answer × Result (Vec Line Global) E → T → Type 0) where
+  -- a closure that drains and starts leaves, and what may be done of a leaf then
+  pub record DoesDeeds : Type 0 where
+    pub may_call : (p : MutBor T) (number : ℕ) (task : Task) → may p.now number → IsRestart task → g.pre f (p, (number, (task, tt)))
+    pub does : (p q : MutBor T) (number : ℕ) (task : Task) (r : Answer × Result (Vec Line Global) E) → g.post f (p, (number, (task, tt))) (r, (q, tt)) → did p.now number task r q.now
+    pub keeps : (x y : T) (number : ℕ) (task : Task) (r : Answer × Result (Vec Line Global) E) (other : ℕ) → did x number task r y → may x other → may y other
+
+  -- and a leaf that it may drain and start
+  pub record MayRestart (x : T) (leaf : ℕ) : Type 0 where
+    pub here : may x leaf
+    pub deeds : DoesDeeds
+
+-- ---- their lines
+
+-- the lines of each deed
+abbrev pub lines_of : List (Vec Line Global) → List (List Line)
+lines_of parts = map (λ (lines : Vec Line Global). lines.items) parts
+
+-- the lines that were not refused stand behind those of earlier deeds
+abbrev pub PartJoins : {E : Type 0} → Result (Vec (Vec Line Global) Global) E → Result (Vec Line Global) E → List (Vec Line Global) → Type 0
+PartJoins (Ok before) (Ok lines) after = after ≡ before.items ++ lines ∷ []
+PartJoins (Ok before) (Err e) after = ⊥
+PartJoins (Err e) part after = ⊥
+
+-- the lines of these pieces stand behind those of earlier deeds
+abbrev pub ArePartsOf : {E : Type 0} → Result (Vec (Vec Line Global) Global) E → List Piece → List (Vec Line Global) → Type 0
+ArePartsOf (Ok before) pieces after = lines_of after ≡ lines_of before.items ++ map piece_lines pieces
+ArePartsOf (Err e) pieces after = ⊥
+
+-- ---- a chain of them
+
+-- the piece of a drain that was answered so
+abbrev pub IsDrained : ℕ → Drained → Piece → Type 0
+IsDrained leaf got p = (notes : List Noted) × (ending : Ending) × (p ≡ Acted leaf (Drains None) notes ending) × (got ≡ drained_by ending)
+
+-- the piece of a start that was answered so
+abbrev pub IsStarted : ℕ → Started → Piece → Type 0
+IsStarted leaf got p = (notes : List Noted) × (ending : Ending) × (p ≡ Acted leaf Starts notes ending) × (got ≡ started_by ending)
+
+-- the pieces of calls, one for each
+abbrev pub AreAnswered : List Call → List Piece → Type 0
+AreAnswered [] [] = ⊤
+AreAnswered [] (p ∷ ps) = ⊥
+AreAnswered (call.Drains leaf got ∷ calls) [] = ⊥
+AreAnswered (call.Starts leaf got ∷ calls) [] = ⊥
+AreAnswered (call.Drains leaf got ∷ calls) (p ∷ ps) = IsDrained leaf got p × AreAnswered calls ps
+AreAnswered (call.Starts leaf got ∷ calls) (p ∷ ps) = IsStarted leaf got p × AreAnswered calls ps
+
+-- no lines were made
+abbrev pub no_lines : Result (Vec Line Global) (Unit {0})
+no_lines = Err tt
+
+-- calls one after another, with the lines of each
+pub data Chain {T E : Type 0} (did : T → ℕ → Task → Answer × Result (Vec Line Global) E → T → Type 0) (x : T) (told : Result (Vec (Vec Line Global) Global) E) : (calls : List Call) (y : T) (told' : Result (Vec (Vec Line Global) Global) E) → Type 0 where
+  none : (calls : List Call) (y : T) (told' : Result (Vec (Vec Line Global) Global) E)
+      → calls ≡ []
+      → y ≡ x
+      → told' ≡ told
+      → Chain did x told calls y told'
+  drained : (calls : List Call) (y : T) (told' : Result (Vec (Vec Line Global) Global) E) (earlier : List Call) (mid : T) (told_mid : Result (Vec (Vec Line Global) Global) E)
+      (leaf : ℕ) (answer : Answer) (lines : Result (Vec Line Global) E)
+      → Chain did x told earlier mid told_mid
+      → did mid leaf (task.Drain None) (answer, lines) y
+      → IfOk told' (λ parts. PartJoins told_mid lines parts.items)
+      → calls ≡ earlier ++ call.Drains leaf answer.drained ∷ []
+      → Chain did x told calls y told'
+  started : (calls : List Call) (y : T) (told' : Result (Vec (Vec Line Global) Global) E) (earlier : List Call) (mid : T) (told_mid : Result (Vec (Vec Line Global) Global) E)
+      (leaf : ℕ) (answer : Answer) (lines : Result (Vec Line Global) E)
+      → Chain did x told earlier mid told_mid
+      → did mid leaf task.Start (answer, lines) y
+      → IfOk told' (λ parts. PartJoins told_mid lines parts.items)
+      → calls ≡ earlier ++ call.Starts leaf answer.started ∷ []
+      → Chain did x told calls y told'
+
+-- leaves took these calls, with their pieces and the lines of each
+pub record Restarted {B E : Type 0} (meaning : B → Meaning) (x : Members B) (told : Result (Vec (Vec Line Global) Global) E) (calls : List Call) (y : Members B) (told' : Result (Vec (Vec Line Global) Global) E) : Type 0 where
+  pub pieces : List Piece
+  pub answered : AreAnswered calls pieces
+  pub members : AreMembers x → AreMembers y
+  pub same : SameFleet x y
+  pub goes : GoesWith meaning x.names (holds_in x) no_lines pieces (holds_in y)
+  pub parts : IfOk told' (λ after. ArePartsOf told pieces after.items)

@@ -1,0 +1,102 @@
+// The leaves of a crew while a rollover restarts them.
+ghost use Rattle.std.specs.Prelude.{◌≡◌, [], ◌∷◌, ◌++◌, IfOk, IsOkAnd, OnOk, MatchResult};
+ghost use Rattle.player.specs.Restarts.{DoesDeeds, IsRestart, MayRestart, PartJoins};
+
+use crate::act::Task;
+use crate::answer::Answer;
+use printed_lines::Line;
+use rollover_driver::Fleet;
+use rollover_watch::{Drained, Started};
+use std::alloc::{AllocError, Global};
+
+/// What is known of leaves that a closure drains and starts.
+pub trait Leaves {
+    ghost use Rattle.std.specs.Prelude.{ℕ, Result, Vec};
+    ghost use Rattle.std.specs.Global.{Global};
+    ghost use Rattle.std.specs.declared.alloc.AllocError.{AllocError};
+    ghost use Rattle.printed_lines.specs.declared.line.Line.{Line};
+    ghost use Rattle.player.specs.declared.answer.Answer.{Answer};
+    ghost use Rattle.player.specs.declared.act.Task.{Task};
+
+    /// When a leaf may be drained and started.
+    ghost may: { Self → ℕ → Type 0 };
+
+    /// What such a deed did, with its answer and its lines.
+    ghost did: { Self → ℕ → Task → Answer × Result (Vec Line Global) AllocError → Self → Type 0 };
+}
+
+/// The leaves, the lines of each deed, and what does the deeds: a closure, since a method of a trait may not need the gate.
+pub struct Restarts<'f, T, F> {
+    pub leaves: T,
+    pub told: Result<Vec<Vec<Line>>, AllocError>,
+    pub act: &'f F,
+}
+
+impl<'f, T: Leaves, F: Fn(&mut T, u32, Task) -> (Answer, Result<Vec<Line>, AllocError>)> Restarts<'f, T, F> {
+    pub fn of(alloc: Global, leaves: T, act: &'f F) -> Self
+        requires { DoesDeeds F.Fn act.now T.may T.did }
+        ensures deeds { DoesDeeds F.Fn result.act.now T.may T.did }
+        ensures leaves { result.leaves ≡ leaves }
+        ensures told { IsOkAnd result.told (λ parts. parts.items ≡ []) }
+    {
+        Restarts {
+            leaves,
+            told: Ok(Vec::new(alloc)),
+            act,
+        }
+    }
+
+    // Drains or starts a leaf, and keeps its lines.
+    fn restart(&mut self, leaf: u32, task: Task) -> Answer
+        requires may { MayRestart F.Fn self.old.act.now T.may T.did self.old.leaves leaf }
+        requires task { IsRestart task }
+        ensures act { self.new.act ≡ self.old.act }
+        ensures done { (lines : _) × T.did self.old.leaves leaf task (result, lines) self.new.leaves × IfOk self.new.told (λ parts. PartJoins self.old.told lines parts.items) }
+    {
+        let (answer, lines) = (self.act)(&mut self.leaves, leaf, task);
+        put_part(&mut self.told, lines);
+        answer
+    }
+}
+
+impl<'f, T: Leaves, F: Fn(&mut T, u32, Task) -> (Answer, Result<Vec<Line>, AllocError>)> Fleet for Restarts<'f, T, F> {
+    ghost use Rattle.std.specs.Prelude.{[], refl};
+    ghost use Rattle.player.specs.Restarts.{Chain, MayRestart};
+    ghost use Rattle.player.specs.Restarts as restart;
+
+    ghost has = { λ fleet leaf. MayRestart F.Fn fleet.act.now T.may T.did fleet.leaves leaf };
+
+    ghost stands = { λ first calls now. Chain T.did first.leaves first.told calls now.leaves now.told };
+
+    fn drain(&mut self, leaf: u32) -> Drained {
+        self.restart(leaf, Task::Drain(None)).drained
+    }
+
+    fn start(&mut self, leaf: u32) -> Started {
+        self.restart(leaf, Task::Start).started
+    }
+
+    ghost stays = { λ fleet. restart.none [] fleet.leaves fleet.told refl refl refl };
+}
+
+// Puts the lines of a deed behind those of earlier ones. Where either were refused, so are all.
+fn put_part(told: &mut Result<Vec<Vec<Line>>, AllocError>, part: Result<Vec<Line>, AllocError>)
+    ensures { IfOk told.new (λ parts. PartJoins told.old part parts.items) }
+{
+    if let Ok(parts) = told {
+        if let Err(fault) = push_part(parts, part) {
+            *told = Err(fault);
+        }
+    }
+}
+
+// The same behind lines that were not refused.
+fn push_part(
+    parts: &mut Vec<Vec<Line>>,
+    part: Result<Vec<Line>, AllocError>,
+) -> Result<(), AllocError>
+    ensures { OnOk result (MatchResult part (λ lines. parts.new.items ≡ parts.old.items ++ lines ∷ []) (λ refused. ⊥)) }
+{
+    parts.push(part?)?;
+    Ok(())
+}

@@ -1,0 +1,127 @@
+// The lines of a rollover.
+ghost use Rattle.std.specs.Prelude.{◌≡◌, ◌+◌, ◌<◌, ◌≤◌, ◌^◌, ◌++◌, ◌∷◌, length, map, take, drop, IfOk, OnOk, vec_len};
+ghost use Rattle.printed_lines.specs.declared.line.Line.TheVariants as line;
+ghost use Rattle.transcript.specs.Watching.{watch_line};
+ghost use Rattle.player.specs.Restarts.{lines_of};
+ghost use Rattle.player.specs.Rolled.{deed_count, joined_parts, part_lines, rolled_lines, watch_lines, wave_lines, waves_lines};
+
+use printed_lines::Line;
+use rollover_driver::Rolled;
+use rollover_plan::{Wave, Waves};
+use rollover_watch::Watch;
+use std::alloc::{AllocError, Global};
+use std::collections::VecDeque;
+
+/// The lines of the waves that were begun, each before those of its deeds; how the rollover ended; and those of the watches.
+pub fn rolled_lines(
+    alloc: Global,
+    plan: Waves,
+    rolled: Rolled,
+    told: Vec<Vec<Line>>,
+    watches: &[Box<dyn Watch>],
+) -> Result<Vec<Line>, AllocError>
+    requires few { length plan < 2 ^ 32 }
+    requires begun { rolled.waves ≤ length plan }
+    ensures { IfOk result (λ lines. lines.items ≡ rolled_lines plan rolled (lines_of told.items) (map (λ watch. held watch) watches.now)) }
+{
+    let of = plan.as_slice().len() as u32;
+    let mut lines = Vec::new(alloc);
+    put_waves(&mut lines, of, rolled.waves, plan, told)?;
+    lines.push(Line::Rolled {
+        halted: rolled.halted,
+        waves: rolled.waves,
+        of,
+    })?;
+    put_watches(&mut lines, watches)?;
+    Ok(lines)
+}
+
+// Puts the lines of the first so many waves behind the others.
+fn put_waves(
+    lines: &mut Vec<Line>,
+    of: u32,
+    begun: u32,
+    plan: Waves,
+    told: Vec<Vec<Line>>,
+) -> Result<(), AllocError>
+    requires { begun ≤ length plan }
+    ensures { OnOk result (lines.new.items ≡ lines.old.items ++ waves_lines 1 of (take begun plan) (lines_of told.items)) }
+{
+    let mut waves = VecDeque::from_vec(plan.into_inner());
+    let mut told = VecDeque::from_vec(told);
+    for number in 0..begun {
+        match waves.pop_front() {
+            None => unreachable!(),
+            Some(wave) => put_wave(lines, number + 1, of, wave, &mut told)?,
+        }
+    }
+    Ok(())
+}
+
+// Puts a wave's line, and those of its deeds, behind the others.
+fn put_wave(
+    lines: &mut Vec<Line>,
+    number: u32,
+    of: u32,
+    wave: Wave,
+    told: &mut VecDeque<Vec<Line>>,
+) -> Result<(), AllocError>
+    ensures lines { OnOk result (lines.new.items ≡ lines.old.items ++ wave_lines number of wave (lines_of told.old.items)) }
+    ensures told { OnOk result (lines_of told.new.items ≡ drop (deed_count wave) (lines_of told.old.items)) }
+{
+    let leaves = wave.as_slice().len();
+    lines.push(Line::Wave {
+        number,
+        of,
+        leaves: wave,
+    })?;
+    put_parts(lines, leaves, told)?;
+    put_parts(lines, leaves, told)
+}
+
+// Puts the lines of the first so many deeds behind the others.
+fn put_parts(
+    lines: &mut Vec<Line>,
+    count: usize,
+    told: &mut VecDeque<Vec<Line>>,
+) -> Result<(), AllocError>
+    ensures lines { OnOk result (lines.new.items ≡ lines.old.items ++ joined_parts (take count (lines_of told.old.items))) }
+    ensures told { OnOk result (lines_of told.new.items ≡ drop count (lines_of told.old.items)) }
+{
+    for _ in 0..count {
+        put_part(lines, told.pop_front())?;
+    }
+    Ok(())
+}
+
+// Puts the lines of a deed behind the others, where there is one.
+fn put_part(lines: &mut Vec<Line>, part: Option<Vec<Line>>) -> Result<(), AllocError>
+    ensures { OnOk result (lines.new.items ≡ lines.old.items ++ part_lines part) }
+{
+    match part {
+        None => Ok(()),
+        Some(part) => {
+            let mut part = part;
+            lines.append(&mut part)
+        }
+    }
+}
+
+// Puts the lines of watches behind the others.
+fn put_watches(lines: &mut Vec<Line>, watches: &[Box<dyn Watch>]) -> Result<(), AllocError>
+    ensures { OnOk result (lines.new.items ≡ lines.old.items ++ watch_lines (map (λ watch. held watch) watches.now)) }
+{
+    for watch in watches {
+        lines.push(line_of(watch))?;
+    }
+    Ok(())
+}
+
+// The line of a watch.
+fn line_of(watch: &Box<dyn Watch>) -> Line
+    ensures { result ≡ line.Watch (watch_line (held watch.now)) }
+{
+    let mut text = rollover_watch::Line::new();
+    watch.line(&mut text);
+    Line::Watch(text)
+}

@@ -1,0 +1,113 @@
+// A rollover of the leaves.
+ghost use Rattle.std.specs.Prelude.{◌≡◌, ◌⊎◌, ◌<◌, ◌≤◌, ℕ, [], length, map, IsErr};
+ghost use Rattle.script_text.specs.declared.command.Command.TheVariants.{Rollover};
+ghost use Rattle.std.specs.List.{AllByRecursion};
+ghost use Rattle.transcript.specs.Pieces.{leaf_count};
+ghost use Rattle.player.specs.Crew.{AllPass, HasLeaf, PlaysWith, StillHas};
+ghost use Rattle.player.specs.Members.{AreMembers, SameFleet, fleet_in, holds_in};
+ghost use Rattle.player.specs.Restarts.{HasDone, IsRestart, MayDo};
+ghost use Rattle.player.specs.Rolled.{RollsThrough};
+
+use crate::act::Task;
+use crate::members::Members;
+use crate::restarts::Restarts;
+use crate::rolled::rolled_lines;
+use berth_face::{Berth, Gate};
+use leaf_model::Names;
+use printed_lines::Line;
+use rollover_driver::{Rolled, drive};
+use rollover_plan::{Waves, waves};
+use rollover_watch::Watch;
+use std::alloc::{AllocError, Global};
+use std::mem::replace;
+use std::sync::Wait;
+
+impl<'t, B: Berth> Members<'t, B> {
+    /// Drains and starts the leaves wave by wave, and tells the watches. Memory for the plan is had before any leaf is drained.
+    /// Want of memory for the lines loses none of what was done.
+    pub fn rollover<R: Wait, G: Gate>(
+        &mut self,
+        rt: &R,
+        alloc: Global,
+        gate: &G,
+        watches: &mut Vec<Box<dyn Watch>>,
+        percent: u32,
+    ) -> Result<Vec<Line>, AllocError>
+        requires members { AreMembers self.old }
+        requires held { (leaf : ℕ) → HasLeaf (holds_in self.old) leaf }
+        requires low { 0 < percent }
+        requires high { percent ≤ 100 }
+        ensures members { AreMembers self.new }
+        ensures same { SameFleet self.old self.new }
+        ensures plays { PlaysWith B.meaning (fleet_in self.old) (Rollover percent) (holds_in self.old) (map (λ watch. held watch) watches.old.items) result (holds_in self.new) (map (λ watch. held watch) watches.new.items)
+            ⊎ (IsErr result × (holds_in self.new ≡ holds_in self.old) × (map (λ watch. held watch) watches.new.items ≡ map (λ watch. held watch) watches.old.items)) }
+        ensures still { StillHas (holds_in self.old) (holds_in self.new) }
+        ensures time { AllPass B.meaning (holds_in self.old) (holds_in self.new) }
+    {
+        let plan = waves(alloc, self.machines, self.per_machine, percent)?;
+        let (rolled, told) = self.roll(rt, alloc, gate, &plan, watches);
+        rolled_lines(alloc, plan, rolled, told?, watches.as_slice())
+    }
+
+    // Goes through the waves, and gives the lines of each deed.
+    fn roll<R: Wait, G: Gate>(
+        &mut self,
+        rt: &R,
+        alloc: Global,
+        gate: &G,
+        plan: &Waves,
+        watches: &mut Vec<Box<dyn Watch>>,
+    ) -> (Rolled, Result<Vec<Vec<Line>>, AllocError>)
+        requires members { AreMembers self.old }
+        requires held { (leaf : ℕ) → HasLeaf (holds_in self.old) leaf }
+        requires few { length plan.now ≤ leaf_count (fleet_in self.old) }
+        requires known { AllByRecursion (λ wave. AllByRecursion (λ leaf. leaf < leaf_count (fleet_in self.old)) wave) plan.now }
+        ensures { RollsThrough B.meaning plan.now self.old (map (λ watch. held watch) watches.old.items) result.0 result.1 self.new (map (λ watch. held watch) watches.new.items) }
+    {
+        let act = |members: &mut Members<B>, number: u32, task: Task|
+            requires { MayDo members.old number × IsRestart task }
+            ensures { HasDone B.meaning number task members.old result members.new }
+        { members.deed(rt, alloc, gate, number, task) };
+        let mut fleet = Restarts::of(alloc, self.taken(alloc), &act);
+        let rolled = drive(&mut fleet, plan, watches);
+        let Restarts {
+            leaves,
+            told,
+            act: _,
+        } = fleet;
+        self.put_back(leaves);
+        (rolled, told)
+    }
+
+    // Takes the leaves, and leaves none.
+    fn taken(&mut self, alloc: Global) -> Members<'t, B>
+        ensures taken { result ≡ self.old }
+        ensures left { self.new.leaves.items ≡ [] }
+    {
+        let bare = Members {
+            names: Names::of(Vec::new(alloc)),
+            machines: 0,
+            per_machine: 0,
+            tables: self.tables,
+            leaves: Vec::new(alloc),
+            rows: Vec::new(alloc),
+        };
+        replace(self, bare)
+    }
+
+    // Puts them back where they were taken.
+    fn put_back(&mut self, members: Members<'t, B>)
+        requires { self.old.leaves.items ≡ [] }
+        ensures { self.new ≡ members.entry }
+    {
+        let Members {
+            names: _,
+            machines: _,
+            per_machine: _,
+            tables: _,
+            leaves,
+            rows: _,
+        } = replace(self, members);
+        leaves.destroy_empty();
+    }
+}
