@@ -4,12 +4,11 @@ use Rattle.std.proofs.Math.Nat.{mul-le-mul_right}
 use Rattle.std.proofs.lemmas.List.FromFn.{length-map-range_with_len, map-range_with_len_more}
 use Rattle.std.specs.List.{range_with_len}
 use Rattle.leaf_model.specs.declared.rows.Row.{Row}
-use Rattle.rand_pcg.specs.Lcg.{Lcg, advance, next, next_state, state_after}
+use Rattle.rand_pcg.specs.Lcg.{Lcg, next, next_state, state_after}
 use Rattle.rand_pcg.specs.Pcg.{multiplier_64, pcg32}
 use Rattle.script_text.specs.declared.command.Command.TheVariants as command
 use Rattle.script_text.specs.declared.item.Item.{Item}
 use Rattle.script_text.specs.declared.item.Item.TheVariants.{One}
-use Rattle.script_text.specs.declared.script.Script.{Script}
 use Rattle.soak.specs.Soak.{add_of, both_queries, first_row, fleet, generator, generator_behind, row_at, row_with, rows_between, soak_script, word}
 
 -- one step behind n steps

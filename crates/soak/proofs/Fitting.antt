@@ -1,21 +1,17 @@
 -- The script of a soak is one.
-use Rattle.std.proofs.Common.{◌≡◌, ◌≢◌, ◌<◌, ◌≤◌, ◌^◌, ℕ, zero, suc, ◌+◌, ◌-◌, ◌*◌, ◌%◌, ◌==◌, Bool, true, false, List, [], ◌∷◌, ◌++◌, length, map, refl, sym, ap, ◌∙◌, subst, arith, rules, codes, decimal, IsUtf8, slice_index, length-append}
+use Rattle.std.proofs.Common.{◌≡◌, ◌<◌, ◌≤◌, ◌^◌, ℕ, zero, suc, ◌+◌, ◌-◌, ◌*◌, ◌%◌, ◌==◌, Bool, true, false, List, [], ◌∷◌, ◌++◌, length, map, refl, sym, ap, subst, arith, rules, codes, decimal, IsUtf8, slice_index, length-append}
 use Rattle.std.proofs.lemmas.Fmt.{IsAscii-decimal, length-decimal-le}
 use Rattle.std.proofs.lemmas.Str.{IsAscii-append, IsUtf8-from_ascii}
-use Rattle.std.specs.Cmp.Lexicographic.{slice_cmp}
 use Rattle.std.specs.List.{AllByRecursion, range_with_len}
 use Rattle.std.specs.List.Sorted.{IsStrictlySortedBy}
-use Rattle.std.specs.Ordering.{nat_cmp}
 use Rattle.std.specs.Str.{IsAscii}
 use Rattle.leaf_model.specs.declared.queries.Agg.TheVariants.{Count}
-use Rattle.leaf_model.specs.declared.rows.Row.{Row}
-use Rattle.leaf_model.specs.declared.rows.Cell.{Cell}
 use Rattle.leaf_model.specs.Values.{IsCell, IsCellName, IsRow}
 use Rattle.query_text.specs.Grammar.{IsQuery}
 use Rattle.script_text.specs.declared.command.Command.TheVariants as command
 use Rattle.script_text.specs.declared.item.Item.TheVariants.{One}
 use Rattle.script_text.specs.Fits.{AreLeaves, AreTables, IsItem, IsScript}
-use Rattle.soak.specs.Soak.{add_of, both_queries, code_cells, count_query, events, first_row, host_cell, host_query, row_at, row_with, rows_between, soak_script, word}
+use Rattle.soak.specs.Soak.{add_of, both_queries, count_query, events, first_row, host_cell, host_query, row_at, row_with, rows_between, soak_script, word}
 use Rattle.soak.proofs.Drawn.{rows_count, shares_end, shares_fit}
 
 -- ---- names and texts

@@ -1,5 +1,4 @@
-use Rattle.std.proofs.Common.{◌≡◌, ◌∙◌, subst, sym}
-use Rattle.script_text.specs.declared.script.Script.{Script}
+use Rattle.std.proofs.Common.{◌∙◌, subst, sym}
 use Rattle.script_text.specs.Fits.{IsScript}
 use Rattle.soak.proofs.Drawn.{whole}
 use Rattle.soak.proofs.Fitting.{soak_fits}

@@ -1,4 +1,4 @@
-use Rattle.std.proofs.Common.{◌≡◌, ◌+◌, ◌≤◌, ◌∙◌, sym, ap, subst, arith, length}
+use Rattle.std.proofs.Common.{◌≡◌, ◌+◌, ◌∙◌, sym, ap, arith, length}
 use Rattle.soak.specs.Soak.{row_at, rows_between}
 use Rattle.soak.proofs.Drawn.{rows_count, rows_more}
 use Rattle.soak.proofs.draw.Draw.rows.Goals as goal
