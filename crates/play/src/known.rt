@@ -198,7 +198,8 @@ pub fn run_twice<N: Bases, R: Wait + Threads + Sync, S: Source, K: Sink, B: Bert
     ensures first { result.0 ≡ Status.Done → (between : List B) × (meanwhile : List Held) × IsPlayed N.base B.meaning (S.left source.old) (S.left source.new) (K.written sink.old) (K.written sink.new) berths.old.items between
         (map (λ watch. held watch) watches.old.items) meanwhile }
     ensures both { result.1 ≡ Some Status.Done → ArePlayedTwice N.base B.meaning (S.left source.old) (S.left source.new) (K.written sink.old) (K.written sink.new)
-        (S.left next_source.old) (S.left next_source.new) (K.written next_sink.old) (K.written next_sink.new) berths.old.items berths.new.items }
+        (S.left next_source.old) (S.left next_source.new) (K.written next_sink.old) (K.written next_sink.new) berths.old.items berths.new.items
+        (map (λ watch. held watch) watches.old.items) (map (λ watch. held watch) watches.new.items) }
     ensures in_order { IsSome result.1 → result.0 ≡ Status.Done }
 {
     let (status, known) = run_keeping::<N, R, S, K, B, G>(
