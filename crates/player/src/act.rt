@@ -79,7 +79,7 @@ impl<'t, B: Berth> Members<'t, B> {
     }
 
     /// Lets the steward of that leaf do what it is told, and gives how that ended, with its lines.
-    pub fn deed<R: Wait, G: Gate>(
+    pub fn deed<R: Wait + Threads + Sync, G: Gate>(
         &mut self,
         rt: &R,
         alloc: Global,

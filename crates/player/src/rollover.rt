@@ -21,11 +21,12 @@ use rollover_watch::Watch;
 use std::alloc::{AllocError, Global};
 use std::mem::replace;
 use std::sync::Wait;
+use std::thread::Threads;
 
 impl<'t, B: Berth> Members<'t, B> {
     /// Drains and starts the leaves wave by wave, and tells the watches. Memory for the plan is had before any leaf is drained.
     /// Want of memory for the lines loses none of what was done.
-    pub fn rollover<R: Wait, G: Gate>(
+    pub fn rollover<R: Wait + Threads + Sync, G: Gate>(
         &mut self,
         rt: &R,
         alloc: Global,
@@ -50,7 +51,7 @@ impl<'t, B: Berth> Members<'t, B> {
     }
 
     // Goes through the waves, and gives the lines of each deed.
-    fn roll<R: Wait, G: Gate>(
+    fn roll<R: Wait + Threads + Sync, G: Gate>(
         &mut self,
         rt: &R,
         alloc: Global,
