@@ -239,9 +239,11 @@ module _ {B : Type 0} (meaning : B → Meaning) (olds news own : List B) (old_xs
   abbrev parts : front ++ drop leaves olds ≡ olds
   parts = take-append-drop leaves olds
 
-  pub crew_written : (base : ℕ → Option NamedStates) (items : List Item) (fleet : Fleet) (was now : Option (List ℕ)) (watching watched : List Held) → fleet_of items ≡ fleet → leaf_count fleet ≡ leaves
-      → IsRun base meaning fleet (berths_in old_xs) was now watching watched items xs → IsWritten meaning olds news base items was now watching watched
-  crew_written base items fleet was now watching watched is size run =
+  pub crew_written : (base : ℕ → Option NamedStates) (items played : List Item) (fleet : Fleet) (was now : Option (List ℕ)) (watching watched : List Held) → fleet_of items ≡ fleet → leaf_count fleet ≡ leaves
+      → played ≡ items → IsRun base meaning fleet (berths_in old_xs) was now watching watched played xs → IsWritten meaning olds news base items was now watching watched
+  crew_written base items played fleet was now watching watched is size all ran =
+      let run : IsRun base meaning fleet (berths_in old_xs) was now watching watched items xs =
+      subst (λ (is : List Item). IsRun base meaning fleet (berths_in old_xs) was now watching watched is xs) all ran in
       let here : IsRun base meaning (fleet_of items) front was now watching watched items xs =
       subst (λ (f : Fleet). IsRun base meaning f front was now watching watched items xs) (sym is)
       (subst (λ (bs : List B). IsRun base meaning fleet bs was now watching watched items xs) had run) in

@@ -165,20 +165,20 @@ module _ {B : Type 0} (base : ℕ → Option NamedStates) (meaning : B → Meani
 -- a play that was done leaves this known
 pub leaves_known : {B : Type 0} (base : ℕ → Option NamedStates) (meaning : B → Meaning) (before after was now : Option (List ℕ)) (old new : List B) (watching watched : List Held)
     → IsPlayed base meaning before after was now old new watching watched → AreBases base meaning old → length new ≡ length old
-    → (next : List (Option (List Kept))) × LeavesKnown base meaning before after was now old new watching watched next
+    → (next : List (Option (List Kept))) × LeavesKnown base meaning before after was now old new next
 leaves_known base meaning before after was now old new watching watched played are as_many =
     let known = all_known base meaning old new are in
     let next = keeps_each base meaning old new played.script.items known.0 played.written.lines watching watched are known.1
     (λ leaf b at. element_at old leaf (omega (arith, within new leaf b at, as_many))) (played.written.told known.0 known.1) in
-    (next.0, record { played = played; known = known.0; are_known = known.1; keeps = next.1 })
+    (next.0, record { watching = watching; watched = watched; played = played; known = known.0; are_known = known.1; keeps = next.1 })
 
--- the same, where what the source, the sink, the berths and the watches were is told by other values
-pub leaves_kept : {B S K : Type 0} (base : ℕ → Option NamedStates) (meaning : B → Meaning) (left : S → Option (List ℕ)) (written : K → Option (List ℕ)) (source said_source next_source : S) (sink said_sink next_sink : K) (old said_old new : List B) (watching said_watching watched : List Held)
-    → said_source ≡ source → said_sink ≡ sink → said_old ≡ old → said_watching ≡ watching
+-- the same, where what the source, the sink and the berths were is told by other values
+pub leaves_kept : {B S K : Type 0} (base : ℕ → Option NamedStates) (meaning : B → Meaning) (left : S → Option (List ℕ)) (written : K → Option (List ℕ)) (source said_source next_source : S) (sink said_sink next_sink : K) (old said_old new : List B) (watching watched : List Held)
+    → said_source ≡ source → said_sink ≡ sink → said_old ≡ old
     → IsPlayed base meaning (left source) (left next_source) (written sink) (written next_sink) old new watching watched → AreBases base meaning old → length new ≡ length old
-    → (next : List (Option (List Kept))) × LeavesKnown base meaning (left said_source) (left next_source) (written said_sink) (written next_sink) said_old new said_watching watched next
-leaves_kept base meaning left written source said_source next_source sink said_sink next_sink old said_old new watching said_watching watched e f h i played are places =
-    rw (e, f, h, i) (leaves_known base meaning (left source) (left next_source) (written sink) (written next_sink) old new watching watched played are places)
+    → (next : List (Option (List Kept))) × LeavesKnown base meaning (left said_source) (left next_source) (written said_sink) (written next_sink) said_old new next
+leaves_kept base meaning left written source said_source next_source sink said_sink next_sink old said_old new watching watched e f h played are places =
+    rw (e, f, h) (leaves_known base meaning (left source) (left next_source) (written sink) (written next_sink) old new watching watched played are places)
 
 -- ---- what is kept serves the next run
 
@@ -196,9 +196,9 @@ kept_is_base fleet leaf None histories m (Some kept) keeps = absurd cc
 kept_is_base fleet leaf (Some k) histories m None keeps = tt
 kept_is_base fleet leaf (Some k) histories m (Some kept) keeps = keeps.is_base
 
-pub bases_left : {B : Type 0} (base : ℕ → Option NamedStates) (meaning : B → Meaning) (before after was now : Option (List ℕ)) (old new : List B) (watching watched : List Held) (next : List (Option (List Kept)))
-    → LeavesKnown base meaning before after was now old new watching watched next → AreBases (bases_of next) meaning new
-bases_left base meaning before after was now old new watching watched next leaves = λ leaf b at.
+pub bases_left : {B : Type 0} (base : ℕ → Option NamedStates) (meaning : B → Meaning) (before after was now : Option (List ℕ)) (old new : List B) (next : List (Option (List Kept)))
+    → LeavesKnown base meaning before after was now old new next → AreBases (bases_of next) meaning new
+bases_left base meaning before after was now old new next leaves = λ leaf b at.
     let told = leaves.played.written.told leaves.known leaves.are_known in
     base_there meaning b next leaf (λ kept is.
     kept_is_base (fleet_of leaves.played.script.items) leaf (leaves.known leaf) (told.transcript.histories leaf) (meaning b) kept (leaves.keeps.each leaf b kept at is))
@@ -210,12 +210,13 @@ pub is_played : {B : Type 0} (base : ℕ → Option NamedStates) (meaning : B �
 is_played base meaning request before after was now old new watching watched e done = subst (λ (r : Option Request). IsDone base meaning r before after was now old new watching watched) e done
 
 pub played_twice : {B : Type 0} (base : ℕ → Option NamedStates) (meaning : B → Meaning) (request : Option Request) (before after was now next_before next_after next_was next_now : Option (List ℕ)) (old between new : List B) (watching meanwhile watched : List Held) (next : List (Option (List Kept)))
-    → request ≡ Some Play → LeavesKnown base meaning before after was now old between watching meanwhile next → IsDone (bases_of next) meaning request next_before next_after next_was next_now between new meanwhile watched
+    → request ≡ Some Play → IsPlayed base meaning before after was now old between watching meanwhile → LeavesKnown base meaning before after was now old between next → IsDone (bases_of next) meaning request next_before next_after next_was next_now between new meanwhile watched
     → ArePlayedTwice base meaning before after was now next_before next_after next_was next_now old new watching watched
-played_twice base meaning request before after was now next_before next_after next_was next_now old between new watching meanwhile watched next e first done = record {
+played_twice base meaning request before after was now next_before next_after next_was next_now old between new watching meanwhile watched next e played first done = record {
   between = between;
   next = next;
   meanwhile = meanwhile;
+  done = played;
   first = first;
   second = is_played (bases_of next) meaning request next_before next_after next_was next_now between new meanwhile watched e done;
 }

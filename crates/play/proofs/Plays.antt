@@ -160,13 +160,15 @@ each_may fleet (item.Burst lanes) may =
     All-weaken (λ (lane : List Command). AllByRecursion (IsCommand (leaf_count fleet) fleet.names) lane) (λ (lane : List Command). AllByRecursion (MayPlay fleet) lane)
     (λ lane each. All-weaken (IsCommand (leaf_count fleet) fleet.names) (MayPlay fleet) (may_later fleet) lane each) lanes may.each
 
-pub run_goes_on : {B : Type 0} (base : ℕ → Option NamedStates) (meaning : B → Meaning) (fleet : Fleet) (olds : List B) (was written after : Option (List ℕ)) (watching between watched : List Held) (items : List Item) (x : Item) (xs ys : List (Hold B))
+pub run_goes_on : {B : Type 0} (base : ℕ → Option NamedStates) (meaning : B → Meaning) (fleet crew : Fleet) (olds : List B) (was written after : Option (List ℕ)) (watching between watched : List Held) (items : List Item) (x : Item) (xs ys : List (Hold B))
     → RunSoFar base meaning fleet olds was written watching between items xs
     → MayPlayItem fleet x
-    → Advances meaning fleet xs ys written after between watched x
+    → crew ≡ fleet
+    → Advances meaning crew xs ys written after between watched x
     → AllPass meaning xs ys
     → RunSoFar base meaning fleet olds was after watching watched (items ++ x ∷ []) ys
-run_goes_on {B} base meaning fleet olds was written after watching between watched items x xs ys run may step passes =
+run_goes_on {B} base meaning fleet crew olds was written after watching between watched items x xs ys run may same advance passes =
+    let step : Advances meaning fleet xs ys written after between watched x = subst (λ (f : Fleet). Advances meaning f xs ys written after between watched x) same advance in
     let p : PlayedItem = step.played in
     let text : Appends was after (lines_text fleet.names (all_lines run.played ++ item_lines p)) =
     subst (Appends was after) (sym (flat_map-append (line_text fleet.names) (all_lines run.played) (item_lines p)))

@@ -9,10 +9,10 @@ use Rattle.play.specs.declared.status.Status.TheVariants as status
 use Rattle.play.specs.declared.words.Request.{Request}
 
 words_differ : status.Words ≡ status.Done → ⊥
-words_differ e = absurd e
+words_differ e = cc
 
 script_differs : (line : ℕ) (why : Why) → status.Script line why ≡ status.Done → ⊥
-script_differs line why e = absurd e
+script_differs line why e = cc
 
 -- a status that is told by none of the causes
 pub complete : IsComplete

@@ -68,7 +68,9 @@ pub record KeepsEach {B : Type 0} (meaning : B → Meaning) (berths : List B) (f
       → KeepsOne fleet leaf (known leaf) (histories leaf) (meaning berth) kept
 
 -- A play over berths with these bases was done, and what is kept is the base that it left of each, by the histories of its transcript.
-pub record LeavesKnown {B : Type 0} (base : ℕ → Option NamedStates) (meaning : B → Meaning) (before after was now : Option (List ℕ)) (old new : List B) (watching watched : List Held) (next : List (Option (List Kept))) : Type 0 where
+pub record LeavesKnown {B : Type 0} (base : ℕ → Option NamedStates) (meaning : B → Meaning) (before after was now : Option (List ℕ)) (old new : List B) (next : List (Option (List Kept))) : Type 0 where
+  pub watching : List Held
+  pub watched : List Held
   pub played : IsPlayed base meaning before after was now old new watching watched
   pub known : ℕ → Option Known
   pub are_known : AreKnown meaning old new base known
@@ -81,5 +83,6 @@ pub record ArePlayedTwice {B : Type 0} (base : ℕ → Option NamedStates) (mean
   pub between : List B
   pub next : List (Option (List Kept))
   pub meanwhile : List Held
-  pub first : LeavesKnown base meaning before after was now old between watching meanwhile next
+  pub done : IsPlayed base meaning before after was now old between watching meanwhile
+  pub first : LeavesKnown base meaning before after was now old between next
   pub second : IsPlayed (bases_of next) meaning next_before next_after next_was next_now between new meanwhile watched

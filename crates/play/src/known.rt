@@ -129,15 +129,13 @@ pub fn run_keeping<N: Bases, R: Wait + Threads + Sync, S: Source, K: Sink, B: Be
     requires bases { AreBases N.base B.meaning berths.old.items }
     ensures done { result.0 ≡ Status.Done → IsPlayed N.base B.meaning (S.left source.old) (S.left source.new) (K.written sink.old) (K.written sink.new) berths.old.items berths.new.items
         (map (λ watch. held watch) watches.old.items) (map (λ watch. held watch) watches.new.items) }
-    ensures known { IfSome result.1 (λ known. LeavesKnown N.base B.meaning (S.left source.old) (S.left source.new) (K.written sink.old) (K.written sink.new) berths.old.items berths.new.items
-        (map (λ watch. held watch) watches.old.items) (map (λ watch. held watch) watches.new.items) known) }
+    ensures known { IfSome result.1 (λ known. LeavesKnown N.base B.meaning (S.left source.old) (S.left source.new) (K.written sink.old) (K.written sink.new) berths.old.items berths.new.items known) }
     ensures only_done { IsSome result.1 → result.0 ≡ Status.Done }
     ensures berths { LeavesBerths B.meaning (leaves_asked (request_of (map string_bytes words.now)) (S.left source.old)) berths.old.items berths.new.items }
 {
     let source_was = Snapshot::of(&*source);
     let sink_was = Snapshot::of(&*sink);
     let berths_were = Snapshot::of(&*berths);
-    let watches_were = Snapshot::of(&*watches);
     let status = run::<N, R, S, K, B, G>(rt, alloc, words, source, sink, berths, gate, watches);
     match status {
         Status::Done => {}
@@ -148,28 +146,24 @@ pub fn run_keeping<N: Bases, R: Wait + Threads + Sync, S: Source, K: Sink, B: Be
         &source_was,
         &sink_was,
         &berths_were,
-        &watches_were,
         source,
         sink,
         berths,
-        watches,
     ) {
         Ok(known) => (Status::Done, Some(known)),
         Err(_) => (Status::Done, None),
     }
 }
 
-// Keeps what N says of these berths. What they, the source, the sink and the watches were and are is for the pick alone.
+// Keeps what N says of these berths. What they, the source and the sink were and are is for the pick alone.
 fn keep_left<N: Choice, S, K, B>(
     alloc: Global,
     _source_was: &Snapshot<S>,
     _sink_was: &Snapshot<K>,
     _berths_were: &Snapshot<Vec<B>>,
-    _watches_were: &Snapshot<Vec<Box<dyn Watch>>>,
     _source: &S,
     _sink: &K,
     _berths: &Vec<B>,
-    _watches: &Vec<Box<dyn Watch>>,
 ) -> Result<KnownBerths, AllocError>
     requires { (known : List (Option (List Kept))) × N.fits known }
     ensures { IfOk result (λ known. N.fits known) }

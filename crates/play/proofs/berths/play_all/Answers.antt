@@ -1,7 +1,7 @@
 use Rattle.std.proofs.Common.{◌≡◌, ◌++◌, ◌∷◌, [], sym, ap, subst, ◌∙◌, arith, append_assoc}
 use Rattle.std.specs.List.{AllByRecursion}
 use Rattle.bursts.specs.Items.{MayPlayItem}
-use Rattle.play.specs.Runs.{Advances, berths_in}
+use Rattle.play.specs.Runs.{berths_in}
 use Rattle.play.proofs.Plays.{holds_keep, run_goes_on}
 use Rattle.play.proofs.berths.play_all.Goals as goal
 
@@ -15,13 +15,11 @@ loop-item-preserved g c =
     let written = g.K.Sink.written c.loop-item.sink in
     let after = g.K.Sink.written c.play_next.new.sink in
     let items : c.loop-item.rest.items ≡ c.in-Some.item ∷ rest = c.in-Some.ensures.items in
-    let may : AllByRecursion (MayPlayItem fleet) (c.in-Some.item ∷ rest) = subst (AllByRecursion (MayPlayItem fleet)) items inv.4 in
-    let step : Advances g.B.Berth.meaning fleet xs ys written after _ _ c.in-Some.item =
-    subst (λ f. Advances g.B.Berth.meaning f xs ys written after _ _ c.in-Some.item) inv.3 c.in-Ok.ensures.played in (
+    let may : AllByRecursion (MayPlayItem fleet) (c.in-Some.item ∷ rest) = subst (AllByRecursion (MayPlayItem fleet)) items inv.4 in (
       inv.0 ++ c.in-Some.item ∷ [],
       append_assoc inv.0 (c.in-Some.item ∷ []) rest ∙ (ap (λ r. inv.0 ++ r) (sym items) ∙ inv.1),
-      run_goes_on g.N.Bases.base g.B.Berth.meaning fleet (berths_in c.args.crew.now.holds) (g.K.Sink.written c.args.sink.now) written after _ _ _ inv.0 c.in-Some.item xs ys
-          inv.2 may.0 step c.play_next.ensures.time,
+      run_goes_on g.N.Bases.base g.B.Berth.meaning fleet c.loop-item.crew.fleet (berths_in c.args.crew.now.holds) (g.K.Sink.written c.args.sink.now) written after _ _ _ inv.0 c.in-Some.item xs ys
+          inv.2 may.0 inv.3 c.in-Ok.ensures.played c.play_next.ensures.time,
       c.play_next.ensures.fleet ∙ inv.3,
       may.1,
       omega (arith, inv.5, c.play_next.ensures.later),

@@ -90,8 +90,8 @@ returns-clause-done g c =
     let run : IsRun g.N.Bases.base g.B.Berth.meaning crew.fleet (berths_in crew.holds) was now _ _ c.into_inner.result.items after =
     run_ends g.N.Bases.base g.B.Berth.meaning crew.fleet (berths_in crew.holds) was now _ _ c.into_inner.result.items after (c.play_all-status.ensures.done e) c.abandon.ensures.met in
     crew_written g.B.Berth.meaning berths c.abandon.new.berths.items back.0 crew.holds after leaves enough had back.1 (back.2 ∙ ap (λ bs. back.0 ++ bs) new.berths) c.play_all-status.ensures.keeps.as_many
-    g.N.Bases.base c.args.items crew.fleet was now _ _ (c.requires.plan.is ∙ sym is) (ap leaf_count is)
-    (subst (λ cs. IsRun g.N.Bases.base g.B.Berth.meaning crew.fleet (berths_in crew.holds) was now _ _ cs after) c.into_inner.ensures run)
+    g.N.Bases.base c.args.items c.into_inner.result.items crew.fleet was now _ _ (c.requires.plan.is ∙ sym is) (ap leaf_count is)
+    c.into_inner.ensures run
 
 pub returns-clause-berths : goal.returns-clause-berths
 returns-clause-berths g c =

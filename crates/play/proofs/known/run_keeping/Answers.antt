@@ -1,4 +1,4 @@
-use Rattle.std.proofs.Common.{rules, ◌≡◌, ap, map}
+use Rattle.std.proofs.Common.{rules, ◌≡◌, ap}
 use Rattle.play.specs.Played.{IsPlayed}
 use Rattle.play.specs.declared.status.Status.{Status}
 use Rattle.play.proofs.KeepsBase.{is_played, leaves_kept}
@@ -11,5 +11,5 @@ keep_left-requires g c =
     c.args.berths.now.items c.run-status.new.berths.items _ _ =
     is_played _ _ _ _ _ _ _ _ _ _ _ c.requires.words (c.run-status.ensures.done done) in
     leaves_kept g.N.Bases.base g.B.Berth.meaning g.S.Source.left g.K.Sink.written c.args.source.now c.of-source_was.result.value c.run-status.new.source c.args.sink.now c.of-sink_was.result.value c.run-status.new.sink
-    c.args.berths.now.items c.of-berths_were.result.value.items c.run-status.new.berths.items _ _ _
-    c.of-source_was.ensures c.of-sink_was.ensures (ap (λ v. v.items) c.of-berths_were.ensures) (ap (λ v. map (λ b. (goal.Watch-dyn g (b.vtable, b.value)).held b.value) v.items) c.of-watches_were.ensures) played c.requires.bases c.run-status.ensures.berths.as_many
+    c.args.berths.now.items c.of-berths_were.result.value.items c.run-status.new.berths.items _ _
+    c.of-source_was.ensures c.of-sink_was.ensures (ap (λ v. v.items) c.of-berths_were.ensures) played c.requires.bases c.run-status.ensures.berths.as_many

@@ -1,4 +1,3 @@
-use Rattle.std.proofs.Common.{map}
 use Rattle.play.specs.Keeping.{LeavesKnown}
 use Rattle.play.proofs.known.run_keeping.Given as goal
 
@@ -6,6 +5,5 @@ use Rattle.play.proofs.known.run_keeping.Given as goal
 abbrev pub ghosts-keep_left : goal.ghosts-keep_left
 ghosts-keep_left g a = record {
   fits = λ known. LeavesKnown g.N.Bases.base g.B.Berth.meaning (g.S.Source.left a._source_was.now.value) (g.S.Source.left a._source.now)
-      (g.K.Sink.written a._sink_was.now.value) (g.K.Sink.written a._sink.now) a._berths_were.now.value.items a._berths.now.items
-      (map (λ b. (goal.Watch-dyn g (b.vtable, b.value)).held b.value) a._watches_were.now.value.items) (map (λ b. (goal.Watch-dyn g (b.vtable, b.value)).held b.value) a._watches.now.items) known;
+      (g.K.Sink.written a._sink_was.now.value) (g.K.Sink.written a._sink.now) a._berths_were.now.value.items a._berths.now.items known;
 }

@@ -8,6 +8,6 @@ run_known-next-requires-clause-bases g c κs within =
     let now = c.run_keeping-status.new in
     let left = g.S.Source.left in
     let written = g.K.Sink.written in
-    bases_left g.N.Bases.base g.B.Berth.meaning (left c.args.source.now) (left now.source) (written c.args.sink.now) (written now.sink) c.args.berths.now.items now.berths.items _ _ c.in-Some.known
-    (subst (λ r. IfSome r (LeavesKnown g.N.Bases.base g.B.Berth.meaning (left c.args.source.now) (left now.source) (written c.args.sink.now) (written now.sink) c.args.berths.now.items now.berths.items _ _))
+    bases_left g.N.Bases.base g.B.Berth.meaning (left c.args.source.now) (left now.source) (written c.args.sink.now) (written now.sink) c.args.berths.now.items now.berths.items c.in-Some.known
+    (subst (λ r. IfSome r (LeavesKnown g.N.Bases.base g.B.Berth.meaning (left c.args.source.now) (left now.source) (written c.args.sink.now) (written now.sink) c.args.berths.now.items now.berths.items))
     c.in-Some.is c.run_keeping-status.ensures.known)

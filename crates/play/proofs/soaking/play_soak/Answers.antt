@@ -1,0 +1,9 @@
+use Rattle.std.proofs.Common.{◌≤◌, length, arith}
+use Rattle.std.proofs.lemmas.Bool.Decides.{nat_tests}
+use Rattle.play.proofs.Soaked.{soak_enough}
+use Rattle.play.proofs.soaking.play_soak.Goals as goal
+
+pub play_items-requires-clause-enough : goal.play_items-requires-clause-enough
+play_items-requires-clause-enough g c κs within =
+    let enough : 8 ≤ length c.args.berths.now.items = grind (arith, nat_tests, c.len.ensures, c.if-len-lt-LEAVES.false) in
+    soak_enough c.in-Ok.script c.args.seed c.args.rows (length c.args.berths.now.items) c.in-Ok.ensures.exact enough
