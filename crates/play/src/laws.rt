@@ -4,5 +4,4 @@ ghost use Rattle.play.specs.Complete.{IsComplete};
 /// Where the outside fails nowhere, what the words and the text allow is done, unless memory runs out.
 pub fn complete()
     ensures { IsComplete }
-{
-}
+{}

@@ -13,9 +13,9 @@ invariant-loop-item g l =
     (done : List Item)
     × (done ++ l.rest.items ≡ l.fn.items.items)
     × RunSoFar g.N.Bases.base g.B.Berth.meaning l.initial.crew.fleet (berths_in l.initial.crew.holds) (g.K.Sink.written l.initial.sink) (g.K.Sink.written l.sink)
-        (map (λ b. (goal.Watch-dyn g (b.vtable, b.value)).held b.value) l.fn.watches.items)
-        (map (λ b. (goal.Watch-dyn g (b.vtable, b.value)).held b.value) l.watches.items)
-        done l.crew.holds
+    (map (λ b. (goal.Watch-dyn g (b.vtable, b.value)).held b.value) l.fn.watches.items)
+    (map (λ b. (goal.Watch-dyn g (b.vtable, b.value)).held b.value) l.watches.items)
+    done l.crew.holds
     × (l.crew.fleet ≡ l.initial.crew.fleet)
     × AllByRecursion (MayPlayItem l.initial.crew.fleet) l.rest.items
     × (g.K.Sink.faults l.initial.sink ≤ g.K.Sink.faults l.sink)

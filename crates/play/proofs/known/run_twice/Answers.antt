@@ -11,3 +11,9 @@ run_known-next-requires-clause-bases g c κs within =
     bases_left g.N.Bases.base g.B.Berth.meaning (left c.args.source.now) (left now.source) (written c.args.sink.now) (written now.sink) c.args.berths.now.items now.berths.items c.in-Some.known
     (subst (λ r. IfSome r (LeavesKnown g.N.Bases.base g.B.Berth.meaning (left c.args.source.now) (left now.source) (written c.args.sink.now) (written now.sink) c.args.berths.now.items now.berths.items))
     c.in-Some.is c.run_keeping-status.ensures.known)
+
+pub returns-in-Some-clause-first : goal.returns-in-Some-clause-first
+returns-in-Some-clause-first g c = λ e. (c.run_keeping-status.new.berths.items, _, c.run_keeping-status.ensures.done e)
+
+pub returns-in-None-clause-first : goal.returns-in-None-clause-first
+returns-in-None-clause-first g c = λ e. (c.run_keeping-status.new.berths.items, _, c.run_keeping-status.ensures.done e)
