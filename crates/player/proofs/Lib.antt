@@ -31,6 +31,7 @@ pub mod MeetLeaves
 pub mod Lent
 pub mod CutInTwo
 mod Restarting
+pub mod RolledLines
 mod Rolling
 mod Weaving
 mod RollPlays

@@ -1,5 +1,5 @@
 // The lines of a rollover.
-ghost use Rattle.std.specs.Prelude.{◌≡◌, ◌+◌, ◌<◌, ◌≤◌, ◌^◌, ◌++◌, ◌∷◌, length, map, take, drop, IfOk, OnOk, vec_len};
+ghost use Rattle.std.specs.Prelude.{◌≡◌, ◌<◌, ◌≤◌, ◌^◌, ◌++◌, length, map, take, drop, IfOk, OnOk};
 ghost use Rattle.printed_lines.specs.declared.line.Line.TheVariants as line;
 ghost use Rattle.transcript.specs.Watching.{watch_line};
 ghost use Rattle.player.specs.Restarts.{lines_of};
@@ -25,8 +25,10 @@ pub fn rolled_lines(
     ensures { IfOk result (λ lines. lines.items ≡ rolled_lines plan rolled (lines_of told.items) (map (λ watch. held watch) watches.now)) }
 {
     let of = plan.as_slice().len() as u32;
+    let mut waves = plan.into_inner();
+    waves.truncate(rolled.waves as usize);
     let mut lines = Vec::new(alloc);
-    put_waves(&mut lines, of, rolled.waves, plan, told)?;
+    put_waves(&mut lines, of, waves, told)?;
     lines.push(Line::Rolled {
         halted: rolled.halted,
         waves: rolled.waves,
@@ -36,29 +38,29 @@ pub fn rolled_lines(
     Ok(lines)
 }
 
-// Puts the lines of the first so many waves behind the others.
+// Puts the lines of waves behind the others.
+#[tactic(auto, using(crate::proofs::RolledLines::waves_begin, crate::proofs::RolledLines::waves_go_on, crate::proofs::RolledLines::waves_end))]
 fn put_waves(
     lines: &mut Vec<Line>,
     of: u32,
-    begun: u32,
-    plan: Waves,
+    waves: Vec<Wave>,
     told: Vec<Vec<Line>>,
 ) -> Result<(), AllocError>
-    requires { begun ≤ length plan }
-    ensures { OnOk result (lines.new.items ≡ lines.old.items ++ waves_lines 1 of (take begun plan) (lines_of told.items)) }
+    requires { length waves.items < 2 ^ 32 }
+    ensures { OnOk result (lines.new.items ≡ lines.old.items ++ waves_lines 1 of waves.items (lines_of told.items)) }
 {
-    let mut waves = VecDeque::from_vec(plan.into_inner());
-    let mut told = VecDeque::from_vec(told);
-    for number in 0..begun {
-        match waves.pop_front() {
-            None => unreachable!(),
-            Some(wave) => put_wave(lines, number + 1, of, wave, &mut told)?,
-        }
+    let mut number = 0;
+    let mut rest = VecDeque::from_vec(waves);
+    let mut parts = VecDeque::from_vec(told);
+    while let Some(wave) = rest.pop_front() {
+        number += 1;
+        put_wave(lines, number, of, wave, &mut parts)?;
     }
     Ok(())
 }
 
 // Puts a wave's line, and those of its deeds, behind the others.
+#[tactic(auto, using(crate::proofs::RolledLines::wave_whole, crate::proofs::RolledLines::wave_left))]
 fn put_wave(
     lines: &mut Vec<Line>,
     number: u32,
