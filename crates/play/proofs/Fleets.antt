@@ -6,7 +6,6 @@ use Rattle.berth_face.specs.Berth.{Meaning}
 use Rattle.region_layout.specs.Names.{IsName}
 use Rattle.crash_moments.specs.Left.{NamedStates}
 use Rattle.turnstile.specs.Seats.{unused_seat}
-use Rattle.leaf_table.specs.declared.base.TableBase.{TableBase}
 use Rattle.leaf_table.specs.Turns.{Shared, is_founded, start_of}
 use Rattle.leaf_table.specs.Calls.{SeatView, base_seen, name_of}
 use Rattle.leaf_table.specs.Lists.{place, row}

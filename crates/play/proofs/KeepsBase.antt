@@ -32,7 +32,7 @@ use Rattle.leaf_sessions.proofs.Lists.{element_at, same_some, within}
 use Rattle.play.proofs.Lists.{choose_each}
 use Rattle.play.proofs.Listing.{front_same, list_kept}
 use Rattle.play.specs.Played.{AreBases, IsBase, IsPlayed}
-use Rattle.play.specs.Keeping.{ArePlayedTwice, IsKeptOf, KeepsEach, KeepsOne, Kept, LeavesKnown, base_kept, bases_of, states_of, tables_left}
+use Rattle.play.specs.Keeping.{ArePlayedTwice, IsKeptOf, KeepsEach, KeepsOne, Kept, LeavesKnown, base_kept, bases_of, tables_left}
 use Rattle.play.specs.Outcome.{IsDone}
 use Rattle.play.specs.declared.words.Request.{Request}
 use Rattle.play.specs.declared.words.Request.TheVariants.{Play}

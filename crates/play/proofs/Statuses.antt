@@ -1,12 +1,8 @@
 -- A run is done where nothing is at fault.
-use Rattle.std.proofs.Common.{◌≡◌, ◌⊎◌, inl, inr, ◌∙◌, ℕ, List, Option, Some, None, refl, sym, ap}
-use Rattle.berth_face.specs.Causes.{Rose}
+use Rattle.std.proofs.Common.{◌≡◌, inl, inr, ◌∙◌, ℕ, refl}
 use Rattle.script_text.specs.declared.fault.Why.{Why}
-use Rattle.play.specs.Complete.{HasCauses, IsComplete}
-use Rattle.play.specs.Outcome.{verdict}
-use Rattle.play.specs.declared.status.Status.{Status}
+use Rattle.play.specs.Complete.{IsComplete}
 use Rattle.play.specs.declared.status.Status.TheVariants as status
-use Rattle.play.specs.declared.words.Request.{Request}
 
 words_differ : status.Words ≡ status.Done → ⊥
 words_differ e = cc
