@@ -36,7 +36,11 @@ fn a_watch_that_leaves_is_told_one_event_and_shows_no_line(rt: HostRuntime) -> R
     let mut alone: Vec<Box<dyn Watch>> = Vec::new(alloc);
     alone.push(Box::new(alloc, CountWatch::new())?)?;
     let wanted = lines_heard(&rt, alloc, script, 2, &OpenGate, &mut alone)?;
-    assert!(rt; wanted.as_str().ends_with("rollover done 2 of 2\nwatch drained 2 adopted 2\n"));
+    assert!(rt;
+        wanted
+            .as_str()
+            .ends_with("rollover done 2 of 2\nwatch drained 2 adopted 2\n")
+    );
     let told = Arc::new(alloc, AtomicU64::new(0))?;
     let mut watches: Vec<Box<dyn Watch>> = Vec::new(alloc);
     watches.push(Box::new(
@@ -67,7 +71,8 @@ fn count_of(lines: &str, end: &str) -> usize {
 
 #[test]
 fn adds_beside_a_rollover_are_taken_or_refused(rt: HostRuntime) -> Result<(), Fail> {
-    let script = "fleet 1 2 t\nburst\nlane\nrollover 100\nlane\nadd 0 t 1\n{\"time\":1}\nadd 0 t 1\n{\"time\":1}\nadd 0 t 1\n{\"time\":1}\nadd 0 t 1\n{\"time\":1}\nend\nquery SELECT COUNT(*) FROM t WHERE time >= 0 AND time <= 9";
+    let script =
+        "fleet 1 2 t\nburst\nlane\nrollover 100\nlane\nadd 0 t 1\n{\"time\":1}\nadd 0 t 1\n{\"time\":1}\nadd 0 t 1\n{\"time\":1}\nadd 0 t 1\n{\"time\":1}\nend\nquery SELECT COUNT(*) FROM t WHERE time >= 0 AND time <= 9";
     let lines = lines_of(&rt, rt.alloc(), script, 2, &OpenGate)?;
     let added = count_of(&lines, " added 1 late 0");
     let refused = count_of(&lines, " refused shut");

@@ -156,12 +156,7 @@ fn append_lane(out: &mut Vec<u8>, number: u32) -> Result<(), AllocError>
     out.extend_from_slice(text.as_bytes())
 }
 
-fn append_wave(
-    out: &mut Vec<u8>,
-    number: u32,
-    of: u32,
-    leaves: &[u32],
-) -> Result<(), AllocError>
+fn append_wave(out: &mut Vec<u8>, number: u32, of: u32, leaves: &[u32]) -> Result<(), AllocError>
     ensures { OnOk result (out.new.items ≡ out.old.items ++ wave_text number of leaves.now) }
 {
     let text = format!(in *out.allocator(); "wave {number} of {of} leaves")?;

@@ -16,11 +16,8 @@ mod parsing;
 mod parts;
 mod query;
 mod reading;
-<<<<<<< HEAD
 mod rollover;
-=======
 mod row_parts;
->>>>>>> h-rows
 mod script;
 mod steward;
 mod target;

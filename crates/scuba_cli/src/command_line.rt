@@ -60,9 +60,7 @@ impl From<io::Error> for Refusal {
 
 /// Splits the command line, whose first word is the program's name. There is neither a help nor a version flag.
 pub fn split(alloc: Global, words: &[String]) -> Result<CommandLine, Refusal> {
-    let folder = Arg::new(alloc, "DIR")
-        .required(true)
-        .action(ArgAction::Set);
+    let folder = Arg::new(alloc, "DIR").required(true).action(ArgAction::Set);
     let rest = Arg::new(alloc, "WORD")
         .num_args(0..)
         .action(ArgAction::Append);

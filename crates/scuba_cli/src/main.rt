@@ -7,7 +7,6 @@ ghost use Rattle.play.specs.Played.{AreBases};
 ghost use Rattle.scuba_cli.specs.Exit.{exit_number};
 ghost use Rattle.scuba_cli.specs.Fresh.{IsEmptyBerth};
 
-
 mod command_line;
 
 use berth_face::{Berth, OpenGate};
