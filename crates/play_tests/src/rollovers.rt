@@ -47,7 +47,7 @@ fn a_watch_that_leaves_is_told_one_event_and_shows_no_line(rt: HostRuntime) -> R
         alloc,
         Leaver {
             counts: CountWatch::new(),
-            told: told.clone(),
+            told: told.clone()?,
         },
     )?)?;
     watches.push(Box::new(alloc, CountWatch::new())?)?;
@@ -58,11 +58,11 @@ fn a_watch_that_leaves_is_told_one_event_and_shows_no_line(rt: HostRuntime) -> R
     Ok(())
 }
 
-/// How many of the lines have this beginning behind their number.
-fn count_of(lines: &str, end: &str) -> usize {
+/// How many of the lines have these words.
+fn count_of(lines: &str, words: &str) -> usize {
     let mut count = 0;
     for line in lines.lines() {
-        if line.contains(end) {
+        if line.contains(words) {
             count += 1;
         }
     }
