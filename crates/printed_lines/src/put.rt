@@ -162,7 +162,8 @@ fn append_wave(out: &mut Vec<u8>, number: u32, of: u32, leaves: &[u32]) -> Resul
     let text = format!(in *out.allocator(); "wave {number} of {of} leaves")?;
     out.extend_from_slice(text.as_bytes())?;
     put_leaves(out, leaves)?;
-    out.push(b'\n')
+    out.push(b'\n')?;
+    Ok(())
 }
 
 fn put_leaves(out: &mut Vec<u8>, leaves: &[u32]) -> Result<(), AllocError>
@@ -200,7 +201,8 @@ fn append_watch(out: &mut Vec<u8>, text: &[u8]) -> Result<(), AllocError>
 {
     out.extend_from_slice(b"watch ")?;
     out.extend_from_slice(text)?;
-    out.push(b'\n')
+    out.push(b'\n')?;
+    Ok(())
 }
 
 fn put_rows(out: &mut Vec<u8>, rows: &[Text]) -> Result<(), AllocError>
