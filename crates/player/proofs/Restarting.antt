@@ -1,8 +1,11 @@
 -- Leaves are drained and started one after another.
 use Rattle.std.proofs.Common.{◌≡◌, ℕ, ◌<◌, List, [], ◌∷◌, ◌++◌, map, Option, None, Result, Ok, Err, Vec, Global, refl, sym, ap, subst, ◌∙◌, append_assoc, append-nil}
-use Rattle.std.specs.Prelude.{IfOk}
+use Rattle.std.specs.Prelude.{IfOk, IsOkAnd}
+use Rattle.std.specs.List.{AllByRecursion}
 use Rattle.std.proofs.lemmas.List.{map-append}
+use Rattle.std.proofs.lemmas.Option.{slice_get_within}
 use Rattle.berth_face.specs.Berth.{Meaning}
+use Rattle.leaf_table.specs.Lists.{lists_in}
 use Rattle.rollover_driver.specs.Calls.{Call}
 use Rattle.rollover_driver.specs.Calls as call
 use Rattle.printed_lines.specs.declared.line.Line.{Line}
@@ -18,7 +21,7 @@ use Rattle.player.specs.Commands.{answer_of}
 use Rattle.player.specs.Restarts as restart
 use Rattle.player.specs.Restarts.{AreAnswered, ArePartsOf, Chain, HasDone, MayDo, PartJoins, Restarted, lines_of, no_lines}
 use Rattle.player.proofs.Chains.{goes_with_more, goes_with_none}
-use Rattle.player.proofs.HoldLists.{still_leaf}
+use Rattle.player.proofs.HoldLists.{holds_count, still_leaf}
 
 answered_more : (cs ds : List Call) (ps qs : List Piece) → AreAnswered cs ps → AreAnswered ds qs → AreAnswered (cs ++ ds) (ps ++ qs)
 answered_more [] ds [] qs front back = back
@@ -100,17 +103,36 @@ module _ {B E : Type 0} (meaning : B → Meaning) where
       ((done.deed.prints.0, done.deed.prints.1, done.deed.prints.2, ap (λ (a : Answer). a.started) done.deed.answered), tt)
 
   -- a chain of deeds
-  pub chained : (x y : Members B) (told told' : Result (Vec (Vec Line Global) Global) E) (calls : List Call) → Chain (λ x leaf t r y. HasDone meaning leaf t x r y) x told calls y told'
+  pub chained : (x : Members B) (told : Result (Vec (Vec Line Global) Global) E) (y : Members B) (told' : Result (Vec (Vec Line Global) Global) E) (calls : List Call) → Chain (λ x leaf t r y. HasDone meaning leaf t x r y) x told calls y told'
       → Restarted meaning x told calls y told'
-  chained x y told told' calls (restart.none cs z o none same kept) =
+  chained x told y told' calls (restart.none cs z o none same kept) =
       subst (λ (ds : List Call). Restarted meaning x told ds z o) (sym none)
       (subst (λ (w : Members B). Restarted meaning x told [] w o) (sym same) (subst (λ (q : Result (Vec (Vec Line Global) Global) E). Restarted meaning x told [] x q) (sym kept) (restarted_none x told)))
-  chained x y told told' calls (restart.drained cs z o earlier mid told_mid leaf answer lines so_far done parts is) =
+  chained x told y told' calls (restart.drained cs z o earlier mid told_mid leaf answer lines so_far done parts is) =
       subst (λ (ds : List Call). Restarted meaning x told ds z o) (sym is)
-      (drained_more x mid z told told_mid o earlier leaf answer lines (chained x mid told told_mid earlier so_far) done parts)
-  chained x y told told' calls (restart.started cs z o earlier mid told_mid leaf answer lines so_far done parts is) =
+      (drained_more x mid z told told_mid o earlier leaf answer lines (chained x told mid told_mid earlier so_far) done parts)
+  chained x told y told' calls (restart.started cs z o earlier mid told_mid leaf answer lines so_far done parts is) =
       subst (λ (ds : List Call). Restarted meaning x told ds z o) (sym is)
-      (started_more x mid z told told_mid o earlier leaf answer lines (chained x mid told told_mid earlier so_far) done parts)
+      (started_more x mid z told told_mid o earlier leaf answer lines (chained x told mid told_mid earlier so_far) done parts)
+
+-- a crew that has each leaf of its fleet has all
+pub all_held : {B : Type 0} (x : Members B) → AreMembers x → ((leaf : ℕ) → leaf < leaf_count (fleet_in x) → HasLeaf (holds_in x) leaf) → (leaf : ℕ) → HasLeaf (holds_in x) leaf
+all_held x are held leaf = λ h at.
+    held leaf (subst (λ (n : ℕ). leaf < n) (holds_count 0 x.tables.now x.leaves.items (lists_in x.rows.items) ∙ are.leaves) (slice_get_within (holds_in x) leaf h at)) h at
+
+-- lines that were begun with none
+pub begun_none : {E : Type 0} (told : Result (Vec (Vec Line Global) Global) E) → IsOkAnd told (λ parts. parts.items ≡ []) → IfOk told (λ parts. parts.items ≡ [])
+begun_none (Ok parts) is = is
+begun_none (Err e) is = tt
+
+-- what is known of each leaf of waves
+pub of_waves : (P Q : ℕ → Type 0) (waves : List (List ℕ)) → ((leaf : ℕ) → P leaf → Q leaf) → AllByRecursion (λ wave. AllByRecursion P wave) waves → AllByRecursion (λ wave. AllByRecursion Q wave) waves
+of_waves P Q [] by known = tt
+of_waves P Q (wave ∷ waves) by known = (of_wave wave known.0, of_waves P Q waves by known.1)
+  where
+    of_wave : (leaves : List ℕ) → AllByRecursion P leaves → AllByRecursion Q leaves
+    of_wave [] are = tt
+    of_wave (leaf ∷ leaves) are = (by leaf are.0, of_wave leaves are.1)
 
 -- what may be done of a leaf may be done of each other, once one was drained or started
 pub may_still : {B E : Type 0} (meaning : B → Meaning) (number : ℕ) (t : Task) (x y : Members B) (result : Answer × Result (Vec Line Global) E) → HasDone meaning number t x result y

@@ -47,11 +47,18 @@ ends_woven rolled total watches =
 -- the lines of the deeds, which begin with none
 own_parts : {E : Type 0} (first told : Result (Vec (Vec Line Global) Global) E) (deeds : List Piece) (parts : Vec (Vec Line Global) Global) → told ≡ Ok parts → IfOk first (λ ps. ps.items ≡ [])
     → IfOk told (λ after. ArePartsOf first deeds after.items) → lines_of parts.items ≡ map piece_lines deeds
-own_parts first told deeds parts is none are = by first none (subst (λ (o : Result (Vec (Vec Line Global) Global) _). IfOk o (λ after. ArePartsOf first deeds after.items)) is are)
+own_parts {E = E} first told deeds parts is none are = by first none (subst (λ (o : Result (Vec (Vec Line Global) Global) E). IfOk o (λ after. ArePartsOf first deeds after.items)) is are)
   where
-    by : (f : Result (Vec (Vec Line Global) Global) _) → IfOk f (λ ps. ps.items ≡ []) → ArePartsOf f deeds parts.items → lines_of parts.items ≡ map piece_lines deeds
+    by : (f : Result (Vec (Vec Line Global) Global) E) → IfOk f (λ ps. ps.items ≡ []) → ArePartsOf f deeds parts.items → lines_of parts.items ≡ map piece_lines deeds
     by (Ok before) empty has = has ∙ ap (λ (ps : List (Vec Line Global)). lines_of ps ++ map piece_lines deeds) empty
     by (Err e) empty has = absurd has
+
+-- the lines that were made are over those of the deeds
+pub made_lines : {E : Type 0} (plan : List (List ℕ)) (rolled : Rolled) (told : Result (Vec (Vec Line Global) Global) E) (result : Result (Vec Line Global) E) (parts : Vec (Vec Line Global) Global) (now new : List Held)
+    → told ≡ Ok parts → now ≡ new → IfOk result (λ lines. lines.items ≡ rolled_lines plan rolled (lines_of parts.items) now)
+    → IfOk result (λ lines. (parts : Vec (Vec Line Global) Global) × (told ≡ Ok parts) × (lines.items ≡ rolled_lines plan rolled (lines_of parts.items) new))
+made_lines plan rolled told (Err e) parts now new is same are = tt
+made_lines plan rolled told (Ok lines) parts now new is same are = (parts, is, are ∙ ap (λ (ws : List Held). rolled_lines plan rolled (lines_of parts.items) ws) same)
 
 module _ {B E : Type 0} (meaning : B → Meaning) (x y : Members B) (percent : ℕ) (plan : List (List ℕ)) (old new : List Held) (rolled : Rolled) (told : Result (Vec (Vec Line Global) Global) E) (result : Result (Vec Line Global) E)
     (is_plan : IsPlan x.machines x.per_machine percent plan) (through : RollsThrough meaning plan x old rolled told y new)
@@ -105,6 +112,7 @@ module _ {B E : Type 0} (meaning : B → Meaning) (x y : Members B) (percent : �
   calls_are = woven_calls deeds all woven ∙ told_calls through.calls deeds through.restarted.answered
 
   pub rollover_plays : PlaysWith meaning (fleet_in x) (command.Rollover percent) (holds_in x) old result (holds_in y) new
+  unfolding rolls waves
   rollover_plays =
       let goes = goes_with_woven meaning x.names (holds_in x) (holds_in y) deeds all no_lines result woven through.restarted.goes lines_are in
       record {

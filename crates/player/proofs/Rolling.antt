@@ -2,6 +2,7 @@
 use Rattle.std.proofs.Common.{◌≡◌, ℕ, zero, suc, ◌+◌, ◌≤◌, Bool, true, false, List, [], ◌∷◌, ◌++◌, length, take, drop, map, Option, None, refl, sym, ap, subst, ◌∙◌, append_assoc, append-nil, arith, nat_lt}
 use Rattle.std.specs.List.{flat_map}
 use Rattle.std.proofs.lemmas.List.{length-append, length-map, map-append}
+use Rattle.std.proofs.lemmas.Bool.Decides.{nat_tests}
 use Rattle.rollover_watch.specs.Watches.{Held}
 use Rattle.rollover_driver.specs.declared.driving.Rolled.{Rolled}
 use Rattle.rollover_driver.specs.Calls.{AreDrains, AreStarts, Call}
@@ -14,7 +15,7 @@ use Rattle.printed_lines.specs.declared.line.Line.TheVariants as line
 use Rattle.printed_lines.specs.Lines.{IsOf}
 use Rattle.transcript.specs.Pieces.{Acted, Drains, Noted, Piece, Says, Starts, lines_in, piece_lines}
 use Rattle.transcript.specs.Shapes.{EachActs, WavePieces, WavesPieces}
-use Rattle.transcript.specs.Watching.{calls_in, piece_calls}
+use Rattle.transcript.specs.Watching.{calls_in, drained_by, piece_calls, started_by}
 use Rattle.player.specs.Restarts.{AreAnswered}
 use Rattle.player.proofs.Chains.{lines_more}
 use Rattle.player.specs.Rolled.{deed_count, joined_parts, wave_lines, waves_lines}
@@ -95,11 +96,11 @@ told_calls (call.Starts leaf got ∷ cs) [] are = absurd are
 told_calls (call.Drains leaf got ∷ cs) (p ∷ ps) are =
     let one = are.0 in
     ap (λ (q : Piece). piece_calls q ++ calls_in ps) one.2
-    ∙ (ap (λ (ds : List Call). (call.Drains leaf _ ∷ []) ++ ds) (told_calls cs ps are.1) ∙ ap (λ g. call.Drains leaf g ∷ cs) (sym one.3))
+    ∙ (ap (λ (ds : List Call). (call.Drains leaf (drained_by one.1) ∷ []) ++ ds) (told_calls cs ps are.1) ∙ ap (λ g. call.Drains leaf g ∷ cs) (sym one.3))
 told_calls (call.Starts leaf got ∷ cs) (p ∷ ps) are =
     let one = are.0 in
     ap (λ (q : Piece). piece_calls q ++ calls_in ps) one.2
-    ∙ (ap (λ (ds : List Call). (call.Starts leaf _ ∷ []) ++ ds) (told_calls cs ps are.1) ∙ ap (λ g. call.Starts leaf g ∷ cs) (sym one.3))
+    ∙ (ap (λ (ds : List Call). (call.Starts leaf (started_by one.1) ∷ []) ++ ds) (told_calls cs ps are.1) ∙ ap (λ g. call.Starts leaf g ∷ cs) (sym one.3))
 
 pub woven_calls : (deeds all : List Piece) → Woven deeds all → calls_in all ≡ calls_in deeds
 woven_calls deeds all (Woven.ends d a none empty) = ap (λ (ps : List Piece). calls_in ps) (empty ∙ sym none)
@@ -155,6 +156,12 @@ none_answered : (ps : List Piece) → AreAnswered [] ps → ps ≡ []
 none_answered [] are = refl
 none_answered (p ∷ ps) are = absurd are
 
+below_suc : (a b : ℕ) → nat_lt (suc a) (suc b) ≡ nat_lt a b
+below_suc a b = grind (arith, nat_tests)
+
+first_below : (a : ℕ) → nat_lt 0 (suc a) ≡ true
+first_below a = grind (arith, nat_tests)
+
 -- ---- waves
 
 -- the pieces of waves, of which these are the deeds
@@ -190,7 +197,7 @@ one_wave total begun first others rolled fd fs fr deeds is drained started drain
       pieces = (Says l ∷ (fd ++ fs)) ∷ sub.pieces;
       each = (record { drains = fd; starts = fs; drained = drained; started = started; are = refl }, sub.each);
       count = sub.count ∙ omega arith;
-      halted = sub.halted;
+      halted = sub.halted ∙ sym (below_suc (length sub.pieces) (length others));
       woven = Woven.says deeds (Says l ∷ ((fd ++ fs) ++ rest)) l ((fd ++ fs) ++ rest) (λ names. tt)
           (subst (λ (ps : List Piece). Woven ps ((fd ++ fs) ++ rest)) (sym joined) (woven_front (fd ++ fs) fr rest sub.woven)) refl;
       lines = ap (λ (ls : List Line). l ∷ ls) (lines_more (fd ++ fs) rest)
@@ -205,6 +212,12 @@ one_wave total begun first others rolled fd fs fr deeds is drained started drain
     both_counts : (first : List ℕ) (fd fs : List Piece) → length fd ≡ length first → length fs ≡ length first → deed_count first ≡ length (map piece_lines (fd ++ fs))
     both_counts first fd fs one other = omega (arith, one, other, length-map (fd ++ fs) piece_lines, length-append fd fs)
 
+at_most : (r : Rolled) (b n k : ℕ) → r.waves ≡ b → k ≤ n → r.waves ≤ b + n
+at_most r b n k is within = omega arith
+
+one_more : (r : Rolled) (b n k : ℕ) → n ≡ suc k → r.waves ≤ b + 1 + k → r.waves ≤ b + n
+one_more r b n k is within = omega arith
+
 pub rolled_waves : (total begun : ℕ) (waves : List (List ℕ)) (asked : Bool) (old : List Held) (calls : List Call) (rolled : Rolled) (new : List Held) → WavesGo total begun waves asked old calls rolled new
     → (deeds : List Piece) → AreAnswered calls deeds → Rolling total begun waves rolled deeds
 rolled_waves total begun waves asked old calls rolled new (drives.none t b ws a o cs r n all none is same) deeds answered =
@@ -212,7 +225,7 @@ rolled_waves total begun waves asked old calls rolled new (drives.none t b ws a 
     (is ∙ ap (λ (k : List (List ℕ)). record { waves = b; halted = nat_lt 0 (length k) }) (sym all))
 rolled_waves total begun waves asked old calls rolled new (drives.left t b ws a o cs r n first others all halt none is same) deeds answered =
     no_more t b ws r deeds (none_answered deeds (subst (λ (ds : List Call). AreAnswered ds deeds) none answered))
-    (is ∙ ap (λ (k : List (List ℕ)). record { waves = b; halted = nat_lt 0 (length k) }) (sym all))
+    (is ∙ (ap (λ (h : Bool). record { waves = b; halted = h }) (sym (first_below (length others))) ∙ ap (λ (k : List (List ℕ)). record { waves = b; halted = nat_lt 0 (length k) }) (sym all)))
 rolled_waves total begun waves asked old calls rolled new (drives.next t b ws a o cs r n first others drains starts rest later between all none drained started joined told go) deeds answered =
     let one = apart drains (starts ++ rest) deeds (subst (λ (ds : List Call). AreAnswered ds deeds) joined answered) in
     let two = apart starts rest one.back one.second in
@@ -222,6 +235,14 @@ rolled_waves total begun waves asked old calls rolled new (drives.next t b ws a 
     (drains_act first drains one.front drained one.first) (starts_act first starts two.front started two.first)
     (drains_count first drains one.front drained one.first) (starts_count first starts two.front started two.first)
     (subst (λ (k : ℕ). Rolling t k others r two.back) next (rolled_waves t (b + 1) others later between rest r n go two.back two.second)))
+
+-- no more waves are begun than there are
+pub waves_within : (total begun : ℕ) (waves : List (List ℕ)) (asked : Bool) (old : List Held) (calls : List Call) (rolled : Rolled) (new : List Held) → WavesGo total begun waves asked old calls rolled new
+    → rolled.waves ≤ begun + length waves
+waves_within total begun waves asked old calls rolled new (drives.none t b ws a o cs r n all none is same) = at_most r b (length ws) 0 (ap (λ (k : Rolled). k.waves) is) (omega arith)
+waves_within total begun waves asked old calls rolled new (drives.left t b ws a o cs r n first others all halt none is same) = at_most r b (length ws) 0 (ap (λ (k : Rolled). k.waves) is) (omega arith)
+waves_within total begun waves asked old calls rolled new (drives.next t b ws a o cs r n first others drains starts rest later between all none drained started joined told go) =
+    one_more r b (length ws) (length others) (ap (λ (ls : List (List ℕ)). length ls) all) (waves_within t (b + 1) others later between rest r n go)
 
 -- lines behind all
 pub woven_behind : (deeds all more : List Piece) → Woven deeds all → Woven [] more → Woven deeds (all ++ more)

@@ -1,6 +1,6 @@
 -- Lines that name no table, put between the pieces of deeds, change nothing that the leaves do.
 use Rattle.std.proofs.Common.{◌≡◌, ℕ, ◌+◌, Bool, List, [], ◌∷◌, ◌++◌, length, Option, Some, None, Result, Vec, Global, refl, sym, ap, subst, ◌∙◌}
-use Rattle.std.specs.Prelude.{IfOk, slice_set}
+use Rattle.std.specs.Prelude.{IfOk, slice_set, ◌==◌, ◌&&◌, if◌then◌else◌}
 use Rattle.std.specs.List.{AllByRecursion}
 use Rattle.berth_face.specs.Berth.{Meaning}
 use Rattle.printed_lines.specs.declared.line.Ending.{Ending}
@@ -18,11 +18,11 @@ use Rattle.player.proofs.Chains.{all_more}
 use Rattle.player.proofs.Rolling.{Woven}
 
 -- what lists have in common that are the same
-tail_of : List Piece → List Piece
+abbrev tail_of : List Piece → List Piece
 tail_of [] = []
 tail_of (p ∷ ps) = ps
 
-head_of : Piece → List Piece → Piece
+abbrev head_of : Piece → List Piece → Piece
 head_of d [] = d
 head_of d (p ∷ ps) = p
 
@@ -37,7 +37,7 @@ some_none p ps qs some none = cc
 
 -- the deeds that are counted
 deeds_front : (test : Deed → Ending → Bool) (leaf : ℕ) (p : Piece) (ps qs : List Piece) → deeds_in test leaf ps ≡ deeds_in test leaf qs → deeds_in test leaf (p ∷ ps) ≡ deeds_in test leaf (p ∷ qs)
-deeds_front test leaf (Acted l deed notes ending) ps qs same = ap (λ (n : ℕ). _ + n) same
+deeds_front test leaf (Acted l deed notes ending) ps qs same = ap (λ (n : ℕ). (if (l == leaf) && test deed ending then 1 else 0) + n) same
 deeds_front test leaf (Called l t c number said) ps qs same = same
 deeds_front test leaf (Worn l t) ps qs same = same
 deeds_front test leaf (Says l) ps qs same = same

@@ -2,16 +2,23 @@ use Rattle.std.proofs.Common.{ℤ, inl, w64, subst}
 use Rattle.std.proofs.lemmas.Int.{to_z-of_z}
 use Rattle.transcript.specs.Steps.{MayPlay}
 use Rattle.player.specs.declared.call.Request.TheVariants as request
-use Rattle.player.specs.Members.{fleet_in}
+use Rattle.player.specs.Crew.{HasFor}
+use Rattle.player.specs.Members.{fleet_in, holds_in}
 use Rattle.player.specs.Commands.{CallsAt}
 use Rattle.player.proofs.NamePlaces.{known_place}
 use Rattle.player.proofs.Playing.{expire_plays, query_or_none, query_still}
+use Rattle.player.proofs.Restarting.{all_held}
 use Rattle.player.proofs.members.Members.play.Goals as goal
 
 pub ask-requires-clause-table : goal.ask-requires-clause-table
 ask-requires-clause-table g c = λ κs bounds.
     let may = subst (MayPlay (fleet_in c.args.self.now)) c.in-Query.is c.requires.may in
     known_place c.in-Query.query.table c.args.self.now.names may.0.0 may.0.1 may.0.2
+
+pub rollover-requires-clause-held : goal.rollover-requires-clause-held
+rollover-requires-clause-held g c κs bounds =
+    let x = c.args.self.now in
+    all_held x c.requires.members (subst (HasFor (fleet_in x) (holds_in x)) c.in-Rollover.is c.requires.has)
 
 pub returns-in-Expire-clause-plays : goal.returns-in-Expire-clause-plays
 returns-in-Expire-clause-plays g c =
