@@ -239,5 +239,9 @@ fn drain<'t, R: Wait + Threads + Sync, B: Berth, G: Gate>(
 {
     let (drained, ending, lines) = leaf.drain(rt, alloc, gate, number, stop);
     let answer = Answer::of(&ending);
-    (drained, answer, with_ending(lines, number, Verb::Drain, ending))
+    (
+        drained,
+        answer,
+        with_ending(lines, number, Verb::Drain, ending),
+    )
 }

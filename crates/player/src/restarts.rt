@@ -32,7 +32,11 @@ pub struct Restarts<'f, T, F> {
     pub act: &'f F,
 }
 
-impl<'f, T: Leaves, F: Fn(&mut T, u32, Task) -> (Answer, Result<Vec<Line>, AllocError>)> Restarts<'f, T, F> {
+impl<'f, T: Leaves, F: Fn(&mut T, u32, Task) -> (Answer, Result<Vec<Line>, AllocError>)> Restarts<
+    'f,
+    T,
+    F,
+> {
     pub fn of(alloc: Global, leaves: T, act: &'f F) -> Self
         requires { DoesDeeds F.Fn act.now T.may T.did }
         ensures deeds { DoesDeeds F.Fn result.act.now T.may T.did }
@@ -59,7 +63,8 @@ impl<'f, T: Leaves, F: Fn(&mut T, u32, Task) -> (Answer, Result<Vec<Line>, Alloc
     }
 }
 
-impl<'f, T: Leaves, F: Fn(&mut T, u32, Task) -> (Answer, Result<Vec<Line>, AllocError>)> Fleet for Restarts<'f, T, F> {
+impl<'f, T: Leaves, F: Fn(&mut T, u32, Task) -> (Answer, Result<Vec<Line>, AllocError>)> Fleet
+    for Restarts<'f, T, F> {
     ghost use Rattle.std.specs.Prelude.{[], refl};
     ghost use Rattle.player.specs.Restarts.{Chain, MayRestart};
     ghost use Rattle.player.specs.Restarts as restart;

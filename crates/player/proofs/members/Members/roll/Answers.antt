@@ -11,8 +11,14 @@ use Rattle.player.proofs.members.Members.roll.Goals as goal
 
 pub of-fleet-requires : goal.of-fleet-requires
 of-fleet-requires g c = record {
-  may_call = λ p number task may is. ((may, is), (record { owned = c.type_bounds.send-B.owned; leaving = λ k. Quiet-if {D = g.row.B.Denot} (k (of_param 0)) unseen unseen (λ x w. tt) (λ x w. tt) },
-      record { shared = c.type_bounds.sync-R.shared }, record { shared = c.type_bounds.sync-G.shared }));
+  may_call = λ p number task may is. (
+    (may, is),
+    (
+      record { owned = c.type_bounds.send-B.owned; leaving = λ k. Quiet-if {D = g.row.B.Denot} (k (of_param 0)) unseen unseen (λ x w. tt) (λ x w. tt) },
+      record { shared = c.type_bounds.sync-R.shared },
+      record { shared = c.type_bounds.sync-G.shared },
+    ),
+  );
   does = λ p q number task r done. done.1;
   keeps = λ x y number task r other done may. may_still g.B.Berth.meaning number task x y r done other may;
 }
