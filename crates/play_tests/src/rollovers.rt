@@ -60,10 +60,10 @@ fn a_watch_that_leaves_is_told_one_event_and_shows_no_line(rt: HostRuntime) -> R
 
 /// How many of the lines have these words.
 fn count_of(lines: &str, words: &str) -> usize {
-    let mut count = 0;
+    let mut count = 0usize;
     for line in lines.lines() {
         if line.contains(words) {
-            count += 1;
+            count = count.saturating_add(1);
         }
     }
     count
@@ -76,7 +76,7 @@ fn adds_beside_a_rollover_are_taken_or_refused(rt: HostRuntime) -> Result<(), Fa
     let lines = lines_of(&rt, rt.alloc(), script, 2, &OpenGate)?;
     let added = count_of(&lines, " added 1 late 0");
     let refused = count_of(&lines, " refused shut");
-    assert_eq!(rt; added + refused, 4);
+    assert_eq!(rt; added.saturating_add(refused), 4);
     let row = format!(in rt.alloc(); "answer named 2 of 2 lines 1\n{added}\n")?;
     let none = "answer named 2 of 2 lines 0\n";
     let wanted = if added == 0 { none } else { row.as_str() };
