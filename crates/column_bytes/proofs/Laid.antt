@@ -1,5 +1,5 @@
 -- That the bytes of a coding mean its cells.
-use Rattle.std.proofs.Common.{◌≡◌, ℕ, zero, suc, ◌*◌, ◌^◌, ◌<◌, ◌≤◌, ◌==◌, Bool, true, false, List, [], ◌∷◌, length, map, slice_index, slice_index_or, Option, Some, None, is_some, if◌then◌else◌, ℤ, refl, sym, ap, ap₂, subst, ◌∙◌, arith}
+use Rattle.std.proofs.Common.{◌≡◌, ℕ, zero, suc, ◌*◌, ◌^◌, ◌<◌, ◌≤◌, ◌==◌, Bool, true, false, List, [], ◌∷◌, length, map, slice_index, slice_index_or, Option, Some, None, is_some, if◌then◌else◌, refl, sym, ap, ap₂, subst, ◌∙◌, arith}
 use Rattle.std.specs.List.{range_with_len}
 use Rattle.std.proofs.lemmas.List.FromFn.{fill_by_all}
 use Rattle.bit_columns.specs.Bits.{IsBits, codes, BitString}
@@ -9,7 +9,7 @@ use Rattle.column_bytes.specs.declared.form.Form.{Form}
 use Rattle.column_bytes.specs.declared.form.Form.TheVariants as forms
 use Rattle.column_bytes.specs.Cells.{Coded, Codebook, AreCodes, IsExtra, book_of, kind_of, cell_at, cells_of, coded_of, there, value_at}
 use Rattle.column_bytes.specs.Column.{HasCells, IsPresence, presence_bits, presence_in, coded_in, form_at, packed_in, width_in, count_in, presence_part}
-use Rattle.column_bytes.specs.Coding.{IsCoding, AreIntegers, AreCodesOf, kind_byte, form_byte}
+use Rattle.column_bytes.specs.Coding.{IsCoding, kind_byte, form_byte}
 use Rattle.column_bytes.proofs.Spelled.{ReadsColumn}
 
 -- what a coding of cells means

@@ -2,6 +2,7 @@ pub mod Parts
 pub mod Ends
 pub mod Spelled
 pub mod Laid
+mod Lent
 pub mod Offsets
 pub mod Distinct
 pub mod JoinedTexts

@@ -1,5 +1,5 @@
 -- What presence, codes and what the codes stand for mean together: a list of cells.
-use Rattle.std.specs.Prelude.{◌≡◌, ℕ, ◌*◌, ◌<◌, Bool, true, false, List, [], length, map, slice_index, slice_index_or, ℤ, pos, ◌+ℤ◌, FitsSigned, Option, Some, None, if◌then◌else◌}
+use Rattle.std.specs.Prelude.{◌≡◌, ℕ, ◌*◌, ◌<◌, Bool, true, false, List, [], length, map, slice_index, slice_index_or, ℤ, pos, ◌+ℤ◌, FitsSigned, Option, Some, None, option_map, if◌then◌else◌}
 use Rattle.std.specs.List.{range_with_len}
 use Rattle.std.specs.Int.{w64, div_ceil}
 use Rattle.bit_columns.specs.Bits.{codes, is_present, BitString, PackedCodes}
@@ -75,6 +75,10 @@ entries (Entries texts) = texts
 abbrev pub value_of : ValueRef → Value
 value_of (seen.Int n) = values.Int n
 value_of (seen.Text text) = values.Text text.now
+
+-- the values of some cells, behind loans
+abbrev pub values_of : List (Option ValueRef) → List (Option Value)
+values_of cells = map (option_map value_of) cells
 
 -- ---- what the parts of a column mean
 

@@ -1,11 +1,13 @@
 // A column of cells as bytes.
-ghost use Rattle.std.specs.Prelude.{◌≡◌, ◌<◌, ◌≤◌, ◌↔◌, ℕ, length, IfOk, IfSome, IsTrue};
+ghost use Rattle.std.specs.Prelude.{◌≡◌, ◌<◌, ◌≤◌, ◌↔◌, ℕ, length, option_map, IfOk, IfSome, IsTrue};
+ghost use Rattle.column_bytes.specs.Cells.{value_of, values_of};
 ghost use Rattle.column_bytes.specs.Column.{HasCells, kind_in};
 ghost use Rattle.column_bytes.specs.Coding.{AreOfKind, IsOfKind};
 
 use crate::integers::encode_integers;
 use crate::kind::Kind;
 use crate::text_codes::encode_texts;
+use crate::value::ValueRef;
 use leaf_model::Value;
 use std::alloc::{AllocError, Global};
 use std::marker::Model;
@@ -60,13 +62,48 @@ pub fn are_of_kind(kind: Kind, cells: &[Option<Value>]) -> bool
     true
 }
 
-/// The bytes of a column of 1 to 65,536 cells, each that is there of the kind: integers in the form that takes fewer bytes,
-/// and codes of the least width that holds them.
+fn value_ref(cell: &Option<Value>) -> Option<ValueRef<'_>>
+    ensures { option_map value_of result ≡ cell.now }
+{
+    match cell {
+        None => None,
+        Some(value) => Some(ValueRef::of(value)),
+    }
+}
+
+fn refs_to(alloc: Global, cells: &[Option<Value>]) -> Result<Vec<Option<ValueRef<'_>>>, AllocError>
+    ensures { IfOk result (λ refs. values_of refs.items ≡ cells.now) }
+{
+    let mut refs = Vec::with_capacity(alloc, cells.len())?;
+    for cell in cells {
+        refs.push(value_ref(cell))?;
+    }
+    Ok(refs)
+}
+
+/// The bytes of a column of cells, as of cells that are lent.
 pub fn encode(alloc: Global, kind: Kind, cells: &[Option<Value>]) -> Result<Column, AllocError>
     requires some { 0 < length cells.now }
     requires few { length cells.now ≤ 65536 }
     requires kind { AreOfKind kind cells.now }
     ensures cells { IfOk result (λ column. HasCells column (length cells.now) cells.now) }
+    ensures kind { IfOk result (λ column. kind_in column ≡ kind) }
+{
+    let refs = refs_to(alloc, cells)?;
+    encode_refs(alloc, kind, &refs)
+}
+
+/// The bytes of a column of 1 to 65,536 cells that are lent, each that is there of the kind: integers in the form that takes
+/// fewer bytes, and codes of the least width that holds them.
+pub fn encode_refs(
+    alloc: Global,
+    kind: Kind,
+    cells: &[Option<ValueRef>],
+) -> Result<Column, AllocError>
+    requires some { 0 < length cells.now }
+    requires few { length cells.now ≤ 65536 }
+    requires kind { AreOfKind kind (values_of cells.now) }
+    ensures cells { IfOk result (λ column. HasCells column (length cells.now) (values_of cells.now)) }
     ensures kind { IfOk result (λ column. kind_in column ≡ kind) }
 {
     match kind {

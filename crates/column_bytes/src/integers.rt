@@ -1,25 +1,25 @@
 // Coding integers: by offsets from the least, or by the differences between neighbours.
-ghost use Rattle.std.specs.Prelude.{◌≡◌, ℕ, ◌+◌, ◌*◌, ◌<◌, ◌≤◌, ◌^◌, length, IfOk, IfSome, Some, pos, ◌+ℤ◌, ◌≤ℤ◌, FitsSigned, slice_index, slice_index_or, Option};
+ghost use Rattle.std.specs.Prelude.{◌≡◌, ℕ, ◌+◌, ◌*◌, ◌<◌, ◌≤◌, ◌^◌, length, IfOk, IfSome, Some, option_map, pos, ◌+ℤ◌, ◌≤ℤ◌, FitsSigned, slice_index, slice_index_or, Option};
 ghost use Rattle.std.specs.Int.{w64};
 ghost use Rattle.leaf_model.specs.declared.rows.Value.{Value};
 ghost use Rattle.leaf_model.specs.declared.rows.Value.TheVariants.{Int};
 ghost use Rattle.column_bytes.specs.declared.kind.Kind.TheVariants.{Ints};
 ghost use Rattle.column_bytes.specs.Fields.{i64_at};
-ghost use Rattle.column_bytes.specs.Cells.{IsExtra, book_of, kind_of};
+ghost use Rattle.column_bytes.specs.Cells.{IsExtra, book_of, kind_of, value_of, values_of};
 ghost use Rattle.column_bytes.specs.Column.{HasCells, kind_in};
 ghost use Rattle.column_bytes.specs.Coding.{IsOfKind, AreOfKind, AreIntegers, AreCodesOf};
 
 use crate::form::Form;
+use crate::value::ValueRef;
 use crate::writer::{put_u64, write};
 use bit_columns::width_of;
 use delta_codes::delta;
-use leaf_model::Value;
 use std::alloc::{AllocError, Global};
 
 // The first integer that is there, or 0.
-fn first_integer(cells: &[Option<Value>]) -> i64 {
+fn first_integer(cells: &[Option<ValueRef>]) -> i64 {
     for cell in cells {
-        if let Some(Value::Int(integer)) = cell {
+        if let Some(ValueRef::Int(integer)) = cell {
             return *integer;
         }
     }
@@ -27,20 +27,20 @@ fn first_integer(cells: &[Option<Value>]) -> i64 {
 }
 
 // The integer of a cell, or the one before where it is missing.
-fn integer_or(cell: &Option<Value>, before: i64) -> i64
-    requires { IfSome cell.now (IsOfKind Ints) }
-    ensures { (value : Value) → cell.now ≡ Some value → value ≡ Int result }
+fn integer_or(cell: &Option<ValueRef>, before: i64) -> i64
+    requires { IfSome (option_map value_of cell.now) (IsOfKind Ints) }
+    ensures { (value : Value) → option_map value_of cell.now ≡ Some value → value ≡ Int result }
 {
     match cell {
-        Some(Value::Int(integer)) => *integer,
-        Some(Value::Text(_)) | None => before,
+        Some(ValueRef::Int(integer)) => *integer,
+        Some(ValueRef::Text(_)) | None => before,
     }
 }
 
 // An integer for each cell. A missing one has that of the cell before, so that it makes no code longer.
-pub(crate) fn integers_of(alloc: Global, cells: &[Option<Value>]) -> Result<Vec<i64>, AllocError>
-    requires { AreOfKind Ints cells.now }
-    ensures { IfOk result (λ integers. AreIntegers cells.now integers.items) }
+pub(crate) fn integers_of(alloc: Global, cells: &[Option<ValueRef>]) -> Result<Vec<i64>, AllocError>
+    requires { AreOfKind Ints (values_of cells.now) }
+    ensures { IfOk result (λ integers. AreIntegers (values_of cells.now) integers.items) }
 {
     let mut last = first_integer(cells);
     let mut integers = Vec::with_capacity(alloc, cells.len())?;
@@ -133,28 +133,31 @@ pub(crate) fn delta_coding(alloc: Global, integers: &[i64]) -> Result<Coding, Al
 pub(crate) fn write_integers(
     alloc: Global,
     form: Form,
-    cells: &[Option<Value>],
+    cells: &[Option<ValueRef>],
     integers: &[i64],
     coding: &Coding,
 ) -> Result<Vec<u8>, AllocError>
     requires some { 0 < length cells.now }
     requires few { length cells.now ≤ 65536 }
-    requires integers { AreIntegers cells.now integers.now }
+    requires integers { AreIntegers (values_of cells.now) integers.now }
     requires extra { IsExtra form (length integers.now) coding.now.extra.items }
     requires small { length coding.now.extra.items ≤ 2 ^ 40 }
     requires codes { AreCodesOf integers.now coding.now.codes.items (book_of form (length integers.now) coding.now.extra.items) }
-    ensures cells { IfOk result (λ bytes. HasCells bytes.items (length cells.now) cells.now) }
+    ensures cells { IfOk result (λ bytes. HasCells bytes.items (length cells.now) (values_of cells.now)) }
     ensures kind { IfOk result (λ bytes. kind_in bytes.items ≡ kind_of (book_of form (length cells.now) coding.now.extra.items)) }
 {
     write(alloc, form, cells, &coding.codes, &coding.extra)
 }
 
 /// The bytes of a column of integers, in the form that takes fewer.
-pub(crate) fn encode_integers(alloc: Global, cells: &[Option<Value>]) -> Result<Vec<u8>, AllocError>
+pub(crate) fn encode_integers(
+    alloc: Global,
+    cells: &[Option<ValueRef>],
+) -> Result<Vec<u8>, AllocError>
     requires some { 0 < length cells.now }
     requires few { length cells.now ≤ 65536 }
-    requires kind { AreOfKind Ints cells.now }
-    ensures cells { IfOk result (λ bytes. HasCells bytes.items (length cells.now) cells.now) }
+    requires kind { AreOfKind Ints (values_of cells.now) }
+    ensures cells { IfOk result (λ bytes. HasCells bytes.items (length cells.now) (values_of cells.now)) }
     ensures kind { IfOk result (λ bytes. kind_in bytes.items ≡ Ints) }
 {
     let integers = integers_of(alloc, cells)?;

@@ -17,7 +17,7 @@ mod value;
 mod view;
 mod writer;
 
-pub use column::{Column, are_of_kind, encode};
+pub use column::{Column, are_of_kind, encode, encode_refs};
 pub use kind::Kind;
 pub use laws::one_reading;
 pub use text_codes::{Dict, dictionary};

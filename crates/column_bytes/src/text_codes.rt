@@ -1,20 +1,21 @@
 // Coding texts: each text once, in the order of their first place, and a code for each place.
-ghost use Rattle.std.specs.Prelude.{◌≡◌, ℕ, ◌+◌, ◌*◌, ◌<◌, ◌≤◌, ◌^◌, ◌++◌, [], length, take, slice_index_or, IfOk, IfSome, OnOk, Some};
+ghost use Rattle.std.specs.Prelude.{◌≡◌, ℕ, ◌+◌, ◌*◌, ◌<◌, ◌≤◌, ◌^◌, ◌++◌, [], length, take, slice_index_or, IfOk, IfSome, OnOk, Some, option_map};
 ghost use Rattle.std.specs.List.{All};
 ghost use Rattle.leaf_model.specs.declared.rows.Value.{Value};
 ghost use Rattle.leaf_model.specs.declared.rows.Value.TheVariants as values;
 ghost use Rattle.column_bytes.specs.declared.kind.Kind.TheVariants as kinds;
 ghost use Rattle.column_bytes.specs.Fields.{u32_at};
-ghost use Rattle.column_bytes.specs.Cells.{Entries};
+ghost use Rattle.column_bytes.specs.Cells.{Entries, value_of, values_of};
 ghost use Rattle.column_bytes.specs.Column.{HasCells, kind_in};
 ghost use Rattle.column_bytes.specs.Dictionary.{AreKept, AreTexts, IsDictionary, distinct, lent, texts_at, texts_by};
 ghost use Rattle.column_bytes.specs.Coding.{IsOfKind, AreOfKind, IsCoding, end_at, joined};
 
 use crate::form::Form;
 use crate::text_set::TextSet;
+use crate::value::ValueRef;
 use crate::writer::{put_u32, write};
 use delta_codes::Codes;
-use leaf_model::{Text, Texts, Value};
+use leaf_model::{Text, Texts};
 use std::alloc::{AllocError, Global};
 
 /// The texts of a list, each once, and a code for each of the list's places.
@@ -66,31 +67,31 @@ pub fn dictionary(alloc: Global, values: &[Text]) -> Result<Dict, AllocError>
     })
 }
 
-fn value_code<'a>(set: &mut TextSet<'a>, value: &'a Value) -> Result<u64, AllocError>
-    requires { IsOfKind kinds.Texts value.now }
+fn value_code<'a>(set: &mut TextSet<'a>, value: &ValueRef<'a>) -> Result<u64, AllocError>
+    requires { IsOfKind kinds.Texts (value_of value.now) }
     ensures below { IfOk result (λ code. code < length set.new) }
-    ensures code { IfOk result (λ code. value.now ≡ values.Text (slice_index_or set.new code [])) }
+    ensures code { IfOk result (λ code. value_of value.now ≡ values.Text (slice_index_or set.new code [])) }
     ensures kept { OnOk result (AreKept set.old set.new) }
     ensures texts { OnOk result (AreTexts set.old → AreTexts set.new) }
     ensures grows { OnOk result (length set.new ≤ length set.old + 1) }
 {
     match value {
-        Value::Text(text) => {
-            let code = set.code_of(text.as_str())?;
+        ValueRef::Text(text) => {
+            let code = set.code_of(text)?;
             Ok(code)
         }
-        Value::Int(_) => unreachable!(),
+        ValueRef::Int(_) => unreachable!(),
     }
 }
 
 // The code of a cell's text, or the one before where the cell is missing.
 fn code_or<'a>(
     set: &mut TextSet<'a>,
-    cell: &'a Option<Value>,
+    cell: &Option<ValueRef<'a>>,
     before: u64,
 ) -> Result<u64, AllocError>
-    requires { IfSome cell.now (IsOfKind kinds.Texts) }
-    ensures code { IfOk result (λ code. (value : Value) → cell.now ≡ Some value → (code < length set.new) × (value ≡ values.Text (slice_index_or set.new code []))) }
+    requires { IfSome (option_map value_of cell.now) (IsOfKind kinds.Texts) }
+    ensures code { IfOk result (λ code. (value : Value) → option_map value_of cell.now ≡ Some value → (code < length set.new) × (value ≡ values.Text (slice_index_or set.new code []))) }
     ensures kept { OnOk result (AreKept set.old set.new) }
     ensures texts { OnOk result (AreTexts set.old → AreTexts set.new) }
     ensures grows { OnOk result (length set.new ≤ length set.old + 1) }
@@ -107,12 +108,12 @@ fn code_or<'a>(
 // A code for each cell. A missing one has that of the cell before, so that it makes no code longer.
 fn cell_codes<'a>(
     alloc: Global,
-    cells: &'a [Option<Value>],
+    cells: &[Option<ValueRef<'a>>],
     set: &mut TextSet<'a>,
 ) -> Result<Vec<u64>, AllocError>
     requires none { set.old ≡ [] }
-    requires kind { AreOfKind kinds.Texts cells.now }
-    ensures coding { IfOk result (λ codes. IsCoding cells.now codes.items (Entries set.new)) }
+    requires kind { AreOfKind kinds.Texts (values_of cells.now) }
+    ensures coding { IfOk result (λ codes. IsCoding (values_of cells.now) codes.items (Entries set.new)) }
     ensures texts { OnOk result (AreTexts set.new) }
     ensures few { OnOk result (length set.new ≤ length cells.now) }
 {
@@ -166,11 +167,11 @@ fn dictionary_bytes(alloc: Global, texts: &[&str]) -> Result<Vec<u8>, AllocError
 }
 
 /// The bytes of a column of texts.
-pub(crate) fn encode_texts(alloc: Global, cells: &[Option<Value>]) -> Result<Vec<u8>, AllocError>
+pub(crate) fn encode_texts(alloc: Global, cells: &[Option<ValueRef>]) -> Result<Vec<u8>, AllocError>
     requires some { 0 < length cells.now }
     requires few { length cells.now ≤ 65536 }
-    requires kind { AreOfKind kinds.Texts cells.now }
-    ensures cells { IfOk result (λ bytes. HasCells bytes.items (length cells.now) cells.now) }
+    requires kind { AreOfKind kinds.Texts (values_of cells.now) }
+    ensures cells { IfOk result (λ bytes. HasCells bytes.items (length cells.now) (values_of cells.now)) }
     ensures kind { IfOk result (λ bytes. kind_in bytes.items ≡ kinds.Texts) }
 {
     let mut set = TextSet::new(alloc);

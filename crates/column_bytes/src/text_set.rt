@@ -1,5 +1,5 @@
 // Texts, each once, in the order in which they were first met.
-ghost use Rattle.std.specs.Prelude.{◌≡◌, ◌<◌, [], length, slice_index_or, IfOk, OnOk};
+ghost use Rattle.std.specs.Prelude.{◌≡◌, ◌<◌, [], length, slice_index_or, IfOk, IsUtf8, OnOk};
 ghost use Rattle.column_bytes.specs.Dictionary.{lent, with_text};
 
 use indexmap::IndexSet;
@@ -35,6 +35,7 @@ impl<'a> TextSet<'a> {
         ensures texts { OnOk result (self.new ≡ with_text self.old text.now) }
         ensures below { IfOk result (λ code. code < length self.new) }
         ensures code { IfOk result (λ code. slice_index_or self.new code [] ≡ text.now) }
+        ensures utf8 { IsUtf8 text.now }
     {
         let (code, _) = self.texts.insert_full(text)?;
         Ok(code as u64)

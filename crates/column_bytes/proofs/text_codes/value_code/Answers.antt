@@ -1,5 +1,6 @@
-use Rattle.std.proofs.Common.{length, sym, subst, ap, arith}
+use Rattle.std.proofs.Common.{sym, subst, ap}
 use Rattle.column_bytes.specs.declared.kind.Kind.TheVariants as kinds
+use Rattle.column_bytes.specs.Cells.{value_of}
 use Rattle.column_bytes.specs.Coding.{IsOfKind}
 use Rattle.column_bytes.specs.Dictionary.{AreTexts}
 use Rattle.column_bytes.proofs.Distinct.{texts_with}
@@ -7,5 +8,5 @@ use Rattle.column_bytes.proofs.text_codes.value_code.Goals as goal
 
 pub returns-clause-texts : goal.returns-clause-texts
 returns-clause-texts c =
-    let short = subst (IsOfKind kinds.Texts) c.in-Text.is c.requires in
-    λ are. subst AreTexts (sym c.in_ok-code-in-Text.ensures.texts) (texts_with c.args.set.now c.as_str.result.now are (record { utf8 = c.as_str.utf8; short = omega (arith, short, ap length c.as_str.ensures) }))
+    let short = subst (IsOfKind kinds.Texts) (ap value_of c.in-Text.is) c.requires in
+    λ are. subst AreTexts (sym c.in_ok-code-in-Text.ensures.texts) (texts_with c.args.set.now c.in-Text.text.now are (record { utf8 = c.code_of.ensures.utf8; short = short }))

@@ -2,11 +2,12 @@ use Rattle.std.proofs.Math.Nat.{mul-le-mul_left}
 use Rattle.std.proofs.Common.{List, ◌^◌, ◌≡◌, ℕ, ◌*◌, ◌≤◌, if◌then◌else◌, length, is_some, refl, sym, ap, ap₂, subst, ◌∙◌, arith}
 use Rattle.std.proofs.lemmas.List.{length-map}
 use Rattle.bit_columns.specs.Bits.{IsBits, codes}
-use Rattle.column_bytes.specs.Cells.{there}
+use Rattle.column_bytes.specs.Cells.{there, values_of}
 use Rattle.column_bytes.specs.Column.{IsPresence, presence_bits}
 use Rattle.column_bytes.specs.Coding.{column_bytes, front_bytes}
 use Rattle.column_bytes.proofs.Spelled.{ReadsColumn, column_reads}
 use Rattle.column_bytes.proofs.Laid.{laid, marker_small, marker_says, presence_few, kind_named}
+use Rattle.column_bytes.proofs.Lent.{length-values, there_same}
 use Rattle.column_bytes.proofs.writer.write.Goals as goal
 
 counted : (c : goal.After-drop-present-2) → length c.deref.result.now ≡ length c.args.cells.now
@@ -31,7 +32,7 @@ reads c =
     let front : List ℕ = front_bytes form width marker in
     let n = length c.args.cells.now in
     let few = c.requires.few in
-    let count : length list ≡ n = c.requires.coding.same in
+    let count : length list ≡ n = c.requires.coding.same ∙ length-values c.args.cells.now in
     let bits : IsBits packed (n * width) = subst (λ m. IsBits packed (m * width)) count c.in_ok-packed.ensures.whole in
     let are : c.in_ok-bytes.bytes.items ≡ column_bytes front n presence packed extra
     = c.in_ok-bytes.ensures
@@ -50,13 +51,13 @@ returns-clause-cells c =
     let width = c.width_of-width.result in let marker : ℕ = if c.in_ok-presence.presence.all_there then 0 else 1 in
     let made = c.in_ok-presence.presence in let packed = c.in_ok-packed.packed.items in
     let n = length c.args.cells.now in
-    let count : length list ≡ n = c.requires.coding.same in
-    laid c.args.form c.args.cells.now list c.args.extra.now made.bytes.items packed c.in_ok-bytes.bytes.items n width marker made.all_there
-    (reads c) refl c.requires.some c.requires.few c.width_of-width.ensures.few
+    let count : length list ≡ n = c.requires.coding.same ∙ length-values c.args.cells.now in
+    laid c.args.form (values_of c.args.cells.now) list c.args.extra.now made.bytes.items packed c.in_ok-bytes.bytes.items n width marker made.all_there
+    (reads c) (length-values c.args.cells.now) c.requires.some c.requires.few c.width_of-width.ensures.few
     (marker_small made.all_there) (marker_says made.all_there)
     (part c)
     (subst (λ m. there (presence_bits made.all_there made.bytes.items m) m ≡ c.deref.result.now) (counted c) c.in_ok-presence.ensures.there
-    ∙ c.deref.ensures.value ∙ c.in_ok-present.ensures)
+    ∙ c.deref.ensures.value ∙ c.in_ok-present.ensures ∙ there_same c.args.cells.now)
     (subst (λ m. IsBits packed (m * width)) count c.in_ok-packed.ensures.whole)
     (ap (codes packed width) (sym count) ∙ c.in_ok-packed.ensures.codes)
     c.requires.extra c.requires.coding

@@ -13,3 +13,6 @@ returns-clause-code c =
     let stored = c.in_ok-code.ensures.stored in
     let keys = c.insert_full.new.self.keys in
     lent_found keys c.in_ok-code.code stored.0 stored.1 ∙ sym ((bytes_eq-Decides c.args.text.now stored.0.now).0 stored.2)
+
+pub returns-clause-utf8 : goal.returns-clause-utf8
+returns-clause-utf8 c = c.utf8.text
