@@ -8,3 +8,4 @@ pub mod Standing
 pub mod Accepted
 pub mod Adjacent
 pub mod LivePlaces
+pub mod Lent

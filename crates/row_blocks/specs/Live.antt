@@ -1,5 +1,5 @@
 -- Which rows of a block are at or after a horizon.
-use Rattle.std.specs.Prelude.{◌≡◌, ℕ, ◌<◌, List, length, slice_index_or, ℤ, pos, int_le, Some, Bool}
+use Rattle.std.specs.Prelude.{◌≡◌, ℕ, ◌<◌, length, slice_index_or, ℤ, pos, int_le, Some, Bool}
 use Rattle.std.specs.List.{list_any}
 use Rattle.leaf_model.specs.declared.rows.Value.TheVariants.{Int}
 use Rattle.leaf_model.specs.declared.rows.Row.{Row}

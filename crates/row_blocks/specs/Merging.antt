@@ -1,13 +1,16 @@
 -- Rows taken apart into columns: what is left of each row's cells, and the column that comes next.
-use Rattle.std.specs.Prelude.{◌≡◌, ℕ, ◌+◌, ◌<◌, List, [], ◌∷◌, ◌++◌, length, map, slice_index_or, Option, Some, None, if◌then◌else◌, ⊤}
+use Rattle.std.specs.Prelude.{◌≡◌, ℕ, ◌+◌, ◌<◌, ◌≤◌, take, List, [], ◌∷◌, ◌++◌, length, map, slice_index_or, Option, Some, None, option_map, if◌then◌else◌, ⊤}
 use Rattle.std.specs.Borrow.{Bor}
 use Rattle.std.specs.List.{AllByRecursion}
 use Rattle.std.specs.List.Sorted.{IsStrictlySortedBy}
+use Rattle.std.specs.declared.cmp.Ordering.{Ordering}
 use Rattle.std.specs.declared.cmp.Ordering.TheVariants.{Less, Greater}
 use Rattle.std.specs.Ordering.{is_eq, is_gt}
 use Rattle.leaf_model.specs.declared.rows.Value.{Value}
 use Rattle.leaf_model.specs.declared.rows.Cell.{Cell}
 use Rattle.leaf_model.specs.declared.rows.Row.{Row}
+use Rattle.column_bytes.specs.declared.value.ValueRef.{ValueRef}
+use Rattle.column_bytes.specs.Cells.{value_of}
 use Rattle.row_blocks.specs.declared.column.BlockColumn.{BlockColumn}
 use Rattle.row_blocks.specs.Headings.{Heading, heading, heading_of, heading_cmp}
 use Rattle.row_blocks.specs.Blocks.{IsOther, cells_at}
@@ -62,6 +65,25 @@ BeginsWith c (d ∷ cells) = d ≡ c
 abbrev pub IsEarliest : Option Cell → List (List Cell) → Type 0
 IsEarliest None rests = (i : ℕ) → i < length rests → slice_index_or rests i [] ≡ []
 IsEarliest (Some c) rests = ((i : ℕ) × (i < length rests) × BeginsWith c (slice_index_or rests i [])) × ((i : ℕ) → i < length rests → IsNotBefore (heading_of c) (slice_index_or rests i []))
+
+-- the value of the first cell, where it has the heading of another, if there is one
+abbrev pub value_under : Option Cell → List Cell → Option Value
+value_under None cells = None
+value_under (Some c) cells = front_value (heading_of c) cells
+
+-- the heading of a cell, if there is one yet, beside that of the first cell: no cell comes behind all, and behind no cells
+abbrev pub front_cmp : Option Cell → List Cell → Ordering
+front_cmp like [] = Less
+front_cmp None (c ∷ cells) = Greater
+front_cmp (Some a) (c ∷ cells) = heading_cmp (heading_of a) (heading_of c)
+
+-- of the first so many rows this is a first cell under the earliest heading, which none before a place has, and these are the values under it
+pub record AreLent (rests : List (List Cell)) (values : List (Option ValueRef)) (like : Option Cell) (from count : ℕ) : Type 0 where
+  pub same : length values ≡ length rests
+  pub within : from ≤ count
+  pub first : IsEarliest like (take count rests)
+  pub each : (k : ℕ) → k < count → option_map value_of (slice_index_or values k None) ≡ value_under like (slice_index_or rests k [])
+  pub none : (k : ℕ) → k < from → slice_index_or values k None ≡ None
 
 -- these columns were taken off the rows, and these cells are left of each row
 pub record AreTaken (rows : List Row) (columns : List BlockColumn) (rests : List (List Cell)) : Type 0 where

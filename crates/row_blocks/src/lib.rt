@@ -7,6 +7,7 @@ mod blocks;
 mod column;
 mod fault;
 mod headings;
+mod lending;
 mod live;
 mod merge;
 mod places;

@@ -1,71 +1,80 @@
 // Sealing rows into a block: the times first, and then column by column what is left of the rows' cells.
-ghost use Rattle.std.specs.Prelude.{◌≡◌, ◌<◌, ◌≤◌, length, map, IfOk, slice_index_or, ℕ, [], ◌++◌, Some, ℤ};
+ghost use Rattle.std.specs.Prelude.{◌≡◌, ◌<◌, ◌≤◌, length, IfOk};
 ghost use Rattle.std.specs.List.{AllByRecursion};
-ghost use Rattle.leaf_model.specs.declared.rows.Value.TheVariants.{Int};
 ghost use Rattle.leaf_model.specs.Values.{IsRow, time_name};
+ghost use Rattle.column_bytes.specs.Cells.{values_of};
 ghost use Rattle.column_bytes.specs.Column.{kind_in};
 ghost use Rattle.column_bytes.specs.Coding.{AreOfKind};
 ghost use Rattle.column_bytes.specs.declared.kind.Kind.TheVariants.{Ints};
-ghost use Rattle.row_blocks.specs.Blocks.{AreTimes, rows_in, times_of};
+ghost use Rattle.row_blocks.specs.Blocks.{rows_in};
 ghost use Rattle.row_blocks.specs.Columns.{MeanCells, cells_in};
 ghost use Rattle.row_blocks.specs.Headings.{heading, heading_of};
-ghost use Rattle.row_blocks.specs.Merging.{HoldCells, front_value, lent, lent_rows};
+ghost use Rattle.row_blocks.specs.Merging.{HoldCells, lent_rows};
 
 use crate::block::RowBlock;
 use crate::column::{BlockColumn, BlockColumns, ColumnBytes};
 use crate::headings::kind_of;
-use crate::merge::{earliest, front_values, move_on, rests_of};
+use crate::lending::lend_earliest;
+use crate::merge::{move_on, rests_of};
 use crate::times::{range_of, time_cells, times_of};
-use column_bytes::{Kind, encode};
+use column_bytes::{Kind, ValueRef, encode_refs};
 use leaf_model::{Cell, Row, Text};
 use std::alloc::{AllocError, Global};
 
 /// The column of the times.
-fn times_column(alloc: Global, times: &[i64]) -> Result<BlockColumn, AllocError>
-    requires some { 0 < length times.now }
-    requires few { length times.now ≤ 65536 }
+fn times_column(alloc: Global, cells: &[Option<ValueRef>]) -> Result<BlockColumn, AllocError>
+    requires some { 0 < length cells.now }
+    requires few { length cells.now ≤ 65536 }
+    requires kind { AreOfKind Ints (values_of cells.now) }
     ensures name { IfOk result (λ column. column.name ≡ time_name) }
     ensures kind { IfOk result (λ column. kind_in column.bytes ≡ Ints) }
-    ensures means { IfOk result (λ column. MeanCells column.bytes (length times.now)) }
-    ensures cells { IfOk result (λ column. cells_in column.bytes ≡ map (λ (t : ℤ). Some (Int t)) times.now) }
+    ensures means { IfOk result (λ column. MeanCells column.bytes (length cells.now)) }
+    ensures cells { IfOk result (λ column. cells_in column.bytes ≡ values_of cells.now) }
 {
-    let cells = time_cells(alloc, times)?;
-    let bytes = encode(alloc, Kind::Ints, &cells)?;
+    let bytes = encode_refs(alloc, Kind::Ints, cells)?;
     Ok(BlockColumn {
         name: Text::of(String::from_str(alloc, "time")?),
         bytes: ColumnBytes::of(bytes.into_bytes()),
     })
 }
 
-/// The column that a cell belongs in, of the first cells of what is left of the rows.
-fn next_column(alloc: Global, like: &Cell, rests: &[&[Cell]]) -> Result<BlockColumn, AllocError>
-    requires some { 0 < length rests.now }
-    requires few { length rests.now ≤ 65536 }
-    requires kind { AreOfKind (heading_of like.now).kind (map (front_value (heading_of like.now)) (lent rests.now)) }
+/// The column of these values, under the heading of a cell.
+fn column_like(
+    alloc: Global,
+    like: &Cell,
+    values: &[Option<ValueRef>],
+) -> Result<BlockColumn, AllocError>
+    requires some { 0 < length values.now }
+    requires few { length values.now ≤ 65536 }
+    requires kind { AreOfKind (heading_of like.now).kind (values_of values.now) }
     ensures heading { IfOk result (λ column. heading column ≡ heading_of like.now) }
-    ensures means { IfOk result (λ column. MeanCells column.bytes (length rests.now)) }
-    ensures cells { IfOk result (λ column. cells_in column.bytes ≡ map (front_value (heading_of like.now)) (lent rests.now)) }
+    ensures means { IfOk result (λ column. MeanCells column.bytes (length values.now)) }
+    ensures cells { IfOk result (λ column. cells_in column.bytes ≡ values_of values.now) }
 {
-    let values = front_values(alloc, like, rests)?;
-    let bytes = encode(alloc, kind_of(&like.value), &values)?;
+    let bytes = encode_refs(alloc, kind_of(&like.value), values)?;
     Ok(BlockColumn {
         name: like.name.copy()?,
         bytes: ColumnBytes::of(bytes.into_bytes()),
     })
 }
 
-/// The columns of the rows' cells, in their order.
-fn other_columns(alloc: Global, rows: &[&Row]) -> Result<Vec<BlockColumn>, AllocError>
+/// The columns of the rows' cells, in their order. The values of one after another are lent in a list with a place for each row.
+fn other_columns<'a>(
+    alloc: Global,
+    rows: &[&'a Row],
+    values: &mut [Option<ValueRef<'a>>],
+) -> Result<Vec<BlockColumn>, AllocError>
     requires some { 0 < length (lent_rows rows.now) }
     requires few { length (lent_rows rows.now) ≤ 65536 }
     requires rows { AllByRecursion IsRow (lent_rows rows.now) }
+    requires places { length values.old ≡ length (lent_rows rows.now) }
     ensures { IfOk result (λ columns. HoldCells (lent_rows rows.now) columns.items) }
 {
     let mut rests = rests_of(alloc, rows)?;
     let mut columns = Vec::new(alloc);
-    while let Some(like) = earliest(&rests) {
-        columns.push(next_column(alloc, like, &rests)?)?;
-        move_on(like, &mut rests);
+    while let Some(like) = lend_earliest(&rests, values) {
+        columns.push(column_like(alloc, like, values)?)?;
+        move_on(values, &mut rests);
     }
     Ok(columns)
 }
@@ -79,9 +88,11 @@ pub fn seal_refs(alloc: Global, rows: &[&Row]) -> Result<RowBlock, AllocError>
 {
     let times = times_of(alloc, rows)?;
     let range = range_of(&times);
-    let mut others = other_columns(alloc, rows)?;
+    let mut values = time_cells(alloc, &times)?;
+    let first = times_column(alloc, &values)?;
+    let mut others = other_columns(alloc, rows, &mut values)?;
     let mut columns = Vec::new(alloc);
-    columns.push(times_column(alloc, &times)?)?;
+    columns.push(first)?;
     columns.append(&mut others)?;
     Ok(RowBlock::of(rows.len() as u32, range, BlockColumns::of(columns)))
 }

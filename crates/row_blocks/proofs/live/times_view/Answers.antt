@@ -1,4 +1,4 @@
-use Rattle.std.proofs.Common.{get_or, List, ℕ, ap, subst, ◌∙◌}
+use Rattle.std.proofs.Common.{get_or, List, ap, subst, ◌∙◌}
 use Rattle.row_blocks.specs.declared.column.BlockColumn.{BlockColumn}
 use Rattle.row_blocks.specs.Columns.{IsSeen}
 use Rattle.row_blocks.proofs.LivePlaces.{times_read}

@@ -1,11 +1,12 @@
 use Rattle.std.proofs.Common.{◌≡◌, length, map, take, drop}
-use Rattle.row_blocks.specs.Headings.{heading_of}
-use Rattle.row_blocks.specs.Merging.{lent, rest_after}
+use Rattle.column_bytes.specs.Cells.{values_of}
+use Rattle.row_blocks.specs.Headings.{Heading}
+use Rattle.row_blocks.specs.Merging.{front_value, lent, rest_after}
 use Rattle.row_blocks.proofs.merge.move_on.Given as goal
 
-abbrev pub invariant-loop-rest : goal.invariant-loop-rest
-invariant-loop-rest l = record {
+abbrev pub invariant-loop-i : goal.invariant-loop-i
+invariant-loop-i l = record {
   same : length l.rests ≡ length l.fn.rests;
-  done : lent (take l.rest-index l.rests) ≡ map (rest_after (heading_of l.like)) (lent (take l.rest-index l.fn.rests));
-  left : drop l.rest-index l.rests ≡ drop l.rest-index l.fn.rests;
+  done : (h : Heading) → values_of l.values ≡ map (front_value h) (lent l.fn.rests) → lent (take l.i l.rests) ≡ map (rest_after h) (lent (take l.i l.fn.rests));
+  left : drop l.i l.rests ≡ drop l.i l.fn.rests;
 }

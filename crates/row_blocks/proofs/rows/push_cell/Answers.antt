@@ -1,4 +1,4 @@
-use Rattle.std.proofs.Common.{◌<◌, List, ℕ, Some, length, slice_index_or, option_map, sym, ap, subst, ◌∙◌, arith}
+use Rattle.std.proofs.Common.{◌<◌, Some, length, slice_index_or, option_map, sym, ap, subst, ◌∙◌, arith}
 use Rattle.std.proofs.lemmas.List.Elements.{All-from_recursion}
 use Rattle.column_bytes.specs.Cells.{Coded, value_of}
 use Rattle.row_blocks.specs.declared.column.BlockColumn.{BlockColumn}

@@ -1,4 +1,4 @@
-use Rattle.std.proofs.Common.{◌≡◌, ◌≤◌, true, int_le, rules, arith}
+use Rattle.std.proofs.Common.{◌≡◌, true, int_le, rules, arith}
 use Rattle.row_blocks.proofs.LivePlaces.{all_behind, all_counted}
 use Rattle.row_blocks.proofs.block.RowBlock.place_behind.Goals as goal
 
