@@ -1,6 +1,7 @@
 //! The lines that a script's commands print.
 #![tactic(auto)]
 
+mod entry;
 mod line;
 mod parts;
 mod put;

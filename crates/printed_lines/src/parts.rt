@@ -1,55 +1,12 @@
 // The texts that lines are made of.
-ghost use Rattle.std.specs.Prelude.{◌≡◌, ◌<◌, ◌++◌, codes, decimal, length, IfOk, OnOk, string_bytes};
-ghost use Rattle.printed_lines.specs.Lines.{EndsOf, said_text, way_text, ending_text, verb_text, name_at};
+ghost use Rattle.std.specs.Prelude.{◌≡◌, ◌<◌, length, IfOk, string_bytes};
+ghost use Rattle.printed_lines.specs.Lines.{EndsOf, way_text, ending_text, verb_text, name_at};
 
-use crate::line::{Ending, Said, Verb};
+use crate::line::{Ending, Verb};
 use adopt::WhyDisk;
-use itoa::Buffer;
 use leaf_model::Names;
 use leaf_opening::Way;
 use std::alloc::{AllocError, Global};
-
-/// Puts what an entry says behind what is there. For want of memory a part of it may stand there.
-pub fn append_said(out: &mut Vec<u8>, said: Said) -> Result<(), AllocError>
-    ensures { OnOk result (out.new.items ≡ out.old.items ++ said_text said) }
-{
-    match said {
-        Said::Added { kept, late } => append_added(out, kept, late),
-        Said::Removed(rows) => append_counted(out, b"removed ", rows),
-        Said::Asked => out.extend_from_slice(b"asked"),
-        Said::RefusedShut => out.extend_from_slice(b"refused shut"),
-        Said::RefusedFull => out.extend_from_slice(b"refused full"),
-        Said::RefusedMemory => out.extend_from_slice(b"refused memory"),
-        Said::Opened(writes) => append_counted(out, b"opened ", writes),
-        Said::Took(writes) => append_counted(out, b"took ", writes),
-        Said::Flushed(writes) => append_counted(out, b"flushed ", writes),
-        Said::Closed(writes) => append_counted(out, b"closed ", writes),
-        Said::Handed => out.extend_from_slice(b"handed"),
-    }
-}
-
-fn append_added(out: &mut Vec<u8>, kept: u64, late: u64) -> Result<(), AllocError>
-    ensures { OnOk result (out.new.items ≡ out.old.items ++ (codes "added " ++ (decimal kept ++ (codes " late " ++ decimal late)))) }
-{
-    append_counted(out, b"added ", kept)?;
-    append_counted(out, b" late ", late)
-}
-
-/// Puts words and a count behind what is there. For want of memory the words alone may stand there.
-pub fn append_counted(out: &mut Vec<u8>, words: &[u8], count: u64) -> Result<(), AllocError>
-    ensures { OnOk result (out.new.items ≡ out.old.items ++ (words.now ++ decimal count)) }
-{
-    out.extend_from_slice(words)?;
-    append_number(out, count)
-}
-
-/// Puts a number's digits behind what is there.
-pub fn append_number(out: &mut Vec<u8>, number: u64) -> Result<(), AllocError>
-    ensures { OnOk result (out.new.items ≡ out.old.items ++ decimal number) }
-{
-    let mut digits = Buffer::new();
-    out.extend_from_slice(digits.format(number).as_bytes())
-}
 
 pub fn ending_string(alloc: Global, names: &Names, ending: &Ending) -> Result<String, AllocError>
     requires { EndsOf names.now ending.now }

@@ -1,10 +1,11 @@
 // Lines behind what was printed before.
-ghost use Rattle.std.specs.Prelude.{◌≡◌, ◌<◌, ◌∷◌, ◌++◌, [], codes, decimal, length, IfOk, OnOk, OnErr, string_bytes};
+ghost use Rattle.std.specs.Prelude.{◌≡◌, ◌<◌, ◌∷◌, ◌++◌, [], codes, decimal, length, take, IfOk, OnOk, OnErr, string_bytes};
 ghost use Rattle.std.specs.List.{flat_map, AllByRecursion};
-ghost use Rattle.printed_lines.specs.Lines.{EndsOf, IsOf, row_line, said_text, entry_text, worn_text, answer_head, answer_text, ended_text, lane_text, leaf_text, line_text, lines_text, rolled_text, rolled_word, watch_text, wave_text};
+ghost use Rattle.printed_lines.specs.Lines.{EndsOf, IsOf, row_line, worn_text, answer_head, answer_text, ended_text, lane_text, leaf_text, line_text, lines_text, rolled_text, rolled_word, watch_text, wave_text};
 
-use crate::line::{Ending, Line, Said, Verb};
-use crate::parts::{append_counted, append_number, append_said, ending_string, name_of, verb_str};
+use crate::entry::append_entry;
+use crate::line::{Ending, Line, Verb};
+use crate::parts::{ending_string, name_of, verb_str};
 use leaf_model::{Names, Text};
 use std::alloc::{AllocError, Global};
 
@@ -13,45 +14,6 @@ pub fn put_line(out: &mut Vec<u8>, names: &Names, line: &Line) -> Result<(), All
     requires table_is_known { IsOf names.now line.now }
     ensures put { OnOk result (out.new.items ≡ out.old.items ++ line_text names.now line.now) }
     ensures unchanged { OnErr result (out.new.items ≡ out.old.items) }
-{
-    let bytes = line_bytes(*out.allocator(), names, line)?;
-    out.extend_from_slice(bytes.as_slice())
-}
-
-/// Puts lines, all or none, behind what is there.
-pub fn put_lines(out: &mut Vec<u8>, names: &Names, lines: &[Line]) -> Result<(), AllocError>
-    requires tables_are_known { AllByRecursion (IsOf names.now) lines.now }
-    ensures put { OnOk result (out.new.items ≡ out.old.items ++ lines_text names.now lines.now) }
-    ensures unchanged { OnErr result (out.new.items ≡ out.old.items) }
-{
-    let bytes = lines_bytes(*out.allocator(), names, lines)?;
-    out.extend_from_slice(bytes.as_slice())
-}
-
-fn lines_bytes(alloc: Global, names: &Names, lines: &[Line]) -> Result<Vec<u8>, AllocError>
-    requires { AllByRecursion (IsOf names.now) lines.now }
-    ensures { IfOk result (λ bytes. bytes.items ≡ lines_text names.now lines.now) }
-{
-    let mut bytes = Vec::new(alloc);
-    for line in lines {
-        append_line(&mut bytes, names, line)?;
-    }
-    Ok(bytes)
-}
-
-fn line_bytes(alloc: Global, names: &Names, line: &Line) -> Result<Vec<u8>, AllocError>
-    requires { IsOf names.now line.now }
-    ensures { IfOk result (λ bytes. bytes.items ≡ line_text names.now line.now) }
-{
-    let mut bytes = Vec::new(alloc);
-    append_line(&mut bytes, names, line)?;
-    Ok(bytes)
-}
-
-// Puts a line behind what is there. For want of memory a part of it may stand there.
-fn append_line(out: &mut Vec<u8>, names: &Names, line: &Line) -> Result<(), AllocError>
-    requires { IsOf names.now line.now }
-    ensures { OnOk result (out.new.items ≡ out.old.items ++ line_text names.now line.now) }
 {
     match line {
         Line::Entry {
@@ -74,39 +36,36 @@ fn append_line(out: &mut Vec<u8>, names: &Names, line: &Line) -> Result<(), Allo
     }
 }
 
-// Entries are most of what a script prints, so their pieces are put straight behind one another.
-fn append_entry(
-    out: &mut Vec<u8>,
-    leaf: u32,
-    name: &str,
-    number: u64,
-    said: Said,
-) -> Result<(), AllocError>
-    ensures { OnOk result (out.new.items ≡ out.old.items ++ entry_text leaf name.now number said) }
+/// Puts lines, all or none, behind what is there.
+pub fn put_lines(out: &mut Vec<u8>, names: &Names, lines: &[Line]) -> Result<(), AllocError>
+    requires tables_are_known { AllByRecursion (IsOf names.now) lines.now }
+    ensures put { OnOk result (out.new.items ≡ out.old.items ++ lines_text names.now lines.now) }
+    ensures unchanged { OnErr result (out.new.items ≡ out.old.items) }
 {
-    append_place(out, leaf, name)?;
-    append_told(out, number, said)
+    let before = out.len();
+    let put = put_some(out, names, lines);
+    if put.is_err() {
+        out.truncate(before);
+    }
+    put
 }
 
-fn append_place(out: &mut Vec<u8>, leaf: u32, name: &str) -> Result<(), AllocError>
-    ensures { OnOk result (out.new.items ≡ out.old.items ++ (decimal leaf ++ 32 ∷ name.now)) }
+// For want of memory the first of them may stand there.
+#[tactic(auto, using(crate::proofs::Backward::still_front))]
+fn put_some(out: &mut Vec<u8>, names: &Names, lines: &[Line]) -> Result<(), AllocError>
+    requires { AllByRecursion (IsOf names.now) lines.now }
+    ensures put { OnOk result (out.new.items ≡ out.old.items ++ lines_text names.now lines.now) }
+    ensures behind { take (length out.old.items) out.new.items ≡ out.old.items }
 {
-    append_number(out, leaf as u64)?;
-    out.extend_from_slice(b" ")?;
-    out.extend_from_slice(name.as_bytes())
-}
-
-fn append_told(out: &mut Vec<u8>, number: u64, said: Said) -> Result<(), AllocError>
-    ensures { OnOk result (out.new.items ≡ out.old.items ++ (codes " #" ++ (decimal number ++ (32 ∷ (said_text said ++ 10 ∷ []))))) }
-{
-    append_counted(out, b" #", number)?;
-    out.extend_from_slice(b" ")?;
-    append_said(out, said)?;
-    out.extend_from_slice(b"\n")
+    for line in lines {
+        put_line(out, names, line)?;
+    }
+    Ok(())
 }
 
 fn append_worn(out: &mut Vec<u8>, leaf: u32, name: &str) -> Result<(), AllocError>
-    ensures { OnOk result (out.new.items ≡ out.old.items ++ worn_text leaf name.now) }
+    ensures put { OnOk result (out.new.items ≡ out.old.items ++ worn_text leaf name.now) }
+    ensures unchanged { OnErr result (out.new.items ≡ out.old.items) }
 {
     let text = format!(in *out.allocator(); "{leaf} {name} refused worn\n")?;
     out.extend_from_slice(text.as_bytes())
@@ -118,11 +77,12 @@ fn append_answer(
     leaves: u32,
     rows: &[Text],
 ) -> Result<(), AllocError>
-    ensures { OnOk result (out.new.items ≡ out.old.items ++ answer_text named leaves rows.now) }
+    ensures put { OnOk result (out.new.items ≡ out.old.items ++ answer_text named leaves rows.now) }
+    ensures unchanged { OnErr result (out.new.items ≡ out.old.items) }
 {
-    let head = head_bytes(*out.allocator(), named, leaves, rows.len())?;
-    out.extend_from_slice(head.as_slice())?;
-    put_rows(out, rows)
+    let mut answer = head_bytes(*out.allocator(), named, leaves, rows.len())?;
+    put_rows(&mut answer, rows)?;
+    out.extend_from_slice(answer.as_slice())
 }
 
 fn head_bytes(alloc: Global, named: u64, leaves: u32, count: usize) -> Result<Vec<u8>, AllocError>
@@ -140,7 +100,8 @@ fn append_ended(
     ending: &Ending,
 ) -> Result<(), AllocError>
     requires { EndsOf names.now ending.now }
-    ensures { OnOk result (out.new.items ≡ out.old.items ++ ended_text names.now verb leaf ending.now) }
+    ensures put { OnOk result (out.new.items ≡ out.old.items ++ ended_text names.now verb leaf ending.now) }
+    ensures unchanged { OnErr result (out.new.items ≡ out.old.items) }
 {
     let alloc = *out.allocator();
     let verb = verb_str(verb);
@@ -150,20 +111,22 @@ fn append_ended(
 }
 
 fn append_lane(out: &mut Vec<u8>, number: u32) -> Result<(), AllocError>
-    ensures { OnOk result (out.new.items ≡ out.old.items ++ lane_text number) }
+    ensures put { OnOk result (out.new.items ≡ out.old.items ++ lane_text number) }
+    ensures unchanged { OnErr result (out.new.items ≡ out.old.items) }
 {
     let text = format!(in *out.allocator(); "lane {number}\n")?;
     out.extend_from_slice(text.as_bytes())
 }
 
 fn append_wave(out: &mut Vec<u8>, number: u32, of: u32, leaves: &[u32]) -> Result<(), AllocError>
-    ensures { OnOk result (out.new.items ≡ out.old.items ++ wave_text number of leaves.now) }
+    ensures put { OnOk result (out.new.items ≡ out.old.items ++ wave_text number of leaves.now) }
+    ensures unchanged { OnErr result (out.new.items ≡ out.old.items) }
 {
     let text = format!(in *out.allocator(); "wave {number} of {of} leaves")?;
-    out.extend_from_slice(text.as_bytes())?;
-    put_leaves(out, leaves)?;
-    out.push(b'\n')?;
-    Ok(())
+    let mut line = text.into_bytes();
+    put_leaves(&mut line, leaves)?;
+    line.push(b'\n')?;
+    out.extend_from_slice(line.as_slice())
 }
 
 fn put_leaves(out: &mut Vec<u8>, leaves: &[u32]) -> Result<(), AllocError>
@@ -183,7 +146,8 @@ fn put_leaf(out: &mut Vec<u8>, leaf: u32) -> Result<(), AllocError>
 }
 
 fn append_rolled(out: &mut Vec<u8>, halted: bool, waves: u32, of: u32) -> Result<(), AllocError>
-    ensures { OnOk result (out.new.items ≡ out.old.items ++ rolled_text halted waves of) }
+    ensures put { OnOk result (out.new.items ≡ out.old.items ++ rolled_text halted waves of) }
+    ensures unchanged { OnErr result (out.new.items ≡ out.old.items) }
 {
     let word = rolled_word(halted);
     let text = format!(in *out.allocator(); "rollover {word}{waves} of {of}\n")?;
@@ -197,12 +161,21 @@ fn rolled_word(halted: bool) -> &'static str
 }
 
 fn append_watch(out: &mut Vec<u8>, text: &[u8]) -> Result<(), AllocError>
-    ensures { OnOk result (out.new.items ≡ out.old.items ++ watch_text text.now) }
+    ensures put { OnOk result (out.new.items ≡ out.old.items ++ watch_text text.now) }
+    ensures unchanged { OnErr result (out.new.items ≡ out.old.items) }
 {
-    out.extend_from_slice(b"watch ")?;
-    out.extend_from_slice(text)?;
-    out.push(b'\n')?;
-    Ok(())
+    let line = watch_bytes(*out.allocator(), text)?;
+    out.extend_from_slice(line.as_slice())
+}
+
+fn watch_bytes(alloc: Global, text: &[u8]) -> Result<Vec<u8>, AllocError>
+    ensures { IfOk result (λ bytes. bytes.items ≡ watch_text text.now) }
+{
+    let mut bytes = Vec::new(alloc);
+    bytes.extend_from_slice(b"watch ")?;
+    bytes.extend_from_slice(text)?;
+    bytes.push(b'\n')?;
+    Ok(bytes)
 }
 
 fn put_rows(out: &mut Vec<u8>, rows: &[Text]) -> Result<(), AllocError>
