@@ -1,5 +1,5 @@
 // A row from its JSON text.
-ghost use Rattle.std.specs.Prelude.{◌≡◌, ◌≢◌, ◌↔◌, ◌≤ℤ◌, ℕ, List, nat_lt, Ok, Err, IfOk, IfSome, pos, string_bytes, string_cmp};
+ghost use Rattle.std.specs.Prelude.{◌≡◌, ◌≢◌, ◌↔◌, ◌≤ℤ◌, ℕ, List, [], nat_lt, Ok, Err, IfOk, IfErr, IfSome, pos, string_bytes, string_cmp};
 ghost use Rattle.std.specs.List.{AllByRecursion};
 ghost use Rattle.std.specs.List.Sorted.{IsStrictlySortedBy};
 ghost use Rattle.std.specs.Map.{keys_of};
@@ -130,7 +130,7 @@ fn cells(alloc: Global, members: Members) -> Result<Vec<Cell>, RowFault>
     ensures are_cells { IfOk result (λ cells. AllByRecursion IsCell cells.items) }
     ensures ordered { IsStrictlySortedBy string_cmp (keys_of members.entries) }
 {
-    let mut cells = Vec::new(alloc);
+    let mut cells = room_for_cells(alloc, &members)?;
     for (name, value) in members {
         if let Some(cell) = cell_of(name, value)? {
             if cells.push(cell).is_err() {
@@ -139,6 +139,17 @@ fn cells(alloc: Global, members: Members) -> Result<Vec<Cell>, RowFault>
         }
     }
     Ok(cells)
+}
+
+/// Room for as many cells as there are members beside the time, since a row that is kept keeps its room.
+fn room_for_cells(alloc: Global, members: &Members) -> Result<Vec<Cell>, RowFault>
+    ensures none { IfOk result (λ cells. cells.items ≡ []) }
+    ensures refused { IfErr result (λ fault. fault ≡ RowFault.NoMemory) }
+{
+    match Vec::with_capacity(alloc, members.len().saturating_sub(1)) {
+        Ok(cells) => Ok(cells),
+        Err(_) => Err(RowFault::NoMemory),
+    }
 }
 
 /// The cell that a member is, where it is one.
