@@ -1,4 +1,4 @@
-//! Tests of blocks of rows, of the masks and cuts that take rows away from them, and of queries over them.
+//! Tests of blocks of rows, of the masks and cuts that take rows away from them, and of how a table's rows stand in blocks and a tail.
 #![tactic(auto)]
 
 #[cfg(test)]
@@ -6,6 +6,6 @@ mod blocks;
 #[cfg(test)]
 mod masks;
 #[cfg(test)]
-mod scans;
+mod rows;
 #[cfg(test)]
 mod tables;

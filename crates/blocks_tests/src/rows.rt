@@ -1,0 +1,48 @@
+// Rows that the tests share, from their bytes.
+ghost use Rattle.std.specs.Prelude.{◌≤◌, IfOk, length};
+ghost use Rattle.std.specs.List.{AllByRecursion};
+ghost use Rattle.leaf_model.specs.Values.{IsRow};
+
+use leaf_model::{Row, Rows};
+use row_records::read_rows;
+use std::alloc::{AllocError, Global};
+
+/// Three rows without cells, of the times 30, 10 and 20.
+pub const TIMES: &[u8] = b"\x1e\0\0\0\0\0\0\0\0\0\x0a\0\0\0\0\0\0\0\0\0\x14\0\0\0\0\0\0\0\0\0";
+
+/// The same, of the times 31, 50 and 40.
+pub const LATER: &[u8] = b"\x1f\0\0\0\0\0\0\0\0\0\x32\0\0\0\0\0\0\0\0\0\x28\0\0\0\0\0\0\0\0\0";
+
+/// So many rows, from their bytes.
+fn rows_of(alloc: Global, bytes: &[u8], count: u64) -> Result<Vec<Row>, AllocError>
+    ensures rows { IfOk result (λ rows. AllByRecursion IsRow rows.items) }
+    ensures few { IfOk result (λ rows. length rows.items ≤ count) }
+{
+    match read_rows(alloc, bytes, count)? {
+        Some((rows, _taken)) => Ok(rows),
+        None => Ok(Vec::new(alloc)),
+    }
+}
+
+/// So many bytes.
+fn zeros(alloc: Global, count: usize) -> Result<Vec<u8>, AllocError> {
+    vec![in alloc; 0u8; count]
+}
+
+/// So many rows without cells, of the time 0.
+pub fn alike(alloc: Global, count: u32) -> Result<Rows, AllocError>
+    requires { count ≤ 100000 }
+    ensures { IfOk result (λ rows. AllByRecursion IsRow rows) }
+{
+    let bytes = zeros(alloc, count as usize * 10)?;
+    let rows = rows_of(alloc, bytes.as_slice(), u64::from(count))?;
+    Ok(Rows::of(rows))
+}
+
+/// Three rows, from their bytes.
+pub fn three_rows(alloc: Global, bytes: &[u8]) -> Result<Rows, AllocError>
+    ensures { IfOk result (λ rows. AllByRecursion IsRow rows) }
+{
+    let rows = rows_of(alloc, bytes, 3)?;
+    Ok(Rows::of(rows))
+}
