@@ -3,7 +3,7 @@ use Rattle.std.proofs.Common.{◌≡◌, ◌<◌, ◌≤◌, ◌+◌, ◌-◌, �
 use Rattle.std.specs.Prelude.{IfOk, IfErr}
 use Rattle.std.specs.List.{AllByRecursion, AllZip, onto_first}
 use Rattle.std.proofs.lemmas.Bool.{eqb-true}
-use Rattle.std.proofs.lemmas.List.{append-nil, append_cancel_right, map-append, take-append-drop, take_at, drop_at, take_rest, length-map}
+use Rattle.std.proofs.lemmas.List.{append-nil, append_cancel_right, map-append, take-append-drop, take_at, drop_at, take_rest, length-map, length-drop}
 use Rattle.leaf_model.specs.declared.rows.Row.{Row}
 use Rattle.leaf_model.specs.Values.{IsRow}
 use Rattle.row_json.specs.declared.object.RowFault.{RowFault}
@@ -13,7 +13,7 @@ use Rattle.script_text.specs.declared.fault.ScriptFault.TheVariants.{At, NoMemor
 use Rattle.script_text.specs.Lines.{before, behind, lines, lines_of, without_return}
 use Rattle.script_text.specs.Commands.{Fault, joined, with_first, one_row, rows_from}
 use Rattle.script_text.specs.Script.{IfAt}
-use Rattle.script_text.specs.Parts.{IsLineCut, IsPartRead, IsTextCut, ends_line, fault_behind, lines_of_parts}
+use Rattle.script_text.specs.Parts.{IsLineCut, IsFront, IsPartRead, IsTextCut, ends_line, fault_behind, lines_of_parts}
 use Rattle.script_text.proofs.Cut.{pieces_cut, drop_next}
 
 -- ---- a text cut behind a byte 10
@@ -46,7 +46,7 @@ onto_first-append : (x : ℕ) (a b : List (List ℕ)) → 0 < length a → onto_
 onto_first-append x [] b some = absurd (omega arith)
 onto_first-append x (piece ∷ a) b some = refl
 
-some_line : (x : ℕ) (xs : List ℕ) → 0 < length (lines (x ∷ xs))
+pub some_line : (x : ℕ) (xs : List ℕ) → 0 < length (lines (x ∷ xs))
 some_line x xs = rw (pieces_cut 10 (x ∷ xs) (omega arith)) (omega arith)
 
 joined_by : (x : ℕ) (xs b : List ℕ) (is : Bool) → eqb x 10 ≡ is → 0 < length (lines xs) → lines (xs ++ b) ≡ lines xs ++ lines b → lines (x ∷ (xs ++ b)) ≡ lines (x ∷ xs) ++ lines b
@@ -84,6 +84,17 @@ cut_behind text piece line after place k is (inr last) at =
     let both : text ++ after ≡ text = ap (λ (l : List ℕ). text ++ l) last.1 ∙ append-nil text in
     let none : lines_of text ++ lines_of after ≡ lines_of text = ap (λ (l : List ℕ). lines_of text ++ lines_of l) last.1 ∙ append-nil (lines_of text) in
     cut_there text text after k both none at
+
+-- the front of such a cut ends with a line's end, or nothing stands behind it
+pub behind_ended : (text piece line after : List ℕ) (place k : ℕ) → piece ≡ take (length text - place) (drop place text) → IsLineCut piece line after → k ≡ length text - length after → 0 < length (drop k text) → ends_line (take k text) ≡ true
+behind_ended text piece line after place k is (inl ended) at some =
+    let front = take place text ++ line in
+    let here : take place text ++ (line ++ 10 ∷ after) ≡ text = ap (λ (l : List ℕ). take place text ++ l) (sym ended ∙ is ∙ take_rest text place) ∙ take-append-drop place text in
+    let both : (front ++ 10 ∷ []) ++ after ≡ text = append_assoc front (10 ∷ []) after ∙ append_assoc (take place text) line (10 ∷ after) ∙ here in
+    ap ends_line (split_at text (front ++ 10 ∷ []) after k both at).0 ∙ ends_line-push front
+behind_ended text piece line after place k is (inr last) at some =
+    let none : length after ≡ 0 = ap length last.1 in
+    absurd (omega (arith, some, length-drop k text, at, none))
 
 -- no more lines than bytes
 onto_first_short : (x : ℕ) (a : List (List ℕ)) (n : ℕ) → length a ≤ n → length (onto_first x a) ≤ suc n
@@ -125,15 +136,10 @@ first_line text line rest are (inr last) =
       ended = λ some. absurd (omega arith);
     }
 
--- so many lines of a text stand before the rest
-pub record IsFront (text rest : List ℕ) (count : ℕ) : Type 0 where
-  pub front : List ℕ
-  pub both : front ++ rest ≡ text
-  pub first : lines_of front ≡ take count (lines_of text)
-  pub others : lines_of rest ≡ drop count (lines_of text)
-  pub within : count ≤ length (lines_of text)
-  pub short : count + length rest ≤ length text
-  pub ended : 0 < length rest → ends_line front ≡ true
+length_taken : {X : Type 0} (k : ℕ) (xs : List X) → k ≤ length xs → length (take k xs) ≡ k
+length_taken zero xs within = refl
+length_taken (suc k) [] within = absurd (omega arith)
+length_taken (suc k) (x ∷ xs) within = ap suc (length_taken k xs (omega arith))
 
 pub front_none : (text : List ℕ) → IsFront text text 0
 front_none text = record { front = []; both = refl; first = refl; others = refl; within = omega arith; short = omega arith; ended = λ some. refl }
@@ -170,6 +176,45 @@ pub front_lines : (text rest : List ℕ) (count k : ℕ) → IsFront text rest c
 front_lines text rest count k is at =
     let places = split_at text is.front rest k is.both at in
     (ap lines_of places.0 ∙ is.first, ap lines_of places.1 ∙ is.others, places.1)
+
+-- the front of a cut at a line's end
+pub front_of_cut : (text front rest : List ℕ) (count : ℕ) → IsTextCut text front rest → (0 < length rest → ends_line front ≡ true) → count ≡ length (lines_of front) → IsFront text rest count
+front_of_cut text front rest count cut ended is =
+    let size : length (lines_of front) + length (lines_of rest) ≡ length (lines_of text) = sym (length-append (lines_of front) (lines_of rest)) ∙ ap length cut.lines in
+    let bytes : length front + length rest ≡ length text = sym (length-append front rest) ∙ ap length cut.joined in
+    record {
+      front = front;
+      both = cut.joined;
+      first = sym (take_at (lines_of front) (lines_of rest) count (sym is)) ∙ ap (take count) cut.lines;
+      others = sym (drop_at (lines_of front) (lines_of rest) count (sym is)) ∙ ap (drop count) cut.lines;
+      within = omega (arith, is, size);
+      short = omega (arith, is, bytes, lines_short front);
+      ended = ended;
+    }
+
+-- lines that are passed behind others
+pub front_then : (text rest after : List ℕ) (n k : ℕ) → IsFront text rest n → IsFront rest after k → length after < length rest → IsFront text after (n + k)
+front_then text rest after n k a b shorter =
+    let ended : ends_line a.front ≡ true = a.ended (omega (arith, shorter)) in
+    let all : take n (lines_of text) ++ (take k (lines_of rest) ++ drop k (lines_of rest)) ≡ lines_of text =
+    ap (λ (ls : List (List ℕ)). take n (lines_of text) ++ ls) (take-append-drop k (lines_of rest) ∙ a.others) ∙ take-append-drop n (lines_of text) in
+    let front = take n (lines_of text) ++ take k (lines_of rest) in
+    let both : front ++ drop k (lines_of rest) ≡ lines_of text = append_assoc (take n (lines_of text)) (take k (lines_of rest)) (drop k (lines_of rest)) ∙ all in
+    let first_size : length (take n (lines_of text)) ≡ n = length_taken n (lines_of text) a.within in
+    let next_size : length (take k (lines_of rest)) ≡ k = length_taken k (lines_of rest) b.within in
+    let joined_size : length front ≡ length (take n (lines_of text)) + length (take k (lines_of rest)) = length-append (take n (lines_of text)) (take k (lines_of rest)) in
+    let size : length front ≡ n + k = omega (arith, joined_size, first_size, next_size) in
+    let whole : length front + length (drop k (lines_of rest)) ≡ length (lines_of text) = sym (length-append front (drop k (lines_of rest))) ∙ ap length both in
+    record {
+      front = a.front ++ b.front;
+      both = append_assoc a.front b.front after ∙ ap (λ (l : List ℕ). a.front ++ l) b.both ∙ a.both;
+      first = lines_of-joined a.front b.front ended ∙ ap (λ (ls : List (List ℕ)). ls ++ lines_of b.front) a.first ∙ ap (λ (ls : List (List ℕ)). take n (lines_of text) ++ ls) b.first
+          ∙ sym (take_at front (drop k (lines_of rest)) (n + k) size) ∙ ap (take (n + k)) both;
+      others = b.others ∙ sym (drop_at front (drop k (lines_of rest)) (n + k) size) ∙ ap (drop (n + k)) both;
+      within = omega (arith, whole, size);
+      short = omega (arith, a.short, b.short);
+      ended = λ more. ends_line-append a.front b.front ended (b.ended more);
+    }
 
 -- ---- rows of lines one behind another
 
@@ -231,6 +276,24 @@ fault_first n k (Err fault) rows is = omega arith
 rows_fault : (n : ℕ) (a : List (List ℕ)) → IfErr (rows_from n a) (λ found. found.0 < n + length a)
 rows_fault n [] = tt
 rows_fault n (line ∷ a) = fault_first n (length a) (row_of line) (rows_from (n + 1) a) (rows_fault (n + 1) a)
+
+-- ---- a text read by one thread, where so many lines stand before it
+
+pub alone_read : (number : ℕ) (a : List (List ℕ)) (rows : List Row) → rows_from 1 a ≡ Ok rows → (rows_from (number + 1) a ≡ Ok rows) × (length rows ≡ length a)
+alone_read number a rows is =
+    (rows_shifted number 1 a ∙ ap (later number) is, subst (λ (r : Result (List Row) Fault). IfOk r (λ rs. length rs ≡ length a)) is (rows_count 1 a))
+
+pub alone_fits : (number : ℕ) (a : List (List ℕ)) (fault : ScriptFault) (most : ℕ) → IfAt fault (λ line why. rows_from 1 a ≡ Err (line, why)) → number + length a < most → IfAt fault (λ line why. number + line < most)
+alone_fits number a (At line why) most is place =
+    let near : line < 1 + length a = subst (λ (r : Result (List Row) Fault). IfErr r (λ found. found.0 < 1 + length a)) is (rows_fault 1 a) in
+    omega (arith, near, place)
+alone_fits number a NoMemory most is place = tt
+
+pub alone_refused : (number : ℕ) (a : List (List ℕ)) (fault told : ScriptFault) → IfAt fault (λ line why. rows_from 1 a ≡ Err (line, why)) → told ≡ fault_behind number fault → IfAt told (λ line why. rows_from (number + 1) a ≡ Err (line, why))
+alone_refused number a fault told is same = subst (λ (f : ScriptFault). IfAt f (λ line why. rows_from (number + 1) a ≡ Err (line, why))) (sym same) (by fault is) where
+  by : (f : ScriptFault) → IfAt f (λ line why. rows_from 1 a ≡ Err (line, why)) → IfAt (fault_behind number f) (λ line why. rows_from (number + 1) a ≡ Err (line, why))
+  by (At line why) is = rows_shifted number 1 a ∙ ap (later number) is
+  by NoMemory is = tt
 
 -- ---- parts read one behind another
 

@@ -4,6 +4,7 @@
 mod add;
 mod command;
 mod drain;
+mod ends;
 mod expire;
 mod fault;
 mod fleet;
@@ -14,6 +15,7 @@ mod later;
 mod lines;
 mod parsing;
 mod parts;
+mod passing;
 mod query;
 mod reading;
 mod rollover;

@@ -3,6 +3,7 @@ ghost use Rattle.std.specs.Prelude.{◌≡◌, ◌<◌, ◌≤◌, ◌+◌, ◌-
 ghost use Rattle.script_text.specs.Lines.{before, behind, lines, lines_of, without_return, is_blank, is_comment, is_skipped};
 ghost use Rattle.script_text.specs.Parts.{IsLineCut, IsTextCut};
 
+use crate::passing::pass_blocks;
 use memchr::memchr;
 
 /// What stands before the first byte `at`, and what stands behind it.
@@ -68,8 +69,9 @@ pub fn cut_lines(text: &[u8], count: u64) -> Option<(&[u8], &[u8])>
     ensures shorter { IfSome result (λ cut. count + length cut.1.now ≤ length text.now) }
     ensures none { result ≡ None → length (lines_of text.now) < count }
 {
-    let mut rest = text;
-    for _line in 0..count {
+    let passed = pass_blocks(text, count);
+    let mut rest = passed.after;
+    for _line in passed.lines..count {
         if rest.is_empty() {
             return None;
         }

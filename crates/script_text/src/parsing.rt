@@ -6,6 +6,7 @@ ghost use Rattle.script_text.specs.Fits.{IsScript};
 ghost use Rattle.script_text.specs.Script.{NumberedLine, begun, closed, read_from, script_of, IfAt, ParsesAs, next_line};
 
 use crate::command::Command;
+use crate::ends::line_count;
 use crate::fault::{ScriptFault, Why, fault_at};
 use crate::fleet::{Fleet, first_command};
 use crate::item::{Item, Items};
@@ -111,20 +112,6 @@ fn closed(last: u64, reading: Reading) -> Result<Script, ScriptFault>
         Standing::Outside => Ok(reading.script),
         Standing::Opened | Standing::Lane { .. } => Err(fault_at(last, Why::Place)),
     }
-}
-
-/// How many lines a text has.
-fn line_count(text: &[u8]) -> u64
-    ensures { result ≡ length (lines_of text.now) }
-{
-    let mut count = 0;
-    let mut rest = text;
-    while !rest.is_empty() {
-        let (_, after) = cut_line(rest);
-        count += 1;
-        rest = after;
-    }
-    count
 }
 
 /// The text behind so many lines, which it has.

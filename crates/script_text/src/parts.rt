@@ -1,13 +1,13 @@
 // A text in parts that threads read side by side.
-ghost use Rattle.std.specs.Prelude.{◌≡◌, ◌<◌, length, IfOk};
+ghost use Rattle.std.specs.Prelude.{◌≡◌, ◌<◌, length, true, IfOk};
 ghost use Rattle.script_text.specs.Lines.{lines_of};
-ghost use Rattle.script_text.specs.Parts.{IsTextCut, bytes_of_parts, lines_of_parts};
+ghost use Rattle.script_text.specs.Parts.{IsTextCut, bytes_of_parts, ends_line, lines_of_parts};
 
 use crate::lines::{cut_line, cut_lines};
 use std::alloc::{AllocError, Global};
 
 /// So few lines are read by one thread: another would cost more than it takes over.
-const MANY_LINES: u64 = 2048;
+pub const MANY_LINES: u64 = 2048;
 
 /// A text of many lines is cut into so many parts, a few for each processor, since parts take unlike times.
 const PARTS: usize = 16;
@@ -44,9 +44,10 @@ fn cut_parts(alloc: Global, text: &[u8], count: usize) -> Result<Vec<&[u8]>, All
 }
 
 /// The text up to the end of the line that its byte at this place belongs to, and what stands behind it.
-fn cut_behind(text: &[u8], place: usize) -> (&[u8], &[u8])
+pub fn cut_behind(text: &[u8], place: usize) -> (&[u8], &[u8])
     requires { place < length text.now }
     ensures cut { IsTextCut text.now result.0.now result.1.now }
+    ensures ended { 0 < length result.1.now → ends_line result.0.now ≡ true }
     ensures shorter { length result.1.now < length text.now }
 {
     let (_, rest) = cut_line(&text[place..]);

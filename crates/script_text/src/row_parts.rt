@@ -9,9 +9,10 @@ ghost use Rattle.script_text.specs.Commands.{one_row, rows_from};
 ghost use Rattle.script_text.specs.Parts.{IsPartRead, fault_behind};
 ghost use Rattle.script_text.specs.Script.{IfAt, ParsesAs};
 
+use crate::ends::line_count;
 use crate::fault::{ScriptFault, Why, fault_at};
 use crate::lines::{cut_line, without_return};
-use crate::parts::parts_of;
+use crate::parts::{MANY_LINES, parts_of};
 use leaf_model::{Row, Rows, TableRows};
 use rayon::prelude::*;
 use row_json::RowFault;
@@ -38,6 +39,9 @@ pub fn read_rows<R: Threads + Sync>(
     ensures are_rows { IfOk result (AllByRecursion IsRow) }
     ensures count { IfOk result (λ rows. length rows ≡ count) }
 {
+    if count < MANY_LINES {
+        return read_alone(alloc, text, number, count);
+    }
     let parts = parts_of(alloc, text)?;
     let mut read = VecDeque::from_vec(read_each(rt, alloc, parts.as_slice())?);
     let mut rows = Vec::with_capacity(alloc, count as usize)?;
@@ -48,6 +52,22 @@ pub fn read_rows<R: Threads + Sync>(
         }
     }
     Ok(Rows::of(rows))
+}
+
+/// The same, read by one thread.
+#[tactic(auto, using(crate::proofs::InParts::alone_read, crate::proofs::InParts::alone_fits, crate::proofs::InParts::alone_refused))]
+fn read_alone(alloc: Global, text: &[u8], number: u64, count: u64) -> Result<Rows, ScriptFault>
+    requires lines { length (lines_of text.now) ≡ count }
+    requires few { count ≤ MAX_ROWS }
+    requires place { number + count < 2 ^ 64 }
+    ensures exact { ParsesAs (λ rows. rows) result (rows_from (number + 1) (lines_of text.now)) }
+    ensures are_rows { IfOk result (AllByRecursion IsRow) }
+    ensures count { IfOk result (λ rows. length rows ≡ count) }
+{
+    match read_part(alloc, text) {
+        Ok(rows) => Ok(Rows::of(rows.into_inner())),
+        Err(fault) => Err(fault_behind(number, fault)),
+    }
 }
 
 /// What is read of each part, in order, by as many threads as there are processors.
@@ -80,7 +100,7 @@ fn read_part(alloc: Global, part: &[u8]) -> Result<TableRows, ScriptFault>
     ensures exact { ParsesAs (λ rows. rows) result (rows_from 1 (lines_of part.now)) }
     ensures are_rows { IfOk result (AllByRecursion IsRow) }
 {
-    let mut rows = Vec::new(alloc);
+    let mut rows = Vec::with_capacity(alloc, line_count(part) as usize)?;
     let mut rest = part;
     while !rest.is_empty() {
         let (line, after) = cut_line(rest);

@@ -1,4 +1,4 @@
-use Rattle.script_text.proofs.InParts.{IsFront}
+use Rattle.script_text.specs.Parts.{IsFront}
 use Rattle.script_text.proofs.lines.cut_lines.Given as goal
 
 abbrev pub invariant-loop-line : goal.invariant-loop-line

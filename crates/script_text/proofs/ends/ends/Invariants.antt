@@ -1,10 +1,10 @@
 use Rattle.std.proofs.Common.{◌≡◌, ◌+◌, ◌≤◌, length}
-use Rattle.script_text.specs.Lines.{lines_of}
-use Rattle.script_text.proofs.parsing.line_count.Given as goal
+use Rattle.script_text.specs.Parts.{ends}
+use Rattle.script_text.proofs.ends.ends.Given as goal
 
 abbrev pub invariant-loop-rest : goal.invariant-loop-rest
 invariant-loop-rest l =
-    (l.count + length (lines_of l.rest) ≡ length (lines_of l.text))
+    (l.count + ends l.rest ≡ ends l.text)
     × (l.count + length l.rest ≤ length l.text)
 
 abbrev pub decreases-loop-rest : goal.decreases-loop-rest
