@@ -1,0 +1,10 @@
+pub mod Repeating
+pub mod Entries
+pub mod Sizes
+pub mod Putting
+pub mod Loops
+pub mod Following
+pub mod Ending
+pub mod Tested
+pub mod Found
+pub mod Images

@@ -1,0 +1,7 @@
+use Rattle.std.proofs.Common.{◌≡◌, ◌-◌}
+use Rattle.row_records.proofs.Loop.{with_front}
+use Rattle.region_directory.specs.Directory.{blocks_at}
+use Rattle.region_directory.proofs.directory_reader.blocks_of.Given as goal
+
+abbrev pub invariant-loop : goal.invariant-loop
+invariant-loop l = with_front l.blocks.items (blocks_at (l.count - l.counter) l.rest) ≡ blocks_at l.count l.bytes

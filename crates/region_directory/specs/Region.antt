@@ -1,0 +1,87 @@
+-- What a region means, by its fields.
+use Rattle.std.specs.Prelude.{◌≡◌, ℕ, ◌+◌, ◌==◌, Bool, true, List, [], map, take, drop, codes, slice_range, Some}
+use Rattle.std.specs.List.{AllByRecursion}
+use Rattle.std.specs.Int.{w64, from_le_bytes}
+use Rattle.column_bytes.specs.declared.kind.Kind.{Kind}
+use Rattle.column_bytes.specs.declared.kind.Kind.TheVariants.{Ints, Texts}
+use Rattle.column_bytes.specs.Column.{kind_in}
+use Rattle.region_layout.specs.declared.head.Head.TheVariants.{Version}
+use Rattle.region_layout.specs.declared.image.TableImage.{TableImage}
+use Rattle.region_layout.specs.Region.{head_of}
+use Rattle.row_blocks.specs.declared.column.BlockColumn.{BlockColumn}
+use Rattle.table_state.specs.declared.parts.Parts.{Parts}
+use Rattle.region_directory.specs.declared.directory.Place.{Place}
+use Rattle.region_directory.specs.declared.directory.BlockPlaces.{BlockPlaces}
+use Rattle.region_directory.specs.declared.directory.TablePlaces.{TablePlaces}
+use Rattle.region_directory.specs.declared.directory.Directory.{Directory}
+use Rattle.row_blocks.specs.Blocks.{Block}
+use Rattle.row_blocks.specs.Held.{rows_held}
+use Rattle.table_state.specs.Tables.{IsParts}
+use Rattle.region_directory.specs.Directory.{directory_at, IsDirectory}
+
+-- ---- versions: all that a newer layout changes
+
+-- the version that a drain writes
+abbrev pub layout : ℕ
+layout = 2
+
+-- the versions that a start adopts
+abbrev pub reads : ℕ → Bool
+reads version = version == 2
+
+-- the kinds of columns that an image of a version may have
+abbrev pub allows : ℕ → Kind → Bool
+allows version Ints = true
+allows version Texts = true
+
+-- ---- the parts of a region
+
+-- where its directory stands
+abbrev pub directory_from : List ℕ → ℕ
+directory_from region = from_le_bytes w64 (take 8 (drop 8 region))
+
+abbrev pub column_in : List ℕ → Place → BlockColumn
+column_in region p = record { name = p.name; bytes = slice_range region p.place (p.place + p.length) }
+
+abbrev pub block_in : List ℕ → BlockPlaces → Block
+block_in region b = record { rows = b.rows; columns = map (column_in region) b.columns }
+
+abbrev pub parts_in : List ℕ → TablePlaces → Parts
+parts_in region t = record { horizon = t.horizon; writes = t.writes; skip = t.skip; blocks = map (block_in region) t.blocks }
+
+-- a table of this name with these parts
+abbrev pub image_of_parts : List ℕ → Parts → TableImage
+image_of_parts name p = record { name = name; horizon = p.horizon; writes = p.writes; rows = rows_held p.blocks [] p.skip p.horizon }
+
+abbrev pub table_in : List ℕ → TablePlaces → TableImage
+table_in region t = image_of_parts t.name (parts_in region t)
+
+abbrev pub Allows : ℕ → Parts → Type 0
+Allows version p = AllByRecursion (λ (b : Block). AllByRecursion (λ (c : BlockColumn). allows version (kind_in c.bytes) ≡ true) b.columns) p.blocks
+
+pub record IsTableIn (version : ℕ) (region : List ℕ) (t : TablePlaces) : Type 0 where
+  pub parts : IsParts (parts_in region t)
+  pub kinds : Allows version (parts_in region t)
+
+-- ---- an image of a version
+
+-- an open head of a version, the letters, and behind the columns a directory that keeps its own rules
+pub record HasDirectory (version : ℕ) (region : List ℕ) (d : Directory) : Type 0 where
+  pub head : head_of region ≡ Version version
+  pub letters : take 3 (drop 1 region) ≡ codes "SCB"
+  pub read : directory_at (drop (directory_from region) region) ≡ Some d
+  pub itself : IsDirectory (directory_from region) d
+
+-- these tables and this end of the log
+pub record IsImage (version : ℕ) (region : List ℕ) (tables : List TableImage) (log_end : ℕ) : Type 0 where
+  pub directory : Directory
+  pub has : HasDirectory version region directory
+  pub each : AllByRecursion (IsTableIn version region) directory.tables
+  pub tables_are : tables ≡ map (table_in region) directory.tables
+  pub log_end_is : log_end ≡ directory.log_end
+
+-- an image that a start adopts: the name that all crates above use
+pub record IsAdoptable (region : List ℕ) (tables : List TableImage) (log_end : ℕ) : Type 0 where
+  pub version : ℕ
+  pub reads_it : reads version ≡ true
+  pub is : IsImage version region tables log_end

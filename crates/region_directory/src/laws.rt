@@ -1,0 +1,19 @@
+// Laws of images.
+ghost use Rattle.std.specs.Prelude.{◌≡◌, ℕ, List};
+ghost use Rattle.region_layout.specs.declared.image.TableImage.{TableImage};
+ghost use Rattle.region_layout.specs.Region.{IsClosed};
+ghost use Rattle.region_directory.specs.Region.{IsAdoptable, reads};
+
+/// Whether a start adopts images of that version.
+pub fn reads(version: u32) -> bool
+    ensures { result ≡ reads version }
+{
+    version == 2
+}
+
+/// A region is an image of one list of tables and one end of the log, and none where it is closed.
+pub fn one_reading()
+    ensures tables { (region : List ℕ) (s t : List TableImage) (d e : ℕ) → IsAdoptable region s d → IsAdoptable region t e → s ≡ t }
+    ensures log_end { (region : List ℕ) (s t : List TableImage) (d e : ℕ) → IsAdoptable region s d → IsAdoptable region t e → d ≡ e }
+    ensures closed { (region : List ℕ) (s : List TableImage) (d : ℕ) → IsClosed region → IsAdoptable region s d → ⊥ }
+{}

@@ -1,0 +1,15 @@
+//! What a region means by its fields: columns behind a head, and behind them a directory of the tables, blocks and columns.
+#![tactic(auto)]
+
+mod directory;
+mod directory_reader;
+mod directory_writer;
+mod drained;
+mod laws;
+mod rules;
+
+pub use directory::{
+    BlockPlaces, BlockPlacesList, Directory, Place, Places, TablePlaces, TablePlacesList,
+};
+pub use drained::{DrainTable, DrainTables};
+pub use laws::{one_reading, reads};
