@@ -1,4 +1,4 @@
-//! Tests of a table that its callers and its steward share by turns, and of the tables of two leaves that are asked at once.
+//! Tests of a table that two threads share by turns, and of the tables of two leaves that are asked at once.
 #![tactic(auto)]
 
 #[cfg(test)]
