@@ -1,0 +1,27 @@
+-- What a crash may leave of the region while a step calls on it.
+use Rattle.std.specs.Prelude.{◌≡◌, ◌⊎◌, ℕ, ◌≤◌, List, [], ◌∷◌, length, take}
+use Rattle.berth_face.specs.Berth.{Pair, Meaning}
+use Rattle.region_layout.specs.Region.{IsClosed}
+
+-- the pair comes from one before: the disk is the same, and the region has P
+pub record LeftFrom (P : List ℕ → Type 0) (old : Meaning) (p : Pair) : Type 0 where
+  pub from : Pair
+  pub was : old.leaves old.clock from
+  pub disk : p.disk ≡ from.disk
+  pub region : P p.region
+
+-- the region is closed, or an open flag with these bytes behind it
+abbrev pub ClosedOrOpened : List ℕ → List ℕ → Type 0
+ClosedOrOpened behind region = IsClosed region ⊎ (region ≡ 1 ∷ behind)
+
+-- the region is closed, and no longer than so many bytes
+abbrev pub ClosedWithin : ℕ → List ℕ → Type 0
+ClosedWithin n region = IsClosed region × (length region ≤ n)
+
+-- the region is no longer than so many bytes
+abbrev pub IsWithin : ℕ → List ℕ → Type 0
+IsWithin n region = length region ≤ n
+
+-- it ends there, behind a closed flag
+abbrev pub EndsAt : ℕ → List ℕ → Type 0
+EndsAt at region = (length region ≡ at) × (take 1 region ≡ 0 ∷ [])
