@@ -124,7 +124,8 @@ fn put_last<T>(list: &mut Vec<T>, value: T)
     }
 }
 
-// Lets each lane play, all at once: each in a thread of its own where one can be made, and else in turn.
+// Lets each lane play, all at once: each in a thread of its own where one can be made, and else in turn. The thread that calls plays them where fewer than
+// two have commands.
 fn work_all<'t, R: Wait + Threads + Sync, B: Berth, G: Gate>(
     rt: &R,
     alloc: Global,
@@ -135,10 +136,10 @@ fn work_all<'t, R: Wait + Threads + Sync, B: Berth, G: Gate>(
     ensures each { (i : ℕ) (d : _) → i < length lanes.old → IsDone (λ work. map (λ watch. held watch) work.watches.items) B.meaning (slice_index_or lanes.old i d) (slice_index_or lanes.new i d) }
     ensures same { length lanes.new ≡ length lanes.old }
 {
-    let threads = lanes.len();
-    if threads == 0 {
+    if lanes.is_empty() {
         return;
     }
+    let threads = threads_for(lanes);
     thread::for_each_mut(
         rt,
         lanes,
@@ -148,6 +149,15 @@ fn work_all<'t, R: Wait + Threads + Sync, B: Berth, G: Gate>(
             ensures { IsDone (λ work. map (λ watch. held watch) work.watches.items) B.meaning lane.old lane.new }
         { work(rt, alloc, gate, lane) },
     );
+}
+
+// How many threads the lanes are played by.
+fn threads_for<'t, B: Berth>(lanes: &[LaneWork<'t, B>]) -> usize
+    requires { 0 < length lanes.now }
+    ensures { 0 < result }
+{
+    let busy = lanes.iter().filter(|lane| lane.is_busy()).count();
+    if busy < 2 { 1 } else { lanes.len() }
 }
 
 // Plays a lane with what was cut off for it.

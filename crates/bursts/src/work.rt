@@ -18,3 +18,10 @@ pub struct LaneWork<'t, B: Berth> {
     /// Those of all its commands: none before they are played, or for want of memory.
     pub lines: Option<Vec<Line>>,
 }
+
+impl<'t, B: Berth> LaneWork<'t, B> {
+    /// Whether it has commands.
+    pub fn is_busy(&self) -> bool {
+        !self.commands.is_empty()
+    }
+}
