@@ -1,0 +1,15 @@
+pub mod Ending
+pub mod Heads
+pub mod Moments
+pub mod Columns
+pub mod Meanings
+pub mod Reading
+pub mod Taking
+pub mod Finished
+pub mod Known
+pub mod Counting
+pub mod Looking
+pub mod Tracking
+pub mod Making
+pub mod Counts
+pub mod Stepping

@@ -1,0 +1,146 @@
+-- A column is taken off a region.
+use Rattle.std.proofs.Common.{◌≡◌, ℕ, zero, suc, ◌+◌, ◌-◌, ◌≤◌, List, [], ◌∷◌, ◌++◌, length, map, take, drop, get_or, refl, sym, ap, ap₂, subst, ◌∙◌, arith, length-take, take-append-drop, append_assoc}
+use Rattle.std.proofs.lemmas.List.{drop-take}
+use Rattle.column_bytes.specs.Coding.{joined}
+use Rattle.row_blocks.specs.Columns.{MeanCells}
+use Rattle.region_layout.specs.Region.{IsClosed}
+use Rattle.region_directory.specs.declared.directory.Place.{Place}
+use Rattle.region_directory.specs.Directory.{columns_of}
+use Rattle.region_directory.specs.Region.{column_in, directory_from}
+use Rattle.adopt_columns.specs.declared.spans.Span.{Span}
+use Rattle.adopt_columns.specs.Adopting.{Adopting, IsInImage, IsLeftBehind, IsNoImage, cut_at}
+use Rattle.adopt_columns.specs.Finding.{bytes_at, closed_flag}
+use Rattle.adopt_columns.specs.Taken.{AdoptState, spans_of}
+use Rattle.adopt_columns.proofs.Meanings.{no_cells}
+use Rattle.adopt_columns.proofs.Heads.{behind_flag, closed_size, cut_closed, flag_closed, head_long, left_cut}
+use Rattle.adopt_columns.proofs.Reading.{directory_inside}
+use Rattle.adopt_columns.proofs.Columns.{JoinedSpans, Stands, at_split, past_split, from_split, behind_split, joined_short, places, same_all, same_bytes, same_joined, same_places, span_in, stands}
+
+pub take_take : {X : Type 0} (n m : ℕ) (xs : List X) → n ≤ m → take n (take m xs) ≡ take n xs
+take_take zero m xs le = refl
+take_take (suc n) zero xs le = absurd (omega (arith, le))
+take_take (suc n) (suc m) [] le = refl
+take_take {X} (suc n) (suc m) (x ∷ xs) le = ap (λ (l : List X). x ∷ l) (take_take n m xs (omega (arith, le)))
+
+-- the first columns of a list, and those behind them
+pub split_of : (all init : List Span) (s : Span) → init ++ s ∷ [] ≡ take (length (init ++ s ∷ [])) all → all ≡ init ++ s ∷ drop (length (init ++ s ∷ [])) all
+split_of all init s front =
+    let n = length (init ++ s ∷ []) in
+    sym (take-append-drop n all) ∙ ap (λ (l : List Span). l ++ drop n all) (sym front) ∙ append_assoc init (s ∷ []) (drop n all)
+
+count_last : (init : List Span) (s : Span) → length (init ++ s ∷ []) ≡ suc (length init)
+count_last [] s = refl
+count_last (x ∷ init) s = ap suc (count_last init s)
+
+-- Of an image so much was taken that this column is the last one left.
+module _ (region now : List ℕ) (a : AdoptState) (adopting : Adopting region a now) (init : List Span) (s : Span)
+    (front : init ++ s ∷ [] ≡ take (length (init ++ s ∷ [])) (spans_of a.directory)) (left : a.left ≡ length (init ++ s ∷ [])) where
+  abbrev rest : List Span
+  rest = drop (length (init ++ s ∷ [])) (spans_of a.directory)
+
+  abbrev place : ℕ
+  place = directory_from region
+
+  split : spans_of a.directory ≡ init ++ s ∷ rest
+  split = split_of (spans_of a.directory) init s front
+
+  long : 16 ≤ length region
+  long = head_long region a.version adopting.has.head
+
+  size : length (closed_flag region) ≡ length region
+  size = closed_size region long
+
+  inside : place ≤ length region
+  inside = directory_inside a.version region a.directory adopting.has
+
+  all_joined : JoinedSpans 16 (init ++ s ∷ rest) place
+  all_joined = subst (λ (l : List Span). JoinedSpans 16 l place) split (same_joined 16 place (spans_of a.directory) (columns_of a.directory) (same_all a.directory) adopting.has.itself.joined)
+
+  there : Stands s rest 16 place
+  there = stands 16 place init s rest all_joined
+
+  places_are : map (λ (p : Place). p.place) (columns_of a.directory) ≡ places (init ++ s ∷ rest)
+  places_are = same_places (spans_of a.directory) (columns_of a.directory) (same_all a.directory) ∙ ap places split
+
+  bytes_are : map (λ (p : Place). (column_in region p).bytes) (columns_of a.directory) ≡ map (span_in region) (init ++ s ∷ rest)
+  bytes_are = same_bytes region (spans_of a.directory) (columns_of a.directory) (same_all a.directory) ∙ ap (map (span_in region)) split
+
+  count : a.left ≡ suc (length init)
+  count = left ∙ count_last init s
+
+  cut_is : cut_at a region ≡ s.place + s.length
+  cut_is =
+      ap₂ (λ (l : List ℕ) (n : ℕ). get_or l n place) places_are count
+      ∙ past_split (λ (t : Span). t.place) place init s rest ∙ sym there.ends
+
+  now_is : now ≡ take (s.place + s.length) (closed_flag region)
+  now_is = adopting.rest ∙ ap (λ (n : ℕ). take n (closed_flag region)) cut_is
+
+  pub taken_closed : IsClosed now
+  taken_closed = subst IsClosed (sym now_is) (cut_closed (s.place + s.length) (closed_flag region) (flag_closed _))
+
+  pub taken_left : IsLeftBehind region now
+  taken_left = subst (IsLeftBehind region) (sym now_is) (left_cut (s.place + s.length) region a.version (let begins = there.begins in omega (arith, begins)) adopting.has.head)
+
+  cut_now : take s.place now ≡ take s.place (closed_flag region)
+  cut_now = ap (take s.place) now_is ∙ take_take s.place (s.place + s.length) (closed_flag region) (omega arith)
+
+  pub cut_left : (new : List ℕ) → new ≡ take s.place now → IsLeftBehind region new
+  cut_left new is = subst (IsLeftBehind region) (sym (is ∙ cut_now)) (left_cut s.place region a.version there.begins adopting.has.head)
+
+  pub bytes_is : bytes_at now s ≡ span_in region s
+  bytes_is =
+      let begins = there.begins in
+      let back : s.length ≡ s.place + s.length - s.place = omega arith in
+      ap (λ (l : List ℕ). take s.length (drop s.place l)) now_is
+      ∙ ap (take s.length) (drop-take s.place s.length (closed_flag region))
+      ∙ take_take s.length s.length (drop s.place (closed_flag region)) (omega arith)
+      ∙ ap (take s.length) (behind_flag s.place region (omega (arith, begins)) long)
+      ∙ ap (λ (n : ℕ). take n (drop s.place region)) back
+
+  pub taken_none : (MeanCells (bytes_at now s) s.rows → ⊥) → IsNoImage region
+  taken_none fails =
+      no_cells a.version region a.directory init s rest adopting.has split (λ means. fails (subst (λ (l : List ℕ). MeanCells l s.rows) (sym bytes_is) means))
+
+  behind_is : a.heap ≡ map (span_in region) rest
+  behind_is = adopting.heap ∙ ap₂ (λ (n : ℕ) (l : List (List ℕ)). drop n l) count bytes_are ∙ behind_split (span_in region) init s rest
+
+  -- what is then known of it, with its bytes on the heap
+  module _ (new bytes : List ℕ) (b : AdoptState) (bytes_read : bytes ≡ bytes_at now s) (cut : new ≡ take s.place now)
+      (later : b ≡ record { names = a.names; version = a.version; image_len = a.image_len; directory = a.directory; left = length init; heap = bytes ∷ a.heap }) where
+    heap_is : bytes ∷ a.heap ≡ map (span_in region) (s ∷ rest)
+    heap_is = ap₂ (λ (x : List ℕ) (l : List (List ℕ)). x ∷ l) (bytes_read ∙ bytes_is) behind_is
+
+    abbrev made : AdoptState
+    made = record { names = a.names; version = a.version; image_len = a.image_len; directory = a.directory; left = length init; heap = bytes ∷ a.heap }
+
+    made_on : Adopting region made new
+    made_on = record {
+      reads_it = adopting.reads_it;
+      has = adopting.has;
+      known = adopting.known;
+      len = adopting.len;
+      few = let few = adopting.few in omega (arith, few, count);
+      heap = heap_is ∙ sym (ap (drop (length init)) bytes_are ∙ from_split (span_in region) init s rest);
+      rest = cut ∙ cut_now
+          ∙ ap (λ (n : ℕ). take n (closed_flag region)) (sym (ap (λ (l : List ℕ). get_or l (length init) place) places_are ∙ at_split (λ (t : Span). t.place) place init s rest));
+    }
+
+    made_inside : IsInImage made new
+    made_inside =
+        let heap : length (joined (bytes ∷ a.heap)) ≡ length (joined (map (span_in region) (s ∷ rest))) = ap (λ (l : List (List ℕ)). length (joined l)) heap_is in
+        let short = joined_short region (s ∷ rest) in
+        let cut_size : length new ≡ length (take s.place (closed_flag region)) = ap length (cut ∙ cut_now) in
+        let taken = length-take s.place (closed_flag region) in
+        let total = there.total in
+        let len = adopting.len in
+        omega (arith, heap, short, cut_size, taken, total, len, inside)
+
+    pub taken_on : Adopting region b new
+    taken_on = subst (λ (c : AdoptState). Adopting region c new) (sym later) made_on
+
+    pub taken_inside : IsInImage b new
+    taken_inside = subst (λ (c : AdoptState). IsInImage c new) (sym later) made_inside
+
+    pub one_less : suc b.left ≡ a.left
+    one_less = ap (λ (c : AdoptState). suc c.left) later ∙ sym count

@@ -1,0 +1,5 @@
+pub mod Taken
+pub mod Adopting
+pub mod Cells
+pub mod Finding
+pub mod Finishing

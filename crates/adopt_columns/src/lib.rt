@@ -1,0 +1,18 @@
+//! How the columns of a region are taken back one by one, each cut off the region once it was read.
+#![tactic(auto)]
+
+mod adopting;
+mod cells;
+mod finding;
+mod finishing;
+mod found;
+mod lists;
+mod looked;
+mod region;
+mod spans;
+mod strangers;
+mod taken;
+
+pub use adopting::find;
+pub use found::{AdoptFault, AdoptStep, Found, WhyDisk};
+pub use taken::Adopt;
