@@ -13,3 +13,5 @@ pub mod Tracking
 pub mod Making
 pub mod Counts
 pub mod Stepping
+pub mod Arranging
+pub mod Started

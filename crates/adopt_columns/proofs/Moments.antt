@@ -106,6 +106,14 @@ closed_after a b c is keeps time stays all =
       region = came.region;
     }) all)
 
+-- calls one after another
+pub closed_on : (a b c : Meaning) → Throughout (ClosedFrom a) a b → Throughout (ClosedFrom b) b c → Throughout (ClosedFrom a) a c
+closed_on a b c first all =
+    throughout_join a b c (ClosedFrom a) first
+    (throughout_map b c (ClosedFrom b) (ClosedFrom a) (λ p came.
+    let before = now_of a b (ClosedFrom a) first came.from came.was in
+    record { from = before.from; was = before.was; disk = came.disk ∙ before.disk; region = came.region }) all)
+
 cut_by : {T E : Type 0} (result : Result T E) (n : ℕ) (old new : List ℕ) → IsClosed old → OnOk result (new ≡ take n old) → OnErr result (Cut n old new) → IsClosed new
 cut_by (Ok x) n old new is ok err = subst IsClosed (sym ok) (cut_closed n old is)
 cut_by (Err e) n old new is ok err = torn_cut n old new is err

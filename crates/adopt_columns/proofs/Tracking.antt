@@ -1,5 +1,5 @@
 -- What an adoption keeps where a column is taken.
-use Rattle.std.proofs.Common.{◌≡◌, ℕ, ◌+◌, ◌≤◌, List, [], ◌∷◌, ◌++◌, length, take, drop, reverse, refl, sym, ap, subst, ◌∙◌, arith}
+use Rattle.std.proofs.Common.{◌≡◌, ℕ, suc, ◌+◌, ◌≤◌, List, [], ◌∷◌, ◌++◌, length, take, drop, reverse, refl, sym, ap, subst, ◌∙◌, arith}
 use Rattle.std.proofs.lemmas.List.{length-append, reverse-append}
 use Rattle.column_bytes.specs.Coding.{joined}
 use Rattle.region_directory.specs.declared.directory.Directory.{Directory}
@@ -35,3 +35,7 @@ keeps_track names d place held all init s taken now bytes kept split short put =
       let total = ap span_bytes split ∙ bytes_last init s in
       omega (arith, fits, total, short);
 }
+
+-- one column less is left
+pub one_less : (all init : List Span) (s : Span) → all ≡ init ++ s ∷ [] → suc (length init) ≡ length all
+one_less all init s split = let total = ap length split ∙ length-append init (s ∷ []) in omega (arith, total)

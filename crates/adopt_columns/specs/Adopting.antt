@@ -132,3 +132,9 @@ AreAdopted names (Ok (Finished tables log_end)) = AreDrained names tables × (lo
 AreAdopted names (Ok (More b)) = ⊤
 AreAdopted names (Ok NoImage) = ⊤
 AreAdopted names (Err e) = ⊤
+
+-- on every berth: a step takes one column, for the same names
+abbrev pub KeepsOn : AdoptState → AdoptStep → Type 0
+KeepsOn a (More b) = (b.names ≡ a.names) × (suc b.left ≡ a.left)
+KeepsOn a NoImage = ⊤
+KeepsOn a (Finished tables log_end) = ⊤

@@ -3,3 +3,5 @@ pub mod Adopting
 pub mod Cells
 pub mod Finding
 pub mod Finishing
+pub mod Tables
+pub mod Starting

@@ -7,7 +7,7 @@ ghost use Rattle.region_layout.specs.Names.{AreNames};
 ghost use Rattle.adopt_columns.specs.declared.found.AdoptFault.TheVariants as fault;
 ghost use Rattle.region_layout.specs.declared.head.Head.TheVariants.{Version};
 ghost use Rattle.region_layout.specs.Region.{IsClosed, head_of};
-ghost use Rattle.adopt_columns.specs.Adopting.{Adopting, AdoptsFrom, AdoptsOn, AreAdopted, ClosedFrom, Finds, KeepsNames};
+ghost use Rattle.adopt_columns.specs.Adopting.{Adopting, AdoptsFrom, AdoptsOn, AreAdopted, ClosedFrom, Finds, KeepsNames, KeepsOn};
 ghost use Rattle.adopt_columns.specs.Finding.{IsOpenRegion, TakesSpan};
 
 use crate::cells::mean_cells;
@@ -71,6 +71,7 @@ impl Adopt {
         ensures told { (region : List ℕ) → IsTrue (B.meaning berth.old).tells → Adopting region self (B.meaning berth.old).held.region
             → AdoptsOn region self (B.meaning berth.new).held.region result }
         ensures adopted { AreAdopted self.names result }
+        ensures kept { IfOk result (KeepsOn self) }
         ensures disk { IsTrue (B.meaning berth.old).tells → (B.meaning berth.new).held.disk ≡ (B.meaning berth.old).held.disk }
         ensures disks { IsTrue (B.meaning berth.old).tells → Ended SameDisk (B.meaning berth.old) (B.meaning berth.new) }
         ensures moments { IsTrue (B.meaning berth.old).tells → IsClosed (B.meaning berth.old).held.region
@@ -90,6 +91,7 @@ impl Adopt {
         requires none { self.left ≡ 0 }
         ensures told { (region now : List ℕ) → Adopting region self now → AdoptsOn region self now result }
         ensures adopted { AreAdopted self.names result }
+        ensures kept { IfOk result (KeepsOn self) }
         ensures no_fault { result ≢ Err fault.RegionFault }
     {
         let mut columns = self.taken;
@@ -103,6 +105,7 @@ impl Adopt {
         ensures told { (region : List ℕ) → IsTrue (B.meaning berth.old).tells → Adopting region self (B.meaning berth.old).held.region
             → AdoptsOn region self (B.meaning berth.new).held.region result }
         ensures adopted { AreAdopted self.names result }
+        ensures kept { IfOk result (KeepsOn self) }
         ensures disk { IsTrue (B.meaning berth.old).tells → (B.meaning berth.new).held.disk ≡ (B.meaning berth.old).held.disk }
         ensures disks { IsTrue (B.meaning berth.old).tells → Ended SameDisk (B.meaning berth.old) (B.meaning berth.new) }
         ensures moments { IsTrue (B.meaning berth.old).tells → IsClosed (B.meaning berth.old).held.region

@@ -7,6 +7,7 @@ use berth_face::Failed;
 use leaf_model::Text;
 use region_directory::DrainTables;
 use std::alloc::AllocError;
+use table_state::Tables;
 
 /// Why an adoption is given up: the region refused a call, or there is no memory.
 #[derive(Clone, Copy, Debug, PartialEq, Eq)]
@@ -56,4 +57,28 @@ pub enum WhyDisk {
     Closed(u8),
     OtherVersion(u32),
     NoImage,
+}
+
+/// The tables of an image, and where the log ends.
+#[derive(Drop)]
+pub struct Drained {
+    pub tables: DrainTables,
+    pub log_end: u64,
+}
+
+/// One table for each name, in their order; a table that the image does not name is empty. And where the log ends.
+#[derive(Drop)]
+pub struct Adopted {
+    pub tables: Tables,
+    pub log_end: u64,
+}
+
+/// What an adoption of all columns comes to.
+#[derive(Drop)]
+pub enum Adoption {
+    /// The region has no tables, for this reason.
+    NoTables(WhyDisk),
+    /// The image has a table of this name, which was not asked for; no column was read.
+    Stranger(Text),
+    Tables(Adopted),
 }

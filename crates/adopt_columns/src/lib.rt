@@ -10,9 +10,12 @@ mod lists;
 mod looked;
 mod region;
 mod spans;
+mod starting;
 mod strangers;
+mod tables;
 mod taken;
 
 pub use adopting::find;
-pub use found::{AdoptFault, AdoptStep, Found, WhyDisk};
+pub use found::{AdoptFault, AdoptStep, Adopted, Adoption, Found, WhyDisk};
+pub use starting::adopt;
 pub use taken::Adopt;

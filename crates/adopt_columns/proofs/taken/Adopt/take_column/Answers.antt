@@ -5,7 +5,7 @@ use Rattle.adopt_columns.specs.Adopting.{Adopting, AdoptsOn, IsLeftBehind, IsNoI
 use Rattle.adopt_columns.specs.Finding.{TakesSpan}
 use Rattle.adopt_columns.specs.Taken.{AdoptState}
 use Rattle.adopt_columns.proofs.Stepping.{column_fails, column_none, column_taken, held_fits, put_fails}
-use Rattle.adopt_columns.proofs.Tracking.{keeps_track}
+use Rattle.adopt_columns.proofs.Tracking.{keeps_track, one_less}
 use Rattle.adopt_columns.proofs.taken.Adopt.take_column.Goals as goal
 
 pub returns-in_err-column-clause-told : goal.returns-in_err-column-clause-told
@@ -83,3 +83,11 @@ returns-clause-told g c =
     let count = ap (λ (a : AdoptState). a.left) c.self.view_is in
     let got = column_taken i.names.value i.version i.image_len i.directory i.place i.held i.left.items init s i.taken.items c.self.invariant split region old new before c.in-Some-2.column c.put.new.list.items _ (λ closed. subst (λ (o : Option (List ℕ)). TakesSpan s old new (Ok o)) c.in-Some-2.is (c.in_ok-column.ensures.told told closed)) c.in_ok-put.ensures refl in
     (got.0, got.1 ∙ count, got.2)
+
+pub returns-clause-kept : goal.returns-clause-kept
+returns-clause-kept g c =
+    let i = c.self.inside in
+    let split : i.left.items ≡ c.pop.new.self.items ++ c.in-Some.span ∷ [] = c.in-Some.ensures.items in
+    let count = ap (λ (a : AdoptState). a.left) c.self.view_is in
+    let names = ap (λ (a : AdoptState). a.names) c.self.view_is in
+    (names, one_less i.left.items c.pop.new.self.items c.in-Some.span split ∙ count)

@@ -1,0 +1,66 @@
+// The tables of a leaf out of those of an image.
+ghost use Rattle.std.specs.Prelude.{◌≡◌, IfOk};
+ghost use Rattle.std.specs.List.{AllByRecursion, position};
+ghost use Rattle.leaf_model.specs.Names.{AreDistinct};
+ghost use Rattle.table_state.specs.Tables.{bare};
+ghost use Rattle.region_layout.specs.Images.{table_named, table_of, tables_of};
+ghost use Rattle.region_directory.specs.Region.{image_of_parts};
+ghost use Rattle.region_directory.specs.Drained.{images_of};
+ghost use Rattle.adopt_columns.specs.Finishing.{IsMade};
+ghost use Rattle.adopt_columns.specs.Tables.{has_name, without};
+
+use leaf_model::Text;
+use region_directory::{DrainTable, DrainTables};
+use std::alloc::{AllocError, Global};
+use table_state::{TableState, Tables};
+
+/// For each name its table, and an empty one where the image has none.
+pub fn arranged(alloc: Global, names: &[Text], tables: DrainTables) -> Result<Tables, AllocError>
+    requires distinct { AreDistinct names.now }
+    requires each { AllByRecursion IsMade tables }
+    ensures { IfOk result (λ arranged. arranged ≡ tables_of names.now (images_of tables)) }
+{
+    arrange(alloc, names, tables.into_inner())
+}
+
+fn arrange(
+    alloc: Global,
+    names: &[Text],
+    mut drained: Vec<DrainTable>,
+) -> Result<Tables, AllocError>
+    requires distinct { AreDistinct names.now }
+    requires each { AllByRecursion IsMade drained.items }
+    ensures { IfOk result (λ arranged. arranged ≡ tables_of names.now (images_of drained.items)) }
+{
+    let mut tables = Vec::with_capacity(alloc, names.len())?;
+    for name in names {
+        tables.push(take_named(alloc, name.as_str(), &mut drained))?;
+    }
+    Ok(Tables::of(tables))
+}
+
+/// Takes the table of that name, and where there is none an empty one.
+fn take_named(alloc: Global, name: &str, drained: &mut Vec<DrainTable>) -> TableState
+    requires { AllByRecursion IsMade drained.old.items }
+    ensures taken { bare result ≡ table_of (table_named (images_of drained.old.items) name.now) }
+    ensures left { drained.new.items ≡ without name.now drained.old.items }
+{
+    match place_of(name, drained) {
+        Some(place) => made_table(drained.remove(place)),
+        None => TableState::new(alloc),
+    }
+}
+
+fn place_of(name: &str, drained: &[DrainTable]) -> Option<usize>
+    ensures { result ≡ position (has_name name.now) drained.now }
+{
+    drained.iter().position(|table| table.name.as_str() == name)
+}
+
+#[tactic(auto, using(crate::proofs::Arranging::made_of))]
+fn made_table(table: DrainTable) -> TableState
+    requires { IsMade table }
+    ensures { bare result ≡ table_of (image_of_parts table.name table.parts) }
+{
+    TableState::from_parts(table.parts)
+}
