@@ -1,5 +1,5 @@
 -- Taking the tables of an image by their names.
-use Rattle.std.proofs.Common.{◌≡◌, ℕ, zero, suc, ◌+◌, ◌<◌, ◌≤◌, ◌^◌, Bool, true, false, ◌||◌, cond, not, ltb, List, [], ◌∷◌, length, map, find, position, slice_get, slice_index_or, ◌++◌, Option, Some, None, unwrap_or, refl, sym, ap, ap₂, ◌∙◌, arith, ltb-true, ltb-false, subst}
+use Rattle.std.proofs.Common.{◌≡◌, ℕ, zero, suc, ◌+◌, ◌<◌, ◌≤◌, ◌^◌, Bool, true, false, ◌||◌, cond, not, ltb, List, [], ◌∷◌, length, find, position, slice_get, slice_index_or, ◌++◌, Option, Some, None, unwrap_or, refl, sym, ap, ap₂, ◌∙◌, arith, ltb-true, ltb-false, subst}
 use Rattle.std.specs.Prelude.{◌≢◌, Contains}
 use Rattle.std.specs.List.{AllByRecursion, list_any, position_or_len, remove}
 use Rattle.std.specs.Str.{bytes_eq}
@@ -19,6 +19,7 @@ use Rattle.region_directory.specs.Region.{image_of_parts}
 use Rattle.region_directory.specs.Drained.{images_of}
 use Rattle.adopt_columns.specs.Adopting.{stranger_of}
 use Rattle.adopt_columns.specs.Tables.{has_name, without}
+use Rattle.adopt_columns.proofs.Known.{no_place_by, place_by}
 
 -- ---- the table that parts make
 
@@ -86,14 +87,6 @@ remove_past [] zero past = refl
 remove_past [] (suc k) past = refl
 remove_past (x ∷ xs) zero past = absurd (omega (arith, past))
 remove_past (x ∷ xs) (suc k) past = ap (λ (l : List DrainTable). x ∷ l) (remove_past xs k (omega (arith, past)))
-
-place_by : (short : Bool) (n i : ℕ) → cond short (Some n) None ≡ Some i → (short ≡ true) × (i ≡ n)
-place_by true n i e = (refl, ap (λ (o : Option ℕ). unwrap_or o 0) (sym e))
-place_by false n i e = absurd cc
-
-no_place_by : (short : Bool) (n : ℕ) → cond short (Some n) None ≡ None → short ≡ false
-no_place_by true n e = absurd cc
-no_place_by false n e = refl
 
 abbrev option_image : Option DrainTable → Option TableImage
 option_image (Some t) = Some (image t)

@@ -1,8 +1,9 @@
 -- How many rows of blocks are live, one block after another.
-use Rattle.std.proofs.Common.{◌≡◌, ℕ, zero, suc, ◌+◌, ◌<◌, ◌≤◌, List, [], ◌∷◌, ◌++◌, length, drop, get_or, ℤ, int_le, refl, sym, ap, subst, ◌∙◌, arith}
+use Rattle.std.proofs.Common.{◌≡◌, ℕ, ◌+◌, ◌<◌, ◌≤◌, List, [], ◌∷◌, ◌++◌, length, drop, get_or, ℤ, int_le, refl, sym, ap, subst, ◌∙◌, arith}
 use Rattle.std.proofs.lemmas.List.{append-nil, drop-append-le, drop_all, drop_more, length-append}
 use Rattle.std.proofs.lemmas.List.Elements.{filter-append}
 use Rattle.std.proofs.lemmas.List.FromFn.{length-map-range_with_len}
+use Rattle.std.proofs.Math.Seq.{drop-nil}
 use Rattle.leaf_model.specs.declared.rows.Row.{Row}
 use Rattle.leaf_model.specs.Content.{rows_from}
 use Rattle.std.specs.List.{AllByRecursion}
@@ -16,13 +17,6 @@ use Rattle.adopt_columns.specs.Finishing.{IsCut, live_count}
 counted : (b : Block) → length (rows_in b) ≡ b.rows
 counted b = length-map-range_with_len (row_at b.columns) 0 b.rows
 
-abbrev no_rows : List Row
-no_rows = []
-
-drop_none : (n : ℕ) → drop n no_rows ≡ no_rows
-drop_none zero = refl
-drop_none (suc n) = refl
-
 held_next : (b : Block) (blocks : List Block) (cut : ℕ) (h : ℤ) → cut ≤ b.rows → blocks_held (b ∷ blocks) cut h ≡ live_rows cut h b ++ blocks_held blocks 0 h
 held_next b blocks cut h inside =
     ap (rows_from h) (drop-append-le cut (rows_in b) (block_rows blocks) (omega (arith, counted b, inside)))
@@ -34,7 +28,7 @@ count_first b blocks cut h inside = ap (λ (l : List Row). length l) (held_next 
 
 count_none : (cut : ℕ) (h : ℤ) → live_count [] cut h ≡ 0
 unfolding live_count
-count_none cut h = ap (λ (l : List Row). length (rows_from h l)) (drop_none cut)
+count_none cut h = ap (λ (l : List Row). length (rows_from h l)) (drop-nil {A = Row} cut)
 
 -- it is how many rows they hold
 pub count_is : (blocks : List Block) (skip : ℕ) (h : ℤ) → live_count blocks skip h ≡ length (rows_held blocks [] skip h)

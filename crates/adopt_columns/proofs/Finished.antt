@@ -1,6 +1,6 @@
 -- The tables that all columns of an image make.
 use Rattle.std.proofs.Common.{◌≡◌, ℕ, suc, ◌<◌, ◌^◌, true, List, [], ◌∷◌, ◌++◌, length, map, take, drop, get_or, Result, Ok, Err, refl, sym, ap, ap₂, subst, ◌∙◌, arith, append_assoc}
-use Rattle.std.specs.Prelude.{Contains, IfOk}
+use Rattle.std.specs.Prelude.{Contains}
 use Rattle.std.specs.List.{AllByRecursion, flat_map}
 use Rattle.std.proofs.lemmas.List.{append-nil, map-append}
 use Rattle.leaf_model.specs.Names.{AreDistinct}
@@ -22,7 +22,7 @@ use Rattle.adopt_columns.specs.declared.found.AdoptFault.{AdoptFault}
 use Rattle.adopt_columns.specs.declared.found.AdoptFault.TheVariants as fault
 use Rattle.adopt_columns.specs.declared.found.AdoptStep.{AdoptStep}
 use Rattle.adopt_columns.specs.declared.found.AdoptStep.TheVariants as step
-use Rattle.adopt_columns.specs.Adopting.{Adopting, AdoptsOn, AreAdopted, IsLeftBehind, KeepsOn}
+use Rattle.adopt_columns.specs.Adopting.{Adopting, AdoptsOn, AreAdopted, IsLeftBehind}
 use Rattle.adopt_columns.specs.Finishing.{FinishesAs, IsMade, after_block, after_column, after_table, block_from, left_by, made_from, named_front, table_from, tables_from}
 use Rattle.adopt_columns.specs.Finding.{closed_flag}
 use Rattle.adopt_columns.specs.Taken.{AdoptState, IsRead}
@@ -186,10 +186,3 @@ are_adopted names d place heap (Ok (step.Finished tables log_end)) read known ma
 are_adopted names d place heap (Ok step.NoImage) read known made = tt
 are_adopted names d place heap (Ok (step.More a)) read known made = tt
 are_adopted names d place heap (Err e) read known made = tt
-
--- there are no more steps
-pub keeps_on : (a : AdoptState) (d : Directory) (heap : List (List ℕ)) (result : Result AdoptStep AdoptFault) → FinishesAs d heap result → IfOk result (KeepsOn a)
-keeps_on a d heap (Ok (step.Finished tables log_end)) made = tt
-keeps_on a d heap (Ok step.NoImage) made = tt
-keeps_on a d heap (Ok (step.More b)) made = absurd made
-keeps_on a d heap (Err e) made = tt

@@ -24,11 +24,11 @@ stranger_is names [] = refl
 stranger_is names (t ∷ tables) =
     ap (λ (o : Option (List ℕ)). cond (is_stranger names t) (Some t.name) o) (stranger_is names tables) ∙ named_by t (find (is_stranger names) tables) (is_stranger names t)
 
-place_by : (short : Bool) (n i : ℕ) → cond short (Some n) None ≡ Some i → (short ≡ true) × (i ≡ n)
+pub place_by : (short : Bool) (n i : ℕ) → cond short (Some n) None ≡ Some i → (short ≡ true) × (i ≡ n)
 place_by true n i e = (refl, ap (λ (o : Option ℕ). unwrap_or o 0) (sym e))
 place_by false n i e = absurd cc
 
-no_place_by : (short : Bool) (n : ℕ) → cond short (Some n) None ≡ None → short ≡ false
+pub no_place_by : (short : Bool) (n : ℕ) → cond short (Some n) None ≡ None → short ≡ false
 no_place_by true n e = absurd cc
 no_place_by false n e = refl
 

@@ -1,5 +1,5 @@
 -- What a look finds behind a flag that it has closed.
-use Rattle.std.proofs.Common.{◌≡◌, ℕ, true, false, List, [], length, map, take, Some, None, Ok, refl, sym, ap, ap₂, subst, ◌∙◌, arith, length-take}
+use Rattle.std.proofs.Common.{◌≡◌, ℕ, true, List, [], length, map, take, Some, None, Ok, refl, sym, ap, ap₂, subst, ◌∙◌, arith, length-take}
 use Rattle.std.proofs.lemmas.List.{drop_all, get_or_past, length-map}
 use Rattle.std.proofs.Math.Seq.{take-length}
 use Rattle.column_bytes.specs.Coding.{joined}
@@ -38,15 +38,8 @@ no_directory region version opened none images log_end is =
 pub left_as : (region now : List ℕ) (version : ℕ) → head_of region ≡ head.Version version → now ≡ closed_flag region → IsLeftBehind region now
 left_as region now version opened closed = subst (IsLeftBehind region) (sym closed) (left_closed region version opened)
 
-pub other_found : (names : List (List ℕ)) (region now : List ℕ) (version : ℕ) → head_of region ≡ head.Version version → now ≡ closed_flag region → reads version ≡ false → Finds names region now (Ok (found.OtherVersion version))
-other_found names region now version opened closed other = ((opened, other), left_as region now version opened closed)
-
 pub none_found : (names : List (List ℕ)) (region now : List ℕ) (version : ℕ) → head_of region ≡ head.Version version → now ≡ closed_flag region → reads version ≡ true → LooksAt version region None → Finds names region now (Ok found.NoImage)
 none_found names region now version opened closed read none = ((version, opened, read, no_directory region version opened none), left_as region now version opened closed)
-
-pub stranger_found : (names : List (List ℕ)) (region now name : List ℕ) (version : ℕ) (l : Looked) → now ≡ closed_flag region → reads version ≡ true → LooksAt version region (Some l)
-    → stranger_of names (names_of l.directory.tables) ≡ Some name → Finds names region now (Ok (found.Stranger name))
-stranger_found names region now name version l closed read looks stranger = ((version, l.directory, read, looks.0, stranger), left_as region now version looks.0.head closed)
 
 -- an adoption of which nothing was taken
 abbrev pub begun : List (List ℕ) → ℕ → Looked → ℕ → AdoptState

@@ -1,7 +1,6 @@
 -- Things made one after another of the columns that are left.
 use Rattle.std.proofs.Common.{◌≡◌, ℕ, List, [], ◌∷◌, ◌++◌, sym, ap, subst, ◌∙◌, append_assoc}
 use Rattle.std.specs.List.{AllByRecursion}
-use Rattle.std.proofs.lemmas.List.{append-nil}
 use Rattle.adopt_columns.specs.Finishing.{SoFar, left_by, made_from}
 
 module _ {T M : Type 0} (one : T → List (List ℕ) → M) (after : T → List (List ℕ) → List (List ℕ)) (P : M → Type 0) where
@@ -39,10 +38,3 @@ module _ {T M : Type 0} (one : T → List (List ℕ) → M) (after : T → List 
 
       pub refuses : (P (one t left) → ⊥) → AllByRecursion P (made_from one after all columns) → ⊥
       refuses fails each = fails (each_next made (one t left ∷ made_from one after others (after t left)) (subst (AllByRecursion P) (sym here) each)).0
-
-    module _ (none : rest ≡ []) where
-      pub ends_made : made ≡ made_from one after all columns
-      ends_made = sym (append-nil made) ∙ subst (λ (l : List T). made ++ made_from one after l left ≡ made_from one after all columns) none so_far.made_is
-
-      pub ends_left : left ≡ left_by after all columns
-      ends_left = subst (λ (l : List T). left_by after l left ≡ left_by after all columns) none so_far.left_is

@@ -1,10 +1,10 @@
 -- What the bytes of a directory tell.
-use Rattle.std.proofs.Common.{◌≡◌, inl, inr, ℕ, zero, suc, ◌+◌, ◌<◌, ◌≤◌, ◌^◌, List, [], ◌∷◌, length, take, drop, Option, Some, None, Ok, Err, refl, sym, ap, subst, ◌∙◌, arith}
+use Rattle.std.proofs.Common.{◌≡◌, inl, inr, ℕ, ◌+◌, ◌<◌, ◌≤◌, ◌^◌, List, [], ◌∷◌, length, take, drop, Option, Some, None, Ok, Err, refl, sym, ap, subst, ◌∙◌, arith}
 use Rattle.std.specs.Prelude.{Result, IfOk}
 use Rattle.std.specs.Int.{w64, from_le_bytes}
 use Rattle.std.specs.List.{AllByRecursion}
 use Rattle.std.proofs.lemmas.Bool.{cases_lt}
-use Rattle.std.proofs.lemmas.List.{drop-take, drop_all}
+use Rattle.std.proofs.lemmas.List.{drop-take, drop_all, take-take}
 use Rattle.region_layout.specs.declared.head.Head.TheVariants.{Version}
 use Rattle.region_layout.specs.Region.{head_of}
 use Rattle.region_layout.specs.Reading.{below_2_63_at}
@@ -51,17 +51,11 @@ is_read place d small is fits = record { small = small; itself = is; few = fits.
 
 -- ---- the first bytes
 
-first : (n m : ℕ) (xs : List ℕ) → n ≤ m → take n (take m xs) ≡ take n xs
-first zero m xs le = refl
-first (suc n) zero xs le = absurd (omega (arith, le))
-first (suc n) (suc m) [] le = refl
-first (suc n) (suc m) (x ∷ xs) le = ap (λ (l : List ℕ). x ∷ l) (first n m xs (omega (arith, le)))
-
 pub letters_of : (front region : List ℕ) → front ≡ take 16 region → take 3 (drop 1 front) ≡ take 3 (drop 1 region)
-letters_of front region is = ap (λ (l : List ℕ). take 3 (drop 1 l)) is ∙ ap (take 3) (drop-take 1 15 region) ∙ first 3 15 (drop 1 region) (omega arith)
+letters_of front region is = ap (λ (l : List ℕ). take 3 (drop 1 l)) is ∙ ap (take 3) (drop-take 1 15 region) ∙ take-take 3 15 (drop 1 region) (omega arith)
 
 pub place_of : (front region : List ℕ) → front ≡ take 16 region → from_le_bytes w64 (take 8 (drop 8 front)) ≡ directory_from region
-place_of front region is = ap (λ (l : List ℕ). from_le_bytes w64 (take 8 (drop 8 l))) is ∙ ap (λ (l : List ℕ). from_le_bytes w64 (take 8 l)) (drop-take 8 8 region) ∙ ap (from_le_bytes w64) (first 8 8 (drop 8 region) (omega arith))
+place_of front region is = ap (λ (l : List ℕ). from_le_bytes w64 (take 8 (drop 8 l))) is ∙ ap (λ (l : List ℕ). from_le_bytes w64 (take 8 l)) (drop-take 8 8 region) ∙ ap (from_le_bytes w64) (take-take 8 8 (drop 8 region) (omega arith))
 
 -- ---- what a look finds
 

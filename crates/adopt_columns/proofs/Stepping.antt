@@ -1,5 +1,5 @@
 -- What a step answers that takes a column.
-use Rattle.std.proofs.Common.{◌≡◌, ℕ, suc, ◌+◌, ◌<◌, ◌≤◌, ◌^◌, List, [], ◌∷◌, ◌++◌, length, take, reverse, Some, None, Result, Ok, Err, refl, sym, ap, subst, ◌∙◌, arith}
+use Rattle.std.proofs.Common.{◌≡◌, ℕ, suc, ◌+◌, ◌<◌, ◌≤◌, ◌^◌, List, [], ◌∷◌, ◌++◌, length, take, reverse, Some, None, Result, Ok, Err, sym, ap, subst, ◌∙◌, arith}
 use Rattle.region_layout.specs.Region.{IsClosed}
 use Rattle.region_directory.specs.declared.directory.Directory.{Directory}
 use Rattle.adopt_columns.specs.declared.spans.Span.{Span}
@@ -10,7 +10,7 @@ use Rattle.adopt_columns.specs.Adopting.{Adopting, AdoptsOn, IsInImage, IsLeftBe
 use Rattle.adopt_columns.specs.Finding.{TakesSpan}
 use Rattle.adopt_columns.specs.Taken.{AdoptState, KeepsTrack, span_bytes, spans_of}
 use Rattle.adopt_columns.proofs.Columns.{bytes_last}
-use Rattle.adopt_columns.proofs.Taking.{cut_left, taken_closed, taken_inside, taken_left, taken_none, taken_on}
+use Rattle.adopt_columns.proofs.Taking.{count_last, cut_left, taken_closed, taken_inside, taken_left, taken_none, taken_on}
 use Rattle.adopt_columns.proofs.Tracking.{put_first}
 
 -- the sum of what is held and of a column fits
@@ -56,10 +56,6 @@ module _ (names : List (List ℕ)) (version image_len : ℕ) (d : Directory) (pl
         let own = later ∙ ap (λ (h : List (List ℕ)). record { names = names; version = version; image_len = image_len; directory = d; left = length init; heap = h }) (put_first taken now bytes put) in
         let got = takes closed in (
           taken_on region old state adopting init s front left new bytes b got.0 got.1 own,
-          sym (left ∙ last init),
+          sym (left ∙ count_last init s),
           taken_inside region old state adopting init s front left new bytes b got.0 got.1 own,
         )
-      where
-        last : (xs : List Span) → length (xs ++ s ∷ []) ≡ suc (length xs)
-        last [] = refl
-        last (x ∷ xs) = ap suc (last xs)

@@ -1,6 +1,6 @@
 -- A column is taken off a region.
-use Rattle.std.proofs.Common.{◌≡◌, ℕ, zero, suc, ◌+◌, ◌-◌, ◌≤◌, List, [], ◌∷◌, ◌++◌, length, map, take, drop, get_or, refl, sym, ap, ap₂, subst, ◌∙◌, arith, length-take, take-append-drop, append_assoc}
-use Rattle.std.proofs.lemmas.List.{drop-take}
+use Rattle.std.proofs.Common.{◌≡◌, ℕ, suc, ◌+◌, ◌-◌, ◌≤◌, List, [], ◌∷◌, ◌++◌, length, map, take, drop, get_or, refl, sym, ap, ap₂, subst, ◌∙◌, arith, length-take, take-append-drop, append_assoc}
+use Rattle.std.proofs.lemmas.List.{drop-take, take-take}
 use Rattle.column_bytes.specs.Coding.{joined}
 use Rattle.row_blocks.specs.Columns.{MeanCells}
 use Rattle.region_layout.specs.Region.{IsClosed}
@@ -16,19 +16,13 @@ use Rattle.adopt_columns.proofs.Heads.{behind_flag, closed_size, cut_closed, fla
 use Rattle.adopt_columns.proofs.Reading.{directory_inside}
 use Rattle.adopt_columns.proofs.Columns.{JoinedSpans, Stands, at_split, past_split, from_split, behind_split, joined_short, places, same_all, same_bytes, same_joined, same_places, span_in, stands}
 
-pub take_take : {X : Type 0} (n m : ℕ) (xs : List X) → n ≤ m → take n (take m xs) ≡ take n xs
-take_take zero m xs le = refl
-take_take (suc n) zero xs le = absurd (omega (arith, le))
-take_take (suc n) (suc m) [] le = refl
-take_take {X} (suc n) (suc m) (x ∷ xs) le = ap (λ (l : List X). x ∷ l) (take_take n m xs (omega (arith, le)))
-
 -- the first columns of a list, and those behind them
 pub split_of : (all init : List Span) (s : Span) → init ++ s ∷ [] ≡ take (length (init ++ s ∷ [])) all → all ≡ init ++ s ∷ drop (length (init ++ s ∷ [])) all
 split_of all init s front =
     let n = length (init ++ s ∷ []) in
     sym (take-append-drop n all) ∙ ap (λ (l : List Span). l ++ drop n all) (sym front) ∙ append_assoc init (s ∷ []) (drop n all)
 
-count_last : (init : List Span) (s : Span) → length (init ++ s ∷ []) ≡ suc (length init)
+pub count_last : (init : List Span) (s : Span) → length (init ++ s ∷ []) ≡ suc (length init)
 count_last [] s = refl
 count_last (x ∷ init) s = ap suc (count_last init s)
 
@@ -83,7 +77,7 @@ module _ (region now : List ℕ) (a : AdoptState) (adopting : Adopting region a 
   taken_left = subst (IsLeftBehind region) (sym now_is) (left_cut (s.place + s.length) region a.version (let begins = there.begins in omega (arith, begins)) adopting.has.head)
 
   cut_now : take s.place now ≡ take s.place (closed_flag region)
-  cut_now = ap (take s.place) now_is ∙ take_take s.place (s.place + s.length) (closed_flag region) (omega arith)
+  cut_now = ap (take s.place) now_is ∙ take-take s.place (s.place + s.length) (closed_flag region) (omega arith)
 
   pub cut_left : (new : List ℕ) → new ≡ take s.place now → IsLeftBehind region new
   cut_left new is = subst (IsLeftBehind region) (sym (is ∙ cut_now)) (left_cut s.place region a.version there.begins adopting.has.head)
@@ -94,7 +88,7 @@ module _ (region now : List ℕ) (a : AdoptState) (adopting : Adopting region a 
       let back : s.length ≡ s.place + s.length - s.place = omega arith in
       ap (λ (l : List ℕ). take s.length (drop s.place l)) now_is
       ∙ ap (take s.length) (drop-take s.place s.length (closed_flag region))
-      ∙ take_take s.length s.length (drop s.place (closed_flag region)) (omega arith)
+      ∙ take-take s.length s.length (drop s.place (closed_flag region)) (omega arith)
       ∙ ap (take s.length) (behind_flag s.place region (omega (arith, begins)) long)
       ∙ ap (λ (n : ℕ). take n (drop s.place region)) back
 
@@ -141,6 +135,3 @@ module _ (region now : List ℕ) (a : AdoptState) (adopting : Adopting region a 
 
     pub taken_inside : IsInImage b new
     taken_inside = subst (λ (c : AdoptState). IsInImage c new) (sym later) made_inside
-
-    pub one_less : suc b.left ≡ a.left
-    one_less = ap (λ (c : AdoptState). suc c.left) later ∙ sym count

@@ -1,19 +1,16 @@
 -- What an adoption keeps where a column is taken.
-use Rattle.std.proofs.Common.{◌≡◌, ℕ, suc, ◌+◌, ◌≤◌, List, [], ◌∷◌, ◌++◌, length, take, drop, reverse, refl, sym, ap, subst, ◌∙◌, arith}
+use Rattle.std.proofs.Common.{◌≡◌, ℕ, suc, ◌+◌, ◌≤◌, List, [], ◌∷◌, ◌++◌, length, take, drop, reverse, sym, ap, subst, ◌∙◌, arith}
 use Rattle.std.proofs.lemmas.List.{length-append, reverse-append}
+use Rattle.std.proofs.Math.Seq.{take-append_seam}
 use Rattle.column_bytes.specs.Coding.{joined}
 use Rattle.region_directory.specs.declared.directory.Directory.{Directory}
 use Rattle.adopt_columns.specs.declared.spans.Span.{Span}
 use Rattle.adopt_columns.specs.Taken.{KeepsTrack, span_bytes, spans_of}
 use Rattle.adopt_columns.proofs.Columns.{bytes_last}
-use Rattle.adopt_columns.proofs.Taking.{split_of}
+use Rattle.adopt_columns.proofs.Taking.{count_last, split_of}
 
 front_of_front : (all init : List Span) (s : Span) → init ++ s ∷ [] ≡ take (length (init ++ s ∷ [])) all → init ≡ take (length init) all
-front_of_front all init s front = sym (ap (take (length init)) (split_of all init s front) ∙ take_own init (s ∷ drop (length (init ++ s ∷ [])) all))
-  where
-    take_own : (xs ys : List Span) → take (length xs) (xs ++ ys) ≡ xs
-    take_own [] ys = refl
-    take_own (x ∷ xs) ys = ap (λ (l : List Span). x ∷ l) (take_own xs ys)
+front_of_front all init s front = sym (ap (take (length init)) (split_of all init s front) ∙ take-append_seam init (s ∷ drop (length (init ++ s ∷ [])) all))
 
 pub put_first : (taken now : List (List ℕ)) (bytes : List ℕ) → now ≡ taken ++ bytes ∷ [] → reverse now ≡ bytes ∷ reverse taken
 put_first taken now bytes is = ap reverse is ∙ reverse-append taken (bytes ∷ [])
@@ -38,4 +35,4 @@ keeps_track names d place held all init s taken now bytes kept split short put =
 
 -- one column less is left
 pub one_less : (all init : List Span) (s : Span) → all ≡ init ++ s ∷ [] → suc (length init) ≡ length all
-one_less all init s split = let total = ap length split ∙ length-append init (s ∷ []) in omega (arith, total)
+one_less all init s split = sym (ap length split ∙ count_last init s)

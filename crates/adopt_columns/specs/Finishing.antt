@@ -1,5 +1,5 @@
 -- The tables that columns on the heap make, by a directory.
-use Rattle.std.specs.Prelude.{◌≡◌, ℕ, ◌≤◌, List, [], ◌∷◌, ◌++◌, length, drop, ℤ, Result, Ok, Err}
+use Rattle.std.specs.Prelude.{◌≡◌, ℕ, ◌≤◌, List, [], ◌∷◌, ◌++◌, length, drop, get_or, ℤ, Result, Ok, Err}
 use Rattle.std.specs.List.{AllByRecursion}
 use Rattle.row_blocks.specs.declared.column.BlockColumn.{BlockColumn}
 use Rattle.row_blocks.specs.Blocks.{Block}
@@ -17,8 +17,7 @@ use Rattle.adopt_columns.specs.declared.found.AdoptStep.TheVariants as step
 
 -- the column that comes first, and an empty one where there is none
 abbrev pub front_of : List (List ℕ) → List ℕ
-front_of [] = []
-front_of (column ∷ columns) = column
+front_of columns = get_or columns 0 []
 
 -- ---- what is made of things one after another, each of the columns that those before left
 

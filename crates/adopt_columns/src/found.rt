@@ -35,27 +35,41 @@ impl From<AllocError> for AdoptFault {
 /// What a look at the region finds.
 #[derive(Drop)]
 pub enum Found {
+    /// It is shorter than a head.
     NoHead,
+    /// Its flag is this byte, which is not 1.
     Closed(u8),
+    /// Its image has this version, which is not read.
     OtherVersion(u32),
+    /// It is no image.
     NoImage,
+    /// The image has a table of this name, which was not asked for; it is the first such.
     Stranger(Text),
+    /// It has the directory of an image, whose columns are still to be taken.
     Ready(Adopt),
 }
 
+/// What a step comes to.
 #[derive(Drop)]
 pub enum AdoptStep {
+    /// A column was taken, and this is left.
     More(Adopt),
+    /// The columns mean no tables, so the region is no image.
     NoImage,
+    /// All columns were taken: the tables that they make, and where the log ends.
     Finished { tables: DrainTables, log_end: u64 },
 }
 
-/// Why a leaf reads its disk: the region has no head, its flag is closed, it has a version that is not read, or it is no image.
+/// Why a leaf reads its disk.
 #[derive(Clone, Copy, Debug, PartialEq, Eq)]
 pub enum WhyDisk {
+    /// The region is shorter than a head.
     NoHead,
+    /// Its flag is this byte, which is not 1.
     Closed(u8),
+    /// Its image has this version, which is not read.
     OtherVersion(u32),
+    /// It is no image.
     NoImage,
 }
 
@@ -80,5 +94,6 @@ pub enum Adoption {
     NoTables(WhyDisk),
     /// The image has a table of this name, which was not asked for; no column was read.
     Stranger(Text),
+    /// The tables of the leaf.
     Tables(Adopted),
 }

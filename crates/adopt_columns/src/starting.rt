@@ -73,7 +73,7 @@ fn adopted(alloc: Global, names: &Names, drained: Drained) -> Result<Adopted, Al
 {
     let Drained { tables, log_end } = drained;
     Ok(Adopted {
-        tables: arranged(alloc, names.as_slice(), tables)?,
+        tables: arranged(alloc, names.as_slice(), tables.into_inner())?,
         log_end,
     })
 }

@@ -10,20 +10,12 @@ ghost use Rattle.adopt_columns.specs.Finishing.{IsMade};
 ghost use Rattle.adopt_columns.specs.Tables.{has_name, without};
 
 use leaf_model::Text;
-use region_directory::{DrainTable, DrainTables};
+use region_directory::DrainTable;
 use std::alloc::{AllocError, Global};
 use table_state::{TableState, Tables};
 
 /// For each name its table, and an empty one where the image has none.
-pub fn arranged(alloc: Global, names: &[Text], tables: DrainTables) -> Result<Tables, AllocError>
-    requires distinct { AreDistinct names.now }
-    requires each { AllByRecursion IsMade tables }
-    ensures { IfOk result (λ arranged. arranged ≡ tables_of names.now (images_of tables)) }
-{
-    arrange(alloc, names, tables.into_inner())
-}
-
-fn arrange(
+pub fn arranged(
     alloc: Global,
     names: &[Text],
     mut drained: Vec<DrainTable>,

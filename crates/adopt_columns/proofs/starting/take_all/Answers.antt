@@ -1,7 +1,6 @@
-use Rattle.std.proofs.Common.{◌≡◌, ℕ, suc, List, Option, Result, Err, IsTrue, sym, ap, subst, ◌∙◌, arith}
+use Rattle.std.proofs.Common.{ℕ, List, Option, Result, Err, IsTrue, sym, ap, subst, ◌∙◌, arith}
 use Rattle.std.proofs.lemmas.Result.{err_from_is_err_and}
 use Rattle.adopt_columns.specs.declared.found.AdoptFault.{AdoptFault}
-use Rattle.adopt_columns.specs.declared.found.AdoptStep.{AdoptStep}
 use Rattle.adopt_columns.specs.declared.found.Drained.{Drained}
 use Rattle.adopt_columns.specs.Adopting.{Adopting, KeepsOn}
 use Rattle.adopt_columns.specs.Starting.{TakesAll}

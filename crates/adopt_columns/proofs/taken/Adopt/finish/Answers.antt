@@ -4,7 +4,7 @@ use Rattle.std.specs.List.{AllByRecursion}
 use Rattle.region_directory.specs.declared.directory.TablePlaces.{TablePlaces}
 use Rattle.adopt_columns.specs.Finishing.{FinishesAs}
 use Rattle.adopt_columns.specs.Taken.{AdoptState, IsRead}
-use Rattle.adopt_columns.proofs.Finished.{are_adopted, finishes, keeps_on}
+use Rattle.adopt_columns.proofs.Finished.{are_adopted, finishes}
 use Rattle.adopt_columns.proofs.taken.Adopt.finish.Goals as goal
 
 pub returns-clause-told : goal.returns-clause-told
@@ -21,6 +21,3 @@ returns-clause-adopted c =
     (subst (λ (a : AdoptState). AllByRecursion (λ (t : TablePlaces). Contains a.names t.name) a.directory.tables) c.self.view_is c.self.invariant.known)
     (subst (λ (a : AdoptState). FinishesAs a.directory a.heap c.finished.result) c.self.view_is
     (subst (λ (l : List (List ℕ)). FinishesAs c.self.inside.directory l c.finished.result) c.reverse.ensures.items c.finished.ensures))
-
-pub returns-clause-kept : goal.returns-clause-kept
-returns-clause-kept c = keeps_on c.args.self _ _ c.finished.result c.finished.ensures

@@ -67,7 +67,7 @@ invariant_of-result g c =
     let short = subst (λ (o : Option (List ℕ)). IfSome o (λ bytes. length bytes ≤ s.length)) c.in-Some-2.is c.in_ok-column.ensures.size in
     let same = c.as_slice.ensures in
     let short_now = subst (λ (l : List ℕ). length l ≤ s.length) (sym same) short in
-    let put = c.in_ok-put.ensures ∙ ap (λ (l : List ℕ). i.taken.items ++ l ∷ []) (sym same) in
+    let put = ◌∙◌ {A = List (List ℕ)} c.in_ok-put.ensures (ap (λ (l : List ℕ). i.taken.items ++ l ∷ []) (sym same)) in
     keeps_track i.names.value i.directory i.place i.held i.left.items init s i.taken.items c.put.new.list.items c.as_slice.result.now c.self.invariant split short_now put
 
 pub returns-clause-told : goal.returns-clause-told

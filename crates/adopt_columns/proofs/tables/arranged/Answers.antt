@@ -10,7 +10,7 @@ use Rattle.region_directory.specs.Drained.{images_of}
 use Rattle.adopt_columns.specs.Finishing.{IsMade}
 use Rattle.adopt_columns.specs.Tables.{without}
 use Rattle.adopt_columns.proofs.Arranging.{each_without, one_more}
-use Rattle.adopt_columns.proofs.tables.arrange.Goals as goal
+use Rattle.adopt_columns.proofs.tables.arranged.Goals as goal
 
 pub loop-name-preserved : goal.loop-name-preserved
 loop-name-preserved c =

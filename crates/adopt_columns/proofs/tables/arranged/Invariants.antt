@@ -5,7 +5,7 @@ use Rattle.leaf_model.specs.Names.{AreDistinct}
 use Rattle.region_layout.specs.Images.{tables_of}
 use Rattle.region_directory.specs.Drained.{images_of}
 use Rattle.adopt_columns.specs.Finishing.{IsMade}
-use Rattle.adopt_columns.proofs.tables.arrange.Given as goal
+use Rattle.adopt_columns.proofs.tables.arranged.Given as goal
 
 -- the tables so far, and then those of the names that are left, are all tables
 abbrev pub invariant-loop-name : goal.invariant-loop-name
