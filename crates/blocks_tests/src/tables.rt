@@ -62,10 +62,22 @@ fn cut_and_expired(
 fn a_dead_block_goes_with_its_cut(rt: HostRuntime) -> Result<(), Fail> {
     let alloc = rt.alloc();
     // The last row of the first block has the time 20, and the second block has the times 31, 50 and 40.
-    assert_eq!(rt; cut_and_expired(alloc, 4, 20)?, [(2, 2, 0, 4), (2, 2, 0, 4)]);
-    assert_eq!(rt; cut_and_expired(alloc, 4, 31)?, [(2, 2, 0, 4), (1, 0, 0, 3)]);
-    assert_eq!(rt; cut_and_expired(alloc, 2, 40)?, [(1, 1, 0, 2), (1, 1, 0, 2)]);
-    assert_eq!(rt; cut_and_expired(alloc, 3, 51)?, [(1, 0, 0, 3), (0, 0, 0, 0)]);
+    assert_eq!(rt;
+        cut_and_expired(alloc, 4, 20)?,
+        [(2, 2, 0, 4), (2, 2, 0, 4)]
+    );
+    assert_eq!(rt;
+        cut_and_expired(alloc, 4, 31)?,
+        [(2, 2, 0, 4), (1, 0, 0, 3)]
+    );
+    assert_eq!(rt;
+        cut_and_expired(alloc, 2, 40)?,
+        [(1, 1, 0, 2), (1, 1, 0, 2)]
+    );
+    assert_eq!(rt;
+        cut_and_expired(alloc, 3, 51)?,
+        [(1, 0, 0, 3), (0, 0, 0, 0)]
+    );
     Ok(())
 }
 
