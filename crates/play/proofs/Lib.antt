@@ -10,3 +10,4 @@ pub mod Listing
 pub mod KeepsBase
 pub mod Statuses
 pub mod Soaked
+pub mod Pieces

@@ -27,6 +27,8 @@ use std::collections::VecDeque;
 use std::sync::Wait;
 use std::thread::Threads;
 
+const PIECE: usize = 1_024; // lines that are put together and written at once
+
 /// Why an item's lines were not written whole.
 #[derive(Clone, Copy, Debug, PartialEq, Eq)]
 enum WriteError {
@@ -250,8 +252,42 @@ fn write_lines<K: Sink>(
     let Ok(lines) = lines else {
         return Err(WriteError::NoMemory);
     };
+    write_pieces(alloc, names, lines.as_slice(), sink)
+}
+
+/// Writes lines one piece after another.
+fn write_pieces<K: Sink>(
+    alloc: Global,
+    names: &Names,
+    lines: &[Line],
+    sink: &mut K,
+) -> Result<(), WriteError>
+    requires { AllByRecursion (IsOf names.now) lines.now }
+    ensures written { OnOk result (Appends (K.written sink.old) (K.written sink.new) (lines_text names.now lines.now)) }
+    ensures failed { IsErrOf result WriteError.Failed → Rose (K.faults sink.old) (K.faults sink.new) }
+    ensures later { K.faults sink.old ≤ K.faults sink.new }
+{
     let mut text = Vec::new(alloc);
-    if put_lines(&mut text, names, lines.as_slice()).is_err() {
+    for piece in lines.chunks(PIECE) {
+        write_piece(&mut text, names, piece, sink)?;
+    }
+    Ok(())
+}
+
+/// Writes a piece of lines at once; what the text held before is gone.
+fn write_piece<K: Sink>(
+    text: &mut Vec<u8>,
+    names: &Names,
+    piece: &[Line],
+    sink: &mut K,
+) -> Result<(), WriteError>
+    requires { AllByRecursion (IsOf names.now) piece.now }
+    ensures written { OnOk result (Appends (K.written sink.old) (K.written sink.new) (lines_text names.now piece.now)) }
+    ensures failed { IsErrOf result WriteError.Failed → Rose (K.faults sink.old) (K.faults sink.new) }
+    ensures later { K.faults sink.old ≤ K.faults sink.new }
+{
+    text.clear();
+    if put_lines(text, names, piece).is_err() {
         return Err(WriteError::NoMemory);
     }
     match write_all(text.as_slice(), sink) {

@@ -1,0 +1,54 @@
+-- Lines that are written piece by piece.
+use Rattle.std.proofs.Common.{◌≡◌, ℕ, List, [], ◌∷◌, ◌++◌, Option, length, sym, ap, ◌∙◌, append_assoc, append-nil, subst}
+use Rattle.std.specs.List.{AllByRecursion}
+use Rattle.std.specs.Io.KnownBytes.{Appends}
+use Rattle.std.proofs.lemmas.List.{nil_from_length}
+use Rattle.std.proofs.lemmas.List.Concat.{flat_map-append}
+use Rattle.berth_face.proofs.Streams.{appends_none, appends_more}
+use Rattle.printed_lines.specs.declared.line.Line.{Line}
+use Rattle.printed_lines.specs.Lines.{IsOf, line_text, lines_text}
+
+all_front : {X : Type 0} (P : X → Type 0) (xs ys : List X) → AllByRecursion P (xs ++ ys) → AllByRecursion P xs
+all_front P [] ys all = tt
+all_front P (x ∷ xs) ys all = (all.0, all_front P xs ys all.1)
+
+all_behind : {X : Type 0} (P : X → Type 0) (xs ys : List X) → AllByRecursion P (xs ++ ys) → AllByRecursion P ys
+all_behind P [] ys all = all
+all_behind P (x ∷ xs) ys all = all_behind P xs ys all.1
+
+-- of these lines all but those that are left were written
+pub record AreWritten (names : List (List ℕ)) (lines left : List Line) (before now : Option (List ℕ)) : Type 0 where
+  pub front : List Line
+  pub is : lines ≡ front ++ left
+  pub all : AllByRecursion (IsOf names) left
+  pub bytes : Appends before now (lines_text names front)
+
+-- none of them yet
+pub pieces_begin : (names : List (List ℕ)) (lines left : List Line) (o : Option (List ℕ)) → AllByRecursion (IsOf names) lines → left ≡ lines → AreWritten names lines left o o
+pieces_begin names lines left o all same =
+    record { front = []; is = sym same; all = subst (AllByRecursion (IsOf names)) (sym same) all; bytes = appends_none o }
+
+-- what is left is of the fleet, so the next piece is
+pub piece_fits : {names : List (List ℕ)} {lines left : List Line} {before now : Option (List ℕ)} (piece rest : List Line) → AreWritten names lines left before now
+    → left ≡ piece ++ rest → AllByRecursion (IsOf names) piece
+piece_fits {names} {lines} {left} {before} {now} piece rest written is =
+    all_front (IsOf names) piece rest (subst (AllByRecursion (IsOf names)) is written.all)
+
+-- a piece more
+pub pieces_go_on : {names : List (List ℕ)} {lines left : List Line} {before now : Option (List ℕ)} (later : Option (List ℕ)) (piece rest : List Line)
+    → AreWritten names lines left before now → left ≡ piece ++ rest → Appends now later (lines_text names piece) → AreWritten names lines rest before later
+pieces_go_on {names} {lines} {left} {before} {now} later piece rest written is more =
+    let text = sym (flat_map-append (line_text names) written.front piece) in
+    record {
+      front = written.front ++ piece;
+      is = written.is ∙ ap (λ (ls : List Line). written.front ++ ls) is ∙ sym (append_assoc written.front piece rest);
+      all = all_behind (IsOf names) piece rest (subst (AllByRecursion (IsOf names)) is written.all);
+      bytes = subst (Appends before later) text (appends_more before now later (lines_text names written.front) (lines_text names piece) written.bytes more);
+    }
+
+-- where none is left, all were written
+pub pieces_end : {names : List (List ℕ)} {lines left : List Line} {before now : Option (List ℕ)} → AreWritten names lines left before now → length left ≡ 0
+    → Appends before now (lines_text names lines)
+pieces_end {names} {lines} {left} {before} {now} written none =
+    let whole = written.is ∙ ap (λ (ls : List Line). written.front ++ ls) (nil_from_length left none) ∙ append-nil written.front in
+    subst (λ ls. Appends before now (lines_text names ls)) (sym whole) written.bytes
