@@ -1,15 +1,16 @@
--- What a crash may leave at each moment while a region is read and its flag is closed.
-use Rattle.std.proofs.Common.{◌≡◌, ◌⊎◌, inl, inr, ℕ, List, [], ◌∷◌, Ok, Err, refl, sym, subst, arith}
+-- What a crash may leave at each moment while a region is read, its flag is closed and it is cut.
+use Rattle.std.proofs.Common.{◌≡◌, ◌⊎◌, inl, inr, ℕ, ◌+◌, ◌≤◌, List, [], ◌∷◌, length, take, Ok, Err, refl, sym, ap, subst, ◌∙◌, arith, length-take}
 use Rattle.std.specs.Prelude.{Result, OnOk, OnErr}
-use Rattle.berth_face.specs.Berth.{Pair, Meaning, Passes, Stays, Torn, RegionWritten}
+use Rattle.berth_face.specs.Berth.{Pair, Meaning, Passes, Stays, Cut, Torn, RegionWritten, RegionCut}
 use Rattle.berth_face.specs.Moments.{EachNow, Throughout}
 use Rattle.berth_face.proofs.Moments.{started, goes_on, now_of, throughout_map, throughout_join}
 use Rattle.region_layout.specs.declared.head.Head.TheVariants.{Version}
-use Rattle.region_layout.specs.Region.{head_of, version_of}
+use Rattle.region_layout.specs.Region.{IsClosed, head_of, version_of}
 use Rattle.region_layout.proofs.Heads.{open_head}
-use Rattle.adopt.specs.Found.{AdoptsFrom, IsBroken, closed_flag}
-use Rattle.adopt.specs.Adopting.{IsOpenRegion}
-use Rattle.adopt.proofs.Heads.{untouched, closed_breaks, torn_breaks}
+use Rattle.adopt.specs.Adopting.{AdoptsFrom, ClosedFrom, IsBroken, IsInImage, IsInRoom, IsNoLonger}
+use Rattle.adopt.specs.Finding.{IsOpenRegion, closed_flag}
+use Rattle.adopt.specs.Taken.{AdoptState}
+use Rattle.adopt.proofs.Heads.{closed_breaks, cut_closed, flag_closed, torn_breaks, torn_cut, untouched}
 
 -- a crash now leaves the region that is read, or none
 abbrev pub KeepsRegion : Meaning → Type 0
@@ -49,7 +50,7 @@ adopts_after a b c keeps time stays all =
 
 -- what reads give behind the write that closes an open flag
 broken_by : {T E : Type 0} (result : Result T E) (old new : List ℕ) (version : ℕ) → head_of old ≡ Version version → OnOk result (new ≡ closed_flag old) → OnErr result (Torn 0 1 old new) → IsBroken old new
-broken_by (Ok x) old new version opened ok err = subst (IsBroken old) (sym ok) (closed_breaks old version opened)
+broken_by (Ok x) old new version opened ok err = closed_breaks old new version opened (subst IsClosed (sym ok) (flag_closed _))
 broken_by (Err e) old new version opened ok err = torn_breaks old new version opened err
 
 -- the write that closes an open flag
@@ -72,3 +73,131 @@ flag_closes result a b open_flag before after time wrote =
       | inl torn ↦ inr (torn_breaks a.held.region region (version_of a.held.region) head torn)
       | inr lost ↦ inl lost
     ]
+
+-- ---- once the flag is closed
+
+pub no_region : (region : List ℕ) → region ≡ [] → IsClosed region
+no_region region e = subst IsClosed (sym e) (inl (omega arith))
+
+closed_by : (now region : List ℕ) → IsClosed now → (region ≡ now) ⊎ (region ≡ []) → IsClosed region
+closed_by now region is keeps = elim keeps [
+  | inl same ↦ subst IsClosed (sym same) is
+  | inr lost ↦ no_region region lost
+]
+
+pub closed_itself : (a : Meaning) → IsClosed a.held.region → KeepsRegion a → EachNow (ClosedFrom a) a
+closed_itself a is keeps = λ p left. record { from = p; was = left; disk = refl; region = closed_by a.held.region p.region is (keeps p left) }
+
+-- no call at all
+pub closed_start : (a : Meaning) → IsClosed a.held.region → KeepsRegion a → Throughout (ClosedFrom a) a a
+closed_start a is keeps = started a (ClosedFrom a) (closed_itself a is keeps)
+
+-- a call that changes nothing
+pub closed_stay : (a b : Meaning) → IsClosed a.held.region → KeepsRegion a → Passes a b → Stays a b → Throughout (ClosedFrom a) a b
+closed_stay a b is keeps time stays = through_stay a a b (ClosedFrom a) (closed_start a is keeps) time stays
+
+-- such a call before
+pub closed_after : (a b c : Meaning) → IsClosed a.held.region → KeepsRegion a → Passes a b → Stays a b → Throughout (ClosedFrom b) b c → Throughout (ClosedFrom a) a c
+closed_after a b c is keeps time stays all =
+    throughout_join a b c (ClosedFrom a) (closed_stay a b is keeps time stays)
+    (throughout_map b c (ClosedFrom b) (ClosedFrom a) (λ p came. record {
+      from = came.from;
+      was = (stays.leaves b.clock came.from time.later (omega arith)).0 came.was;
+      disk = came.disk;
+      region = came.region;
+    }) all)
+
+-- calls one after another
+pub closed_on : (a b c : Meaning) → Throughout (ClosedFrom a) a b → Throughout (ClosedFrom b) b c → Throughout (ClosedFrom a) a c
+closed_on a b c first all =
+    throughout_join a b c (ClosedFrom a) first
+    (throughout_map b c (ClosedFrom b) (ClosedFrom a) (λ p came.
+    let before = now_of a b (ClosedFrom a) first came.from came.was in
+    record { from = before.from; was = before.was; disk = came.disk ∙ before.disk; region = came.region }) all)
+
+cut_by : {T E : Type 0} (result : Result T E) (n : ℕ) (old new : List ℕ) → IsClosed old → OnOk result (new ≡ take n old) → OnErr result (Cut n old new) → IsClosed new
+cut_by (Ok x) n old new is ok err = subst IsClosed (sym ok) (cut_closed n old is)
+cut_by (Err e) n old new is ok err = torn_cut n old new is err
+
+-- a cut
+pub region_cut : {T E : Type 0} (result : Result T E) (n : ℕ) (a b : Meaning) → IsClosed a.held.region → KeepsRegion a → KeepsRegion b → Passes a b → RegionCut n result a b → Throughout (ClosedFrom a) a b
+region_cut result n a b is before after time made =
+    goes_on a a b (ClosedFrom a) (closed_start a is before) time
+    (λ t p from to left. let came = made.inside t p from to left in record { from = came.0; was = came.1; disk = came.2.1; region = inside p.region came.2.0 })
+    (λ p left. let came = made.ended p left in record {
+      from = came.0;
+      was = came.1;
+      disk = came.2;
+      region = closed_by b.held.region p.region (cut_by result n a.held.region b.held.region is made.ok made.err) (after p left);
+    })
+  where
+    inside : (region : List ℕ) → Cut n a.held.region region ⊎ (region ≡ []) → IsClosed region
+    inside region cut = elim cut [
+      | inl torn ↦ torn_cut n a.held.region region is torn
+      | inr lost ↦ no_region region lost
+    ]
+
+-- the flag is closed, and then the region stays closed
+pub adopts_closed : (a b c : Meaning) → IsOpenRegion a.held.region → Throughout (AdoptsFrom a) a b → Throughout (ClosedFrom b) b c → Throughout (AdoptsFrom a) a c
+adopts_closed a b c open_flag first all =
+    throughout_join a b c (AdoptsFrom a) first
+    (throughout_map b c (ClosedFrom b) (AdoptsFrom a) (λ p came.
+    let before = now_of a b (AdoptsFrom a) first came.from came.was in
+    record {
+      from = before.from;
+      was = before.was;
+      disk = came.disk ∙ before.disk;
+      region = inr (closed_breaks a.held.region p.region (version_of a.held.region) (open_head a.held.region open_flag) came.region);
+    }) all)
+
+-- ---- how long the region is meanwhile
+
+kept_short : (now region : List ℕ) (n : ℕ) → length now ≤ n → (region ≡ now) ⊎ (region ≡ []) → length region ≤ n
+kept_short now region n short keeps = elim keeps [
+  | inl same ↦ subst (λ (l : List ℕ). length l ≤ n) (sym same) short
+  | inr lost ↦ subst (λ (l : List ℕ). length l ≤ n) (sym lost) (omega arith)
+]
+
+-- no call at all
+pub short_start : (a : Meaning) → KeepsRegion a → Throughout (IsNoLonger a) a a
+short_start a keeps = started a (IsNoLonger a) (λ p left. kept_short a.held.region p.region (length a.held.region) (omega arith) (keeps p left))
+
+-- a call that changes nothing
+pub short_stay : (a b : Meaning) → KeepsRegion a → Passes a b → Stays a b → Throughout (IsNoLonger a) a b
+short_stay a b keeps time stays = through_stay a a b (IsNoLonger a) (short_start a keeps) time stays
+
+-- such a call before
+pub short_after : (a b c : Meaning) → KeepsRegion a → Passes a b → Stays a b → Throughout (IsNoLonger b) b c → Throughout (IsNoLonger a) a c
+short_after a b c keeps time stays all =
+    throughout_join a b c (IsNoLonger a) (short_stay a b keeps time stays)
+    (subst (λ (h : Pair). Throughout (λ p. length p.region ≤ length h.region) b c) stays.held all)
+
+cut_short : (n : ℕ) (old new : List ℕ) → Cut n old new → length new ≤ length old
+cut_short n old new cut =
+    let same : length new ≡ length (take (length new) old) = ap (λ (l : List ℕ). length l) cut.front in
+    let size = length-take (length new) old in
+    omega (arith, same, size)
+
+short_by : {T E : Type 0} (result : Result T E) (n : ℕ) (old new : List ℕ) → OnOk result (new ≡ take n old) → OnErr result (Cut n old new) → length new ≤ length old
+short_by (Ok x) n old new ok err =
+    let same : length new ≡ length (take n old) = ap (λ (l : List ℕ). length l) ok in
+    let size = length-take n old in
+    omega (arith, same, size)
+short_by (Err e) n old new ok err = cut_short n old new err
+
+-- a cut
+pub short_cut : {T E : Type 0} (result : Result T E) (n : ℕ) (a b : Meaning) → KeepsRegion a → KeepsRegion b → Passes a b → RegionCut n result a b → Throughout (IsNoLonger a) a b
+short_cut result n a b before after time made =
+    goes_on a a b (IsNoLonger a) (short_start a before) time
+    (λ t p from to left. inside p.region (made.inside t p from to left).2.0)
+    (λ p left. kept_short b.held.region p.region (length a.held.region) (short_by result n a.held.region b.held.region made.ok made.err) (after p left))
+  where
+    inside : (region : List ℕ) → Cut n a.held.region region ⊎ (region ≡ []) → length region ≤ length a.held.region
+    inside region cut = elim cut [
+      | inl torn ↦ cut_short n a.held.region region torn
+      | inr lost ↦ subst (λ (l : List ℕ). length l ≤ length a.held.region) (sym lost) (omega arith)
+    ]
+
+-- so what is held and the region stay within the image
+pub in_room : (s : AdoptState) (a b : Meaning) → IsInImage s a.held.region → Throughout (IsNoLonger a) a b → Throughout (IsInRoom s) a b
+in_room s a b fits all = throughout_map a b (IsNoLonger a) (IsInRoom s) (λ p short. omega (arith, fits, short)) all

@@ -1,131 +1,154 @@
--- Taking the tables of an image by their names.
-use Rattle.std.proofs.Common.{◌≡◌, ℕ, zero, suc, ◌+◌, ◌<◌, ◌≤◌, ◌^◌, Bool, true, false, cond, not, ltb, List, [], ◌∷◌, length, find, position, slice_get, ◌++◌, Option, Some, None, unwrap_or, refl, sym, ap, ap₂, ◌∙◌, arith, ltb-true, ltb-false, subst}
-use Rattle.std.specs.Prelude.{◌≢◌}
-use Rattle.std.specs.List.{AllByRecursion, position_or_len, remove}
-use Rattle.std.specs.Str.{bytes_eq}
-use Rattle.std.proofs.lemmas.Slice.Eq.{bytes_eq-Decides}
-use Rattle.std.proofs.lemmas.List.Folds.{find_at}
-use Rattle.std.proofs.lemmas.List.{append_assoc}
-use Rattle.std.proofs.lemmas.Option.{slice_get_past}
-use Rattle.table_state.specs.Tables.{Table}
-use Rattle.region_layout.specs.declared.image.TableImage.{TableImage}
-use Rattle.region_layout.specs.Images.{empty_image, is_named, table_named, table_of, tables_of}
-use Rattle.region_layout.specs.Region.{IsTableImage}
-use Rattle.adopt.specs.Adopting.{without}
+-- A column is taken off a region.
+use Rattle.std.proofs.Common.{◌≡◌, ℕ, suc, ◌+◌, ◌-◌, ◌≤◌, List, [], ◌∷◌, ◌++◌, length, map, take, drop, get_or, refl, sym, ap, ap₂, subst, ◌∙◌, arith, length-take, take-append-drop, append_assoc}
+use Rattle.std.proofs.lemmas.List.{drop-take, take-take}
+use Rattle.column_bytes.specs.Coding.{joined}
+use Rattle.row_blocks.specs.Columns.{MeanCells}
+use Rattle.region_layout.specs.Region.{IsClosed}
+use Rattle.region_directory.specs.declared.directory.Place.{Place}
+use Rattle.region_directory.specs.Directory.{columns_of}
+use Rattle.region_directory.specs.Region.{column_in, directory_from}
+use Rattle.adopt.specs.declared.spans.Span.{Span}
+use Rattle.adopt.specs.Adopting.{Adopting, IsInImage, IsLeftBehind, IsNoImage, cut_at}
+use Rattle.adopt.specs.Finding.{bytes_at, closed_flag}
+use Rattle.adopt.specs.Taken.{AdoptState, spans_of}
+use Rattle.adopt.proofs.Meanings.{no_cells}
+use Rattle.adopt.proofs.Heads.{behind_flag, closed_size, cut_closed, flag_closed, head_long, left_cut}
+use Rattle.adopt.proofs.Reading.{directory_inside}
+use Rattle.adopt.proofs.Columns.{JoinedSpans, Stands, held_behind, at_split, past_split, from_split, behind_split, joined_short, places, same_all, same_bytes, same_joined, same_places, span_in, stands}
 
--- ---- what one table's taking leaves for another name
+-- the first columns of a list, and those behind them
+pub split_of : (all init : List Span) (s : Span) → init ++ s ∷ [] ≡ take (length (init ++ s ∷ [])) all → all ≡ init ++ s ∷ drop (length (init ++ s ∷ [])) all
+split_of all init s front =
+    let n = length (init ++ s ∷ []) in
+    sym (take-append-drop n all) ∙ ap (λ (l : List Span). l ++ drop n all) (sym front) ∙ append_assoc init (s ∷ []) (drop n all)
 
-differ : (a b : List ℕ) (same : Bool) → bytes_eq a b ≡ same → a ≢ b → same ≡ false
-differ a b true e other = absurd (other ((bytes_eq-Decides a b).0 e))
-differ a b false e other = refl
+pub count_last : (init : List Span) (s : Span) → length (init ++ s ∷ []) ≡ suc (length init)
+count_last [] s = refl
+count_last (x ∷ init) s = ap suc (count_last init s)
 
-other_name : (t : TableImage) (name other : List ℕ) → is_named name t ≡ true → other ≢ name → is_named other t ≡ false
-other_name t name other e differs = differ t.name other (is_named other t) refl (λ same. differs (sym same ∙ (bytes_eq-Decides t.name name).0 e))
+-- what is held and what is left of the region are no longer than the image
+pub begins_inside : (region now : List ℕ) (a : AdoptState) → Adopting region a now → IsInImage a now
+begins_inside region now a adopting =
+    let place = directory_from region in
+    let spans = spans_of a.directory in
+    let same = same_all a.directory in
+    let all_joined : JoinedSpans 16 spans place = same_joined 16 place spans (columns_of a.directory) same adopting.has.itself.joined in
+    let cut_is : cut_at a region ≡ get_or (places spans) a.left place = ap (λ (l : List ℕ). get_or l a.left place) (same_places spans (columns_of a.directory) same) in
+    let heap_is : a.heap ≡ drop a.left (map (span_in region) spans) = adopting.heap ∙ ap (λ (l : List (List ℕ)). drop a.left l) (same_bytes region spans (columns_of a.directory) same) in
+    let heap : length (joined a.heap) ≡ length (joined (drop a.left (map (span_in region) spans))) = ap (λ (l : List (List ℕ)). length (joined l)) heap_is in
+    let both = held_behind region a.left 16 place spans all_joined in
+    let cut : length now ≡ length (take (cut_at a region) (closed_flag region)) = ap (λ (l : List ℕ). length l) adopting.rest in
+    let size = length-take (cut_at a region) (closed_flag region) in
+    let len = adopting.len in
+    let inside = directory_inside a.version region a.directory adopting.has in
+    omega (arith, cut_is, heap, both, cut, size, len, inside)
 
-find_past : (p : TableImage → Bool) (t : TableImage) (ts : List TableImage) → p t ≡ false → find p (t ∷ ts) ≡ find p ts
-find_past p t ts e = rw e refl
+-- Of an image so much was taken that this column is the last one left.
+module _ (region now : List ℕ) (a : AdoptState) (adopting : Adopting region a now) (init : List Span) (s : Span)
+    (front : init ++ s ∷ [] ≡ take (length (init ++ s ∷ [])) (spans_of a.directory)) (left : a.left ≡ length (init ++ s ∷ [])) where
+  abbrev rest : List Span
+  rest = drop (length (init ++ s ∷ [])) (spans_of a.directory)
 
-elsewhere_by : (name other : List ℕ) (t : TableImage) (ts left : List TableImage) (b : Bool) → is_named name t ≡ b → other ≢ name
-    → find (is_named other) left ≡ find (is_named other) ts → find (is_named other) (cond b ts (t ∷ left)) ≡ find (is_named other) (t ∷ ts)
-elsewhere_by name other t ts left true e differs same = sym (find_past (is_named other) t ts (other_name t name other e differs))
-elsewhere_by name other t ts left false e differs same = ap (λ (o : Option TableImage). cond (is_named other t) (Some t) o) same
+  abbrev place : ℕ
+  place = directory_from region
 
-found_elsewhere : (name other : List ℕ) (images : List TableImage) → other ≢ name → find (is_named other) (without name images) ≡ find (is_named other) images
-found_elsewhere name other [] differs = refl
-found_elsewhere name other (t ∷ ts) differs = elsewhere_by name other t ts (without name ts) (is_named name t) refl differs (found_elsewhere name other ts differs)
+  split : spans_of a.directory ≡ init ++ s ∷ rest
+  split = split_of (spans_of a.directory) init s front
 
--- the other names have the tables that they had
-pub tables_others : (name : List ℕ) (names : List (List ℕ)) (images : List TableImage) → AllByRecursion (λ other. other ≢ name) names → tables_of names (without name images) ≡ tables_of names images
-tables_others name [] images others = refl
-tables_others name (other ∷ names) images others =
-    ap₂ (λ (t : Table) (ts : List Table). t ∷ ts) (ap (λ (o : Option TableImage). table_of (unwrap_or o (empty_image other))) (found_elsewhere name other images others.0)) (tables_others name names images others.1)
+  long : 16 ≤ length region
+  long = head_long region a.version adopting.has.head
 
-each_by : (P : TableImage → Type 0) (t : TableImage) (ts left : List TableImage) (b : Bool) → P t → AllByRecursion P ts → AllByRecursion P left → AllByRecursion P (cond b ts (t ∷ left))
-each_by P t ts left true here rest more = rest
-each_by P t ts left false here rest more = (here, more)
+  size : length (closed_flag region) ≡ length region
+  size = closed_size region long
 
-pub each_without : (P : TableImage → Type 0) (name : List ℕ) (images : List TableImage) → AllByRecursion P images → AllByRecursion P (without name images)
-each_without P name [] each = tt
-each_without P name (t ∷ ts) each = each_by P t ts (without name ts) (is_named name t) each.0 each.1 (each_without P name ts each.1)
+  inside : place ≤ length region
+  inside = directory_inside a.version region a.directory adopting.has
 
--- ---- where the table of a name stands
+  all_joined : JoinedSpans 16 (init ++ s ∷ rest) place
+  all_joined = subst (λ (l : List Span). JoinedSpans 16 l place) split (same_joined 16 place (spans_of a.directory) (columns_of a.directory) (same_all a.directory) adopting.has.itself.joined)
 
-without_by : (t : TableImage) (ts left : List TableImage) (k : ℕ) (b : Bool) → left ≡ remove ts k → cond b ts (t ∷ left) ≡ remove (t ∷ ts) (cond (not b) (1 + k) 0)
-without_by t ts left k true e = refl
-without_by t ts left k false e =
-    let one : suc k ≡ 1 + k = omega arith in
-    ap (λ (l : List TableImage). t ∷ l) e ∙ ap (λ (n : ℕ). remove (t ∷ ts) n) one
+  there : Stands s rest 16 place
+  there = stands 16 place init s rest all_joined
 
-without_is : (name : List ℕ) (images : List TableImage) → without name images ≡ remove images (position_or_len (is_named name) images)
-without_is name [] = refl
-without_is name (t ∷ ts) = without_by t ts (without name ts) (position_or_len (is_named name) ts) (is_named name t) (without_is name ts)
+  places_are : map (λ (p : Place). p.place) (columns_of a.directory) ≡ places (init ++ s ∷ rest)
+  places_are = same_places (spans_of a.directory) (columns_of a.directory) (same_all a.directory) ∙ ap places split
 
-remove_past : (images : List TableImage) (k : ℕ) → length images ≤ k → remove images k ≡ images
-remove_past [] zero past = refl
-remove_past [] (suc k) past = refl
-remove_past (x ∷ xs) zero past = absurd (omega (arith, past))
-remove_past (x ∷ xs) (suc k) past = ap (λ (l : List TableImage). x ∷ l) (remove_past xs k (omega (arith, past)))
+  bytes_are : map (λ (p : Place). (column_in region p).bytes) (columns_of a.directory) ≡ map (span_in region) (init ++ s ∷ rest)
+  bytes_are = same_bytes region (spans_of a.directory) (columns_of a.directory) (same_all a.directory) ∙ ap (map (span_in region)) split
 
-place_by : (short : Bool) (n i : ℕ) → cond short (Some n) None ≡ Some i → (short ≡ true) × (i ≡ n)
-place_by true n i e = (refl, ap (λ (o : Option ℕ). unwrap_or o 0) (sym e))
-place_by false n i e = absurd cc
+  count : a.left ≡ suc (length init)
+  count = left ∙ count_last init s
 
-no_place_by : (short : Bool) (n : ℕ) → cond short (Some n) None ≡ None → short ≡ false
-no_place_by true n e = absurd cc
-no_place_by false n e = refl
+  cut_is : cut_at a region ≡ s.place + s.length
+  cut_is =
+      ap₂ (λ (l : List ℕ) (n : ℕ). get_or l n place) places_are count
+      ∙ past_split (λ (t : Span). t.place) place init s rest ∙ sym there.ends
 
--- it stands in that place
-pub named_at : (p : TableImage → Bool) (images : List TableImage) (i : ℕ) → position p images ≡ Some i → (i < length images) × (find p images ≡ slice_get images i)
-named_at p images i e =
-    let at = place_by (ltb (position_or_len p images) (length images)) (position_or_len p images) i e in
-    let within = ltb-true (position_or_len p images) (length images) at.0 in
-    (omega (arith, within, at.1), find_at p images ∙ ap (slice_get images) (sym at.1))
+  now_is : now ≡ take (s.place + s.length) (closed_flag region)
+  now_is = adopting.rest ∙ ap (λ (n : ℕ). take n (closed_flag region)) cut_is
 
-pub removed_at : (name : List ℕ) (images : List TableImage) (i : ℕ) → position (is_named name) images ≡ Some i → remove images i ≡ without name images
-removed_at name images i e =
-    let at = place_by (ltb (position_or_len (is_named name) images) (length images)) (position_or_len (is_named name) images) i e in
-    ap (λ (k : ℕ). remove images k) at.1 ∙ sym (without_is name images)
+  pub taken_closed : IsClosed now
+  taken_closed = subst IsClosed (sym now_is) (cut_closed (s.place + s.length) (closed_flag region) (flag_closed _))
 
--- it stands nowhere
-pub named_nowhere : (p : TableImage → Bool) (images : List TableImage) → position p images ≡ None → find p images ≡ None
-named_nowhere p images e =
-    let past = ltb-false (position_or_len p images) (length images) (no_place_by (ltb (position_or_len p images) (length images)) (position_or_len p images) e) in
-    find_at p images ∙ slice_get_past images (position_or_len p images) past
+  pub taken_left : IsLeftBehind region now
+  taken_left = subst (IsLeftBehind region) (sym now_is) (left_cut (s.place + s.length) region a.version (let begins = there.begins in omega (arith, begins)) adopting.has.head)
 
-pub removed_nowhere : (name : List ℕ) (images : List TableImage) → position (is_named name) images ≡ None → images ≡ without name images
-removed_nowhere name images e =
-    let past = ltb-false (position_or_len (is_named name) images) (length images) (no_place_by (ltb (position_or_len (is_named name) images) (length images)) (position_or_len (is_named name) images) e) in
-    sym (remove_past images (position_or_len (is_named name) images) past) ∙ sym (without_is name images)
+  cut_now : take s.place now ≡ take s.place (closed_flag region)
+  cut_now = ap (take s.place) now_is ∙ take-take s.place (s.place + s.length) (closed_flag region) (omega arith)
 
-pub each_at : (P : TableImage → Type 0) (images : List TableImage) (i : ℕ) (t : TableImage) → AllByRecursion P images → slice_get images i ≡ Some t → P t
-each_at P [] i t each at = absurd cc
-each_at P (x ∷ xs) zero t each at = subst P (ap (λ (o : Option TableImage). unwrap_or o x) at) each.0
-each_at P (x ∷ xs) (suc i) t each at = each_at P xs i t each.1 at
+  pub cut_left : (new : List ℕ) → new ≡ take s.place now → IsLeftBehind region new
+  cut_left new is = subst (IsLeftBehind region) (sym (is ∙ cut_now)) (left_cut s.place region a.version there.begins adopting.has.head)
 
--- ---- what all tables have
+  pub bytes_is : bytes_at now s ≡ span_in region s
+  bytes_is =
+      let begins = there.begins in
+      let back : s.length ≡ s.place + s.length - s.place = omega arith in
+      ap (λ (l : List ℕ). take s.length (drop s.place l)) now_is
+      ∙ ap (take s.length) (drop-take s.place s.length (closed_flag region))
+      ∙ take-take s.length s.length (drop s.place (closed_flag region)) (omega arith)
+      ∙ ap (take s.length) (behind_flag s.place region (omega (arith, begins)) long)
+      ∙ ap (λ (n : ℕ). take n (drop s.place region)) back
 
-pub tables_size : (names : List (List ℕ)) (images : List TableImage) → length (tables_of names images) ≡ length names
-tables_size [] images = refl
-tables_size (name ∷ names) images = ap suc (tables_size names images)
+  pub taken_none : (MeanCells (bytes_at now s) s.rows → ⊥) → IsNoImage region
+  taken_none fails =
+      no_cells a.version region a.directory init s rest adopting.has split (λ means. fails (subst (λ (l : List ℕ). MeanCells l s.rows) (sym bytes_is) means))
 
-few_by : (t : TableImage) (found : Option TableImage) (name : List ℕ) (b : Bool) → t.writes < 2 ^ 63 → (unwrap_or found (empty_image name)).writes < 2 ^ 63 → (unwrap_or (cond b (Some t) found) (empty_image name)).writes < 2 ^ 63
-few_by t found name true here rest = here
-few_by t found name false here rest = rest
+  behind_is : a.heap ≡ map (span_in region) rest
+  behind_is = adopting.heap ∙ ap₂ (λ (n : ℕ) (l : List (List ℕ)). drop n l) count bytes_are ∙ behind_split (span_in region) init s rest
 
-few_writes : (name : List ℕ) (images : List TableImage) → AllByRecursion IsTableImage images → (table_named images name).writes < 2 ^ 63
-few_writes name [] each = omega arith
-few_writes name (t ∷ ts) each = few_by t (find (is_named name) ts) name (is_named name t) each.0.writes (few_writes name ts each.1)
+  -- what is then known of it, with its bytes on the heap
+  module _ (new bytes : List ℕ) (b : AdoptState) (bytes_read : bytes ≡ bytes_at now s) (cut : new ≡ take s.place now)
+      (later : b ≡ record { names = a.names; version = a.version; image_len = a.image_len; directory = a.directory; left = length init; heap = bytes ∷ a.heap }) where
+    heap_is : bytes ∷ a.heap ≡ map (span_in region) (s ∷ rest)
+    heap_is = ap₂ (λ (x : List ℕ) (l : List (List ℕ)). x ∷ l) (bytes_read ∙ bytes_is) behind_is
 
-pub each_adopted : (names : List (List ℕ)) (images : List TableImage) → AllByRecursion IsTableImage images → AllByRecursion (λ t. (t.pending ≡ None) × (t.writes < 2 ^ 63)) (tables_of names images)
-each_adopted [] images each = tt
-each_adopted (name ∷ names) images each = ((refl, few_writes name images each), each_adopted names images each)
+    abbrev made : AdoptState
+    made = record { names = a.names; version = a.version; image_len = a.image_len; directory = a.directory; left = length init; heap = bytes ∷ a.heap }
 
--- ---- one name after another
+    made_on : Adopting region made new
+    made_on = record {
+      reads_it = adopting.reads_it;
+      has = adopting.has;
+      known = adopting.known;
+      len = adopting.len;
+      few = let few = adopting.few in omega (arith, few, count);
+      heap = heap_is ∙ sym (ap (drop (length init)) bytes_are ∙ from_split (span_in region) init s rest);
+      rest = cut ∙ cut_now
+          ∙ ap (λ (n : ℕ). take n (closed_flag region)) (sym (ap (λ (l : List ℕ). get_or l (length init) place) places_are ∙ at_split (λ (t : Span). t.place) place init s rest));
+    }
 
--- the table of the next name stands behind those that were taken
-pub one_more : (name : List ℕ) (names : List (List ℕ)) (images : List TableImage) (taken whole : List Table) (t : Table) → AllByRecursion (λ other. other ≢ name) names
-    → taken ++ tables_of (name ∷ names) images ≡ whole → t ≡ table_of (table_named images name) → (taken ++ t ∷ []) ++ tables_of names (without name images) ≡ whole
-one_more name names images taken whole t others so_far is =
-    append_assoc taken (t ∷ []) (tables_of names (without name images))
-    ∙ ap₂ (λ (x : Table) (xs : List Table). taken ++ x ∷ xs) is (tables_others name names images others)
-    ∙ so_far
+    made_inside : IsInImage made new
+    made_inside =
+        let heap : length (joined (bytes ∷ a.heap)) ≡ length (joined (map (span_in region) (s ∷ rest))) = ap (λ (l : List (List ℕ)). length (joined l)) heap_is in
+        let short = joined_short region (s ∷ rest) in
+        let cut_size : length new ≡ length (take s.place (closed_flag region)) = ap length (cut ∙ cut_now) in
+        let taken = length-take s.place (closed_flag region) in
+        let total = there.total in
+        let len = adopting.len in
+        omega (arith, heap, short, cut_size, taken, total, len, inside)
+
+    pub taken_on : Adopting region b new
+    taken_on = subst (λ (c : AdoptState). Adopting region c new) (sym later) made_on
+
+    pub taken_inside : IsInImage b new
+    taken_inside = subst (λ (c : AdoptState). IsInImage c new) (sym later) made_inside

@@ -1,40 +1,148 @@
--- What is found once the flag is closed, and what is left of an image while its tables are taken one by one.
-use Rattle.std.specs.Prelude.{◌≡◌, ℕ, List, [], ◌∷◌, None, Some, Result, Ok, Err, if◌then◌else◌, ⊤}
-use Rattle.region_layout.specs.declared.image.Image.{Image}
-use Rattle.region_layout.specs.declared.image.TableImage.{TableImage}
-use Rattle.region_layout.specs.Images.{is_named, tables_of}
-use Rattle.region_layout.specs.Region.{IsClosed}
-use Rattle.adopt.specs.declared.found.Adopted.{Adopted}
-use Rattle.adopt.specs.declared.found.Found.{Found}
+-- What a look finds, and what is left in the region between the steps of an adoption.
+use Rattle.std.specs.Prelude.{◌≡◌, ◌⊎◌, ℕ, suc, ◌+◌, ◌<◌, ◌≤◌, ◌^◌, true, false, not, List, [], ◌∷◌, length, map, take, drop, get_or, Option, Some, None, Result, Ok, Err, ⊤, Contains, bytes_eq}
+use Rattle.std.specs.List.{AllByRecursion, find, list_any}
+use Rattle.berth_face.specs.Berth.{Pair, Meaning}
+use Rattle.column_bytes.specs.Coding.{joined}
+use Rattle.region_layout.specs.declared.head.Head.TheVariants as head
+use Rattle.region_layout.specs.Images.{TableImage}
+use Rattle.region_layout.specs.Region.{IsClosed, head_of}
+use Rattle.leaf_model.specs.Names.{AreDistinct}
+use Rattle.adopt.specs.declared.found.WhyDisk.{WhyDisk}
+use Rattle.adopt.specs.declared.found.WhyDisk.TheVariants as why
 use Rattle.adopt.specs.declared.found.AdoptFault.{AdoptFault}
-use Rattle.adopt.specs.declared.found.AdoptFault.TheVariants.{RegionFault, Stranger, NoMemory}
-use Rattle.adopt.specs.Found.{IsFound, IsStranger, stranger_of}
+use Rattle.adopt.specs.declared.found.AdoptFault.TheVariants.{RegionFault, NoMemory}
+use Rattle.adopt.specs.declared.found.Found.{Found}
+use Rattle.adopt.specs.declared.found.Found.TheVariants as found
+use Rattle.adopt.specs.declared.found.AdoptStep.{AdoptStep}
+use Rattle.adopt.specs.declared.found.AdoptStep.TheVariants.{More, NoImage, Finished}
+use Rattle.region_directory.specs.declared.directory.Place.{Place}
+use Rattle.region_directory.specs.declared.directory.TablePlaces.{TablePlaces}
+use Rattle.region_directory.specs.declared.directory.Directory.{Directory}
+use Rattle.region_directory.specs.declared.drained.DrainTable.{DrainTable}
+use Rattle.table_state.specs.Tables.{IsParts}
+use Rattle.region_directory.specs.Directory.{columns_of}
+use Rattle.region_directory.specs.Region.{HasDirectory, IsAdoptable, column_in, directory_from, reads}
+use Rattle.region_directory.specs.Drained.{images_of}
+use Rattle.adopt.specs.Taken.{AdoptState}
 
--- there is a whole head, and its flag is open
-abbrev pub IsOpenRegion : List ℕ → Type 0
-IsOpenRegion region = IsClosed region → ⊥
+-- ---- why there are no tables
 
--- what is answered, where this was the region before its flag was closed
-abbrev pub AnswersAdoption : List (List ℕ) → List ℕ → Result Found AdoptFault → Type 0
-AnswersAdoption names region (Ok f) = IsFound names region f
-AnswersAdoption names region (Err RegionFault) = ⊤
-AnswersAdoption names region (Err (Stranger name)) = IsStranger names region name
-AnswersAdoption names region (Err NoMemory) = ⊤
+abbrev pub IsNoImage : List ℕ → Type 0
+IsNoImage region = (images : List TableImage) (log_end : ℕ) → IsAdoptable region images log_end → ⊥
 
--- the fault says nothing of tables
-abbrev pub NamesNobody : AdoptFault → Type 0
-NamesNobody RegionFault = ⊤
-NamesNobody (Stranger name) = ⊥
-NamesNobody NoMemory = ⊤
+abbrev pub IsWhy : List ℕ → WhyDisk → Type 0
+IsWhy region why.NoHead = head_of region ≡ head.NoHead
+IsWhy region (why.Closed flag) = head_of region ≡ head.Closed flag
+IsWhy region (why.OtherVersion version) = (head_of region ≡ head.Version version) × (reads version ≡ false)
+IsWhy region why.NoImage = (version : ℕ) × (head_of region ≡ head.Version version) × (reads version ≡ true) × IsNoImage region
 
--- the tables of these names out of those of the image, or the first that has none of them
-abbrev pub Arranges : List (List ℕ) → Image → Result Adopted AdoptFault → Type 0
-Arranges names image (Ok a) = (stranger_of names image.tables ≡ None) × (a.tables ≡ tables_of names image.tables) × (a.log_end ≡ image.log_end)
-Arranges names image (Err RegionFault) = ⊥
-Arranges names image (Err (Stranger name)) = stranger_of names image.tables ≡ Some name
-Arranges names image (Err NoMemory) = ⊤
+-- the first of these names that is none of those
+abbrev pub stranger_of : List (List ℕ) → List (List ℕ) → Option (List ℕ)
+stranger_of names others = find (λ name. not (list_any (bytes_eq name) names)) others
 
--- all but the first of that name
-abbrev pub without : List ℕ → List TableImage → List TableImage
-without name [] = []
-without name (t ∷ ts) = if is_named name t then ts else t ∷ without name ts
+-- the directory names a table that the leaf does not have, the first such; no column was looked at
+abbrev pub IsStranger : List (List ℕ) → List ℕ → List ℕ → Type 0
+IsStranger names region name = (version : ℕ) × (d : Directory) × (reads version ≡ true) × HasDirectory version region d
+    × (stranger_of names (map (λ (t : TablePlaces). t.name) d.tables) ≡ Some name)
+
+-- ---- what a look leaves of a region
+
+-- a closed one is as it was; an open one is closed, no shorter than a head
+pub record IsLeftBehind (old new : List ℕ) : Type 0 where
+  pub closed : IsClosed old → new ≡ old
+  pub opened : (version : ℕ) → head_of old ≡ head.Version version → head_of new ≡ head.Closed 0
+
+-- after a fault: as it was but for a flag that was open, or closed
+pub record IsBroken (old new : List ℕ) : Type 0 where
+  pub closed : IsClosed old → new ≡ old
+  pub either : ((drop 1 new ≡ drop 1 old) × (length new ≡ length old)) ⊎ IsClosed new
+
+pub record AdoptsFrom (old : Meaning) (p : Pair) : Type 0 where
+  pub from : Pair
+  pub was : old.leaves old.clock from
+  pub disk : p.disk ≡ from.disk
+  pub region : (p.region ≡ []) ⊎ IsBroken old.held.region p.region
+
+-- once the flag was closed every region that a crash leaves is closed, and the disk is as it was
+pub record ClosedFrom (old : Meaning) (p : Pair) : Type 0 where
+  pub from : Pair
+  pub was : old.leaves old.clock from
+  pub disk : p.disk ≡ from.disk
+  pub region : IsClosed p.region
+
+-- ---- between two steps
+
+-- where the region is cut: at the first column that was read, or at the directory
+abbrev pub cut_at : AdoptState → List ℕ → ℕ
+cut_at a region = get_or (map (λ (p : Place). p.place) (columns_of a.directory)) a.left (directory_from region)
+
+-- So much was taken of this image, whose flag was open; the region is the rest of it.
+pub record Adopting (region : List ℕ) (a : AdoptState) (now : List ℕ) : Type 0 where
+  pub reads_it : reads a.version ≡ true
+  pub has : HasDirectory a.version region a.directory
+  pub known : stranger_of a.names (map (λ (t : TablePlaces). t.name) a.directory.tables) ≡ None
+  pub len : a.image_len ≡ length region
+  pub few : a.left ≤ length (columns_of a.directory)
+  pub heap : a.heap ≡ drop a.left (map (λ (p : Place). (column_in region p).bytes) (columns_of a.directory))
+  pub rest : now ≡ take (cut_at a region) (0 ∷ drop 1 region)
+
+-- what is held and the region together are no longer than the image
+abbrev pub IsInImage : AdoptState → List ℕ → Type 0
+IsInImage a region = length (joined a.heap) + length region ≤ a.image_len
+
+-- with what was held before the step: no longer than the image, at any moment of it; the one column that the step reads comes on top
+abbrev pub IsInRoom : AdoptState → Pair → Type 0
+IsInRoom a p = length (joined a.heap) + length p.region ≤ a.image_len
+
+-- a region no longer than it was
+abbrev pub IsNoLonger : Meaning → Pair → Type 0
+IsNoLonger old p = length p.region ≤ length old.held.region
+
+-- What a look finds, and the region that it leaves.
+abbrev pub Finds : List (List ℕ) → List ℕ → List ℕ → Result Found AdoptFault → Type 0
+Finds names old new (Ok found.NoHead) = IsWhy old why.NoHead × (new ≡ old)
+Finds names old new (Ok (found.Closed flag)) = IsWhy old (why.Closed flag) × (new ≡ old)
+Finds names old new (Ok (found.OtherVersion version)) = IsWhy old (why.OtherVersion version) × IsLeftBehind old new
+Finds names old new (Ok found.NoImage) = IsWhy old why.NoImage × IsLeftBehind old new
+Finds names old new (Ok (found.Stranger name)) = IsStranger names old name × IsLeftBehind old new
+Finds names old new (Ok (found.Ready a)) = Adopting old a new × (a.names ≡ names) × (a.heap ≡ []) × IsInImage a new
+Finds names old new (Err RegionFault) = IsBroken old new
+Finds names old new (Err NoMemory) = IsLeftBehind old new
+
+-- on every berth
+abbrev pub KeepsNames : List (List ℕ) → Found → Type 0
+KeepsNames names (found.Ready a) = a.names ≡ names
+KeepsNames names found.NoHead = ⊤
+KeepsNames names (found.Closed flag) = ⊤
+KeepsNames names (found.OtherVersion version) = ⊤
+KeepsNames names found.NoImage = ⊤
+KeepsNames names (found.Stranger name) = ⊤
+
+-- at most 16 tables of distinct names among these, with parts that a table may be made of
+pub record AreDrained (names : List (List ℕ)) (tables : List DrainTable) : Type 0 where
+  pub few : length tables ≤ 16
+  pub distinct : AreDistinct (map (λ (t : DrainTable). t.name) tables)
+  pub known : AllByRecursion (λ (t : DrainTable). Contains names t.name) tables
+  pub parts : AllByRecursion (λ (t : DrainTable). IsParts t.parts) tables
+  pub writes : AllByRecursion (λ (t : DrainTable). t.parts.writes < 2 ^ 63) tables
+
+-- A step of the adoption of this image, by what it answers and the region that it leaves.
+abbrev pub AdoptsOn : List ℕ → AdoptState → List ℕ → Result AdoptStep AdoptFault → Type 0
+AdoptsOn region a new (Ok (More b)) = Adopting region b new × (suc b.left ≡ a.left) × IsInImage b new
+AdoptsOn region a new (Ok NoImage) = IsNoImage region × IsLeftBehind region new
+AdoptsOn region a new (Ok (Finished tables log_end)) = IsAdoptable region (images_of tables) log_end × IsLeftBehind region new
+AdoptsOn region a new (Err RegionFault) = IsClosed new
+AdoptsOn region a new (Err NoMemory) = IsLeftBehind region new
+
+-- on every berth
+abbrev pub AreAdopted : List (List ℕ) → Result AdoptStep AdoptFault → Type 0
+AreAdopted names (Ok (Finished tables log_end)) = AreDrained names tables × (log_end < 2 ^ 63)
+AreAdopted names (Ok (More b)) = ⊤
+AreAdopted names (Ok NoImage) = ⊤
+AreAdopted names (Err e) = ⊤
+
+-- on every berth: a step takes one column, for the same names
+abbrev pub KeepsOn : AdoptState → AdoptStep → Type 0
+KeepsOn a (More b) = (b.names ≡ a.names) × (suc b.left ≡ a.left)
+KeepsOn a NoImage = ⊤
+KeepsOn a (Finished tables log_end) = ⊤

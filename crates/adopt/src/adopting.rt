@@ -1,116 +1,176 @@
-// The tables of a leaf out of its region's image.
-ghost use Rattle.std.specs.Prelude.{◌≡◌, ◌≢◌, List, ℕ, length, take, IsTrue, IfOk, OnOk, OnErr, Err};
-ghost use Rattle.berth_face.specs.Berth.{Passes, Stays, Ended, SameDisk, Torn};
+// An adoption, one column a step.
+ghost use Rattle.std.specs.Prelude.{◌≡◌, ◌≢◌, ◌<◌, ◌≤◌, ℕ, List, length, take, IsTrue, IfOk, IfSome, Ok, Err};
+ghost use Rattle.berth_face.specs.Berth.{Meaning, Passes, Ended, SameDisk};
 ghost use Rattle.berth_face.specs.Moments.{Throughout};
-ghost use Rattle.berth_face.specs.Causes.{Rose, HasCause};
-ghost use Rattle.region_layout.specs.declared.head.Head.TheVariants.{Version};
-ghost use Rattle.leaf_model.specs.Names.{AreDistinct};
-ghost use Rattle.region_layout.specs.Region.{head_of, layout};
+ghost use Rattle.berth_face.specs.Causes.{Rose};
+ghost use Rattle.region_layout.specs.Names.{AreNames};
 ghost use Rattle.adopt.specs.declared.found.AdoptFault.TheVariants as fault;
-ghost use Rattle.adopt.specs.Found.{Adopts, AdoptsFrom, AreAdopted, closed_flag};
-ghost use Rattle.adopt.specs.Adopting.{AnswersAdoption, IsOpenRegion};
+ghost use Rattle.region_layout.specs.declared.head.Head.TheVariants.{Version};
+ghost use Rattle.region_layout.specs.Region.{IsClosed, head_of};
+ghost use Rattle.adopt.specs.Adopting.{Adopting, AdoptsFrom, AdoptsOn, AreAdopted, ClosedFrom, Finds, IsInRoom, IsNoLonger, KeepsNames, KeepsOn};
+ghost use Rattle.adopt.specs.Finding.{IsOpenRegion, TakesSpan};
 
-use crate::found::{AdoptFault, Found, WhyDisk};
-use crate::region::{read_front, read_region};
-use crate::tables::adopt_tables;
-use berth_face::{Berth, Failed};
-use leaf_model::{Names, Text};
-use region_layout::{Head, LAYOUT, read_image};
+use crate::cells::mean_cells;
+use crate::finding::find_closed;
+use crate::finishing::finished;
+use crate::found::{AdoptFault, AdoptStep, Found};
+use crate::lists::put;
+use crate::region::{close_flag, cut, read_front, read_piece};
+use crate::spans::Span;
+use crate::taken::Adopt;
+use berth_face::Berth;
+use leaf_model::Names;
+use region_layout::Head;
+use row_blocks::ColumnBytes;
 use std::alloc::Global;
 
-/// Finds the tables of the region's image, by the names of a leaf. An open flag is closed before anything else is read or changed.
-pub fn adopt<B: Berth>(alloc: Global, names: &Names, berth: &mut B) -> Result<Found, AdoptFault>
-    requires distinct { AreDistinct names.now }
-    ensures told { IsTrue (B.meaning berth.old).tells → Adopts names.now (B.meaning berth.old).held.region (B.meaning berth.new).held.region result }
-    // The disk is untouched, on every disk that a crash may leave.
+/// Reads the head. It closes an open flag before anything else is read or changed, reads the directory of an image that a start adopts, and cuts the region there.
+pub fn find<B: Berth>(alloc: Global, berth: &mut B, names: &Names) -> Result<Found, AdoptFault>
+    requires names { AreNames names.now }
+    ensures told { IsTrue (B.meaning berth.old).tells → Finds names.now (B.meaning berth.old).held.region (B.meaning berth.new).held.region result }
+    ensures ready { IfOk result (KeepsNames names.now) }
     ensures disk { IsTrue (B.meaning berth.old).tells → (B.meaning berth.new).held.disk ≡ (B.meaning berth.old).held.disk }
     ensures disks { IsTrue (B.meaning berth.old).tells → Ended SameDisk (B.meaning berth.old) (B.meaning berth.new) }
-    // What a crash leaves at each moment.
     ensures moments { IsTrue (B.meaning berth.old).tells → Throughout (AdoptsFrom (B.meaning berth.old)) (B.meaning berth.old) (B.meaning berth.new) }
-    ensures adopted { IfOk result (AreAdopted (length names.now)) }
     ensures time { Passes (B.meaning berth.old) (B.meaning berth.new) }
     ensures cause { result ≡ Err fault.RegionFault → Rose (B.meaning berth.old).region_faults (B.meaning berth.new).region_faults }
     ensures reads { (B.meaning berth.new).disk_reads ≡ (B.meaning berth.old).disk_reads }
 {
     let front = read_front(berth)?;
     match front.head {
-        Head::NoHead => Ok(Found::NoTables(WhyDisk::NoHead)),
-        Head::Closed(flag) => Ok(Found::NoTables(WhyDisk::Closed(flag))),
-        Head::Version(version) => {
-            adopt_version(alloc, names.as_slice(), version, &front.bytes, berth)
-        }
+        Head::NoHead => Ok(Found::NoHead),
+        Head::Closed(flag) => Ok(Found::Closed(flag)),
+        Head::Version(version) => find_open(alloc, names, version, &front.bytes, berth),
     }
 }
 
 /// The flag of the region is open, and these are its first bytes.
-fn adopt_version<B: Berth>(
+fn find_open<B: Berth>(
     alloc: Global,
-    names: &[Text],
+    names: &Names,
     version: u32,
     front: &[u8; 16],
     berth: &mut B,
 ) -> Result<Found, AdoptFault>
-    requires distinct { AreDistinct names.now }
-    ensures told { IsTrue (B.meaning berth.old).tells → head_of (B.meaning berth.old).held.region ≡ Version version → front.now ≡ take 16 (B.meaning berth.old).held.region → Adopts names.now (B.meaning berth.old).held.region (B.meaning berth.new).held.region result }
+    ensures told { IsTrue (B.meaning berth.old).tells → head_of (B.meaning berth.old).held.region ≡ Version version → front.now ≡ take 16 (B.meaning berth.old).held.region → Finds names.now (B.meaning berth.old).held.region (B.meaning berth.new).held.region result }
+    ensures ready { IfOk result (KeepsNames names.now) }
     ensures disk { IsTrue (B.meaning berth.old).tells → (B.meaning berth.new).held.disk ≡ (B.meaning berth.old).held.disk }
     ensures disks { IsTrue (B.meaning berth.old).tells → Ended SameDisk (B.meaning berth.old) (B.meaning berth.new) }
     ensures moments { IsTrue (B.meaning berth.old).tells → IsOpenRegion (B.meaning berth.old).held.region → Throughout (AdoptsFrom (B.meaning berth.old)) (B.meaning berth.old) (B.meaning berth.new) }
-    ensures adopted { IfOk result (AreAdopted (length names.now)) }
     ensures time { Passes (B.meaning berth.old) (B.meaning berth.new) }
     ensures cause { result ≡ Err fault.RegionFault → Rose (B.meaning berth.old).region_faults (B.meaning berth.new).region_faults }
     ensures reads { (B.meaning berth.new).disk_reads ≡ (B.meaning berth.old).disk_reads }
 {
     close_flag(berth)?;
-    if version != LAYOUT {
-        return Ok(Found::NoTables(WhyDisk::OtherVersion(version)));
-    }
-    adopt_image(alloc, names, front, berth)
+    find_closed(alloc, names, version, front, berth)
 }
 
-/// Closes the flag of the region.
-fn close_flag<B: Berth>(berth: &mut B) -> Result<(), Failed>
-    ensures ok { IsTrue (B.meaning berth.old).tells → OnOk result ((B.meaning berth.new).held.region ≡ closed_flag (B.meaning berth.old).held.region) }
-    ensures err { IsTrue (B.meaning berth.old).tells → OnErr result (Torn 0 1 (B.meaning berth.old).held.region (B.meaning berth.new).held.region) }
+impl Adopt {
+    /// Reads the last column that is left, and cuts the region there; or, where none is left, makes tables of all.
+    pub fn step<B: Berth>(self, alloc: Global, berth: &mut B) -> Result<AdoptStep, AdoptFault>
+        ensures told { (region : List ℕ) → IsTrue (B.meaning berth.old).tells → Adopting region self (B.meaning berth.old).held.region
+            → AdoptsOn region self (B.meaning berth.new).held.region result }
+        ensures adopted { AreAdopted self.names result }
+        ensures kept { IfOk result (KeepsOn self) }
+        ensures disk { IsTrue (B.meaning berth.old).tells → (B.meaning berth.new).held.disk ≡ (B.meaning berth.old).held.disk }
+        ensures disks { IsTrue (B.meaning berth.old).tells → Ended SameDisk (B.meaning berth.old) (B.meaning berth.new) }
+        ensures moments { IsTrue (B.meaning berth.old).tells → IsClosed (B.meaning berth.old).held.region
+            → Throughout (ClosedFrom (B.meaning berth.old)) (B.meaning berth.old) (B.meaning berth.new) }
+        ensures inside { (region : List ℕ) → IsTrue (B.meaning berth.old).tells → Adopting region self (B.meaning berth.old).held.region
+            → Throughout (IsInRoom self) (B.meaning berth.old) (B.meaning berth.new) }
+        ensures time { Passes (B.meaning berth.old) (B.meaning berth.new) }
+        ensures cause { result ≡ Err fault.RegionFault → Rose (B.meaning berth.old).region_faults (B.meaning berth.new).region_faults }
+        ensures reads { (B.meaning berth.new).disk_reads ≡ (B.meaning berth.old).disk_reads }
+    {
+        if self.left.is_empty() {
+            return self.finish(alloc);
+        }
+        self.take_column(alloc, berth)
+    }
+
+    /// Makes tables of all columns.
+    fn finish(self, alloc: Global) -> Result<AdoptStep, AdoptFault>
+        requires none { self.left ≡ 0 }
+        ensures told { (region now : List ℕ) → Adopting region self now → AdoptsOn region self now result }
+        ensures adopted { AreAdopted self.names result }
+        ensures kept { IfOk result (KeepsOn self) }
+        ensures no_fault { result ≢ Err fault.RegionFault }
+    {
+        let mut columns = self.taken;
+        columns.reverse();
+        finished(alloc, self.directory, columns)
+    }
+
+    /// Takes the last column that is left.
+    fn take_column<B: Berth>(self, alloc: Global, berth: &mut B) -> Result<AdoptStep, AdoptFault>
+        requires some { 0 < self.left }
+        ensures told { (region : List ℕ) → IsTrue (B.meaning berth.old).tells → Adopting region self (B.meaning berth.old).held.region
+            → AdoptsOn region self (B.meaning berth.new).held.region result }
+        ensures adopted { AreAdopted self.names result }
+        ensures kept { IfOk result (KeepsOn self) }
+        ensures disk { IsTrue (B.meaning berth.old).tells → (B.meaning berth.new).held.disk ≡ (B.meaning berth.old).held.disk }
+        ensures disks { IsTrue (B.meaning berth.old).tells → Ended SameDisk (B.meaning berth.old) (B.meaning berth.new) }
+        ensures moments { IsTrue (B.meaning berth.old).tells → IsClosed (B.meaning berth.old).held.region
+            → Throughout (ClosedFrom (B.meaning berth.old)) (B.meaning berth.old) (B.meaning berth.new) }
+        ensures inside { (region : List ℕ) → IsTrue (B.meaning berth.old).tells → Adopting region self (B.meaning berth.old).held.region
+            → Throughout (IsInRoom self) (B.meaning berth.old) (B.meaning berth.new) }
+        ensures time { Passes (B.meaning berth.old) (B.meaning berth.new) }
+        ensures cause { result ≡ Err fault.RegionFault → Rose (B.meaning berth.old).region_faults (B.meaning berth.new).region_faults }
+        ensures reads { (B.meaning berth.new).disk_reads ≡ (B.meaning berth.old).disk_reads }
+    {
+        let Adopt {
+            names,
+            version,
+            image_len,
+            directory,
+            place,
+            mut left,
+            mut taken,
+            held,
+        } = self;
+        let Some(span) = left.pop() else {
+            unreachable!();
+        };
+        let Some(column) = take_span(alloc, span, berth)? else {
+            return Ok(AdoptStep::NoImage);
+        };
+        let held = held + column.as_slice().len() as u64;
+        put(column, &mut taken)?;
+        Ok(AdoptStep::More(Adopt {
+            names,
+            version,
+            image_len,
+            directory,
+            place,
+            left,
+            taken,
+            held,
+        }))
+    }
+}
+
+/// Reads a column, and cuts the region where it stood; or None, where it means no cells.
+fn take_span<B: Berth>(
+    alloc: Global,
+    span: Span,
+    berth: &mut B,
+) -> Result<Option<ColumnBytes>, AdoptFault>
+    ensures size { IfOk result (λ found. IfSome found (λ bytes. length bytes ≤ span.length)) }
+    ensures told { IsTrue (B.meaning berth.old).tells → IsClosed (B.meaning berth.old).held.region
+        → TakesSpan span (B.meaning berth.old).held.region (B.meaning berth.new).held.region result }
     ensures disk { IsTrue (B.meaning berth.old).tells → (B.meaning berth.new).held.disk ≡ (B.meaning berth.old).held.disk }
     ensures disks { IsTrue (B.meaning berth.old).tells → Ended SameDisk (B.meaning berth.old) (B.meaning berth.new) }
-    ensures moments { IsTrue (B.meaning berth.old).tells → IsOpenRegion (B.meaning berth.old).held.region → Throughout (AdoptsFrom (B.meaning berth.old)) (B.meaning berth.old) (B.meaning berth.new) }
-    ensures time { Passes (B.meaning berth.old) (B.meaning berth.new) }
-    ensures cause { HasCause (B.meaning berth.old).region_faults (B.meaning berth.new).region_faults result }
-    ensures reads { (B.meaning berth.new).disk_reads ≡ (B.meaning berth.old).disk_reads }
-{
-    berth.region_write(0, &[0])
-}
-
-/// The flag was closed, and these are the first bytes as they were before.
-fn adopt_image<B: Berth>(
-    alloc: Global,
-    names: &[Text],
-    front: &[u8; 16],
-    berth: &mut B,
-) -> Result<Found, AdoptFault>
-    requires distinct { AreDistinct names.now }
-    ensures told { (region : List ℕ) → IsTrue (B.meaning berth.old).tells → (B.meaning berth.old).held.region ≡ closed_flag region → head_of region ≡ Version layout → front.now ≡ take 16 region → AnswersAdoption names.now region result }
-    ensures held { IsTrue (B.meaning berth.old).tells → (B.meaning berth.new).held ≡ (B.meaning berth.old).held }
-    ensures disks { IsTrue (B.meaning berth.old).tells → Ended SameDisk (B.meaning berth.old) (B.meaning berth.new) }
-    ensures stays { IsTrue (B.meaning berth.old).tells → Stays (B.meaning berth.old) (B.meaning berth.new) }
-    ensures adopted { IfOk result (AreAdopted (length names.now)) }
+    ensures moments { IsTrue (B.meaning berth.old).tells → IsClosed (B.meaning berth.old).held.region
+        → Throughout (ClosedFrom (B.meaning berth.old)) (B.meaning berth.old) (B.meaning berth.new) }
+    ensures inside { IsTrue (B.meaning berth.old).tells → Throughout (IsNoLonger (B.meaning berth.old)) (B.meaning berth.old) (B.meaning berth.new) }
     ensures time { Passes (B.meaning berth.old) (B.meaning berth.new) }
     ensures cause { result ≡ Err fault.RegionFault → Rose (B.meaning berth.old).region_faults (B.meaning berth.new).region_faults }
     ensures reads { (B.meaning berth.new).disk_reads ≡ (B.meaning berth.old).disk_reads }
 {
-    let bytes = read_region(alloc, front, berth)?;
-    found_in(alloc, names, &bytes)
-}
-
-/// What these bytes, whose flag is open, have of tables.
-fn found_in(alloc: Global, names: &[Text], bytes: &[u8]) -> Result<Found, AdoptFault>
-    requires distinct { AreDistinct names.now }
-    ensures answer { head_of bytes.now ≡ Version layout → AnswersAdoption names.now bytes.now result }
-    ensures adopted { IfOk result (AreAdopted (length names.now)) }
-    ensures no_fault { result ≢ Err fault.RegionFault }
-{
-    match read_image(alloc, bytes)? {
-        Some(image) => Ok(Found::Tables(adopt_tables(alloc, names, image)?)),
-        None => Ok(Found::NoTables(WhyDisk::NoImage)),
+    let column = read_piece(alloc, span.place, span.length, berth)?;
+    if !mean_cells(&column, span.rows) {
+        return Ok(None);
     }
+    cut(span.place, berth)?;
+    Ok(Some(ColumnBytes::of(column)))
 }

@@ -1,46 +1,18 @@
-// What a look at the region finds.
+// What a look at a region finds, and what a step of an adoption comes to.
 ghost use Rattle.std.specs.Prelude.{◌≡◌};
 ghost use Rattle.adopt.specs.declared.found.AdoptFault.TheVariants.{RegionFault, NoMemory};
 
+use crate::taken::Adopt;
 use berth_face::Failed;
 use leaf_model::Text;
+use region_directory::DrainTables;
 use std::alloc::AllocError;
 use table_state::Tables;
 
-/// Why the region is no image of tables.
+/// Why an adoption is given up: the region refused a call, or there is no memory.
 #[derive(Clone, Copy, Debug, PartialEq, Eq)]
-pub enum WhyDisk {
-    /// It is shorter than a head.
-    NoHead,
-    /// Its flag is this byte, which is not 1.
-    Closed(u8),
-    /// Its image has this other version.
-    OtherVersion(u32),
-    /// It is no image.
-    NoImage,
-}
-
-/// One table for each name, in their order; a table that the image does not name is empty. And where the log ends.
-#[derive(Drop)]
-pub struct Adopted {
-    pub tables: Tables,
-    pub log_end: u64,
-}
-
-/// What a region has of tables.
-#[derive(Drop)]
-pub enum Found {
-    NoTables(WhyDisk),
-    Tables(Adopted),
-}
-
-/// Why nothing was adopted.
-#[derive(Debug, Drop)]
 pub enum AdoptFault {
-    /// A call on the region failed.
     RegionFault,
-    /// The image has a table of this name, which was not asked for.
-    Stranger(Text),
     NoMemory,
 }
 
@@ -58,4 +30,70 @@ impl From<AllocError> for AdoptFault {
     fn from(_e: AllocError) -> AdoptFault {
         AdoptFault::NoMemory
     }
+}
+
+/// What a look at the region finds.
+#[derive(Drop)]
+pub enum Found {
+    /// It is shorter than a head.
+    NoHead,
+    /// Its flag is this byte, which is not 1.
+    Closed(u8),
+    /// Its image has this version, which is not read.
+    OtherVersion(u32),
+    /// It is no image.
+    NoImage,
+    /// The image has a table of this name, which was not asked for; it is the first such.
+    Stranger(Text),
+    /// It has the directory of an image, whose columns are still to be taken.
+    Ready(Adopt),
+}
+
+/// What a step comes to.
+#[derive(Drop)]
+pub enum AdoptStep {
+    /// A column was taken, and this is left.
+    More(Adopt),
+    /// The columns mean no tables, so the region is no image.
+    NoImage,
+    /// All columns were taken: the tables that they make, and where the log ends.
+    Finished { tables: DrainTables, log_end: u64 },
+}
+
+/// Why a leaf reads its disk.
+#[derive(Clone, Copy, Debug, PartialEq, Eq)]
+pub enum WhyDisk {
+    /// The region is shorter than a head.
+    NoHead,
+    /// Its flag is this byte, which is not 1.
+    Closed(u8),
+    /// Its image has this version, which is not read.
+    OtherVersion(u32),
+    /// It is no image.
+    NoImage,
+}
+
+/// The tables of an image, and where the log ends.
+#[derive(Drop)]
+pub struct Drained {
+    pub tables: DrainTables,
+    pub log_end: u64,
+}
+
+/// One table for each name, in their order; a table that the image does not name is empty. And where the log ends.
+#[derive(Drop)]
+pub struct Adopted {
+    pub tables: Tables,
+    pub log_end: u64,
+}
+
+/// What an adoption of all columns comes to.
+#[derive(Drop)]
+pub enum Adoption {
+    /// The region has no tables, for this reason.
+    NoTables(WhyDisk),
+    /// The image has a table of this name, which was not asked for; no column was read.
+    Stranger(Text),
+    /// The tables of the leaf.
+    Tables(Adopted),
 }

@@ -1,10 +1,21 @@
-//! How a leaf comes to the tables that its region hands over.
+//! How the columns of a region are taken back one by one, each cut off the region once it was read.
 #![tactic(auto)]
 
 mod adopting;
+mod cells;
+mod finding;
+mod finishing;
 mod found;
+mod lists;
+mod looked;
 mod region;
+mod spans;
+mod starting;
+mod strangers;
 mod tables;
+mod taken;
 
-pub use adopting::adopt;
-pub use found::{AdoptFault, Adopted, Found, WhyDisk};
+pub use adopting::find;
+pub use found::{AdoptFault, AdoptStep, Adopted, Adoption, Found, WhyDisk};
+pub use starting::adopt;
+pub use taken::Adopt;

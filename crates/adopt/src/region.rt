@@ -1,10 +1,12 @@
-// The bytes of a region: the first ones, and then all.
-ghost use Rattle.std.specs.Prelude.{◌≡◌, ◌+◌, ◌-◌, ◌≤◌, ◌++◌, length, min, take, drop, IfOk, IfErr, IsTrue, vec_len, Err};
+// The calls on a region.
+ghost use Rattle.std.specs.Prelude.{◌≡◌, ◌≤◌, length, take, drop, IfOk, OnOk, OnErr, IsTrue, Err, vec_len};
 ghost use Rattle.berth_face.specs.Causes.{Rose, HasCause};
-ghost use Rattle.berth_face.specs.Berth.{Passes, Stays, Ended, SameDisk};
-ghost use Rattle.region_layout.specs.Region.{head_of};
+ghost use Rattle.berth_face.specs.Berth.{Passes, Stays, Ended, SameDisk, Torn};
+ghost use Rattle.berth_face.specs.Moments.{Throughout};
+ghost use Rattle.region_layout.specs.Region.{IsClosed, head_of};
 ghost use Rattle.adopt.specs.declared.found.AdoptFault.TheVariants as fault;
-ghost use Rattle.adopt.specs.Adopting.{NamesNobody};
+ghost use Rattle.adopt.specs.Adopting.{AdoptsFrom, ClosedFrom, IsNoLonger};
+ghost use Rattle.adopt.specs.Finding.{IsOpenRegion, closed_flag};
 
 use crate::found::AdoptFault;
 use berth_face::{Berth, Failed};
@@ -37,27 +39,40 @@ pub fn read_front<B: Berth>(berth: &mut B) -> Result<Front, Failed>
     })
 }
 
-/// All bytes of the region, whose first ones are given.
-#[tactic(auto, using(crate::proofs::Ending::ended_stay, crate::proofs::Ending::ended_on, crate::proofs::Ending::stays_on))]
-pub fn read_region<B: Berth>(
+/// Closes the flag of the region.
+pub fn close_flag<B: Berth>(berth: &mut B) -> Result<(), Failed>
+    ensures ok { IsTrue (B.meaning berth.old).tells → OnOk result ((B.meaning berth.new).held.region ≡ closed_flag (B.meaning berth.old).held.region) }
+    ensures err { IsTrue (B.meaning berth.old).tells → OnErr result (Torn 0 1 (B.meaning berth.old).held.region (B.meaning berth.new).held.region) }
+    ensures disk { IsTrue (B.meaning berth.old).tells → (B.meaning berth.new).held.disk ≡ (B.meaning berth.old).held.disk }
+    ensures disks { IsTrue (B.meaning berth.old).tells → Ended SameDisk (B.meaning berth.old) (B.meaning berth.new) }
+    ensures moments { IsTrue (B.meaning berth.old).tells → IsOpenRegion (B.meaning berth.old).held.region → Throughout (AdoptsFrom (B.meaning berth.old)) (B.meaning berth.old) (B.meaning berth.new) }
+    ensures time { Passes (B.meaning berth.old) (B.meaning berth.new) }
+    ensures cause { HasCause (B.meaning berth.old).region_faults (B.meaning berth.new).region_faults result }
+    ensures reads { (B.meaning berth.new).disk_reads ≡ (B.meaning berth.old).disk_reads }
+{
+    berth.region_write(0, &[0])
+}
+
+/// So many bytes from a place on, and fewer where the region ends.
+#[tactic(auto, using(crate::proofs::Ending::ended_stay))]
+pub fn read_piece<B: Berth>(
     alloc: Global,
-    front: &[u8; 16],
+    at: u64,
+    count: u64,
     berth: &mut B,
 ) -> Result<Vec<u8>, AdoptFault>
-    ensures told { IsTrue (B.meaning berth.old).tells → 16 ≤ length (B.meaning berth.old).held.region → IfOk result (λ bytes. bytes.items ≡ front.now ++ drop 16 (B.meaning berth.old).held.region) }
+    ensures size { IfOk result (λ bytes. length bytes.items ≤ count) }
+    ensures told { IsTrue (B.meaning berth.old).tells → IfOk result (λ bytes. bytes.items ≡ take count (drop at (B.meaning berth.old).held.region)) }
     ensures held { IsTrue (B.meaning berth.old).tells → (B.meaning berth.new).held ≡ (B.meaning berth.old).held }
     ensures disks { IsTrue (B.meaning berth.old).tells → Ended SameDisk (B.meaning berth.old) (B.meaning berth.new) }
     ensures stays { IsTrue (B.meaning berth.old).tells → Stays (B.meaning berth.old) (B.meaning berth.new) }
-    ensures nobody { IfErr result NamesNobody }
     ensures time { Passes (B.meaning berth.old) (B.meaning berth.new) }
     ensures cause { result ≡ Err fault.RegionFault → Rose (B.meaning berth.old).region_faults (B.meaning berth.new).region_faults }
     ensures reads { (B.meaning berth.new).disk_reads ≡ (B.meaning berth.old).disk_reads }
 {
-    // A berth that keeps its bytes still has those that were given.
-    let len = berth.region_len()?.max(16);
-    let mut bytes = zeros(alloc, len as usize)?;
-    let n = read_behind(front, berth, &mut bytes)?;
-    bytes.truncate(16 + n);
+    let mut bytes = zeros(alloc, count as usize)?;
+    let n = berth.region_read(at, &mut bytes)?;
+    bytes.truncate(n);
     Ok(bytes)
 }
 
@@ -67,21 +82,17 @@ fn zeros(alloc: Global, len: usize) -> Result<Vec<u8>, AllocError>
     vec![in alloc; 0u8; len]
 }
 
-/// Fills the room with the first bytes and those behind them, and answers how many of the latter there are.
-#[tactic(auto, using(crate::proofs::Ending::ended_stay))]
-fn read_behind<B: Berth>(front: &[u8; 16], berth: &mut B, room: &mut [u8]) -> Result<usize, Failed>
-    requires { 16 ≤ length room.old }
-    ensures size { length room.new ≡ length room.old }
-    ensures bound { IfOk result (λ n. 16 + n ≤ length room.old) }
-    ensures told { IsTrue (B.meaning berth.old).tells → IfOk result (λ n. (n ≡ min (length room.old - 16) (length (B.meaning berth.old).held.region - 16)) × (take (16 + n) room.new ≡ front.now ++ take n (drop 16 (B.meaning berth.old).held.region))) }
-    ensures held { IsTrue (B.meaning berth.old).tells → (B.meaning berth.new).held ≡ (B.meaning berth.old).held }
+/// Cuts a region whose flag is closed.
+pub fn cut<B: Berth>(at: u64, berth: &mut B) -> Result<(), Failed>
+    ensures ok { IsTrue (B.meaning berth.old).tells → OnOk result ((B.meaning berth.new).held.region ≡ take at (B.meaning berth.old).held.region) }
+    ensures err { IsTrue (B.meaning berth.old).tells → IsClosed (B.meaning berth.old).held.region → OnErr result (IsClosed (B.meaning berth.new).held.region) }
+    ensures disk { IsTrue (B.meaning berth.old).tells → (B.meaning berth.new).held.disk ≡ (B.meaning berth.old).held.disk }
     ensures disks { IsTrue (B.meaning berth.old).tells → Ended SameDisk (B.meaning berth.old) (B.meaning berth.new) }
-    ensures stays { IsTrue (B.meaning berth.old).tells → Stays (B.meaning berth.old) (B.meaning berth.new) }
+    ensures moments { IsTrue (B.meaning berth.old).tells → IsClosed (B.meaning berth.old).held.region → Throughout (ClosedFrom (B.meaning berth.old)) (B.meaning berth.old) (B.meaning berth.new) }
+    ensures inside { IsTrue (B.meaning berth.old).tells → Throughout (IsNoLonger (B.meaning berth.old)) (B.meaning berth.old) (B.meaning berth.new) }
     ensures time { Passes (B.meaning berth.old) (B.meaning berth.new) }
     ensures cause { HasCause (B.meaning berth.old).region_faults (B.meaning berth.new).region_faults result }
     ensures reads { (B.meaning berth.new).disk_reads ≡ (B.meaning berth.old).disk_reads }
 {
-    let (head, rest) = room.split_at_mut(16);
-    head.copy_from_slice(front);
-    berth.region_read(16, rest)
+    berth.region_cut(at)
 }

@@ -1,10 +1,8 @@
-//! Tests of blocks of rows, of the masks and cuts that take rows away from them, and of how a table's rows stand in blocks and a tail.
+//! Tests of blocks of rows, and of how a table's rows stand in blocks and a tail.
 #![tactic(auto)]
 
 #[cfg(test)]
 mod blocks;
-#[cfg(test)]
-mod masks;
 #[cfg(test)]
 mod rows;
 #[cfg(test)]

@@ -1,10 +1,6 @@
-//! Tests of the public calls of `bit_columns`, `delta_codes`, `column_bytes` and `region_directory`.
+//! Tests of the public calls of `column_bytes`.
 #![tactic(auto)]
 
-#[cfg(test)]
-mod codes;
-#[cfg(test)]
-mod directories;
 #[cfg(test)]
 mod encoding;
 #[cfg(test)]

@@ -3,7 +3,8 @@ use Rattle.std.proofs.Common.{◌≡◌, ◌≢◌, ◌⊎◌, inl, inr, ◌∙�
 use Rattle.leaf_model.specs.declared.writes.Write.{Write}
 use Rattle.berth_face.specs.Berth.{Meaning}
 use Rattle.table_state.specs.Tables.{Table}
-use Rattle.region_layout.specs.Region.{IsClosed, IsImage, layout}
+use Rattle.region_layout.specs.Region.{IsClosed}
+use Rattle.region_directory.specs.Region.{IsAdoptable}
 use Rattle.region_layout.specs.Images.{images_of}
 use Rattle.disk_backup.specs.State.{LogState}
 use Rattle.drain_copy.specs.declared.step.Next.TheVariants as next
@@ -56,7 +57,7 @@ step_more ws drain drain' writes a b copies stepped before same draining = recor
   stands = stepped.stands;
   images = copies.images;
   log_end = copies.log_end;
-  image = subst (λ (image : List ℕ). IsImage layout image copies.images copies.log_end) (sym same) copies.image;
+  image = subst (λ (image : List ℕ). IsAdoptable image copies.images copies.log_end) (sym same) copies.image;
   same = copies.same;
   logs = step_logs ws drain writes a b copies stepped;
   draining = draining;

@@ -12,7 +12,7 @@ use Rattle.leaf_history.specs.History.{HistoryState}
 use Rattle.berth_face.specs.Berth.{Meaning}
 use Rattle.berth_face.specs.Moments.{EachNow}
 use Rattle.table_state.specs.Tables.{Table}
-use Rattle.region_layout.specs.declared.image.TableImage.{TableImage}
+use Rattle.region_layout.specs.Images.{TableImage}
 use Rattle.region_layout.specs.Images.{images_of, image_of, table_named, empty_image, is_named}
 use Rattle.disk_backup.specs.State.{LogState}
 use Rattle.disk_backup.specs.Settling.{HasLog, HoldsOwing, with_writes}
@@ -88,7 +88,7 @@ module _ (ws : List Watched) (owner : ℕ) (tables : List Table) (log : LogState
 
   -- nothing of it is in the region yet
   pub planned_draining : Draining drain m.held.region
-  planned_draining = subst (λ (n : Next). StandsAt n drain.image m.held.region) (sym plan.begins) tt
+  planned_draining = subst (λ (n : Next). StandsAt n drain.image drain.heap m.held.region) (sym plan.begins) tt
 
   pub planned_each : (place : ℕ) (w : Watched) → slice_get ws place ≡ Some w → IsTreated (writes w.name) (now_of w)
   planned_each place w at =

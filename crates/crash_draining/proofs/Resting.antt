@@ -6,9 +6,10 @@ use Rattle.leaf_model.specs.declared.writes.Write.{Write}
 use Rattle.leaf_history.specs.History.{HistoryState, no_base}
 use Rattle.berth_face.specs.Berth.{Meaning}
 use Rattle.berth_face.specs.Moments.{EachNow}
-use Rattle.region_layout.specs.declared.image.TableImage.{TableImage}
+use Rattle.region_layout.specs.Images.{TableImage}
 use Rattle.region_layout.specs.Images.{table_named}
-use Rattle.region_layout.specs.Region.{IsClosed, IsImage, layout}
+use Rattle.region_layout.specs.Region.{IsClosed}
+use Rattle.region_directory.specs.Region.{IsAdoptable}
 use Rattle.disk_backup.specs.Logs.{open_records}
 use Rattle.disk_backup.specs.Settling.{HasLog}
 use Rattle.region_layout.specs.ImageWrites.{AreImagesOf, IsImageOf}
@@ -44,9 +45,9 @@ has_kept writes s has =
 
 -- ---- the region
 
-pub closed_or_image : (image region : List ℕ) (images : List TableImage) (log_end : ℕ) → IsImage layout image images log_end → IsClosed region ⊎ (region ≡ image) → IsClosed region ⊎ IsImage layout region images log_end
+pub closed_or_image : (image region : List ℕ) (images : List TableImage) (log_end : ℕ) → IsAdoptable image images log_end → IsClosed region ⊎ (region ≡ image) → IsClosed region ⊎ IsAdoptable region images log_end
 closed_or_image image region images log_end is (inl closed) = inl closed
-closed_or_image image region images log_end is (inr whole) = inr (subst (λ (bytes : List ℕ). IsImage layout bytes images log_end) (sym whole) is)
+closed_or_image image region images log_end is (inr whole) = inr (subst (λ (bytes : List ℕ). IsAdoptable bytes images log_end) (sym whole) is)
 
 -- ---- the leaf
 
@@ -61,7 +62,7 @@ pub record Ends (ws : List Watched) (writes : List ℕ → List Write) (m : Mean
   pub logs : EachNow (λ p. HasLog writes log_end p.disk) m
   pub each : (place : ℕ) (w : Watched) → slice_get ws place ≡ Some w → HasAll (writes w.name) (now_of w)
   pub others : (name : List ℕ) → is_watched ws name ≡ false → writes name ≡ []
-  pub region : IsClosed m.held.region ⊎ IsImage layout m.held.region images log_end
+  pub region : IsClosed m.held.region ⊎ IsAdoptable m.held.region images log_end
 
 module _ (ws : List Watched) (writes : List ℕ → List Write) (m : Meaning) (ends : Ends ws writes m) where
   short : (name : List ℕ) → IsShort (writes name)
@@ -105,7 +106,7 @@ module _ (ws : List Watched) (writes : List ℕ → List Write) (m : Meaning) (e
           (had.0, had.1, λ name. had.2 name ∙ sym (has_all name).whole);
     }
 
-    region : IsClosed m.held.region ⊎ IsImage layout m.held.region ends.images ends.log_end → RegionRests tables m
+    region : IsClosed m.held.region ⊎ IsAdoptable m.held.region ends.images ends.log_end → RegionRests tables m
     region (inl closed) = is_closed closed
     region (inr is) = is_image ends.images ends.log_end is whole
 

@@ -4,7 +4,8 @@ use Rattle.std.specs.List.{AllByRecursion}
 use Rattle.leaf_model.specs.declared.writes.Write.{Write}
 use Rattle.berth_face.specs.Berth.{Pair, Meaning}
 use Rattle.berth_face.specs.Moments.{EachNow}
-use Rattle.region_layout.specs.Region.{IsClosed, reads}
+use Rattle.region_layout.specs.Region.{IsClosed}
+use Rattle.region_directory.specs.Region.{reads}
 use Rattle.disk_backup.specs.Settling.{HasLog}
 use Rattle.drain_copy.specs.declared.step.Next.TheVariants as next
 use Rattle.drain_copy.specs.Draining.{DrainState, DrainsFrom, AllClosed}
@@ -47,7 +48,7 @@ module _ (ws : List Watched) (others : NamedStates) (drain : DrainState) (writes
   -- a pair with the log and a closed region is of a copy that was not begun
   closed_left : IsClosed p.region → Left reads (tables_then others a.clock ws) p
   closed_left closed =
-      let begun : DrainState = record { image = drain.image; next = next.Begin } in
+      let begun : DrainState = record { image = drain.image; next = next.Begin; heap = drain.heap } in
       let still : Copies ws begun writes (just a.clock p) = record {
         watched = copies.watched;
         opened = copies.opened;

@@ -4,7 +4,7 @@ use Rattle.leaf_model.specs.declared.writes.Write.{Write}
 use Rattle.berth_face.specs.Berth.{Meaning, Passes}
 use Rattle.berth_face.specs.Moments.{Throughout}
 use Rattle.table_state.specs.Tables.{Table}
-use Rattle.region_layout.specs.Region.{IsImage, layout}
+use Rattle.region_directory.specs.Region.{IsAdoptable}
 use Rattle.region_layout.specs.Images.{images_of}
 use Rattle.disk_backup.specs.State.{LogState}
 use Rattle.drain_copy.specs.declared.step.Next.TheVariants as next
@@ -23,7 +23,7 @@ pub record AreTaken (ws : List Watched) (tables : List Table) : Type 0 where
 
 -- the copy of these tables, of which nothing is in the region yet
 pub record IsPlanned (ws : List Watched) (tables : List Table) (log : LogState) (drain : DrainState) : Type 0 where
-  pub image : IsImage layout drain.image (images_of (map (λ (w : Watched). w.name) ws) tables) log.end
+  pub image : IsAdoptable drain.image (images_of (map (λ (w : Watched). w.name) ws) tables) log.end
   pub begins : drain.next ≡ next.Begin
 
 -- a step of the drain, whatever comes of it

@@ -6,7 +6,7 @@ use Rattle.berth_face.specs.Berth.{Pair, Meaning}
 use Rattle.leaf_model.specs.declared.writes.Write.{Write}
 use Rattle.leaf_model.specs.Content.{content}
 use Rattle.leaf_history.specs.History.{no_base}
-use Rattle.region_layout.proofs.Heads.{closed_head, image_head}
+use Rattle.region_layout.proofs.Heads.{closed_head}
 use Rattle.row_records.specs.Records.{LogRecord}
 use Rattle.disk_backup.specs.Logs.{IsLog, is_short, is_gated, writes_of}
 use Rattle.crash_moments.specs.Left.{NamedStates, Left, closed}
@@ -67,6 +67,6 @@ empty_is_ready reads = record {
     left = λ p is. subst (Left reads no_tables) (sym is) (empty_left reads);
     one_open = inl (λ name p q u v is is' has has'. none_there p name u is has ∙ sym (none_there q name v is' has'));
     empty = λ e p is. subst (λ (q : Pair). length q.disk ≤ 1) (sym is) (lit≤ tt);
-    image = λ version images end may is. absurd (closed_head [] (inl (lit< tt)) version (image_head [] images version end is));
+    image = λ version images end may is. absurd (closed_head [] (inl (lit< tt)) version is.has.head);
   };
 }

@@ -9,10 +9,11 @@ use Rattle.leaf_model.specs.declared.writes.Write.{Write}
 use Rattle.leaf_model.specs.Content.{content}
 use Rattle.leaf_history.specs.History.{HistoryState, base_of, no_base}
 use Rattle.region_layout.specs.declared.head.Head.TheVariants.{Version}
-use Rattle.region_layout.specs.declared.image.TableImage.{TableImage}
+use Rattle.region_layout.specs.Images.{TableImage}
 use Rattle.leaf_model.specs.Names.{AreDistinct}
-use Rattle.region_layout.specs.Region.{IsImage, head_of}
-use Rattle.region_layout.proofs.Heads.{closed_head, image_head}
+use Rattle.region_layout.specs.Region.{head_of}
+use Rattle.region_directory.specs.Region.{IsImage}
+use Rattle.region_layout.proofs.Heads.{closed_head}
 use Rattle.row_records.specs.Records.{LogRecord}
 use Rattle.disk_backup.specs.Logs.{writes_of}
 use Rattle.crash_moments.specs.Left.{NamedStates, Left, ImageOf, RegionLeft, closed, other_version, image}
@@ -109,7 +110,7 @@ one_version v w e = cc
 -- the same bytes are no image that is read and of a version that is not
 no_other : {A : Type 0} (reads : ℕ → Bool) (region : List ℕ) (v w : ℕ) (images : List TableImage) (end : ℕ) → reads v ≡ true → IsImage v region images end → head_of region ≡ Version w → reads w ≡ false → A
 no_other reads region v w images end may is head not =
-    let same : v ≡ w = one_version v w (sym (image_head region images v end is) ∙ head) in
+    let same : v ≡ w = one_version v w (sym is.has.head ∙ head) in
     both (reads w) not (subst (λ n. reads n ≡ true) same may)
 
 region_fits : (reads : ℕ → Bool) (base tables : NamedStates) (p : Pair) (records : List LogRecord) (end : ℕ) (r : RegionIs) → ((name : List ℕ) → tables name ≡ base name)
@@ -117,7 +118,7 @@ region_fits : (reads : ℕ → Bool) (base tables : NamedStates) (p : Pair) (rec
 region_fits reads base tables p records end Closed same (reads_closed is) left = shows_closed refl is
 region_fits reads base tables p records end Other same (reads_other v head not) left = shows_other v head not
 region_fits reads base tables p records end Either same shows left = elim shows [ ]
-region_fits reads base tables p records end Whole same (reads_whole v images e may is) (closed shut) = absurd (closed_head p.region shut v (image_head p.region images v e is))
+region_fits reads base tables p records end Whole same (reads_whole v images e may is) (closed shut) = absurd (closed_head p.region shut v is.has.head)
 region_fits reads base tables p records end Whole same (reads_whole v images e may is) (other_version w head not) = no_other reads p.region v w images e may is head not
 region_fits reads base tables p records end Whole same (reads_whole v images e may is) (image w all may' is' of whole gate) = shows_whole w all may' is' (image_of base tables all same of) gate
 

@@ -5,8 +5,9 @@ use Rattle.berth_face.specs.Berth.{Pair}
 use Rattle.leaf_model.specs.Content.{content}
 use Rattle.leaf_history.specs.History.{HistoryState}
 use Rattle.region_layout.specs.declared.head.Head.TheVariants.{Version}
-use Rattle.region_layout.specs.declared.image.TableImage.{TableImage}
-use Rattle.region_layout.specs.Region.{IsClosed, IsImage, head_of}
+use Rattle.region_layout.specs.Images.{TableImage}
+use Rattle.region_layout.specs.Region.{IsClosed, head_of}
+use Rattle.region_directory.specs.Region.{IsImage}
 use Rattle.row_records.specs.Records.{LogRecord}
 use Rattle.disk_backup.specs.Logs.{IsLog, IsBounded, writes_of}
 

@@ -1,6 +1,6 @@
 -- What a call of a leaf tells of a crash at any moment of it.
 use Rattle.std.specs.Prelude.{◌≡◌, ℕ, ◌≤◌, ◌==◌, Bool, List, [], ◌∷◌, ◌++◌, ⊤}
-use Rattle.region_layout.specs.Region.{reads}
+use Rattle.region_directory.specs.Region.{reads}
 use Rattle.berth_face.specs.Berth.{Pair, Meaning, Passes}
 use Rattle.leaf_history.specs.History.{Entry}
 use Rattle.crash_moments.specs.Left.{NamedStates, Left}

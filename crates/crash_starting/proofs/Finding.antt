@@ -1,5 +1,6 @@
 -- What a leaf that rests finds when it opens: the writes of each table, which it may be opened with.
 use Rattle.std.proofs.Common.{◌≡◌, inl, inr, ◌∙◌, ℕ, ◌≤◌, false, List, [], map, length, Option, None, refl, sym, ap, subst, arith}
+use Rattle.std.proofs.lemmas.Bool.{false≢true}
 use Rattle.std.proofs.lemmas.List.{length-append, length-take, take_all}
 use Rattle.leaf_model.specs.declared.writes.Write.{Write}
 use Rattle.leaf_model.specs.Content.{content}
@@ -8,15 +9,13 @@ use Rattle.berth_face.specs.Berth.{Meaning, Passes, Ended, SameDisk}
 use Rattle.berth_face.specs.Moments.{EachNow}
 use Rattle.table_state.specs.Tables.{Table}
 use Rattle.region_layout.specs.declared.head.Head.TheVariants.{Version}
-use Rattle.region_layout.specs.declared.image.Image.{Image}
-use Rattle.region_layout.specs.declared.image.TableImage.{TableImage}
-use Rattle.region_layout.specs.Images.{table_of, table_named}
+use Rattle.region_layout.specs.Images.{TableImage, table_of, table_named}
 use Rattle.region_layout.specs.Images as image
-use Rattle.region_layout.specs.Region.{IsClosed, IsImage, layout}
-use Rattle.region_layout.proofs.Heads.{image_head}
-use Rattle.region_layout.proofs.Images.{one_image}
+use Rattle.region_layout.specs.Region.{IsClosed, image_names}
+use Rattle.region_directory.specs.Region.{IsAdoptable, reads}
+use Rattle.region_directory.proofs.Images.{one_tables, one_log_end}
 use Rattle.adopt.specs.declared.found.WhyDisk.{WhyDisk}
-use Rattle.adopt.specs.Found.{left_behind, stranger_of}
+use Rattle.adopt.specs.Adopting.{IsLeftBehind, stranger_of}
 use Rattle.disk_backup.specs.Logs.{ClosedLog, writes_of}
 use Rattle.disk_backup.specs.State.{LogState}
 use Rattle.disk_backup.specs.Scanning.{begun}
@@ -70,22 +69,22 @@ may_have_all least most s kept = record {
 same_version : (u v : ℕ) → Version u ≡ Version v → u ≡ v
 same_version u v same = cc
 
-whole_image : (tables : NamedStates) (m : Meaning) (images : List TableImage) (log_end : ℕ) → IsImage layout m.held.region images log_end → RegionRests tables m → IsWhole tables images log_end m
+whole_image : (tables : NamedStates) (m : Meaning) (images : List TableImage) (log_end : ℕ) → IsAdoptable m.held.region images log_end → RegionRests tables m → IsWhole tables images log_end m
 whole_image tables m images log_end is (is_closed closed) = absurd (closed_no_image m.held.region closed images log_end is)
-whole_image tables m images log_end is (is_other version head other) = absurd (other (same_version version 1 (sym head ∙ image_head m.held.region images 1 log_end is)))
+whole_image tables m images log_end is (is_other version head other) =
+    absurd (false≢true (sym other ∙ ap reads (same_version version is.version (sym head ∙ is.is.has.head)) ∙ is.reads_it))
 whole_image tables m images log_end is (is_image those those_end is_those whole) =
-    let one : Image = record { log_end = log_end; tables = images } in
-    let that : Image = record { log_end = those_end; tables = those } in
-    subst (λ (i : Image). IsWhole tables i.tables i.log_end m) (one_image m.held.region that one is_those is) whole
+    let those_whole : IsWhole tables images those_end m = subst (λ (ts : List TableImage). IsWhole tables ts those_end m) (one_tables m.held.region those images those_end log_end is_those is) whole in
+    subst (λ (e : ℕ). IsWhole tables images e m) (one_log_end m.held.region those images those_end log_end is_those is) those_whole
 
 module _ (ws : List Watched) (others : NamedStates) (least : List ℕ → List Write) (next : Option LogRecord) (a b : Meaning) (rests : Rests ws others least next a)
-    (passes : Passes a b) (stands : StandsNow b) (region : b.held.region ≡ left_behind a.held.region) where
+    (passes : Passes a b) (stands : StandsNow b) (region : IsLeftBehind a.held.region b.held.region) where
   abbrev tables : NamedStates
   tables = tables_of others ws a
 
   all_closed : EachNow (λ p. IsClosed p.region) b
   all_closed p left = elim (stands.regions p left) [
-    | inl same ↦ subst IsClosed (sym (same ∙ region)) (left_closed a.held.region)
+    | inl same ↦ subst IsClosed (sym same) (left_closed a.held.region b.held.region region)
     | inr lost ↦ lost_closed p lost
   ]
 
@@ -117,7 +116,7 @@ module _ (ws : List Watched) (others : NamedStates) (least : List ℕ → List W
       let had = whole.logs came.0 came.1 in
       (had.0, subst (λ (d : List ℕ). ClosedLog had.0 log_end d) (sym came.2) had.1, had.2)
 
-  found_in_image : (log : LogState) (opened : List Table) (images : List TableImage) (log_end : ℕ) → IsImage layout a.held.region images log_end → stranger_of (names_of ws) images ≡ None
+  found_in_image : (log : LogState) (opened : List Table) (images : List TableImage) (log_end : ℕ) → IsAdoptable a.held.region images log_end → stranger_of (names_of ws) (image_names images) ≡ None
       → opened ≡ image.tables_of (names_of ws) images → log ≡ log_at log_end → Ended SameDisk a b → (writes : List ℕ → List Write) × Finds ws log opened writes b
   found_in_image log opened images log_end is known are log_is disks =
       let writes : List ℕ → List Write = λ name. (tables name).writes in

@@ -8,7 +8,8 @@ use Rattle.row_records.specs.Records.{LogRecord}
 use Rattle.berth_face.specs.Berth.{Pair, Meaning, Ended, SameDisk}
 use Rattle.berth_face.specs.Moments.{EachNow}
 use Rattle.berth_face.proofs.Moments.{now_of}
-use Rattle.region_layout.specs.Region.{IsClosed, IsImage, head_of, layout}
+use Rattle.region_layout.specs.Region.{IsClosed, head_of}
+use Rattle.region_directory.specs.Region.{IsAdoptable}
 use Rattle.disk_backup.specs.Scanning.{FirstByte, BeginsScan}
 use Rattle.disk_backup.specs.Settling.{HasLog, with_writes}
 use Rattle.leaf_opening.specs.declared.opening.Opened.{Opened}
@@ -48,7 +49,7 @@ region_stays : (tables : NamedStates) (a b : Meaning) → b.held.region ≡ a.he
 region_stays tables a b same disks (is_closed closed) = is_closed (subst IsClosed (sym same) closed)
 region_stays tables a b same disks (is_other version head other) = is_other version (ap head_of same ∙ head) other
 region_stays tables a b same disks (is_image images log_end is whole) =
-    is_image images log_end (subst (λ (r : List ℕ). IsImage layout r images log_end) (sym same) is) (record {
+    is_image images log_end (subst (λ (r : List ℕ). IsAdoptable r images log_end) (sym same) is) (record {
       same = whole.same;
       logs = λ p left.
           let came = disks p left in
@@ -169,7 +170,7 @@ region_refused names a b fault.RegionFault kept refusal = elim (closed_or_open b
   | inl shut ↦ inl shut
   | inr opened ↦ inr (broken_same a.held.region b.held.region refusal.0 opened, kept)
 ]
-region_refused names a b fault.DiskFault kept refusal = inl (subst IsClosed (sym refusal) (left_closed a.held.region))
-region_refused names a b fault.DiskDamaged kept refusal = inl (subst IsClosed (sym refusal.0) (left_closed a.held.region))
-region_refused names a b (fault.Stranger name) kept refusal = inl (subst IsClosed (sym refusal.0) (left_closed a.held.region))
-region_refused names a b fault.NoMemory kept refusal = inl (subst IsClosed (sym refusal) (left_closed a.held.region))
+region_refused names a b fault.DiskFault kept refusal = inl (left_closed a.held.region b.held.region refusal)
+region_refused names a b fault.DiskDamaged kept refusal = inl (left_closed a.held.region b.held.region refusal.0)
+region_refused names a b (fault.Stranger name) kept refusal = inl (left_closed a.held.region b.held.region refusal.0)
+region_refused names a b fault.NoMemory kept refusal = inl (left_closed a.held.region b.held.region refusal)

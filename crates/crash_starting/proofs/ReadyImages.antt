@@ -2,7 +2,7 @@
 use Rattle.std.proofs.Common.{◌≡◌, ℕ, zero, suc, Bool, true, false, List, [], ◌∷◌, length, get_or, map, refl, sym, ap, subst, ◌∙◌, arith, ℤ}
 use Rattle.std.specs.Prelude.{◌≢◌, if◌then◌else◌, bytes_eq, Option, Some, unwrap_or, Contains}
 use Rattle.std.specs.List.{AllByRecursion, find}
-use Rattle.std.proofs.lemmas.Bool.{eqb-false, false≢true}
+use Rattle.std.proofs.lemmas.Bool.{false≢true}
 use Rattle.std.proofs.lemmas.List.{take_all}
 use Rattle.std.proofs.lemmas.Option.{slice_get_within, unwrap_or-slice_get}
 use Rattle.std.proofs.lemmas.Slice.Eq.{bytes_eq-Decides}
@@ -11,9 +11,8 @@ use Rattle.leaf_model.specs.declared.writes.Write.{Write}
 use Rattle.leaf_model.specs.Content.{Contents, content}
 use Rattle.leaf_history.specs.History.{HistoryState}
 use Rattle.berth_face.specs.Berth.{Pair, Meaning}
-use Rattle.region_layout.specs.declared.image.TableImage.{TableImage}
-use Rattle.region_layout.specs.Images.{empty_image, is_named, table_named}
-use Rattle.region_layout.specs.Region.{IsImage, reads}
+use Rattle.region_layout.specs.Images.{TableImage, empty_image, is_named, table_named}
+use Rattle.region_directory.specs.Region.{reads, IsImage}
 use Rattle.row_records.specs.Records.{LogRecord}
 use Rattle.disk_backup.specs.Logs.{IsLog, ClosedLog}
 use Rattle.disk_backup.specs.Settling.{HasLog}
@@ -102,5 +101,5 @@ whole base tables m version images end begins same may is of =
 pub region_is : (base tables : NamedStates) (m : Meaning) (records : List LogRecord) (end : ℕ) → PairsMayBegin reads (m.leaves m.clock) m.held base → ((name : List ℕ) → tables name ≡ base name)
     → RegionLeft reads base m.held records end → RegionRests tables m
 region_is base tables m records end begins same (closed shut) = is_closed shut
-region_is base tables m records end begins same (other_version version head not) = is_other version head (eqb-false version 1 not)
-region_is base tables m records end begins same (image version images reads is of all gate) = is_image images end (refl, is.1) (whole base tables m version images end begins same reads is of)
+region_is base tables m records end begins same (other_version version head not) = is_other version head not
+region_is base tables m records end begins same (image version images reads is of all gate) = is_image images end (record { version = version; reads_it = reads; is = is }) (whole base tables m version images end begins same reads is of)

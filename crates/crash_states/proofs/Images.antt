@@ -7,7 +7,7 @@ use Rattle.std.proofs.lemmas.List.{nil_from_length}
 use Rattle.std.proofs.lemmas.Slice.Eq.{bytes_eq-Decides}
 use Rattle.leaf_model.specs.declared.writes.Write.{Write}
 use Rattle.leaf_model.specs.Content.{Contents, content}
-use Rattle.region_layout.specs.declared.image.TableImage.{TableImage}
+use Rattle.region_layout.specs.Images.{TableImage}
 use Rattle.leaf_model.specs.Names.{AreDistinct}
 use Rattle.region_layout.specs.Images.{empty_image, is_named, table_named}
 use Rattle.crash_moments.specs.Left.{NamedStates, ImageOf}

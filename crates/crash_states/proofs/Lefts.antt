@@ -1,15 +1,15 @@
 -- Each pair that a crash may leave now belongs to the tables.
 use Rattle.std.proofs.Common.{◌≡◌, ◌⊎◌, inl, inr, ℕ, true, false, List, [], length, take, Option, Some, sym, ap, subst, ◌∙◌, arith}
 use Rattle.std.specs.Prelude.{slice_get}
-use Rattle.std.proofs.lemmas.Bool.{ne_eqb}
 use Rattle.std.proofs.lemmas.List.{take_all}
 use Rattle.leaf_model.specs.declared.writes.Write.{Write}
 use Rattle.row_records.specs.Records.{LogRecord}
 use Rattle.berth_face.specs.Berth.{Pair, Meaning}
 use Rattle.berth_face.specs.Moments.{EachNow}
 use Rattle.berth_face.proofs.Moments.{passes_none}
-use Rattle.region_layout.specs.declared.image.TableImage.{TableImage}
-use Rattle.region_layout.specs.Region.{IsClosed, IsImage, head_of, reads, layout}
+use Rattle.region_layout.specs.Images.{TableImage}
+use Rattle.region_layout.specs.Region.{IsClosed, head_of}
+use Rattle.region_directory.specs.Region.{reads, IsAdoptable}
 use Rattle.disk_backup.specs.State.{LogState}
 use Rattle.disk_backup.specs.Settling.{HasLog, with_writes}
 use Rattle.drain_copy.specs.Draining.{DrainState}
@@ -102,10 +102,10 @@ module _ (ws : List Watched) (others : NamedStates) (least : List ℕ → List W
     where
       as_it_reads : p.region ≡ m.held.region → RegionRests (tables_of others ws m) m → RegionLeft reads (tables_then others m.clock ws) p log.records log.log_end
       as_it_reads same (is_closed shut) = closed (subst IsClosed (sym same) shut)
-      as_it_reads same (is_other version head not_one) = other_version version (ap (λ (l : List ℕ). head_of l) same ∙ head) (ne_eqb version 1 not_one)
+      as_it_reads same (is_other version head unread) = other_version version (ap (λ (l : List ℕ). head_of l) same ∙ head) unread
       as_it_reads same (is_image images log_end is whole) =
           image_left (tables_then others m.clock ws) (λ name. (tables_of others ws m name).writes) held p log images log_end (λ name. ap (λ (s : HistoryState). s.writes) (rests_then name))
-          (subst (λ (l : List ℕ). IsImage layout l images log_end) (sym same) is) whole.same (whole.logs p left)
+          (subst (λ (l : List ℕ). IsAdoptable l images log_end) (sym same) is) whole.same (whole.logs p left)
 
 pub rests_left : (ws : List Watched) (others : NamedStates) (least : List ℕ → List Write) (next : Option LogRecord) (m : Meaning) → Rests ws others least next m → IsLeftNow ws others m
 rests_left ws others least next m rests p left =
@@ -156,7 +156,7 @@ module _ (ws : List Watched) (writes : List ℕ → List Write) (m : Meaning) (a
   treated_closed others p log_end had shut =
       left_by (tables_then others m.clock ws) writes p (sound_log writes log_end p.disk had treated_short) (λ name. treated_front (writes name) (tables_then others m.clock ws name) (treated_then others name)) (closed shut)
 
-  pub treated_image : (others : NamedStates) (p : Pair) (images : List TableImage) (log_end : ℕ) → HasLog writes log_end p.disk → IsImage layout p.region images log_end → AreImagesOf writes images
+  pub treated_image : (others : NamedStates) (p : Pair) (images : List TableImage) (log_end : ℕ) → HasLog writes log_end p.disk → IsAdoptable p.region images log_end → AreImagesOf writes images
       → Left reads (tables_then others m.clock ws) p
   treated_image others p images log_end had is same =
       let log : HasSoundLog writes p.disk = sound_log writes log_end p.disk had treated_short in
@@ -177,7 +177,7 @@ holds_left ws others image writes m holds p left =
     let treated : AreTreated ws writes m = holds_treated ws image writes m holds in
     let had : HasLog writes holds.log_end p.disk = holds.logs p left in
     elim (holds.stands.regions p left) [
-      | inl same ↦ treated_image ws writes m treated others p holds.images holds.log_end had (subst (λ (l : List ℕ). IsImage layout l holds.images holds.log_end) (sym (same ∙ holds.region)) holds.is) holds.same
+      | inl same ↦ treated_image ws writes m treated others p holds.images holds.log_end had (subst (λ (l : List ℕ). IsAdoptable l holds.images holds.log_end) (sym (same ∙ holds.region)) holds.is) holds.same
       | inr none ↦ treated_closed ws writes m treated others p holds.log_end had (lost_closed p none)
     ]
 

@@ -3,8 +3,10 @@ use Rattle.std.proofs.Common.{◌≡◌, inl, ℕ, List, [], length, refl, sym, 
 use Rattle.leaf_model.specs.declared.writes.Write.{Write}
 use Rattle.row_records.specs.Records.{LogRecord}
 use Rattle.berth_face.specs.Berth.{Pair}
-use Rattle.region_layout.specs.declared.image.TableImage.{TableImage}
-use Rattle.region_layout.specs.Region.{IsClosed, IsImage, reads, layout}
+use Rattle.region_layout.specs.Images.{TableImage}
+use Rattle.region_layout.specs.Region.{IsClosed}
+use Rattle.region_directory.specs.Region.{reads, IsAdoptable}
+use Rattle.region_directory.proofs.Images.{image_distinct}
 use Rattle.disk_backup.specs.Logs.{writes_of}
 use Rattle.disk_backup.specs.Settling.{HasLog}
 use Rattle.region_layout.specs.ImageWrites.{AreImagesOf}
@@ -29,11 +31,12 @@ left_by tables held p log fronts region = record {
 
 -- the region is an image of the tables, and the log has all of their writes
 pub image_left : (tables : NamedStates) (writes held : List ℕ → List Write) (p : Pair) (log : HasSoundLog held p.disk) (images : List TableImage) (log_end : ℕ)
-    → ((name : List ℕ) → (tables name).writes ≡ writes name) → IsImage layout p.region images log_end → AreImagesOf writes images → HasLog writes log_end p.disk
+    → ((name : List ℕ) → (tables name).writes ≡ writes name) → IsAdoptable p.region images log_end → AreImagesOf writes images → HasLog writes log_end p.disk
     → RegionLeft reads tables p log.records log.log_end
 image_left tables writes held p log images log_end same is are had =
     let one = same_log writes held log_end p.disk had log in
-    image 1 images refl (subst (λ (end : ℕ). IsImage layout p.region images end) (sym one.1) is) (image_of_tables writes tables same images are is.1.fits.distinct)
+    let here : IsAdoptable p.region images log.log_end = subst (λ (end : ℕ). IsAdoptable p.region images end) (sym one.1) is in
+    image here.version images here.reads_it here.is (image_of_tables writes tables same images are (image_distinct here.version p.region images log.log_end here.is))
     (λ name. ap (λ (records : List LogRecord). writes_of name records) one.0 ∙ had.2 name ∙ sym (same name))
     (subst (λ (end : ℕ). HasShutGate p.disk end) (sym one.1) (gate_shut had.0 log_end p.disk had.1))
 

@@ -1,15 +1,15 @@
 -- Each pair that a crash may leave now belongs to the tables with all their entries, not only with those up to the steward's last.
 use Rattle.std.proofs.Common.{◌≡◌, ◌⊎◌, inl, inr, ℕ, true, false, List, [], length, take, Option, Some, refl, sym, ap, subst, ◌∙◌, arith}
 use Rattle.std.specs.Prelude.{slice_get}
-use Rattle.std.proofs.lemmas.Bool.{ne_eqb}
 use Rattle.std.proofs.lemmas.List.{take_all}
 use Rattle.leaf_model.specs.declared.writes.Write.{Write}
 use Rattle.row_records.specs.Records.{LogRecord}
 use Rattle.berth_face.specs.Berth.{Pair, Meaning}
 use Rattle.berth_face.specs.Moments.{EachNow}
 use Rattle.berth_face.proofs.Moments.{passes_none}
-use Rattle.region_layout.specs.declared.image.TableImage.{TableImage}
-use Rattle.region_layout.specs.Region.{IsClosed, IsImage, head_of, reads, layout}
+use Rattle.region_layout.specs.Images.{TableImage}
+use Rattle.region_layout.specs.Region.{IsClosed, head_of}
+use Rattle.region_directory.specs.Region.{reads, IsAdoptable}
 use Rattle.disk_backup.specs.State.{LogState}
 use Rattle.disk_backup.specs.Settling.{HasLog, with_writes}
 use Rattle.drain_copy.specs.Draining.{DrainState}
@@ -70,10 +70,10 @@ module _ (ws : List Watched) (others : NamedStates) (least : List ℕ → List W
     where
       as_it_reads : p.region ≡ m.held.region → RegionRests (tables_of others ws m) m → RegionLeft reads (tables_of others ws m) p log.records log.log_end
       as_it_reads same (is_closed shut) = closed (subst IsClosed (sym same) shut)
-      as_it_reads same (is_other version head not_one) = other_version version (ap (λ (l : List ℕ). head_of l) same ∙ head) (ne_eqb version layout not_one)
+      as_it_reads same (is_other version head unread) = other_version version (ap (λ (l : List ℕ). head_of l) same ∙ head) unread
       as_it_reads same (is_image images log_end is whole) =
           image_left (tables_of others ws m) (λ name. (tables_of others ws m name).writes) held p log images log_end (λ name. refl)
-          (subst (λ (l : List ℕ). IsImage layout l images log_end) (sym same) is) whole.same (whole.logs p left)
+          (subst (λ (l : List ℕ). IsAdoptable l images log_end) (sym same) is) whole.same (whole.logs p left)
 
 pub rests_whole : (ws : List Watched) (others : NamedStates) (least : List ℕ → List Write) (next : Option LogRecord) (m : Meaning) → Rests ws others least next m
     → EachNow (λ p. Left reads (tables_of others ws m) p) m

@@ -1,5 +1,5 @@
 -- What region and disk hold of the tables of a leaf, in each of its states, by what its steward has seen of them.
-use Rattle.std.specs.Prelude.{◌≡◌, ◌≢◌, ◌⊎◌, ℕ, ◌≤◌, true, false, List, [], length, take, slice_get, Option, Some, None, IfSome}
+use Rattle.std.specs.Prelude.{◌≡◌, ◌⊎◌, ℕ, ◌≤◌, true, false, List, [], length, take, slice_get, Option, Some, None, IfSome}
 use Rattle.leaf_model.specs.declared.writes.Write.{Write}
 use Rattle.leaf_model.specs.Content.{content}
 use Rattle.row_records.specs.Records.{LogRecord}
@@ -8,8 +8,9 @@ use Rattle.leaf_history.specs.History.{HistoryState}
 use Rattle.berth_face.specs.Berth.{Meaning}
 use Rattle.berth_face.specs.Moments.{EachNow}
 use Rattle.region_layout.specs.declared.head.Head.TheVariants.{Version}
-use Rattle.region_layout.specs.declared.image.TableImage.{TableImage}
-use Rattle.region_layout.specs.Region.{IsClosed, IsImage, head_of, layout}
+use Rattle.region_layout.specs.Images.{TableImage}
+use Rattle.region_layout.specs.Region.{IsClosed, head_of}
+use Rattle.region_directory.specs.Region.{IsAdoptable, reads}
 use Rattle.disk_backup.specs.State.{LogState}
 use Rattle.disk_backup.specs.Settling.{HasLog, HaveLog, with_writes}
 use Rattle.drain_copy.specs.Draining.{DrainState, Draining, AllClosed}
@@ -74,8 +75,8 @@ pub record IsWhole (tables : NamedStates) (images : List TableImage) (log_end : 
 -- the region as it reads: closed, or of another version, or an image of the tables
 pub data RegionRests (tables : NamedStates) (m : Meaning) : Type 0 where
   is_closed : IsClosed m.held.region → RegionRests tables m
-  is_other : (version : ℕ) → head_of m.held.region ≡ Version version → version ≢ layout → RegionRests tables m
-  is_image : (images : List TableImage) (log_end : ℕ) → IsImage layout m.held.region images log_end → IsWhole tables images log_end m → RegionRests tables m
+  is_other : (version : ℕ) → head_of m.held.region ≡ Version version → reads version ≡ false → RegionRests tables m
+  is_image : (images : List TableImage) (log_end : ℕ) → IsAdoptable m.held.region images log_end → IsWhole tables images log_end m → RegionRests tables m
 
 -- Each disk that a crash may leave has a log with the least writes of each name, or with those of the next record too. Each table is shut.
 -- Names that the leaf does not have stand as `others` say until it was first opened.
@@ -105,7 +106,7 @@ pub record Copies (ws : List Watched) (drain : DrainState) (writes : List ℕ �
   pub stands : StandsNow m
   pub images : List TableImage
   pub log_end : ℕ
-  pub image : IsImage layout drain.image images log_end
+  pub image : IsAdoptable drain.image images log_end
   pub same : AreImagesOf writes images
   pub logs : EachNow (λ p. HasLog writes log_end p.disk) m
   pub draining : Draining drain m.held.region
@@ -125,7 +126,7 @@ pub record Holds (ws : List Watched) (image : List ℕ) (writes : List ℕ → L
   pub stands : StandsNow m
   pub images : List TableImage
   pub log_end : ℕ
-  pub is : IsImage layout image images log_end
+  pub is : IsAdoptable image images log_end
   pub same : AreImagesOf writes images
   pub logs : EachNow (λ p. HasLog writes log_end p.disk) m
   pub region : m.held.region ≡ image

@@ -1,2 +1,7 @@
-pub mod Closed
+mod Closed
 pub mod Moments
+pub mod Standing
+pub mod Laying
+pub mod Reckoned
+pub mod Fitting
+pub mod Imaging

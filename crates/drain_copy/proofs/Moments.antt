@@ -1,14 +1,14 @@
 -- What a crash may leave at each moment of the calls of a step.
-use Rattle.std.proofs.Common.{◌≡◌, ◌⊎◌, inl, inr, ℕ, List, [], ◌∷◌, length, take, drop, Ok, Err, refl, sym, ap, ◌∙◌, subst, arith}
+use Rattle.std.proofs.Common.{◌≡◌, ◌⊎◌, inl, inr, ℕ, ◌+◌, ◌≤◌, max, ◌++◌, List, [], ◌∷◌, length, take, drop, Ok, Err, refl, sym, ap, ◌∙◌, subst, arith}
 use Rattle.std.specs.Prelude.{Result, OnOk, OnErr}
 use Rattle.berth_face.specs.Berth.{Pair, Meaning, Passes, Torn, Cut, Inside, Ended, RegionStep, SameDisk, RegionWritten, RegionCut, written}
 use Rattle.berth_face.specs.Moments.{EachNow, Throughout}
 use Rattle.berth_face.proofs.Moments.{started, goes_on, now_of, throughout_map}
 use Rattle.region_layout.specs.Region.{IsClosed}
 use Rattle.drain_copy.specs.declared.step.Next.TheVariants as next
-use Rattle.drain_copy.specs.Draining.{DrainState, DrainsFrom, AllClosed}
-use Rattle.drain_copy.specs.Regions.{LeftFrom, ClosedOrOpened}
-use Rattle.drain_copy.proofs.Closed.{none_closed, cut_closed, byte_closed, behind_torn, behind_written, flag_torn, flag_first}
+use Rattle.drain_copy.specs.Draining.{DrainState, DrainsFrom, IsInRoom, AllClosed, held, longest}
+use Rattle.drain_copy.specs.Regions.{LeftFrom, ClosedOrOpened, ClosedWithin, EndsAt, IsWithin}
+use Rattle.drain_copy.proofs.Closed.{none_closed, cut_closed, byte_closed, behind_torn, behind_written, flag_torn, flag_first, end_torn, end_written, head_torn, head_closed, written_length}
 
 -- a crash now leaves the region that is read, or none
 abbrev pub KeepsRegion : Meaning → Type 0
@@ -76,6 +76,29 @@ behind_flag {bytes} result rest a b c head so_far keeps time wrote =
     writes IsClosed 1 bytes result a b c none_closed (λ region torn. behind_torn (length bytes) rest region (subst (λ (l : List ℕ). Torn 1 (length bytes) l region) head torn))
     (subst (λ (l : List ℕ). IsClosed (written 1 bytes l)) (sym head) (behind_written bytes rest)) so_far keeps time wrote
 
+-- ---- bytes at the region's end
+
+pub appended : {T E : Type 0} {bytes : List ℕ} (result : Result T E) (at : ℕ) (a b : Meaning) → 1 ≤ at → EndsAt at a.held.region → written at bytes a.held.region ≡ a.held.region ++ bytes → AllClosed a → KeepsRegion a
+    → KeepsRegion b → Passes a b → RegionWritten at bytes result a b → Throughout (LeftFrom (ClosedWithin (at + length bytes)) a) a b
+appended {bytes} result at a b some ends whole all keeps_a keeps time wrote =
+    let P = ClosedWithin (at + length bytes) in
+    let none : P [] = (none_closed, omega arith) in
+    writes P at bytes result a a b none (λ region torn. end_torn at (length bytes) a.held.region region some ends torn)
+    (subst P (sym whole) (end_written at bytes a.held.region some ends)) (begun P a (now none)) keeps time wrote
+  where
+    now : ClosedWithin (at + length bytes) [] → EachNow (λ p. ClosedWithin (at + length bytes) p.region) a
+    now none p left = elim (keeps_a p left) [
+      | inl same ↦ (all p left, subst (λ (l : List ℕ). length l ≤ at + length bytes) (sym same) (omega (arith, ends.0)))
+      | inr lost ↦ subst (ClosedWithin (at + length bytes)) (sym lost) none
+    ]
+
+-- behind them, the head but for its flag
+pub head_written : {T E : Type 0} {head : List ℕ} (result : Result T E) (n : ℕ) (a b c : Meaning) → 16 ≤ n → length head ≡ 15 → EndsAt n b.held.region → Throughout (LeftFrom (ClosedWithin n) a) a b
+    → KeepsRegion c → Passes b c → RegionWritten 1 head result b c → Throughout (LeftFrom (ClosedWithin n) a) a c
+head_written {head} result n a b c big all ends so_far keeps time wrote =
+    writes (ClosedWithin n) 1 head result a b c (none_closed, omega arith) (λ region torn. head_torn n (length head) b.held.region region big (omega (arith, all)) ends torn)
+    (head_closed n head b.held.region big all ends) so_far keeps time wrote
+
 -- ---- of the last
 
 pub flag_opened : {T E : Type 0} (result : Result T E) (a b : Meaning) → AllClosed a → KeepsRegion b → Passes a b → RegionWritten 0 (1 ∷ []) result a b
@@ -83,6 +106,27 @@ pub flag_opened : {T E : Type 0} (result : Result T E) (a b : Meaning) → AllCl
 flag_opened result a b all keeps time wrote =
     let P = ClosedOrOpened (drop 1 a.held.region) in
     writes P 0 (1 ∷ []) result a a b (inl none_closed) (λ region. flag_torn a.held.region region) (inr refl) (begun P a (λ p left. inl (all p left))) keeps time wrote
+
+-- ---- how long the region is meanwhile
+
+pub within_begun : (n : ℕ) (a : Meaning) → length a.held.region ≤ n → KeepsRegion a → Throughout (LeftFrom (IsWithin n) a) a a
+within_begun n a fits keeps = begun (IsWithin n) a (λ p left. kept p.region (keeps p left))
+  where
+    kept : (region : List ℕ) → (region ≡ a.held.region) ⊎ (region ≡ []) → IsWithin n region
+    kept region by = elim by [
+      | inl same ↦ subst (IsWithin n) (sym same) fits
+      | inr lost ↦ subst (IsWithin n) (sym lost) (omega arith)
+    ]
+
+pub within_write : {T E : Type 0} (n at : ℕ) (bytes : List ℕ) (result : Result T E) (a b c : Meaning) → length b.held.region ≤ n → at + length bytes ≤ n
+    → Throughout (LeftFrom (IsWithin n) a) a b → KeepsRegion c → Passes b c → RegionWritten at bytes result b c → Throughout (LeftFrom (IsWithin n) a) a c
+within_write n at bytes result a b c old new so_far keeps time wrote =
+    let none : IsWithin n [] = omega arith in
+    let whole : IsWithin n (written at bytes b.held.region) = omega (arith, old, new, written_length at bytes b.held.region) in
+    writes (IsWithin n) at bytes result a b c none (λ region torn. torn_within region torn.no_longer) whole so_far keeps time wrote
+  where
+    torn_within : (region : List ℕ) → length region ≤ max (length b.held.region) (at + length bytes) → IsWithin n region
+    torn_within region no_longer = omega (arith, no_longer, old, new)
 
 -- ---- a step
 
@@ -100,3 +144,12 @@ drains_opened d a b last flag stands all =
       | inl closed ↦ inl closed
       | inr opened ↦ inr (last, opened ∙ ap (λ (l : List ℕ). 1 ∷ drop 1 l) stands ∙ flag_first d.image flag)
     ]
+
+pub drains_within : (n : ℕ) (d : DrainState) (a b : Meaning) → Throughout (LeftFrom (ClosedWithin n) a) a b → Throughout (DrainsFrom d a) a b
+drains_within n d a b all = throughout_map a b (LeftFrom (ClosedWithin n) a) (DrainsFrom d a) (λ p came. record { from = came.from; was = came.was; disk = came.disk; region = inl came.region.0 }) all
+
+pub in_room : (n : ℕ) (d : DrainState) (a b : Meaning) → n + held d ≤ length d.image + longest d.heap → Throughout (LeftFrom (IsWithin n) a) a b → Throughout (IsInRoom d) a b
+in_room n d a b fits all = throughout_map a b (LeftFrom (IsWithin n) a) (IsInRoom d) (λ p came. within p.region came.region) all
+  where
+    within : (region : List ℕ) → IsWithin n region → length region + held d ≤ length d.image + longest d.heap
+    within region few = omega (arith, few, fits)

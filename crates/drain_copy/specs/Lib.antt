@@ -1,2 +1,3 @@
 pub mod Draining
 pub mod Regions
+pub mod Planned

@@ -1,5 +1,5 @@
 -- What a crash may leave of the region while a step calls on it.
-use Rattle.std.specs.Prelude.{◌≡◌, ◌⊎◌, ℕ, List, ◌∷◌}
+use Rattle.std.specs.Prelude.{◌≡◌, ◌⊎◌, ℕ, ◌≤◌, List, [], ◌∷◌, length, take}
 use Rattle.berth_face.specs.Berth.{Pair, Meaning}
 use Rattle.region_layout.specs.Region.{IsClosed}
 
@@ -13,3 +13,15 @@ pub record LeftFrom (P : List ℕ → Type 0) (old : Meaning) (p : Pair) : Type 
 -- the region is closed, or an open flag with these bytes behind it
 abbrev pub ClosedOrOpened : List ℕ → List ℕ → Type 0
 ClosedOrOpened behind region = IsClosed region ⊎ (region ≡ 1 ∷ behind)
+
+-- the region is closed, and no longer than so many bytes
+abbrev pub ClosedWithin : ℕ → List ℕ → Type 0
+ClosedWithin n region = IsClosed region × (length region ≤ n)
+
+-- the region is no longer than so many bytes
+abbrev pub IsWithin : ℕ → List ℕ → Type 0
+IsWithin n region = length region ≤ n
+
+-- it ends there, behind a closed flag
+abbrev pub EndsAt : ℕ → List ℕ → Type 0
+EndsAt at region = (length region ≡ at) × (take 1 region ≡ 0 ∷ [])

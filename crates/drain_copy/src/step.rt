@@ -11,19 +11,28 @@ impl From<Failed> for RegionFault {
     }
 }
 
-/// What a step did: it put a closed head into an empty region, or wrote the image but for its flag, or opened the flag.
+/// Why a drain cannot be planned: its image or a number in it would be too large, or there is no memory.
+#[derive(Clone, Copy, Debug, PartialEq, Eq)]
+pub enum PlanFault {
+    NoRoom,
+    NoMemory,
+}
+
+/// What a step did: it put a closed head into an empty region, or wrote a column of so many bytes, or the directory and the head
+/// behind the flag, or it opened the flag.
 #[derive(Clone, Copy, Debug, PartialEq, Eq)]
 pub enum DrainStep {
     Begun,
-    Written,
+    Column { bytes: u64 },
+    Directory,
     Finished,
 }
 
-/// The step that comes next.
+/// What comes next: the beginning; a column, or behind the last one the directory; the flag; or nothing.
 #[derive(Clone, Copy, Debug, PartialEq, Eq)]
 pub enum Next {
     Begin,
-    Write,
+    Copy,
     Flag,
     Nothing,
 }

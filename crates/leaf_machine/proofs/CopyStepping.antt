@@ -1,15 +1,16 @@
 -- What a leaf is after a step of its copy.
-use Rattle.std.proofs.Common.{◌≡◌, ◌⊎◌, ◌∙◌, ℕ, true, List, length, None, refl, sym, subst, arith}
+use Rattle.std.proofs.Common.{◌≡◌, ◌⊎◌, ◌∙◌, ℕ, suc, true, List, [], ◌∷◌, length, None, refl, sym, ap, subst, arith}
 use Rattle.std.specs.Prelude.{◌≢◌, IsTrue}
 use Rattle.leaf_model.specs.declared.writes.Write.{Write}
 use Rattle.berth_face.specs.Berth.{Meaning, Passes}
 use Rattle.berth_face.specs.Moments.{Throughout}
-use Rattle.region_layout.specs.Region.{IsClosed, IsImage, layout}
+use Rattle.region_layout.specs.Region.{IsClosed}
+use Rattle.region_directory.specs.Region.{IsAdoptable}
 use Rattle.drain_copy.specs.declared.step.Next.{Next}
 use Rattle.drain_copy.specs.declared.step.Next.TheVariants as next
 use Rattle.drain_copy.specs.declared.step.DrainStep.{DrainStep}
 use Rattle.drain_copy.specs.declared.step.DrainStep.TheVariants.{Finished}
-use Rattle.drain_copy.specs.Draining.{DrainState, Draining, DrainsFrom, StandsAt, AllClosed, IsCopyStep}
+use Rattle.drain_copy.specs.Draining.{DrainState, Draining, DrainsFrom, StandsAt, AllClosed, IsStep, IsStepFrom, left, left_from}
 use Rattle.leaf_opening.specs.declared.ways.Way.TheVariants.{Memory}
 use Rattle.leaf_opening.specs.Starts.{IsWayOf}
 use Rattle.crash_moments.specs.Watched.{Watched, was_opened}
@@ -24,45 +25,79 @@ use Rattle.leaf_steward.specs.Seated.{Seated, AreSeated, AreFounded, AtEach, IsS
 use Rattle.leaf_steward.specs.Making.{Makes, EachNoted, IsHandedNote}
 use Rattle.leaf_steward.proofs.Watching.{makes_hands}
 use Rattle.leaf_machine.specs.States.{IsDown, IsCopying, RestsOn, GoesOnCopying}
-use Rattle.leaf_machine.specs.Copies.{IsNextCopy}
+use Rattle.leaf_machine.specs.Copies.{IsUnderWay}
 use Rattle.leaf_machine.proofs.StartAlike.{founded_same}
 use Rattle.leaf_machine.proofs.CopyWatching.{no_others, nothing_sound, left_others}
 
 -- ---- which step it was
 
-pub more_next : (n : Next) (s : DrainStep) (later : Next) → s ≢ Finished → IsCopyStep n s later → IsNextCopy n later
-more_next next.Begin s later more is = is.1
-more_next next.Write s later more is = is.1
-more_next next.Flag s later more is = absurd (more is.0)
-more_next next.Nothing s later more is = absurd is
+-- what is left is one step less
+less_left : (n n' n'' : Next) (heap heap' heap'' : List (List ℕ)) → suc (left_from n'' heap'') ≡ left_from n heap → n' ≡ n'' → heap' ≡ heap'' → suc (left_from n' heap') ≡ left_from n heap
+less_left n n' n'' heap heap' heap'' one next_is heap_is =
+    ap (λ (m : Next). suc (left_from m heap')) next_is ∙ ap (λ (h : List (List ℕ)). suc (left_from n'' h)) heap_is ∙ one
 
-pub more_before : (n : Next) (s : DrainStep) (later : Next) → s ≢ Finished → IsCopyStep n s later → n ≢ next.Flag
-more_before next.Begin s later more is = λ same. absurd cc
-more_before next.Write s later more is = λ same. absurd cc
-more_before next.Flag s later more is = absurd (more is.0)
-more_before next.Nothing s later more is = absurd is
+more_from : (n : Next) (heap : List (List ℕ)) (s : DrainStep) (n' : Next) (heap' : List (List ℕ)) → s ≢ Finished → IsStepFrom n heap s n' heap' → suc (left_from n' heap') ≡ left_from n heap
+more_from next.Begin heap s n' heap' more is = less_left next.Begin n' next.Copy heap heap' heap refl is.1 is.2
+more_from next.Copy [] s n' heap' more is = less_left next.Copy n' next.Flag [] heap' [] refl is.1 is.2
+more_from next.Copy (column ∷ rest) s n' heap' more is = less_left next.Copy n' next.Copy (column ∷ rest) heap' rest refl is.1 is.2
+more_from next.Flag heap s n' heap' more is = absurd (more is.0)
+more_from next.Nothing heap s n' heap' more is = absurd is
 
-pub more_after : (n : Next) (s : DrainStep) (later : Next) → s ≢ Finished → IsCopyStep n s later → later ≢ next.Nothing
-more_after next.Begin s later more is = λ none. absurd cc
-more_after next.Write s later more is = λ none. absurd cc
-more_after next.Flag s later more is = absurd (more is.0)
-more_after next.Nothing s later more is = absurd is
+pub more_next : (d : DrainState) (s : DrainStep) (later : DrainState) → s ≢ Finished → IsStep d s later → suc (left later) ≡ left d
+more_next d s later more is = more_from d.next d.heap s later.next later.heap more is.step
 
-pub last_before : (n later : Next) → IsCopyStep n Finished later → n ≡ next.Flag
-last_before next.Begin later is = absurd cc
-last_before next.Write later is = absurd cc
-last_before next.Flag later is = refl
-last_before next.Nothing later is = absurd is
+under_way_from : (n : Next) (heap : List (List ℕ)) (s : DrainStep) (n' : Next) (heap' : List (List ℕ)) → s ≢ Finished → IsStepFrom n heap s n' heap' → IsUnderWay n'
+under_way_from next.Begin heap s n' heap' more is = subst IsUnderWay (sym is.1) tt
+under_way_from next.Copy [] s n' heap' more is = subst IsUnderWay (sym is.1) tt
+under_way_from next.Copy (column ∷ rest) s n' heap' more is = subst IsUnderWay (sym is.1) tt
+under_way_from next.Flag heap s n' heap' more is = absurd (more is.0)
+under_way_from next.Nothing heap s n' heap' more is = absurd is
 
-last_after : (n later : Next) → IsCopyStep n Finished later → later ≡ next.Nothing
-last_after next.Begin later is = absurd cc
-last_after next.Write later is = absurd cc
-last_after next.Flag later is = is.1
-last_after next.Nothing later is = absurd is
+pub more_under_way : (d : DrainState) (s : DrainStep) (later : DrainState) → s ≢ Finished → IsStep d s later → IsUnderWay later.next
+more_under_way d s later more is = under_way_from d.next d.heap s later.next later.heap more is.step
+
+before_from : (n : Next) (heap : List (List ℕ)) (s : DrainStep) (n' : Next) (heap' : List (List ℕ)) → s ≢ Finished → IsStepFrom n heap s n' heap' → n ≢ next.Flag
+before_from next.Begin heap s n' heap' more is = λ same. absurd cc
+before_from next.Copy heap s n' heap' more is = λ same. absurd cc
+before_from next.Flag heap s n' heap' more is = absurd (more is.0)
+before_from next.Nothing heap s n' heap' more is = absurd is
+
+pub more_before : (d : DrainState) (s : DrainStep) (later : DrainState) → s ≢ Finished → IsStep d s later → d.next ≢ next.Flag
+more_before d s later more is = before_from d.next d.heap s later.next later.heap more is.step
+
+after_from : (n : Next) (heap : List (List ℕ)) (s : DrainStep) (n' : Next) (heap' : List (List ℕ)) → s ≢ Finished → IsStepFrom n heap s n' heap' → n' ≢ next.Nothing
+after_from next.Begin heap s n' heap' more is = let at = is.1 in λ none. absurd cc
+after_from next.Copy [] s n' heap' more is = let at = is.1 in λ none. absurd cc
+after_from next.Copy (column ∷ rest) s n' heap' more is = let at = is.1 in λ none. absurd cc
+after_from next.Flag heap s n' heap' more is = absurd (more is.0)
+after_from next.Nothing heap s n' heap' more is = absurd is
+
+pub more_after : (d : DrainState) (s : DrainStep) (later : DrainState) → s ≢ Finished → IsStep d s later → later.next ≢ next.Nothing
+more_after d s later more is = after_from d.next d.heap s later.next later.heap more is.step
+
+last_from : (n : Next) (heap : List (List ℕ)) (n' : Next) (heap' : List (List ℕ)) → IsStepFrom n heap Finished n' heap' → n ≡ next.Flag
+last_from next.Begin heap n' heap' is = let at = is.0 in absurd cc
+last_from next.Copy [] n' heap' is = let at = is.0 in absurd cc
+last_from next.Copy (column ∷ rest) n' heap' is = let at = is.0 in absurd cc
+last_from next.Flag heap n' heap' is = refl
+last_from next.Nothing heap n' heap' is = absurd is
+
+pub last_before : (d later : DrainState) → IsStep d Finished later → d.next ≡ next.Flag
+last_before d later is = last_from d.next d.heap later.next later.heap is.step
+
+last_to : (n : Next) (heap : List (List ℕ)) (n' : Next) (heap' : List (List ℕ)) → IsStepFrom n heap Finished n' heap' → n' ≡ next.Nothing
+last_to next.Begin heap n' heap' is = let at = is.0 in absurd cc
+last_to next.Copy [] n' heap' is = let at = is.0 in absurd cc
+last_to next.Copy (column ∷ rest) n' heap' is = let at = is.0 in absurd cc
+last_to next.Flag heap n' heap' is = is.1
+last_to next.Nothing heap n' heap' is = absurd is
+
+last_after : (d later : DrainState) → IsStep d Finished later → later.next ≡ next.Nothing
+last_after d later is = last_to d.next d.heap later.next later.heap is.step
 
 -- behind the last the region is the image
-pub last_region : (d later : DrainState) (region : List ℕ) → IsCopyStep d.next Finished later.next → Draining later region → later.image ≡ d.image → region ≡ d.image
-last_region d later region is stands image = subst (λ (n : Next). StandsAt n later.image region) (last_after d.next later.next is) stands ∙ image
+pub last_region : (d later : DrainState) (region : List ℕ) → IsStep d Finished later → Draining later region → later.image ≡ d.image → region ≡ d.image
+last_region d later region is stands image = (subst (λ (n : Next). StandsAt n later.image later.heap region) (last_after d later is) stands).0 ∙ image
 
 -- ---- what is left
 
@@ -121,7 +156,7 @@ module _ (x : Seated) (drain : DrainState) (a b : Meaning) where
     copy_last made whole writes copies =
         let region : b.held.region ≡ drain.image = whole copies.draining in
         let holds : Holds ws drain.image writes b = step_last ws drain writes a b copies (stepped writes copies made) region in
-        (handed_rests writes copies made holds, (copies.images, copies.log_end, subst (λ (bytes : List ℕ). IsImage layout bytes copies.images copies.log_end) (sym region) copies.image))
+        (handed_rests writes copies made holds, (copies.images, copies.log_end, subst (λ (bytes : List ℕ). IsAdoptable bytes copies.images copies.log_end) (sym region) copies.image))
 
 -- the copy is given up
 pub copy_left : (x : Seated) (drain : DrainState) (m : Meaning) (writes : List ℕ → List Write) → Copies (watched_by x) drain writes m → RestsOn x x m m

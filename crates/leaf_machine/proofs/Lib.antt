@@ -21,6 +21,7 @@ pub mod PrepPlaces
 pub mod PrepHolds
 pub mod PrepJoins
 pub mod PrepSettles
+pub mod PrepNames
 pub mod PrepMeets
 pub mod PrepShuts
 pub mod PrepTreats

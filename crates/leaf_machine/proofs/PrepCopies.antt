@@ -1,20 +1,23 @@
 -- All tables are treated, and the copy of them is planned.
-use Rattle.std.proofs.Common.{◌≡◌, ℕ, suc, ◌<◌, ◌≤◌, Bool, true, false, List, [], ◌∷◌, length, Some, None, refl, sym, ap, subst, ◌∙◌, arith}
-use Rattle.std.specs.Prelude.{◌≢◌, ◌^◌, ◌-◌, ◌||◌, if◌then◌else◌, slice_get, Err}
-use Rattle.std.specs.List.{AllByRecursion, list_any}
-use Rattle.std.proofs.lemmas.Bool.{false≢true, leb-false, leb-true}
+use Rattle.std.proofs.Common.{◌≡◌, ℕ, ◌<◌, Bool, true, false, List, [], ◌∷◌, length, map, Some, None, refl, sym, ap, ap₂, subst, ◌∙◌, arith}
+use Rattle.std.specs.Prelude.{◌≢◌, ◌-◌, if◌then◌else◌, slice_get, take, Err}
+use Rattle.std.specs.List.{AllByRecursion}
+use Rattle.std.proofs.lemmas.List.{length-map, take_all}
 use Rattle.std.proofs.lemmas.Option.{slice_get_within}
 use Rattle.leaf_model.specs.declared.writes.Write.{Write}
 use Rattle.leaf_model.specs.Content.{Contents, content_from}
 use Rattle.berth_face.specs.Berth.{Meaning}
 use Rattle.leaf_history.specs.History.{HistoryState, write_count}
 use Rattle.table_state.specs.Tables.{Table}
-use Rattle.region_layout.specs.Region.{IsImage, layout}
-use Rattle.region_layout.specs.Images.{images_of}
+use Rattle.region_directory.specs.declared.drained.DrainTable.{DrainTable}
+use Rattle.region_directory.specs.Drained.{all_columns, has_no_room, images_of as drained_images}
+use Rattle.region_directory.specs.Region.{IsAdoptable, image_of_parts}
+use Rattle.region_layout.specs.Images.{TableImage, images_of}
+use Rattle.region_layout.specs.Names.{IsName}
 use Rattle.drain_copy.specs.declared.step.Next.TheVariants as next
 use Rattle.drain_copy.specs.Draining.{DrainState}
 use Rattle.leaf_table.specs.Turns.{Shared, is_founded}
-use Rattle.leaf_table.specs.Calls.{SeatView, base_seen, state_seen}
+use Rattle.leaf_table.specs.Calls.{SeatView, base_seen, name_of, state_seen}
 use Rattle.crash_moments.specs.Watched.{Watched, IsFoundation, IsWatched, now_of}
 use Rattle.crash_moments.proofs.Telling.{none_more}
 use Rattle.crash_states.specs.Standing.{Copies, IsContentOf, Runs}
@@ -25,38 +28,46 @@ use Rattle.crash_draining.specs.Laws.{AreTaken}
 use Rattle.crash_draining.proofs.Copying.{planned}
 use Rattle.leaf_steward.specs.declared.notes.Note.{Note}
 use Rattle.leaf_steward.specs.Seated.{AreFounded, AreSeated, watched_by}
+use Rattle.leaf_machine.proofs.PrepNames.{treated_all}
 use Rattle.leaf_steward.proofs.WatchPlaces.{watch_all}
 use Rattle.leaf_steward.proofs.Watching.{now_seen, watch_at, watch_length, watch_names}
 use Rattle.leaf_machine.specs.declared.preparing.PrepareFault.{PrepareFault}
 use Rattle.leaf_machine.specs.declared.preparing.PrepareFault.TheVariants.{DiskFault, NoRoom, NoMemory}
 use Rattle.leaf_machine.specs.States.{Serving, Shutting, GoesOnCopying, GoesOn, IsShutAndTaken, IsCopying, IsShutting, treated}
-use Rattle.leaf_machine.specs.Prepares.{AllTreated, IsCopyOf, IsTreatingStep, HasTooManyWrites}
-use Rattle.leaf_machine.specs.PrepParts.{IsAllTreated, IsNextTreated, is_too_many}
+use Rattle.leaf_machine.specs.Shut.{AreTablesOf, drained_table}
+use Rattle.leaf_machine.specs.Prepares.{AllTreated, IsCopyOf, IsTreatingStep}
+use Rattle.leaf_machine.specs.PrepParts.{IsAllTreated, IsNextTreated}
 
--- ---- tables that have too many writes for an image
+-- ---- the tables of a drain
 
-pub none_many : (tables : List Table) → list_any is_too_many tables ≡ false → AllByRecursion (λ (t : Table). t.writes < 2 ^ 63) tables
-none_many [] none = tt
-none_many (t ∷ tables) none = by (is_too_many t) refl none (none_many tables)
-  where
-    by : (b : Bool) → is_too_many t ≡ b → (b || list_any is_too_many tables) ≡ false → (list_any is_too_many tables ≡ false → AllByRecursion (λ (u : Table). u.writes < 2 ^ 63) tables)
-        → AllByRecursion (λ (u : Table). u.writes < 2 ^ 63) (t ∷ tables)
-    by true many is others = absurd (false≢true (sym is))
-    by false few is others = (leb-false (2 ^ 63) t.writes few, others is)
+pub all_map : {A B : Type 0} (P : B → Type 0) (f : A → B) (xs : List A) → AllByRecursion P (map f xs) → AllByRecursion (λ (x : A). P (f x)) xs
+all_map P f [] all = tt
+all_map P f (x ∷ xs) all = (all.0, all_map P f xs all.1)
 
-abbrev ManyIn : List Table → Type 0
-ManyIn tables = (t : Table) × ((place : ℕ) × (slice_get tables place ≡ Some t)) × (2 ^ 63 ≤ t.writes)
+-- the images of their parts are those of what they hold
+images_map : (tables : List DrainTable) → drained_images tables ≡ images_of (map (λ (t : DrainTable). t.name) tables) (map drained_table tables)
+images_map [] = refl
+images_map (t ∷ tables) = ap (λ (l : List TableImage). image_of_parts t.name t.parts ∷ l) (images_map tables)
 
-many_in : (tables : List Table) → list_any is_too_many tables ≡ true → ManyIn tables
-many_in [] some = absurd (false≢true some)
-many_in (t ∷ tables) some = by (is_too_many t) refl some (many_in tables)
-  where
-    by : (b : Bool) → is_too_many t ≡ b → (b || list_any is_too_many tables) ≡ true → (list_any is_too_many tables ≡ true → ManyIn tables) → ManyIn (t ∷ tables)
-    by true many is others = (t, (0, refl), leb-true (2 ^ 63) t.writes many)
-    by false few is others = let there = others is in (there.0, (suc there.1.0, there.1.1), there.2)
+pub images_are : (names : List (List ℕ)) (closed : List Table) (tables : List DrainTable) → AreTablesOf names closed tables → drained_images tables ≡ images_of names closed
+images_are names closed tables are = images_map tables ∙ ap₂ images_of are.names_are are.closed_are
 
-pub too_many : (x : Shutting) → list_any is_too_many x.closed ≡ true → HasTooManyWrites x
-too_many x some = many_in x.closed some
+-- their names are names of tables
+pub names_are : (names : List (List ℕ)) (closed : List Table) (tables : List DrainTable) → AreTablesOf names closed tables → AllByRecursion IsName names → AllByRecursion (λ (t : DrainTable). IsName t.name) tables
+names_are names closed tables are each = all_map IsName (λ (t : DrainTable). t.name) tables (subst (AllByRecursion IsName) (sym are.names_are) each)
+
+-- the image of a drain of them
+pub image_of : (x : Shutting) (drain : DrainState) (tables : List DrainTable) → AreTablesOf x.serving.seated.names x.closed tables → (end_ : ℕ) → end_ ≡ x.serving.owing.log.end
+    → IsAdoptable drain.image (drained_images tables) end_ → IsAdoptable drain.image (images_of x.serving.seated.names x.closed) x.serving.owing.log.end
+image_of x drain tables are end_ place image =
+    subst (λ (n : ℕ). IsAdoptable drain.image (images_of x.serving.seated.names x.closed) n) place
+    (subst (λ (images : List TableImage). IsAdoptable drain.image images end_) (images_are x.serving.seated.names x.closed tables are) image)
+
+-- where all are treated, the names of the sealed ones are all names
+pub all_names : (x : Shutting) (names : List (List ℕ)) → AreSeated x.serving.seated → IsAllTreated x → names ≡ take (treated x) x.serving.seated.names → names ≡ x.serving.seated.names
+all_names x names sits whole first =
+    let count : length x.serving.seated.names ≡ length x.serving.seated.tables = ap (λ (l : List (List ℕ)). length l) (sym sits.names) ∙ length-map x.serving.seated.tables name_of in
+    first ∙ take_all (treated x) x.serving.seated.names (omega (arith, count, treated_all x whole.shut, whole.all))
 
 -- ---- nothing happens
 
@@ -86,7 +97,7 @@ all_taken : (s : HistoryState) → IsFoundation s → s.taken ≡ write_count s 
 all_taken s sound taken = omega (arith, taken, sound.handed_in)
 
 module _ (x : Shutting) (m : Meaning) (is : IsShutting x m) (sits : AreSeated x.serving.seated) (all : length x.closed ≡ length x.serving.seated.tables) (none : x.serving.owing.log.owed ≡ None)
-    (drain : DrainState) (image : IsImage layout drain.image (images_of x.serving.seated.names x.closed) x.serving.owing.log.end) (begin : drain.next ≡ next.Begin) where
+    (drain : DrainState) (image : IsAdoptable drain.image (images_of x.serving.seated.names x.closed) x.serving.owing.log.end) (begin : drain.next ≡ next.Begin) where
   abbrev ws : List Watched
   ws = watched_by x.serving.seated
 
@@ -128,7 +139,7 @@ module _ (x : Shutting) (m : Meaning) (is : IsShutting x m) (sits : AreSeated x.
   copies founded writes runs =
       planned ws x.serving.owing.owner x.closed x.serving.owing.log drain writes m runs none (taken founded writes runs)
       (record {
-        image = subst (λ (names : List (List ℕ)). IsImage layout drain.image (images_of names x.closed) x.serving.owing.log.end) (sym (watch_names x.serving.seated sits)) image;
+        image = subst (λ (names : List (List ℕ)). IsAdoptable drain.image (images_of names x.closed) x.serving.owing.log.end) (sym (watch_names x.serving.seated sits)) image;
         begins = begin;
       })
 
@@ -148,8 +159,9 @@ module _ (x : Shutting) (m : Meaning) (is : IsShutting x m) (sits : AreSeated x.
     stands = λ founded. let old = is.stands founded in (old.0, (old.1.0, copies founded old.1.0 old.1.1));
   }
 
-  pub is_copy : list_any is_too_many x.closed ≡ false → IsCopyOf x (record { seated = x.serving.seated; drain = drain })
-  is_copy few = record { seated = refl; image = image; next = begin; room = none_many x.closed few }
+  pub is_copy : (tables : List DrainTable) → AreTablesOf x.serving.seated.names x.closed tables → has_no_room tables ≡ false → drain.heap ≡ all_columns tables
+      → IsCopyOf x (record { seated = x.serving.seated; drain = drain })
+  is_copy tables are room heap = record { seated = refl; tables = tables; are = are; has_room = room; image = image; heap = heap; next = begin }
 
 -- ---- a step
 

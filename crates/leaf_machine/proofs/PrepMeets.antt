@@ -59,6 +59,7 @@ module _ (x : Seated) (sits : AreSeated x) (place : ℕ) (t : Shared) (v u w : S
         spares_shut = λ last. met_room o.log.owed o.owner 2 (is.spares_shut last);
         owed = met_owed o.log.owed o.owner o.count is.owed;
         last = is.last;
+        owner = is.owner;
         owes = is.owes;
         stands = λ founded. let old = is.stands founded in (old.0, (old.1.0, met_goes o.owner o.log old.1.0 m founded old.1.1));
       }

@@ -1,6 +1,6 @@
 -- What is owed is settled, or is not.
-use Rattle.std.proofs.Common.{◌≡◌, ℕ, suc, ◌<◌, ◌≤◌, false, List, [], ◌∷◌, length, Option, Some, None, refl, sym, ap, subst, ◌∙◌, arith, inl, inr}
-use Rattle.std.specs.Prelude.{slice_get, IfSome, IsSome, IsTrue, IsOk, IsErr, Result, Ok, Err}
+use Rattle.std.proofs.Common.{◌≡◌, ℕ, suc, ◌<◌, ◌≤◌, Bool, List, [], ◌∷◌, length, Option, Some, None, refl, sym, ap, subst, ◌∙◌, arith, inl, inr}
+use Rattle.std.specs.Prelude.{slice_get, IfSome, IsSome, IsTrue, Result}
 use Rattle.std.proofs.lemmas.Bool.{false≢true}
 use Rattle.leaf_model.specs.declared.writes.Write.{Write}
 use Rattle.row_records.specs.Records.{LogRecord}
@@ -18,10 +18,6 @@ use Rattle.leaf_machine.specs.PrepParts.{IsPartOfStep}
 use Rattle.leaf_machine.proofs.PrepHolds.{Holds, flushed_holds, holds_of}
 use Rattle.leaf_machine.proofs.PrepJoins.{goes_to, makes_one, no_notes, stands_on, tables_on}
 
-pub not_both : {T E A : Type 0} (r : Result T E) → IsOk r → IsErr r → A
-not_both (Ok v) good bad = absurd (false≢true bad)
-not_both (Err e) good bad = absurd (false≢true good)
-
 -- ---- a leaf that is owed nothing, or the record of the last table that was shut
 
 pub none_owed : {A : Type 0} (o : Option LogRecord) → o ≡ None → IsSome o → A
@@ -30,9 +26,9 @@ none_owed o none some = absurd (false≢true (subst (λ (p : Option LogRecord). 
 pub if_none : (o : Option LogRecord) (P : LogRecord → Type 0) → o ≡ None → IfSome o P
 if_none o P none = subst (λ (p : Option LogRecord). IfSome p P) (sym none) tt
 
-pub quiet_is : (closed : List Table) (y : Seated) (o : Owing) (m : Meaning) → Holds closed y → o.log.owed ≡ None → UpStands (record { seated = y; owing = o }) m
-    → IsShutting (record { serving = record { seated = y; owing = o }; closed = closed; shut = false }) m
-quiet_is closed y o m holds none stands = record {
+pub quiet_is : (closed : List Table) (shut : Bool) (y : Seated) (o : Owing) (m : Meaning) → Holds closed y → o.log.owed ≡ None → (IsTrue shut → 0 < length closed)
+    → UpStands (record { seated = y; owing = o }) m → IsShutting (record { serving = record { seated = y; owing = o }; closed = closed; shut = shut }) m
+quiet_is closed shut y o m holds none last stands = record {
   few = holds.few;
   opened = holds.opened;
   closed_are = holds.closed_are;
@@ -40,9 +36,10 @@ quiet_is closed y o m holds none stands = record {
   spares = holds.spares;
   spares_closed = holds.spares_closed;
   spares_owed = λ empty. if_none o.log.owed (λ r. AtPlace (Spares 4) y o.owner) none;
-  spares_shut = λ shut. absurd (false≢true shut);
+  spares_shut = λ is. if_none o.log.owed (λ r. AtPlace (Spares 2) y o.owner) none;
   owed = if_none o.log.owed (λ r. (o.owner < length y.tables) × AtPlace (λ t v. (o.count ≤ (state_seen (base_seen t) v).taken) × (name_of t ≡ r.name)) y o.owner) none;
-  last = λ shut. absurd (false≢true shut);
+  last = last;
+  owner = λ is some. none_owed o.log.owed none some;
   owes = λ some. none_owed o.log.owed none some;
   stands = stands;
 }
@@ -77,7 +74,8 @@ still_owes x m m' o is owed owner count stands = record {
   spares_owed = λ empty. still_spares x.serving.seated x.serving.owing o 4 owed owner (is.spares_owed empty);
   spares_shut = λ shut. still_spares x.serving.seated x.serving.owing o 2 owed owner (is.spares_shut shut);
   owed = still_owed x.serving.seated x.serving.owing o owed owner count is.owed;
-  last = λ shut. (subst (λ (p : Option LogRecord). IsSome p) (sym owed) (is.last shut).0, ap suc owner ∙ (is.last shut).1);
+  last = is.last;
+  owner = λ shut some. ap suc owner ∙ is.owner shut (subst (λ (p : Option LogRecord). IsSome p) owed some);
   owes = λ some. is.owes (subst (λ (p : Option LogRecord). IsSome p) owed some);
   stands = stands;
 }
@@ -92,7 +90,7 @@ module _ (x : Shutting) (m : Meaning) (is : IsShutting x m) (sits : AreSeated x.
   owner_open : (t : Shared) (v : SeatView) → slice_get x.serving.seated.tables x.serving.owing.owner ≡ Some t → slice_get x.serving.seated.seats x.serving.owing.owner ≡ Some v
       → length x.closed ≤ x.serving.owing.owner → Spares 4 t v
   owner_open t v at was past = elim (is.owes some) [
-    | inl shut ↦ absurd (omega (arith, past, (is.last shut).1))
+    | inl shut ↦ absurd (omega (arith, past, is.owner shut some))
     | inr empty ↦ subst (λ (o : Option LogRecord). SparesAs x.serving.seated o x.serving.owing.owner 4) owes (is.spares_owed empty) t v at was
   ]
 
@@ -112,20 +110,21 @@ module _ (x : Shutting) (m : Meaning) (is : IsShutting x m) (sits : AreSeated x.
 
 module _ (x : Shutting) (m m' : Meaning) (is : IsShutting x m) (sits : AreSeated x.serving.seated) {T E : Type 0} (clock : ℕ) (before : List Note) (result : Result T E)
     (y : Seated) (o : Owing) (after : List Note) where
-  pub settled_is : SettlesOwed clock x.serving.seated x.serving.owing before result y o after → IsOk result → UpStands (record { seated = y; owing = o }) m'
-      → IsShutting (record { serving = record { seated = y; owing = o }; closed = x.closed; shut = false }) m'
-  settled_is (nothing none good same_seats same notes) ok stands =
-      quiet_is x.closed y o m' (subst (Holds x.closed) (sym same_seats) (holds_of x m is)) (ap (λ (p : Owing). p.log.owed) same ∙ none) stands
-  settled_is (done r number owes good one notes settled) ok stands = quiet_is x.closed y o m' (settled_holds x m is sits r owes clock number y one) settled.0 stands
-  settled_is (failed r owes bad same_seats notes owing owner count) ok stands = not_both result ok bad
-
-  pub stuck_is : SettlesOwed clock x.serving.seated x.serving.owing before result y o after → IsErr result → UpStands (record { seated = y; owing = o }) m'
+  pub settled_is : SettlesOwed clock x.serving.seated x.serving.owing before result y o after → UpStands (record { seated = y; owing = o }) m'
       → IsShutting (record { serving = record { seated = y; owing = o }; closed = x.closed; shut = x.shut }) m'
-  stuck_is (nothing none good same_seats same notes) err stands = not_both result good err
-  stuck_is (done r number owes good one notes settled) err stands = not_both result good err
-  stuck_is (failed r owes bad same_seats notes owing owner count) err stands =
+  settled_is (nothing none good same_seats same notes) stands =
+      quiet_is x.closed x.shut y o m' (subst (Holds x.closed) (sym same_seats) (holds_of x m is)) (ap (λ (p : Owing). p.log.owed) same ∙ none) is.last stands
+  settled_is (done r number owes good one notes settled) stands = quiet_is x.closed x.shut y o m' (settled_holds x m is sits r owes clock number y one) settled.0 is.last stands
+  settled_is (failed r owes bad same_seats notes owing owner count) stands =
       subst (λ (s : Seated). UpStands (record { seated = s; owing = o }) m' → IsShutting (record { serving = record { seated = s; owing = o }; closed = x.closed; shut = x.shut }) m') (sym same_seats)
       (still_owes x m m' o is owing.0 owner count) stands
+
+-- the names stay
+pub settled_names : {T E : Type 0} (clock : ℕ) (x : Seated) (o : Owing) (before : List Note) (result : Result T E) (y : Seated) (o' : Owing) (after : List Note)
+    → SettlesOwed clock x o before result y o' after → y.names ≡ x.names
+settled_names clock x o before result y o' after (nothing none good same_seats same notes) = ap (λ (s : Seated). s.names) same_seats
+settled_names clock x o before result y o' after (done r number owes good one notes settled) = ap (λ (s : Seated). s.names) one.now
+settled_names clock x o before result y o' after (failed r owes bad same_seats notes owing owner count) = ap (λ (s : Seated). s.names) same_seats
 
 -- its entries
 settles_notes : {T E : Type 0} (from clock : ℕ) (x : Seated) (o : Owing) (before : List Note) (result : Result T E) (y : Seated) (o' : Owing) (after : List Note)

@@ -1,6 +1,7 @@
 -- The next table is shut, and its record is brought onto the disk, or is owed.
 use Rattle.std.proofs.Common.{◌≡◌, ℕ, ◌+◌, ◌<◌, ◌≤◌, Bool, true, false, List, [], ◌∷◌, ◌++◌, length, Option, Some, None, refl, sym, ap, ap₂, subst, ◌∙◌, arith, inl, le_refl, append_assoc}
-use Rattle.std.specs.Prelude.{slice_set, IfSome, IsSome, IsTrue, IsOk, IsErr, Result}
+use Rattle.std.specs.Prelude.{slice_set, IfSome, IsSome, IsTrue, IsOk, IsErr, Result, Ok, Err}
+use Rattle.std.proofs.lemmas.Bool.{false≢true}
 use Rattle.std.proofs.lemmas.List.{length-append}
 use Rattle.std.proofs.lemmas.Option.{slice_get_within}
 use Rattle.leaf_model.specs.declared.writes.Write.{Write}
@@ -9,7 +10,7 @@ use Rattle.berth_face.specs.Berth.{Meaning, Passes}
 use Rattle.leaf_history.specs.Calls as call
 use Rattle.leaf_history.specs.Replies as reply
 use Rattle.leaf_history.specs.History.{HistoryState, after, held, untaken}
-use Rattle.table_state.specs.Tables.{Table, Takes}
+use Rattle.table_state.specs.Tables.{Table, Takes, bare}
 use Rattle.leaf_table.specs.Turns.{Shared, is_founded, start_of}
 use Rattle.leaf_table.specs.Turns as turns
 use Rattle.leaf_table.specs.Calls.{base_seen, name_of, seen_of, state_before, state_seen}
@@ -31,11 +32,11 @@ use Rattle.leaf_steward.proofs.Watching.{made_enters, makes_more, watch_get, wat
 use Rattle.log_steward.specs.Owing.{Owing, Brings, HasJustTaken, RunsTo, done, failed}
 use Rattle.leaf_machine.specs.States.{Shutting, GoesOn, IsShutting, UpStands}
 use Rattle.leaf_machine.specs.Flushes.{OwedNotes}
-use Rattle.leaf_machine.specs.Prepares.{Halts, Treats, half, whole}
-use Rattle.leaf_machine.specs.PrepParts.{IsPartOfStep}
+use Rattle.leaf_machine.specs.Prepares.{Halts, half}
+use Rattle.leaf_machine.specs.PrepParts.{IsPartOfStep, Shuts, ShutsNext}
 use Rattle.leaf_machine.proofs.PrepHolds.{Holds, flushed_holds, holds_of, shut_count, shut_holds, shut_named, shut_room}
 use Rattle.leaf_machine.proofs.PrepJoins.{founded_on, makes_one, makes_two, stands_on, tables_on}
-use Rattle.leaf_machine.proofs.PrepSettles.{not_both, quiet_is}
+use Rattle.leaf_machine.proofs.PrepSettles.{quiet_is}
 
 -- ---- the record of what was not taken
 
@@ -50,13 +51,13 @@ none_noted o by none = subst (λ (p : Option LogRecord). OwedNotes p by []) (sym
 module _ (x : Shutting) (m : Meaning) (is : IsShutting x m) (sits : AreSeated x.serving.seated) (none : x.serving.owing.log.owed ≡ None) (place number : ℕ) (next : place ≡ length x.closed)
     (t t' : Table) (pending : Option LogRecord) (y : Seated) (shut : ShutsAt m.clock x.serving.seated place number t.writes t y) (takes : Takes t pending t') where
   abbrev closed : List Table
-  closed = x.closed ++ t' ∷ []
+  closed = x.closed ++ bare t' ∷ []
 
   abbrev closing : ℕ → Note
   closing k = record { table = k; number = number; what = what.Closed t.writes }
 
   size : length closed ≡ length x.closed + 1
-  size = length-append x.closed (t' ∷ [])
+  size = length-append x.closed (bare t' ∷ [])
 
   one : OneEntry m.clock x.serving.seated (closing place) y
   one = record { table = shut.table; before = shut.before; after = shut.after; at = shut.at; was = shut.was; number = shut.counted; made = shut.made; now = shut.now }
@@ -76,12 +77,12 @@ module _ (x : Shutting) (m : Meaning) (is : IsShutting x m) (sits : AreSeated x.
   pub holds_then : Holds closed y
   holds_then =
       subst (Holds closed) (sym shut.now)
-      (shut_holds x.closed x.serving.seated (holds_of x m is) place shut.table shut.before shut.after m.clock t.writes t' next shut.at shut.was shut.made contents (ap (λ (c : Table). c.writes) takes.1))
+      (shut_holds x.closed x.serving.seated (holds_of x m is) place shut.table shut.before shut.after m.clock t.writes (bare t') next shut.at shut.was shut.made contents (ap (λ (c : Table). c.writes) takes.1))
 
   pub room_then : AtPlace (Spares 2) y place
   room_then =
       subst (λ (s : Seated). AtPlace (Spares 2) s place) (sym shut.now)
-      (shut_room x.closed x.serving.seated (holds_of x m is) place shut.table shut.before shut.after m.clock t.writes t' next shut.at shut.was shut.made contents (ap (λ (c : Table). c.writes) takes.1))
+      (shut_room x.closed x.serving.seated (holds_of x m is) place shut.table shut.before shut.after m.clock t.writes (bare t') next shut.at shut.was shut.made contents (ap (λ (c : Table). c.writes) takes.1))
 
   pub one_spare : AtPlace (Spares 1) y place
   one_spare = λ u s here there. omega (arith, room_then u s here there)
@@ -89,7 +90,7 @@ module _ (x : Shutting) (m : Meaning) (is : IsShutting x m) (sits : AreSeated x.
   pub count_then : AtPlace (λ u s. t.writes ≤ (state_seen (base_seen u) s).taken) y place
   count_then =
       subst (λ (z : Seated). AtPlace (λ u s. t.writes ≤ (state_seen (base_seen u) s).taken) z place) (sym shut.now)
-      (shut_count x.closed x.serving.seated (holds_of x m is) place shut.table shut.before shut.after m.clock t.writes t' next shut.at shut.was shut.made contents (ap (λ (c : Table). c.writes) takes.1))
+      (shut_count x.closed x.serving.seated (holds_of x m is) place shut.table shut.before shut.after m.clock t.writes (bare t') next shut.at shut.was shut.made contents (ap (λ (c : Table). c.writes) takes.1))
 
   record_is : pending ≡ turns.record_for (name_of shut.table) (untaken (state_before (base_seen shut.table) shut.before shut.made.between))
   record_is = takes.0 ∙ shut.record_is
@@ -171,30 +172,13 @@ module _ (x : Shutting) (m : Meaning) (is : IsShutting x m) (sits : AreSeated x.
     stands : UpStands (record { seated = z; owing = o }) m'
     stands = stands_on x.serving (record { seated = z; owing = o }) m m' is.stands (shut_goes z o m' runs) (tables_on m.clock m'.clock x.serving.seated z old new (brought_notes brings)) time.tells
 
-    brought : Brings m'.clock y x.serving.owing place t.writes pending mid result z o new → IsOk result → IsShutting (record { serving = record { seated = z; owing = o }; closed = closed; shut = false }) m'
-    brought (done n good then notes owed) ok =
-        quiet_is closed z o m'
-        (subst (Holds closed) (sym then.now)
-        (flushed_holds closed y holds_then sits_then place then.table then.before then.after m'.clock t.writes then.at then.was then.made
-        (λ past. absurd (omega (arith, past, size, next))) (λ before. room_then then.table then.before then.at then.was)))
-        owed stands
-    brought (failed r owes bad same notes owed owner count) ok = not_both result ok bad
+    -- the names stay
+    names_still : Brings m'.clock y x.serving.owing place t.writes pending mid result z o new → z.names ≡ x.serving.seated.names
+    names_still (done n good then notes owed) = ap (λ (s : Seated). s.names) then.now ∙ ap (λ (s : Seated). s.names) shut.now
+    names_still (failed r owes bad same notes owed owner count) = ap (λ (s : Seated). s.names) same ∙ ap (λ (s : Seated). s.names) shut.now
 
-    pub brought_is : IsOk result → IsShutting (record { serving = record { seated = z; owing = o }; closed = closed; shut = false }) m'
-    brought_is ok = brought brings ok
-
-    treats : Brings m'.clock y x.serving.owing place t.writes pending mid result z o new → IsOk result → (open_ : x.shut ≡ false)
-        → (made : List Note) × (new ≡ old ++ made) × Treats x (record { serving = record { seated = z; owing = o }; closed = closed; shut = false }) made
-    treats (done n good then notes owed) ok open_ = (
-      closing place ∷ flushing n ∷ [],
-      all_notes n notes,
-      whole [] number n t.writes t' open_ (none_noted x.serving.owing.log.owed x.serving.owing none)
-          (ap (λ (k : ℕ). closing k ∷ record { table = k; number = n; what = what.Flushed t.writes } ∷ []) next) refl refl owed,
-    )
-    treats (failed r owes bad same notes owed owner count) ok open_ = not_both result ok bad
-
-    pub brought_treats : IsOk result → x.shut ≡ false → (made : List Note) × (new ≡ old ++ made) × Treats x (record { serving = record { seated = z; owing = o }; closed = closed; shut = false }) made
-    brought_treats ok open_ = treats brings ok open_
+    pub brought_names : z.names ≡ x.serving.seated.names
+    brought_names = names_still brings
 
     halted : (r : LogRecord) → pending ≡ Some r → o.log.owed ≡ Some r → o.owner ≡ place → o.count ≡ t.writes → UpStands (record { seated = y; owing = o }) m'
         → IsShutting (record { serving = record { seated = y; owing = o }; closed = closed; shut = true }) m'
@@ -213,29 +197,63 @@ module _ (x : Shutting) (m : Meaning) (is : IsShutting x m) (sits : AreSeated x.
             omega (arith, slice_get_within x.serving.seated.tables place shut.table shut.at, ap (λ (l : List Shared). length l) tables_then),
             λ u s here there. (omega (arith, count, count_then u s here there), subst (λ (p : Option LogRecord). IfSome p (λ q. AtPlace (λ u s. name_of u ≡ q.name) y place)) is_pending named_then u s here there),
           ));
-      last = λ last. (subst (λ (p : Option LogRecord). IsSome p) (sym owed) refl, omega (arith, owner, next, size));
+      last = λ last. omega (arith, size);
+      owner = λ last some. omega (arith, owner, next, size);
       owes = λ some. inl refl;
       stands = stands_there;
     }
 
-    halts_is : Brings m'.clock y x.serving.owing place t.writes pending mid result z o new → IsErr result → IsShutting (record { serving = record { seated = z; owing = o }; closed = closed; shut = true }) m'
-    halts_is (done n good then notes owed) err = not_both result good err
-    halts_is (failed r owes bad same notes owed owner count) err =
+    brought : Brings m'.clock y x.serving.owing place t.writes pending mid result z o new → IsShutting (record { serving = record { seated = z; owing = o }; closed = closed; shut = true }) m'
+    brought (done n good then notes owed) =
+        quiet_is closed true z o m'
+        (subst (Holds closed) (sym then.now)
+        (flushed_holds closed y holds_then sits_then place then.table then.before then.after m'.clock t.writes then.at then.was then.made
+        (λ past. absurd (omega (arith, past, size, next))) (λ before. room_then then.table then.before then.at then.was)))
+        owed (λ last. omega (arith, size)) stands
+    brought (failed r owes bad same notes owed owner count) =
         subst (λ (s : Seated). UpStands (record { seated = s; owing = o }) m' → IsShutting (record { serving = record { seated = s; owing = o }; closed = closed; shut = true }) m') (sym same)
         (halted r owes owed owner count) stands
 
-    pub halted_is : IsErr result → IsShutting (record { serving = record { seated = z; owing = o }; closed = closed; shut = true }) m'
-    halted_is err = halts_is brings err
+    pub brought_is : IsShutting (record { serving = record { seated = z; owing = o }; closed = closed; shut = true }) m'
+    brought_is = brought brings
 
-    halts : Brings m'.clock y x.serving.owing place t.writes pending mid result z o new → IsErr result → (open_ : x.shut ≡ false)
-        → (made : List Note) × (new ≡ old ++ made) × Halts x (record { serving = record { seated = z; owing = o }; closed = closed; shut = true }) made
-    halts (done n good then notes owed) err open_ = not_both result good err
-    halts (failed r owes bad same notes owed owner count) err open_ = (
+    -- ---- what happened
+
+    abbrev there : Shutting
+    there = record { serving = record { seated = z; owing = o }; closed = closed; shut = true }
+
+    next_ok : {A B : Type 0} (made : List Note) (r : Result A B) → IsOk r → Shuts x there made → ShutsNext x there made r
+    next_ok made (Ok v) good shuts = shuts
+    next_ok made (Err e) good shuts = absurd (false≢true good)
+
+    next_err : {A B : Type 0} (made : List Note) (r : Result A B) → IsErr r → Halts x there made → ShutsNext x there made r
+    next_err made (Ok v) bad halts = absurd (false≢true bad)
+    next_err made (Err e) bad halts = halts
+
+    brings_next : Brings m'.clock y x.serving.owing place t.writes pending mid result z o new → x.shut ≡ false → (made : List Note) × (new ≡ old ++ made) × ShutsNext x there made result
+    brings_next (done n good then notes owed) open_ = (
+      closing place ∷ flushing n ∷ [],
+      all_notes n notes,
+      next_ok (closing place ∷ flushing n ∷ []) result good (
+          record {
+            closing = number;
+            flushing = n;
+            count = t.writes;
+            content = bare t';
+            noted = ap (λ (k : ℕ). closing k ∷ record { table = k; number = n; what = what.Flushed t.writes } ∷ []) next;
+            closed = refl;
+            shut = refl;
+            owed = owed;
+          }
+          ),
+    )
+    brings_next (failed r owes bad same notes owed owner count) open_ = (
       closing place ∷ [],
       notes ∙ noted,
-      half [] number t.writes t' open_ (none_noted x.serving.owing.log.owed x.serving.owing none) (ap (λ (k : ℕ). closing k ∷ []) next) refl refl
-          (subst (λ (p : Option LogRecord). IsSome p) (sym owed) refl) (owner ∙ next) count,
+      next_err (closing place ∷ []) result bad
+          (half [] number t.writes (bare t') open_ (none_noted x.serving.owing.log.owed x.serving.owing none) (ap (λ (k : ℕ). closing k ∷ []) next) refl refl
+          (subst (λ (p : Option LogRecord). IsSome p) (sym owed) refl) (owner ∙ next) count),
     )
 
-    pub halted_halts : IsErr result → x.shut ≡ false → (made : List Note) × (new ≡ old ++ made) × Halts x (record { serving = record { seated = z; owing = o }; closed = closed; shut = true }) made
-    halted_halts err open_ = halts brings err open_
+    pub brought_next : x.shut ≡ false → (made : List Note) × (new ≡ old ++ made) × ShutsNext x there made result
+    brought_next open_ = brings_next brings open_

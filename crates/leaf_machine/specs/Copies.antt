@@ -1,10 +1,11 @@
 -- What a step of a leaf that copies its tables does.
-use Rattle.std.specs.Prelude.{◌≡◌, ℕ, List, [], length, Result, Ok, Err}
+use Rattle.std.specs.Prelude.{◌≡◌, ℕ, suc, ◌+◌, ◌≤◌, List, [], length, Result, Ok, Err, ⊤}
 use Rattle.leaf_model.specs.declared.writes.Write.{Write}
 use Rattle.berth_face.specs.Berth.{Meaning}
 use Rattle.drain_copy.specs.declared.step.Next.{Next}
 use Rattle.drain_copy.specs.declared.step.Next.TheVariants as next
 use Rattle.drain_copy.specs.declared.step.RegionFault.{RegionFault}
+use Rattle.drain_copy.specs.Draining.{held, left}
 use Rattle.crash_states.specs.Standing.{Copies as Stands}
 use Rattle.leaf_opening.specs.declared.ways.Way.TheVariants.{Memory}
 use Rattle.leaf_opening.specs.Starts.{IsWayOf}
@@ -25,16 +26,17 @@ seats_of_copy (Ok (copied.More leaf)) = leaf.0.seated
 seats_of_copy (Ok (copied.Finished leaf)) = leaf.0
 seats_of_copy (Err x) = x.0.0
 
--- the step that comes after one that is not the last
-abbrev pub IsNextCopy : Next → Next → Type 0
-IsNextCopy next.Begin later = later ≡ next.Write
-IsNextCopy next.Write later = later ≡ next.Flag
-IsNextCopy next.Flag later = ⊥
-IsNextCopy next.Nothing later = ⊥
+-- some of the copy is made, and not all of it
+abbrev pub IsUnderWay : Next → Type 0
+IsUnderWay next.Begin = ⊥
+IsUnderWay next.Copy = ⊤
+IsUnderWay next.Flag = ⊤
+IsUnderWay next.Nothing = ⊥
 
--- a step that is not the last; the last, which notes each table as handed over; or the region failed
+-- a step that is not the last, which leaves one step less; the last, which notes each table as handed over; or the region failed
 abbrev pub IsCopyStep : {B : Type 0} → Copying → List Note → Result (Copied B) ((Seated × B) × RegionFault) → Type 0
-IsCopyStep c notes (Ok (copied.More leaf)) = IsNextCopy c.drain.next leaf.0.drain.next × (leaf.0.seated ≡ c.seated) × (leaf.0.drain.image ≡ c.drain.image) × (notes ≡ [])
+IsCopyStep c notes (Ok (copied.More leaf)) = (suc (left leaf.0.drain) ≡ left c.drain) × (leaf.0.seated ≡ c.seated) × (leaf.0.drain.image ≡ c.drain.image) × (notes ≡ [])
+    × IsUnderWay leaf.0.drain.next
 IsCopyStep c notes (Ok (copied.Finished leaf)) = (c.drain.next ≡ next.Flag) × EachNoted IsHandedNote 0 (length c.seated.tables) notes
 IsCopyStep c notes (Err (leaf, fault)) = (leaf.0 ≡ c.seated) × (notes ≡ [])
 
@@ -44,3 +46,9 @@ CopyGoesOn meaning c m (Ok (copied.More leaf)) = (writes : List ℕ → List Wri
 CopyGoesOn meaning c m (Ok (copied.Finished leaf)) = (writes : List ℕ → List Write) → Stands (watched_by c.seated) c.drain writes m
     → RestsOn c.seated leaf.0 m (meaning leaf.1) × IsWayOf (meaning leaf.1).held.region Memory
 CopyGoesOn meaning c m (Err (leaf, fault)) = (writes : List ℕ → List Write) → Stands (watched_by c.seated) c.drain writes m → RestsOn c.seated leaf.0 m (meaning leaf.1)
+
+-- what is still held on the heap and the region together are no longer than the image
+abbrev pub IsInImage : {B : Type 0} → (B → Meaning) → Copying → Result (Copied B) ((Seated × B) × RegionFault) → Type 0
+IsInImage meaning c (Ok (copied.More leaf)) = length (meaning leaf.1).held.region + held leaf.0.drain ≤ length c.drain.image
+IsInImage meaning c (Ok (copied.Finished leaf)) = length (meaning leaf.1).held.region ≤ length c.drain.image
+IsInImage meaning c (Err x) = ⊤

@@ -6,3 +6,4 @@ pub mod Prepares
 pub mod Copies
 pub mod PrepParts
 pub mod Leaving
+pub mod Shut

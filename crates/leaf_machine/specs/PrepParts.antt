@@ -1,14 +1,16 @@
 -- What each part of a step of a leaf that shuts its tables does.
-use Rattle.std.specs.Prelude.{◌≡◌, ℕ, ◌^◌, nat_le, Bool, false, List, length, None, Result, Ok, Err, IsTrue, ⊤}
+use Rattle.std.specs.Prelude.{◌≡◌, ℕ, true, false, List, [], ◌∷◌, ◌++◌, length, None, Result, Ok, Err, IsTrue, ⊤}
 use Rattle.berth_face.specs.Berth.{Meaning, Passes}
 use Rattle.berth_face.specs.Causes.{Rose}
 use Rattle.table_state.specs.Tables.{Table}
 use Rattle.leaf_steward.specs.declared.notes.Note.{Note}
+use Rattle.leaf_steward.specs.declared.notes.What.TheVariants as what
 use Rattle.leaf_steward.specs.Seated.{AreFounded}
 use Rattle.leaf_steward.specs.Making.{NotesOn}
 use Rattle.leaf_machine.specs.declared.preparing.PrepareFault.{PrepareFault}
 use Rattle.leaf_machine.specs.declared.preparing.PrepareFault.TheVariants.{DiskFault, NoRoom, NoMemory}
 use Rattle.leaf_machine.specs.States.{Serving, Shutting, GoesOn}
+use Rattle.leaf_machine.specs.Flushes.{OwedNotes}
 use Rattle.leaf_machine.specs.Prepares.{Treats, Halts, Starves}
 
 -- a part of a step: its entries stand behind the notes that were there, and the leaf goes on over its berth
@@ -39,6 +41,25 @@ pub record IsAllTreated (x : Shutting) : Type 0 where
   pub all : length x.closed ≡ length x.serving.seated.tables
   pub none : x.serving.owing.log.owed ≡ None
 
--- a table has too many writes for an image
-abbrev pub is_too_many : Table → Bool
-is_too_many t = nat_le (2 ^ 63) t.writes
+-- what was owed is settled and noted
+pub record Settles (old new : Shutting) (notes : List Note) : Type 0 where
+  pub noted : OwedNotes old.serving.owing.log.owed old.serving.owing notes
+  pub closed : new.closed ≡ old.closed
+  pub shut : new.shut ≡ old.shut
+  pub owed : new.serving.owing.log.owed ≡ None
+
+-- the next table is shut, all of it is in the log, and it is noted as closed and as flushed; its tail is not sealed
+pub record Shuts (old new : Shutting) (notes : List Note) : Type 0 where
+  pub closing : ℕ
+  pub flushing : ℕ
+  pub count : ℕ
+  pub content : Table
+  pub noted : notes ≡ record { table = length old.closed; number = closing; what = what.Closed count } ∷ record { table = length old.closed; number = flushing; what = what.Flushed count } ∷ []
+  pub closed : new.closed ≡ old.closed ++ content ∷ []
+  pub shut : new.shut ≡ true
+  pub owed : new.serving.owing.log.owed ≡ None
+
+-- the next table is shut, or the disk fails behind that
+abbrev pub ShutsNext : {T E : Type 0} → Shutting → Shutting → List Note → Result T E → Type 0
+ShutsNext x y notes (Ok done) = Shuts x y notes
+ShutsNext x y notes (Err fault) = Halts x y notes

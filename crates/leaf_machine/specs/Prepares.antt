@@ -1,13 +1,16 @@
 -- What a step of a leaf that shuts its tables does.
-use Rattle.std.specs.Prelude.{◌≡◌, ℕ, ◌<◌, ◌≤◌, ◌^◌, true, false, List, [], ◌∷◌, ◌++◌, length, slice_get, IsSome, Some, None, Result, Ok, Err, ⊤}
-use Rattle.std.specs.List.{AllByRecursion}
+use Rattle.std.specs.Prelude.{◌≡◌, ℕ, ◌<◌, true, false, List, [], ◌∷◌, ◌++◌, length, IsSome, IsTrue, None, Result, Ok, Err, ⊤}
 use Rattle.leaf_model.specs.declared.writes.Write.{Write}
 use Rattle.berth_face.specs.Berth.{Meaning}
 use Rattle.berth_face.specs.Causes.{Rose}
 use Rattle.table_state.specs.Tables.{Table}
-use Rattle.region_layout.specs.Region.{IsImage, layout}
+use Rattle.region_directory.specs.declared.drained.DrainTable.{DrainTable}
+use Rattle.region_directory.specs.Region.{IsAdoptable}
+use Rattle.region_directory.specs.Drained.{all_columns, has_no_room}
 use Rattle.region_layout.specs.Images.{images_of}
 use Rattle.drain_copy.specs.declared.step.Next.TheVariants as next
+use Rattle.drain_copy.specs.declared.step.PlanFault.{PlanFault}
+use Rattle.drain_copy.specs.declared.step.PlanFault.TheVariants as plan
 use Rattle.crash_states.specs.Standing.{Runs}
 use Rattle.leaf_steward.specs.declared.notes.Note.{Note}
 use Rattle.leaf_steward.specs.declared.notes.What.TheVariants as what
@@ -18,6 +21,7 @@ use Rattle.leaf_machine.specs.declared.preparing.PrepareFault.{PrepareFault}
 use Rattle.leaf_machine.specs.declared.preparing.PrepareFault.TheVariants.{DiskFault, NoRoom, NoMemory}
 use Rattle.leaf_machine.specs.States.{Serving, Shutting, Copying, GoesOn, GoesOnCopying, treated}
 use Rattle.leaf_machine.specs.Flushes.{OwedNotes}
+use Rattle.leaf_machine.specs.Shut.{AreTablesOf}
 
 -- a leaf that serves and is told to shut
 abbrev pub begins : Serving → Shutting
@@ -27,8 +31,8 @@ begins x = record { serving = x; closed = []; shut = false }
 abbrev pub AllTreated : Shutting → Type 0
 AllTreated x = treated x ≡ length x.serving.seated.tables
 
--- One table more is treated. What is owed is settled and noted; then the next table is shut, noted as closed, its writes are settled, and it is noted as flushed,
--- with one number of writes. A table that was shut before is the one whose record was owed.
+-- One table more is treated. What is owed is settled and noted; then the next table is shut, noted as closed, its writes are settled, it is noted as flushed, with one number of writes, and
+-- its tail is sealed. Of a table that was shut before, what was left is done.
 pub data Treats (old new : Shutting) (notes : List Note) : Type 0 where
   whole : (first : List Note) (closing flushing n : ℕ) (content : Table)
       → old.shut ≡ false
@@ -67,23 +71,50 @@ pub data Halts (old new : Shutting) (notes : List Note) : Type 0 where
       → new.shut ≡ old.shut
       → Halts old new notes
 
--- There was no memory: for the next table's content or for the copy. What was owed is settled and noted, and nothing is owed.
-pub record Starves (old new : Shutting) (notes : List Note) : Type 0 where
-  pub noted : OwedNotes old.serving.owing.log.owed old.serving.owing notes
-  pub closed : new.closed ≡ old.closed
-  pub shut : new.shut ≡ false
-  pub owed : new.serving.owing.log.owed ≡ None
+-- There was no memory, and nothing is owed: for the copy, before a table is shut; or to seal the next table, which is shut and whole in the log; or one that was shut before.
+pub data Starves (old new : Shutting) (notes : List Note) : Type 0 where
+  before : old.shut ≡ false
+      → OwedNotes old.serving.owing.log.owed old.serving.owing notes
+      → new.closed ≡ old.closed
+      → new.shut ≡ false
+      → new.serving.owing.log.owed ≡ None
+      → Starves old new notes
+  behind : (first : List Note) (closing flushing n : ℕ) (content : Table)
+      → old.shut ≡ false
+      → length old.closed < length old.serving.seated.tables
+      → OwedNotes old.serving.owing.log.owed old.serving.owing first
+      → notes ≡ first ++ (record { table = length old.closed; number = closing; what = what.Closed n } ∷ record { table = length old.closed; number = flushing; what = what.Flushed n } ∷ [])
+      → new.closed ≡ old.closed ++ content ∷ []
+      → new.shut ≡ true
+      → new.serving.owing.log.owed ≡ None
+      → Starves old new notes
+  still : old.shut ≡ true
+      → OwedNotes old.serving.owing.log.owed old.serving.owing notes
+      → new.closed ≡ old.closed
+      → new.shut ≡ true
+      → new.serving.owing.log.owed ≡ None
+      → Starves old new notes
 
--- a table has too many writes for an image
-abbrev pub HasTooManyWrites : Shutting → Type 0
-HasTooManyWrites x = (t : Table) × ((place : ℕ) × (slice_get x.closed place ≡ Some t)) × (2 ^ 63 ≤ t.writes)
+-- how it is told that no copy can be planned
+abbrev pub told_of_plan : PlanFault → PrepareFault
+told_of_plan plan.NoRoom = NoRoom
+told_of_plan plan.NoMemory = NoMemory
+
+-- ---- the copy
+
+-- no image can be made of the tables
+abbrev pub HasNoRoom : Shutting → Type 0
+HasNoRoom x = (tables : List DrainTable) × AreTablesOf x.serving.seated.names x.closed tables × IsTrue (has_no_room tables)
 
 -- the copy of a leaf all of whose tables are treated: it is an image of them, and nothing of it is in the region yet
 pub record IsCopyOf (x : Shutting) (c : Copying) : Type 0 where
   pub seated : c.seated ≡ x.serving.seated
-  pub image : IsImage layout c.drain.image (images_of x.serving.seated.names x.closed) x.serving.owing.log.end
+  pub tables : List DrainTable
+  pub are : AreTablesOf x.serving.seated.names x.closed tables
+  pub has_room : has_no_room tables ≡ false
+  pub image : IsAdoptable c.drain.image (images_of x.serving.seated.names x.closed) x.serving.owing.log.end
+  pub heap : c.drain.heap ≡ all_columns tables
   pub next : c.drain.next ≡ next.Begin
-  pub room : AllByRecursion (λ (t : Table). t.writes < 2 ^ 63) x.closed
 
 abbrev pub berth_of_step : {B : Type 0} → Result (Prepared B) ((Shutting × B) × PrepareFault) → B
 berth_of_step (Ok (prepared.More leaf)) = leaf.1
@@ -100,7 +131,7 @@ abbrev pub IsTreatingStep : {B : Type 0} → Shutting → List Note → Result (
 IsTreatingStep x notes (Ok (prepared.More leaf)) = (treated x < length x.serving.seated.tables) × Treats x leaf.0 notes
 IsTreatingStep x notes (Ok (prepared.Ready leaf)) = AllTreated x × (notes ≡ []) × IsCopyOf x leaf.0
 IsTreatingStep x notes (Err ((y, b), DiskFault)) = (treated x < length x.serving.seated.tables) × Halts x y notes
-IsTreatingStep x notes (Err ((y, b), NoRoom)) = AllTreated x × HasTooManyWrites x × (notes ≡ []) × (y ≡ x)
+IsTreatingStep x notes (Err ((y, b), NoRoom)) = AllTreated x × HasNoRoom x × (notes ≡ []) × (y ≡ x)
 IsTreatingStep x notes (Err ((y, b), NoMemory)) = Starves x y notes
 
 abbrev pub StepGoesOn : {B : Type 0} → (B → Meaning) → Shutting → Meaning → Result (Prepared B) ((Shutting × B) × PrepareFault) → Type 0
@@ -111,7 +142,7 @@ StepGoesOn meaning x m (Err ((y, b), fault)) = GoesOn x.serving y.serving m (mea
 
 -- a fault of the disk is told only where the count of its faults rose
 abbrev pub RoseStep : {B : Type 0} → ℕ → ℕ → Result (Prepared B) ((Shutting × B) × PrepareFault) → Type 0
-RoseStep before now (Ok step) = ⊤
-RoseStep before now (Err (leaf, DiskFault)) = Rose before now
-RoseStep before now (Err (leaf, NoRoom)) = ⊤
-RoseStep before now (Err (leaf, NoMemory)) = ⊤
+RoseStep earlier now (Ok step) = ⊤
+RoseStep earlier now (Err (leaf, DiskFault)) = Rose earlier now
+RoseStep earlier now (Err (leaf, NoRoom)) = ⊤
+RoseStep earlier now (Err (leaf, NoMemory)) = ⊤

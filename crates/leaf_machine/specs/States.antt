@@ -20,7 +20,8 @@ pub record Serving : Type 0 where
   pub seated : Seated
   pub owing : Owing
 
--- A leaf that shuts its tables. So many of them, from the first on, are shut, with this content; where `shut`, the record of the last of those is still owed.
+-- A leaf that shuts its tables. So many of them, from the first on, are shut, with this content; where `shut`, the last of those is not treated yet: its record is owed, or its tail is not
+-- sealed.
 pub record Shutting : Type 0 where
   pub serving : Serving
   pub closed : List Table
@@ -31,7 +32,7 @@ pub record Copying : Type 0 where
   pub seated : Seated
   pub drain : DrainState
 
--- how many tables are shut and whole in the log
+-- how many tables are shut, whole in the log and sealed
 abbrev pub treated : Shutting → ℕ
 treated x = if x.shut then length x.closed - 1 else length x.closed
 
@@ -90,7 +91,8 @@ pub record IsShutting (x : Shutting) (m : Meaning) : Type 0 where
   pub spares_owed : x.closed ≡ [] → SparesOwed x.serving.seated x.serving.owing 4
   pub spares_shut : IsTrue x.shut → SparesOwed x.serving.seated x.serving.owing 2
   pub owed : IsOwed x.serving.seated x.serving.owing
-  pub last : IsTrue x.shut → IsSome x.serving.owing.log.owed × (suc x.serving.owing.owner ≡ length x.closed)
+  pub last : IsTrue x.shut → 0 < length x.closed
+  pub owner : IsTrue x.shut → IsSome x.serving.owing.log.owed → suc x.serving.owing.owner ≡ length x.closed
   pub owes : IsSome x.serving.owing.log.owed → IsTrue x.shut ⊎ (x.closed ≡ [])
   pub stands : UpStands x.serving m
 

@@ -1,13 +1,16 @@
 // A leaf that copies its tables into the region.
-ghost use Rattle.std.specs.Prelude.{◌≡◌, ℕ, List, IsTrue};
+ghost use Rattle.std.specs.Prelude.{◌≡◌, ◌≢◌, ℕ, List, IsTrue};
 ghost use Rattle.leaf_model.specs.declared.writes.Write.{Write};
 ghost use Rattle.berth_face.specs.Causes.{HasCause};
 ghost use Rattle.berth_face.specs.Berth.{Passes};
+ghost use Rattle.berth_face.specs.Moments.{Throughout};
+ghost use Rattle.drain_copy.specs.declared.step.Next.TheVariants as next;
+ghost use Rattle.drain_copy.specs.Draining.{IsInRoom};
 ghost use Rattle.crash_states.specs.Standing.{Copies};
 ghost use Rattle.leaf_steward.specs.Seated.{AreFounded, watched_by};
 ghost use Rattle.leaf_steward.specs.Making.{Makes};
 ghost use Rattle.leaf_machine.specs.States.{RestsOn};
-ghost use Rattle.leaf_machine.specs.Copies.{CopyGoesOn, IsCopyStep, berth_of_copy, seats_of_copy};
+ghost use Rattle.leaf_machine.specs.Copies.{CopyGoesOn, IsCopyStep, IsInImage, berth_of_copy, seats_of_copy};
 
 use crate::down::Down;
 use berth_face::{Berth, Gate};
@@ -44,8 +47,8 @@ pub enum Copied<'t, B: Berth> {
 }
 
 impl<'t, B: Berth> Copying<'t, B> {
-    /// Makes one step of the copy: the region is begun; all is written but the flag; the flag is written, and each table is noted as handed over.
-    /// A fault leaves the leaf at rest. It takes no memory.
+    /// Makes one step of the copy: the region is begun; a column is written and freed; the directory is written; the flag is written, and each table is noted
+    /// as handed over. A fault leaves the leaf at rest. It takes no memory.
     pub fn step<R: Wait + Threads + Sync, G: Gate>(
         self,
         rt: &R,
@@ -56,6 +59,10 @@ impl<'t, B: Berth> Copying<'t, B> {
         ensures made { Makes (B.meaning self.entry.1).clock (B.meaning (berth_of_copy result)).clock self.entry.0.seated notes.new (seats_of_copy result) }
         // At every moment since the call began a crash leaves what belongs to the tables as they stood then.
         ensures crash { IsTrue (B.meaning self.entry.1).tells → AreFounded self.entry.0.seated → CopyGoesOn B.meaning self.entry.0 (B.meaning self.entry.1) result }
+        // What is still held and the region together never are longer than the image, and while a column is written at most the longest column more.
+        ensures room { IsTrue (B.meaning self.entry.1).tells → AreFounded self.entry.0.seated → IsInImage B.meaning self.entry.0 result }
+        ensures inside { IsTrue (B.meaning self.entry.1).tells → AreFounded self.entry.0.seated → self.entry.0.drain.next ≢ next.Begin
+            → Throughout (IsInRoom self.entry.0.drain) (B.meaning self.entry.1) (B.meaning (berth_of_copy result)) }
         ensures time { Passes (B.meaning self.entry.1) (B.meaning (berth_of_copy result)) }
         ensures cause { HasCause (B.meaning self.entry.1).region_faults (B.meaning (berth_of_copy result)).region_faults result }
         ensures reads { (B.meaning (berth_of_copy result)).disk_reads ≡ (B.meaning self.entry.1).disk_reads }
@@ -72,11 +79,13 @@ impl<'t, B: Berth> Copying<'t, B> {
                 seats.hand_over(rt, &berth, gate, notes);
                 Ok(Copied::Finished(Down { seats, berth }))
             }
-            Ok(DrainStep::Begun | DrainStep::Written) => Ok(Copied::More(Copying {
-                seats,
-                drain,
-                berth,
-            })),
+            Ok(DrainStep::Begun | DrainStep::Column { .. } | DrainStep::Directory) => Ok(
+                Copied::More(Copying {
+                    seats,
+                    drain,
+                    berth,
+                }),
+            ),
             Err(fault) => Err((Down { seats, berth }, fault)),
         }
     }

@@ -1,6 +1,6 @@
 // Over which berths a leaf may begin.
 ghost use Rattle.crash_moments.specs.Base.{IsReady};
-ghost use Rattle.region_layout.specs.Region.{reads};
+ghost use Rattle.region_directory.specs.Region.{reads};
 ghost use Rattle.crash_moments.specs.Left.{NamedStates};
 ghost use Rattle.leaf_machine.specs.States.{MayBegin};
 ghost use Rattle.leaf_machine.specs.Leaving.{LeavesBegin};

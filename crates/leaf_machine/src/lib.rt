@@ -6,6 +6,7 @@ mod down;
 mod faults;
 mod laws;
 mod preparing;
+mod shut_tables;
 mod start;
 mod up;
 

@@ -1,6 +1,5 @@
 // A leaf that shuts its tables.
-ghost use Rattle.std.specs.Prelude.{◌≡◌, ◌<◌, ◌≤◌, ◌+◌, ◌++◌, ◌∷◌, ℕ, List, [], length, None, true, false, IsOk, IsTrue, OnOk, OnErr, vec_len, vec_capacity};
-ghost use Rattle.std.specs.List.{list_any};
+ghost use Rattle.std.specs.Prelude.{◌≡◌, ◌<◌, ◌≤◌, ◌+◌, ◌++◌, ℕ, List, [], length, None, true, false, IsOk, IsTrue, IfErr, OnOk, OnErr};
 ghost use Rattle.leaf_model.specs.declared.writes.Write.{Write};
 ghost use Rattle.berth_face.specs.Berth.{Passes};
 ghost use Rattle.berth_face.specs.Causes.{HasCause};
@@ -13,14 +12,16 @@ ghost use Rattle.leaf_steward.specs.declared.notes.Note.{Note};
 ghost use Rattle.leaf_steward.specs.Seated.{AreFounded, AreSeated, AtPlace, watched_by, with_seat};
 ghost use Rattle.leaf_steward.specs.Making.{EachNoted, IsClosedNote, Makes};
 ghost use Rattle.leaf_machine.specs.States.{RestsOn, treated};
-ghost use Rattle.leaf_machine.specs.Prepares.{Halts, IsTreatingStep, RoseStep, Starves, StepGoesOn, berth_of_step, seats_of_step};
-ghost use Rattle.leaf_machine.specs.PrepParts.{IsAllTreated, IsNextTreated, IsPartOfStep, RoseNext, is_too_many};
+ghost use Rattle.leaf_machine.specs.declared.preparing.PrepareFault.TheVariants as prepare_fault;
+ghost use Rattle.leaf_machine.specs.Prepares.{Halts, IsTreatingStep, RoseStep, StepGoesOn, berth_of_step, seats_of_step, told_of_plan};
+ghost use Rattle.leaf_machine.specs.PrepParts.{IsAllTreated, IsNextTreated, IsPartOfStep, RoseNext, Settles, ShutsNext};
 
 use crate::copying::Copying;
 use crate::down::Down;
+use crate::shut_tables::ShutTables;
 use berth_face::{Berth, Gate};
 use disk_backup::DiskFault;
-use drain_copy::Drain;
+use drain_copy::{Drain, PlanFault};
 use leaf_steward::{Notes, Seats};
 use leaf_table::Seat;
 use log_steward::StewardLog;
@@ -28,17 +29,27 @@ use std::alloc::{AllocError, Global};
 use std::marker::Model;
 use std::sync::Wait;
 use std::thread::Threads;
-use table_state::TableState;
 
 /// Why a step did not end. It may be made again.
 #[derive(Clone, Copy, Debug, PartialEq, Eq)]
 pub enum PrepareFault {
     /// A call on the disk failed. What was taken stays owed to the log.
     DiskFault,
-    /// A table has at least 2^63 writes, for which the image has no room.
+    /// The tables make no image: it would have at least 2^63 bytes, or a table too many writes or blocks, or a block too many columns.
     NoRoom,
-    /// There was no memory for a table's content or for the copy.
+    /// There was no memory to seal a table or for the copy.
     NoMemory,
+}
+
+impl From<PlanFault> for PrepareFault {
+    ghost from_gives = { λ f e. e ≡ told_of_plan f };
+
+    fn from(fault: PlanFault) -> PrepareFault {
+        match fault {
+            PlanFault::NoRoom => PrepareFault::NoRoom,
+            PlanFault::NoMemory => PrepareFault::NoMemory,
+        }
+    }
 }
 
 /// A leaf with tables still to be treated, or ready to be copied.
@@ -53,29 +64,30 @@ pub enum Prepared<'t, B: Berth> {
 pub struct Preparing<'t, B: Berth> {
     pub(crate) seats: Seats<'t>,
     pub(crate) log: StewardLog,
-    /// The contents of the tables that are shut, from the first on.
-    pub(crate) closed: Vec<TableState>,
-    /// Whether the record of the last of those is owed.
-    pub(crate) shut: bool,
+    /// The tables that are shut, from the first on.
+    pub(crate) tables: ShutTables,
     pub(crate) berth: B,
 }
 
 impl<'t, B: Berth> Model for Preparing<'t, B> {
-    ghost use Rattle.leaf_machine.specs.States.{Shutting, IsShutting};
+    ghost use Rattle.std.specs.Prelude.{◌≡◌, length, take};
+    ghost use Rattle.leaf_machine.specs.States.{Shutting, IsShutting, treated};
 
     ghost Value = { Shutting × B };
 
-    ghost view = { λ leaf. (record { serving = record { seated = leaf.seats; owing = leaf.log }; closed = leaf.closed.items; shut = leaf.shut }, leaf.berth) };
+    ghost view = { λ leaf. (record { serving = record { seated = leaf.seats; owing = leaf.log }; closed = leaf.tables.closed; shut = leaf.tables.waits }, leaf.berth) };
 
-    ghost invariant = { λ leaf. IsShutting (record { serving = record { seated = leaf.seats; owing = leaf.log }; closed = leaf.closed.items; shut = leaf.shut }) (B.meaning leaf.berth) };
+    ghost invariant = { λ leaf.
+        IsShutting (record { serving = record { seated = leaf.seats; owing = leaf.log }; closed = leaf.tables.closed; shut = leaf.tables.waits }) (B.meaning leaf.berth)
+        × (leaf.tables.names ≡ take (treated (record { serving = record { seated = leaf.seats; owing = leaf.log }; closed = leaf.tables.closed; shut = leaf.tables.waits })) leaf.seats.names) };
 }
 
 impl<'t, B: Berth> Preparing<'t, B> {
-    /// Does nothing. It says that a leaf whose last shut table's record is owed has shut one.
+    /// Does nothing. It says that a leaf with a shut table that is not treated has shut one.
     pub fn shuts(&self)
         ensures { IsTrue self.now.0.shut → 0 < length self.now.0.closed }
     {
-        let _closed = &self.closed;
+        let _tables = &self.tables;
     }
 
     /// Lets the steward's seat of that table and a caller's see what the other has seen. It makes no entry and takes no memory.
@@ -102,7 +114,7 @@ impl<'t, B: Berth> Preparing<'t, B> {
     }
 
     /// Settles what the log is owed and notes its table as flushed. Then it treats the next table: it shuts it, settles what it accepted since the last
-    /// taking, and notes it as closed and as flushed. Where all tables are treated it plans the copy of them into the region.
+    /// taking, notes it as closed and as flushed, and seals its tail. Where all tables are treated it plans the copy of their columns into the region.
     pub fn step<R: Wait + Threads + Sync, G: Gate>(
         self,
         rt: &R,
@@ -169,7 +181,7 @@ impl<'t, B: Berth> Preparing<'t, B> {
         ensures seated { AreSeated self.now.0.serving.seated }
     {
         self.seats.sits();
-        self.closed.len() as u32
+        self.tables.len() as u32
     }
 
     // Whether all tables are treated.
@@ -179,7 +191,7 @@ impl<'t, B: Berth> Preparing<'t, B> {
     {
         let count = self.seats.len();
         self.seats.sits();
-        !self.shut && self.closed.len() == count as usize
+        !self.tables.waits() && self.tables.len() == count as usize
     }
 
     // Plans the copy of tables that are all treated.
@@ -192,19 +204,28 @@ impl<'t, B: Berth> Preparing<'t, B> {
         ensures cause { RoseStep (B.meaning self.entry.1).disk_faults (B.meaning self.entry.1).disk_faults result }
     {
         self.seats.sits();
-        if has_too_many(&self.closed) {
-            return Err((self, PrepareFault::NoRoom));
-        }
-        match Drain::plan(alloc, self.seats.names(), &self.closed, self.log.end()) {
-            Ok(drain) => {
-                let Preparing { seats, berth, .. } = self;
-                Ok(Prepared::Ready(Copying {
+        let Preparing {
+            seats,
+            log,
+            tables,
+            berth,
+        } = self;
+        match Drain::plan(alloc, tables.into_tables(), log.end()) {
+            Ok(drain) => Ok(Prepared::Ready(Copying {
+                seats,
+                drain,
+                berth,
+            })),
+            Err((tables, fault)) => {
+                let tables = ShutTables::of(tables);
+                let leaf = Preparing {
                     seats,
-                    drain,
+                    log,
+                    tables,
                     berth,
-                }))
+                };
+                Err((leaf, PrepareFault::from(fault)))
             }
-            Err(_) => Err((self, PrepareFault::NoMemory)),
         }
     }
 
@@ -221,14 +242,33 @@ impl<'t, B: Berth> Preparing<'t, B> {
         ensures part { IsPartOfStep self.old.0.serving self.new.0.serving notes.old notes.new (B.meaning self.old.1) (B.meaning self.new.1) }
         ensures cause { RoseNext (B.meaning self.old.1).disk_faults (B.meaning self.new.1).disk_faults result }
     {
-        let shut = self.shut;
         if self.settle(rt, gate, notes).is_err() {
             return Err(PrepareFault::DiskFault);
         }
-        if shut {
-            return Ok(());
+        if self.tables.waits() {
+            return self.seal_last();
         }
-        self.shut_next(rt, gate, notes)
+        if self.shut_next(rt, gate, notes).is_err() {
+            return Err(PrepareFault::DiskFault);
+        }
+        self.seal_last()
+    }
+
+    // Seals the table that was shut last.
+    fn seal_last(&mut self) -> Result<(), PrepareFault>
+        requires shut { self.old.0.shut ≡ true }
+        requires none { self.old.0.serving.owing.log.owed ≡ None }
+        ensures done { OnOk result (self.new ≡ (record { serving = self.old.0.serving; closed = self.old.0.closed; shut = false }, self.old.1)) }
+        ensures failed { OnErr result (self.new ≡ self.old) }
+        ensures fault { IfErr result (λ e. e ≡ prepare_fault.NoMemory) }
+    {
+        self.seats.sits();
+        let names = self.seats.names().as_slice();
+        let place = self.tables.len() - 1;
+        match self.tables.seal(&names[place]) {
+            Ok(()) => Ok(()),
+            Err(_) => Err(PrepareFault::NoMemory),
+        }
     }
 
     // Settles what the log is owed, and notes its table as flushed.
@@ -239,16 +279,14 @@ impl<'t, B: Berth> Preparing<'t, B> {
         notes: &mut Notes,
     ) -> Result<(), DiskFault>
         requires none { notes.old ≡ [] }
-        ensures settled { OnOk result (Starves self.old.0 self.new.0 notes.new) }
+        ensures settled { OnOk result (Settles self.old.0 self.new.0 notes.new) }
         ensures halts { OnErr result (Halts self.old.0 self.new.0 notes.new) }
         ensures part { IsPartOfStep self.old.0.serving self.new.0.serving notes.old notes.new (B.meaning self.old.1) (B.meaning self.new.1) }
         ensures cause { HasCause (B.meaning self.old.1).disk_faults (B.meaning self.new.1).disk_faults result }
     {
         self.seats.sits();
         self.log
-            .settle_owed(rt, &mut self.seats, &mut self.berth, gate, notes)?;
-        self.shut = false;
-        Ok(())
+            .settle_owed(rt, &mut self.seats, &mut self.berth, gate, notes)
     }
 
     // Shuts the next table and brings its record onto the disk, where nothing is owed.
@@ -257,24 +295,21 @@ impl<'t, B: Berth> Preparing<'t, B> {
         rt: &R,
         gate: &G,
         notes: &mut Notes,
-    ) -> Result<(), PrepareFault>
+    ) -> Result<(), DiskFault>
         requires more { length self.old.0.closed < length self.old.0.serving.seated.tables }
         requires rests { self.old.0.shut ≡ false }
         requires none { self.old.0.serving.owing.log.owed ≡ None }
         requires room { length notes.old ≤ 1 }
-        ensures next { (made : List Note) × (notes.new ≡ notes.old ++ made) × IsNextTreated self.old.0 self.new.0 made result }
+        ensures next { (made : List Note) × (notes.new ≡ notes.old ++ made) × ShutsNext self.old.0 self.new.0 made result }
         ensures part { IsPartOfStep self.old.0.serving self.new.0.serving notes.old notes.new (B.meaning self.old.1) (B.meaning self.new.1) }
-        ensures cause { RoseNext (B.meaning self.old.1).disk_faults (B.meaning self.new.1).disk_faults result }
+        ensures cause { HasCause (B.meaning self.old.1).disk_faults (B.meaning self.new.1).disk_faults result }
     {
         let place = self.first_open();
-        if self.closed.reserve(1).is_err() {
-            return Err(PrepareFault::NoMemory);
-        }
         let mut table = self.seats.shut(rt, place, &self.berth, gate, notes);
         let writes = table.writes();
         let pending = table.take_pending();
-        keep(&mut self.closed, table);
-        let brought = self.log.bring(
+        self.tables.put(table);
+        self.log.bring(
             rt,
             &mut self.seats,
             place,
@@ -283,29 +318,6 @@ impl<'t, B: Berth> Preparing<'t, B> {
             &mut self.berth,
             gate,
             notes,
-        );
-        if brought.is_err() {
-            self.shut = true;
-            return Err(PrepareFault::DiskFault);
-        }
-        Ok(())
+        )
     }
-}
-
-// Puts a content behind the others, for which there is room.
-fn keep(closed: &mut Vec<TableState>, table: TableState)
-    requires room { vec_len closed.old < vec_capacity closed.old }
-    ensures closed { closed.new.items ≡ closed.old.items ++ table ∷ [] }
-{
-    match closed.push(table) {
-        Ok(()) => {}
-        Err(_) => unreachable!(),
-    }
-}
-
-// Whether one of them has too many writes for an image.
-fn has_too_many(tables: &[TableState]) -> bool
-    ensures { result ≡ list_any is_too_many tables.now }
-{
-    tables.iter().any(|table| table.writes() >= 1 << 63)
 }

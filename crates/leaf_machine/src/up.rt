@@ -18,6 +18,7 @@ ghost use Rattle.leaf_machine.specs.Prepares.{begins};
 
 use crate::down::Down;
 use crate::preparing::Preparing;
+use crate::shut_tables::ShutTables;
 use berth_face::{Berth, Gate};
 use leaf_steward::{Notes, Seats};
 use leaf_table::Seat;
@@ -111,8 +112,7 @@ impl<'t, B: Berth> Up<'t, B> {
         Preparing {
             seats: self.seats,
             log: self.log,
-            closed: Vec::new(alloc),
-            shut: false,
+            tables: ShutTables::new(alloc),
             berth: self.berth,
         }
     }

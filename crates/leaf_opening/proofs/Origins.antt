@@ -3,9 +3,10 @@ use Rattle.std.proofs.Common.{◌≡◌, ◌∙◌, ℕ, false, List, None, sym,
 use Rattle.berth_face.specs.Berth.{Meaning}
 use Rattle.table_state.specs.Tables.{Table}
 use Rattle.adopt.specs.declared.found.Adopted.{Adopted}
-use Rattle.adopt.specs.declared.found.Found.TheVariants.{Tables}
+use Rattle.adopt.specs.declared.found.Adoption.TheVariants.{Tables}
 use Rattle.adopt.specs.declared.found.WhyDisk.{WhyDisk}
-use Rattle.adopt.specs.Found.{IsFound, IsWhy, left_behind}
+use Rattle.adopt.specs.Adopting.{IsLeftBehind, IsWhy}
+use Rattle.adopt.specs.Starting.{IsAdoption}
 use Rattle.disk_backup.specs.State.{LogState}
 use Rattle.disk_backup.specs.Scanning.{begun}
 use Rattle.log_recovery.specs.Recovery.{IsRecovered}
@@ -22,11 +23,11 @@ module _ (names : List (List ℕ)) (tables : List Table) (log : LogState) where
   abbrev pub served : OpenedLeaf
   served = record { names = names; tables = tables; log = log }
 
-  module _ (way : Way) (old new : Meaning) (region : new.held.region ≡ left_behind old.held.region) where
+  module _ (way : Way) (old new : Meaning) (region : IsLeftBehind old.held.region new.held.region) where
     started_by : (w : Way) → way ≡ w → IsCome names old.held.region new.held.disk served w → new.held.disk ≡ disk_after w old.held.disk → Started names old new served way
     started_by w is come disk = subst (λ (v : Way). Started names old new served v) (sym is) (record { come = come; region = region; disk = disk })
 
-    pub started_by_memory : (a : Adopted) → IsFound names old.held.region (Tables a) → tables ≡ a.tables → log ≡ log_at a.log_end → way ≡ Memory → new.held.disk ≡ old.held.disk → Started names old new served way
+    pub started_by_memory : (a : Adopted) → IsAdoption names old.held.region (Tables a) → tables ≡ a.tables → log ≡ log_at a.log_end → way ≡ Memory → new.held.disk ≡ old.held.disk → Started names old new served way
     started_by_memory a found are at is disk = started_by Memory is (found.0, a.log_end, found.1, found.2, are ∙ found.3, at) disk
 
     pub started_by_disk : (w : WhyDisk) → IsWhy old.held.region w → IsRecovered names new.held.disk tables log → way ≡ Disk w → new.held.disk ≡ begun old.held.disk → Started names old new served way

@@ -5,7 +5,7 @@ use Rattle.berth_face.specs.Berth.{Pair, Meaning, Ended, SameDisk}
 use Rattle.berth_face.specs.Moments.{Throughout}
 use Rattle.berth_face.proofs.Moments.{throughout_map, throughout_join, now_of}
 use Rattle.region_layout.specs.Region.{IsClosed}
-use Rattle.adopt.specs.Found.{AdoptsFrom, IsBroken}
+use Rattle.adopt.specs.Adopting.{AdoptsFrom, IsBroken}
 use Rattle.adopt.specs.declared.found.AdoptFault.{AdoptFault}
 use Rattle.adopt.specs.declared.found.AdoptFault.TheVariants as adopting
 use Rattle.disk_backup.specs.Scanning.{StepsFrom, BeginsScan}
@@ -85,7 +85,6 @@ module _ (result : Result Opened OpenFault) (e told : OpenFault) (is : result �
 -- an adoption tells no damage
 pub never_adopting : (f : AdoptFault) → told_of_adopt f ≢ fault.DiskDamaged
 never_adopting adopting.RegionFault = λ e. absurd cc
-never_adopting (adopting.Stranger name) = λ e. absurd cc
 never_adopting adopting.NoMemory = λ e. absurd cc
 
 -- and a recovery tells one only where it found one
@@ -97,7 +96,6 @@ never_damaged found.NoMemory other = λ e. absurd cc
 
 pub kept_adopting : (old new : Meaning) (f : AdoptFault) → Ended SameDisk old new → KeepsDisks old new (Err (told_of_adopt f))
 kept_adopting old new adopting.RegionFault kept = kept
-kept_adopting old new (adopting.Stranger name) kept = tt
 kept_adopting old new adopting.NoMemory kept = tt
 
 pub kept_reading : (old new : Meaning) (f : RecoveryFault) → KeepsDisks old new (Err (told_of_recovery f))

@@ -7,9 +7,9 @@ use Rattle.std.proofs.lemmas.List.{nil_from_length}
 use Rattle.std.proofs.lemmas.Slice.Eq.{bytes_eq-Decides}
 use Rattle.leaf_model.specs.declared.writes.Write.{Write}
 use Rattle.row_records.specs.Records.{LogRecord}
-use Rattle.region_layout.specs.declared.image.TableImage.{TableImage}
-use Rattle.region_layout.specs.Images.{empty_image, is_named, table_named}
-use Rattle.adopt.specs.Found.{is_stranger, stranger_of}
+use Rattle.region_layout.specs.Images.{TableImage, empty_image, is_named, table_named}
+use Rattle.region_layout.specs.Region.{image_names}
+use Rattle.adopt.specs.Adopting.{stranger_of}
 use Rattle.disk_backup.specs.Logs.{writes_of}
 use Rattle.log_recovery.specs.Recovery.{stranger_in}
 use Rattle.log_recovery.specs.Recovery as recovery
@@ -32,21 +32,20 @@ module _ (names : List (List ℕ)) (name : List ℕ) (other : is_one_of names na
 
   -- ---- in an image
 
-  no_image : (images : List TableImage) → find (is_stranger names) images ≡ None → find (is_named name) images ≡ None
+  no_image : (images : List TableImage) → stranger_of names (image_names images) ≡ None → find (is_named name) images ≡ None
   no_image [] none = refl
-  no_image (t ∷ ts) none = step (no_image ts) (is_stranger names t) refl (bytes_eq t.name name) refl none
+  no_image (t ∷ ts) none = step (no_image ts) (not (list_any (bytes_eq t.name) names)) refl (bytes_eq t.name name) refl none
     where
-      step : (find (is_stranger names) ts ≡ None → find (is_named name) ts ≡ None) → (s : Bool) → is_stranger names t ≡ s → (b : Bool) → bytes_eq t.name name ≡ b
-          → cond s (Some t) (find (is_stranger names) ts) ≡ None → cond b (Some t) (find (is_named name) ts) ≡ None
+      step : (stranger_of names (image_names ts) ≡ None → find (is_named name) ts ≡ None) → (s : Bool) → not (list_any (bytes_eq t.name) names) ≡ s → (b : Bool) → bytes_eq t.name name ≡ b
+          → cond s (Some t.name) (stranger_of names (image_names ts)) ≡ None → cond b (Some t) (find (is_named name) ts) ≡ None
       step next true s b e none = absurd cc
       step next false s true e none = absurd (unlike t.name ((bytes_eq-Decides t.name name).0 e) s)
       step next false s false e none = next none
 
-  pub no_table : (images : List TableImage) → stranger_of names images ≡ None → table_named images name ≡ empty_image name
-  no_table images none =
-      ap (λ (o : Option TableImage). unwrap_or o (empty_image name)) (no_image images (none_of (λ (t : TableImage). t.name) (find (is_stranger names) images) none))
+  pub no_table : (images : List TableImage) → stranger_of names (image_names images) ≡ None → table_named images name ≡ empty_image name
+  no_table images none = ap (λ (o : Option TableImage). unwrap_or o (empty_image name)) (no_image images none)
 
-  pub no_writes_there : (writes : List ℕ → List Write) (images : List TableImage) → stranger_of names images ≡ None → AreImagesOf writes images → writes name ≡ []
+  pub no_writes_there : (writes : List ℕ → List Write) (images : List TableImage) → stranger_of names (image_names images) ≡ None → AreImagesOf writes images → writes name ≡ []
   no_writes_there writes images none are = nil_from_length (writes name) (sym (are name).count ∙ ap (λ (t : TableImage). t.writes) (no_table images none))
 
   -- ---- in a log

@@ -8,7 +8,6 @@ use Rattle.leaf_opening.specs.declared.ways.OpenFault.TheVariants.{RegionFault, 
 
 abbrev pub told_of_adopt : AdoptFault → OpenFault
 told_of_adopt adopting.RegionFault = RegionFault
-told_of_adopt (adopting.Stranger name) = Stranger name
 told_of_adopt adopting.NoMemory = NoMemory
 
 abbrev pub told_of_recovery : RecoveryFault → OpenFault

@@ -4,12 +4,13 @@ use Rattle.std.specs.List.{AllByRecursion}
 use Rattle.berth_face.specs.Berth.{Meaning, Pair, Ended, SameDisk}
 use Rattle.berth_face.specs.Moments.{EachNow}
 use Rattle.table_state.specs.Tables.{Table}
-use Rattle.region_layout.specs.declared.image.TableImage.{TableImage}
-use Rattle.region_layout.specs.Region.{IsClosed, IsImage, layout}
+use Rattle.region_layout.specs.Images.{TableImage}
+use Rattle.region_layout.specs.Region.{IsClosed, image_names}
+use Rattle.region_directory.specs.Region.{IsAdoptable}
 use Rattle.region_layout.specs.Images.{tables_of}
 use Rattle.adopt.specs.declared.found.WhyDisk.{WhyDisk}
 use Rattle.adopt.specs.declared.found.WhyDisk.TheVariants as why
-use Rattle.adopt.specs.Found.{IsWhy, IsBroken, IsStranger, left_behind, stranger_of}
+use Rattle.adopt.specs.Adopting.{IsWhy, IsBroken, IsLeftBehind, IsStranger, stranger_of}
 use Rattle.disk_backup.specs.Scanning.{begun, BeginsScan}
 use Rattle.log_recovery.specs.Recovery.{IsRecovered}
 use Rattle.log_recovery.specs.Recovery as recovery
@@ -23,7 +24,7 @@ use Rattle.leaf_opening.specs.OpenedLeaf.{OpenedLeaf}
 
 -- the way of a start that finds these bytes and is not refused
 abbrev pub IsWayOf : List ℕ → Way → Type 0
-IsWayOf region Memory = (images : List TableImage) × (log_end : ℕ) × IsImage layout region images log_end
+IsWayOf region Memory = (images : List TableImage) × (log_end : ℕ) × IsAdoptable region images log_end
 IsWayOf region (Disk w) = IsWhy region w
 
 -- the way of the next start of a leaf that came this way and was not drained
@@ -36,7 +37,7 @@ way_after (Disk why.NoImage) = Disk (why.Closed 0)
 
 -- how a leaf of these names comes to its tables and its log: those of the region's image; or those of the disk, as it reads then
 abbrev pub IsCome : List (List ℕ) → List ℕ → List ℕ → OpenedLeaf → Way → Type 0
-IsCome names region disk s Memory = (images : List TableImage) × (log_end : ℕ) × IsImage layout region images log_end × (stranger_of names images ≡ None)
+IsCome names region disk s Memory = (images : List TableImage) × (log_end : ℕ) × IsAdoptable region images log_end × (stranger_of names (image_names images) ≡ None)
     × (s.tables ≡ tables_of names images) × (s.log ≡ record { end = log_end; owed = None; laid = false })
 IsCome names region disk s (Disk w) = IsWhy region w × IsRecovered names disk s.tables s.log
 
@@ -48,7 +49,7 @@ disk_after (Disk w) disk = begun disk
 -- a start that came to its end
 pub record Started (names : List (List ℕ)) (old new : Meaning) (s : OpenedLeaf) (way : Way) : Type 0 where
   pub come : IsCome names old.held.region new.held.disk s way
-  pub region : new.held.region ≡ left_behind old.held.region
+  pub region : IsLeftBehind old.held.region new.held.region
   pub disk : new.held.disk ≡ disk_after way old.held.disk
 
 -- no table owes the log anything
@@ -58,11 +59,11 @@ AreFresh tables = AllByRecursion (λ (t : Table). t.pending ≡ None) tables
 -- why a start was refused, and what it leaves of the region
 abbrev pub IsOpeningRefusal : List (List ℕ) → Meaning → Meaning → OpenFault → Type 0
 IsOpeningRefusal names old new RegionFault = IsBroken old.held.region new.held.region × (new.held.disk ≡ old.held.disk)
-IsOpeningRefusal names old new DiskFault = new.held.region ≡ left_behind old.held.region
-IsOpeningRefusal names old new DiskDamaged = (new.held.region ≡ left_behind old.held.region) × recovery.IsRecoveryRefusal names new.held.disk found.DiskDamaged
-IsOpeningRefusal names old new (Stranger name) = (new.held.region ≡ left_behind old.held.region)
+IsOpeningRefusal names old new DiskFault = IsLeftBehind old.held.region new.held.region
+IsOpeningRefusal names old new DiskDamaged = IsLeftBehind old.held.region new.held.region × recovery.IsRecoveryRefusal names new.held.disk found.DiskDamaged
+IsOpeningRefusal names old new (Stranger name) = IsLeftBehind old.held.region new.held.region
     × (IsStranger names old.held.region name ⊎ recovery.IsRecoveryRefusal names new.held.disk (found.Stranger name))
-IsOpeningRefusal names old new NoMemory = new.held.region ≡ left_behind old.held.region
+IsOpeningRefusal names old new NoMemory = IsLeftBehind old.held.region new.held.region
 
 -- the leaf that serves what was opened
 abbrev pub opened_leaf : List (List ℕ) → Opened → OpenedLeaf
@@ -70,7 +71,7 @@ opened_leaf names o = record { names = names; tables = o.tables; log = o.log }
 
 -- ---- what a crash leaves while a leaf starts
 
--- A pair of a moment of a start comes from one before. The region is lost, or has its length and its bytes but for the flag where that was open.
+-- A pair of a moment of a start comes from one before. The region is lost; or it is as it was, or, where its flag was open, as it was but for the flag, or closed.
 -- The disk is the same; or, once the region is closed, the first byte of one that read as at most one byte was written, before which one of one byte was synced.
 pub record OpensFrom (old : Meaning) (p : Pair) : Type 0 where
   pub from : Pair

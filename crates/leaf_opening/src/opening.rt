@@ -12,7 +12,7 @@ ghost use Rattle.leaf_opening.specs.declared.ways.OpenFault.TheVariants as fault
 ghost use Rattle.leaf_opening.specs.Starts.{Started, IsOpeningRefusal, IsWayOf, AreFresh, OpensFrom, KeepsDisks, IsDurable, opened_leaf};
 
 use crate::ways::{OpenFault, Way};
-use adopt::{Adopted, Found, WhyDisk, adopt};
+use adopt::{Adopted, Adoption, WhyDisk, adopt};
 use berth_face::Berth;
 use disk_backup::BackupLog;
 use leaf_model::Names;
@@ -28,8 +28,8 @@ pub struct Opened {
     pub way: Way,
 }
 
-/// Adopts the tables of the region's image; where the region is none, it reads the log to its end and applies each record to its table.
-/// An open flag is closed before anything else. A table that neither names is empty.
+/// Adopts the tables of the region's image, and cuts each column off the region once it was read; where the region is none, it reads the log to its end and
+/// applies each record to its table. An open flag is closed before anything else. A table that neither names is empty.
 pub fn open_tables<B: Berth>(
     alloc: Global,
     names: &Names,
@@ -59,8 +59,9 @@ pub fn open_tables<B: Berth>(
 {
     let found = adopt(alloc, names, berth)?;
     match found {
-        Found::Tables(adopted) => Ok(from_image(alloc, adopted)),
-        Found::NoTables(why) => {
+        Adoption::Tables(adopted) => Ok(from_image(alloc, adopted)),
+        Adoption::Stranger(name) => Err(OpenFault::Stranger(name)),
+        Adoption::NoTables(why) => {
             let recovered = recover(alloc, names, berth)?;
             Ok(from_log(why, recovered))
         }

@@ -24,7 +24,7 @@ pub enum OpenFault {
     DiskFault,
     /// The log has an open gate with no record and gate behind it, or a record that takes a table past 2^40 rows.
     DiskDamaged,
-    /// The region's image or the log has a table of this name, and the leaf has none.
+    /// The directory of the region's image or the log has a table of this name, and the leaf has none.
     Stranger(Text),
     NoMemory,
 }
@@ -35,7 +35,6 @@ impl From<AdoptFault> for OpenFault {
     fn from(fault: AdoptFault) -> OpenFault {
         match fault {
             AdoptFault::RegionFault => OpenFault::RegionFault,
-            AdoptFault::Stranger(name) => OpenFault::Stranger(name),
             AdoptFault::NoMemory => OpenFault::NoMemory,
         }
     }

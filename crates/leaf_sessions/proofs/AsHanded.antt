@@ -2,17 +2,16 @@
 use Rattle.std.proofs.Common.{◌≡◌, ◌∙◌, inl, inr, ℕ, ◌≤◌, List, [], ◌∷◌, ◌++◌, length, take, min, refl, sym, ap, subst, arith, length-append}
 use Rattle.berth_face.specs.Berth.{Meaning, Pair}
 use Rattle.row_records.specs.Records.{LogRecord}
-use Rattle.region_layout.specs.declared.head.Head.{Head}
-use Rattle.region_layout.specs.declared.head.Head.TheVariants as head
-use Rattle.region_layout.specs.Region.{IsClosed, head_of}
-use Rattle.adopt.specs.Found.{IsBroken, IsStranger, after_head, left_behind}
-use Rattle.adopt.proofs.Heads.{closed_breaks, untouched}
+use Rattle.region_layout.specs.Region.{IsClosed}
+use Rattle.region_layout.proofs.Heads.{closed_head}
+use Rattle.adopt.specs.Adopting.{IsBroken, IsLeftBehind, IsStranger}
+use Rattle.adopt.proofs.Heads.{untouched}
 use Rattle.disk_backup.specs.Logs.{open_records}
 use Rattle.disk_backup.specs.Scanning.{BeginsScan, FirstByte, Scanned}
 use Rattle.disk_backup.proofs.Logs.{end_snoc}
 use Rattle.log_recovery.specs.Recovery.{IsRecoveryRefusal}
 use Rattle.log_recovery.specs.declared.fault.RecoveryFault.TheVariants as found
-use Rattle.leaf_opening.proofs.Regions.{broken_same, closed_no_image}
+use Rattle.leaf_opening.proofs.Regions.{broken_same, left_closed}
 use Rattle.leaf_machine.specs.declared.faults.StartFault.{StartFault}
 use Rattle.leaf_machine.specs.declared.faults.StartFault.TheVariants as fault
 use Rattle.leaf_steward.specs.Seated.{Seated}
@@ -23,21 +22,18 @@ use Rattle.leaf_sessions.specs.Session.{IsAsHanded}
 
 broken_on : (a b c : List ℕ) → IsBroken a b → IsBroken b c → IsBroken a c
 broken_on a b c first second = record {
-  rest = second.rest ∙ first.rest;
-  size = second.size ∙ first.size;
   closed = λ closed. second.closed (subst (λ (r : List ℕ). IsClosed r) (sym (first.closed closed)) closed) ∙ first.closed closed;
+  either = elim second.either [
+    | inl same ↦ elim first.either [
+      | inl before ↦ inl (same.0 ∙ before.0, same.1 ∙ before.1)
+      | inr shut ↦ inr (subst (λ (r : List ℕ). IsClosed r) (sym (second.closed shut)) shut)
+    ]
+    | inr shut ↦ inr shut
+  ];
 }
 
-left_breaks : (region : List ℕ) → IsBroken region (left_behind region)
-left_breaks region = by (head_of region) refl
-  where
-    by : (h : Head) → head_of region ≡ h → IsBroken region (after_head h region)
-    by head.NoHead is = untouched region
-    by (head.Closed flag) is = untouched region
-    by (head.Version version) is = closed_breaks region version is
-
-left_as : (region now : List ℕ) → now ≡ left_behind region → IsBroken region now
-left_as region now is = subst (λ (r : List ℕ). IsBroken region r) (sym is) (left_breaks region)
+left_as : (region now : List ℕ) → IsLeftBehind region now → IsBroken region now
+left_as region now left = record { closed = left.closed; either = inr (left_closed region now left) }
 
 refused_breaks : (f : StartFault) (m m' : Meaning) → RegionRefused f m m' → IsBroken m.held.region m'.held.region
 refused_breaks fault.RegionFault m m' left = left
@@ -50,7 +46,7 @@ refused_breaks (fault.Worn table) m m' left = subst (λ (r : List ℕ). IsBroken
 -- an image of a stranger is one that was handed: no flag of it was closed
 pub region_named : (names : List (List ℕ)) (old now name : List ℕ) → IsBroken old now → IsStranger names now name → IsStranger names old name
 region_named names old now name broken stranger =
-    let same : now ≡ old = broken_same old now broken (λ closed. closed_no_image now closed stranger.0 stranger.1 stranger.2) in
+    let same : now ≡ old = broken_same old now broken (λ closed. closed_head now closed stranger.0 stranger.3.head) in
     subst (λ (r : List ℕ). IsStranger names r name) same stranger
 
 -- ---- the disk

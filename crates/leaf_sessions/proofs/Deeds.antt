@@ -3,7 +3,7 @@ use Rattle.std.proofs.Common.{◌≡◌, ℕ, suc, ◌+◌, Bool, true, false, L
 use Rattle.std.specs.Prelude.{◌≢◌, IfSome, IsSome, IsTrue, is_some, option_map, ⊤}
 use Rattle.row_records.specs.Records.{LogRecord}
 use Rattle.berth_face.specs.Berth.{Meaning}
-use Rattle.adopt.specs.Found.{left_behind}
+use Rattle.adopt.specs.Adopting.{IsLeftBehind}
 use Rattle.leaf_opening.specs.declared.ways.Way.{Way}
 use Rattle.leaf_opening.specs.Starts.{IsWayOf, way_after}
 use Rattle.printed_lines.specs.declared.line.Said.TheVariants as said
@@ -90,8 +90,7 @@ way_opens (Some k) life m m' leaf x s notes way fits told = way_claimed life.way
 way_opened : (known : Option Known) (m m' : Meaning) (x : Seated) (s : Serving) (notes : List Note) (way : Way) (counts : List ℕ)
     → IfSome known (λ (k : Known). StartsTold x m m' s notes way) → FitsWay known (opened_life (is_some known) way counts) m'
 way_opened None m m' x s notes way counts told = refl
-way_opened (Some k) m m' x s notes way counts told =
-    subst (λ (region : List ℕ). IsWayOf region (way_after way)) (sym told.came.started.region) (way_left m.held.region way told.way_is)
+way_opened (Some k) m m' x s notes way counts told = way_left m.held.region m'.held.region way told.came.started.region told.way_is
 
 start_opened : (known : Option Known) (tables : ℕ) (life : Life) (m m' : Meaning) (leaf : Leaf) (x : Seated) (s : Serving) (notes : List Note) (way : Way) (ends : Ending) (leaf' : Leaf)
     → length x.tables ≡ tables → FitsMode life.mode (IsDown x) → FitsNext known life leaf m → OpensCounts known life m m' leaf notes → leaf ≡ IsDown x
@@ -129,10 +128,10 @@ undamaged names None m leaf x f in_place grounded stands is sound e = absurd (cl
 undamaged names (Some k) m leaf x f in_place grounded stands is sound e =
     sound k.base stands.tells (subst (λ (l : Leaf). AreFounded (seated_of l)) is (founded_known names k (seated_of leaf) in_place grounded)) stands.stands
 
-left_way : (way : Option Way) (m m' : Meaning) → m'.held.region ≡ left_behind m.held.region → IfSome way (IsWayOf m.held.region)
+left_way : (way : Option Way) (m m' : Meaning) → IsLeftBehind m.held.region m'.held.region → IfSome way (IsWayOf m.held.region)
     → IfSome (option_map way_after way) (IsWayOf m'.held.region)
 left_way None m m' e h = tt
-left_way (Some w) m m' e h = subst (λ (region : List ℕ). IsWayOf region (way_after w)) (sym e) (way_left m.held.region w h)
+left_way (Some w) m m' e h = way_left m.held.region m'.held.region w e h
 
 refused_way : (f : StartFault) (way : Option Way) (m m' : Meaning) → RegionRefused f m m' → IfSome way (IsWayOf m.held.region)
     → IfSome (way_refused (ending_of f) way) (IsWayOf m'.held.region)

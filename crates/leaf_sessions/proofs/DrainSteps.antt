@@ -1,6 +1,6 @@
 -- The steps of a drain: how it treats tables, how it copies, how it halts, and which counts its entries leave.
 use Rattle.std.proofs.Common.{◌≡◌, ℕ, zero, suc, ◌-◌, ◌<◌, Bool, true, false, List, [], ◌∷◌, ◌++◌, length, map, refl, sym, ap, subst, ◌∙◌, arith, Option, Some, None}
-use Rattle.std.specs.Prelude.{IsSome, if◌then◌else◌, replicate}
+use Rattle.std.specs.Prelude.{IsSome, if◌then◌else◌, replicate, ⊤}
 use Rattle.std.proofs.lemmas.List.{length-append}
 use Rattle.row_records.specs.Records.{LogRecord}
 use Rattle.table_state.specs.Tables.{Table}
@@ -86,7 +86,7 @@ treats x y ns p at (prepares.rest half noted closed shut none) = (
 -- The life's stage is where the leaf is: it shuts its tables, and has come so far; or so many steps of their copy are made.
 abbrev pub FitsAt : ℕ → Stage → At → Type 0
 FitsAt tables (life.Shutting p) (moves.Shuts x) = IsProgressOf x p × (length x.serving.seated.tables ≡ tables)
-FitsAt tables (life.Copying made) (moves.Copies x steps) = made ≡ steps
+FitsAt tables (life.Copying made) (moves.Copies x copy steps) = made ≡ steps
 FitsAt tables _ _ = ⊥
 
 -- the stage of a leaf that shuts its tables
@@ -101,9 +101,9 @@ shutting_at tables (life.Shutting p) x fits = record { p = p; is = refl; progres
 shutting_at tables (life.Copying made) x fits = absurd fits
 
 -- and of one that copies them
-copying_at : (tables : ℕ) (s : Stage) (x : Shutting) (made : ℕ) → FitsAt tables s (moves.Copies x made) → s ≡ life.Copying made
-copying_at tables (life.Shutting p) x made fits = absurd fits
-copying_at tables (life.Copying n) x made fits = ap (λ (k : ℕ). life.Copying k) fits
+copying_at : (tables : ℕ) (s : Stage) (x : Shutting) (copy made : ℕ) → FitsAt tables s (moves.Copies x copy made) → s ≡ life.Copying made
+copying_at tables (life.Shutting p) x copy made fits = absurd fits
+copying_at tables (life.Copying n) x copy made fits = ap (λ (k : ℕ). life.Copying k) fits
 
 -- the steward's entries leave the tables
 same_tables : (x : Seated) (ns : List Note) (y : Seated) → Part x ns y → length y.tables ≡ length x.tables
@@ -125,20 +125,62 @@ table_treated tables copy s x y ns p is progress size few t part =
       fits = (one.1, same_tables x.serving.seated ns y.serving.seated part ∙ size);
     }
 
-step_made : (tables copy : ℕ) (at : At) (ns : List Note) (t : At) (s : Stage) → IsCopyLength copy → FitsAt tables s at → MakesStep at ns t → StepMade tables copy s ns t
-step_made tables copy at ns t s long fits (moves.treats x y at_is few treats part t_is) =
+-- the copy takes so many steps, once it is planned
+abbrev TakesSteps : ℕ → At → Type 0
+TakesSteps copy (moves.Shuts x) = ⊤
+TakesSteps copy (moves.Copies x length made) = length ≡ copy
+
+step_takes : (copy : ℕ) (at : At) (ns : List Note) (t : At) → MakesStep at ns t → TakesSteps copy t → TakesSteps copy at
+step_takes copy at ns t (moves.treats x y at_is few treats part t_is) takes = subst (λ (a : At). TakesSteps copy a) (sym at_is) tt
+step_takes copy at ns t (moves.plans x length at_is all long none t_is) takes = subst (λ (a : At). TakesSteps copy a) (sym at_is) tt
+step_takes copy at ns t (moves.copies x length made at_is few none t_is) takes =
+    let same : length ≡ copy = subst (λ (a : At). TakesSteps copy a) t_is takes in
+    subst (λ (a : At). TakesSteps copy a) (sym at_is) same
+
+-- as many at the beginning of steps as at their end
+steps_take : (copy n : ℕ) (at : At) (ns : List Note) (t : At) → MakesSteps n at ns t → TakesSteps copy t → TakesSteps copy at
+steps_take copy n at ns t (moves.none k a notes b n_is notes_are same) takes = subst (λ (a : At). TakesSteps copy a) same takes
+steps_take copy n at ns t (moves.more k a notes b fewer first others between n_is step rest ns_are) takes =
+    step_takes copy at first between step (steps_take copy fewer between others t rest takes)
+
+-- a copy that is planned takes three steps or more
+abbrev IsLong : At → Type 0
+IsLong (moves.Shuts x) = ⊤
+IsLong (moves.Copies x copy made) = IsCopyLength copy
+
+step_long : (at : At) (ns : List Note) (t : At) → MakesStep at ns t → IsLong at → IsLong t
+step_long at ns t (moves.treats x y at_is few treats part t_is) long = subst IsLong (sym t_is) tt
+step_long at ns t (moves.plans x copy at_is all is none t_is) long = subst IsLong (sym t_is) is
+step_long at ns t (moves.copies x copy made at_is few none t_is) long =
+    let same : IsCopyLength copy = subst IsLong at_is long in
+    subst IsLong (sym t_is) same
+
+steps_long : (n : ℕ) (at : At) (ns : List Note) (t : At) → MakesSteps n at ns t → IsLong at → IsLong t
+steps_long n at ns t (moves.none k a notes b n_is notes_are same) long = subst IsLong (sym same) long
+steps_long n at ns t (moves.more k a notes b fewer first others between n_is step rest ns_are) long =
+    steps_long fewer between others t rest (step_long at first between step long)
+
+pub copy_long : (n copy made : ℕ) (x y : Shutting) (ns : List Note) → MakesSteps n (moves.Shuts x) ns (moves.Copies y copy made) → IsCopyLength copy
+copy_long n copy made x y ns steps = steps_long n (moves.Shuts x) ns (moves.Copies y copy made) steps tt
+
+-- the least that a copy takes
+pub least_copy : IsCopyLength 3
+least_copy = omega arith
+
+step_made : (tables copy : ℕ) (at : At) (ns : List Note) (t : At) (s : Stage) → TakesSteps copy t → FitsAt tables s at → MakesStep at ns t → StepMade tables copy s ns t
+step_made tables copy at ns t s takes fits (moves.treats x y at_is few treats part t_is) =
     let now = shutting_at tables s x (subst (λ (a : At). FitsAt tables s a) at_is fits) in
     subst (λ (a : At). StepMade tables copy s ns a) (sym t_is) (table_treated tables copy s x y ns now.p now.is now.progress now.size few treats part)
-step_made tables copy at ns t s long fits (moves.plans x at_is all none t_is) =
+step_made tables copy at ns t s takes fits (moves.plans x length at_is all long none t_is) =
     let now = shutting_at tables s x (subst (λ (a : At). FitsAt tables s a) at_is fits) in record {
       stage = life.Copying 0;
       step = life.plans now.p now.is (now.progress.treated_are ∙ (all ∙ now.size)) (noted_none ns none) refl;
       fits = subst (λ (a : At). FitsAt tables (life.Copying 0) a) (sym t_is) refl;
     }
-step_made tables copy at ns t s long fits (moves.copies x made length at_is length_is few none t_is) = record {
+step_made tables copy at ns t s takes fits (moves.copies x length made at_is few none t_is) = record {
   stage = life.Copying (suc made);
-  step = life.copies made (copying_at tables s x made (subst (λ (a : At). FitsAt tables s a) at_is fits))
-      (subst (λ (n : ℕ). suc made < n) (length_is ∙ sym long) few) (noted_none ns none) refl;
+  step = life.copies made (copying_at tables s x length made (subst (λ (a : At). FitsAt tables s a) at_is fits))
+      (subst (λ (n : ℕ). suc made < n) (subst (λ (a : At). TakesSteps copy a) t_is takes) few) (noted_none ns none) refl;
   fits = subst (λ (a : At). FitsAt tables (life.Copying (suc made)) a) (sym t_is) refl;
 }
 
@@ -148,15 +190,15 @@ record StepsMade (tables copy n : ℕ) (s : Stage) (ns : List Note) (t : At) : T
   run : Steps tables copy n s (noted_all ns) stage
   fits : FitsAt tables stage t
 
-steps_made : (tables copy n : ℕ) (at : At) (ns : List Note) (t : At) (s : Stage) → IsCopyLength copy → FitsAt tables s at → MakesSteps n at ns t → StepsMade tables copy n s ns t
-steps_made tables copy n at ns t s long fits (moves.none k a notes b n_is notes_are same) = record {
+steps_made : (tables copy n : ℕ) (at : At) (ns : List Note) (t : At) (s : Stage) → TakesSteps copy t → FitsAt tables s at → MakesSteps n at ns t → StepsMade tables copy n s ns t
+steps_made tables copy n at ns t s takes fits (moves.none k a notes b n_is notes_are same) = record {
   stage = s;
   run = life.none n s (noted_all ns) s n_is (noted_none ns notes_are) refl;
   fits = subst (λ (a : At). FitsAt tables s a) (sym same) fits;
 }
-steps_made tables copy n at ns t s long fits (moves.more k a notes b fewer first others between n_is step rest ns_are) =
-    let one = step_made tables copy at first between s long fits step in
-    let on = steps_made tables copy fewer between others t one.stage long one.fits rest in record {
+steps_made tables copy n at ns t s takes fits (moves.more k a notes b fewer first others between n_is step rest ns_are) =
+    let one = step_made tables copy at first between s (steps_take copy fewer between others t rest takes) fits step in
+    let on = steps_made tables copy fewer between others t one.stage takes one.fits rest in record {
       stage = on.stage;
       run = life.more n s (noted_all ns) on.stage fewer (noted_all first) (noted_all others) one.stage n_is one.step on.run (noted_split ns first others ns_are);
       fits = on.fits;
@@ -169,10 +211,10 @@ pub record Through (tables copy n : ℕ) (ns : List Note) (p : Progress) (y : Sh
   pub progress : IsProgressOf y q
   pub size : length y.serving.seated.tables ≡ tables
 
-pub through : (tables copy n : ℕ) (x y : Shutting) (ns : List Note) (p : Progress) → IsCopyLength copy → IsProgressOf x p → length x.serving.seated.tables ≡ tables
+pub through : (tables copy n : ℕ) (x y : Shutting) (ns : List Note) (p : Progress) → IsProgressOf x p → length x.serving.seated.tables ≡ tables
     → MakesSteps n (moves.Shuts x) ns (moves.Shuts y) → Through tables copy n ns p y
-through tables copy n x y ns p long progress size steps =
-    let all = steps_made tables copy n (moves.Shuts x) ns (moves.Shuts y) (life.Shutting p) long (progress, size) steps in
+through tables copy n x y ns p progress size steps =
+    let all = steps_made tables copy n (moves.Shuts x) ns (moves.Shuts y) (life.Shutting p) tt (progress, size) steps in
     let now = shutting_at tables all.stage y all.fits in record {
       q = now.p;
       run = subst (λ (s : Stage). Steps tables copy n (life.Shutting p) (noted_all ns) s) now.is all.run;
@@ -181,11 +223,11 @@ through tables copy n x y ns p long progress size steps =
     }
 
 -- and up to one that copies them
-pub copied : (tables copy n made : ℕ) (x y : Shutting) (ns : List Note) (p : Progress) → IsCopyLength copy → IsProgressOf x p → length x.serving.seated.tables ≡ tables
-    → MakesSteps n (moves.Shuts x) ns (moves.Copies y made) → Steps tables copy n (life.Shutting p) (noted_all ns) (life.Copying made)
-copied tables copy n made x y ns p long progress size steps =
-    let all = steps_made tables copy n (moves.Shuts x) ns (moves.Copies y made) (life.Shutting p) long (progress, size) steps in
-    subst (λ (s : Stage). Steps tables copy n (life.Shutting p) (noted_all ns) s) (copying_at tables all.stage y made all.fits) all.run
+pub copied : (tables n copy made : ℕ) (x y : Shutting) (ns : List Note) (p : Progress) → IsProgressOf x p → length x.serving.seated.tables ≡ tables
+    → MakesSteps n (moves.Shuts x) ns (moves.Copies y copy made) → Steps tables copy n (life.Shutting p) (noted_all ns) (life.Copying made)
+copied tables n copy made x y ns p progress size steps =
+    let all = steps_made tables copy n (moves.Shuts x) ns (moves.Copies y copy made) (life.Shutting p) refl (progress, size) steps in
+    subst (λ (s : Stage). Steps tables copy n (life.Shutting p) (noted_all ns) s) (copying_at tables all.stage y copy made all.fits) all.run
 
 -- ---- the disk fails, or there is no memory
 
@@ -232,11 +274,31 @@ halts y z ns q at (prepares.stuck ns_are owes seated log owner count closed shut
       },
     )
 
-pub starves : (y z : Shutting) (ns : List Note) (q : Progress) → IsProgressOf y q → Starves y z ns → (r : Progress) × life.Starves q (noted_all ns) r × IsProgressOf z r
-starves y z ns q at s = (
-  record { owed = None; treated = first_open q; shut = false },
-  (owed_noted q.owed y.serving.owing ns at.owed s.noted, refl),
-  settled z (first_open q) s.owed s.shut (ap (λ (ts : List Table). length ts) s.closed ∙ at.closed),
+pub starves : (tables : ℕ) (y z : Shutting) (ns : List Note) (q : Progress) → length y.serving.seated.tables ≡ tables → IsProgressOf y q → Starves y z ns
+    → (r : Progress) × life.Starves tables q (noted_all ns) r × IsProgressOf z r
+starves tables y z ns q size at (prepares.before open_ noted closed shut none) = (
+  record { owed = None; treated = q.treated; shut = false },
+  life.before (at.shut ∙ open_) (owed_noted q.owed y.serving.owing ns at.owed noted) refl,
+  settled z q.treated none shut (ap (λ (ts : List Table). length ts) closed ∙ (at.closed ∙ open_whole q (at.shut ∙ open_))),
+)
+starves tables y z ns q size at (prepares.behind first closing flushing n content open_ few noted ns_are closed half none) =
+    let place : length y.closed ≡ q.treated = at.closed ∙ open_whole q (at.shut ∙ open_) in
+    let more = one_closed y z content closed in (
+      record { owed = None; treated = q.treated; shut = true },
+      life.behind (noted_all first) (closed_and_flushed closing flushing n (length y.closed)) n (at.shut ∙ open_) (omega (arith, few, place, size))
+          (owed_noted q.owed y.serving.owing first at.owed noted)
+          (closing, flushing, ap (λ (k : ℕ). closed_and_flushed closing flushing n k) place) (noted_split ns first _ ns_are) refl,
+      record { owed = none; treated_are = omega (arith, treated_half z half, more, place); shut = sym half; closed = more ∙ ap suc place },
+    )
+starves tables y z ns q size at (prepares.still was noted closed half none) = (
+  record { owed = None; treated = q.treated; shut = true },
+  life.still (at.shut ∙ was) (owed_noted q.owed y.serving.owing ns at.owed noted) refl,
+  record {
+    owed = none;
+    treated_are = at.treated_are ∙ sym (treated_same y z closed (half ∙ sym was));
+    shut = sym half;
+    closed = ap (λ (ts : List Table). length ts) closed ∙ (at.closed ∙ open_half q (at.shut ∙ was));
+  },
 )
 
 -- ---- the counts behind the entries

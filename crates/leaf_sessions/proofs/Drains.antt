@@ -18,7 +18,7 @@ use Rattle.leaf_machine.specs.States.{Shutting, treated}
 use Rattle.leaf_machine.specs.Prepares.{Halts, Starves, AllTreated}
 use Rattle.transcript.specs.Pieces.{Drains, Noted}
 use Rattle.transcript.specs.Transcript.{Known}
-use Rattle.transcript.specs.Life.{Life, Mode, Down, Up, Preparing, Owed, Progress, OfDrain, BeginsAt, ClosesRest, IsCopyLength, MayMake, claimed, durable_with, failed, first_open, on, way_stopped}
+use Rattle.transcript.specs.Life.{Life, Mode, Down, Up, Preparing, Owed, Progress, OfDrain, BeginsAt, ClosesRest, MayMake, claimed, durable_with, failed, first_open, on, way_stopped}
 use Rattle.transcript.specs.Life as life
 use Rattle.transcript.specs.Stage.{Leaf, IsDown, IsUp, IsPreparing, Stands, seated_of}
 use Rattle.transcript.specs.Steps.{BeginsShutting, DrainMoves, IsDownLeaf, MakesSteps, RegionStopped, noted_all}
@@ -28,7 +28,7 @@ use Rattle.leaf_sessions.specs.Acting.{CountsGo, FitsWay, Lived}
 use Rattle.leaf_sessions.specs.Acting as acting
 use Rattle.leaf_sessions.proofs.Modes.{as_many, counts_stay, founded_known, resting_mode}
 use Rattle.leaf_sessions.proofs.NoteLines.{closed_noted, handed_noted, noted_split}
-use Rattle.leaf_sessions.proofs.DrainSteps.{closed_still, copied, durable_still, halts, handed_still, starves, through}
+use Rattle.leaf_sessions.proofs.DrainSteps.{closed_still, copied, copy_long, durable_still, halts, handed_still, least_copy, starves, through}
 
 -- ---- what is known where the base is
 
@@ -115,18 +115,18 @@ begun (Preparing p) (IsPreparing y) x fits shuts = subst (λ (z : Shutting). Beg
 module _ (known : Option Known) (tables : ℕ) (stop : Option ℕ) (old : Life) (m m' : Meaning) (leaf : Leaf) (x : Shutting)
     (stands : IfSome known (λ (k : Known). StandsKnown k leaf m)) (fits : FitsNext known old leaf m) (b : Begun old.mode leaf x) (size : length x.serving.seated.tables ≡ tables) where
   -- each table is handed over, and the leaf is down
-  drained : (y : Shutting) (z : Seated) (treating handing notes : List Note) (n made copy : ℕ)
-      → MakesSteps n (moves.Shuts x) treating (moves.Copies y made) → IsCopyLength copy → suc made ≡ copy → MayMake stop (suc n)
+  drained : (y : Shutting) (z : Seated) (treating handing notes : List Note) (n copy made : ℕ)
+      → MakesSteps n (moves.Shuts x) treating (moves.Copies y copy made) → suc made ≡ copy → MayMake stop (suc n)
       → EachNoted IsHandedNote 0 (length x.serving.seated.tables) handing → notes ≡ treating ++ handing → IfSome known (λ (k : Known). IsWayOf m'.held.region Memory)
       → Lived known tables (Drains stop) old (noted_all notes) ending.Done (IsDown z) m'
-  drained y z treating handing notes n made copy steps long last may noted notes_are memory =
+  drained y z treating handing notes n copy made steps last may noted notes_are memory =
       let split = noted_split notes treating handing notes_are in
       let hand : life.Notes 0 (replicate tables said.Handed) (noted_all handing) =
       subst (λ (n : ℕ). life.Notes 0 (replicate n said.Handed) (noted_all handing)) size (handed_noted 0 (length x.serving.seated.tables) handing noted) in
       let next : Life = on old Down (claimed (is_some known) Memory) (noted_all treating) in
       let does : OfDrain (is_some known) tables stop old (noted_all notes) ending.Done next =
-      life.done copy n made b.at (noted_all treating) (noted_all handing) long b.begins (copied tables copy n made x y treating b.at long b.progress size steps) last may hand split
-      refl refl in record {
+      life.done copy n made b.at (noted_all treating) (noted_all handing) (copy_long n copy made x y treating steps) b.begins
+      (copied tables n copy made x y treating b.at b.progress size steps) last may hand split refl refl in record {
         next = next;
         does = does;
         counts = acting.keeps refl
@@ -137,12 +137,12 @@ module _ (known : Option Known) (tables : ℕ) (stop : Option ℕ) (old : Life) 
       }
 
   -- the region failed
-  region_failed : (y : Shutting) (notes : List Note) (n made : ℕ) → MakesSteps n (moves.Shuts x) notes (moves.Copies y made) → MayMake stop (suc n)
+  region_failed : (y : Shutting) (notes : List Note) (n copy made : ℕ) → MakesSteps n (moves.Shuts x) notes (moves.Copies y copy made) → MayMake stop (suc n)
       → Lived known tables (Drains stop) old (noted_all notes) ending.FaultRegion (IsDown y.serving.seated) m'
-  region_failed y notes n made steps may =
+  region_failed y notes n copy made steps may =
       let next : Life = on old Down None (noted_all notes) in
       let does : OfDrain (is_some known) tables stop old (noted_all notes) ending.FaultRegion next =
-      life.region_fails 3 n made b.at refl b.begins (copied tables 3 n made x y notes b.at refl b.progress size steps) may refl refl in record {
+      life.region_fails copy n made b.at (copy_long n copy made x y notes steps) b.begins (copied tables n copy made x y notes b.at b.progress size steps) may refl refl in record {
         next = next;
         does = does;
         counts = acting.keeps refl refl;
@@ -155,10 +155,10 @@ module _ (known : Option Known) (tables : ℕ) (stop : Option ℕ) (old : Life) 
       → (IsTrue m.tells → m'.held.region ≡ m.held.region)
       → Lived known tables (Drains stop) old (noted_all notes) ending.FaultRoom (IsPreparing y) m'
   roomless y notes n steps all may same =
-      let th = through tables 3 n x y notes b.at refl b.progress size steps in
+      let th = through tables 3 n x y notes b.at b.progress size steps in
       let next : Life = on old (Preparing th.q) old.way (noted_all notes) in
       let does : OfDrain (is_some known) tables stop old (noted_all notes) ending.FaultRoom next =
-      life.no_room 3 n b.at th.q refl b.begins th.run (th.progress.treated_are ∙ (all ∙ th.size)) may refl refl in record {
+      life.no_room 3 n b.at th.q least_copy b.begins th.run (th.progress.treated_are ∙ (all ∙ th.size)) may refl refl in record {
         next = next;
         does = does;
         counts = acting.keeps refl refl;
@@ -171,11 +171,11 @@ module _ (known : Option Known) (tables : ℕ) (stop : Option ℕ) (old : Life) 
       → notes ≡ treating ++ starving → (IsTrue m.tells → m'.held.region ≡ m.held.region)
       → Lived known tables (Drains stop) old (noted_all notes) ending.FaultMemory (IsPreparing z) m'
   starved y z treating starving notes n steps may s notes_are same =
-      let th = through tables 3 n x y treating b.at refl b.progress size steps in
-      let st = starves y z starving th.q th.progress s in
+      let th = through tables 3 n x y treating b.at b.progress size steps in
+      let st = starves tables y z starving th.q th.size th.progress s in
       let next : Life = on old (Preparing st.0) old.way (noted_all notes) in
       let does : OfDrain (is_some known) tables stop old (noted_all notes) ending.FaultMemory next =
-      life.no_memory 3 n b.at th.q st.0 (noted_all treating) (noted_all starving) refl b.begins th.run st.1 may (noted_split notes treating starving notes_are) refl refl in record {
+      life.no_memory 3 n b.at th.q st.0 (noted_all treating) (noted_all starving) least_copy b.begins th.run st.1 may (noted_split notes treating starving notes_are) refl refl in record {
         next = next;
         does = does;
         counts = acting.keeps refl refl;
@@ -189,12 +189,12 @@ module _ (known : Option Known) (tables : ℕ) (stop : Option ℕ) (old : Life) 
       → notes ≡ treating ++ halting → (IsTrue m.tells → m'.held.region ≡ m.held.region)
       → Lived known tables (Drains stop) old (noted_all notes) ending.FaultDisk (IsPreparing z) m'
   halted y z treating halting notes n steps may few h notes_are same =
-      let th = through tables 3 n x y treating b.at refl b.progress size steps in
+      let th = through tables 3 n x y treating b.at b.progress size steps in
       let hl = halts y z halting th.q th.progress h in
       let below : th.q.treated < tables = omega (arith, few, th.progress.treated_are, th.size) in
       let next : Life = failed old (Preparing hl.0) in
       let does : OfDrain (is_some known) tables stop old (noted_all notes) ending.FaultDisk next =
-      life.disk_fails 3 n b.at th.q hl.0 (noted_all treating) (noted_all halting) refl b.begins th.run below hl.1 may (noted_split notes treating halting notes_are) refl refl in record {
+      life.disk_fails 3 n b.at th.q hl.0 (noted_all treating) (noted_all halting) least_copy b.begins th.run below hl.1 may (noted_split notes treating halting notes_are) refl refl in record {
         next = next;
         does = does;
         counts = acting.lost refl;
@@ -209,7 +209,7 @@ module _ (known : Option Known) (tables : ℕ) (stop : Option ℕ) (old : Life) 
       → notes ≡ treating ++ closing → (IsTrue m.tells → m'.held.region ≡ m.held.region)
       → Lived known tables (Drains stop) old (noted_all notes) ending.Stopped (IsDown z) m'
   stopped y z treating closing notes n count stop_is steps count_is noted notes_are same =
-      let th = through tables 3 n x y treating b.at refl b.progress size steps in
+      let th = through tables 3 n x y treating b.at b.progress size steps in
       let shut = closed_noted (length y.closed) count closing noted in
       let split = noted_split notes treating closing notes_are in
       let place : length y.closed ≡ first_open th.q = th.progress.closed in
@@ -220,7 +220,7 @@ module _ (known : Option Known) (tables : ℕ) (stop : Option ℕ) (old : Life) 
       ) in
       let next : Life = on old Down (way_stopped (life.Shutting th.q) old.way) (noted_all treating) in
       let does : OfDrain (is_some known) tables stop old (noted_all notes) ending.Stopped next =
-      life.stops 3 n b.at (life.Shutting th.q) (noted_all treating) (noted_all closing) refl b.begins th.run stop_is rest split refl refl in record {
+      life.stops 3 n b.at (life.Shutting th.q) (noted_all treating) (noted_all closing) least_copy b.begins th.run stop_is rest split refl refl in record {
         next = next;
         does = does;
         counts = acting.keeps refl
@@ -231,13 +231,13 @@ module _ (known : Option Known) (tables : ℕ) (stop : Option ℕ) (old : Life) 
       }
 
   -- behind steps of the copy
-  stopped_copying : (y : Shutting) (notes : List Note) (n made : ℕ)
-      → stop ≡ Some n → MakesSteps n (moves.Shuts x) notes (moves.Copies y made) → IfSome known (λ (k : Known). RegionStopped made m m')
+  stopped_copying : (y : Shutting) (notes : List Note) (n copy made : ℕ)
+      → stop ≡ Some n → MakesSteps n (moves.Shuts x) notes (moves.Copies y copy made) → IfSome known (λ (k : Known). RegionStopped made m m')
       → Lived known tables (Drains stop) old (noted_all notes) ending.Stopped (IsDown y.serving.seated) m'
-  stopped_copying y notes n made stop_is steps region =
+  stopped_copying y notes n copy made stop_is steps region =
       let next : Life = on old Down (way_stopped (life.Copying made) old.way) (noted_all notes) in
       let does : OfDrain (is_some known) tables stop old (noted_all notes) ending.Stopped next =
-      life.stops 3 n b.at (life.Copying made) (noted_all notes) [] refl b.begins (copied tables 3 n made x y notes b.at refl b.progress size steps) stop_is refl
+      life.stops copy n b.at (life.Copying made) (noted_all notes) [] (copy_long n copy made x y notes steps) b.begins (copied tables n copy made x y notes b.at b.progress size steps) stop_is refl
       (sym (append-nil (noted_all notes))) refl refl in record {
         next = next;
         does = does;
@@ -265,15 +265,15 @@ pub drain_lives : (names : List (List ℕ)) (known : Option Known) (stop : Optio
     → AreInPlace names (seated_of leaf) → AreGrounded known (seated_of leaf) → IfSome known (λ k. StandsKnown k leaf m)
     → FitsMode life.mode leaf → FitsNext known life leaf m
     → DrainMoves m m' leaf stop notes ends leaf' → Lived known (length names) (Drains stop) life (noted_all notes) ends leaf' m'
-drain_lives names known stop old m m' leaf notes ends leaf' place grounded stands mode fits (moves.done x y z treating handing n made copy shuts steps long last may part noted notes_are region ends_are leaf_is) =
+drain_lives names known stop old m m' leaf notes ends leaf' place grounded stands mode fits (moves.done x y z treating handing n copy made shuts steps last may part noted notes_are region ends_are leaf_is) =
     let b = begun old.mode leaf x mode shuts in
     rw (ends_are, leaf_is)
-    (drained known (length names) stop old m m' leaf x stands fits b (b.tables ∙ as_many names (seated_of leaf) place) y z treating handing notes n made copy steps long last may noted notes_are
+    (drained known (length names) stop old m m' leaf x stands fits b (b.tables ∙ as_many names (seated_of leaf) place) y z treating handing notes n copy made steps last may noted notes_are
     (promised (IsWayOf m'.held.region Memory) names known leaf m place grounded stands region))
-drain_lives names known stop old m m' leaf notes ends leaf' place grounded stands mode fits (moves.failed x y n made shuts steps may ends_are leaf_is) =
+drain_lives names known stop old m m' leaf notes ends leaf' place grounded stands mode fits (moves.failed x y n copy made shuts steps may ends_are leaf_is) =
     let b = begun old.mode leaf x mode shuts in
     rw (ends_are, leaf_is)
-    (region_failed known (length names) stop old m m' leaf x stands fits b (b.tables ∙ as_many names (seated_of leaf) place) y notes n made steps may)
+    (region_failed known (length names) stop old m m' leaf x stands fits b (b.tables ∙ as_many names (seated_of leaf) place) y notes n copy made steps may)
 drain_lives names known stop old m m' leaf notes ends leaf' place grounded stands mode fits (moves.roomless x y n shuts steps all may region ends_are leaf_is) =
     let b = begun old.mode leaf x mode shuts in
     rw (ends_are, leaf_is)
@@ -290,10 +290,10 @@ drain_lives names known stop old m m' leaf notes ends leaf' place grounded stand
     let b = begun old.mode leaf x mode shuts in
     rw (ends_are, leaf_is)
     (stopped known (length names) stop old m m' leaf x stands fits b (b.tables ∙ as_many names (seated_of leaf) place) y z treating closing notes n count stop_is steps count_is noted notes_are region)
-drain_lives names known stop old m m' leaf notes ends leaf' place grounded stands mode fits (moves.stopped_copying x y n made shuts stop_is steps region ends_are leaf_is) =
+drain_lives names known stop old m m' leaf notes ends leaf' place grounded stands mode fits (moves.stopped_copying x y n copy made shuts stop_is steps region ends_are leaf_is) =
     let b = begun old.mode leaf x mode shuts in
     rw (ends_are, leaf_is)
-    (stopped_copying known (length names) stop old m m' leaf x stands fits b (b.tables ∙ as_many names (seated_of leaf) place) y notes n made stop_is steps
+    (stopped_copying known (length names) stop old m m' leaf x stands fits b (b.tables ∙ as_many names (seated_of leaf) place) y notes n copy made stop_is steps
     (promised (RegionStopped made m m') names known leaf m place grounded stands region))
 drain_lives names known stop old m m' leaf notes ends leaf' place grounded stands mode fits (moves.not_up down notes_are held ends_are leaf_is) =
     rw (notes_are, ends_are, leaf_is) (not_up known (length names) stop old m m' leaf stands mode fits down held)

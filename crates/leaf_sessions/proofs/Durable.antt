@@ -65,13 +65,12 @@ durable_kept base counts (IsUp x) seats m keep durable = (
 durable_kept base counts (IsPreparing x) seats m keep durable = (
   durable.0,
   durable.1,
-  durable.2,
   λ place t w at sat n e.
       let old = keep place t w at sat in
-      settled_kept base t old.0 w n old.2 (durable.3 place t old.0 at old.1 n e),
+      settled_kept base t old.0 w n old.2 (durable.2 place t old.0 at old.1 n e),
   λ place t w at sat below.
       let old = keep place t w at sat in
-      closed_kept (state_with base t old.0) (state_with base t w) old.2 (durable.4 place t old.0 at old.1 below),
+      closed_kept (state_with base t old.0) (state_with base t w) old.2 (durable.3 place t old.0 at old.1 below),
 )
 
 -- ---- a meeting

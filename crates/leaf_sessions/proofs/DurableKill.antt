@@ -43,5 +43,5 @@ module _ (names : List (List ℕ)) (k : Known) (counts : List ℕ) (m m' : Meani
       (λ h. killed s y (IsUp s) 0 _ refl closes held h.durable.1 h.known.stands h.durable.2 h) g
   kill_moves leaf ends leaf' (KillMoves.preparing x y count shuts all closes held is down) g =
       of_leaves names k counts m m' notes leaf leaf' (IsPreparing x) (IsDown y) shuts down
-      (λ h. killed x.serving y (IsPreparing x) _ count refl closes held h.durable.1 h.known.stands h.durable.3 h) g
+      (λ h. killed x.serving y (IsPreparing x) _ count refl closes held h.durable.1 h.known.stands h.durable.2 h) g
   kill_moves leaf ends leaf' (KillMoves.not_up other nothing held is same) g = left_alone names k counts m m' notes leaf leaf' g nothing held same

@@ -6,14 +6,14 @@ use Rattle.berth_face.specs.Berth.{Meaning}
 use Rattle.row_records.specs.Records.{LogRecord}
 use Rattle.leaf_model.specs.declared.writes.Write.{Write}
 use Rattle.disk_backup.proofs.Logs.{closed_is_log}
+use Rattle.region_layout.specs.declared.head.Head.{Head}
 use Rattle.region_layout.specs.declared.head.Head.TheVariants.{Version}
-use Rattle.region_layout.specs.declared.image.Image.{Image}
-use Rattle.region_layout.specs.declared.image.TableImage.{TableImage}
+use Rattle.region_layout.specs.Region.{head_of}
+use Rattle.region_layout.specs.Images.{TableImage}
 use Rattle.region_layout.specs.Images as images
 use Rattle.region_layout.specs.ImageWrites.{AreImagesOf}
-use Rattle.region_layout.specs.Region.{layout}
-use Rattle.region_layout.proofs.Heads.{image_head}
-use Rattle.region_layout.proofs.Images.{one_image}
+use Rattle.region_directory.specs.Region.{reads}
+use Rattle.region_directory.proofs.Images.{one_tables}
 use Rattle.log_recovery.specs.Recovery as recovery
 use Rattle.leaf_opening.specs.declared.ways.Way.{Way}
 use Rattle.leaf_opening.specs.declared.ways.Way.TheVariants.{Memory, Disk}
@@ -42,7 +42,7 @@ use Rattle.transcript.specs.Transcript.{Known}
 use Rattle.transcript.specs.Stage.{Leaf, IsDown, IsUp, Carries}
 use Rattle.transcript.specs.Steps.{StartMoves, StartsTold, noted_all, said_of_note}
 use Rattle.leaf_sessions.specs.Session.{AreGrounded, AreInPlace, AtCounts, IsDurable, IsSettled, StandsKnown}
-use Rattle.leaf_sessions.proofs.Lists.{element_at, get_map, length_mapped, same_some, within}
+use Rattle.leaf_sessions.proofs.Lists.{clash_bool, element_at, get_map, length_mapped, same_some, within}
 use Rattle.leaf_sessions.proofs.Counting.{IsOf, settled_opened}
 use Rattle.leaf_sessions.proofs.CountingNotes.{AreStewards, seat_at, set_same, tables_count, tables_founded}
 use Rattle.leaf_sessions.proofs.CountingLogs.{has_begins, has_begun, one_count}
@@ -61,17 +61,14 @@ from_image : (base : NamedStates) (ws : List Watched) (least : List ℕ → List
     → Rests ws base least next m → IsCome names m.held.region disk s Memory → AreFound names m.held.disk s.tables
 from_image base ws least next m names disk s rests come = by rests.region
   where
-    version_is : (version : ℕ) → Version version ≡ Version layout → version ≡ layout
-    version_is version e = cc
+    version_is : (h : Head) (version other : ℕ) → h ≡ Version version → h ≡ Version other → version ≡ other
+    version_is h version other e f = cc
 
     by : RegionRests (tables_of base ws m) m → AreFound names m.held.disk s.tables
     by (is_closed closed) = absurd (closed_no_image m.held.region closed come.0 come.1 come.2)
-    by (is_other version head other) = absurd (other (version_is version (sym head ∙ image_head m.held.region come.0 layout come.1 come.2)))
+    by (is_other version head other) = absurd (clash_bool (reads version) (ap (λ (v : ℕ). reads v) (version_is (head_of m.held.region) version come.2.version head come.2.is.has.head) ∙ come.2.reads_it) other)
     by (is_image found log_end is whole) =
-        let ours : Image = record { log_end = log_end; tables = found } in
-        let theirs : Image = record { log_end = come.1; tables = come.0 } in
-        let one : ours ≡ theirs = one_image m.held.region ours theirs is come.2 in
-        let same : found ≡ come.0 = ap (λ (i : Image). i.tables) one in
+        let same : found ≡ come.0 = one_tables m.held.region found come.0 log_end come.1 is come.2 in
         let writes_are : AreImagesOf (λ name. (tables_of base ws m name).writes) come.0 = subst (λ (ts : List TableImage). AreImagesOf (λ name. (tables_of base ws m name).writes) ts) same whole.same in
         let log = whole.logs m.held rests.stands.reads in
         record {

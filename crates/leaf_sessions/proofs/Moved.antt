@@ -111,13 +111,13 @@ kills_no_start m m' leaf notes ends leaf' (KillMoves.preparing x y count was all
 kills_no_start m m' leaf notes ends leaf' (KillMoves.not_up down none held_is ends_are now) = ap is_started ends_are
 
 drains_no_start : (stop : Option ℕ) (m m' : Meaning) (leaf : Leaf) (notes : List Note) (ends : Ending) (leaf' : Leaf) → DrainMoves m m' leaf stop notes ends leaf' → is_started ends ≡ false
-drains_no_start stop m m' leaf notes ends leaf' (DrainMoves.done x y z treating handing n made copy shuts steps long last may part each notes_are memory ends_are now) = ap is_started ends_are
-drains_no_start stop m m' leaf notes ends leaf' (DrainMoves.failed x y n made shuts steps may ends_are now) = ap is_started ends_are
+drains_no_start stop m m' leaf notes ends leaf' (DrainMoves.done x y z treating handing n copy made shuts steps last may part each notes_are memory ends_are now) = ap is_started ends_are
+drains_no_start stop m m' leaf notes ends leaf' (DrainMoves.failed x y n copy made shuts steps may ends_are now) = ap is_started ends_are
 drains_no_start stop m m' leaf notes ends leaf' (DrainMoves.roomless x y n shuts steps all may region ends_are now) = ap is_started ends_are
 drains_no_start stop m m' leaf notes ends leaf' (DrainMoves.starved x y z treating starving n shuts steps may starves part notes_are region ends_are now) = ap is_started ends_are
 drains_no_start stop m m' leaf notes ends leaf' (DrainMoves.halted x y z treating halting n shuts steps may below halts notes_are region ends_are now) = ap is_started ends_are
 drains_no_start stop m m' leaf notes ends leaf' (DrainMoves.stopped x y z treating closing n count shuts stops steps closed each part notes_are region stands ends_are now) = ap is_started ends_are
-drains_no_start stop m m' leaf notes ends leaf' (DrainMoves.stopped_copying x y n made shuts stops steps region ends_are now) = ap is_started ends_are
+drains_no_start stop m m' leaf notes ends leaf' (DrainMoves.stopped_copying x y n copy made shuts stops steps region ends_are now) = ap is_started ends_are
 drains_no_start stop m m' leaf notes ends leaf' (DrainMoves.not_up down none held_is ends_are now) = ap is_started ends_are
 
 same_way : (v w : Way) → ends_as.Started v ≡ ends_as.Started w → v ≡ w

@@ -124,14 +124,14 @@ kill_held m m' leaf notes ends leaf' down (KillMoves.preparing x y count is all 
 kill_held m m' leaf notes ends leaf' down (KillMoves.not_up other none held ended same) = held
 
 drain_held : (stop : Option ℕ) (m m' : Meaning) (leaf : Leaf) (notes : List Note) (ends : Ending) (leaf' : Leaf) → IsDownLeaf leaf → DrainMoves m m' leaf stop notes ends leaf' → m'.held ≡ m.held
-drain_held stop m m' leaf notes ends leaf' down (DrainMoves.done x y z treating handing n made copy shuts steps long last may part each notes_are memory ends_are now) = absurd (never_shuts leaf x down shuts)
-drain_held stop m m' leaf notes ends leaf' down (DrainMoves.failed x y n made shuts steps may ends_are now) = absurd (never_shuts leaf x down shuts)
+drain_held stop m m' leaf notes ends leaf' down (DrainMoves.done x y z treating handing n copy made shuts steps last may part each notes_are memory ends_are now) = absurd (never_shuts leaf x down shuts)
+drain_held stop m m' leaf notes ends leaf' down (DrainMoves.failed x y n copy made shuts steps may ends_are now) = absurd (never_shuts leaf x down shuts)
 drain_held stop m m' leaf notes ends leaf' down (DrainMoves.roomless x y n shuts steps all may region ends_are now) = absurd (never_shuts leaf x down shuts)
 drain_held stop m m' leaf notes ends leaf' down (DrainMoves.starved x y z treating starving n shuts steps may starves part notes_are region ends_are now) = absurd (never_shuts leaf x down shuts)
 drain_held stop m m' leaf notes ends leaf' down (DrainMoves.halted x y z treating halting n shuts steps may below halts notes_are region ends_are now) = absurd (never_shuts leaf x down shuts)
 drain_held stop m m' leaf notes ends leaf' down (DrainMoves.stopped x y z treating closing n count shuts stops steps closed each part notes_are region stands ends_are now) =
     absurd (never_shuts leaf x down shuts)
-drain_held stop m m' leaf notes ends leaf' down (DrainMoves.stopped_copying x y n made shuts stops steps region ends_are now) = absurd (never_shuts leaf x down shuts)
+drain_held stop m m' leaf notes ends leaf' down (DrainMoves.stopped_copying x y n copy made shuts stops steps region ends_are now) = absurd (never_shuts leaf x down shuts)
 drain_held stop m m' leaf notes ends leaf' down (DrainMoves.not_up other none held ended same) = held
 
 -- ---- why a start was refused

@@ -6,7 +6,7 @@ use Rattle.row_records.specs.Records.{LogRecord}
 use Rattle.berth_face.specs.Berth.{Meaning, Pair}
 use Rattle.leaf_history.specs.History.{Entry, LegalFrom, after}
 use Rattle.leaf_model.specs.Names.{AreDistinct}
-use Rattle.adopt.specs.Found.{IsBroken}
+use Rattle.adopt.specs.Adopting.{IsBroken}
 use Rattle.disk_backup.specs.Scanning.{BeginsScan}
 use Rattle.leaf_opening.specs.Starts.{IsWayOf}
 use Rattle.crash_moments.specs.Left.{NamedStates}
@@ -110,7 +110,7 @@ AtCounts P x counts = AtEach (λ place t v. (n : ℕ) → slice_get counts place
 abbrev pub IsDurable : NamedStates → List ℕ → Leaf → Meaning → Type 0
 IsDurable base counts (IsDown x) m = (length counts ≡ length x.tables) × AtCounts (λ t v n. LogHas m.held.disk (name_of t) n) x counts
 IsDurable base counts (IsUp x) m = (length counts ≡ length x.seated.tables) × (x.owing.log.owed ≡ None) × AtCounts (IsSettled base) x.seated counts
-IsDurable base counts (IsPreparing x) m = (length counts ≡ length x.serving.seated.tables) × (x.serving.owing.log.owed ≡ None) × (x.shut ≡ false)
+IsDurable base counts (IsPreparing x) m = (length counts ≡ length x.serving.seated.tables) × (x.serving.owing.log.owed ≡ None)
     × AtCounts (IsSettled base) x.serving.seated counts
     × AtEach (λ place t v. place < length x.closed → IsShutAndTaken (after true (base (name_of t)) (seen_of v))) x.serving.seated
 

@@ -2,12 +2,6 @@
 #![tactic(auto)]
 
 #[cfg(test)]
-mod files;
-#[cfg(test)]
 mod lines;
 #[cfg(test)]
 mod memory;
-#[cfg(test)]
-mod queries;
-#[cfg(test)]
-mod records;

@@ -72,18 +72,29 @@ fn each_failing_call_is_told(rt: HostRuntime) -> Result<(), Fail> {
             &LOG[..],
         ),
         (
-            &[(Method::RegionWrite, 3), (Method::RegionWrite, 4)][..],
+            &[
+                (Method::RegionWrite, 3),
+                (Method::RegionWrite, 4),
+                (Method::RegionWrite, 5),
+                (Method::RegionWrite, 6),
+            ][..],
             "0 errors #1 opened 0\nstart 0 disk nohead\n0 errors #2 added 1 late 0\n0 errors #3 closed 1\n0 errors #4 flushed 1\ndrain 0 fault region\ndrain 0 not up\n0 errors #5 opened 1\nstart 0 disk closed 0\nstart 0 not down\n",
             &LOG[..],
         ),
         // Where the flag stands as it was the image is adopted by the next start, and else the log is read.
         (
-            &[(Method::RegionRead, 2), (Method::RegionWrite, 5)][..],
+            &[(Method::RegionRead, 2), (Method::RegionWrite, 7)][..],
             "0 errors #1 opened 0\nstart 0 disk nohead\n0 errors #2 added 1 late 0\n0 errors #3 closed 1\n0 errors #4 flushed 1\n0 errors #5 handed\ndrain 0 done\ndrain 0 not up\nstart 0 fault region\n0 errors #6 opened 1\nstart 0 memory\n",
             &LOG[..],
         ),
         (
-            &[(Method::RegionLen, 1), (Method::RegionRead, 3)][..],
+            &[
+                (Method::RegionLen, 1),
+                (Method::RegionRead, 3),
+                (Method::RegionCut, 2),
+                (Method::RegionRead, 4),
+                (Method::RegionCut, 3),
+            ][..],
             "0 errors #1 opened 0\nstart 0 disk nohead\n0 errors #2 added 1 late 0\n0 errors #3 closed 1\n0 errors #4 flushed 1\n0 errors #5 handed\ndrain 0 done\ndrain 0 not up\nstart 0 fault region\n0 errors #6 opened 1\nstart 0 disk closed 0\n",
             &LOG[..],
         ),
@@ -91,9 +102,9 @@ fn each_failing_call_is_told(rt: HostRuntime) -> Result<(), Fail> {
         (
             &[
                 (Method::RegionLen, 2),
-                (Method::RegionRead, 4),
-                (Method::RegionWrite, 6),
-                (Method::RegionCut, 2),
+                (Method::RegionRead, 5),
+                (Method::RegionWrite, 8),
+                (Method::RegionCut, 4),
                 (Method::DiskLen, 2),
                 (Method::DiskRead, 2),
                 (Method::DiskWrite, 4),

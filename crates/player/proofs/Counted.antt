@@ -37,9 +37,9 @@ pub makes_still : (n : ℕ) (s : At) (a b : List Note) (t : At) → b ≡ [] →
 makes_still n s a b t none steps = subst (λ (ns : List Note). MakesSteps n s ns t) (sym (append-nil a) ∙ ap (λ (ns : List Note). a ++ ns) (sym none)) steps
 
 -- those of the copy, behind its plan
-pub makes_copies : (n k : ℕ) (s : At) (a : List Note) (x : Shutting) → MakesSteps n s a (Copies x 0) → MakesCopies k → MakesSteps (n + k) s a (Copies x k)
-makes_copies n k s a x steps copies =
-    subst (λ (ns : List Note). MakesSteps (n + k) s ns (Copies x k)) (append-nil a) (makes_join n k s a (Copies x 0) [] (Copies x k) steps (copies x))
+pub makes_copies : (n k copy : ℕ) (s : At) (a : List Note) (x : Shutting) → MakesSteps n s a (Copies x copy 0) → MakesCopies copy k → MakesSteps (n + k) s a (Copies x copy k)
+makes_copies n k copy s a x steps copies =
+    subst (λ (ns : List Note). MakesSteps (n + k) s ns (Copies x copy k)) (append-nil a) (makes_join n k s a (Copies x copy 0) [] (Copies x copy k) steps (copies x))
 
 -- ---- how many may be made
 

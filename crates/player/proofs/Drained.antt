@@ -21,11 +21,12 @@ use Rattle.transcript.specs.Stage.{IsPreparing, Carries}
 use Rattle.transcript.specs.Steps as step
 use Rattle.transcript.specs.Steps.{MakesStep, MakesSteps}
 use Rattle.player.specs.declared.drain.Shut.TheVariants as how
-use Rattle.player.specs.Steps.{AreLeft, Spends}
+use Rattle.player.specs.Steps.{AreLeft, Spends, copy_left}
 use Rattle.player.specs.Lines.{AreTold, AreAdded, note_lines}
 use Rattle.player.specs.Moves as move
 use Rattle.player.specs.Moves.{CarriesCopy, IsKilled}
 use Rattle.player.proofs.Counted.{makes_none, makes_more, makes_still, none_made, spent, may_make, all_made}
+use Rattle.player.proofs.Copied.{copy_long}
 use Rattle.player.proofs.NoteLines.{lines_append}
 use Rattle.player.proofs.Treated.{GoesFar, one_treated, far_none, far_on, far_founded, far_tells, far_carries}
 
@@ -134,8 +135,8 @@ module _ {B E : Type 0} (number : ℕ) (meaning : B → Meaning) (x : Shutting) 
       ends = record {
         whole = leaf.0;
         made = suc so_far.made;
-        steps = makes_more so_far.made (step.Shuts x) so_far.notes (step.Shuts leaf.0) notes (step.Copies leaf.0 0) so_far.steps
-            (MakesStep.plans leaf.0 refl stepped.one.0 stepped.one.1 refl);
+        steps = makes_more so_far.made (step.Shuts x) so_far.notes (step.Shuts leaf.0) notes (step.Copies leaf.0 (copy_left copy.0) 0) so_far.steps
+            (MakesStep.plans leaf.0 (copy_left copy.0) refl stepped.one.0 (copy_long copy.0 stepped.one.2.next) stepped.one.1 refl);
         left_are = left_now;
         copy = stepped.one.2;
         carries = copy_carries;

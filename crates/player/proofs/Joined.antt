@@ -1,8 +1,7 @@
 -- A drain, of its two parts.
-use Rattle.std.proofs.Common.{◌≡◌, ℕ, suc, ◌+◌, List, [], ◌++◌, length, Option, Result, Vec, Global, refl, sym, ap, subst, ◌∙◌, arith}
+use Rattle.std.proofs.Common.{◌≡◌, ℕ, zero, suc, ◌+◌, List, [], ◌++◌, length, Option, Result, Vec, Global, refl, sym, ap, subst, ◌∙◌, arith}
 use Rattle.std.specs.Prelude.{IsTrue, IfOk}
 use Rattle.berth_face.specs.Berth.{Meaning, Passes}
-use Rattle.region_layout.specs.Images.{images_of}
 use Rattle.crash_moments.specs.Left.{NamedStates}
 use Rattle.crash_moments.proofs.Telling.{told_join}
 use Rattle.leaf_steward.specs.declared.notes.Note.{Note}
@@ -18,16 +17,15 @@ use Rattle.printed_lines.specs.declared.line.Line.{Line}
 use Rattle.transcript.specs.Stage.{Leaf, IsDown, IsUp, IsPreparing, Stands, Carries, seated_of}
 use Rattle.transcript.specs.Steps as step
 use Rattle.transcript.specs.Life.{MayMake}
-use Rattle.transcript.specs.Steps.{BeginsShutting, MakesSteps, DrainMoves}
+use Rattle.transcript.specs.Steps.{BeginsShutting, MakesSteps, DrainMoves, RegionStopped}
 use Rattle.player.specs.declared.drain.Shut.TheVariants as how
 use Rattle.player.specs.Stage.{KeepsSeats}
-use Rattle.player.specs.Steps.{steps_before}
+use Rattle.player.specs.Steps.{copy_left}
 use Rattle.player.specs.Lines.{AreAdded}
 use Rattle.player.specs.Moves as move
 use Rattle.player.specs.Moves.{CarriesCopy, CopyEnds, CopyRests, CopyStands, DrainsWithLines, IsKilled, IsCopyReady, MakesCopies}
 use Rattle.player.proofs.Carrying.{carries_on, founded_on, makes_keeps}
 use Rattle.player.proofs.Counted.{makes_copies, makes_still, may_make_more, all_made}
-use Rattle.player.proofs.Copied.{region_stopped}
 use Rattle.player.proofs.Drained.{told_more}
 
 -- ---- a leaf that begins to shut its tables is one that shuts them
@@ -54,6 +52,11 @@ begins_carries (IsPreparing y) x leaf' notes m m' shuts carries = subst (λ (z :
 
 -- ---- all tables are treated, and then they are copied
 
+-- the region was as it had been when the copy began
+stopped_since : (made : ℕ) (m n o : Meaning) → n.held.region ≡ m.held.region → RegionStopped made n o → RegionStopped made m o
+stopped_since zero m n o same stopped = stopped ∙ same
+stopped_since (suc made) m n o same stopped = stopped
+
 module _ (x : Shutting) (m n o : Meaning) (leaf : Leaf) (stop left : Option ℕ) (treating notes : List Note) (c : Copying) (z : Seated) (ends : Ending)
     (shuts : BeginsShutting leaf x) (ready : IsCopyReady x m stop treating c n left) (passes : Passes m n) where
   copy_tables : c.seated.tables ≡ x.serving.seated.tables
@@ -78,33 +81,32 @@ module _ (x : Shutting) (m n o : Meaning) (leaf : Leaf) (stop left : Option ℕ)
   whole_down e = ap (λ (s : Seated). IsDown s) (e ∙ ready.copy.seated)
 
   -- the steps up to here and those of the copy, and whether one more may be made
-  copy_steps : (made : ℕ) → MakesCopies made → MakesSteps (ready.made + made) (step.Shuts x) treating (step.Copies ready.whole made)
-  copy_steps made copies = makes_copies ready.made made (step.Shuts x) treating ready.whole ready.steps copies
+  copy_steps : (made : ℕ) → MakesCopies (copy_left c) made → MakesSteps (ready.made + made) (step.Shuts x) treating (step.Copies ready.whole (copy_left c) made)
+  copy_steps made copies = makes_copies ready.made made (copy_left c) (step.Shuts x) treating ready.whole ready.steps copies
 
-  copy_still : (made : ℕ) → MakesCopies made → notes ≡ [] → MakesSteps (ready.made + made) (step.Shuts x) (treating ++ notes) (step.Copies ready.whole made)
-  copy_still made copies none = makes_still (ready.made + made) (step.Shuts x) treating notes (step.Copies ready.whole made) none (copy_steps made copies)
+  copy_still : (made : ℕ) → MakesCopies (copy_left c) made → notes ≡ [] → MakesSteps (ready.made + made) (step.Shuts x) (treating ++ notes) (step.Copies ready.whole (copy_left c) made)
+  copy_still made copies none = makes_still (ready.made + made) (step.Shuts x) treating notes (step.Copies ready.whole (copy_left c) made) none (copy_steps made copies)
 
   may_copy : (made : ℕ) → MayMake left (suc made) → MayMake stop (suc (ready.made + made))
   may_copy made may = may_make_more stop left ready.made (suc made) (suc (ready.made + made)) ready.left_are may (omega arith)
 
   copy_moves : CopyRests c z notes n o → CopyEnds c left n o notes ends z → DrainMoves m o leaf stop (treating ++ notes) ends (IsDown z)
-  copy_moves rests (move.done made copy copies long last may noted memory ended) =
-      step.done x ready.whole z treating notes (ready.made + made) made copy shuts (copy_steps made copies) long last (may_copy made may)
+  copy_moves rests (move.done made copies last may noted memory ended) =
+      step.done x ready.whole z treating notes (ready.made + made) (copy_left c) made shuts (copy_steps made copies) last (may_copy made may)
       (record { from = n.clock; to = o.clock; made = subst (λ (s : Seated). Makes n.clock o.clock s notes z) ready.copy.seated rests.made })
       (subst (λ ts. EachNoted IsHandedNote 0 (length ts) notes) copy_tables noted)
       refl
       (λ base tells founded stands. let copies = copy_stands base tells founded stands in memory copies.0 copies.1 copies.2)
       ended refl
   copy_moves rests (move.failed made copies may none same ended) =
-      step.failed x ready.whole (ready.made + made) made shuts (copy_still made copies none) (may_copy made may) ended (whole_down same)
-  copy_moves rests (move.stopped at copies all few none same stands untouched ended) =
-      step.stopped_copying x ready.whole (ready.made + steps_before at) (steps_before at) shuts
-      (all_made stop left ready.made (steps_before at) (ready.made + steps_before at) ready.left_are all refl)
-      (copy_still (steps_before at) copies none)
+      step.failed x ready.whole (ready.made + made) (copy_left c) made shuts (copy_still made copies none) (may_copy made may) ended (whole_down same)
+  copy_moves rests (move.stopped made copies all none same stopped ended) =
+      step.stopped_copying x ready.whole (ready.made + made) (copy_left c) made shuts
+      (all_made stop left ready.made made (ready.made + made) ready.left_are all refl)
+      (copy_still made copies none)
       (λ base tells founded stood.
       let copies = copy_stands base tells founded stood in
-      region_stopped at c.drain.image m o (images_of ready.whole.serving.seated.names ready.whole.closed) ready.whole.serving.owing.log.end few ready.copy.image
-      (stands copies.0 copies.1 copies.2) (λ e. untouched e ∙ ready.region tells))
+      stopped_since made m n o (ready.region tells) (stopped copies.0 copies.1 copies.2))
       ended (whole_down same)
 
 -- ---- what a drain does
@@ -154,7 +156,7 @@ module _ {B E : Type 0} (number : ℕ) (meaning : B → Meaning) (x : Shutting) 
     told = shut.told;
   }
 
-  -- there was no memory for a table's content, or for the copy
+  -- there was no memory to seal a table, or for the copy
   pub drain_starved : (half : Shutting × B) → move.ShutsTables number meaning x m stop (how.Starved half) left before → DrainsWithLines number m (meaning half.1) leaf stop ending.FaultMemory before (IsPreparing half.0)
   drain_starved half shut = record {
     notes = shut.notes;

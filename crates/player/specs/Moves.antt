@@ -5,9 +5,6 @@ use Rattle.std.specs.List.{AllByRecursion}
 use Rattle.leaf_model.specs.declared.writes.Write.{Write}
 use Rattle.berth_face.specs.Berth.{Meaning}
 use Rattle.berth_face.specs.Causes.{Rose}
-use Rattle.drain_copy.specs.declared.step.Next.{Next}
-use Rattle.drain_copy.specs.declared.step.Next.TheVariants as next
-use Rattle.drain_copy.specs.Draining.{StandsAt}
 use Rattle.leaf_opening.specs.declared.ways.Way.TheVariants.{Memory}
 use Rattle.leaf_opening.specs.Starts.{IsWayOf}
 use Rattle.crash_moments.specs.Left.{NamedStates}
@@ -22,15 +19,15 @@ use Rattle.leaf_machine.specs.Prepares.{Halts, Starves, AllTreated, IsCopyOf}
 use Rattle.printed_lines.specs.declared.line.Ending.{Ending}
 use Rattle.printed_lines.specs.declared.line.Ending.TheVariants as ending
 use Rattle.printed_lines.specs.declared.line.Line.{Line}
-use Rattle.transcript.specs.Life.{IsCopyLength, MayMake}
+use Rattle.transcript.specs.Life.{MayMake}
 use Rattle.transcript.specs.Stage as stage
 use Rattle.transcript.specs.Stage.{Leaf, IsDown, IsPreparing, Stands, Carries, MeetsIf, seated_of, with_seats}
 use Rattle.transcript.specs.Steps as step
-use Rattle.transcript.specs.Steps.{Part, MakesSteps, DrainMoves}
+use Rattle.transcript.specs.Steps.{Part, MakesSteps, DrainMoves, RegionStopped}
 use Rattle.player.specs.declared.drain.Shut.{Shut}
 use Rattle.player.specs.declared.drain.Shut.TheVariants as shut
 use Rattle.player.specs.Lines.{AreTold}
-use Rattle.player.specs.Steps.{AreLeft, steps_before}
+use Rattle.player.specs.Steps.{AreLeft, copy_left}
 
 -- ---- notes
 
@@ -109,7 +106,7 @@ SameRegion m m' = IsTrue m.tells → m'.held.region ≡ m.held.region
 pub record IsCopyReady (x : Shutting) (m : Meaning) (stop : Option ℕ) (notes : List Note) (c : Copying) (m' : Meaning) (left : Option ℕ) : Type 0 where
   pub whole : Shutting
   pub made : ℕ
-  pub steps : MakesSteps made (step.Shuts x) notes (step.Copies whole 0)
+  pub steps : MakesSteps made (step.Shuts x) notes (step.Copies whole (copy_left c) 0)
   pub left_are : AreLeft stop made left
   pub copy : IsCopyOf whole c
   pub carries : CarriesCopy x c notes m m'
@@ -137,7 +134,7 @@ pub record IsHalted (x : Shutting) (m : Meaning) (stop : Option ℕ) (notes : Li
   pub carries : Carries (IsPreparing x) (IsPreparing z) notes m m'
   pub region : SameRegion m m'
 
--- there was no memory for a table's content, or for the copy
+-- there was no memory to seal a table, or for the copy
 pub record IsStarved (x : Shutting) (m : Meaning) (stop : Option ℕ) (notes : List Note) (z : Shutting) (m' : Meaning) : Type 0 where
   pub half : Shutting
   pub made : ℕ
@@ -192,36 +189,33 @@ pub record ShutsTables {B E : Type 0} (number : ℕ) (meaning : B → Meaning) (
   pub reads : (meaning (berth_left result)).disk_reads ≡ m.disk_reads
   pub told : AreTold number notes lines
 
--- so many steps of a copy, none of them the last, of whichever tables
-abbrev pub MakesCopies : ℕ → Type 0
-MakesCopies made = (x : Shutting) → MakesSteps made (step.Copies x 0) [] (step.Copies x made)
+-- so many steps of a copy that takes so many, none of them the last, of whichever tables
+abbrev pub MakesCopies : ℕ → ℕ → Type 0
+MakesCopies copy made = (x : Shutting) → MakesSteps made (step.Copies x copy 0) [] (step.Copies x copy made)
 
 -- How a copy ends: each table is handed over, and the region is the image; or the region failed; or as many steps were made as may be, none of them the last.
 pub data CopyEnds (c : Copying) (stop : Option ℕ) (m m' : Meaning) (notes : List Note) (ends : Ending) (y : Seated) : Type 0 where
-  done : (made copy : ℕ)
-      → MakesCopies made
-      → IsCopyLength copy
-      → suc made ≡ copy
+  done : (made : ℕ)
+      → MakesCopies (copy_left c) made
+      → suc made ≡ copy_left c
       → MayMake stop (suc made)
       → EachNoted IsHandedNote 0 (length c.seated.tables) notes
       → (IsTrue m.tells → AreFounded c.seated → CopyStands c m → IsWayOf m'.held.region Memory)
       → ends ≡ ending.Done
       → CopyEnds c stop m m' notes ends y
   failed : (made : ℕ)
-      → MakesCopies made
+      → MakesCopies (copy_left c) made
       → MayMake stop (suc made)
       → notes ≡ []
       → y ≡ c.seated
       → ends ≡ ending.FaultRegion
       → CopyEnds c stop m m' notes ends y
-  stopped : (at : Next)
-      → MakesCopies (steps_before at)
-      → stop ≡ Some (steps_before at)
-      → steps_before at < 3
+  stopped : (made : ℕ)
+      → MakesCopies (copy_left c) made
+      → stop ≡ Some made
       → notes ≡ []
       → y ≡ c.seated
-      → (IsTrue m.tells → AreFounded c.seated → CopyStands c m → StandsAt at c.drain.image m'.held.region)
-      → (at ≡ next.Begin → m'.held.region ≡ m.held.region)
+      → (IsTrue m.tells → AreFounded c.seated → CopyStands c m → RegionStopped made m m')
       → ends ≡ ending.Stopped
       → CopyEnds c stop m m' notes ends y
 

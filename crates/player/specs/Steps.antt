@@ -1,7 +1,7 @@
 -- The steps of a drain that is stopped after so many.
 use Rattle.std.specs.Prelude.{◌≡◌, ℕ, ◌+◌, Bool, true, false, Option, Some, None, ⊤}
-use Rattle.drain_copy.specs.declared.step.Next.{Next}
-use Rattle.drain_copy.specs.declared.step.Next.TheVariants as next
+use Rattle.drain_copy.specs.Draining as draining
+use Rattle.leaf_machine.specs.States.{Copying}
 
 -- of the steps that may be made, if they are counted, so many were made, and these are left
 abbrev pub AreLeft : Option ℕ → ℕ → Option ℕ → Type 0
@@ -15,9 +15,6 @@ abbrev pub Spends : Option ℕ → Bool → Option ℕ → Type 0
 Spends before true now = AreLeft before 1 now
 Spends before false now = before ≡ Some 0
 
--- how many steps of a copy were made before this one
-abbrev pub steps_before : Next → ℕ
-steps_before next.Begin = 0
-steps_before next.Write = 1
-steps_before next.Flag = 2
-steps_before next.Nothing = 3
+-- how many steps of its copy a leaf has still to make
+abbrev pub copy_left : Copying → ℕ
+copy_left c = draining.left c.drain

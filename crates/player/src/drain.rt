@@ -1,7 +1,6 @@
 // A drain of a leaf, step by step. Its lines are told with the leaf's number.
 ghost use Rattle.std.specs.Prelude.{◌≡◌, [], List, IfOk};
 ghost use Rattle.berth_face.specs.Berth.{Passes};
-ghost use Rattle.drain_copy.specs.declared.step.Next.TheVariants as next;
 ghost use Rattle.leaf_steward.specs.declared.notes.Note.{Note};
 ghost use Rattle.leaf_steward.specs.Making.{EachNoted, IsClosedNote};
 ghost use Rattle.transcript.specs.Stage.{Carries, IsDown, IsPreparing, Leaf};
@@ -30,7 +29,7 @@ pub enum Shut<'t, B: Berth> {
     Stopped(Preparing<'t, B>),
     /// The disk failed.
     Halted(Preparing<'t, B>),
-    /// There was no memory for a table's content, or for the copy.
+    /// There was no memory to seal a table, or for the copy.
     Starved(Preparing<'t, B>),
     /// The copy has no room.
     Roomless(Preparing<'t, B>),
@@ -126,7 +125,6 @@ fn copy_all<'t, R: Wait + Threads + Sync, B: Berth, G: Gate>(
     steps: &mut Steps,
     notes: &mut Notes,
 ) -> (Down<'t, B>, Ending)
-    requires begin { leaf.0.drain.next ≡ next.Begin }
     requires none { notes.old ≡ [] }
     ensures ends { CopyEnds leaf.entry.0 steps.old.left (B.meaning leaf.entry.1) (B.meaning result.0.1) notes.new result.1 result.0.0 }
     ensures rests { CopyRests leaf.entry.0 result.0.0 notes.new (B.meaning leaf.entry.1) (B.meaning result.0.1) }

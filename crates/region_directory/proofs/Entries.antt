@@ -10,7 +10,7 @@ use Rattle.row_records.specs.Bytes.{name_bytes, i64_bytes, u32_bytes, u64_bytes,
 use Rattle.row_records.specs.Reading.{◌>>=◌, byte_at, number_at, name_at, time_at}
 use Rattle.row_records.proofs.Fields.{bind_some, passed, held, some_is, Takes, Takes-then, wide32, wide64, byte_takes, number_takes, number_again, name_takes, name_again, time_takes, time_again}
 use Rattle.region_layout.specs.Reading.{below_2_63_at}
-use Rattle.region_layout.proofs.Tables.{low_takes, low_again}
+use Rattle.region_layout.proofs.Numbers.{low_takes, low_again}
 use Rattle.region_directory.specs.declared.directory.Place.{Place}
 use Rattle.region_directory.specs.declared.directory.BlockPlaces.{BlockPlaces}
 use Rattle.region_directory.specs.declared.directory.TablePlaces.{TablePlaces}

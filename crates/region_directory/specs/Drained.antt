@@ -6,7 +6,7 @@ use Rattle.row_blocks.specs.declared.column.BlockColumn.{BlockColumn}
 use Rattle.row_blocks.specs.Blocks.{Block}
 use Rattle.table_state.specs.declared.parts.Parts.{Parts}
 use Rattle.region_directory.specs.declared.drained.DrainTable.{DrainTable}
-use Rattle.region_layout.specs.declared.image.TableImage.{TableImage}
+use Rattle.region_layout.specs.Images.{TableImage}
 use Rattle.region_directory.specs.Region.{image_of_parts}
 
 -- the bytes of the columns, in their order

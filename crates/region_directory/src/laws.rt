@@ -1,6 +1,6 @@
 // Laws of images.
 ghost use Rattle.std.specs.Prelude.{◌≡◌, ℕ, List};
-ghost use Rattle.region_layout.specs.declared.image.TableImage.{TableImage};
+ghost use Rattle.region_layout.specs.Images.{TableImage};
 ghost use Rattle.region_layout.specs.Region.{IsClosed};
 ghost use Rattle.region_directory.specs.Region.{IsAdoptable, reads};
 

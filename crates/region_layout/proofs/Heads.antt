@@ -1,19 +1,10 @@
--- What a head says of an image, and of a closed region.
+-- What a head says of a region that is closed, and of one that is not.
 use Rattle.std.proofs.Common.{◌≡◌, ℕ, Bool, true, false, cond, ltb, eqb, List, length, refl, sym, ap, ◌∙◌, arith, inl, inr}
 use Rattle.std.specs.Prelude.{◌≢◌, slice_index}
 use Rattle.std.proofs.lemmas.Bool.{ltb-true, ltb-false, le-ltb, eqb-true, eqb-false}
 use Rattle.region_layout.specs.declared.head.Head.{Head}
 use Rattle.region_layout.specs.declared.head.Head.TheVariants.{NoHead, Closed, Version}
-use Rattle.region_layout.specs.declared.image.TableImage.{TableImage}
-use Rattle.region_layout.specs.Region.{IsClosed, IsImage, head_of, version_of, layout_1_bytes, layout}
-
-head_is : (tables : List TableImage) (log_end : ℕ) → head_of (layout_1_bytes tables log_end) ≡ Version layout
-head_is tables log_end =
-    let long : ltb (length (layout_1_bytes tables log_end)) 16 ≡ false = le-ltb _ _ (omega arith) in
-    rw long refl
-
-pub image_head : (region : List ℕ) (tables : List TableImage) (version log_end : ℕ) → IsImage version region tables log_end → head_of region ≡ Version version
-image_head region tables version log_end is = ap head_of is.1.bytes ∙ head_is tables log_end ∙ ap (λ (v : ℕ). Version v) (sym is.0)
+use Rattle.region_layout.specs.Region.{IsClosed, head_of, version_of}
 
 -- a head by its two tests
 abbrev head_by : Bool → Bool → ℕ → ℕ → Head
@@ -31,6 +22,16 @@ closed_head region is version = λ e.
       | inl short ↦ omega (arith, short, ltb-false (length region) 16 tests.0)
       | inr other ↦ other (eqb-true (slice_index region 0) 1 tests.1)
     ]
+
+shut_by : (short opened : Bool) (byte version flag : ℕ) → head_by short opened byte version ≡ Closed flag → opened ≡ false
+shut_by true opened byte version flag e = absurd cc
+shut_by false true byte version flag e = absurd cc
+shut_by false false byte version flag e = refl
+
+pub shut_head : (region : List ℕ) (flag : ℕ) → head_of region ≡ Closed flag → IsClosed region
+shut_head region flag e =
+    let shut = shut_by (ltb (length region) 16) (eqb (slice_index region 0) 1) (slice_index region 0) (version_of region) flag e in
+    inr (eqb-false (slice_index region 0) 1 shut)
 
 open_by : (short opened : Bool) (byte version : ℕ) → short ≡ false → opened ≡ true → head_by short opened byte version ≡ Version version
 open_by short opened byte version e1 e2 = rw (e1, e2) refl

@@ -1,5 +1,3 @@
 pub mod Heads
-pub mod Loop
-pub mod Tables
-pub mod Images
-pub mod Writing
+pub mod Numbers
+pub mod Answered

@@ -1,10 +1,17 @@
 -- Tables and their images.
-use Rattle.std.specs.Prelude.{ℕ, List, [], ◌∷◌, map, None, Option, unwrap_or, pos, Bool}
+use Rattle.std.specs.Prelude.{ℕ, ℤ, List, [], ◌∷◌, map, None, Option, unwrap_or, pos, Bool}
 use Rattle.std.specs.List.{find}
 use Rattle.std.specs.Str.{bytes_eq}
+use Rattle.leaf_model.specs.declared.rows.Row.{Row}
 use Rattle.leaf_model.specs.Content.{Contents}
 use Rattle.table_state.specs.Tables.{Table, no_store}
-use Rattle.region_layout.specs.declared.image.TableImage.{TableImage}
+
+-- one table of an image: its name, the least time of a row, how many writes it accepted, and its rows
+pub record TableImage : Type 0 where
+  pub name : List ℕ
+  pub horizon : ℤ
+  pub writes : ℕ
+  pub rows : List Row
 
 -- a table of this name as an image has it
 abbrev pub image_of : List ℕ → Table → TableImage

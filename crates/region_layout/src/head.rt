@@ -2,9 +2,6 @@
 ghost use Rattle.std.specs.Prelude.{◌≡◌, ◌∷◌};
 ghost use Rattle.region_layout.specs.Region.{head_of, head_bytes};
 
-/// The version of the layout that this crate writes and reads.
-pub const LAYOUT: u32 = 1;
-
 /// What the head of a region says.
 #[derive(Debug, Clone, Copy, PartialEq, Eq)]
 pub enum Head {

@@ -1,14 +1,8 @@
-//! The region of a leaf: its head, and the image of its tables.
+//! The head of a region, and what the image of a leaf's tables says of each.
 #![tactic(auto)]
 
 mod head;
-mod image;
-mod image_reader;
-mod image_writer;
 mod laws;
 
-pub use head::{Head, LAYOUT, head_rest, read_head};
-pub use image::{Image, TableImage, TableImages};
-pub use image_reader::read_image;
-pub use image_writer::write_image;
-pub use laws::one_reading;
+pub use head::{Head, head_rest, read_head};
+pub use laws::one_head;

@@ -2,9 +2,9 @@
 ghost use Rattle.std.specs.Prelude.{◌≡◌, ◌≢◌, ◌≤◌, IfOk, IfSome, length};
 ghost use Rattle.region_layout.specs.Names.{AreNames, IsName};
 ghost use Rattle.table_state.specs.Tables.{IsParts};
-ghost use Rattle.drain_columns.specs.declared.step.Next.TheVariants as next;
+ghost use Rattle.drain_copy.specs.declared.step.Next.TheVariants as next;
 
-use drain_columns::Drain;
+use drain_copy::Drain;
 use leaf_model::{Names, Text};
 use region_directory::{DrainTable, DrainTables};
 use std::alloc::{AllocError, Global};

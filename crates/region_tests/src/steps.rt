@@ -3,12 +3,12 @@ ghost use Rattle.std.specs.Prelude.{◌≡◌, ◌≢◌, IfOk, IfSome, IsTrue};
 ghost use Rattle.std.specs.List.{AllByRecursion};
 ghost use Rattle.region_directory.specs.declared.drained.DrainTable.{DrainTable};
 ghost use Rattle.table_state.specs.Tables.{IsParts};
-ghost use Rattle.drain_columns.specs.declared.step.Next.TheVariants as next;
+ghost use Rattle.drain_copy.specs.declared.step.Next.TheVariants as next;
 
 use crate::tables::line_of;
-use adopt_columns::{Adopt, AdoptStep};
+use adopt::{Adopt, AdoptStep};
 use berth_mem::MemBerth;
-use drain_columns::{Drain, DrainStep, RegionFault};
+use drain_copy::{Drain, DrainStep, RegionFault};
 use region_directory::DrainTables;
 use std::alloc::{AllocError, Global};
 use std::collections::VecDeque;

@@ -1,14 +1,14 @@
 // Two tables with three columns each, one of them with a cut, are drained and come back as they were.
 ghost use Rattle.std.specs.Prelude.{◌≡◌, [], None, IfOk, IfSome};
 ghost use Rattle.region_layout.specs.Names.{AreNames};
-ghost use Rattle.drain_columns.specs.declared.step.Next.TheVariants as next;
+ghost use Rattle.drain_copy.specs.declared.step.Next.TheVariants as next;
 
 use crate::drains::{LOG_END, drain_two, two_names};
 use crate::steps::{adopt_all, drain_all, lines_back};
 use crate::tables::{added, cut, handed_over, line_of};
-use adopt_columns::{Adopt, Found, find};
+use adopt::{Adopt, Found, find};
 use berth_mem::MemBerth;
-use drain_columns::Drain;
+use drain_copy::Drain;
 use leaf_model::Names;
 use std::alloc::{AllocError, Global};
 use std::test::Fail;

@@ -1,13 +1,13 @@
 // The worked example: a table of one row is drained and adopted again.
 ghost use Rattle.std.specs.Prelude.{◌≡◌, IfOk, IfSome};
-ghost use Rattle.drain_columns.specs.declared.step.Next.TheVariants as next;
+ghost use Rattle.drain_copy.specs.declared.step.Next.TheVariants as next;
 
 use crate::drains::{LOG_END, drain_one, one_name};
 use crate::steps::{adopt_all, drain_all, lines_back};
 use crate::tables::{added, handed_over};
-use adopt_columns::{Adopt, Found, find};
+use adopt::{Adopt, Found, find};
 use berth_mem::MemBerth;
-use drain_columns::{Drain, DrainStep};
+use drain_copy::{Drain, DrainStep};
 use std::alloc::{AllocError, Global};
 use std::test::Fail;
 

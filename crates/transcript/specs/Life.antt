@@ -16,8 +16,8 @@ pub record Owed : Type 0 where
   pub table : ℕ
   pub count : ℕ
 
--- How far a leaf has come that shuts its tables: what is owed; how many tables, from the first on, are shut and flushed since then; and whether the next
--- one is shut, so that it is the one whose record is owed.
+-- How far a leaf has come that shuts its tables: what is owed; how many tables, from the first on, are shut, flushed and sealed since then; and whether the next
+-- one is shut, so that its record is owed or its tail is not sealed.
 pub record Progress : Type 0 where
   pub owed : Option Owed
   pub treated : ℕ
@@ -205,9 +205,9 @@ pub data Steps (tables copy : ℕ) : ℕ → Stage → List Noted → Stage → 
   more : (n : ℕ) (s : Stage) (notes : List Noted) (t : Stage) (fewer : ℕ) (first others : List Noted) (between : Stage)
       → n ≡ suc fewer → Step tables copy s first between → Steps tables copy fewer between others t → notes ≡ first ++ others → Steps tables copy n s notes t
 
--- How many steps the copy of a leaf's tables takes: the begin, the one write, and the flag. (From the layout of columns on, one for each column in place of the write, and the directory.)
+-- How many steps the copy of a leaf's tables takes: the begin, one for each column, the directory, and the flag. How many columns there are is no function of the content.
 abbrev pub IsCopyLength : ℕ → Type 0
-IsCopyLength copy = copy ≡ 3
+IsCopyLength copy = 3 ≤ copy
 
 -- the disk fails: before anything was flushed, or when the next table was closed
 pub data Halts (p : Progress) (notes : List Noted) (q : Progress) : Type 0 where
@@ -220,9 +220,24 @@ pub data Halts (p : Progress) (notes : List Noted) (q : Progress) : Type 0 where
       → Halts p notes q
   stuck : (o : Owed) → p.owed ≡ Some o → notes ≡ [] → q ≡ p → Halts p notes q
 
--- there is no memory: what was owed is flushed, and nothing else is done
-abbrev pub Starves : Progress → List Noted → Progress → Type 0
-Starves p notes q = OwedNote p.owed notes × (q ≡ record { owed = None; treated = if p.shut then suc p.treated else p.treated; shut = false })
+-- There is no memory, and what was owed is flushed: for the next table's place or the copy; or to seal the next table, which is closed and flushed; or one that was shut before.
+pub data Starves (tables : ℕ) (p : Progress) (notes : List Noted) (q : Progress) : Type 0 where
+  before : p.shut ≡ false
+      → OwedNote p.owed notes
+      → q ≡ record { owed = None; treated = p.treated; shut = false }
+      → Starves tables p notes q
+  behind : (first own : List Noted) (count : ℕ)
+      → p.shut ≡ false
+      → p.treated < tables
+      → OwedNote p.owed first
+      → Pair p.treated (Closed count) (Flushed count) own
+      → notes ≡ first ++ own
+      → q ≡ record { owed = None; treated = p.treated; shut = true }
+      → Starves tables p notes q
+  still : p.shut ≡ true
+      → OwedNote p.owed notes
+      → q ≡ record { owed = None; treated = p.treated; shut = true }
+      → Starves tables p notes q
 
 -- each table that is open is closed
 abbrev pub first_open : Progress → ℕ
@@ -265,7 +280,7 @@ pub data OfDrain (told : Bool) (tables : ℕ) (stop : Option ℕ) (life : Life) 
       → next ≡ on life (Preparing q) life.way notes
       → OfDrain told tables stop life notes ending next
   no_memory : (copy n : ℕ) (p q r : Progress) (treating starving : List Noted)
-      → IsCopyLength copy → BeginsAt life.mode p → Steps tables copy n (Shutting p) treating (Shutting q) → Starves q starving r → MayMake stop (suc n)
+      → IsCopyLength copy → BeginsAt life.mode p → Steps tables copy n (Shutting p) treating (Shutting q) → Starves tables q starving r → MayMake stop (suc n)
       → notes ≡ treating ++ starving
       → ending ≡ ends.FaultMemory
       → next ≡ on life (Preparing r) life.way notes

@@ -4,7 +4,7 @@ use Rattle.berth_face.specs.Berth.{Meaning}
 use Rattle.leaf_history.specs.Calls.{Call}
 use Rattle.leaf_history.specs.History.{Entry}
 use Rattle.adopt.specs.declared.found.WhyDisk.TheVariants as why
-use Rattle.adopt.specs.Found.{IsBroken, left_behind}
+use Rattle.adopt.specs.Adopting.{IsBroken, IsLeftBehind}
 use Rattle.disk_backup.specs.Scanning.{BeginsScan}
 use Rattle.leaf_opening.specs.declared.ways.Way.{Way}
 use Rattle.leaf_opening.specs.declared.ways.Way.TheVariants.{Memory, Disk}
@@ -122,7 +122,7 @@ IsWornFor x fault.NoMemory = ⊤
 abbrev pub RegionRefused : StartFault → Meaning → Meaning → Type 0
 RegionRefused fault.RegionFault m m' = IsBroken m.held.region m'.held.region
 RegionRefused (fault.Worn table) m m' = m'.held.region ≡ m.held.region
-RegionRefused _ m m' = m'.held.region ≡ left_behind m.held.region
+RegionRefused _ m m' = IsLeftBehind m.held.region m'.held.region
 
 -- a refused start, over a berth that tells its contents
 pub record RefusalTold (x : Seated) (m m' : Meaning) (f : StartFault) : Type 0 where
@@ -214,10 +214,10 @@ BeginsShutting (IsDown x) y = ⊥
 BeginsShutting (IsUp s) y = y ≡ begins s
 BeginsShutting (IsPreparing x) y = y ≡ x
 
--- how far a drain has come: it shuts the tables, or all are treated and it has made so many steps of their copy
+-- how far a drain has come: it shuts the tables, or all are treated and it has made so many of the steps that their copy takes
 pub data At : Type 0 where
   Shuts : (x : Shutting) → At
-  Copies : (x : Shutting) (made : ℕ) → At
+  Copies : (x : Shutting) (copy made : ℕ) → At
 
 -- One step that neither ends the drain nor fails: one table more is treated; or all are, and their copy is planned; or a step of the copy is made.
 pub data MakesStep (s : At) (notes : List Note) (t : At) : Type 0 where
@@ -228,18 +228,18 @@ pub data MakesStep (s : At) (notes : List Note) (t : At) : Type 0 where
       → Part x.serving.seated notes y.serving.seated
       → t ≡ Shuts y
       → MakesStep s notes t
-  plans : (x : Shutting)
+  plans : (x : Shutting) (copy : ℕ)
       → s ≡ Shuts x
       → AllTreated x
-      → notes ≡ []
-      → t ≡ Copies x 0
-      → MakesStep s notes t
-  copies : (x : Shutting) (made copy : ℕ)
-      → s ≡ Copies x made
       → IsCopyLength copy
+      → notes ≡ []
+      → t ≡ Copies x copy 0
+      → MakesStep s notes t
+  copies : (x : Shutting) (copy made : ℕ)
+      → s ≡ Copies x copy made
       → suc made < copy
       → notes ≡ []
-      → t ≡ Copies x (suc made)
+      → t ≡ Copies x copy (suc made)
       → MakesStep s notes t
 
 -- so many of them
@@ -264,10 +264,9 @@ RegionStopped (suc made) m m' = IsWayOf m'.held.region (Disk (why.Closed 0))
 -- A drain makes its steps until one is the last and each table is handed over; or the region fails, and the leaf is down; or the copy has no room; or there is no memory; or the disk
 -- fails; or it has made as many steps as it was to make, and the leaf is killed; or the leaf is down.
 pub data DrainMoves (m m' : Meaning) (leaf : Leaf) (stop : Option ℕ) (notes : List Note) (ends : Ending) (leaf' : Leaf) : Type 0 where
-  done : (x y : Shutting) (z : Seated) (treating handing : List Note) (n made copy : ℕ)
+  done : (x y : Shutting) (z : Seated) (treating handing : List Note) (n copy made : ℕ)
       → BeginsShutting leaf x
-      → MakesSteps n (Shuts x) treating (Copies y made)
-      → IsCopyLength copy
+      → MakesSteps n (Shuts x) treating (Copies y copy made)
       → suc made ≡ copy
       → MayMake stop (suc n)
       → Part y.serving.seated handing z
@@ -277,9 +276,9 @@ pub data DrainMoves (m m' : Meaning) (leaf : Leaf) (stop : Option ℕ) (notes : 
       → ends ≡ ending.Done
       → leaf' ≡ IsDown z
       → DrainMoves m m' leaf stop notes ends leaf'
-  failed : (x y : Shutting) (n made : ℕ)
+  failed : (x y : Shutting) (n copy made : ℕ)
       → BeginsShutting leaf x
-      → MakesSteps n (Shuts x) notes (Copies y made)
+      → MakesSteps n (Shuts x) notes (Copies y copy made)
       → MayMake stop (suc n)
       → ends ≡ ending.FaultRegion
       → leaf' ≡ IsDown y.serving.seated
@@ -328,10 +327,10 @@ pub data DrainMoves (m m' : Meaning) (leaf : Leaf) (stop : Option ℕ) (notes : 
       → ends ≡ ending.Stopped
       → leaf' ≡ IsDown z
       → DrainMoves m m' leaf stop notes ends leaf'
-  stopped_copying : (x y : Shutting) (n made : ℕ)
+  stopped_copying : (x y : Shutting) (n copy made : ℕ)
       → BeginsShutting leaf x
       → stop ≡ Some n
-      → MakesSteps n (Shuts x) notes (Copies y made)
+      → MakesSteps n (Shuts x) notes (Copies y copy made)
       → ((base : NamedStates) → IsTrue m.tells → AreFounded (seated_of leaf) → Stands base leaf m → RegionStopped made m m')
       → ends ≡ ending.Stopped
       → leaf' ≡ IsDown y.serving.seated

@@ -1,14 +1,14 @@
 -- Why a start is refused for a stranger: a table's name that the leaf does not have.
 use Rattle.std.specs.Prelude.{◌⊎◌, ℕ, ◌==◌, List, [], ◌∷◌, MatchBool, ⊤}
 use Rattle.berth_face.specs.Berth.{Pair}
-use Rattle.adopt.specs.Found.{IsStranger}
+use Rattle.adopt.specs.Adopting.{IsStranger}
 use Rattle.log_recovery.specs.Recovery.{IsRecoveryRefusal}
 use Rattle.log_recovery.specs.declared.fault.RecoveryFault.TheVariants as found
 use Rattle.printed_lines.specs.declared.line.Ending.{Ending}
 use Rattle.printed_lines.specs.declared.line.Ending.TheVariants as ends
 use Rattle.transcript.specs.Pieces.{Piece, Called, Worn, Acted, Says}
 
--- the region's image, or a record of the log, has this name first of those that the leaf does not have
+-- the directory of the region's image, or a record of the log, has this name first of those that the leaf does not have
 abbrev pub IsNamedBy : List (List ℕ) → Pair → List ℕ → Type 0
 IsNamedBy names held name = IsStranger names held.region name ⊎ IsRecoveryRefusal names held.disk (found.Stranger name)
 

@@ -4,10 +4,9 @@ ghost use Rattle.std.specs.List.{AllByRecursion};
 ghost use Rattle.leaf_table.specs.Fleet.{IsShortName};
 ghost use Rattle.aggregator.specs.Asks.{AreSeatsAt};
 
-use crate::lives::count_all;
 use aggregator::{Fanned, Named, ask_all};
 use berth_face::Gate;
-use leaf_model::{Names, Text};
+use leaf_model::{Agg, Aggs, Conds, Names, Query, Text};
 use leaf_table::{FleetTables, Seat};
 use std::alloc::{AllocError, Global};
 use std::marker::Brand;
@@ -61,6 +60,22 @@ impl Gate for BothInside {
             _ => {}
         }
     }
+}
+
+/// A query that counts the rows with a time from 0 to 9.
+fn count_all(alloc: Global) -> Result<Query, AllocError> {
+    let mut aggs = Vec::new(alloc);
+    aggs.push(Agg::Count)?;
+    Ok(Query {
+        table: Text::of(String::from_str(alloc, "t")?),
+        from: 0,
+        to: 9,
+        conds: Conds::of(Vec::new(alloc)),
+        keys: Names::of(Vec::new(alloc)),
+        aggs: Aggs::of(aggs),
+        order: None,
+        limit: 10,
+    })
 }
 
 /// One name: t.

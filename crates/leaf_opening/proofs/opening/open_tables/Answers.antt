@@ -1,7 +1,8 @@
 use Rattle.std.proofs.Common.{◌≡◌, ◌<◌, ◌^◌, ◌∙◌, List, length, IsTrue, Err, inl, sym, ap, subst}
 use Rattle.std.proofs.lemmas.Result.{err_from_is_err_and}
 use Rattle.table_state.specs.Tables.{Table}
-use Rattle.adopt.specs.Found.{AreAdopted, IsFound}
+use Rattle.adopt.specs.Adopting.{IsLeftBehind}
+use Rattle.adopt.specs.Starting.{HasTables, IsAdoption}
 use Rattle.region_layout.specs.Region.{IsClosed}
 use Rattle.disk_backup.specs.State.{LogState}
 use Rattle.disk_backup.specs.Logs.{IsSound}
@@ -59,7 +60,7 @@ returns-in_err-recovered-in-NoTables-clause-moments g c =
     let mid = g.B.Berth.meaning c.adopt.new.berth in
     let law = (g.met.B.Berth g.world.𝓛 g.world.𝓜 g.world.𝓡 ((λ s x. x), (λ x. x), (λ x. x), λ x. x)) in
     let told_mid : IsTrue mid.tells = subst IsTrue (sym c.adopt.ensures.time.tells) told in
-    let shut : IsClosed mid.held.region = subst IsClosed (sym (c.in_ok-found.ensures.told told).1) (left_closed old.held.region) in
+    let shut : IsClosed mid.held.region = left_closed old.held.region mid.held.region (c.in_ok-found.ensures.told told).1 in
     opens_reading old mid (c.adopt.ensures.moments told) (c.adopt.ensures.disk told) shut (λ p left. law.keeps_region c.adopt.new.berth p told_mid left) (g.B.Berth.meaning c.recover.new.berth) (c.recover.ensures.moments told_mid)
 
 pub returns-in_err-recovered-in-NoTables-clause-disks :
@@ -87,17 +88,17 @@ returns-in_err-recovered-in-NoTables-clause-held g c =
 
 pub returns-in-Tables-clause-one : goal.returns-in-Tables-clause-one
 returns-in-Tables-clause-one g c =
-    let adopted = subst (AreAdopted (length c.args.names.now)) c.in-Tables.is c.in_ok-found.ensures.adopted in
+    let adopted = subst (HasTables (length c.args.names.now)) c.in-Tables.is c.in_ok-found.ensures.adopted in
     ap (λ (ts : List Table). length ts) c.from_image.ensures.tables ∙ adopted.0
 
 pub returns-in-Tables-clause-fresh : goal.returns-in-Tables-clause-fresh
 returns-in-Tables-clause-fresh g c =
-    let adopted = subst (AreAdopted (length c.args.names.now)) c.in-Tables.is c.in_ok-found.ensures.adopted in
+    let adopted = subst (HasTables (length c.args.names.now)) c.in-Tables.is c.in_ok-found.ensures.adopted in
     (are_fresh c.from_image.result.tables (subst AreSettled (sym c.from_image.ensures.tables) adopted.1), ap (λ (l : LogState). l.owed) c.from_image.ensures.log)
 
 pub returns-in-Tables-clause-room : goal.returns-in-Tables-clause-room
 returns-in-Tables-clause-room g c =
-    let adopted = subst (AreAdopted (length c.args.names.now)) c.in-Tables.is c.in_ok-found.ensures.adopted in
+    let adopted = subst (HasTables (length c.args.names.now)) c.in-Tables.is c.in_ok-found.ensures.adopted in
     have_room c.from_image.result.tables (subst AreSettled (sym c.from_image.ensures.tables) adopted.1)
 
 pub returns-in-Tables-clause-told : goal.returns-in-Tables-clause-told
@@ -108,14 +109,14 @@ returns-in-Tables-clause-told g c =
     let new = g.B.Berth.meaning c.adopt.new.berth in
     let opened = c.from_image.result in
     let answer = c.in_ok-found.ensures.told told in
-    let found = subst (IsFound names old.held.region) c.in-Tables.is answer.0 in
+    let found = subst (IsAdoption names old.held.region) c.in-Tables.is answer.0 in
     started_by_memory names opened.tables opened.log opened.way old new answer.1 c.in-Tables.adopted found c.from_image.ensures.tables c.from_image.ensures.log c.from_image.ensures.way (c.adopt.ensures.disk told)
 
 pub returns-in-Tables-clause-way : goal.returns-in-Tables-clause-way
 returns-in-Tables-clause-way g c =
     λ told.
     let region = (g.B.Berth.meaning c.args.berth.now).held.region in
-    let found = subst (IsFound c.args.names.now region) c.in-Tables.is (c.in_ok-found.ensures.told told).0 in
+    let found = subst (IsAdoption c.args.names.now region) c.in-Tables.is (c.in_ok-found.ensures.told told).0 in
     subst (IsWayOf region) (sym c.from_image.ensures.way) (found.0, c.in-Tables.adopted.log_end, found.1)
 
 pub returns-in-Tables-clause-moments : goal.returns-in-Tables-clause-moments
@@ -133,7 +134,7 @@ returns-in-Tables-clause-held g c = λ told. inl (c.adopt.ensures.disk told)
 
 pub returns-in-Tables-clause-log_room : goal.returns-in-Tables-clause-log_room
 returns-in-Tables-clause-log_room g c =
-    let adopted = subst (AreAdopted (length c.args.names.now)) c.in-Tables.is c.in_ok-found.ensures.adopted in
+    let adopted = subst (HasTables (length c.args.names.now)) c.in-Tables.is c.in_ok-found.ensures.adopted in
     subst (λ (l : LogState). l.end < 2 ^ 63) (sym c.from_image.ensures.log) adopted.2
 
 -- ---- out of the log
@@ -167,10 +168,10 @@ returns-in_ok-recovered-in-NoTables-clause-told g c =
     let opened = c.from_log.result in
     let said = c.in_ok-recovered-in-NoTables.ensures in
     let answer = c.in_ok-found.ensures.told told in
-    let why = subst (IsFound names old.held.region) c.in-NoTables.is answer.0 in
+    let why = subst (IsAdoption names old.held.region) c.in-NoTables.is answer.0 in
     let read = recovered_as names new.held.disk (sym c.from_log.ensures.tables) (sym c.from_log.ensures.log) (said.told told_mid) in
     let disk : new.held.disk ≡ begun old.held.disk = said.disk told_mid ∙ ap begun (c.adopt.ensures.disk told) in
-    let region = c.recover.ensures.region told_mid ∙ answer.1 in
+    let region = subst (IsLeftBehind old.held.region) (sym (c.recover.ensures.region told_mid)) answer.1 in
     started_by_disk names opened.tables opened.log opened.way old new region c.in-NoTables.why why read c.from_log.ensures.way disk
 
 pub returns-in_ok-recovered-in-NoTables-clause-way :
@@ -178,7 +179,7 @@ pub returns-in_ok-recovered-in-NoTables-clause-way :
 returns-in_ok-recovered-in-NoTables-clause-way g c =
     λ told.
     let region = (g.B.Berth.meaning c.args.berth.now).held.region in
-    subst (IsWayOf region) (sym c.from_log.ensures.way) (subst (IsFound c.args.names.now region) c.in-NoTables.is (c.in_ok-found.ensures.told told).0)
+    subst (IsWayOf region) (sym c.from_log.ensures.way) (subst (IsAdoption c.args.names.now region) c.in-NoTables.is (c.in_ok-found.ensures.told told).0)
 
 pub returns-in_ok-recovered-in-NoTables-clause-reads :
     goal.returns-in_ok-recovered-in-NoTables-clause-reads
@@ -192,7 +193,7 @@ returns-in_ok-recovered-in-NoTables-clause-moments g c =
     let mid = g.B.Berth.meaning c.adopt.new.berth in
     let law = (g.met.B.Berth g.world.𝓛 g.world.𝓜 g.world.𝓡 ((λ s x. x), (λ x. x), (λ x. x), λ x. x)) in
     let told_mid : IsTrue mid.tells = subst IsTrue (sym c.adopt.ensures.time.tells) told in
-    let shut : IsClosed mid.held.region = subst IsClosed (sym (c.in_ok-found.ensures.told told).1) (left_closed old.held.region) in
+    let shut : IsClosed mid.held.region = left_closed old.held.region mid.held.region (c.in_ok-found.ensures.told told).1 in
     opens_reading old mid (c.adopt.ensures.moments told) (c.adopt.ensures.disk told) shut (λ p left. law.keeps_region c.adopt.new.berth p told_mid left) (g.B.Berth.meaning c.recover.new.berth) (c.recover.ensures.moments told_mid)
 
 pub returns-in_ok-recovered-in-NoTables-clause-disks :

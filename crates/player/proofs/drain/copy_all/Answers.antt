@@ -2,14 +2,15 @@ use Rattle.std.proofs.Common.{◌≡◌, Ok, true, false, List, ℕ, ap, sym, su
 use Rattle.leaf_model.specs.declared.writes.Write.{Write}
 use Rattle.crash_states.specs.Standing.{Copies}
 use Rattle.leaf_steward.specs.Seated.{AreFounded, watched_by}
+use Rattle.leaf_machine.specs.Copies.{IsCopyStep}
 use Rattle.leaf_machine.specs.States.{RestsOn}
 use Rattle.player.specs.Steps.{Spends}
 use Rattle.player.specs.Moves.{CopyEnds, CopyRests}
-use Rattle.player.proofs.Copied.{CopySteps, copied_none, copied_stopped, copied_more, copied_done, copied_failed, done_rests, failed_rests, stopped_rests}
+use Rattle.player.proofs.Copied.{CopySteps, copy_fewer, copied_none, copied_stopped, copied_more, copied_done, copied_failed, done_rests, failed_rests, stopped_rests}
 use Rattle.player.proofs.drain.copy_all.Goals as goal
 
 pub loop-leaf-init : goal.loop-leaf-init
-loop-leaf-init g c = copied_none c.args.leaf.0 (g.B.Berth.meaning c.args.leaf.1) c.args.steps.now.left c.args.notes.now c.requires.begin c.requires.none
+loop-leaf-init g c = copied_none c.args.leaf.0 (g.B.Berth.meaning c.args.leaf.1) c.args.steps.now.left c.args.notes.now c.requires.none
 
 pub returns-then-not-spend-clause-ends : goal.returns-then-not-spend-clause-ends
 returns-then-not-spend-clause-ends g c =
@@ -50,6 +51,12 @@ loop-leaf-preserved g c =
     copied_more c.args.leaf.0 (meaning c.args.leaf.1) c.args.steps.now.left left left' leaf.0 (meaning leaf.1) c.loop-leaf.notes c.loop-leaf.invariant meaning notes
     (subst (λ taken. Spends left taken left') some c.spend.ensures) c.in-Ok-More.more
     (subst (λ r. CopySteps meaning leaf.0 (meaning leaf.1) notes r) (c.in-Ok-More.is ∙ ap (λ s. Ok s) c.in-Ok-More.field-0-is) steps)
+
+pub loop-leaf-smaller : goal.loop-leaf-smaller
+loop-leaf-smaller g c =
+    let leaf = c.loop-leaf.leaf in
+    let notes = c.step.new.notes in
+    copy_fewer leaf.0 notes c.in-Ok-More.more (subst (λ r. IsCopyStep leaf.0 notes r) (c.in-Ok-More.is ∙ ap (λ s. Ok s) c.in-Ok-More.field-0-is) c.step.ensures.step)
 
 pub returns-in-Ok-Finished-clause-ends : goal.returns-in-Ok-Finished-clause-ends
 returns-in-Ok-Finished-clause-ends g c =

@@ -1,6 +1,6 @@
 use Rattle.std.proofs.Common.{◌∙◌, ◌++◌, ℕ, List, ap}
 use Rattle.row_records.specs.Bytes.{name_bytes, u64_bytes}
-use Rattle.region_layout.proofs.Writing.{on_ok}
+use Rattle.region_layout.proofs.Answered.{on_ok}
 use Rattle.region_directory.specs.Written.{place_bytes}
 use Rattle.region_directory.proofs.Putting.{three_put}
 use Rattle.region_directory.proofs.directory_writer.put_place.Goals as goal

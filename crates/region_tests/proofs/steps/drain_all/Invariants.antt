@@ -1,5 +1,5 @@
 use Rattle.std.specs.Prelude.{◌≢◌}
-use Rattle.drain_columns.specs.declared.step.Next.TheVariants as next
+use Rattle.drain_copy.specs.declared.step.Next.TheVariants as next
 use Rattle.region_tests.proofs.steps.drain_all.Given as goal
 
 abbrev pub invariant-loop : goal.invariant-loop

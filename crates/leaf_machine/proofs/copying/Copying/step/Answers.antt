@@ -1,8 +1,10 @@
-use Rattle.std.proofs.Common.{rules, ◌≡◌, ◌∙◌, [], refl, sym, ap, subst}
+use Rattle.std.proofs.Common.{rules, ◌≡◌, ◌∙◌, suc, [], refl, sym, ap, subst}
 use Rattle.std.specs.Prelude.{◌≢◌, IsTrue}
 use Rattle.drain_copy.specs.declared.step.DrainStep.{DrainStep}
 use Rattle.drain_copy.specs.declared.step.DrainStep.TheVariants.{Finished}
-use Rattle.drain_copy.specs.Draining.{IsCopyStep}
+use Rattle.drain_copy.specs.declared.step.Next.TheVariants as next
+use Rattle.drain_copy.specs.Draining.{IsInRoom, IsStep, left}
+use Rattle.berth_face.specs.Moments.{Throughout}
 use Rattle.leaf_opening.specs.declared.ways.Way.TheVariants.{Memory}
 use Rattle.leaf_opening.specs.Starts.{IsWayOf}
 use Rattle.crash_states.specs.Standing.{Copies}
@@ -10,9 +12,9 @@ use Rattle.leaf_steward.specs.Seated.{AreFounded, watched_by}
 use Rattle.leaf_steward.specs.Making.{Makes}
 use Rattle.leaf_steward.proofs.WatchMakes.{makes_tables}
 use Rattle.leaf_machine.specs.States.{RestsOn, GoesOnCopying}
-use Rattle.leaf_machine.specs.Copies.{IsNextCopy}
+use Rattle.leaf_machine.specs.Copies.{IsUnderWay}
 use Rattle.leaf_machine.proofs.StartMakes.{makes_from, makes_none}
-use Rattle.leaf_machine.proofs.CopyStepping.{DrainMade, copied_down, copy_failed, copy_last, copy_more, copying_on, last_before, last_region, more_after, more_before, more_next}
+use Rattle.leaf_machine.proofs.CopyStepping.{DrainMade, copied_down, copy_failed, copy_last, copy_more, copying_on, last_before, last_region, more_after, more_before, more_next, more_under_way}
 use Rattle.leaf_machine.proofs.copying.Copying.step.Goals as goal
 
 -- ---- the last step
@@ -26,7 +28,7 @@ invariant_of-result g c =
     let n = g.B.Berth.meaning c.step.new.berth in
     let law = (g.met.B.Berth g.world.𝓛 g.world.𝓜 g.world.𝓡 ((λ s x. x), (λ x. x), (λ x. x), λ x. x)) in
     let step = c.in-Ok-Finished.ensures in
-    let last : IsCopyStep inside.drain.next Finished c.step.new.self.next = subst (λ (s : DrainStep). IsCopyStep inside.drain.next s c.step.new.self.next) c.in-Ok-Finished.field-0-is step.step in
+    let last : IsStep inside.drain Finished c.step.new.self = subst (λ (s : DrainStep). IsStep inside.drain s c.step.new.self) c.in-Ok-Finished.field-0-is step.step in
     let made : IsTrue m.tells → DrainMade inside.drain m n = λ told.
     let tells : IsTrue n.tells = subst IsTrue (sym step.time.tells) told in
     record {
@@ -43,8 +45,8 @@ pub returns-in-Ok-Finished-clause-step : goal.returns-in-Ok-Finished-clause-step
 returns-in-Ok-Finished-clause-step g c =
     let inside = c.self.inside in
     let step = c.in-Ok-Finished.ensures in
-    let last : IsCopyStep inside.drain.next Finished c.step.new.self.next = subst (λ (s : DrainStep). IsCopyStep inside.drain.next s c.step.new.self.next) c.in-Ok-Finished.field-0-is step.step in
-    (ap (λ l. l.0.drain.next) (sym c.self.view_is) ∙ last_before inside.drain.next c.step.new.self.next last, search rules)
+    let last : IsStep inside.drain Finished c.step.new.self = subst (λ (s : DrainStep). IsStep inside.drain s c.step.new.self) c.in-Ok-Finished.field-0-is step.step in
+    (ap (λ l. l.0.drain.next) (sym c.self.view_is) ∙ last_before inside.drain c.step.new.self last, search rules)
 
 pub returns-in-Ok-Finished-clause-made : goal.returns-in-Ok-Finished-clause-made
 returns-in-Ok-Finished-clause-made g c =
@@ -63,7 +65,7 @@ returns-in-Ok-Finished-clause-crash g c =
     let n = g.B.Berth.meaning c.step.new.berth in
     let law = (g.met.B.Berth g.world.𝓛 g.world.𝓜 g.world.𝓡 ((λ s x. x), (λ x. x), (λ x. x), λ x. x)) in
     let step = c.in-Ok-Finished.ensures in
-    let last : IsCopyStep inside.drain.next Finished c.step.new.self.next = subst (λ (s : DrainStep). IsCopyStep inside.drain.next s c.step.new.self.next) c.in-Ok-Finished.field-0-is step.step in
+    let last : IsStep inside.drain Finished c.step.new.self = subst (λ (s : DrainStep). IsStep inside.drain s c.step.new.self) c.in-Ok-Finished.field-0-is step.step in
     let told : IsTrue m.tells = subst (λ v. IsTrue (g.B.Berth.meaning v.1).tells) (sym c.self.view_is) told_now in
     let founded : AreFounded x = subst (λ v. AreFounded v.0.seated) (sym c.self.view_is) founded_now in
     let copies : Copies (watched_by x) inside.drain writes m = subst (λ v. Copies (watched_by v.0.seated) v.0.drain writes (g.B.Berth.meaning v.1)) (sym c.self.view_is) copies_now in
@@ -96,16 +98,16 @@ invariant_of-result-in-Ok-Begun g c =
       stands = record { reads = law.stands c.step.new.berth tells; regions = λ p left. law.keeps_region c.step.new.berth p tells left };
       moments = step.moments told;
     } in
-    copying_on x inside.drain later m n c.self.invariant step.time (more_after inside.drain.next c.in-Ok-Begun.field-0 later.next more step.step)
-    (λ told founded writes copies. copy_more x inside.drain m n later (made told) (more_before inside.drain.next c.in-Ok-Begun.field-0 later.next more step.step) step.image (step.told told) writes copies)
+    copying_on x inside.drain later m n c.self.invariant step.time (more_after inside.drain c.in-Ok-Begun.field-0 later more step.step)
+    (λ told founded writes copies. copy_more x inside.drain m n later (made told) (more_before inside.drain c.in-Ok-Begun.field-0 later more step.step) step.image (step.told told) writes copies)
 
 pub returns-in-Ok-Begun-clause-step : goal.returns-in-Ok-Begun-clause-step
 returns-in-Ok-Begun-clause-step g c =
     let inside = c.self.inside in
     let later = c.step.new.self in
     let more : c.in-Ok-Begun.field-0 ≢ Finished = search rules in
-    subst (λ v. IsNextCopy v.0.drain.next later.next × (inside.seats ≡ v.0.seated) × (later.image ≡ v.0.drain.image) × (c.clear.new.self ≡ [])) c.self.view_is
-    (more_next inside.drain.next c.in-Ok-Begun.field-0 later.next more c.in-Ok-Begun.ensures.step, refl, c.in-Ok-Begun.ensures.image, c.clear.ensures)
+    subst (λ v. (suc (left later) ≡ left v.0.drain) × (inside.seats ≡ v.0.seated) × (later.image ≡ v.0.drain.image) × (c.clear.new.self ≡ []) × IsUnderWay later.next) c.self.view_is
+    (more_next inside.drain c.in-Ok-Begun.field-0 later more c.in-Ok-Begun.ensures.step, refl, c.in-Ok-Begun.ensures.image, c.clear.ensures, more_under_way inside.drain c.in-Ok-Begun.field-0 later more c.in-Ok-Begun.ensures.step)
 
 pub returns-in-Ok-Begun-clause-made : goal.returns-in-Ok-Begun-clause-made
 returns-in-Ok-Begun-clause-made g c =
@@ -134,7 +136,7 @@ returns-in-Ok-Begun-clause-crash g c =
       moments = step.moments told;
     } in
     subst (λ v. GoesOnCopying v.0.seated (record { seated = x; drain = later }) (g.B.Berth.meaning v.1) n) c.self.view_is
-    (copy_more x inside.drain m n later made (more_before inside.drain.next c.in-Ok-Begun.field-0 later.next more step.step) step.image (step.told told) writes copies)
+    (copy_more x inside.drain m n later made (more_before inside.drain c.in-Ok-Begun.field-0 later more step.step) step.image (step.told told) writes copies)
 
 -- ---- a step that failed
 
@@ -180,3 +182,38 @@ returns-clause-crash g c =
       moments = step.moments told;
     } in
     subst (λ v. RestsOn v.0.seated x (g.B.Berth.meaning v.1) n) c.self.view_is (copy_failed x inside.drain m n made (step.failed told) writes copies)
+
+-- ---- how long the region is meanwhile
+
+pub returns-in-Ok-Finished-clause-inside : goal.returns-in-Ok-Finished-clause-inside
+returns-in-Ok-Finished-clause-inside g c =
+    λ told_now founded_now before_now.
+    let inside = c.self.inside in
+    let n = g.B.Berth.meaning c.step.new.berth in
+    let told : IsTrue (g.B.Berth.meaning inside.berth).tells = subst (λ v. IsTrue (g.B.Berth.meaning v.1).tells) (sym c.self.view_is) told_now in
+    let founded : AreFounded inside.seats = subst (λ v. AreFounded v.0.seated) (sym c.self.view_is) founded_now in
+    let before : inside.drain.next ≢ next.Begin = subst (λ v. v.0.drain.next ≢ next.Begin) (sym c.self.view_is) before_now in
+    subst (λ v. Throughout (IsInRoom v.0.drain) (g.B.Berth.meaning v.1) n) c.self.view_is
+    (c.in-Ok-Finished.ensures.inside told (c.self.invariant.stands founded).1.1.draining before)
+
+pub returns-in-Ok-Begun-clause-inside : goal.returns-in-Ok-Begun-clause-inside
+returns-in-Ok-Begun-clause-inside g c =
+    λ told_now founded_now before_now.
+    let inside = c.self.inside in
+    let n = g.B.Berth.meaning c.step.new.berth in
+    let told : IsTrue (g.B.Berth.meaning inside.berth).tells = subst (λ v. IsTrue (g.B.Berth.meaning v.1).tells) (sym c.self.view_is) told_now in
+    let founded : AreFounded inside.seats = subst (λ v. AreFounded v.0.seated) (sym c.self.view_is) founded_now in
+    let before : inside.drain.next ≢ next.Begin = subst (λ v. v.0.drain.next ≢ next.Begin) (sym c.self.view_is) before_now in
+    subst (λ v. Throughout (IsInRoom v.0.drain) (g.B.Berth.meaning v.1) n) c.self.view_is
+    (c.in-Ok-Begun.ensures.inside told (c.self.invariant.stands founded).1.1.draining before)
+
+pub returns-clause-inside : goal.returns-clause-inside
+returns-clause-inside g c =
+    λ told_now founded_now before_now.
+    let inside = c.self.inside in
+    let n = g.B.Berth.meaning c.step.new.berth in
+    let told : IsTrue (g.B.Berth.meaning inside.berth).tells = subst (λ v. IsTrue (g.B.Berth.meaning v.1).tells) (sym c.self.view_is) told_now in
+    let founded : AreFounded inside.seats = subst (λ v. AreFounded v.0.seated) (sym c.self.view_is) founded_now in
+    let before : inside.drain.next ≢ next.Begin = subst (λ v. v.0.drain.next ≢ next.Begin) (sym c.self.view_is) before_now in
+    subst (λ v. Throughout (IsInRoom v.0.drain) (g.B.Berth.meaning v.1) n) c.self.view_is
+    (c.in-Err.ensures.inside told (c.self.invariant.stands founded).1.1.draining before)

@@ -7,17 +7,17 @@ use Rattle.leaf_machine.proofs.preparing.Preparing.kill.Goals as goal
 
 pub invariant_of-result : goal.invariant_of-result
 invariant_of-result g c =
-    let x : Shutting = record { serving = record { seated = c.self.inside.seats; owing = c.self.inside.log }; closed = c.self.inside.closed.items; shut = c.self.inside.shut } in
+    let x : Shutting = record { serving = record { seated = c.self.inside.seats; owing = c.self.inside.log }; closed = c.self.inside.tables.closed; shut = c.self.inside.tables.waits } in
     let m = g.B.Berth.meaning c.self.inside.berth in
     let first : ℕ = c.first_open-first.result in
     let sits : AreSeated x.serving.seated = subst (λ v. AreSeated v.0.serving.seated) (sym c.self.view_is) c.first_open-first.ensures.seated in
     let here : first ≡ length x.closed = subst (λ v. first ≡ length v.0.closed) (sym c.self.view_is) c.first_open-first.ensures.place in
     let says = c.shut_rest.ensures in
-    killed_is x m c.self.invariant sits first here c.shut_rest.new.notes c.shut_rest.new.self says.made says.each says.shut says.before
+    killed_is x m c.self.invariant.0 sits first here c.shut_rest.new.notes c.shut_rest.new.self says.made says.each says.shut says.before
 
 pub returns-clause-crash : goal.returns-clause-crash
 returns-clause-crash g c = λ writes.
-    let x : Shutting = record { serving = record { seated = c.self.inside.seats; owing = c.self.inside.log }; closed = c.self.inside.closed.items; shut = c.self.inside.shut } in
+    let x : Shutting = record { serving = record { seated = c.self.inside.seats; owing = c.self.inside.log }; closed = c.self.inside.tables.closed; shut = c.self.inside.tables.waits } in
     let m = g.B.Berth.meaning c.self.inside.berth in
     let first : ℕ = c.first_open-first.result in
     let sits : AreSeated x.serving.seated = subst (λ v. AreSeated v.0.serving.seated) (sym c.self.view_is) c.first_open-first.ensures.seated in
@@ -25,4 +25,4 @@ returns-clause-crash g c = λ writes.
     let says = c.shut_rest.ensures in
     let y = c.shut_rest.new.self in
     subst (λ v. AreFounded v.0.serving.seated → Runs (watched_by v.0.serving.seated) v.0.serving.owing.owner v.0.serving.owing.log writes (g.B.Berth.meaning v.1) → RestsOn v.0.serving.seated y (g.B.Berth.meaning v.1) m)
-    c.self.view_is (killed_rests x m c.self.invariant sits first here c.shut_rest.new.notes y says.made says.each writes)
+    c.self.view_is (killed_rests x m c.self.invariant.0 sits first here c.shut_rest.new.notes y says.made says.each writes)

@@ -1,11 +1,12 @@
 use Rattle.std.proofs.Common.{◌≡◌, ◌<◌, length, sym, ap, subst}
+use Rattle.std.specs.Prelude.{take}
 use Rattle.leaf_history.specs.History.{LegalFrom}
 use Rattle.turnstile.specs.Seats.{IsSeatOf, LearnsOthers, Told}
 use Rattle.leaf_table.specs.Turns.{is_founded, start_of}
 use Rattle.leaf_table.specs.Calls.{SeatView, base_seen, seen_of}
 use Rattle.crash_states.specs.Standing.{Runs}
 use Rattle.leaf_steward.specs.Seated.{Seated, AreFounded, AtPlace, watched_by, with_seat}
-use Rattle.leaf_machine.specs.States.{Shutting, IsShutting}
+use Rattle.leaf_machine.specs.States.{Shutting, IsShutting, treated}
 use Rattle.leaf_machine.proofs.PrepMeets.{met_goes, met_is}
 use Rattle.leaf_machine.proofs.PrepPlaces.{seat_at}
 use Rattle.leaf_machine.proofs.preparing.Preparing.meet.Goals as goal
@@ -23,15 +24,19 @@ invariant_of-self g c =
     let within : place < length x.tables = subst (λ v. place < length v.0.serving.seated.tables) (sym c.self.view_is) c.requires.table in
     let at = seat_at x place c.sits.ensures within in
     let l = c.meet.ensures.learns at.0 at.1 at.2 at.3 in
-    subst (λ (s : Seated). IsShutting (record { serving = record { seated = s; owing = c.self.inside.log }; closed = c.self.inside.closed.items; shut = c.self.inside.shut }) m) (sym l.1)
-    (met_is x c.sits.ensures place at.0 at.1 c.args.seat.now l.0 at.2 at.3 l.2 l.3 l.4 c.self.inside.log c.self.inside.closed.items c.self.inside.shut m c.self.invariant)
+    let closed = c.self.inside.tables.closed in
+    let shut = c.self.inside.tables.waits in
+    subst
+    (λ (s : Seated). IsShutting (record { serving = record { seated = s; owing = c.self.inside.log }; closed = closed; shut = shut }) m
+    × (c.self.inside.tables.names ≡ take (treated (record { serving = record { seated = s; owing = c.self.inside.log }; closed = closed; shut = shut })) s.names))
+    (sym l.1) (met_is x c.sits.ensures place at.0 at.1 c.args.seat.now l.0 at.2 at.3 l.2 l.3 l.4 c.self.inside.log closed shut m c.self.invariant.0, c.self.invariant.1)
 
 pub returns-clause-learns : goal.returns-clause-learns
 returns-clause-learns g c =
     let place = c.args.table in
     let seat = c.args.seat.now in
     let berth = c.self.inside.berth in
-    let with : Seated → Shutting × g.row.B.Denot = λ s. (record { serving = record { seated = s; owing = c.self.inside.log }; closed = c.self.inside.closed.items; shut = c.self.inside.shut }, berth) in
+    let with : Seated → Shutting × g.row.B.Denot = λ s. (record { serving = record { seated = s; owing = c.self.inside.log }; closed = c.self.inside.tables.closed; shut = c.self.inside.tables.waits }, berth) in
     subst
     (λ v. AtPlace (λ t s. (w : SeatView) × (with c.meet.new.self ≡ (record { serving = record { seated = with_seat v.0.serving.seated place w; owing = v.0.serving.owing }; closed = v.0.closed; shut = v.0.shut }, v.1))
     × Told s seat w × LearnsOthers s w × LegalFrom (is_founded (base_seen t)) (start_of (base_seen t)) (seen_of w)) v.0.serving.seated place)

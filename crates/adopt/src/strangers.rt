@@ -1,0 +1,36 @@
+// Tables that the leaf does not have.
+ghost use Rattle.std.specs.Prelude.{◌≡◌, None, Some, map, bytes_eq, IfOk, IfErr, OnOk};
+ghost use Rattle.std.specs.List.{list_any, position};
+ghost use Rattle.region_directory.specs.declared.directory.TablePlaces.{TablePlaces};
+ghost use Rattle.adopt.specs.Adopting.{stranger_of};
+ghost use Rattle.adopt.specs.Finding.{is_stranger};
+
+use leaf_model::Text;
+use region_directory::{TablePlaces, TablePlacesList};
+
+/// Gives the tables back where each has one of the names, else the name of the first that has none.
+pub fn all_known(names: &[Text], tables: TablePlacesList) -> Result<TablePlacesList, Text>
+    ensures same { IfOk result (λ all. all ≡ tables) }
+    ensures known { OnOk result (stranger_of names.now (map (λ (t : TablePlaces). t.name) tables) ≡ None) }
+    ensures stranger { IfErr result (λ name. stranger_of names.now (map (λ (t : TablePlaces). t.name) tables) ≡ Some name) }
+{
+    let mut tables = tables.into_inner();
+    match first_stranger(names, &tables) {
+        None => Ok(TablePlacesList::of(tables)),
+        Some(place) => Err(tables.swap_remove(place).name),
+    }
+}
+
+fn first_stranger(names: &[Text], tables: &[TablePlaces]) -> Option<usize>
+    ensures { result ≡ position (is_stranger names.now) tables.now }
+{
+    tables
+        .iter()
+        .position(|table| !has_name(names, table.name.as_str()))
+}
+
+fn has_name(names: &[Text], name: &str) -> bool
+    ensures { result ≡ list_any (bytes_eq name.now) names.now }
+{
+    names.iter().any(|other| name == other.as_str())
+}

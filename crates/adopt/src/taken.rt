@@ -1,0 +1,52 @@
+// How far an adoption has come.
+ghost use Rattle.std.specs.Prelude.{◌≡◌, length};
+ghost use Rattle.column_bytes.specs.Coding.{joined};
+
+use crate::spans::Span;
+use leaf_model::Names;
+use region_directory::Directory;
+use row_blocks::ColumnBytes;
+use std::marker::Model;
+use std::snapshot::Snapshot;
+
+/// What is left of an image, and the columns that were taken, the last one first.
+#[derive(Drop)]
+pub struct Adopt {
+    pub(crate) names: Snapshot<Names>,
+    pub(crate) version: u32,
+    pub(crate) image_len: u64,
+    pub(crate) directory: Directory,
+    // Where the directory stood.
+    pub(crate) place: u64,
+    pub(crate) left: Vec<Span>,
+    pub(crate) taken: Vec<ColumnBytes>,
+    // How many bytes were taken.
+    pub(crate) held: u64,
+}
+
+impl Model for Adopt {
+    ghost use Rattle.std.specs.Prelude.{length, reverse};
+    ghost use Rattle.adopt.specs.Taken.{AdoptState, KeepsTrack};
+
+    ghost Value = { AdoptState };
+
+    ghost view = { λ a. record { names = a.names.value; version = a.version; image_len = a.image_len; directory = a.directory; left = length a.left.items; heap = reverse a.taken.items } };
+
+    ghost invariant = { λ a. KeepsTrack a.names.value a.directory a.place a.left.items (reverse a.taken.items) a.held };
+}
+
+impl Adopt {
+    /// The lengths of the columns that were taken, together.
+    pub fn held(&self) -> u64
+        ensures { result ≡ length (joined self.now.heap) }
+    {
+        self.held
+    }
+
+    /// How long the region was before the first step.
+    pub fn image_len(&self) -> u64
+        ensures { result ≡ self.now.image_len }
+    {
+        self.image_len
+    }
+}

@@ -1,7 +1,0 @@
-mod Closed
-pub mod Moments
-pub mod Standing
-pub mod Laying
-pub mod Reckoned
-pub mod Fitting
-pub mod Imaging

@@ -1,3 +1,0 @@
-pub mod Draining
-pub mod Regions
-pub mod Planned

@@ -1,0 +1,129 @@
+// How large an image will be, reckoned before it is made.
+ghost use Rattle.std.specs.Prelude.{◌≡◌, ◌+◌, ◌^◌, nat_le, length, IfSome, IfNone, IsTrue};
+ghost use Rattle.std.specs.List.{list_any};
+ghost use Rattle.region_directory.specs.Drained.{column_entry, has_no_room, is_wide};
+ghost use Rattle.drain_copy.specs.Planned.{Grew, HasRoom, blocks_count, blocks_entries, blocks_size, columns_entries, columns_size, tables_count, tables_entries, tables_size};
+
+use region_directory::DrainTable;
+use row_blocks::{BlockColumn, RowBlock};
+
+const TOO_MANY: u64 = 1 << 32;
+
+const TOO_LONG: u64 = 1 << 63;
+
+/// How many columns there are, how long they are together, and how long the directory is. A number that would pass a u64 stays at its last value.
+#[derive(Clone, Copy)]
+pub struct Sizes {
+    pub columns: u64,
+    pub bytes: u64,
+    pub entries: u64,
+}
+
+/// The sizes of an image of tables, or None where there can be none.
+#[tactic(auto, using(crate::proofs::Reckoned::wide_has_none, crate::proofs::Reckoned::has_room, crate::proofs::Reckoned::lacks_room))]
+pub fn room(tables: &[DrainTable]) -> Option<Sizes>
+    ensures none { IfNone result (IsTrue (has_no_room tables.now)) }
+    ensures some { IfSome result (λ sizes. HasRoom tables.now sizes) }
+{
+    if any_is_wide(tables) {
+        return None;
+    }
+    let none = Sizes {
+        columns: 0,
+        bytes: 0,
+        entries: 9,
+    };
+    let sizes = with_tables(none, tables);
+    let length = sizes.bytes.saturating_add(sizes.entries).saturating_add(16);
+    if length < TOO_LONG { Some(sizes) } else { None }
+}
+
+fn any_is_wide(tables: &[DrainTable]) -> bool
+    ensures { result ≡ list_any is_wide tables.now }
+{
+    tables.iter().any(|table| is_wide(table))
+}
+
+/// Whether a directory has no place for one of its numbers.
+fn is_wide(table: &DrainTable) -> bool
+    ensures { result ≡ is_wide table.now }
+{
+    let blocks = table.parts.blocks.as_slice();
+    blocks.len() as u64 >= TOO_MANY || table.parts.writes >= TOO_LONG || any_has_many(blocks)
+}
+
+fn any_has_many(blocks: &[RowBlock]) -> bool
+    ensures { result ≡ list_any (λ b. nat_le (2 ^ 32) (length b.columns)) blocks.now }
+{
+    blocks.iter().any(|block| has_many(block))
+}
+
+fn has_many(block: &RowBlock) -> bool
+    ensures { result ≡ nat_le (2 ^ 32) (length block.now.columns) }
+{
+    block.columns().len() as u64 >= TOO_MANY
+}
+
+fn with_tables(start: Sizes, tables: &[DrainTable]) -> Sizes
+    ensures { Grew start result (tables_count tables.now) (tables_size tables.now) (tables_entries tables.now) }
+{
+    let mut sizes = start;
+    for table in tables {
+        sizes = with_table(sizes, table);
+    }
+    sizes
+}
+
+fn with_table(start: Sizes, table: &DrainTable) -> Sizes
+    ensures { Grew start result (blocks_count table.now.parts.blocks) (blocks_size table.now.parts.blocks) (25 + length table.now.name + blocks_entries table.now.parts.blocks) }
+{
+    let name = table.name.as_str().len() as u64;
+    let begun = Sizes {
+        entries: start.entries.saturating_add(25).saturating_add(name),
+        ..start
+    };
+    with_blocks(begun, table.parts.blocks.as_slice())
+}
+
+fn with_blocks(start: Sizes, blocks: &[RowBlock]) -> Sizes
+    ensures { Grew start result (blocks_count blocks.now) (blocks_size blocks.now) (blocks_entries blocks.now) }
+{
+    let mut sizes = start;
+    for block in blocks {
+        sizes = with_block(sizes, block);
+    }
+    sizes
+}
+
+fn with_block(start: Sizes, block: &RowBlock) -> Sizes
+    ensures { Grew start result (length block.now.columns) (columns_size block.now.columns) (8 + columns_entries block.now.columns) }
+{
+    let begun = Sizes {
+        entries: start.entries.saturating_add(8),
+        ..start
+    };
+    with_columns(begun, block.columns())
+}
+
+fn with_columns(start: Sizes, columns: &[BlockColumn]) -> Sizes
+    ensures { Grew start result (length columns.now) (columns_size columns.now) (columns_entries columns.now) }
+{
+    let mut sizes = start;
+    for column in columns {
+        sizes = with_column(sizes, column);
+    }
+    sizes
+}
+
+fn with_column(start: Sizes, column: &BlockColumn) -> Sizes
+    ensures { Grew start result 1 (length column.now.bytes) (column_entry column.now) }
+{
+    let name = column.name.as_str().len() as u64;
+    Sizes {
+        columns: start.columns.saturating_add(1),
+        bytes: start
+            .bytes
+            .saturating_add(column.bytes.as_slice().len() as u64),
+        entries: start.entries.saturating_add(17).saturating_add(name),
+    }
+}
