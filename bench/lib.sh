@@ -124,3 +124,40 @@ doubled() {
   until "$test" "$n" "$@"; do n=$((2 * n)); done
   echo "$n"
 }
+
+# ---- folders that are filled with rows of one shape; $run rows at most an add, the first time is $first, and the folders stand in $work
+
+# row: what prints row I in awk, which has a code where I is even
+row='function row(i) {
+  printf "{\"time\":%d,\"host\":\"web%d\"", first + i, i % 7
+  if (i % 2 == 0) printf ",\"code\":%d", 500 + i % 3
+  if (i % 10 == 0) printf ",\"msg\":\"timeout\""
+  print "}"
+}'
+
+# leaf_adds LEAVES FROM TO: adds to each of so many leaves the rows from its row FROM up to but without its row TO. Row I is at the leaf I modulo LEAVES
+leaf_adds() {
+  awk -v leaves="$1" -v from="$2" -v to="$3" -v most="$run" -v first="$first" "$row"' BEGIN {
+    for (leaf = 0; leaf < leaves; leaf++) for (j = from; j < to; j++) {
+      if ((j - from) % most == 0) print "add " leaf " errors " (to - j < most ? to - j : most)
+      row(j * leaves + leaf)
+    }
+  }'
+}
+
+# fill NAME LEAVES ROWS: a folder of a fleet whose leaves have so many rows each, all of them in their logs
+fill() {
+  local from=0 to
+  mkdir "$work/$1" || exit 1
+  for to in $(($3 / 2)) "$3"; do
+    { echo "fleet 1 $2 errors"; leaf_adds "$2" "$from" "$to"; awk -v leaves="$2" 'BEGIN { for (i = 0; i < leaves; i++) print "flush " i " errors" }'; } >"$out/script"
+    "$scuba" "$work/$1" play <"$out/script" >"$out/filled" || fail "the folder $1 could not be filled"
+    [ "$(grep -c '^flush [0-9]* done$' "$out/filled")" = "$2" ] || fail "not each leaf of the folder $1 was flushed"
+    from=$to
+  done
+}
+
+# times N LINE: a line, so many times
+times() {
+  awk -v n="$1" -v line="$2" 'BEGIN { for (i = 0; i < n; i++) print line }'
+}
