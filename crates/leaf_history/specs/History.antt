@@ -97,14 +97,10 @@ changed founded s call.Done = record s { handed = true }
 changed founded s (call.Open n contents) = opened founded s n contents
 
 abbrev pub is_refusal : Reply → Bool
-is_refusal (reply.Added kept late) = false
-is_refusal (reply.Removed rows) = false
-is_refusal (reply.Groups gs) = false
 is_refusal reply.Shut = true
 is_refusal reply.Full = true
 is_refusal reply.NoMemory = true
-is_refusal (reply.Counted n) = false
-is_refusal reply.Noted = false
+is_refusal _ = false
 
 -- the state after one entry: a refusal changes nothing
 abbrev pub after_entry : Bool → HistoryState → Entry → HistoryState
@@ -127,43 +123,26 @@ AddReply s rows reply.Shut = s.live ≡ false
 AddReply s rows reply.NoMemory = s.live ≡ true
 AddReply s rows reply.Full = (s.live ≡ true) × IsFull s rows
 AddReply s rows (reply.Added kept late) = (s.live ≡ true) × HasRoom s rows × (kept ≡ kept_count (held s) rows) × (late ≡ late_count (held s) rows)
-AddReply s rows (reply.Removed n) = ⊥
-AddReply s rows (reply.Groups gs) = ⊥
-AddReply s rows (reply.Counted n) = ⊥
-AddReply s rows reply.Noted = ⊥
+AddReply s rows _ = ⊥
 
 -- which replies an expiry or a keep may have
 abbrev pub RemoveReply : HistoryState → Write → Reply → Type 0
 RemoveReply s w reply.Shut = s.live ≡ false
 RemoveReply s w reply.NoMemory = s.live ≡ true
 RemoveReply s w (reply.Removed n) = (s.live ≡ true) × (n ≡ removed_count (held s) w)
-RemoveReply s w reply.Full = ⊥
-RemoveReply s w (reply.Added kept late) = ⊥
-RemoveReply s w (reply.Groups gs) = ⊥
-RemoveReply s w (reply.Counted n) = ⊥
-RemoveReply s w reply.Noted = ⊥
+RemoveReply s w _ = ⊥
 
 -- which replies a query may have
 abbrev pub AskReply : HistoryState → Query → Reply → Type 0
 AskReply s q reply.Shut = s.live ≡ false
 AskReply s q reply.NoMemory = s.live ≡ true
 AskReply s q (reply.Groups gs) = (s.live ≡ true) × (gs ≡ groups q (held s).rows)
-AskReply s q reply.Full = ⊥
-AskReply s q (reply.Added kept late) = ⊥
-AskReply s q (reply.Removed n) = ⊥
-AskReply s q (reply.Counted n) = ⊥
-AskReply s q reply.Noted = ⊥
+AskReply s q _ = ⊥
 
 -- the reply tells the length of W
 abbrev pub CountReply : HistoryState → Reply → Type 0
 CountReply s (reply.Counted n) = n ≡ write_count s
-CountReply s (reply.Added kept late) = ⊥
-CountReply s (reply.Removed n) = ⊥
-CountReply s (reply.Groups gs) = ⊥
-CountReply s reply.Shut = ⊥
-CountReply s reply.Full = ⊥
-CountReply s reply.NoMemory = ⊥
-CountReply s reply.Noted = ⊥
+CountReply s _ = ⊥
 
 -- a founded table is opened with the first n of its writes, among them each flushed one, and with all of them where it was drained
 pub record MayOpen (s : HistoryState) (n : ℕ) (contents : Contents) : Type 0 where
