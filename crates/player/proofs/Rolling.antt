@@ -5,15 +5,14 @@ use Rattle.std.proofs.lemmas.List.{length-append, length-map, map-append}
 use Rattle.std.proofs.lemmas.Bool.Decides.{nat_tests}
 use Rattle.rollover_watch.specs.Watches.{Held}
 use Rattle.rollover_driver.specs.declared.driving.Rolled.{Rolled}
-use Rattle.rollover_driver.specs.Calls.{AreDrains, AreStarts, Call}
+use Rattle.rollover_driver.specs.Calls.{AreOfEach, AreOfWave, Call}
 use Rattle.rollover_driver.specs.Calls as call
-use Rattle.rollover_driver.specs.Drives as drives
 use Rattle.rollover_driver.specs.Drives.{WavesGo}
 use Rattle.printed_lines.specs.declared.line.Ending.{Ending}
 use Rattle.printed_lines.specs.declared.line.Line.{Line}
 use Rattle.printed_lines.specs.declared.line.Line.TheVariants as line
 use Rattle.printed_lines.specs.Lines.{IsOf}
-use Rattle.transcript.specs.Pieces.{Acted, Drains, Noted, Piece, Says, Starts, lines_in, piece_lines}
+use Rattle.transcript.specs.Pieces.{Deed, Drains, Noted, Piece, Says, Starts, lines_in, piece_lines}
 use Rattle.transcript.specs.Shapes.{EachActs, WavePieces, WavesPieces}
 use Rattle.transcript.specs.Watching.{calls_in, drained_by, piece_calls, started_by}
 use Rattle.player.specs.Restarts.{AreAnswered}
@@ -65,27 +64,26 @@ apart (call.Starts leaf got ∷ cs) ds (p ∷ ps) are =
     record { front = p ∷ rest.front; back = rest.back; is = ap (λ (qs : List Piece). p ∷ qs) rest.is; first = (are.0, rest.first); second = rest.second }
 
 -- the drains of these leaves
-drains_act : (leaves : List ℕ) (cs : List Call) (ps : List Piece) → AreDrains leaves cs → AreAnswered cs ps → EachActs (Drains None) leaves ps
+drains_act : (leaves : List ℕ) (cs : List Call) (ps : List Piece) → AreOfEach call.Drains leaves cs → AreAnswered cs ps → EachActs (Drains None) leaves ps
 drains_act [] [] [] are answered = refl
 drains_act [] [] (p ∷ ps) are answered = absurd answered
 drains_act [] (c ∷ cs) ps are answered = absurd are
 drains_act (leaf ∷ leaves) [] ps are answered = absurd are
-drains_act (leaf ∷ leaves) (call.Starts other got ∷ cs) ps are answered = absurd are
-drains_act (leaf ∷ leaves) (call.Drains other got ∷ cs) [] are answered = absurd answered
-drains_act (leaf ∷ leaves) (call.Drains other got ∷ cs) (p ∷ ps) are answered =
-    let one = answered.0 in
-    ((one.0, one.1, one.2 ∙ ap (λ (n : ℕ). Acted n (Drains None) one.0 one.1) are.0), drains_act leaves cs ps are.1 answered.1)
+drains_act (leaf ∷ leaves) (c ∷ cs) [] are answered = absurd (subst (λ (d : Call). AreAnswered (d ∷ cs) []) are.0.1 answered)
+drains_act (leaf ∷ leaves) (c ∷ cs) (p ∷ ps) are answered =
+    let all : AreAnswered (call.Drains leaf are.0.0 ∷ cs) (p ∷ ps) = subst (λ (d : Call). AreAnswered (d ∷ cs) (p ∷ ps)) are.0.1 answered in
+    ((all.0.0, all.0.1, all.0.2), drains_act leaves cs ps are.1 all.1)
 
-starts_act : (leaves : List ℕ) (cs : List Call) (ps : List Piece) → AreStarts leaves cs → AreAnswered cs ps → EachActs Starts leaves ps
+-- and their starts
+starts_act : (leaves : List ℕ) (cs : List Call) (ps : List Piece) → AreOfEach call.Starts leaves cs → AreAnswered cs ps → EachActs Starts leaves ps
 starts_act [] [] [] are answered = refl
 starts_act [] [] (p ∷ ps) are answered = absurd answered
 starts_act [] (c ∷ cs) ps are answered = absurd are
 starts_act (leaf ∷ leaves) [] ps are answered = absurd are
-starts_act (leaf ∷ leaves) (call.Drains other got ∷ cs) ps are answered = absurd are
-starts_act (leaf ∷ leaves) (call.Starts other got ∷ cs) [] are answered = absurd answered
-starts_act (leaf ∷ leaves) (call.Starts other got ∷ cs) (p ∷ ps) are answered =
-    let one = answered.0 in
-    ((one.0, one.1, one.2 ∙ ap (λ (n : ℕ). Acted n Starts one.0 one.1) are.0), starts_act leaves cs ps are.1 answered.1)
+starts_act (leaf ∷ leaves) (c ∷ cs) [] are answered = absurd (subst (λ (d : Call). AreAnswered (d ∷ cs) []) are.0.1 answered)
+starts_act (leaf ∷ leaves) (c ∷ cs) (p ∷ ps) are answered =
+    let all : AreAnswered (call.Starts leaf are.0.0 ∷ cs) (p ∷ ps) = subst (λ (d : Call). AreAnswered (d ∷ cs) (p ∷ ps)) are.0.1 answered in
+    ((all.0.0, all.0.1, all.0.2), starts_act leaves cs ps are.1 all.1)
 
 -- the calls that the pieces tell are those that they answer
 pub told_calls : (cs : List Call) (ps : List Piece) → AreAnswered cs ps → calls_in ps ≡ cs
@@ -134,23 +132,11 @@ joined_all : (ps : List Piece) → joined_parts (map piece_lines ps) ≡ lines_i
 joined_all [] = refl
 joined_all (p ∷ ps) = ap (λ (ls : List Line). piece_lines p ++ ls) (joined_all ps)
 
-drains_count : (leaves : List ℕ) (cs : List Call) (ps : List Piece) → AreDrains leaves cs → AreAnswered cs ps → length ps ≡ length leaves
-drains_count [] [] [] are answered = refl
-drains_count [] [] (p ∷ ps) are answered = absurd answered
-drains_count [] (c ∷ cs) ps are answered = absurd are
-drains_count (leaf ∷ leaves) [] ps are answered = absurd are
-drains_count (leaf ∷ leaves) (call.Starts other got ∷ cs) ps are answered = absurd are
-drains_count (leaf ∷ leaves) (call.Drains other got ∷ cs) [] are answered = absurd answered
-drains_count (leaf ∷ leaves) (call.Drains other got ∷ cs) (p ∷ ps) are answered = ap suc (drains_count leaves cs ps are.1 answered.1)
-
-starts_count : (leaves : List ℕ) (cs : List Call) (ps : List Piece) → AreStarts leaves cs → AreAnswered cs ps → length ps ≡ length leaves
-starts_count [] [] [] are answered = refl
-starts_count [] [] (p ∷ ps) are answered = absurd answered
-starts_count [] (c ∷ cs) ps are answered = absurd are
-starts_count (leaf ∷ leaves) [] ps are answered = absurd are
-starts_count (leaf ∷ leaves) (call.Drains other got ∷ cs) ps are answered = absurd are
-starts_count (leaf ∷ leaves) (call.Starts other got ∷ cs) [] are answered = absurd answered
-starts_count (leaf ∷ leaves) (call.Starts other got ∷ cs) (p ∷ ps) are answered = ap suc (starts_count leaves cs ps are.1 answered.1)
+-- a deed of each leaf is one piece
+acts_count : (act : Deed) (leaves : List ℕ) (ps : List Piece) → EachActs act leaves ps → length ps ≡ length leaves
+acts_count act [] ps are = ap (λ (qs : List Piece). length qs) are
+acts_count act (leaf ∷ leaves) [] are = absurd are
+acts_count act (leaf ∷ leaves) (p ∷ ps) are = ap suc (acts_count act leaves ps are.1)
 
 none_answered : (ps : List Piece) → AreAnswered [] ps → ps ≡ []
 none_answered [] are = refl
@@ -185,13 +171,12 @@ no_more total begun waves rolled deeds none is = record {
 }
 
 -- a wave, and those behind it
-one_wave : (total begun : ℕ) (first : List ℕ) (others : List (List ℕ)) (rolled : Rolled) (fd fs fr deeds : List Piece) → deeds ≡ fd ++ (fs ++ fr) → EachActs (Drains None) first fd → EachActs Starts first fs
-    → length fd ≡ length first → length fs ≡ length first → Rolling total (suc begun) others rolled fr → Rolling total begun (first ∷ others) rolled deeds
-one_wave total begun first others rolled fd fs fr deeds is drained started drains starts sub =
+one_wave : (total begun : ℕ) (first : List ℕ) (others : List (List ℕ)) (rolled : Rolled) (fd fs fr deeds : List Piece) → deeds ≡ (fd ++ fs) ++ fr → EachActs (Drains None) first fd → EachActs Starts first fs
+    → Rolling total (suc begun) others rolled fr → Rolling total begun (first ∷ others) rolled deeds
+one_wave total begun first others rolled fd fs fr deeds joined drained started sub =
     let l : Line = line.Wave (suc begun) total first in
-    let joined : deeds ≡ (fd ++ fs) ++ fr = is ∙ sym (append_assoc fd fs fr) in
     let rest : List Piece = flat_map (λ (wave : List Piece). wave) sub.pieces in
-    let size : deed_count first ≡ length (map piece_lines (fd ++ fs)) = both_counts first fd fs drains starts in
+    let size : deed_count first ≡ length (map piece_lines (fd ++ fs)) = both_counts first fd fs (acts_count (Drains None) first fd drained) (acts_count Starts first fs started) in
     let parts : map piece_lines deeds ≡ map piece_lines (fd ++ fs) ++ map piece_lines fr = ap (λ (ps : List Piece). map piece_lines ps) joined ∙ map-append piece_lines (fd ++ fs) fr in
     record {
       pieces = (Says l ∷ (fd ++ fs)) ∷ sub.pieces;
@@ -215,34 +200,32 @@ one_wave total begun first others rolled fd fs fr deeds is drained started drain
 at_most : (r : Rolled) (b n k : ℕ) → r.waves ≡ b → k ≤ n → r.waves ≤ b + n
 at_most r b n k is within = omega arith
 
-one_more : (r : Rolled) (b n k : ℕ) → n ≡ suc k → r.waves ≤ b + 1 + k → r.waves ≤ b + n
-one_more r b n k is within = omega arith
+one_more : (r : Rolled) (b k : ℕ) → r.waves ≤ b + 1 + k → r.waves ≤ b + suc k
+one_more r b k within = omega arith
 
 pub rolled_waves : (total begun : ℕ) (waves : List (List ℕ)) (asked : Bool) (old : List Held) (calls : List Call) (rolled : Rolled) (new : List Held) → WavesGo total begun waves asked old calls rolled new
     → (deeds : List Piece) → AreAnswered calls deeds → Rolling total begun waves rolled deeds
-rolled_waves total begun waves asked old calls rolled new (drives.none t b ws a o cs r n all none is same) deeds answered =
-    no_more t b ws r deeds (none_answered deeds (subst (λ (ds : List Call). AreAnswered ds deeds) none answered))
-    (is ∙ ap (λ (k : List (List ℕ)). record { waves = b; halted = nat_lt 0 (length k) }) (sym all))
-rolled_waves total begun waves asked old calls rolled new (drives.left t b ws a o cs r n first others all halt none is same) deeds answered =
-    no_more t b ws r deeds (none_answered deeds (subst (λ (ds : List Call). AreAnswered ds deeds) none answered))
-    (is ∙ (ap (λ (h : Bool). record { waves = b; halted = h }) (sym (first_below (length others))) ∙ ap (λ (k : List (List ℕ)). record { waves = b; halted = nat_lt 0 (length k) }) (sym all)))
-rolled_waves total begun waves asked old calls rolled new (drives.next t b ws a o cs r n first others drains starts rest later between all none drained started joined told go) deeds answered =
-    let one = apart drains (starts ++ rest) deeds (subst (λ (ds : List Call). AreAnswered ds deeds) joined answered) in
-    let two = apart starts rest one.back one.second in
-    let next : b + 1 ≡ suc b = omega arith in
-    subst (λ (k : List (List ℕ)). Rolling t b k r deeds) (sym all)
-    (one_wave t b first others r one.front two.front two.back deeds (one.is ∙ ap (λ (ps : List Piece). one.front ++ ps) two.is)
-    (drains_act first drains one.front drained one.first) (starts_act first starts two.front started two.first)
-    (drains_count first drains one.front drained one.first) (starts_count first starts two.front started two.first)
-    (subst (λ (k : ℕ). Rolling t k others r two.back) next (rolled_waves t (b + 1) others later between rest r n go two.back two.second)))
+rolled_waves total begun [] asked old calls rolled new goes deeds answered =
+    no_more total begun [] rolled deeds (none_answered deeds (subst (λ (ds : List Call). AreAnswered ds deeds) goes.0 answered)) goes.1
+rolled_waves total begun (first ∷ others) true old calls rolled new goes deeds answered =
+    no_more total begun (first ∷ others) rolled deeds (none_answered deeds (subst (λ (ds : List Call). AreAnswered ds deeds) goes.0 answered))
+    (goes.1 ∙ ap (λ (h : Bool). record { waves = begun; halted = h }) (sym (first_below (length others))))
+rolled_waves total begun (first ∷ others) false old calls rolled new goes deeds answered =
+    let wave : AreOfWave first goes.0 = goes.4 in
+    let one = apart goes.0 goes.1 deeds (subst (λ (ds : List Call). AreAnswered ds deeds) goes.5 answered) in
+    let two = apart wave.0 wave.1 one.front (subst (λ (ds : List Call). AreAnswered ds one.front) wave.4 one.first) in
+    let next : begun + 1 ≡ suc begun = omega arith in
+    one_wave total begun first others rolled two.front two.back one.back deeds (one.is ∙ ap (λ (ps : List Piece). ps ++ one.back) two.is)
+    (drains_act first wave.0 two.front wave.2 two.first) (starts_act first wave.1 two.back wave.3 two.second)
+    (subst (λ (k : ℕ). Rolling total k others rolled one.back) next (rolled_waves total (begun + 1) others goes.2 goes.3 goes.1 rolled new goes.7 one.back one.second))
 
 -- no more waves are begun than there are
 pub waves_within : (total begun : ℕ) (waves : List (List ℕ)) (asked : Bool) (old : List Held) (calls : List Call) (rolled : Rolled) (new : List Held) → WavesGo total begun waves asked old calls rolled new
     → rolled.waves ≤ begun + length waves
-waves_within total begun waves asked old calls rolled new (drives.none t b ws a o cs r n all none is same) = at_most r b (length ws) 0 (ap (λ (k : Rolled). k.waves) is) (omega arith)
-waves_within total begun waves asked old calls rolled new (drives.left t b ws a o cs r n first others all halt none is same) = at_most r b (length ws) 0 (ap (λ (k : Rolled). k.waves) is) (omega arith)
-waves_within total begun waves asked old calls rolled new (drives.next t b ws a o cs r n first others drains starts rest later between all none drained started joined told go) =
-    one_more r b (length ws) (length others) (ap (λ (ls : List (List ℕ)). length ls) all) (waves_within t (b + 1) others later between rest r n go)
+waves_within total begun [] asked old calls rolled new goes = at_most rolled begun 0 0 (ap (λ (k : Rolled). k.waves) goes.1) (omega arith)
+waves_within total begun (first ∷ others) true old calls rolled new goes = at_most rolled begun (suc (length others)) 0 (ap (λ (k : Rolled). k.waves) goes.1) (omega arith)
+waves_within total begun (first ∷ others) false old calls rolled new goes =
+    one_more rolled begun (length others) (waves_within total (begun + 1) others goes.2 goes.3 goes.1 rolled new goes.7)
 
 -- lines behind all
 pub woven_behind : (deeds all more : List Piece) → Woven deeds all → Woven [] more → Woven deeds (all ++ more)

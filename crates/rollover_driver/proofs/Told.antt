@@ -3,7 +3,7 @@ use Rattle.std.proofs.Common.{◌≡◌, ℕ, ◌<◌, suc, zero, Bool, true, fa
 use Rattle.std.specs.List.{AllByRecursion}
 use Rattle.rollover_watch.specs.declared.event.RollEvent.{RollEvent}
 use Rattle.rollover_watch.specs.Watches.{Held, is_halt_asked}
-use Rattle.rollover_driver.specs.Calls.{Call, Drains, Starts, AreDrains, AreStarts}
+use Rattle.rollover_driver.specs.Calls.{Call, AreOfEach}
 use Rattle.rollover_driver.specs.Drives.{AreAllTold}
 
 pub or_false : (b : Bool) → (b || false) ≡ b
@@ -27,19 +27,13 @@ told_both (event ∷ events) others old mid new x y front back = (
   ap (λ (b : Bool). b || y) front.4 ∙ or_joined (is_halt_asked event old) front.1 y,
 )
 
-pub drains_both : (leaves others : List ℕ) (calls behind : List Call) → AreDrains leaves calls → AreDrains others behind → AreDrains (leaves ++ others) (calls ++ behind)
-drains_both [] others [] behind front back = back
-drains_both [] others (call ∷ calls) behind front back = absurd front
-drains_both (leaf ∷ leaves) others [] behind front back = absurd front
-drains_both (leaf ∷ leaves) others (Drains drained got ∷ calls) behind front back = (front.0, drains_both leaves others calls behind front.1 back)
-drains_both (leaf ∷ leaves) others (Starts started got ∷ calls) behind front back = absurd front
-
-pub starts_both : (leaves others : List ℕ) (calls behind : List Call) → AreStarts leaves calls → AreStarts others behind → AreStarts (leaves ++ others) (calls ++ behind)
-starts_both [] others [] behind front back = back
-starts_both [] others (call ∷ calls) behind front back = absurd front
-starts_both (leaf ∷ leaves) others [] behind front back = absurd front
-starts_both (leaf ∷ leaves) others (Drains drained got ∷ calls) behind front back = absurd front
-starts_both (leaf ∷ leaves) others (Starts started got ∷ calls) behind front back = (front.0, starts_both leaves others calls behind front.1 back)
+-- calls of the leaves of a list, and then of others
+pub each_both : {A : Type 0} (kind : ℕ → A → Call) (leaves others : List ℕ) (calls behind : List Call) → AreOfEach kind leaves calls → AreOfEach kind others behind
+    → AreOfEach kind (leaves ++ others) (calls ++ behind)
+each_both kind [] others [] behind front back = back
+each_both kind [] others (call ∷ calls) behind front back = absurd front
+each_both kind (leaf ∷ leaves) others [] behind front back = absurd front
+each_both kind (leaf ∷ leaves) others (call ∷ calls) behind front back = (front.0, each_both kind leaves others calls behind front.1 back)
 
 -- what holds of all holds of each
 pub all_at : {X : Type 0} (P : X → Type 0) (xs : List X) (i : ℕ) (d : X) → AllByRecursion P xs → i < length xs → P (get_or xs i d)

@@ -1,13 +1,12 @@
 -- The waves that were begun, and what those behind them come to.
-use Rattle.std.proofs.Common.{◌≡◌, ℕ, ◌+◌, ◌<◌, ◌≤◌, Bool, true, false, List, [], ◌∷◌, ◌++◌, length, get_or, drop, map, refl, sym, ap, ◌∙◌, subst, append_assoc, append-nil}
+use Rattle.std.proofs.Common.{◌≡◌, ℕ, ◌+◌, ◌<◌, ◌≤◌, Bool, true, false, List, [], ◌∷◌, ◌++◌, length, get_or, drop, refl, sym, ap, ◌∙◌, subst, append_assoc, append-nil}
 use Rattle.std.specs.List.{AllByRecursion}
 use Rattle.std.proofs.lemmas.List.{drop_all, drop_more}
 use Rattle.rollover_watch.specs.declared.event.RollEvent.TheVariants as event
 use Rattle.rollover_watch.specs.Watches.{Held, AreTold}
 use Rattle.rollover_driver.specs.declared.driving.Rolled.{Rolled}
-use Rattle.rollover_driver.specs.Calls.{Call, event_of, AreOfWave}
-use Rattle.rollover_driver.specs.Drives as drives
-use Rattle.rollover_driver.specs.Drives.{AreAllTold, WavesGo, Drives}
+use Rattle.rollover_driver.specs.Calls.{Call, AreOfWave}
+use Rattle.rollover_driver.specs.Drives.{WavesGo, Drives}
 use Rattle.rollover_driver.specs.Done.{HasDone, HasRolled, wave_begins}
 use Rattle.rollover_driver.proofs.Told.{all_at, all_still}
 
@@ -36,6 +35,10 @@ module _ {F : Type 0} (has : F → ℕ → Type 0) (stands : F → List Call →
     further = λ rest rolled new goes. goes;
   }
 
+  -- the wave at a place, and those behind it
+  next_at : (i : ℕ) (wave : List ℕ) → i < length waves → wave ≡ get_or waves i wave → drop i waves ≡ wave ∷ drop (i + 1) waves
+  next_at i wave inside is = drop_more waves i wave inside ∙ ap (λ (w : List ℕ). w ∷ drop (i + 1) waves) (sym is)
+
   -- a wave more
   pub rolling_more : (i : ℕ) (wave : List ℕ) (asked later : Bool) (g h : F) (mid now : List Held) → IsRolling has stands waves f old i asked g mid → asked ≡ false → i < length waves
       → wave ≡ get_or waves i wave → HasDone has stands (AreOfWave wave) (event.Wave (i + 1) (length waves) ∷ []) g mid later h now → IsRolling has stands waves f old (i + 1) later h now
@@ -44,17 +47,11 @@ module _ {F : Type 0} (has : F → ℕ → Type 0) (stands : F → List Call →
     calls = so_far.calls ++ done.calls;
     goes = λ first before stood. subst (λ (cs : List Call). stands first cs h) (append_assoc before so_far.calls done.calls) (done.goes first (before ++ so_far.calls) (so_far.goes first before stood));
     further = λ rest rolled new goes.
-        let wave_of = done.are in
         subst (λ (cs : List Call). WavesGo (length waves) 0 waves false old cs rolled new) (sym (append_assoc so_far.calls done.calls rest))
         (so_far.further (done.calls ++ rest) rolled new
-        (drives.next (length waves) i (drop i waves) asked mid (done.calls ++ rest) rolled new wave (drop (i + 1) waves) wave_of.drains wave_of.starts rest later now
-        (drop_more waves i wave inside ∙ ap (λ (w : List ℕ). w ∷ drop (i + 1) waves) (sym is))
-        none
-        wave_of.drained
-        wave_of.started
-        (ap (λ (cs : List Call). cs ++ rest) wave_of.joined ∙ append_assoc wave_of.drains wave_of.starts rest)
-        (subst (λ (cs : List Call). AreAllTold (event.Wave (i + 1) (length waves) ∷ map event_of cs) mid later now) wave_of.joined done.told)
-        goes));
+        (subst (λ (ws : List (List ℕ)). WavesGo (length waves) i ws asked mid (done.calls ++ rest) rolled new) (sym (next_at i wave inside is))
+        (subst (λ (b : Bool). WavesGo (length waves) i (wave ∷ drop (i + 1) waves) b mid (done.calls ++ rest) rolled new) (sym none)
+        (done.calls, rest, later, now, done.are, refl, done.told, goes))));
   }
 
   -- all waves were begun
@@ -65,7 +62,8 @@ module _ {F : Type 0} (has : F → ℕ → Type 0) (stands : F → List Call →
     calls = so_far.calls;
     goes = so_far.goes;
     rolls = subst (λ (cs : List Call). WavesGo (length waves) 0 waves false old cs rolled now) (append-nil so_far.calls)
-        (so_far.further [] rolled now (drives.none (length waves) i (drop i waves) asked now [] rolled now (drop_all i waves end) refl is refl));
+        (so_far.further [] rolled now
+        (subst (λ (ws : List (List ℕ)). WavesGo (length waves) i ws asked now [] rolled now) (sym (drop_all i waves end)) (refl, is, refl)));
   }
 
   -- a wave is left out
@@ -77,13 +75,14 @@ module _ {F : Type 0} (has : F → ℕ → Type 0) (stands : F → List Call →
     goes = so_far.goes;
     rolls = subst (λ (cs : List Call). WavesGo (length waves) 0 waves false old cs rolled now) (append-nil so_far.calls)
         (so_far.further [] rolled now
-        (drives.left (length waves) i (drop i waves) asked now [] rolled now (get_or waves i d) (drop (i + 1) waves) (drop_more waves i d inside) halt refl is refl));
+        (subst (λ (ws : List (List ℕ)). WavesGo (length waves) i ws asked now [] rolled now) (sym (drop_more waves i d inside))
+        (subst (λ (b : Bool). WavesGo (length waves) i (get_or waves i d ∷ drop (i + 1) waves) b now [] rolled now) (sym halt) (refl, is, refl))));
   }
 
   -- a wave that was told by the count of those begun
-  pub same_number : {begun i total : ℕ} {wave : List ℕ} {g h : F} {mid now : List Held} {asked : Bool} → begun ≡ i → total ≡ length waves
+  pub same_number : {begun i total : ℕ} (wave : List ℕ) {g h : F} {mid now : List Held} {asked : Bool} → begun ≡ i → total ≡ length waves
       → HasDone has stands (AreOfWave wave) (wave_begins (begun + 1) total) g mid asked h now → HasDone has stands (AreOfWave wave) (event.Wave (i + 1) (length waves) ∷ []) g mid asked h now
-  same_number {begun = begun} {wave = wave} {g = g} {h = h} {mid = mid} {now = now} {asked = asked} same all done =
+  same_number {begun = begun} wave {g = g} {h = h} {mid = mid} {now = now} {asked = asked} same all done =
       subst (λ (k : ℕ). HasDone has stands (AreOfWave wave) (event.Wave (k + 1) (length waves) ∷ []) g mid asked h now) same
       (subst (λ (k : ℕ). HasDone has stands (AreOfWave wave) (event.Wave (begun + 1) k ∷ []) g mid asked h now) all done)
 

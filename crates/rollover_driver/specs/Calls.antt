@@ -1,5 +1,6 @@
 -- What is asked of a fleet, and the event that tells it.
-use Rattle.std.specs.Prelude.{◌≡◌, ℕ, List, [], ◌∷◌, ◌++◌, ⊤}
+use Rattle.std.specs.Prelude.{◌≡◌, ℕ, List, ◌++◌}
+use Rattle.std.specs.List.{AllZip}
 use Rattle.rollover_watch.specs.declared.event.Drained.{Drained}
 use Rattle.rollover_watch.specs.declared.event.Started.{Started}
 use Rattle.rollover_watch.specs.declared.event.RollEvent.{RollEvent}
@@ -10,30 +11,15 @@ pub data Call : Type 0 where
   Drains : (leaf : ℕ) (got : Drained) → Call
   Starts : (leaf : ℕ) (got : Started) → Call
 
+-- the event that tells it
 abbrev pub event_of : Call → RollEvent
 event_of (Drains leaf got) = event.Drain leaf got
 event_of (Starts leaf got) = event.Start leaf got
 
--- each leaf of a list was drained, in its order
-abbrev pub AreDrains : List ℕ → List Call → Type 0
-AreDrains [] [] = ⊤
-AreDrains [] (call ∷ calls) = ⊥
-AreDrains (leaf ∷ leaves) [] = ⊥
-AreDrains (leaf ∷ leaves) (Drains drained got ∷ calls) = (drained ≡ leaf) × AreDrains leaves calls
-AreDrains (leaf ∷ leaves) (Starts started got ∷ calls) = ⊥
-
--- each leaf of a list was started, in its order
-abbrev pub AreStarts : List ℕ → List Call → Type 0
-AreStarts [] [] = ⊤
-AreStarts [] (call ∷ calls) = ⊥
-AreStarts (leaf ∷ leaves) [] = ⊥
-AreStarts (leaf ∷ leaves) (Drains drained got ∷ calls) = ⊥
-AreStarts (leaf ∷ leaves) (Starts started got ∷ calls) = (started ≡ leaf) × AreStarts leaves calls
+-- calls of one kind, `Drains` or `Starts`: one of each leaf of a list, in its order, with whatever it answered
+abbrev pub AreOfEach : {A : Type 0} → (ℕ → A → Call) → List ℕ → List Call → Type 0
+AreOfEach {A} kind leaves calls = AllZip (λ leaf call. (got : A) × (call ≡ kind leaf got)) leaves calls
 
 -- each leaf of a wave was drained, and then each was started
-pub record AreOfWave (wave : List ℕ) (calls : List Call) : Type 0 where
-  pub drains : List Call
-  pub starts : List Call
-  pub drained : AreDrains wave drains
-  pub started : AreStarts wave starts
-  pub joined : calls ≡ drains ++ starts
+abbrev pub AreOfWave : List ℕ → List Call → Type 0
+AreOfWave wave calls = (drains starts : List Call) × AreOfEach Drains wave drains × AreOfEach Starts wave starts × (calls ≡ drains ++ starts)

@@ -4,7 +4,7 @@ use Rattle.rollover_watch.specs.declared.event.RollEvent.{RollEvent}
 use Rattle.rollover_watch.specs.declared.event.RollEvent.TheVariants as event
 use Rattle.rollover_watch.specs.Watches.{Held, AreTold, is_halt_asked}
 use Rattle.rollover_driver.specs.declared.driving.Rolled.{Rolled}
-use Rattle.rollover_driver.specs.Calls.{Call, event_of, AreDrains, AreStarts}
+use Rattle.rollover_driver.specs.Calls.{Call, event_of, AreOfWave}
 
 -- events were told to watches one after another, and whether one of these asked for a halt
 abbrev pub AreAllTold : List RollEvent → List Held → Bool → List Held → Type 0
@@ -12,33 +12,13 @@ AreAllTold [] old asked new = (asked ≡ false) × (new ≡ old)
 AreAllTold (first ∷ events) old asked new = (between : List Held) × (later : Bool) × AreTold first old between × AreAllTold events between later new
     × (asked ≡ (is_halt_asked first old || later))
 
--- Of so many waves some were begun, and these are behind them. As long as no halt was asked, the next begins: it is told, each of its leaves is
--- drained and told, and then each is started and told.
-pub data WavesGo : (total begun : ℕ) (waves : List (List ℕ)) (asked : Bool) (old : List Held) (calls : List Call) (rolled : Rolled) (new : List Held) → Type 0 where
-  none : (total begun : ℕ) (waves : List (List ℕ)) (asked : Bool) (old : List Held) (calls : List Call) (rolled : Rolled) (new : List Held)
-      → waves ≡ []
-      → calls ≡ []
-      → rolled ≡ record { waves = begun; halted = false }
-      → new ≡ old
-      → WavesGo total begun waves asked old calls rolled new
-  left : (total begun : ℕ) (waves : List (List ℕ)) (asked : Bool) (old : List Held) (calls : List Call) (rolled : Rolled) (new : List Held)
-      (first : List ℕ) (others : List (List ℕ))
-      → waves ≡ first ∷ others
-      → asked ≡ true
-      → calls ≡ []
-      → rolled ≡ record { waves = begun; halted = true }
-      → new ≡ old
-      → WavesGo total begun waves asked old calls rolled new
-  next : (total begun : ℕ) (waves : List (List ℕ)) (asked : Bool) (old : List Held) (calls : List Call) (rolled : Rolled) (new : List Held)
-      (first : List ℕ) (others : List (List ℕ)) (drains starts rest : List Call) (later : Bool) (between : List Held)
-      → waves ≡ first ∷ others
-      → asked ≡ false
-      → AreDrains first drains
-      → AreStarts first starts
-      → calls ≡ drains ++ (starts ++ rest)
-      → AreAllTold (event.Wave (begun + 1) total ∷ map event_of (drains ++ starts)) old later between
-      → WavesGo total (begun + 1) others later between rest rolled new
-      → WavesGo total begun waves asked old calls rolled new
+-- Of so many waves some were begun, and these are behind them. No call is left where there is none of them, and where a halt was asked before the next.
+-- Else it begins: it is told, each of its leaves is drained and told, and then each is started and told; and those behind it go on from there.
+abbrev pub WavesGo : (total begun : ℕ) (waves : List (List ℕ)) (asked : Bool) (old : List Held) (calls : List Call) (rolled : Rolled) (new : List Held) → Type 0
+WavesGo total begun [] asked old calls rolled new = (calls ≡ []) × (rolled ≡ record { waves = begun; halted = false }) × (new ≡ old)
+WavesGo total begun (wave ∷ waves) true old calls rolled new = (calls ≡ []) × (rolled ≡ record { waves = begun; halted = true }) × (new ≡ old)
+WavesGo total begun (wave ∷ waves) false old calls rolled new = (own rest : List Call) × (later : Bool) × (between : List Held) × AreOfWave wave own × (calls ≡ own ++ rest)
+    × AreAllTold (event.Wave (begun + 1) total ∷ map event_of own) old later between × WavesGo total (begun + 1) waves later between rest rolled new
 
 -- the events of a rollover: those of its waves, and at last that it ended
 pub record Drives (waves : List (List ℕ)) (old : List Held) (calls : List Call) (rolled : Rolled) (new : List Held) : Type 0 where

@@ -1,7 +1,7 @@
 // The waves of a rollover, one after another.
 ghost use Rattle.std.specs.Prelude.{◌≡◌, ◌<◌, ◌^◌, ℕ, List, [], ◌∷◌, length, map};
 ghost use Rattle.std.specs.List.{AllByRecursion};
-ghost use Rattle.rollover_driver.specs.Calls.{Call, AreDrains, AreStarts, AreOfWave};
+ghost use Rattle.rollover_driver.specs.Calls.{Call, Drains, Starts, AreOfEach, AreOfWave};
 ghost use Rattle.rollover_driver.specs.Drives.{Drives};
 ghost use Rattle.rollover_driver.specs.Done.{HasDone, HasRolled, wave_begins};
 
@@ -20,7 +20,7 @@ pub struct Rolled {
 #[tactic(auto, using(crate::proofs::Steps::one_drained))]
 fn drain<F: Fleet>(fleet: &mut F, leaf: u32, watches: &mut Vec<Box<dyn Watch>>) -> bool
     requires { F.has fleet.old leaf }
-    ensures { HasDone F.has F.stands (AreDrains (leaf ∷ [])) [] fleet.old (map (λ watch. held watch) watches.old.items) result fleet.new (map (λ watch. held watch) watches.new.items) }
+    ensures { HasDone F.has F.stands (AreOfEach Drains (leaf ∷ [])) [] fleet.old (map (λ watch. held watch) watches.old.items) result fleet.new (map (λ watch. held watch) watches.new.items) }
 {
     let got = fleet.drain(leaf);
     tell_all(watches, &RollEvent::Drain { leaf, got })
@@ -30,7 +30,7 @@ fn drain<F: Fleet>(fleet: &mut F, leaf: u32, watches: &mut Vec<Box<dyn Watch>>) 
 #[tactic(auto, using(crate::proofs::Steps::one_started))]
 fn start<F: Fleet>(fleet: &mut F, leaf: u32, watches: &mut Vec<Box<dyn Watch>>) -> bool
     requires { F.has fleet.old leaf }
-    ensures { HasDone F.has F.stands (AreStarts (leaf ∷ [])) [] fleet.old (map (λ watch. held watch) watches.old.items) result fleet.new (map (λ watch. held watch) watches.new.items) }
+    ensures { HasDone F.has F.stands (AreOfEach Starts (leaf ∷ [])) [] fleet.old (map (λ watch. held watch) watches.old.items) result fleet.new (map (λ watch. held watch) watches.new.items) }
 {
     let got = fleet.start(leaf);
     tell_all(watches, &RollEvent::Start { leaf, got })
@@ -39,7 +39,7 @@ fn start<F: Fleet>(fleet: &mut F, leaf: u32, watches: &mut Vec<Box<dyn Watch>>) 
 /// Drains each leaf in order and tells each. The answer is whether a halt was asked.
 fn drain_all<F: Fleet>(fleet: &mut F, leaves: &[u32], watches: &mut Vec<Box<dyn Watch>>) -> bool
     requires { AllByRecursion (λ leaf. F.has fleet.old leaf) leaves.now }
-    ensures { HasDone F.has F.stands (AreDrains leaves.now) [] fleet.old (map (λ watch. held watch) watches.old.items) result fleet.new (map (λ watch. held watch) watches.new.items) }
+    ensures { HasDone F.has F.stands (AreOfEach Drains leaves.now) [] fleet.old (map (λ watch. held watch) watches.old.items) result fleet.new (map (λ watch. held watch) watches.new.items) }
 {
     let mut asked = false;
     for leaf in leaves {
@@ -51,7 +51,7 @@ fn drain_all<F: Fleet>(fleet: &mut F, leaves: &[u32], watches: &mut Vec<Box<dyn 
 /// Starts each leaf in order and tells each. The answer is whether a halt was asked.
 fn start_all<F: Fleet>(fleet: &mut F, leaves: &[u32], watches: &mut Vec<Box<dyn Watch>>) -> bool
     requires { AllByRecursion (λ leaf. F.has fleet.old leaf) leaves.now }
-    ensures { HasDone F.has F.stands (AreStarts leaves.now) [] fleet.old (map (λ watch. held watch) watches.old.items) result fleet.new (map (λ watch. held watch) watches.new.items) }
+    ensures { HasDone F.has F.stands (AreOfEach Starts leaves.now) [] fleet.old (map (λ watch. held watch) watches.old.items) result fleet.new (map (λ watch. held watch) watches.new.items) }
 {
     let mut asked = false;
     for leaf in leaves {

@@ -1,41 +1,39 @@
 -- An event that is told to the watches of a list one by one.
 use Rattle.std.proofs.Common.{◌≡◌, ℕ, ◌+◌, ◌≤◌, ◌<◌, suc, Bool, true, false, ◌||◌, cond, List, [], ◌∷◌, ◌++◌, length, get_or, take, drop, map, filter, refl, sym, ap, ◌∙◌, subst, arith}
-use Rattle.std.specs.List.{list_any, remove}
+use Rattle.std.specs.List.{AllZip, list_any, remove}
 use Rattle.std.proofs.Math.ListN.{set}
 use Rattle.std.proofs.lemmas.List.{append-nil, append_assoc, length-set, length-map, length-append, length-take-le, length-drop, take_more_set, take_all, take_at, drop_all, drop_at, drop_more, drop-set-lt, take-set, map-set, take-map, drop-map}
 use Rattle.rollover_watch.specs.declared.event.RollEvent.{RollEvent}
 use Rattle.rollover_watch.specs.declared.event.Wish.TheVariants.{Stay, Leave, Halt}
-use Rattle.rollover_watch.specs.Watches.{Held, HasHeard, EachHasHeard, is_staying, stays, is_halting, halts}
+use Rattle.rollover_watch.specs.Watches.{Held, HasHeard, AreTold, is_staying, stays, is_halting, halts}
 
 -- the watches before a place were told; what those behind it come to completes the list
 pub record IsTelling (event : RollEvent) (all now : List Held) (place : ℕ) (halted : Bool) : Type 0 where
   pub within : place ≤ length now
-  pub left : (further : List Held) → EachHasHeard event (filter (stays event) (drop place now)) further → EachHasHeard event (filter (stays event) all) (take place now ++ further)
+  pub left : (further : List Held) → AreTold event (drop place now) further → AreTold event all (take place now ++ further)
   pub halts : list_any (halts event) all ≡ (halted || list_any (halts event) (drop place now))
 
 pub telling_begins : (event : RollEvent) (all : List Held) → IsTelling event all all 0 false
 telling_begins event all = record { within = omega arith; left = λ further h. h; halts = refl }
 
 pub telling_ends : (event : RollEvent) (all now : List Held) (place : ℕ) (halted : Bool) → IsTelling event all now place halted → length now ≤ place
-    → EachHasHeard event (filter (stays event) all) now × (halted ≡ list_any (halts event) all)
+    → AreTold event all now × (halted ≡ list_any (halts event) all)
 telling_ends event all now place halted t end =
     let none : drop place now ≡ [] = drop_all place now end in
-    let last : EachHasHeard event (filter (stays event) (drop place now)) [] = subst (λ ws. EachHasHeard event (filter (stays event) ws) []) (sym none) tt in
+    let last : AreTold event (drop place now) [] = subst (λ ws. AreTold event ws []) (sym none) tt in
     let whole : take place now ++ [] ≡ now = append-nil (take place now) ∙ take_all place now end in
-    (subst (λ ws. EachHasHeard event (filter (stays event) all) ws) whole (t.left [] last), sym (t.halts ∙ ap (λ ws. halted || list_any (halts event) ws) none ∙ or_false halted))
+    (subst (λ ws. AreTold event all ws) whole (t.left [] last), sym (t.halts ∙ ap (λ ws. halted || list_any (halts event) ws) none ∙ or_false halted))
   where
     or_false : (b : Bool) → (b || false) ≡ b
     or_false true = refl
     or_false false = refl
 
 -- the first watch of a list stays, or leaves
-kept : (event : RollEvent) (w : Held) (ws vs : List Held) (v : Held) → stays event w ≡ true → HasHeard event w v → EachHasHeard event (filter (stays event) ws) vs
-    → EachHasHeard event (filter (stays event) (w ∷ ws)) (v ∷ vs)
-kept event w ws vs v stay heard rest = subst (λ b. EachHasHeard event (cond b (w ∷ filter (stays event) ws) (filter (stays event) ws)) (v ∷ vs)) (sym stay) (heard, rest)
+kept : (event : RollEvent) (w : Held) (ws vs : List Held) (v : Held) → stays event w ≡ true → HasHeard event w v → AreTold event ws vs → AreTold event (w ∷ ws) (v ∷ vs)
+kept event w ws vs v stay heard rest = subst (λ b. AllZip (HasHeard event) (cond b (w ∷ filter (stays event) ws) (filter (stays event) ws)) (v ∷ vs)) (sym stay) (heard, rest)
 
-gone : (event : RollEvent) (w : Held) (ws vs : List Held) → stays event w ≡ false → EachHasHeard event (filter (stays event) ws) vs
-    → EachHasHeard event (filter (stays event) (w ∷ ws)) vs
-gone event w ws vs leave rest = subst (λ b. EachHasHeard event (cond b (w ∷ filter (stays event) ws) (filter (stays event) ws)) vs) (sym leave) rest
+gone : (event : RollEvent) (w : Held) (ws vs : List Held) → stays event w ≡ false → AreTold event ws vs → AreTold event (w ∷ ws) vs
+gone event w ws vs leave rest = subst (λ b. AllZip (HasHeard event) (cond b (w ∷ filter (stays event) ws) (filter (stays event) ws)) vs) (sym leave) rest
 
 -- whether one asked for a halt, among those told and the rest
 asked : (halted b : Bool) (rest : Bool) → (halted || (b || rest)) ≡ ((halted || b) || rest)
@@ -53,12 +51,12 @@ module _ (event : RollEvent) (all now : List Held) (place : ℕ) (halted : Bool)
     within = omega (arith, length-set now place v);
     left = λ further rest.
         let same : drop (place + 1) (set now place v) ≡ drop (place + 1) now = drop-set-lt (place + 1) now place v (omega arith) in
-        let behind : EachHasHeard event (filter (stays event) (drop (place + 1) now)) further = subst (λ ws. EachHasHeard event (filter (stays event) ws) further) same rest in
-        let here : EachHasHeard event (filter (stays event) (drop place now)) (v ∷ further) =
-        subst (λ ws. EachHasHeard event (filter (stays event) ws) (v ∷ further)) (sym first) (kept event w (drop (place + 1) now) further v stay heard behind) in
+        let behind : AreTold event (drop (place + 1) now) further = subst (λ ws. AreTold event ws further) same rest in
+        let here : AreTold event (drop place now) (v ∷ further) =
+        subst (λ ws. AreTold event ws (v ∷ further)) (sym first) (kept event w (drop (place + 1) now) further v stay heard behind) in
         let joined : take place now ++ (v ∷ further) ≡ take (place + 1) (set now place v) ++ further =
         sym (ap (λ ws. ws ++ further) (take_more_set now place v inside) ∙ append_assoc (take place now) (v ∷ []) further) in
-        subst (λ ws. EachHasHeard event (filter (stays event) all) ws) joined (t.left (v ∷ further) here);
+        subst (λ ws. AreTold event all ws) joined (t.left (v ∷ further) here);
     halts = ahead ∙ ap (λ ws. (halted || halts event w) || list_any (halts event) ws) (sym (drop-set-lt (place + 1) now place v (omega arith)));
   }
 
@@ -82,10 +80,10 @@ module _ (event : RollEvent) (all now : List Held) (place : ℕ) (halted : Bool)
   telling_leaves wish rest fewer before behind = record {
     within = omega arith;
     left = λ further h.
-        let here : EachHasHeard event (filter (stays event) (drop place now)) further =
-        subst (λ ws. EachHasHeard event (filter (stays event) ws) further) (sym first)
-        (gone event w (drop (place + 1) now) further (ap is_staying wish) (subst (λ ws. EachHasHeard event (filter (stays event) ws) further) behind h)) in
-        subst (λ ws. EachHasHeard event (filter (stays event) all) (ws ++ further)) (sym before) (t.left further here);
+        let here : AreTold event (drop place now) further =
+        subst (λ ws. AreTold event ws further) (sym first)
+        (gone event w (drop (place + 1) now) further (ap is_staying wish) (subst (λ ws. AreTold event ws further) behind h)) in
+        subst (λ ws. AreTold event all (ws ++ further)) (sym before) (t.left further here);
     halts = ahead ∙ ap (λ b. b || list_any (halts event) (drop (place + 1) now)) (ap (λ x. halted || is_halting x) wish ∙ or_false halted)
         ∙ ap (λ ws. halted || list_any (halts event) ws) (sym behind);
   }

@@ -1,6 +1,7 @@
 // What a rollover tells, and what a watch may wish.
-ghost use Rattle.std.specs.Prelude.{◌≡◌};
-ghost use Rattle.rollover_watch.specs.Watches.{is_done, is_drained, is_memory, is_adopted};
+ghost use Rattle.std.specs.Prelude.{◌≡◌, ℕ};
+ghost use Rattle.rollover_watch.specs.declared.event.RollEvent.TheVariants as event;
+ghost use Rattle.rollover_watch.specs.Watches.{is_drained, is_adopted};
 
 /// How the drain of a leaf ended.
 #[derive(Clone, Copy, Debug, PartialEq, Eq)]
@@ -13,7 +14,7 @@ pub enum Drained {
 
 impl Drained {
     pub fn is_done(self) -> bool
-        ensures { result ≡ is_done self }
+        ensures { (leaf : ℕ) → result ≡ is_drained (event.Drain leaf self) }
     {
         matches!(self, Drained::Done)
     }
@@ -31,7 +32,7 @@ pub enum Started {
 
 impl Started {
     pub fn is_memory(self) -> bool
-        ensures { result ≡ is_memory self }
+        ensures { (leaf : ℕ) → result ≡ is_adopted (event.Start leaf self) }
     {
         matches!(self, Started::Memory)
     }

@@ -17,7 +17,7 @@ loop-wave-preserved g c = record {
   count = search rules;
   rolling = rolling_more g.F.Fleet.has g.F.Fleet.stands c.args.waves.now c.args.fleet.now _ c.loop-wave.wave-index c.wave-item.result c.loop-wave.asked c.roll_wave-asked.result
       c.loop-wave.fleet _ _ _ c.loop-wave.invariant.rolling c.if-asked.false c.loop-wave-test.true c.wave-item.is
-      (same_number g.F.Fleet.has g.F.Fleet.stands c.args.waves.now c.args.fleet.now [] c.loop-wave.invariant.count refl c.roll_wave-asked.ensures);
+      (same_number g.F.Fleet.has g.F.Fleet.stands c.args.waves.now c.args.fleet.now [] c.wave-item.result c.loop-wave.invariant.count refl c.roll_wave-asked.ensures);
 }
 
 pub returns : goal.returns

@@ -1,11 +1,11 @@
 use Rattle.std.proofs.Common.{[], map, take}
-use Rattle.rollover_driver.specs.Calls.{AreStarts}
+use Rattle.rollover_driver.specs.Calls.{Starts, AreOfEach}
 use Rattle.rollover_driver.specs.Done.{HasDone}
 use Rattle.rollover_driver.proofs.driving.start_all.Given as goal
 
 abbrev pub invariant-loop-leaf : goal.invariant-loop-leaf
 invariant-loop-leaf g l =
-    HasDone g.F.Fleet.has g.F.Fleet.stands (AreStarts (take l.leaf-index l.leaves)) []
+    HasDone g.F.Fleet.has g.F.Fleet.stands (AreOfEach Starts (take l.leaf-index l.leaves)) []
     l.fn.fleet
     (map (λ b. (goal.Watch-dyn g (b.vtable, b.value)).held b.value) l.fn.watches.items)
     l.asked
