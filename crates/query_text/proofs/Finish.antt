@@ -1,7 +1,7 @@
 -- What was read can be finished.
 use Rattle.std.proofs.Common.{◌≡◌, ℕ, suc, zero, ◌+◌, ◌<◌, ◌≤◌, Bool, true, false, ◌||◌, List, [], ◌∷◌, length, Some, refl, ◌∙◌, pos, arith, nat_lt}
 use Rattle.std.specs.Prelude.{codes, slice_get}
-use Rattle.std.specs.List.{list_any}
+use Rattle.std.specs.List.{list_any, position_from}
 use Rattle.std.proofs.lemmas.Bool.{le-ltb, ltb-true, false≢true}
 use Rattle.leaf_model.specs.declared.rows.Value.TheVariants as value
 use Rattle.leaf_model.specs.declared.queries.Op.{Op}
@@ -15,8 +15,8 @@ use Rattle.query_text.specs.declared.places.Kind.{Kind}
 use Rattle.query_text.specs.declared.places.Kind.TheVariants as kind
 use Rattle.query_text.specs.declared.places.Place.{Place}
 use Rattle.query_text.specs.declared.places.Place.TheVariants.{Select, Item, NameEnd, Opening, Inside, Closing, AggEnd, NextAgg, Table, Where, LowTime, LowSign, LowBound, And, HighTime, HighSign, HighBound, CondEnd, CondName, CondOp, CondValue, By, GroupName, GroupEnd, OrderBy, OrderAgg, OrderOpening, OrderInside, OrderClosing, Ordered, LimitNumber, Last}
-use Rattle.query_text.specs.Roles.{kind_of, has_kind, is_orderable, same_agg, place_from, agg_inside}
-use Rattle.query_text.specs.Reading.{may_end, has_keys, with_agg, with_order, with_table, with_low, with_high, with_limit, with_cond}
+use Rattle.query_text.specs.Roles.{kind_of, has_kind, is_orderable, same_agg, agg_inside}
+use Rattle.query_text.specs.Reading.{may_end, has_keys, with_agg, with_cond}
 use Rattle.query_text.proofs.Plain.{reads}
 use Rattle.query_text.proofs.Found.{same_bytes}
 use Rattle.query_text.proofs.Inverse.{kind_word}
@@ -37,10 +37,10 @@ end_here q place h = record { more = []; r = q; read = rw h refl }
 -- ---- from the end backwards
 
 finish_limit : (q : Query) → Finish q LimitNumber
-finish_limit q = finish_with (token.Int (Some (pos 0))) q (with_limit q 0) LimitNumber Last (λ ts. refl) (end_here (with_limit q 0) Last refl)
+finish_limit q = finish_with (token.Int (Some (pos 0))) q (record q { limit = 0 }) LimitNumber Last (λ ts. refl) (end_here (record q { limit = 0 }) Last refl)
 
 finish_order_closing : (q : Query) (i : ℕ) → Finish q (OrderClosing i)
-finish_order_closing q i = finish_with token.Close q (with_order q i) (OrderClosing i) Ordered (λ ts. refl) (end_here (with_order q i) Ordered refl)
+finish_order_closing q i = finish_with token.Close q (record q { order = Some i }) (OrderClosing i) Ordered (λ ts. refl) (end_here (record q { order = Some i }) Ordered refl)
 
 same_agg_itself : (a : Agg) → same_agg a a ≡ true
 same_agg_itself agg.Count = refl
@@ -54,7 +54,7 @@ pub record Picked (p : Agg → Bool) (i : ℕ) (aggs : List Agg) : Type 0 where
   pub a : Agg
   pub passes : p a ≡ true
   pub at : ℕ
-  pub first : place_from i a aggs ≡ Some at
+  pub first : position_from (same_agg a) i aggs ≡ Some at
 
 pick_more : (p : Agg → Bool) (i : ℕ) (b : Agg) (aggs : List Agg) (t : Bool) (l : Picked p (i + 1) aggs) → same_agg l.a b ≡ t → Picked p i (b ∷ aggs)
 pick_more p i b aggs true l e = record { a = l.a; passes = l.passes; at = i; first = rw e refl }
@@ -193,7 +193,7 @@ finish_op : (q : Query) (name : List ℕ) → Finish q (CondOp name)
 finish_op q name = finish_with (token.Compare Eq) q q (CondOp name) (CondValue name Eq) (λ ts. refl) (finish_value q name Eq)
 
 finish_high : (q : Query) → Finish q HighBound
-finish_high q = finish_with (token.Int (Some (pos 0))) q (with_high q (pos 0)) HighBound CondEnd (λ ts. refl) (finish_conds (with_high q (pos 0)))
+finish_high q = finish_with (token.Int (Some (pos 0))) q (record q { to = pos 0 }) HighBound CondEnd (λ ts. refl) (finish_conds (record q { to = pos 0 }))
 
 finish_high_sign : (q : Query) → Finish q HighSign
 finish_high_sign q = finish_with (token.Compare Le) q q HighSign HighBound (λ ts. refl) (finish_high q)
@@ -205,7 +205,7 @@ finish_and : (q : Query) → Finish q And
 finish_and q = finish_with (token.Word (codes "AND")) q q And HighTime (λ ts. refl) (finish_high_time q)
 
 finish_low : (q : Query) → Finish q LowBound
-finish_low q = finish_with (token.Int (Some (pos 0))) q (with_low q (pos 0)) LowBound And (λ ts. refl) (finish_and (with_low q (pos 0)))
+finish_low q = finish_with (token.Int (Some (pos 0))) q (record q { from = pos 0 }) LowBound And (λ ts. refl) (finish_and (record q { from = pos 0 }))
 
 finish_low_sign : (q : Query) → Finish q LowSign
 finish_low_sign q = finish_with (token.Compare Ge) q q LowSign LowBound (λ ts. refl) (finish_low q)
@@ -217,7 +217,7 @@ finish_where : (q : Query) → Finish q Where
 finish_where q = finish_with (token.Word (codes "WHERE")) q q Where LowTime (λ ts. refl) (finish_low_time q)
 
 finish_table : (q : Query) → Finish q Table
-finish_table q = finish_with (token.Word (codes "t")) q (with_table q (codes "t")) Table Where (λ ts. refl) (finish_where (with_table q (codes "t")))
+finish_table q = finish_with (token.Word (codes "t")) q (record q { table = codes "t" }) Table Where (λ ts. refl) (finish_where (record q { table = codes "t" }))
 
 finish_agg_end : (q : Query) → Finish q AggEnd
 finish_agg_end q = finish_with (token.Word (codes "FROM")) q q AggEnd Table (λ ts. refl) (finish_table q)

@@ -1,7 +1,7 @@
 -- The tokens that spell a query are read as that query.
 use Rattle.std.proofs.Common.{◌≡◌, ℕ, suc, zero, ◌+◌, ◌<◌, ◌≤◌, Bool, true, false, ◌||◌, List, [], ◌∷◌, ◌++◌, length, Option, Some, None, if◌then◌else◌, refl, sym, ap, ◌∙◌, ℤ, arith, nat_lt}
 use Rattle.std.specs.Prelude.{codes, bytes_eq, slice_get, is_some}
-use Rattle.std.specs.List.{list_any}
+use Rattle.std.specs.List.{list_any, position_from}
 use Rattle.std.proofs.lemmas.Bool.{le-leb, lt-ltb, le-ltb, true≢false, false≢true}
 use Rattle.std.proofs.lemmas.Slice.Eq.{bytes_eq-Decides}
 use Rattle.std.proofs.lemmas.List.{append_assoc, append-nil, length-append}
@@ -20,8 +20,8 @@ use Rattle.query_text.specs.declared.places.Place.{Place}
 use Rattle.query_text.specs.declared.places.Place.TheVariants.{Select, Item, Opening, AggEnd, NextAgg, CondEnd, GroupEnd, OrderAgg, Ordered}
 use Rattle.query_text.specs.declared.places.Move.TheVariants.{On}
 use Rattle.leaf_model.specs.Names.{is_table_name}
-use Rattle.query_text.specs.Roles.{name_of, const_of, kind_of, is_keyword, has_kind, is_orderable, place_from, agg_inside}
-use Rattle.query_text.specs.Reading.{goes_on, may_end, order_or_limit, nothing_read, with_agg, with_order, with_table, with_low, with_high}
+use Rattle.query_text.specs.Roles.{name_of, const_of, kind_of, is_keyword, has_kind, is_orderable, same_agg, agg_inside}
+use Rattle.query_text.specs.Reading.{goes_on, may_end, order_or_limit, nothing_read, with_agg}
 use Rattle.query_text.specs.Printing.{ordering_agg}
 use Rattle.query_text.specs.Grammar.{Sign, Says, Spells, TheName, Exactly, keyword, int, IsOrder, IsSpelled, agg_signs, names_signs, more_aggs_signs, aggs_signs, range_signs, conds_signs, more_names_signs, group_signs, order_signs, limit_signs, const_sign}
 use Rattle.query_text.proofs.Plain.{reads, made, selected}
@@ -88,7 +88,7 @@ name_word w name h =
     let both = word_is_name w name (is_keyword w || nat_lt 255 (length w)) h in
     (or_false (is_keyword w) (nat_lt 255 (length w)) both.0, both.1)
 
-kinds_none : (s f w a g b o l c u m x v : Bool) → (s || (f || (w || (a || (g || (b || (o || (l || (c || (u || (m || (x || v)))))))))))) ≡ false
+kinds_none : (s f w a g b o l c u m x v : Bool) → (s || (f || (w || (a || (g || (b || (o || (l || (c || (u || (m || (x || (v || false))))))))))))) ≡ false
     → (if c then Some kind.Count else (if u then Some kind.Sum else (if m then Some kind.Min else (if x then Some kind.Max else (if v then Some kind.Avg else None))))) ≡ None
 kinds_none true f w a g b o l c u m x v h = absurd (true≢false h)
 kinds_none false true w a g b o l c u m x v h = absurd (true≢false h)
@@ -209,7 +209,7 @@ found_names r (name ∷ names) before further ts h next =
 
 found_range : (s r : Query) (table : List ℕ) (from to : ℤ) (further : List Sign) (ts : List Token) → is_table_name table ≡ true
     → Spells (range_signs table from to further) ts
-    → ((us : List Token) → Spells further us → reads (with_high (with_low (with_table s table) from) to) CondEnd us ≡ Some r) → reads s AggEnd ts ≡ Some r
+    → ((us : List Token) → Spells further us → reads (record s { table = table; from = from; to = to }) CondEnd us ≡ Some r) → reads s AggEnd ts ≡ Some r
 found_range s r table from to further ts fits h next =
     let last = keyword (codes "time") ∷ Exactly (token.Compare Le) ∷ int to ∷ further in
     let f = four (keyword (codes "FROM")) (keyword table) (keyword (codes "WHERE")) (keyword (codes "time")) (Exactly (token.Compare Ge) ∷ int from ∷ keyword (codes "AND") ∷ last) ts h in
@@ -307,17 +307,17 @@ any_at p (b ∷ aggs) (suc i) a there h = any_or (p b) (any_at p aggs i a there 
 
 found_order_call : (s r : Query) (i : ℕ) (word name : List ℕ) (k : Kind) (a : Agg) (further : List Sign) (ts : List Token)
     → kind_of (token.Word word) ≡ Some k → ((t : Token) → name_of t ≡ Some name → agg_inside k t ≡ Some a)
-    → slice_get s.aggs i ≡ Some a → has_kind k a ≡ true → place_from 0 a s.aggs ≡ Some i
+    → slice_get s.aggs i ≡ Some a → has_kind k a ≡ true → position_from (same_agg a) 0 s.aggs ≡ Some i
     → Spells (keyword word ∷ Exactly token.Open ∷ TheName name ∷ Exactly token.Close ∷ further) ts
-    → ((us : List Token) → Spells further us → reads (with_order s i) Ordered us ≡ Some r) → reads s OrderAgg ts ≡ Some r
+    → ((us : List Token) → Spells further us → reads (record s { order = Some i }) Ordered us ≡ Some r) → reads s OrderAgg ts ≡ Some r
 found_order_call s r i word name k a further ts kind inside there has first h next =
     let f = four (keyword word) (Exactly token.Open) (TheName name) (Exactly token.Close) further ts h in
     rw (f.is, f.says_a, kind, any_at (has_kind k) s.aggs i a there has, f.says_b, inside f.v f.says_c, first, f.says_d) (next f.us f.rest)
 
 found_order : (s r : Query) (i : ℕ) (a : Agg) (further : List Sign) (ts : List Token)
-    → slice_get s.aggs i ≡ Some a → is_orderable a ≡ true → place_from 0 a s.aggs ≡ Some i
+    → slice_get s.aggs i ≡ Some a → is_orderable a ≡ true → position_from (same_agg a) 0 s.aggs ≡ Some i
     → Spells (agg_signs a further) ts
-    → ((us : List Token) → Spells further us → reads (with_order s i) Ordered us ≡ Some r) → reads s OrderAgg ts ≡ Some r
+    → ((us : List Token) → Spells further us → reads (record s { order = Some i }) Ordered us ≡ Some r) → reads s OrderAgg ts ≡ Some r
 found_order s r i agg.Count further ts there fits first h next =
     let f = four (keyword (codes "COUNT")) (Exactly token.Open) (Exactly token.Star) (Exactly token.Close) further ts h in
     rw (f.is, f.says_a, any_at (has_kind kind.Count) s.aggs i agg.Count there refl, f.says_b, f.says_c, first, f.says_d) (next f.us f.rest)

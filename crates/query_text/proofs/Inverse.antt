@@ -1,6 +1,6 @@
 -- What a token is that the reading went on with.
 use Rattle.std.proofs.Common.{◌≡◌, ℕ, ◌≤◌, Bool, true, false, List, [], ◌∷◌, Option, Some, None, if◌then◌else◌, refl, sym, ap, ◌∙◌, pos, negsuc, ℤ, nat_le, subst}
-use Rattle.std.specs.Prelude.{codes, bytes_eq}
+use Rattle.std.specs.Prelude.{codes, bytes_eq, option_map}
 use Rattle.std.proofs.lemmas.Bool.{leb-true, true≢false, false≢true}
 use Rattle.std.proofs.lemmas.Slice.Eq.{bytes_eq-Decides}
 use Rattle.leaf_model.specs.declared.rows.Value.{Value}
@@ -15,11 +15,10 @@ use Rattle.query_text.specs.declared.tokens.Token.TheVariants as token
 use Rattle.query_text.specs.declared.places.Kind.{Kind}
 use Rattle.query_text.specs.declared.places.Kind.TheVariants as kind
 use Rattle.query_text.specs.declared.places.Place.{Place}
-use Rattle.query_text.specs.declared.places.Move.{Move}
 use Rattle.query_text.specs.declared.places.Move.TheVariants.{On, Stuck}
 use Rattle.leaf_model.specs.Names.{is_table_name}
-use Rattle.query_text.specs.Roles.{name_of, const_of, kind_of, op_of, int_of, limit_from, table_of, is_word, is_open, is_close, is_star, is_comma, same_agg, agg_inside, agg_named, agg_with}
-use Rattle.query_text.specs.Reading.{goes_on, may_end, on_if, sign_fits}
+use Rattle.query_text.specs.Roles.{name_of, const_of, kind_of, op_of, int_of, limit_from, table_of, is_word, is_mark, same_agg, agg_inside}
+use Rattle.query_text.specs.Reading.{goes_on, may_end, on_if, goes_with, sign_fits}
 use Rattle.query_text.specs.Grammar.{Sign, Says, Spells, agg_signs, const_sign}
 use Rattle.query_text.proofs.Plain.{reads, moved}
 use Rattle.query_text.proofs.Found.{some_same, None≢Some}
@@ -53,16 +52,16 @@ pub record Given {X : Type 0} (f : Token → Option X) (next : X → Query) (pla
   pub gives : f t ≡ Some x
   pub read : reads (next x) (place x) us ≡ Some r
 
-give_by : {X : Type 0} (f : Token → Option X) (go : Option X → Move) (next : X → Query) (place' : X → Place) (r : Query) (t : Token) (ts : List Token) (o : Option X) → f t ≡ o
-    → go None ≡ Stuck → ((x : X) → go (Some x) ≡ On (next x) (place' x)) → moved (go o) (λ q n. reads q n ts) ≡ Some r → Given f next place' r (t ∷ ts)
-give_by f go next place' r t ts None e none some h = absurd (None≢Some (rw none at h))
-give_by f go next place' r t ts (Some x) e none some h = record { t = t; us = ts; x = x; is = refl; gives = e; read = rw (some x) at h }
+give_by : {X : Type 0} (f : Token → Option X) (next : X → Query) (place' : X → Place) (r : Query) (t : Token) (ts : List Token) (o : Option X) → f t ≡ o
+    → moved (goes_with o (λ x. On (next x) (place' x)) Stuck) (λ q n. reads q n ts) ≡ Some r → Given f next place' r (t ∷ ts)
+give_by f next place' r t ts None e h = absurd (None≢Some h)
+give_by f next place' r t ts (Some x) e h = record { t = t; us = ts; x = x; is = refl; gives = e; read = h }
 
-pub give : {X : Type 0} (f : Token → Option X) (go : Option X → Move) (next : X → Query) (place' : X → Place) (s r : Query) (place : Place) (ts : List Token)
-    → may_end s place ≡ false → ((t : Token) → goes_on s place t ≡ go (f t)) → go None ≡ Stuck → ((x : X) → go (Some x) ≡ On (next x) (place' x))
+pub give : {X : Type 0} (f : Token → Option X) (next : X → Query) (place' : X → Place) (s r : Query) (place : Place) (ts : List Token)
+    → may_end s place ≡ false → ((t : Token) → goes_on s place t ≡ goes_with (f t) (λ x. On (next x) (place' x)) Stuck)
     → reads s place ts ≡ Some r → Given f next place' r ts
-give f go next place' s r place [] ends goes none some h = absurd (None≢Some (rw ends at h))
-give f go next place' s r place (t ∷ ts) ends goes none some h = give_by f go next place' r t ts (f t) refl none some (rw (goes t) at h)
+give f next place' s r place [] ends goes h = absurd (None≢Some (rw ends at h))
+give f next place' s r place (t ∷ ts) ends goes h = give_by f next place' r t ts (f t) refl (rw (goes t) at h)
 
 -- ---- which token passes a test
 
@@ -78,19 +77,19 @@ the_word w token.Star h = absurd (false≢true h)
 the_word w (token.Compare o) h = absurd (false≢true h)
 the_word w token.Stray h = absurd (false≢true h)
 
-pub the_open : (t : Token) → is_open t ≡ true → t ≡ token.Open
+pub the_open : (t : Token) → is_mark token.Open t ≡ true → t ≡ token.Open
 the_open token.Open h = refl
 the_open t h = absurd (false≢true h)
 
-pub the_close : (t : Token) → is_close t ≡ true → t ≡ token.Close
+pub the_close : (t : Token) → is_mark token.Close t ≡ true → t ≡ token.Close
 the_close token.Close h = refl
 the_close t h = absurd (false≢true h)
 
-pub the_star : (t : Token) → is_star t ≡ true → t ≡ token.Star
+pub the_star : (t : Token) → is_mark token.Star t ≡ true → t ≡ token.Star
 the_star token.Star h = refl
 the_star t h = absurd (false≢true h)
 
-pub the_comma : (t : Token) → is_comma t ≡ true → t ≡ token.Comma
+pub the_comma : (t : Token) → is_mark token.Comma t ≡ true → t ≡ token.Comma
 the_comma token.Comma h = refl
 the_comma t h = absurd (false≢true h)
 
@@ -197,27 +196,26 @@ the_kind token.Star k h = absurd (None≢Some h)
 the_kind (token.Compare o) k h = absurd (None≢Some h)
 the_kind token.Stray k h = absurd (None≢Some h)
 
-star_by : (b : Bool) (t : Token) (a : Agg) (S : List Sign) (us : List Token) → is_star t ≡ b → (if b then Some agg.Count else None) ≡ Some a → Spells S us
+star_by : (b : Bool) (t : Token) (a : Agg) (S : List Sign) (us : List Token) → is_mark token.Star t ≡ b → (if b then Some agg.Count else None) ≡ Some a → Spells S us
     → Spells (agg_signs a S) (token.Word (codes "COUNT") ∷ token.Open ∷ t ∷ token.Close ∷ us)
 star_by true t a S us e h k = subst (λ b. Spells (agg_signs b S) (token.Word (codes "COUNT") ∷ token.Open ∷ t ∷ token.Close ∷ us)) (some_same h) (refl, (refl, (the_star t e, (refl, k))))
 star_by false t a S us e h k = absurd (None≢Some h)
 
 named_by : (o : Option (List ℕ)) (make : List ℕ → Agg) (kind : Kind) (t : Token) (a : Agg) (S : List Sign) (us : List Token) → name_of t ≡ o
-    → ((name : List ℕ) → agg_with kind name ≡ Some (make name))
     → ((name : List ℕ) → name_of t ≡ Some name → Spells S us → Spells (agg_signs (make name) S) (token.Word (kind_word kind) ∷ token.Open ∷ t ∷ token.Close ∷ us))
-    → agg_named kind o ≡ Some a → Spells S us → Spells (agg_signs a S) (token.Word (kind_word kind) ∷ token.Open ∷ t ∷ token.Close ∷ us)
-named_by None make kind t a S us e makes spell h k = absurd (None≢Some h)
-named_by (Some name) make kind t a S us e makes spell h k =
-    subst (λ b. Spells (agg_signs b S) (token.Word (kind_word kind) ∷ token.Open ∷ t ∷ token.Close ∷ us)) (some_same (sym (makes name) ∙ h)) (spell name e k)
+    → option_map make o ≡ Some a → Spells S us → Spells (agg_signs a S) (token.Word (kind_word kind) ∷ token.Open ∷ t ∷ token.Close ∷ us)
+named_by None make kind t a S us e spell h k = absurd (None≢Some h)
+named_by (Some name) make kind t a S us e spell h k =
+    subst (λ b. Spells (agg_signs b S) (token.Word (kind_word kind) ∷ token.Open ∷ t ∷ token.Close ∷ us)) (some_same h) (spell name e k)
 
 -- what stands between the parentheses gives the aggregate
 pub inside_spells : (k : Kind) (t : Token) (a : Agg) (S : List Sign) (us : List Token) → agg_inside k t ≡ Some a → Spells S us
     → Spells (agg_signs a S) (token.Word (kind_word k) ∷ token.Open ∷ t ∷ token.Close ∷ us)
-inside_spells kind.Count t a S us h k = star_by (is_star t) t a S us refl h k
-inside_spells kind.Sum t a S us h k = named_by (name_of t) agg.Sum kind.Sum t a S us refl (λ n. refl) (λ n e g. (refl, (refl, (e, (refl, g))))) h k
-inside_spells kind.Min t a S us h k = named_by (name_of t) agg.Min kind.Min t a S us refl (λ n. refl) (λ n e g. (refl, (refl, (e, (refl, g))))) h k
-inside_spells kind.Max t a S us h k = named_by (name_of t) agg.Max kind.Max t a S us refl (λ n. refl) (λ n e g. (refl, (refl, (e, (refl, g))))) h k
-inside_spells kind.Avg t a S us h k = named_by (name_of t) agg.Avg kind.Avg t a S us refl (λ n. refl) (λ n e g. (refl, (refl, (e, (refl, g))))) h k
+inside_spells kind.Count t a S us h k = star_by (is_mark token.Star t) t a S us refl h k
+inside_spells kind.Sum t a S us h k = named_by (name_of t) agg.Sum kind.Sum t a S us refl (λ n e g. (refl, (refl, (e, (refl, g))))) h k
+inside_spells kind.Min t a S us h k = named_by (name_of t) agg.Min kind.Min t a S us refl (λ n e g. (refl, (refl, (e, (refl, g))))) h k
+inside_spells kind.Max t a S us h k = named_by (name_of t) agg.Max kind.Max t a S us refl (λ n e g. (refl, (refl, (e, (refl, g))))) h k
+inside_spells kind.Avg t a S us h k = named_by (name_of t) agg.Avg kind.Avg t a S us refl (λ n e g. (refl, (refl, (e, (refl, g))))) h k
 
 pub same_aggs : (a b : Agg) → same_agg a b ≡ true → a ≡ b
 same_aggs agg.Count agg.Count h = refl

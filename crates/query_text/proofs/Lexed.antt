@@ -179,7 +179,7 @@ pub record IsText (t : List ℕ) : Type 0 where
 
 pub lexed_text : (t next : List ℕ) → IsText t → stops next ≡ true → lexed 0 (in_quotes 39 t ++ next) ≡ token.Text t ∷ lexed 0 next
 lexed_text t next good end =
-    rw (quote_back 39 t next (omega arith) (omega arith) end, le-leb (length t) 65535 good.short, good.utf8)
+    rw (quote_back 39 t next (omega arith) (omega arith) end, le-leb 0 (length t) (omega arith), le-leb (length t) 65535 good.short, good.utf8)
     (ap (λ ts. token.Text t ∷ ts) (pass (flat_map (doubled 39) t ++ (39 ∷ [])) next))
 
 -- ---- names
@@ -208,7 +208,8 @@ lexed_plain (b ∷ bs) next h short end =
 
 lexed_quoted : (n next : List ℕ) → IsName n → stops next ≡ true → lexed 0 (in_quotes 34 n ++ next) ≡ token.Name n ∷ lexed 0 next
 lexed_quoted n next good end =
-    rw (quote_back 34 n next (omega arith) (omega arith) end, lt-ltb 0 (length n) good.some, le-leb (length n) 255 good.short, good.utf8)
+    let some = good.some in
+    rw (quote_back 34 n next (omega arith) (omega arith) end, le-leb 1 (length n) (omega (arith, some)), le-leb (length n) 255 good.short, good.utf8)
     (ap (λ ts. token.Name n ∷ ts) (pass (flat_map (doubled 34) n ++ (34 ∷ [])) next))
 
 name_by : (b : Bool) (n next : List ℕ) → is_plain n ≡ b → IsName n → stops next ≡ true → (t : Token) × ((name_of t ≡ Some n) × (lexed 0 ((if b then n else in_quotes 34 n) ++ next) ≡ t ∷ lexed 0 next))

@@ -1,12 +1,12 @@
 -- Values of digits, quotes byte by byte, and tokens behind a token.
-use Rattle.std.proofs.Common.{◌≡◌, ℕ, suc, zero, ◌+◌, ◌*◌, ◌-◌, ◌≤◌, ◌<◌, Bool, true, false, List, [], ◌∷◌, ◌++◌, length, drop, take, take_while, length-drop, cond, get_or, Some, None, refl, sym, ap, ◌∙◌, arith, append_assoc, add-one, drop-cons, nat_le, if◌then◌else◌}
-use Rattle.std.specs.Prelude.{Option, IsUtf8}
+use Rattle.std.proofs.Common.{◌≡◌, ℕ, suc, zero, ◌+◌, ◌*◌, ◌-◌, ◌≤◌, ◌<◌, Bool, true, false, List, [], ◌∷◌, length, drop, take, take_while, length-drop, cond, get_or, Some, None, refl, sym, ap, ◌∙◌, arith, add-one, drop-cons, nat_le, if◌then◌else◌}
+use Rattle.std.specs.Prelude.{IsUtf8}
 use Rattle.std.specs.Str.{is_utf8, IsAscii}
 use Rattle.std.proofs.lemmas.Str.{IsUtf8-from_is_utf8, IsUtf8-from_ascii}
 use Rattle.std.proofs.lemmas.List.Sums.{take_while-cons}
 use Rattle.std.proofs.lemmas.Bool.Decides.{nat_tests}
 use Rattle.query_text.specs.declared.tokens.Found.{Found}
-use Rattle.query_text.specs.Tokens.{value_from, Quote, behind, with_byte, with_end, tokens_from, token_with, is_blank, begins_word, goes_on_word}
+use Rattle.query_text.specs.Tokens.{value_from, tokens_from, token_with, is_blank, begins_word, goes_on_word}
 
 -- more digits make no less
 pub value_grows : (n : ℕ) (ds : List ℕ) → n ≤ value_from n ds

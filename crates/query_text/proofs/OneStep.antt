@@ -1,9 +1,9 @@
 -- What one token does to the reading of what is left.
-use Rattle.std.proofs.Common.{◌≡◌, ℕ, List, ◌∷◌, Err, sym, ap}
+use Rattle.std.proofs.Common.{◌≡◌, ℕ, List, ◌∷◌, sym, ap}
 use Rattle.leaf_model.specs.declared.queries.Query.{Query}
 use Rattle.query_text.specs.declared.tokens.Token.{Token}
 use Rattle.query_text.specs.declared.places.Place.{Place}
-use Rattle.query_text.specs.declared.places.Move.TheVariants.{On, Stuck}
+use Rattle.query_text.specs.declared.places.Move.TheVariants.{On}
 use Rattle.query_text.specs.Tokens.{Placed}
 use Rattle.query_text.specs.Reading.{read_from, goes_on, led, fault_of}
 

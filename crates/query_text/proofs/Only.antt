@@ -1,30 +1,24 @@
 -- What is read is spelled so.
-use Rattle.std.proofs.Common.{◌≡◌, ℕ, suc, zero, ◌+◌, ◌<◌, ◌≤◌, Bool, true, false, ◌&&◌, List, [], ◌∷◌, ◌++◌, length, Option, Some, None, if◌then◌else◌, refl, sym, ap, ◌∙◌, ℤ, arith, nat_lt}
-use Rattle.std.specs.Prelude.{codes, slice_get}
-use Rattle.std.specs.List.{list_any}
-use Rattle.std.proofs.lemmas.Bool.{lt-ltb, le-ltb, true≢false, false≢true, and_parts}
-use Rattle.std.proofs.lemmas.Slice.Eq.{bytes_eq-Decides}
+use Rattle.std.proofs.Common.{◌≡◌, ℕ, suc, zero, ◌<◌, ◌≤◌, Bool, true, false, List, [], ◌∷◌, ◌++◌, length, Option, Some, None, if◌then◌else◌, refl, ℤ, arith}
+use Rattle.std.specs.Prelude.{codes}
 use Rattle.std.proofs.lemmas.List.{append_assoc, append-nil}
 use Rattle.leaf_model.specs.declared.queries.Op.TheVariants.{Le, Ge}
 use Rattle.leaf_model.specs.declared.queries.Cond.{Cond}
 use Rattle.leaf_model.specs.declared.queries.Agg.{Agg}
-use Rattle.leaf_model.specs.declared.queries.Agg.TheVariants as agg
 use Rattle.leaf_model.specs.declared.queries.Query.{Query}
 use Rattle.query_text.specs.declared.tokens.Token.{Token}
 use Rattle.query_text.specs.declared.tokens.Token.TheVariants as token
 use Rattle.query_text.specs.declared.places.Kind.{Kind}
-use Rattle.query_text.specs.declared.places.Kind.TheVariants as kind
 use Rattle.query_text.specs.declared.places.Place.{Place}
-use Rattle.query_text.specs.declared.places.Place.TheVariants.{Select, Item, NameEnd, Opening, Inside, Closing, AggEnd, NextAgg, Table, Where, LowTime, LowSign, LowBound, And, HighTime, HighSign, HighBound, CondEnd, CondName, CondOp, CondValue, By, GroupName, GroupEnd, OrderBy, OrderAgg, OrderOpening, OrderInside, OrderClosing, Ordered, LimitNumber, Last}
+use Rattle.query_text.specs.declared.places.Place.TheVariants.{Select, Item, NameEnd, Opening, Inside, Closing, AggEnd, NextAgg, Table, Where, LowTime, LowSign, LowBound, And, HighTime, HighSign, HighBound, CondEnd}
 use Rattle.query_text.specs.declared.places.Move.TheVariants.{On, Stuck}
 use Rattle.leaf_model.specs.Names.{is_table_name}
-use Rattle.query_text.specs.Roles.{name_of, const_of, kind_of, op_of, int_of, limit_from, table_of, is_word, is_open, is_close, is_comma, has_kind, is_orderable, place_from, place_in, agg_inside, agg_named, same_agg, is_star}
-use Rattle.query_text.specs.Reading.{on_if, kind_goes_on, key_goes_on, agg_goes_on, table_goes_on, low_goes_on, high_goes_on, cond_goes_on, op_goes_on, const_goes_on, kind_goes_on_if, order_goes_on, limit_goes_on, sign_fits, is_key, nothing_read, with_agg, with_order, with_table, with_low, with_high, with_limit, with_cond}
-use Rattle.query_text.specs.Printing.{ordering_agg}
-use Rattle.query_text.specs.Grammar.{Sign, Says, Spells, TheName, Exactly, keyword, IsQuery, IsOrder, IsSpelled, agg_signs, names_signs, more_aggs_signs, aggs_signs, range_signs, conds_signs, more_names_signs, group_signs, order_signs, limit_signs, query_signs, const_sign}
+use Rattle.query_text.specs.Roles.{name_of, kind_of, op_of, int_of, table_of, is_word, is_mark, agg_inside}
+use Rattle.query_text.specs.Reading.{on_if, goes_with, sign_fits, nothing_read, with_key, with_agg}
+use Rattle.query_text.specs.Grammar.{Sign, Spells, TheName, Exactly, IsQuery, IsSpelled, agg_signs, names_signs, more_aggs_signs, aggs_signs, range_signs, conds_signs, group_signs, query_signs}
 use Rattle.query_text.proofs.Plain.{reads, moved, made, selected}
-use Rattle.query_text.proofs.Found.{some_same, None≢Some, seam, longer, next_length}
-use Rattle.query_text.proofs.Inverse.{on_if_in, step, give, the_word, the_open, the_close, the_comma, the_int, the_op, the_low, the_high, the_table, the_limit, the_const, kind_word, the_kind, inside_spells, same_aggs}
+use Rattle.query_text.proofs.Found.{None≢Some}
+use Rattle.query_text.proofs.Inverse.{on_if_in, step, give, the_word, the_open, the_close, the_comma, the_int, the_low, the_high, the_table, the_kind, inside_spells}
 use Rattle.query_text.proofs.OnlyTail.{one_less, called_spells, Tailed, extend, only_conds}
 
 -- ---- the table and the range
@@ -47,17 +41,17 @@ pub record Ranged (keys : List (List ℕ)) (aggs : List Agg) (r : Query) (ts : L
 only_range : (keys : List (List ℕ)) (aggs : List Agg) (r : Query) (ts : List Token) → reads (selected keys aggs) Table ts ≡ Some r → Ranged keys aggs r ts
 only_range keys aggs r ts h =
     let s0 = selected keys aggs in
-    let a = give table_of (table_goes_on s0) (with_table s0) (λ n. Where) s0 r Table ts refl (λ t. refl) refl (λ x. refl) h in
-    let s1 = with_table s0 a.x in
+    let a = give table_of (λ name. record s0 { table = name }) (λ name. Where) s0 r Table ts refl (λ t. refl) h in
+    let s1 = record s0 { table = a.x } in
     let b = step (is_word (codes "WHERE")) (token.Word (codes "WHERE")) (the_word (codes "WHERE")) s1 s1 r Where LowTime a.us refl (λ t. refl) a.read in
     let c = step (is_word (codes "time")) (token.Word (codes "time")) (the_word (codes "time")) s1 s1 r LowTime LowSign b.us refl (λ t. refl) b.read in
     let d = step (λ t. sign_fits true (op_of t)) (token.Compare Ge) the_low s1 s1 r LowSign LowBound c.us refl (λ t. refl) c.read in
-    let e = give int_of (low_goes_on s1) (with_low s1) (λ n. And) s1 r LowBound d.us refl (λ t. refl) refl (λ x. refl) d.read in
-    let s2 = with_low s1 e.x in
+    let e = give int_of (λ n. record s1 { from = n }) (λ n. And) s1 r LowBound d.us refl (λ t. refl) d.read in
+    let s2 = record s1 { from = e.x } in
     let f = step (is_word (codes "AND")) (token.Word (codes "AND")) (the_word (codes "AND")) s2 s2 r And HighTime e.us refl (λ t. refl) e.read in
     let g = step (is_word (codes "time")) (token.Word (codes "time")) (the_word (codes "time")) s2 s2 r HighTime HighSign f.us refl (λ t. refl) f.read in
     let i = step (λ t. sign_fits false (op_of t)) (token.Compare Le) the_high s2 s2 r HighSign HighBound g.us refl (λ t. refl) g.read in
-    let j = give int_of (high_goes_on s2) (with_high s2) (λ n. CondEnd) s2 r HighBound i.us refl (λ t. refl) refl (λ x. refl) i.read in
+    let j = give int_of (λ n. record s2 { to = n }) (λ n. CondEnd) s2 r HighBound i.us refl (λ t. refl) i.read in
     let the = the_table a.t a.x a.gives in
     let l = only_conds (length j.us) a.x e.x j.x [] keys aggs r j.us (omega arith) j.read in
     record {
@@ -83,9 +77,9 @@ pub record Called (s r : Query) (t : Token) (ts : List Token) : Type 0 where
 
 only_call : (s r : Query) (k : Kind) (t : Token) (ts : List Token) → kind_of t ≡ Some k → reads s (Opening k) ts ≡ Some r → Called s r t ts
 only_call s r k t ts is h =
-    let f = step is_open token.Open the_open s s r (Opening k) (Inside k) ts refl (λ t. refl) h in
-    let g = give (λ t. agg_inside k t) (agg_goes_on s) (λ a. s) (λ a. Closing a) s r (Inside k) f.us refl (λ t. refl) refl (λ a. refl) f.read in
-    let c = step is_close token.Close the_close s (with_agg s g.x) r (Closing g.x) AggEnd g.us refl (λ t. refl) g.read in
+    let f = step (is_mark token.Open) token.Open the_open s s r (Opening k) (Inside k) ts refl (λ t. refl) h in
+    let g = give (λ t. agg_inside k t) (λ a. s) (λ a. Closing a) s r (Inside k) f.us refl (λ t. refl) f.read in
+    let c = step (is_mark token.Close) token.Close the_close s (with_agg s g.x) r (Closing g.x) AggEnd g.us refl (λ t. refl) g.read in
     let lf = one_less f.is in
     let lg = one_less g.is in
     let lc = one_less c.is in
@@ -104,7 +98,7 @@ pub record Listed (keys : List (List ℕ)) (before : List Agg) (r : Query) (ts :
   pub read : reads (selected keys (before ++ aggs)) Table us ≡ Some r
   pub spells : (S : List Sign) → Spells S (token.Word (codes "FROM") ∷ us) → Spells (more_aggs_signs aggs S) ts
 
-kind_in : (s r : Query) (o : Option Kind) (f : Query → Place → Option Query) → moved (kind_goes_on s o Stuck) f ≡ Some r → (k : Kind) × ((o ≡ Some k) × (f s (Opening k) ≡ Some r))
+kind_in : (s r : Query) (o : Option Kind) (f : Query → Place → Option Query) → moved (goes_with o (λ kind. On s (Opening kind)) Stuck) f ≡ Some r → (k : Kind) × ((o ≡ Some k) × (f s (Opening k) ≡ Some r))
 kind_in s r None f h = absurd (None≢Some h)
 kind_in s r (Some k) f h = (k, (refl, h))
 
@@ -126,7 +120,7 @@ listed_more keys before a r us ts f l = record {
 comma_spells : (a : Agg) (S : List Sign) (t u : Token) (ts us vs : List Token) → t ≡ token.Comma → ts ≡ u ∷ us → Spells (agg_signs a S) (u ∷ us) → Spells (Exactly token.Comma ∷ agg_signs a S) (t ∷ ts)
 comma_spells a S t u ts us vs et es h = rw es (et, h)
 
-agg_end_by : (b : Bool) (keys : List (List ℕ)) (before : List Agg) (r : Query) (t : Token) (ts : List Token) → is_comma t ≡ b
+agg_end_by : (b : Bool) (keys : List (List ℕ)) (before : List Agg) (r : Query) (t : Token) (ts : List Token) → is_mark token.Comma t ≡ b
     → ((more : List Agg) (us : List Token) → length us < length ts → reads (selected keys more) AggEnd us ≡ Some r → Listed keys more r us)
     → moved (if b then On (selected keys before) NextAgg else on_if (is_word (codes "FROM") t) (selected keys before) Table) (λ q n. reads q n ts) ≡ Some r → Listed keys before r (t ∷ ts)
 agg_end_by true keys before r t ts e rec h =
@@ -144,7 +138,7 @@ only_aggs : (fuel : ℕ) (keys : List (List ℕ)) (before : List Agg) (r : Query
 only_aggs fuel keys before r [] short h = absurd (None≢Some h)
 only_aggs zero keys before r (t ∷ ts) short h = absurd (omega (arith, short))
 only_aggs (suc fuel) keys before r (t ∷ ts) short h =
-    agg_end_by (is_comma t) keys before r t ts refl (λ more us less k. only_aggs fuel keys more r us (omega (arith, short, less)) k) h
+    agg_end_by (is_mark token.Comma t) keys before r t ts refl (λ more us less k. only_aggs fuel keys more r us (omega (arith, short, less)) k) h
 
 -- the select list and what follows it
 pub record Selection (before : List (List ℕ)) (r : Query) (ts : List Token) : Type 0 where
@@ -184,17 +178,17 @@ item_spells name S t ts us e is h = rw is (e, (refl, h))
 
 item_of_name : (o : Option (List ℕ)) (before : List (List ℕ)) (r : Query) (t : Token) (ts : List Token) → name_of t ≡ o
     → ((more : List (List ℕ)) (us : List Token) → length us < length ts → reads (selected more []) Item us ≡ Some r → Selection more r us)
-    → moved (key_goes_on (selected before []) o) (λ q n. reads q n ts) ≡ Some r → Selection before r (t ∷ ts)
+    → moved (goes_with o (λ name. On (with_key (selected before []) name) NameEnd) Stuck) (λ q n. reads q n ts) ≡ Some r → Selection before r (t ∷ ts)
 item_of_name None before r t ts e rec h = absurd (None≢Some h)
 item_of_name (Some name) before r t ts e rec h =
     let s = selected (before ++ (name ∷ [])) [] in
-    let f = step is_comma token.Comma the_comma s s r NameEnd Item ts refl (λ t. refl) h in
+    let f = step (is_mark token.Comma) token.Comma the_comma s s r NameEnd Item ts refl (λ t. refl) h in
     let less = one_less f.is in
     select_more before name r (t ∷ ts) f.us (λ S k. item_spells name S t ts f.us e f.is k) (rec (before ++ (name ∷ [])) f.us (omega (arith, less)) f.read)
 
 item_by : (o : Option Kind) (before : List (List ℕ)) (r : Query) (t : Token) (ts : List Token) → kind_of t ≡ o
     → ((more : List (List ℕ)) (us : List Token) → length us < length ts → reads (selected more []) Item us ≡ Some r → Selection more r us)
-    → moved (kind_goes_on (selected before []) o (key_goes_on (selected before []) (name_of t))) (λ q n. reads q n ts) ≡ Some r → Selection before r (t ∷ ts)
+    → moved (goes_with o (λ kind. On (selected before []) (Opening kind)) (goes_with (name_of t) (λ name. On (with_key (selected before []) name) NameEnd) Stuck)) (λ q n. reads q n ts) ≡ Some r → Selection before r (t ∷ ts)
 item_by None before r t ts e rec h = item_of_name (name_of t) before r t ts refl rec h
 item_by (Some k) before r t ts e rec h = item_of_kind before r k t ts e h
 

@@ -1,11 +1,10 @@
 -- What is read behind the range of times is spelled so.
 use Rattle.std.proofs.Common.{◌≡◌, ℕ, suc, zero, ◌+◌, ◌<◌, ◌≤◌, Bool, true, false, ◌&&◌, List, [], ◌∷◌, ◌++◌, length, Option, Some, None, if◌then◌else◌, refl, sym, ap, ◌∙◌, ℤ, arith, nat_lt}
-use Rattle.std.specs.Prelude.{codes, slice_get}
-use Rattle.std.specs.List.{list_any}
+use Rattle.std.specs.Prelude.{codes, slice_get, option_map, option_and_then}
+use Rattle.std.specs.List.{list_any, position_from}
 use Rattle.std.proofs.lemmas.Bool.{lt-ltb, le-ltb, true≢false, false≢true, and_parts}
 use Rattle.std.proofs.lemmas.Slice.Eq.{bytes_eq-Decides}
 use Rattle.std.proofs.lemmas.List.{append_assoc, append-nil}
-use Rattle.leaf_model.specs.declared.queries.Op.TheVariants.{Le, Ge}
 use Rattle.leaf_model.specs.declared.queries.Cond.{Cond}
 use Rattle.leaf_model.specs.declared.queries.Agg.{Agg}
 use Rattle.leaf_model.specs.declared.queries.Agg.TheVariants as agg
@@ -15,16 +14,15 @@ use Rattle.query_text.specs.declared.tokens.Token.TheVariants as token
 use Rattle.query_text.specs.declared.places.Kind.{Kind}
 use Rattle.query_text.specs.declared.places.Kind.TheVariants as kind
 use Rattle.query_text.specs.declared.places.Place.{Place}
-use Rattle.query_text.specs.declared.places.Place.TheVariants.{Select, Item, NameEnd, Opening, Inside, Closing, AggEnd, NextAgg, Table, Where, LowTime, LowSign, LowBound, And, HighTime, HighSign, HighBound, CondEnd, CondName, CondOp, CondValue, By, GroupName, GroupEnd, OrderBy, OrderAgg, OrderOpening, OrderInside, OrderClosing, Ordered, LimitNumber, Last}
+use Rattle.query_text.specs.declared.places.Place.TheVariants.{CondEnd, CondName, CondOp, CondValue, By, GroupName, GroupEnd, OrderBy, OrderAgg, OrderOpening, OrderInside, OrderClosing, Ordered, LimitNumber, Last}
 use Rattle.query_text.specs.declared.places.Move.TheVariants.{On, Stuck}
-use Rattle.leaf_model.specs.Names.{is_table_name}
-use Rattle.query_text.specs.Roles.{name_of, const_of, kind_of, op_of, int_of, limit_from, table_of, is_word, is_open, is_close, is_comma, has_kind, is_orderable, place_from, place_in, agg_inside, agg_named, same_agg, is_star}
-use Rattle.query_text.specs.Reading.{on_if, kind_goes_on, key_goes_on, agg_goes_on, table_goes_on, low_goes_on, high_goes_on, cond_goes_on, op_goes_on, const_goes_on, kind_goes_on_if, order_goes_on, limit_goes_on, sign_fits, is_key, nothing_read, with_agg, with_order, with_table, with_low, with_high, with_limit, with_cond}
+use Rattle.query_text.specs.Roles.{name_of, const_of, kind_of, op_of, int_of, limit_from, is_word, is_mark, has_kind, is_orderable, agg_inside, same_agg}
+use Rattle.query_text.specs.Reading.{on_if, goes_with, is_key, with_cond}
 use Rattle.query_text.specs.Printing.{ordering_agg}
-use Rattle.query_text.specs.Grammar.{Sign, Says, Spells, TheName, Exactly, keyword, IsQuery, IsOrder, IsSpelled, agg_signs, names_signs, more_aggs_signs, aggs_signs, range_signs, conds_signs, more_names_signs, group_signs, order_signs, limit_signs, query_signs, const_sign}
-use Rattle.query_text.proofs.Plain.{reads, moved, made, selected}
+use Rattle.query_text.specs.Grammar.{Sign, Says, Spells, TheName, Exactly, keyword, IsOrder, agg_signs, conds_signs, more_names_signs, group_signs, order_signs, limit_signs, const_sign}
+use Rattle.query_text.proofs.Plain.{reads, moved, made}
 use Rattle.query_text.proofs.Found.{some_same, None≢Some, seam, longer, next_length}
-use Rattle.query_text.proofs.Inverse.{on_if_in, step, give, the_word, the_open, the_close, the_comma, the_int, the_op, the_low, the_high, the_table, the_limit, the_const, kind_word, the_kind, inside_spells, same_aggs}
+use Rattle.query_text.proofs.Inverse.{on_if_in, step, give, the_word, the_open, the_close, the_comma, the_op, the_limit, the_const, kind_word, the_kind, inside_spells, same_aggs}
 
 pub one_less : {x : Token} {ts us : List Token} → ts ≡ x ∷ us → length ts ≡ suc (length us)
 one_less is = ap length is
@@ -51,9 +49,9 @@ limited : (table : List ℕ) (from to : ℤ) (conds : List Cond) (keys : List (L
     → is_word (codes "LIMIT") t ≡ true → reads (made table from to conds keys aggs o 100000) LimitNumber ts ≡ Some r → Limited table from to conds keys aggs o r (t ∷ ts)
 limited table from to conds keys aggs o r t ts w h =
     let s = made table from to conds keys aggs o 100000 in
-    let g = give (λ t. limit_from (int_of t)) (limit_goes_on s) (with_limit s) (λ n. Last) s r LimitNumber ts refl (λ t. refl) refl (λ n. refl) h in
+    let g = give (λ t. limit_from (int_of t)) (λ n. record s { limit = n }) (λ n. Last) s r LimitNumber ts refl (λ t. refl) h in
     let number = the_limit g.t g.x g.gives in
-    let last = nothing_after (with_limit s g.x) r g.us g.read in
+    let last = nothing_after (record s { limit = g.x }) r g.us g.read in
     record {
       is_limited = true;
       n = g.x;
@@ -88,20 +86,20 @@ unordered : (table : List ℕ) (from to : ℤ) (conds : List Cond) (keys : List 
 unordered table from to conds keys aggs r ts l = record { o = None; order = tt; is_limited = l.is_limited; n = l.n; small = l.small; default = l.default; is = l.is; spelled = l.spelled }
 
 first_by : (t : Bool) (i k : ℕ) (a b : Agg) (aggs : List Agg) → same_agg a b ≡ t
-    → (place_from (i + 1) a aggs ≡ Some k → (j : ℕ) × ((k ≡ (i + 1) + j) × (slice_get aggs j ≡ Some a)))
-    → (if t then Some i else place_from (i + 1) a aggs) ≡ Some k → (j : ℕ) × ((k ≡ i + j) × (slice_get (b ∷ aggs) j ≡ Some a))
+    → (position_from (same_agg a) (i + 1) aggs ≡ Some k → (j : ℕ) × ((k ≡ (i + 1) + j) × (slice_get aggs j ≡ Some a)))
+    → (if t then Some i else position_from (same_agg a) (i + 1) aggs) ≡ Some k → (j : ℕ) × ((k ≡ i + j) × (slice_get (b ∷ aggs) j ≡ Some a))
 first_by true i k a b aggs e rec g = let same = some_same g in (0, (omega (arith, same), ap Some (sym (same_aggs a b e))))
 first_by false i k a b aggs e rec g = let more = rec g in (suc more.0, ((let same = more.1.0 in omega (arith, same)), more.1.1))
 
 -- the aggregate at the place of the first equal one
-first_is : (i k : ℕ) (a : Agg) (aggs : List Agg) → place_from i a aggs ≡ Some k → (j : ℕ) × ((k ≡ i + j) × (slice_get aggs j ≡ Some a))
+first_is : (i k : ℕ) (a : Agg) (aggs : List Agg) → position_from (same_agg a) i aggs ≡ Some k → (j : ℕ) × ((k ≡ i + j) × (slice_get aggs j ≡ Some a))
 first_is i k a [] h = absurd (None≢Some h)
 first_is i k a (b ∷ aggs) h = first_by (same_agg a b) i k a b aggs refl (λ g. first_is (i + 1) k a aggs g) h
 
 there_is : (aggs : List Agg) (k j : ℕ) (a : Agg) → k ≡ 0 + j → slice_get aggs j ≡ Some a → slice_get aggs k ≡ Some a
 there_is aggs k j a e h = let same : k ≡ j = omega (arith, e) in rw same h
 
-place_inside : (aggs : List Agg) (o : Option Agg) (i : ℕ) → place_in aggs o ≡ Some i → (a : Agg) × ((o ≡ Some a) × (place_from 0 a aggs ≡ Some i))
+place_inside : (aggs : List Agg) (o : Option Agg) (i : ℕ) → option_and_then (λ a. position_from (same_agg a) 0 aggs) o ≡ Some i → (a : Agg) × ((o ≡ Some a) × (position_from (same_agg a) 0 aggs ≡ Some i))
 place_inside aggs None i h = absurd (None≢Some h)
 place_inside aggs (Some a) i h = (a, (refl, h))
 
@@ -113,24 +111,20 @@ no_average (agg.Min n ∷ aggs) = no_average aggs
 no_average (agg.Max n ∷ aggs) = no_average aggs
 no_average (agg.Avg n ∷ aggs) = no_average aggs
 
-named_orderable : (o : Option (List ℕ)) (k : Kind) (aggs : List Agg) (a : Agg) → list_any (has_kind k) aggs ≡ true → agg_named k o ≡ Some a → is_orderable a ≡ true
-named_orderable None k aggs a any h = absurd (None≢Some h)
-named_orderable (Some name) kind.Count aggs a any h = absurd (None≢Some h)
-named_orderable (Some name) kind.Sum aggs a any h = ap is_orderable (sym (some_same h))
-named_orderable (Some name) kind.Min aggs a any h = ap is_orderable (sym (some_same h))
-named_orderable (Some name) kind.Max aggs a any h = ap is_orderable (sym (some_same h))
-named_orderable (Some name) kind.Avg aggs a any h = absurd (false≢true (sym (no_average aggs) ∙ any))
+named_orderable : (make : List ℕ → Agg) (o : Option (List ℕ)) (a : Agg) → ((name : List ℕ) → is_orderable (make name) ≡ true) → option_map make o ≡ Some a → is_orderable a ≡ true
+named_orderable make None a all h = absurd (None≢Some h)
+named_orderable make (Some name) a all h = ap is_orderable (sym (some_same h)) ∙ all name
 
 star_orderable : (b : Bool) (a : Agg) → (if b then Some agg.Count else None) ≡ Some a → is_orderable a ≡ true
 star_orderable true a h = ap is_orderable (sym (some_same h))
 star_orderable false a h = absurd (None≢Some h)
 
 orderable : (k : Kind) (t : Token) (aggs : List Agg) (a : Agg) → list_any (has_kind k) aggs ≡ true → agg_inside k t ≡ Some a → is_orderable a ≡ true
-orderable kind.Count t aggs a any h = star_orderable (is_star t) a h
-orderable kind.Sum t aggs a any h = named_orderable (name_of t) kind.Sum aggs a any h
-orderable kind.Min t aggs a any h = named_orderable (name_of t) kind.Min aggs a any h
-orderable kind.Max t aggs a any h = named_orderable (name_of t) kind.Max aggs a any h
-orderable kind.Avg t aggs a any h = named_orderable (name_of t) kind.Avg aggs a any h
+orderable kind.Count t aggs a any h = star_orderable (is_mark token.Star t) a h
+orderable kind.Sum t aggs a any h = named_orderable agg.Sum (name_of t) a (λ name. refl) h
+orderable kind.Min t aggs a any h = named_orderable agg.Min (name_of t) a (λ name. refl) h
+orderable kind.Max t aggs a any h = named_orderable agg.Max (name_of t) a (λ name. refl) h
+orderable kind.Avg t aggs a any h = absurd (false≢true (sym (no_average aggs) ∙ any))
 
 pub called_spells : (k : Kind) (a : Agg) (S : List Sign) (t x : Token) (ts fs gs cs : List Token) → t ≡ token.Word (kind_word k) → ts ≡ token.Open ∷ fs → fs ≡ x ∷ gs → gs ≡ token.Close ∷ cs
     → Spells (agg_signs a S) (token.Word (kind_word k) ∷ token.Open ∷ x ∷ token.Close ∷ cs) → Spells (agg_signs a S) (t ∷ ts)
@@ -145,9 +139,9 @@ only_order : (table : List ℕ) (from to : ℤ) (conds : List Cond) (keys : List
     → Tailed (λ S. S) table from to conds keys aggs r (token.Word (codes "ORDER") ∷ token.Word (codes "BY") ∷ t ∷ ts)
 only_order table from to conds keys aggs r k t ts is any h =
     let s = made table from to conds keys aggs None 100000 in
-    let f = step is_open token.Open the_open s s r (OrderOpening k) (OrderInside k) ts refl (λ t. refl) h in
-    let g = give (λ t. place_in aggs (agg_inside k t)) (order_goes_on s) (λ i. s) (λ i. OrderClosing i) s r (OrderInside k) f.us refl (λ t. refl) refl (λ i. refl) f.read in
-    let c = step is_close token.Close the_close s (with_order s g.x) r (OrderClosing g.x) Ordered g.us refl (λ t. refl) g.read in
+    let f = step (is_mark token.Open) token.Open the_open s s r (OrderOpening k) (OrderInside k) ts refl (λ t. refl) h in
+    let g = give (λ t. option_and_then (λ a. position_from (same_agg a) 0 aggs) (agg_inside k t)) (λ i. s) (λ i. OrderClosing i) s r (OrderInside k) f.us refl (λ t. refl) f.read in
+    let c = step (is_mark token.Close) token.Close the_close s (record s { order = Some g.x }) r (OrderClosing g.x) Ordered g.us refl (λ t. refl) g.read in
     let l = only_limit table from to conds keys aggs (Some g.x) r c.us c.read in
     let inside = place_inside aggs (agg_inside k g.t) g.x g.gives in
     let first = first_is 0 g.x inside.0 aggs inside.1.1 in
@@ -164,7 +158,7 @@ only_order table from to conds keys aggs r k t ts is any h =
       spelled = ordered_spells (slice_get aggs g.x) inside.0 (limit_signs l.is_limited l.n) (t ∷ ts) there (called_spells k inside.0 (limit_signs l.is_limited l.n) t g.t ts f.us g.us c.us (the_kind t k is) f.is g.is c.is spelled);
     }
 
-kind_if : (s r : Query) (o : Option Kind) (f : Query → Place → Option Query) → moved (kind_goes_on_if s o) f ≡ Some r
+kind_if : (s r : Query) (o : Option Kind) (f : Query → Place → Option Query) → moved (goes_with o (λ kind. on_if (list_any (has_kind kind) s.aggs) s (OrderOpening kind)) Stuck) f ≡ Some r
     → (k : Kind) × ((o ≡ Some k) × ((list_any (has_kind k) s.aggs ≡ true) × (f s (OrderOpening k) ≡ Some r)))
 kind_if s r None f h = absurd (None≢Some h)
 kind_if s r (Some k) f h = let both = on_if_in (list_any (has_kind k) s.aggs) s (OrderOpening k) f r h in (k, (refl, (both.0, both.1)))
@@ -240,7 +234,7 @@ only_more_names table from to conds (name ∷ names) before keys aggs r (t ∷ t
     let s = made table from to conds keys aggs None 100000 in
     let room : nat_lt (length before) (length keys) ≡ true = rw is (lt-ltb (length before) (length (before ++ (name ∷ names))) (longer before name names)) in
     let there : slice_get keys (length before) ≡ Some name = rw is (seam before name names) in
-    let both = on_if_in (is_comma t) s (GroupName (length before)) (λ q n. reads q n ts) r (rw room at h) in
+    let both = on_if_in (is_mark token.Comma t) s (GroupName (length before)) (λ q n. reads q n ts) r (rw room at h) in
     let g = group_name_in s r (length before) name ts there both.1 in
     let further = only_more_names table from to conds names (before ++ (name ∷ [])) keys aggs r g.us (is ∙ sym (append_assoc before (name ∷ []) names)) (rw (next_length before name) at g.read) in
     extend (more_names_signs names) (more_names_signs (name ∷ names)) table from to conds keys aggs r g.us (t ∷ ts)
@@ -298,9 +292,9 @@ cond_by : (b : Bool) (table : List ℕ) (from to : ℤ) (before : List Cond) (ke
 cond_by false table from to before keys aggs r t ts e rec h = unconditioned table from to before keys aggs r (t ∷ ts) (only_group table from to before keys aggs r t ts e h)
 cond_by true table from to before keys aggs r t ts e rec h =
     let s = made table from to before keys aggs None 100000 in
-    let n = give name_of (cond_goes_on s) (λ name. s) (λ name. CondOp name) s r CondName ts refl (λ t. refl) refl (λ x. refl) (rw e at h) in
-    let o = give op_of (op_goes_on s n.x) (λ op. s) (λ op. CondValue n.x op) s r (CondOp n.x) n.us refl (λ t. refl) refl (λ x. refl) n.read in
-    let v = give const_of (const_goes_on s n.x o.x) (λ v. with_cond s n.x o.x v) (λ v. CondEnd) s r (CondValue n.x o.x) o.us refl (λ t. refl) refl (λ x. refl) o.read in
+    let n = give name_of (λ name. s) (λ name. CondOp name) s r CondName ts refl (λ t. refl) (rw e at h) in
+    let o = give op_of (λ op. s) (λ op. CondValue n.x op) s r (CondOp n.x) n.us refl (λ t. refl) n.read in
+    let v = give const_of (λ v. with_cond s n.x o.x v) (λ v. CondEnd) s r (CondValue n.x o.x) o.us refl (λ t. refl) o.read in
     let ln = one_less n.is in
     let lo = one_less o.is in
     let lv = one_less v.is in

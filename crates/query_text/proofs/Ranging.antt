@@ -1,11 +1,10 @@
 -- How many tokens stand behind FROM at each place.
 use Rattle.std.proofs.Common.{◌≡◌, ℕ, suc, ◌+◌, ◌≤◌, Bool, true, false, ◌&&◌, ◌||◌, List, [], ◌∷◌, length, Option, Some, None, if◌then◌else◌, refl, ap, ◌∙◌, nat_lt, arith}
-use Rattle.std.specs.Prelude.{codes, slice_get, ℤ, bytes_eq}
-use Rattle.std.specs.List.{list_any}
+use Rattle.std.specs.Prelude.{codes, slice_get, bytes_eq, option_map, option_and_then}
+use Rattle.std.specs.List.{list_any, position_from}
 use Rattle.std.proofs.lemmas.Bool.{le-ltb, lt-ltb}
-use Rattle.leaf_model.specs.declared.rows.Value.{Value}
-use Rattle.leaf_model.specs.declared.queries.Op.{Op}
 use Rattle.leaf_model.specs.declared.queries.Agg.{Agg}
+use Rattle.leaf_model.specs.declared.queries.Agg.TheVariants as agg
 use Rattle.leaf_model.specs.declared.queries.Query.{Query}
 use Rattle.query_text.specs.declared.tokens.Token.{Token}
 use Rattle.query_text.specs.declared.tokens.Token.TheVariants as token
@@ -15,8 +14,8 @@ use Rattle.query_text.specs.declared.places.Place.{Place}
 use Rattle.query_text.specs.declared.places.Place.TheVariants.{Select, Item, NameEnd, Opening, Inside, Closing, AggEnd, NextAgg, Table, Where, LowTime, LowSign, LowBound, And, HighTime, HighSign, HighBound, CondEnd, CondName, CondOp, CondValue, By, GroupName, GroupEnd, OrderBy, OrderAgg, OrderOpening, OrderInside, OrderClosing, Ordered, LimitNumber, Last}
 use Rattle.query_text.specs.declared.places.Move.{Move}
 use Rattle.query_text.specs.declared.places.Move.TheVariants.{On, Stuck}
-use Rattle.query_text.specs.Roles.{name_of, const_of, kind_of, op_of, int_of, limit_from, table_of, is_word, is_open, is_close, is_comma, is_star, has_kind, is_orderable, place_in, agg_inside, agg_named}
-use Rattle.query_text.specs.Reading.{is_in_range, goes_on, on_if, order_or_limit, has_keys, kind_goes_on, key_goes_on, agg_goes_on, table_goes_on, low_goes_on, high_goes_on, cond_goes_on, op_goes_on, const_goes_on, kind_goes_on_if, order_goes_on, limit_goes_on, sign_fits, is_key, with_agg, with_order}
+use Rattle.query_text.specs.Roles.{name_of, const_of, kind_of, op_of, int_of, limit_from, table_of, is_word, is_mark, has_kind, is_orderable, agg_inside, same_agg}
+use Rattle.query_text.specs.Reading.{is_in_range, goes_on, on_if, order_or_limit, has_keys, goes_with, sign_fits, is_key, with_agg}
 use Rattle.query_text.specs.Grammar.{behind_from, is_ranging}
 use Rattle.query_text.proofs.Found.{None≢Some, name_word, or_false}
 use Rattle.query_text.proofs.Inverse.{the_word, the_open, the_close, the_star, the_comma, the_kind, kind_word}
@@ -145,68 +144,24 @@ name_other token.Star n h = refl
 name_other (token.Compare o) n h = refl
 name_other token.Stray n h = refl
 
-named_other : (k : Kind) (t : Token) (a : Agg) (o : Option (List ℕ)) → name_of t ≡ o → agg_named k o ≡ Some a → is_word (codes "FROM") t ≡ false
-named_other k t a None e h = absurd (None≢Some h)
-named_other k t a (Some n) e h = name_other t n e
+named_other : (make : List ℕ → Agg) (t : Token) (a : Agg) (o : Option (List ℕ)) → name_of t ≡ o → option_map make o ≡ Some a → is_word (codes "FROM") t ≡ false
+named_other make t a None e h = absurd (None≢Some h)
+named_other make t a (Some n) e h = name_other t n e
 
-star_by : (b : Bool) (t : Token) (x a : Agg) → is_star t ≡ b → (if b then Some x else None) ≡ Some a → is_word (codes "FROM") t ≡ false
+star_by : (b : Bool) (t : Token) (x a : Agg) → is_mark token.Star t ≡ b → (if b then Some x else None) ≡ Some a → is_word (codes "FROM") t ≡ false
 star_by true t x a e h = rw (the_star t e) refl
 star_by false t x a e h = absurd (None≢Some h)
 
 inside_other : (k : Kind) (t : Token) (a : Agg) → agg_inside k t ≡ Some a → is_word (codes "FROM") t ≡ false
-inside_other kind.Count t a h = star_by (is_star t) t _ a refl h
-inside_other kind.Sum t a h = named_other kind.Sum t a (name_of t) refl h
-inside_other kind.Min t a h = named_other kind.Min t a (name_of t) refl h
-inside_other kind.Max t a h = named_other kind.Max t a (name_of t) refl h
-inside_other kind.Avg t a h = named_other kind.Avg t a (name_of t) refl h
+inside_other kind.Count t a h = star_by (is_mark token.Star t) t _ a refl h
+inside_other kind.Sum t a h = named_other agg.Sum t a (name_of t) refl h
+inside_other kind.Min t a h = named_other agg.Min t a (name_of t) refl h
+inside_other kind.Max t a h = named_other agg.Max t a (name_of t) refl h
+inside_other kind.Avg t a h = named_other agg.Avg t a (name_of t) refl h
 
-key_at : (q : Query) (o : Option (List ℕ)) (d : Option ℕ) → ((n : List ℕ) → o ≡ Some n → d ≡ None) → IsAtMove (key_goes_on q o) d
-key_at q None d h = tt
-key_at q (Some n) d h = h n refl
-
-kind_at : (q : Query) (o : Option Kind) (m : Move) (d : Option ℕ) → ((k : Kind) → o ≡ Some k → d ≡ None) → IsAtMove m d → IsAtMove (kind_goes_on q o m) d
-kind_at q None m d h k = k
-kind_at q (Some k) m d h g = h k refl
-
-agg_at : (q : Query) (o : Option Agg) (d : Option ℕ) → ((a : Agg) → o ≡ Some a → d ≡ None) → IsAtMove (agg_goes_on q o) d
-agg_at q None d h = tt
-agg_at q (Some a) d h = h a refl
-
-table_at : (q : Query) (o : Option (List ℕ)) (d : Option ℕ) → d ≡ Some 1 → IsAtMove (table_goes_on q o) d
-table_at q None d h = tt
-table_at q (Some n) d h = h
-
-low_at : (q : Query) (o : Option ℤ) (d : Option ℕ) → d ≡ Some 5 → IsAtMove (low_goes_on q o) d
-low_at q None d h = tt
-low_at q (Some n) d h = h
-
-high_at : (q : Query) (o : Option ℤ) (d : Option ℕ) → IsLate d → IsAtMove (high_goes_on q o) d
-high_at q None d h = tt
-high_at q (Some n) d h = h
-
-cond_at : (q : Query) (o : Option (List ℕ)) (d : Option ℕ) → IsLate d → IsAtMove (cond_goes_on q o) d
-cond_at q None d h = tt
-cond_at q (Some n) d h = h
-
-op_at : (q : Query) (name : List ℕ) (o : Option Op) (d : Option ℕ) → IsLate d → IsAtMove (op_goes_on q name o) d
-op_at q name None d h = tt
-op_at q name (Some op) d h = h
-
-const_at : (q : Query) (name : List ℕ) (op : Op) (o : Option Value) (d : Option ℕ) → IsLate d → IsAtMove (const_goes_on q name op o) d
-const_at q name op None d h = tt
-const_at q name op (Some v) d h = h
-
-place_at : (q : Query) (o : Option ℕ) (d : Option ℕ) → IsLate d → IsAtMove (order_goes_on q o) d
-place_at q None d h = tt
-place_at q (Some i) d h = h
-
-limit_at : (q : Query) (o : Option ℕ) (d : Option ℕ) → IsLate d → IsAtMove (limit_goes_on q o) d
-limit_at q None d h = tt
-limit_at q (Some n) d h = h
-
-order_kind_at : (q : Query) (o : Option Kind) (d : Option ℕ) → IsLate d → IsAtMove (kind_goes_on_if q o) d
-order_kind_at q None d h = tt
-order_kind_at q (Some k) d h = on_at (list_any (has_kind k) q.aggs) q (OrderOpening k) d (λ e. h)
+with_at : {A : Type 0} (o : Option A) (f : A → Move) (other : Move) (d : Option ℕ) → ((x : A) → o ≡ Some x → IsAtMove (f x) d) → IsAtMove other d → IsAtMove (goes_with o f other) d
+with_at None f other d h k = k
+with_at (Some x) f other d h k = h x refl
 
 order_at : (q : Query) (t : Token) (d : Option ℕ) → IsLate d → IsAtMove (order_or_limit q t) d
 order_at q t d h =
@@ -219,42 +174,42 @@ from_next d t e h = rw (e, h) refl
 pub at_next : (q : Query) (place : Place) (t : Token) (d : Option ℕ) → IsAt place d → IsAtMove (goes_on q place t) (next_behind d t)
 at_next q Select t d h = on_at (is_word (codes "SELECT") t) q Item (next_behind d t) (λ e. none_next d t h (other_word (codes "SELECT") t e refl))
 at_next q Item t d h =
-    kind_at q (kind_of t) (key_goes_on q (name_of t)) (next_behind d t) (λ k e. none_next d t h (no_kind_word t k e))
-    (key_at q (name_of t) (next_behind d t) (λ n e. none_next d t h (name_other t n e)))
-at_next q NameEnd t d h = on_at (is_comma t) q Item (next_behind d t) (λ e. none_next d t h (rw (the_comma t e) refl))
-at_next q (Opening k) t d h = on_at (is_open t) q (Inside k) (next_behind d t) (λ e. none_next d t h (rw (the_open t e) refl))
-at_next q (Inside k) t d h = agg_at q (agg_inside k t) (next_behind d t) (λ a e. none_next d t h (inside_other k t a e))
-at_next q (Closing a) t d h = on_at (is_close t) (with_agg q a) AggEnd (next_behind d t) (λ e. none_next d t h (rw (the_close t e) refl))
+    with_at (kind_of t) _ _ (next_behind d t) (λ k e. none_next d t h (no_kind_word t k e))
+    (with_at (name_of t) _ _ (next_behind d t) (λ n e. none_next d t h (name_other t n e)) tt)
+at_next q NameEnd t d h = on_at (is_mark token.Comma t) q Item (next_behind d t) (λ e. none_next d t h (rw (the_comma t e) refl))
+at_next q (Opening k) t d h = on_at (is_mark token.Open t) q (Inside k) (next_behind d t) (λ e. none_next d t h (rw (the_open t e) refl))
+at_next q (Inside k) t d h = with_at (agg_inside k t) _ _ (next_behind d t) (λ a e. none_next d t h (inside_other k t a e)) tt
+at_next q (Closing a) t d h = on_at (is_mark token.Close t) (with_agg q a) AggEnd (next_behind d t) (λ e. none_next d t h (rw (the_close t e) refl))
 at_next q AggEnd t d h =
-    if_at (is_comma t) (On q NextAgg) (on_if (is_word (codes "FROM") t) q Table) (next_behind d t) (λ e. none_next d t h (rw (the_comma t e) refl))
+    if_at (is_mark token.Comma t) (On q NextAgg) (on_if (is_word (codes "FROM") t) q Table) (next_behind d t) (λ e. none_next d t h (rw (the_comma t e) refl))
     (λ e. on_at (is_word (codes "FROM") t) q Table (next_behind d t) (λ k. from_next d t h k))
-at_next q NextAgg t d h = kind_at q (kind_of t) Stuck (next_behind d t) (λ k e. none_next d t h (no_kind_word t k e)) tt
-at_next q Table t d h = table_at q (table_of t) (next_behind d t) (some_next 0 d t h)
+at_next q NextAgg t d h = with_at (kind_of t) _ _ (next_behind d t) (λ k e. none_next d t h (no_kind_word t k e)) tt
+at_next q Table t d h = with_at (table_of t) _ _ (next_behind d t) (λ n e. some_next 0 d t h) tt
 at_next q Where t d h = on_at (is_word (codes "WHERE") t) q LowTime (next_behind d t) (λ e. some_next 1 d t h)
 at_next q LowTime t d h = on_at (is_word (codes "time") t) q LowSign (next_behind d t) (λ e. some_next 2 d t h)
 at_next q LowSign t d h = on_at (sign_fits true (op_of t)) q LowBound (next_behind d t) (λ e. some_next 3 d t h)
-at_next q LowBound t d h = low_at q (int_of t) (next_behind d t) (some_next 4 d t h)
+at_next q LowBound t d h = with_at (int_of t) _ _ (next_behind d t) (λ n e. some_next 4 d t h) tt
 at_next q And t d h = on_at (is_word (codes "AND") t) q HighTime (next_behind d t) (λ e. some_next 5 d t h)
 at_next q HighTime t d h = on_at (is_word (codes "time") t) q HighSign (next_behind d t) (λ e. some_next 6 d t h)
 at_next q HighSign t d h = on_at (sign_fits false (op_of t)) q HighBound (next_behind d t) (λ e. some_next 7 d t h)
-at_next q HighBound t d h = high_at q (int_of t) (next_behind d t) (9, (some_next 8 d t h, omega arith))
+at_next q HighBound t d h = with_at (int_of t) _ _ (next_behind d t) (λ n e. (9, (some_next 8 d t h, omega arith))) tt
 at_next q CondEnd t d h =
     if_at (is_word (codes "AND") t) (On q CondName) (if has_keys q then on_if (is_word (codes "GROUP") t) q By else order_or_limit q t) (next_behind d t) (λ e. late_next d t h)
     (λ e. if_at (has_keys q) (on_if (is_word (codes "GROUP") t) q By) (order_or_limit q t) (next_behind d t)
     (λ some. on_at (is_word (codes "GROUP") t) q By (next_behind d t) (λ k. late_next d t h)) (λ none. order_at q t (next_behind d t) (late_next d t h)))
-at_next q CondName t d h = cond_at q (name_of t) (next_behind d t) (late_next d t h)
-at_next q (CondOp name) t d h = op_at q name (op_of t) (next_behind d t) (late_next d t h)
-at_next q (CondValue name op) t d h = const_at q name op (const_of t) (next_behind d t) (late_next d t h)
+at_next q CondName t d h = with_at (name_of t) _ _ (next_behind d t) (λ n e. late_next d t h) tt
+at_next q (CondOp name) t d h = with_at (op_of t) _ _ (next_behind d t) (λ o e. late_next d t h) tt
+at_next q (CondValue name op) t d h = with_at (const_of t) _ _ (next_behind d t) (λ v e. late_next d t h) tt
 at_next q By t d h = on_at (is_word (codes "BY") t) q (GroupName 0) (next_behind d t) (λ e. late_next d t h)
 at_next q (GroupName i) t d h = on_at (is_key (slice_get q.keys i) (name_of t)) q (GroupEnd (i + 1)) (next_behind d t) (λ e. late_next d t h)
 at_next q (GroupEnd i) t d h =
-    if_at (nat_lt i (length q.keys)) (on_if (is_comma t) q (GroupName i)) (order_or_limit q t) (next_behind d t)
-    (λ e. on_at (is_comma t) q (GroupName i) (next_behind d t) (λ k. late_next d t h)) (λ e. order_at q t (next_behind d t) (late_next d t h))
+    if_at (nat_lt i (length q.keys)) (on_if (is_mark token.Comma t) q (GroupName i)) (order_or_limit q t) (next_behind d t)
+    (λ e. on_at (is_mark token.Comma t) q (GroupName i) (next_behind d t) (λ k. late_next d t h)) (λ e. order_at q t (next_behind d t) (late_next d t h))
 at_next q OrderBy t d h = on_at (is_word (codes "BY") t) q OrderAgg (next_behind d t) (λ e. late_next d t h)
-at_next q OrderAgg t d h = order_kind_at q (kind_of t) (next_behind d t) (late_next d t h)
-at_next q (OrderOpening k) t d h = on_at (is_open t) q (OrderInside k) (next_behind d t) (λ e. late_next d t h)
-at_next q (OrderInside k) t d h = place_at q (place_in q.aggs (agg_inside k t)) (next_behind d t) (late_next d t h)
-at_next q (OrderClosing i) t d h = on_at (is_close t) (with_order q i) Ordered (next_behind d t) (λ e. late_next d t h)
+at_next q OrderAgg t d h = with_at (kind_of t) _ _ (next_behind d t) (λ k e. on_at (list_any (has_kind k) q.aggs) q (OrderOpening k) (next_behind d t) (λ some. late_next d t h)) tt
+at_next q (OrderOpening k) t d h = on_at (is_mark token.Open t) q (OrderInside k) (next_behind d t) (λ e. late_next d t h)
+at_next q (OrderInside k) t d h = with_at (option_and_then (λ a. position_from (same_agg a) 0 q.aggs) (agg_inside k t)) _ _ (next_behind d t) (λ i e. late_next d t h) tt
+at_next q (OrderClosing i) t d h = on_at (is_mark token.Close t) (record q { order = Some i }) Ordered (next_behind d t) (λ e. late_next d t h)
 at_next q Ordered t d h = on_at (is_word (codes "LIMIT") t) q LimitNumber (next_behind d t) (λ e. late_next d t h)
-at_next q LimitNumber t d h = limit_at q (limit_from (int_of t)) (next_behind d t) (late_next d t h)
+at_next q LimitNumber t d h = with_at (limit_from (int_of t)) _ _ (next_behind d t) (λ n e. late_next d t h) tt
 at_next q Last t d h = tt

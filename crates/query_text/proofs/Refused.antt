@@ -1,13 +1,10 @@
 -- Where a text is refused: what stands before begins some query, and with what stands there no query goes on.
 use Rattle.std.proofs.Common.{◌≡◌, ℕ, ◌+◌, Bool, true, false, ◌&&◌, List, [], ◌∷◌, ◌++◌, length, Option, Some, None, Result, Ok, Err, if◌then◌else◌, refl, sym, ap, ◌∙◌, nat_lt, pos}
-use Rattle.std.specs.Prelude.{codes, slice_get, ℤ}
-use Rattle.std.specs.List.{list_any}
+use Rattle.std.specs.Prelude.{codes, slice_get, ℤ, option_and_then}
+use Rattle.std.specs.List.{list_any, position_from}
 use Rattle.std.proofs.lemmas.Bool.{true≢false, false≢true}
 use Rattle.std.proofs.lemmas.List.{append_assoc, append-nil}
-use Rattle.leaf_model.specs.declared.rows.Value.{Value}
 use Rattle.leaf_model.specs.declared.rows.Value.TheVariants as value
-use Rattle.leaf_model.specs.declared.queries.Op.{Op}
-use Rattle.leaf_model.specs.declared.queries.Agg.{Agg}
 use Rattle.leaf_model.specs.declared.queries.Query.{Query}
 use Rattle.query_text.specs.declared.fault.QueryFault.{QueryFault}
 use Rattle.query_text.specs.declared.fault.QueryFault.TheVariants.{Syntax, NoTime, TooLarge}
@@ -20,8 +17,8 @@ use Rattle.query_text.specs.declared.places.Place.TheVariants.{Select, Item, Nam
 use Rattle.query_text.specs.declared.places.Move.{Move}
 use Rattle.query_text.specs.declared.places.Move.TheVariants.{On, Stuck}
 use Rattle.query_text.specs.Tokens.{Placed, tokens_of}
-use Rattle.query_text.specs.Roles.{name_of, const_of, kind_of, op_of, int_of, limit_from, table_of, is_word, is_open, is_close, is_comma, is_int, has_kind, is_orderable, place_in, agg_inside}
-use Rattle.query_text.specs.Reading.{read_from, query_of, nothing_read, led, fault_of, plain_fault, takes_int, is_in_range, goes_on, may_end, on_if, order_or_limit, has_keys, kind_goes_on, key_goes_on, agg_goes_on, table_goes_on, low_goes_on, high_goes_on, cond_goes_on, op_goes_on, const_goes_on, kind_goes_on_if, order_goes_on, limit_goes_on, sign_fits, is_key, with_agg, with_order, with_low, with_high, with_cond, with_limit}
+use Rattle.query_text.specs.Roles.{name_of, const_of, kind_of, op_of, int_of, limit_from, table_of, is_word, is_mark, is_int, has_kind, is_orderable, agg_inside, same_agg}
+use Rattle.query_text.specs.Reading.{read_from, query_of, nothing_read, led, fault_of, plain_fault, takes_int, is_in_range, goes_on, may_end, on_if, order_or_limit, has_keys, goes_with, sign_fits, is_key, with_agg, with_cond}
 use Rattle.query_text.specs.Grammar.{IsBegun, IsStuck, IsQueryRefused, IsSize, IsFault, next_offset, behind_from, is_ranging, plain_tokens}
 use Rattle.query_text.proofs.Plain.{reads, moved}
 use Rattle.query_text.proofs.Found.{found, None≢Some}
@@ -43,53 +40,9 @@ if_sound : (c : Bool) (x y : Move) → (c ≡ true → IsSoundMove x) → (c ≡
 if_sound true x y h k = h refl
 if_sound false x y h k = k refl
 
-key_sound : (q : Query) (o : Option (List ℕ)) → IsSoundMove (key_goes_on q o)
-key_sound q None = tt
-key_sound q (Some n) = tt
-
-kind_sound : (q : Query) (o : Option Kind) (m : Move) → IsSoundMove m → IsSoundMove (kind_goes_on q o m)
-kind_sound q None m h = h
-kind_sound q (Some k) m h = tt
-
-agg_sound : (q : Query) (o : Option Agg) → IsSoundMove (agg_goes_on q o)
-agg_sound q None = tt
-agg_sound q (Some a) = tt
-
-table_sound : (q : Query) (o : Option (List ℕ)) → IsSoundMove (table_goes_on q o)
-table_sound q None = tt
-table_sound q (Some n) = tt
-
-low_sound : (q : Query) (o : Option ℤ) → IsSoundMove (low_goes_on q o)
-low_sound q None = tt
-low_sound q (Some n) = tt
-
-high_sound : (q : Query) (o : Option ℤ) → IsSoundMove (high_goes_on q o)
-high_sound q None = tt
-high_sound q (Some n) = tt
-
-cond_sound : (q : Query) (o : Option (List ℕ)) → IsSoundMove (cond_goes_on q o)
-cond_sound q None = tt
-cond_sound q (Some n) = tt
-
-op_sound : (q : Query) (name : List ℕ) (o : Option Op) → IsSoundMove (op_goes_on q name o)
-op_sound q name None = tt
-op_sound q name (Some op) = tt
-
-const_sound : (q : Query) (name : List ℕ) (op : Op) (o : Option Value) → IsSoundMove (const_goes_on q name op o)
-const_sound q name op None = tt
-const_sound q name op (Some v) = tt
-
-place_sound : (q : Query) (o : Option ℕ) → IsSoundMove (order_goes_on q o)
-place_sound q None = tt
-place_sound q (Some i) = tt
-
-limit_sound : (q : Query) (o : Option ℕ) → IsSoundMove (limit_goes_on q o)
-limit_sound q None = tt
-limit_sound q (Some n) = tt
-
-order_kind_sound : (q : Query) (o : Option Kind) → IsSoundMove (kind_goes_on_if q o)
-order_kind_sound q None = tt
-order_kind_sound q (Some k) = on_sound (list_any (has_kind k) q.aggs) q (OrderOpening k) (λ e. e)
+with_sound : {A : Type 0} (o : Option A) (f : A → Move) (other : Move) → ((x : A) → IsSoundMove (f x)) → IsSoundMove other → IsSoundMove (goes_with o f other)
+with_sound None f other h k = k
+with_sound (Some x) f other h k = h x
 
 both_right : (x y : Bool) → (x && y) ≡ true → y ≡ true
 both_right true y h = h
@@ -102,39 +55,39 @@ order_sound q t =
 
 sound : (q : Query) (place : Place) (t : Token) → IsSound q place → IsSoundMove (goes_on q place t)
 sound q Select t h = on_sound (is_word (codes "SELECT") t) q Item (λ e. tt)
-sound q Item t h = kind_sound q (kind_of t) (key_goes_on q (name_of t)) (key_sound q (name_of t))
-sound q NameEnd t h = on_sound (is_comma t) q Item (λ e. tt)
-sound q (Opening k) t h = on_sound (is_open t) q (Inside k) (λ e. tt)
-sound q (Inside k) t h = agg_sound q (agg_inside k t)
-sound q (Closing a) t h = on_sound (is_close t) (with_agg q a) AggEnd (λ e. tt)
-sound q AggEnd t h = if_sound (is_comma t) (On q NextAgg) (on_if (is_word (codes "FROM") t) q Table) (λ e. tt) (λ e. on_sound (is_word (codes "FROM") t) q Table (λ k. tt))
-sound q NextAgg t h = kind_sound q (kind_of t) Stuck tt
-sound q Table t h = table_sound q (table_of t)
+sound q Item t h = with_sound (kind_of t) _ _ (λ k. tt) (with_sound (name_of t) _ _ (λ n. tt) tt)
+sound q NameEnd t h = on_sound (is_mark token.Comma t) q Item (λ e. tt)
+sound q (Opening k) t h = on_sound (is_mark token.Open t) q (Inside k) (λ e. tt)
+sound q (Inside k) t h = with_sound (agg_inside k t) _ _ (λ a. tt) tt
+sound q (Closing a) t h = on_sound (is_mark token.Close t) (with_agg q a) AggEnd (λ e. tt)
+sound q AggEnd t h = if_sound (is_mark token.Comma t) (On q NextAgg) (on_if (is_word (codes "FROM") t) q Table) (λ e. tt) (λ e. on_sound (is_word (codes "FROM") t) q Table (λ k. tt))
+sound q NextAgg t h = with_sound (kind_of t) _ _ (λ k. tt) tt
+sound q Table t h = with_sound (table_of t) _ _ (λ n. tt) tt
 sound q Where t h = on_sound (is_word (codes "WHERE") t) q LowTime (λ e. tt)
 sound q LowTime t h = on_sound (is_word (codes "time") t) q LowSign (λ e. tt)
 sound q LowSign t h = on_sound (sign_fits true (op_of t)) q LowBound (λ e. tt)
-sound q LowBound t h = low_sound q (int_of t)
+sound q LowBound t h = with_sound (int_of t) _ _ (λ n. tt) tt
 sound q And t h = on_sound (is_word (codes "AND") t) q HighTime (λ e. tt)
 sound q HighTime t h = on_sound (is_word (codes "time") t) q HighSign (λ e. tt)
 sound q HighSign t h = on_sound (sign_fits false (op_of t)) q HighBound (λ e. tt)
-sound q HighBound t h = high_sound q (int_of t)
+sound q HighBound t h = with_sound (int_of t) _ _ (λ n. tt) tt
 sound q CondEnd t h =
     if_sound (is_word (codes "AND") t) (On q CondName) (if has_keys q then on_if (is_word (codes "GROUP") t) q By else order_or_limit q t) (λ e. tt)
     (λ e. if_sound (has_keys q) (on_if (is_word (codes "GROUP") t) q By) (order_or_limit q t) (λ some. on_sound (is_word (codes "GROUP") t) q By (λ k. some)) (λ none. order_sound q t))
-sound q CondName t h = cond_sound q (name_of t)
-sound q (CondOp name) t h = op_sound q name (op_of t)
-sound q (CondValue name op) t h = const_sound q name op (const_of t)
+sound q CondName t h = with_sound (name_of t) _ _ (λ n. tt) tt
+sound q (CondOp name) t h = with_sound (op_of t) _ _ (λ o. tt) tt
+sound q (CondValue name op) t h = with_sound (const_of t) _ _ (λ v. tt) tt
 sound q By t h = on_sound (is_word (codes "BY") t) q (GroupName 0) (λ e. h)
 sound q (GroupName i) t h = on_sound (is_key (slice_get q.keys i) (name_of t)) q (GroupEnd (i + 1)) (λ e. tt)
 sound q (GroupEnd i) t h =
-    if_sound (nat_lt i (length q.keys)) (on_if (is_comma t) q (GroupName i)) (order_or_limit q t) (λ e. on_sound (is_comma t) q (GroupName i) (λ k. e)) (λ e. order_sound q t)
+    if_sound (nat_lt i (length q.keys)) (on_if (is_mark token.Comma t) q (GroupName i)) (order_or_limit q t) (λ e. on_sound (is_mark token.Comma t) q (GroupName i) (λ k. e)) (λ e. order_sound q t)
 sound q OrderBy t h = on_sound (is_word (codes "BY") t) q OrderAgg (λ e. h)
-sound q OrderAgg t h = order_kind_sound q (kind_of t)
-sound q (OrderOpening k) t h = on_sound (is_open t) q (OrderInside k) (λ e. h)
-sound q (OrderInside k) t h = place_sound q (place_in q.aggs (agg_inside k t))
-sound q (OrderClosing i) t h = on_sound (is_close t) (with_order q i) Ordered (λ e. tt)
+sound q OrderAgg t h = with_sound (kind_of t) _ _ (λ k. on_sound (list_any (has_kind k) q.aggs) q (OrderOpening k) (λ e. e)) tt
+sound q (OrderOpening k) t h = on_sound (is_mark token.Open t) q (OrderInside k) (λ e. h)
+sound q (OrderInside k) t h = with_sound (option_and_then (λ a. position_from (same_agg a) 0 q.aggs) (agg_inside k t)) _ _ (λ i. tt) tt
+sound q (OrderClosing i) t h = on_sound (is_mark token.Close t) (record q { order = Some i }) Ordered (λ e. tt)
 sound q Ordered t h = on_sound (is_word (codes "LIMIT") t) q LimitNumber (λ e. tt)
-sound q LimitNumber t h = limit_sound q (limit_from (int_of t))
+sound q LimitNumber t h = with_sound (limit_from (int_of t)) _ _ (λ n. tt) tt
 sound q Last t h = tt
 
 -- ---- the way to the fault
@@ -226,10 +179,10 @@ record IntTaken (q : Query) (place : Place) : Type 0 where
   holds : IsSound s next
 
 int_taken : (q : Query) (place : Place) → takes_int place ≡ true → IntTaken q place
-int_taken q LowBound h = record { s = with_low q (pos 0); next = And; goes = λ ts. refl; holds = tt }
-int_taken q HighBound h = record { s = with_high q (pos 0); next = CondEnd; goes = λ ts. refl; holds = tt }
+int_taken q LowBound h = record { s = record q { from = pos 0 }; next = And; goes = λ ts. refl; holds = tt }
+int_taken q HighBound h = record { s = record q { to = pos 0 }; next = CondEnd; goes = λ ts. refl; holds = tt }
 int_taken q (CondValue name op) h = record { s = with_cond q name op (value.Int (pos 0)); next = CondEnd; goes = λ ts. refl; holds = tt }
-int_taken q LimitNumber h = record { s = with_limit q 0; next = Last; goes = λ ts. refl; holds = tt }
+int_taken q LimitNumber h = record { s = record q { limit = 0 }; next = Last; goes = λ ts. refl; holds = tt }
 int_taken q place h = absurd (false≢true h)
 
 if_same : {A : Type 0} (b : Bool) (x : A) → (if b then x else x) ≡ x

@@ -17,7 +17,7 @@ use Rattle.leaf_model.specs.declared.queries.Query.{Query}
 use Rattle.query_text.specs.declared.tokens.Token.{Token}
 use Rattle.query_text.specs.declared.tokens.Token.TheVariants as token
 use Rattle.query_text.specs.declared.tokens.Found.{Found}
-use Rattle.query_text.specs.Tokens.{Quote, tokens_of, token_with, begins_word, goes_on_word, is_blank, quote_from, name_token, text_token, value_from, signed_value, number_token, minus_token, pair_token, mark_token, stray}
+use Rattle.query_text.specs.Tokens.{Quote, tokens_of, token_with, begins_word, goes_on_word, is_blank, quote_from, quoted_token, value_from, signed_value, number_token, minus_token, pair_token, mark_token, stray}
 use Rattle.query_text.specs.Roles.{name_of}
 use Rattle.query_text.specs.Reading.{query_of}
 use Rattle.query_text.specs.Printing.{printed, ordering_agg}
@@ -62,21 +62,21 @@ minus_valid : (digits : List ℕ) → IsToken (minus_token digits).token
 minus_valid [] = tt
 minus_valid (d ∷ digits) = signed_valid true (value_from 0 (d ∷ digits))
 
-name_valid : (q : Option Quote) → IsToken (name_token q).token
-name_valid None = tt
-name_valid (Some q) =
-    if_holds (λ (f : Found). IsToken f.token) (nat_lt 0 (length q.inside) && (nat_le (length q.inside) 255 && is_utf8 q.inside)) (record { token = token.Name q.inside; more = q.long }) stray
-    (λ e. (let first = and_parts (nat_lt 0 (length q.inside)) (nat_le (length q.inside) 255 && is_utf8 q.inside) e in
-    let rest = and_parts (nat_le (length q.inside) 255) (is_utf8 q.inside) first.1 in
-    record { some = ltb-true 0 (length q.inside) first.0; short = leb-true (length q.inside) 255 rest.0; utf8 = rest.1 }))
+quoted_valid : (make : List ℕ → Token) (least most : ℕ) → ((bs : List ℕ) → least ≤ length bs → length bs ≤ most → is_utf8 bs ≡ true → IsToken (make bs))
+    → (q : Option Quote) → IsToken (quoted_token make least most q).token
+quoted_valid make least most holds None = tt
+quoted_valid make least most holds (Some q) =
+    if_holds (λ (f : Found). IsToken f.token) (nat_le least (length q.inside) && (nat_le (length q.inside) most && is_utf8 q.inside)) (record { token = make q.inside; more = q.long }) stray
+    (λ e. (let first = and_parts (nat_le least (length q.inside)) (nat_le (length q.inside) most && is_utf8 q.inside) e in
+    let rest = and_parts (nat_le (length q.inside) most) (is_utf8 q.inside) first.1 in
+    holds q.inside (leb-true least (length q.inside) first.0) (leb-true (length q.inside) most rest.0) rest.1))
     (λ e. tt)
 
-text_valid : (q : Option Quote) → IsToken (text_token q).token
-text_valid None = tt
-text_valid (Some q) =
-    if_holds (λ (f : Found). IsToken f.token) (nat_le (length q.inside) 65535 && is_utf8 q.inside) (record { token = token.Text q.inside; more = q.long }) stray
-    (λ e. (let both = and_parts (nat_le (length q.inside) 65535) (is_utf8 q.inside) e in record { short = leb-true (length q.inside) 65535 both.0; utf8 = both.1 }))
-    (λ e. tt)
+name_valid : (q : Option Quote) → IsToken (quoted_token token.Name 1 255 q).token
+name_valid q = quoted_valid token.Name 1 255 (λ bs some short utf8. record { some = omega (arith, some); short = short; utf8 = utf8 }) q
+
+text_valid : (q : Option Quote) → IsToken (quoted_token token.Text 0 65535 q).token
+text_valid q = quoted_valid token.Text 0 65535 (λ bs some short utf8. record { short = short; utf8 = utf8 }) q
 
 pair_valid : (alone both : Token) (rest : List ℕ) → IsToken alone → IsToken both → IsToken (pair_token alone both rest).token
 pair_valid alone both [] h k = h
@@ -104,8 +104,8 @@ found_valid b rest =
     if_holds IsGood (begins_word b) (record { token = token.Word (b ∷ take_while goes_on_word rest); more = length (take_while goes_on_word rest) }) _ (λ e. word_valid b rest e) (λ e.
     if_holds IsGood (is_ascii_digit b) (number_token (b ∷ take_while is_ascii_digit rest) (take_while is_ascii_digit rest)) _ (λ e. signed_valid false (value_from 0 (b ∷ take_while is_ascii_digit rest))) (λ e.
     if_holds IsGood (b == 45) (minus_token (take_while is_ascii_digit rest)) _ (λ e. minus_valid (take_while is_ascii_digit rest)) (λ e.
-    if_holds IsGood (b == 34) (name_token (quote_from 34 false rest)) _ (λ e. name_valid (quote_from 34 false rest)) (λ e.
-    if_holds IsGood (b == 39) (text_token (quote_from 39 false rest)) (mark_token b rest) (λ e. text_valid (quote_from 39 false rest)) (λ e. mark_valid b rest)))))
+    if_holds IsGood (b == 34) (quoted_token token.Name 1 255 (quote_from 34 false rest)) _ (λ e. name_valid (quote_from 34 false rest)) (λ e.
+    if_holds IsGood (b == 39) (quoted_token token.Text 0 65535 (quote_from 39 false rest)) (mark_token b rest) (λ e. text_valid (quote_from 39 false rest)) (λ e. mark_valid b rest)))))
 
 all_valid : (passed : ℕ) (text : List ℕ) → AllByRecursion IsToken (lexed passed text)
 all_valid passed [] = tt

@@ -1,5 +1,6 @@
 -- The grammar: by what tokens a query is spelled, part by part. Each part is given with what follows it.
 use Rattle.std.specs.Prelude.{if◌then◌else◌, nat_lt, ◌&&◌, ◌≡◌, ◌≤◌, ◌<◌, ℕ, Bool, true, false, List, [], ◌∷◌, ◌++◌, length, map, ℤ, pos, Option, Some, None, codes, slice_get}
+use Rattle.std.specs.List.{position_from}
 use Rattle.leaf_model.specs.declared.rows.Value.{Value}
 use Rattle.leaf_model.specs.declared.rows.Value.TheVariants as value
 use Rattle.leaf_model.specs.declared.queries.Op.TheVariants.{Le, Ge}
@@ -13,7 +14,7 @@ use Rattle.query_text.specs.declared.fault.QueryFault.{QueryFault}
 use Rattle.query_text.specs.declared.fault.QueryFault.TheVariants.{Syntax, NoTime, TooLarge, NoMemory}
 use Rattle.query_text.specs.Tokens.{Placed, tokens_of}
 use Rattle.leaf_model.specs.Names.{is_table_name}
-use Rattle.query_text.specs.Roles.{name_of, is_word, is_int, is_orderable, place_from}
+use Rattle.query_text.specs.Roles.{name_of, is_word, is_int, is_orderable, same_agg}
 use Rattle.query_text.specs.Printing.{ordering_agg}
 
 -- ---- what is written at one place
@@ -120,7 +121,7 @@ query_signs is_limited q =
 -- the place of the first aggregate that is equal to one, which is no AVG
 abbrev pub IsOrder : Option ℕ → List Agg → Type 0
 IsOrder None aggs = Unit {0}
-IsOrder (Some i) aggs = (a : Agg) × ((slice_get aggs i ≡ Some a) × ((is_orderable a ≡ true) × (place_from 0 a aggs ≡ Some i)))
+IsOrder (Some i) aggs = (a : Agg) × ((slice_get aggs i ≡ Some a) × ((is_orderable a ≡ true) × (position_from (same_agg a) 0 aggs ≡ Some i)))
 
 -- a table's name, at least one aggregate, an order by one of them, and a limit
 pub record IsQuery (q : Query) : Type 0 where

@@ -1,5 +1,6 @@
 -- What a token may stand for: a keyword, a name, an aggregate's kind, a table, a comparison, a constant.
-use Rattle.std.specs.Prelude.{ℕ, ◌+◌, Bool, true, false, ◌&&◌, ◌||◌, List, [], ◌∷◌, length, ℤ, pos, Option, Some, None, if◌then◌else◌, nat_lt, nat_le, codes, bytes_eq}
+use Rattle.std.specs.Prelude.{ℕ, Bool, true, false, ◌||◌, List, [], ◌∷◌, length, map, ℤ, pos, Option, Some, None, option_map, if◌then◌else◌, nat_lt, nat_le, codes, bytes_eq}
+use Rattle.std.specs.List.{list_any}
 use Rattle.leaf_model.specs.declared.rows.Value.{Value}
 use Rattle.leaf_model.specs.declared.rows.Value.TheVariants as value
 use Rattle.leaf_model.specs.declared.queries.Op.{Op}
@@ -13,10 +14,7 @@ use Rattle.query_text.specs.declared.places.Kind.TheVariants.{Count, Sum, Min, M
 
 -- the words that no plain name may be
 abbrev pub is_keyword : List ℕ → Bool
-is_keyword w =
-    bytes_eq w (codes "SELECT") || (bytes_eq w (codes "FROM") || (bytes_eq w (codes "WHERE") || (bytes_eq w (codes "AND")
-    || (bytes_eq w (codes "GROUP") || (bytes_eq w (codes "BY") || (bytes_eq w (codes "ORDER") || (bytes_eq w (codes "LIMIT")
-    || (bytes_eq w (codes "COUNT") || (bytes_eq w (codes "SUM") || (bytes_eq w (codes "MIN") || (bytes_eq w (codes "MAX") || bytes_eq w (codes "AVG"))))))))))))
+is_keyword w = list_any (bytes_eq w) (map codes ("SELECT" ∷ "FROM" ∷ "WHERE" ∷ "AND" ∷ "GROUP" ∷ "BY" ∷ "ORDER" ∷ "LIMIT" ∷ "COUNT" ∷ "SUM" ∷ "MIN" ∷ "MAX" ∷ "AVG" ∷ []))
 
 -- that very word, which is not quoted
 abbrev pub is_word : List ℕ → Token → Bool
@@ -44,25 +42,13 @@ abbrev pub table_of : Token → Option (List ℕ)
 table_of (token.Word w) = if is_table_name w then Some w else None
 table_of other = None
 
--- `(`
-abbrev pub is_open : Token → Bool
-is_open token.Open = true
-is_open other = false
-
--- `)`
-abbrev pub is_close : Token → Bool
-is_close token.Close = true
-is_close other = false
-
--- `*`
-abbrev pub is_star : Token → Bool
-is_star token.Star = true
-is_star other = false
-
--- `,`
-abbrev pub is_comma : Token → Bool
-is_comma token.Comma = true
-is_comma other = false
+-- that very mark, which is `(`, `)`, `*` or `,`
+abbrev pub is_mark : Token → Token → Bool
+is_mark token.Open token.Open = true
+is_mark token.Close token.Close = true
+is_mark token.Star token.Star = true
+is_mark token.Comma token.Comma = true
+is_mark mark other = false
 
 -- an integer, whatever its size
 abbrev pub is_int : Token → Bool
@@ -92,23 +78,13 @@ limit_from other = None
 
 -- ---- aggregates
 
--- an aggregate of a name: COUNT has none
-abbrev pub agg_with : Kind → List ℕ → Option Agg
-agg_with Count name = None
-agg_with Sum name = Some (agg.Sum name)
-agg_with Min name = Some (agg.Min name)
-agg_with Max name = Some (agg.Max name)
-agg_with Avg name = Some (agg.Avg name)
-
--- an aggregate by what stands between its parentheses
-abbrev pub agg_named : Kind → Option (List ℕ) → Option Agg
-agg_named kind None = None
-agg_named kind (Some name) = agg_with kind name
-
--- COUNT takes `*`, and every other one a name
+-- an aggregate by what stands between its parentheses: COUNT takes `*`, and every other one a name
 abbrev pub agg_inside : Kind → Token → Option Agg
-agg_inside Count t = if is_star t then Some agg.Count else None
-agg_inside kind t = agg_named kind (name_of t)
+agg_inside Count t = if is_mark token.Star t then Some agg.Count else None
+agg_inside Sum t = option_map agg.Sum (name_of t)
+agg_inside Min t = option_map agg.Min (name_of t)
+agg_inside Max t = option_map agg.Max (name_of t)
+agg_inside Avg t = option_map agg.Avg (name_of t)
 
 -- of one kind and one name
 abbrev pub same_agg : Agg → Agg → Bool
@@ -118,16 +94,6 @@ same_agg (agg.Min a) (agg.Min b) = bytes_eq a b
 same_agg (agg.Max a) (agg.Max b) = bytes_eq a b
 same_agg (agg.Avg a) (agg.Avg b) = bytes_eq a b
 same_agg a b = false
-
--- the place of the first equal one, counted from an offset
-abbrev pub place_from : ℕ → Agg → List Agg → Option ℕ
-place_from i a [] = None
-place_from i a (b ∷ bs) = if same_agg a b then Some i else place_from (i + 1) a bs
-
--- the place of an aggregate, where one was read
-abbrev pub place_in : List Agg → Option Agg → Option ℕ
-place_in aggs None = None
-place_in aggs (Some a) = place_from 0 a aggs
 
 -- what ORDER BY takes: every kind but AVG
 abbrev pub has_kind : Kind → Agg → Bool

@@ -1,5 +1,5 @@
 -- The tokens of a text, each with the offset of its first byte.
-use Rattle.std.specs.Prelude.{ℕ, ◌^◌, suc, zero, ◌+◌, ◌*◌, ◌-◌, Bool, true, false, ◌&&◌, ◌||◌, List, [], ◌∷◌, ◌++◌, length, ℤ, pos, neg_ℤ, Option, Some, None, if◌then◌else◌, nat_lt, nat_le, take_while}
+use Rattle.std.specs.Prelude.{ℕ, ◌^◌, suc, zero, ◌+◌, ◌*◌, ◌-◌, Bool, true, false, ◌&&◌, ◌||◌, List, [], ◌∷◌, ◌++◌, length, ℤ, pos, neg_ℤ, Option, Some, None, option_map, if◌then◌else◌, nat_lt, nat_le, take_while}
 use Rattle.std.specs.Bool.{◌==◌}
 use Rattle.std.specs.Str.{is_utf8}
 use Rattle.std.specs.Char.{is_ascii_digit, is_ascii_alphabetic}
@@ -39,21 +39,15 @@ behind bs n None = None
 behind bs n (Some q) = Some (record { inside = bs ++ q.inside; long = n + q.long })
 
 -- one byte of the inside in front
-abbrev pub with_byte : ℕ → Option Quote → Option Quote
-with_byte b None = None
-with_byte b (Some q) = Some (record { inside = b ∷ q.inside; long = q.long + 1 })
-
--- the closing mark behind the inside
-abbrev pub with_end : Option Quote → Option Quote
-with_end None = None
-with_end (Some q) = Some (record { inside = q.inside; long = q.long + 1 })
+abbrev pub with_byte : ℕ → Quote → Quote
+with_byte b q = record { inside = b ∷ q.inside; long = q.long + 1 }
 
 -- behind an opening mark, where `marked` says that a mark was just read: another doubles it, and anything else ends the quote
 abbrev pub quote_from : ℕ → Bool → List ℕ → Option Quote
 quote_from mark false [] = None
 quote_from mark true [] = Some (record { inside = []; long = 0 })
-quote_from mark false (b ∷ rest) = if b == mark then with_end (quote_from mark true rest) else with_byte b (quote_from mark false rest)
-quote_from mark true (b ∷ rest) = if b == mark then with_byte mark (quote_from mark false rest) else Some (record { inside = []; long = 0 })
+quote_from mark false (b ∷ rest) = if b == mark then option_map (λ (q : Quote). record q { long = q.long + 1 }) (quote_from mark true rest) else option_map (with_byte b) (quote_from mark false rest)
+quote_from mark true (b ∷ rest) = if b == mark then option_map (with_byte mark) (quote_from mark false rest) else Some (record { inside = []; long = 0 })
 
 -- ---- one token: what it is, and how many bytes it takes behind its first
 
@@ -61,20 +55,12 @@ quote_from mark true (b ∷ rest) = if b == mark then with_byte mark (quote_from
 abbrev pub stray : Found
 stray = record { token = Stray; more = 0 }
 
--- a name has 1 to 255 bytes of UTF-8
-abbrev pub name_token : Option Quote → Found
-name_token None = stray
-name_token (Some q) =
-    if nat_lt 0 (length q.inside) && (nat_le (length q.inside) 255 && is_utf8 q.inside)
-    then record { token = Name q.inside; more = q.long }
-    else stray
-
--- a text has at most 65,535 bytes of UTF-8
-abbrev pub text_token : Option Quote → Found
-text_token None = stray
-text_token (Some q) =
-    if nat_le (length q.inside) 65535 && is_utf8 q.inside
-    then record { token = Text q.inside; more = q.long }
+-- the token of a quote, whose inside is UTF-8 of at least and at most so many bytes
+abbrev pub quoted_token : (List ℕ → Token) → ℕ → ℕ → Option Quote → Found
+quoted_token make least most None = stray
+quoted_token make least most (Some q) =
+    if nat_le least (length q.inside) && (nat_le (length q.inside) most && is_utf8 q.inside)
+    then record { token = make q.inside; more = q.long }
     else stray
 
 -- the value of digits behind others of that value
@@ -114,14 +100,14 @@ mark_token b rest =
     else (if b == 62 then pair_token (Compare op.Gt) (Compare op.Ge) rest
     else stray)))))))
 
--- the longest token that begins with b
+-- the longest token that begins with b: a name in quotes has 1 to 255 bytes, and a text at most 65,535
 abbrev pub token_with : ℕ → List ℕ → Found
 token_with b rest =
     if begins_word b then record { token = Word (b ∷ take_while goes_on_word rest); more = length (take_while goes_on_word rest) }
     else (if is_ascii_digit b then number_token (b ∷ take_while is_ascii_digit rest) (take_while is_ascii_digit rest)
     else (if b == 45 then minus_token (take_while is_ascii_digit rest)
-    else (if b == 34 then name_token (quote_from 34 false rest)
-    else (if b == 39 then text_token (quote_from 39 false rest)
+    else (if b == 34 then quoted_token Name 1 255 (quote_from 34 false rest)
+    else (if b == 39 then quoted_token Text 0 65535 (quote_from 39 false rest)
     else mark_token b rest))))
 
 -- ---- the tokens of a text

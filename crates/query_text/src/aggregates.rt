@@ -1,7 +1,8 @@
 // Aggregates: what may stand between their parentheses, and their places among the selected ones.
-ghost use Rattle.std.specs.Prelude.{◌≡◌, bytes_eq};
-ghost use Rattle.std.specs.List.{list_any};
-ghost use Rattle.query_text.specs.Roles.{name_of, agg_named, agg_with, agg_inside, same_agg, place_from, has_kind, is_orderable};
+ghost use Rattle.std.specs.Prelude.{◌≡◌, ℕ, List, option_and_then, bytes_eq};
+ghost use Rattle.std.specs.List.{list_any, position_from};
+ghost use Rattle.query_text.specs.declared.tokens.Token.TheVariants.{Name};
+ghost use Rattle.query_text.specs.Roles.{name_of, agg_inside, same_agg, has_kind, is_orderable};
 
 use crate::places::Kind;
 use crate::roles::{stars, take_name};
@@ -51,7 +52,7 @@ pub fn any_is_kind(kind: Kind, aggs: &[Agg]) -> bool
 }
 
 fn agg_of_name(kind: Kind, name: Text) -> Option<Agg>
-    ensures { result ≡ agg_with kind name }
+    ensures { result ≡ agg_inside kind (Name name) }
 {
     match kind {
         Kind::Count => None,
@@ -63,7 +64,7 @@ fn agg_of_name(kind: Kind, name: Text) -> Option<Agg>
 }
 
 fn take_named(kind: Kind, token: Token) -> Option<Agg>
-    ensures { result ≡ agg_named kind (name_of token) }
+    ensures { result ≡ option_and_then (λ (name : List ℕ). agg_inside kind (Name name)) (name_of token) }
 {
     match take_name(token) {
         None => None,
@@ -122,7 +123,7 @@ fn is_same_agg(a: &Agg, b: &Agg) -> bool
 
 /// The place of the first equal one.
 pub fn find_agg(agg: &Agg, aggs: &[Agg]) -> Option<u64>
-    ensures { result ≡ place_from 0 agg.now aggs.now }
+    ensures { result ≡ position_from (same_agg agg.now) 0 aggs.now }
 {
     let mut i: usize = 0;
     while i < aggs.len() {

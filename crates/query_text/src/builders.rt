@@ -1,6 +1,6 @@
 // What was read, with one part more.
-ghost use Rattle.std.specs.Prelude.{◌≡◌, IfOk};
-ghost use Rattle.query_text.specs.Reading.{nothing_read, with_key, with_agg, with_cond, with_table, with_low, with_high, with_order, with_limit};
+ghost use Rattle.std.specs.Prelude.{◌≡◌, Some, IfOk};
+ghost use Rattle.query_text.specs.Reading.{nothing_read, with_key, with_agg, with_cond};
 
 use leaf_model::{Agg, Aggs, Cond, Conds, Names, Query, Text};
 use std::alloc::{AllocError, Global};
@@ -58,25 +58,25 @@ pub fn push_cond(query: Query, cond: Cond) -> Result<Query, AllocError>
 }
 
 pub fn set_table(query: Query, table: Text) -> Query
-    ensures { result ≡ with_table query table }
+    ensures { result ≡ record query { table = table } }
 {
     Query { table, ..query }
 }
 
 pub fn set_low(query: Query, from: i64) -> Query
-    ensures { result ≡ with_low query from }
+    ensures { result ≡ record query { from = from } }
 {
     Query { from, ..query }
 }
 
 pub fn set_high(query: Query, to: i64) -> Query
-    ensures { result ≡ with_high query to }
+    ensures { result ≡ record query { to = to } }
 {
     Query { to, ..query }
 }
 
 pub fn set_order(query: Query, place: u64) -> Query
-    ensures { result ≡ with_order query place }
+    ensures { result ≡ record query { order = Some place } }
 {
     Query {
         order: Some(place),
@@ -85,7 +85,7 @@ pub fn set_order(query: Query, place: u64) -> Query
 }
 
 pub fn set_limit(query: Query, limit: u32) -> Query
-    ensures { result ≡ with_limit query limit }
+    ensures { result ≡ record query { limit = limit } }
 {
     Query { limit, ..query }
 }

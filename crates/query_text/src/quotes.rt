@@ -1,7 +1,8 @@
 // Names and texts in quotes.
 ghost use Rattle.std.specs.Prelude.{◌≡◌, ◌≤◌, ◌+◌, ◌∷◌, ℕ, List, IfOk, IfSome, Some, None, if◌then◌else◌, length, true, false};
 ghost use Rattle.std.specs.Str.{is_utf8};
-ghost use Rattle.query_text.specs.Tokens.{behind, quote_view, quote_from, name_token, text_token, stray};
+ghost use Rattle.query_text.specs.declared.tokens.Token.TheVariants as token;
+ghost use Rattle.query_text.specs.Tokens.{behind, quote_view, quote_from, quoted_token, stray};
 
 use crate::tokens::{Found, Token};
 use leaf_model::Text;
@@ -82,7 +83,7 @@ fn text_from(bytes: Vec<u8>) -> Option<Text>
 }
 
 fn name_found(quoted: Option<Quoted>) -> Found
-    ensures { result ≡ name_token (quote_view quoted) }
+    ensures { result ≡ quoted_token token.Name 1 255 (quote_view quoted) }
 {
     let Some(quoted) = quoted else {
         return stray_found();
@@ -100,7 +101,7 @@ fn name_found(quoted: Option<Quoted>) -> Found
 }
 
 fn text_found(quoted: Option<Quoted>) -> Found
-    ensures { result ≡ text_token (quote_view quoted) }
+    ensures { result ≡ quoted_token token.Text 0 65535 (quote_view quoted) }
 {
     let Some(quoted) = quoted else {
         return stray_found();
@@ -119,7 +120,7 @@ fn text_found(quoted: Option<Quoted>) -> Found
 
 /// The name in double quotes, of which the first was read.
 pub fn quoted_name(alloc: Global, rest: &[u8]) -> Result<Found, AllocError>
-    ensures value { IfOk result (λ found. found ≡ name_token (quote_from 34 false rest.now)) }
+    ensures value { IfOk result (λ found. found ≡ quoted_token token.Name 1 255 (quote_from 34 false rest.now)) }
     ensures long { IfOk result (λ found. found.more ≤ length rest.now) }
 {
     Ok(name_found(quote(alloc, b'"', rest)?))
@@ -127,7 +128,7 @@ pub fn quoted_name(alloc: Global, rest: &[u8]) -> Result<Found, AllocError>
 
 /// The text in single quotes, of which the first was read.
 pub fn quoted_text(alloc: Global, rest: &[u8]) -> Result<Found, AllocError>
-    ensures value { IfOk result (λ found. found ≡ text_token (quote_from 39 false rest.now)) }
+    ensures value { IfOk result (λ found. found ≡ quoted_token token.Text 0 65535 (quote_from 39 false rest.now)) }
     ensures long { IfOk result (λ found. found.more ≤ length rest.now) }
 {
     Ok(text_found(quote(alloc, b'\'', rest)?))

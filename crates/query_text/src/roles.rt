@@ -1,7 +1,7 @@
 // What a token may stand for.
 ghost use Rattle.std.specs.Prelude.{◌≡◌};
-ghost use Rattle.query_text.specs.declared.tokens.Token.TheVariants as token;
-ghost use Rattle.query_text.specs.Roles.{is_keyword, is_word, name_of, kind_of, table_of, is_open, is_close, is_star, is_comma, is_int, op_of, int_of, const_of, limit_from};
+ghost use Rattle.query_text.specs.declared.tokens.Token.TheVariants.{Word, Open, Close, Star, Comma};
+ghost use Rattle.query_text.specs.Roles.{is_keyword, is_word, name_of, kind_of, table_of, is_mark, is_int, op_of, int_of, const_of, limit_from};
 
 use crate::places::Kind;
 use crate::tokens::Token;
@@ -75,7 +75,7 @@ pub fn take_name(token: Token) -> Option<Text>
 }
 
 fn kind_named(word: &str) -> Option<Kind>
-    ensures { result ≡ kind_of (token.Word word.now) }
+    ensures { result ≡ kind_of (Word word.now) }
 {
     if word == "COUNT" {
         Some(Kind::Count)
@@ -135,25 +135,25 @@ pub fn take_table(token: Token) -> Option<Text>
 }
 
 pub fn opens(token: &Token) -> bool
-    ensures { result ≡ is_open token.now }
+    ensures { result ≡ is_mark Open token.now }
 {
     matches!(token, Token::Open)
 }
 
 pub fn closes(token: &Token) -> bool
-    ensures { result ≡ is_close token.now }
+    ensures { result ≡ is_mark Close token.now }
 {
     matches!(token, Token::Close)
 }
 
 pub fn stars(token: &Token) -> bool
-    ensures { result ≡ is_star token.now }
+    ensures { result ≡ is_mark Star token.now }
 {
     matches!(token, Token::Star)
 }
 
 pub fn is_the_comma(token: &Token) -> bool
-    ensures { result ≡ is_comma token.now }
+    ensures { result ≡ is_mark Comma token.now }
 {
     matches!(token, Token::Comma)
 }

@@ -1,8 +1,8 @@
 // What a token does where it stands.
 ghost use Rattle.std.specs.Prelude.{◌≡◌, IfOk, slice_get};
-ghost use Rattle.query_text.specs.Roles.{agg_inside, place_in, name_of, op_of, int_of, const_of, limit_from, kind_of};
-ghost use Rattle.query_text.specs.Reading.{goes_on, has_keys, sign_fits, on_if, agg_goes_on, low_goes_on, high_goes_on, cond_goes_on, op_goes_on, const_goes_on, is_key, order_goes_on, limit_goes_on, order_or_limit, kind_goes_on_if};
-ghost use Rattle.query_text.specs.declared.places.Place.TheVariants.{Item, NextAgg, Closing, AggEnd, Table, CondEnd, GroupEnd, GroupName, OrderClosing};
+ghost use Rattle.query_text.specs.Roles.{name_of};
+ghost use Rattle.query_text.specs.Reading.{goes_on, has_keys, sign_fits, on_if, is_key, order_or_limit};
+ghost use Rattle.query_text.specs.declared.places.Place.TheVariants.{Item, Inside, Closing, AggEnd, NextAgg, Table, LowBound, HighBound, CondEnd, CondName, CondOp, CondValue, GroupName, GroupEnd, OrderAgg, OrderInside, OrderClosing, LimitNumber};
 
 use crate::aggregates::{any_is_kind, any_takes_order, find_agg, is_same_text, take_inside};
 use crate::builders::{
@@ -39,7 +39,7 @@ fn order_here(query: Query, token: &Token) -> Move
 
 /// The place of the aggregate in ORDER BY.
 fn order_inside(query: Query, kind: Kind, token: Token) -> Move
-    ensures { result ≡ order_goes_on query (place_in query.aggs (agg_inside kind token)) }
+    ensures { result ≡ goes_on query (OrderInside kind) token }
 {
     match take_inside(kind, token) {
         None => Move::Stuck,
@@ -72,7 +72,7 @@ fn next_agg(query: Query, token: &Token) -> Move
 }
 
 fn inside(query: Query, kind: Kind, token: Token) -> Move
-    ensures { result ≡ agg_goes_on query (agg_inside kind token) }
+    ensures { result ≡ goes_on query (Inside kind) token }
 {
     match take_inside(kind, token) {
         None => Move::Stuck,
@@ -121,7 +121,7 @@ fn is_sign(op: Option<Op>, is_low: bool) -> bool
 }
 
 fn low_bound(query: Query, token: &Token) -> Move
-    ensures { result ≡ low_goes_on query (int_of token.now) }
+    ensures { result ≡ goes_on query LowBound token.now }
 {
     match number_in(token) {
         None => Move::Stuck,
@@ -130,7 +130,7 @@ fn low_bound(query: Query, token: &Token) -> Move
 }
 
 fn high_bound(query: Query, token: &Token) -> Move
-    ensures { result ≡ high_goes_on query (int_of token.now) }
+    ensures { result ≡ goes_on query HighBound token.now }
 {
     match number_in(token) {
         None => Move::Stuck,
@@ -158,7 +158,7 @@ fn cond_end(query: Query, token: &Token) -> Move
 }
 
 fn cond_name(query: Query, token: Token) -> Move
-    ensures { result ≡ cond_goes_on query (name_of token) }
+    ensures { result ≡ goes_on query CondName token }
 {
     match take_name(token) {
         None => Move::Stuck,
@@ -167,7 +167,7 @@ fn cond_name(query: Query, token: Token) -> Move
 }
 
 fn cond_op(query: Query, name: Text, token: &Token) -> Move
-    ensures { result ≡ op_goes_on query name (op_of token.now) }
+    ensures { result ≡ goes_on query (CondOp name) token.now }
 {
     match op_in(token) {
         None => Move::Stuck,
@@ -176,7 +176,7 @@ fn cond_op(query: Query, name: Text, token: &Token) -> Move
 }
 
 fn cond_value(query: Query, name: Text, op: Op, token: Token) -> Result<Move, AllocError>
-    ensures { IfOk result (λ moved. moved ≡ const_goes_on query name op (const_of token)) }
+    ensures { IfOk result (λ moved. moved ≡ goes_on query (CondValue name op) token) }
 {
     match take_const(token) {
         None => Ok(Move::Stuck),
@@ -221,7 +221,7 @@ fn group_end(query: Query, i: u64, token: &Token) -> Move
 }
 
 fn order_agg(query: Query, token: &Token) -> Move
-    ensures { result ≡ kind_goes_on_if query (kind_of token.now) }
+    ensures { result ≡ goes_on query OrderAgg token.now }
 {
     match kind_in(token) {
         None => Move::Stuck,
@@ -244,7 +244,7 @@ fn order_closing(query: Query, i: u64, token: &Token) -> Move
 }
 
 fn limit_number(query: Query, token: &Token) -> Move
-    ensures { result ≡ limit_goes_on query (limit_from (int_of token.now)) }
+    ensures { result ≡ goes_on query LimitNumber token.now }
 {
     match limit_in(token) {
         None => Move::Stuck,
