@@ -1,5 +1,5 @@
 -- The cells of an object's members, and the first fault, against what the members say.
-use Rattle.std.proofs.Common.{◌≡◌, ◌≢◌, inl, inr, ℕ, ℤ, List, arith, [], ◌∷◌, length, nat_lt, Option, Some, None, option_map, option_and_then, unwrap_or, Result, Ok, Err, Bool, true, false, cond, true≢false, Contains, refl, ap, sym, subst, ◌∙◌}
+use Rattle.std.proofs.Common.{◌≡◌, ◌≢◌, inl, inr, ℕ, ℤ, List, arith, [], ◌∷◌, length, nat_lt, Option, Some, None, option_map, option_and_then, unwrap_or, ok_or, Result, Ok, Err, Bool, true, false, cond, true≢false, Contains, refl, ap, sym, subst, ◌∙◌}
 use Rattle.std.proofs.lemmas.Bool.{ltb-false, le-ltb}
 use Rattle.std.proofs.lemmas.List.Elements.{Contains-append_right}
 use Rattle.std.proofs.lemmas.Slice.Eq.{bytes_eq-Decides}
@@ -12,11 +12,12 @@ use Rattle.leaf_model.specs.Values.{time_name}
 use Rattle.leaf_model.specs.declared.rows.Value.{Value}
 use Rattle.leaf_model.specs.declared.rows.Value.TheVariants.{Int, Text}
 use Rattle.leaf_model.specs.declared.rows.Cell.{Cell}
-use Rattle.row_json.specs.Row.{is_time, is_bad_name, is_missing, text_of, value_of, named_cell, cell_with, cell_of, with_cell, before, cells_of}
+use Rattle.row_json.specs.Row.{is_time, is_bad_name, is_missing, text_of, value_of, named_cell, cell_of, and_then, cells_of}
 use Rattle.row_json.specs.Meaning.{HoldsValue, IsOther}
 use Rattle.row_json.specs.declared.object.RowFault.{RowFault}
 use Rattle.row_json.specs.declared.object.RowFault.TheVariants.{Json, NotObject, NoTime, TooMany, Name, NoMemory}
 use Rattle.row_json.specs.declared.object.RowFault.TheVariants as fault
+use Rattle.row_json.proofs.Rows.{before, with_cell, before_none}
 use Rattle.row_json.proofs.Order.{Below}
 use Rattle.row_json.proofs.Found.{Ascending, found_here, found_later, found_cases, found_none, found_all}
 
@@ -69,7 +70,7 @@ pub data Case (name : List ℕ) (d : Data) : Type 0 where
   bad_value : name ≢ time_name → is_bad_name name ≡ false → d ≢ null → ((v : Value) → ¬ HoldsValue d v) → cell_of name d ≡ Err (fault.Value name) → Case name d
 
 chosen : Bool → Bool → Bool → Option Value → List ℕ → Result (Option Cell) RowFault
-chosen t b m v name = cond t (Ok None) (cond b (Err (Name name)) (cond m (Ok None) (cell_with name v)))
+chosen t b m v name = cond t (Ok None) (cond b (Err (Name name)) (cond m (Ok None) (and_then (ok_or v (fault.Value name)) (λ value. Ok (Some (named_cell name value))))))
 
 chosen_same : (name : List ℕ) (d : Data) (t b m : Bool) (v : Option Value) → is_time name ≡ t → is_bad_name name ≡ b → is_missing d ≡ m → value_of d ≡ v → cell_of name d ≡ chosen t b m v name
 unfolding chosen
@@ -120,7 +121,7 @@ unfolding fault_or
 same_fault e f h = ap (λ (r : Result (List Cell) RowFault). fault_or r f) h
 
 pub skipped : (one : Result (Option Cell) RowFault) (rest : Result (List Cell) RowFault) → one ≡ Ok None → with_cell one rest ≡ rest
-skipped one rest is = ap (λ r. with_cell r rest) is
+skipped one rest is = ap (λ r. with_cell r rest) is ∙ before_none rest
 
 joined : (c : Cell) (rest : Result (List Cell) RowFault) (cs : List Cell) → before (c ∷ []) rest ≡ Ok cs → (ds : List Cell) × (rest ≡ Ok ds) × (cs ≡ c ∷ ds)
 joined c (Ok ds) cs h = (ds, refl, same_cells cs (c ∷ ds) (sym h))

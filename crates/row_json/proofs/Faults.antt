@@ -5,11 +5,12 @@ use Rattle.serde_json.specs.Data.{Data, null, Members, no_members, member}
 use Rattle.leaf_model.specs.Values.{time_name}
 use Rattle.leaf_model.specs.declared.rows.Value.{Value}
 use Rattle.leaf_model.specs.declared.rows.Cell.{Cell}
-use Rattle.row_json.specs.Row.{is_bad_name, named_cell, cell_of, with_cell, cells_of}
+use Rattle.row_json.specs.Row.{is_bad_name, named_cell, cell_of, cells_of}
 use Rattle.row_json.specs.Meaning.{HoldsValue, IsFine, IsFaultOf, IsFirstFault}
 use Rattle.row_json.specs.declared.object.RowFault.{RowFault}
 use Rattle.row_json.specs.declared.object.RowFault.TheVariants.{Json, NotObject, NoTime, TooMany, Name, NoMemory}
 use Rattle.row_json.specs.declared.object.RowFault.TheVariants as fault
+use Rattle.row_json.proofs.Rows.{with_cell}
 use Rattle.row_json.proofs.Order.{Below}
 use Rattle.row_json.proofs.Found.{Ascending, not_below_itself, not_both_below, found_here, found_later, found_cases, found_none, found_all}
 use Rattle.row_json.proofs.Cells.{Case, the_time, bad_name, missing, held, bad_value, case_of, ok≢err, same_fault, skipped, refused, refused_rest}

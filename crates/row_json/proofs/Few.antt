@@ -1,5 +1,5 @@
 -- An object has at most as many cells as members.
-use Rattle.std.proofs.Common.{ℕ, zero, suc, ◌+◌, ◌≤◌, Bool, true, false, List, [], ◌∷◌, length, arith}
+use Rattle.std.proofs.Common.{ℕ, suc, ◌+◌, ◌≤◌, Bool, true, false, List, [], ◌∷◌, length, arith}
 use Rattle.std.specs.Prelude.{String, if◌then◌else◌, ◌||◌, string_bytes}
 use Rattle.std.specs.declared.alloc.Global.{Global}
 use Rattle.serde_json.specs.declared.value.Value.{Value}

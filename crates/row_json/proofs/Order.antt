@@ -1,5 +1,5 @@
 -- The cells that are read ascend by name, and are no more than were counted.
-use Rattle.std.proofs.Common.{◌≡◌, ℕ, ◌+◌, ◌≤◌, List, [], ◌∷◌, ◌++◌, length, map, Result, Ok, Err, Option, Some, None, Bool, true, false, cond, ◌||◌, refl, sym, subst, arith, Less, nat_cmp, String, Global, string_bytes, string_cmp}
+use Rattle.std.proofs.Common.{◌≡◌, ℕ, ◌+◌, ◌≤◌, List, [], ◌∷◌, ◌++◌, length, map, ok_or, Result, Ok, Err, Option, Some, None, Bool, true, false, cond, ◌||◌, refl, sym, subst, arith, Less, nat_cmp, String, Global, string_bytes, string_cmp}
 use Rattle.std.specs.Result.{IfOk}
 use Rattle.std.specs.Option.{IfSome}
 use Rattle.std.specs.List.{AllByRecursion}
@@ -14,7 +14,9 @@ use Rattle.leaf_model.specs.declared.rows.Cell.{Cell}
 use Rattle.leaf_model.specs.Values.{IsCell}
 use Rattle.row_json.specs.declared.object.RowFault.{RowFault}
 use Rattle.row_json.specs.declared.object.RowFault.TheVariants.{Name}
-use Rattle.row_json.specs.Row.{is_time, is_bad_name, is_missing, value_of, cell_of, cell_with, cells_of, cell_count, with_cell}
+use Rattle.row_json.specs.declared.object.RowFault.TheVariants as fault
+use Rattle.row_json.specs.Row.{is_time, is_bad_name, is_missing, value_of, named_cell, cell_of, and_then, cells_of, cell_count}
+use Rattle.row_json.proofs.Rows.{with_cell}
 
 -- what is known of the cell that a member is
 pub record IsCellOf (name : List ℕ) (d : Data) (c : Cell) : Type 0 where
@@ -24,7 +26,7 @@ pub record IsCellOf (name : List ℕ) (d : Data) (c : Cell) : Type 0 where
   pub there : is_missing d ≡ false
   pub value : value_of d ≡ Some c.value
 
-chosen : (t b m : Bool) (v : Option CellValue) (name : List ℕ) (d : Data) → is_time name ≡ t → is_bad_name name ≡ b → is_missing d ≡ m → value_of d ≡ v → IfOk (cond t (Ok None) (cond b (Err (Name name)) (cond m (Ok None) (cell_with name v)))) (λ o. IfSome o (IsCellOf name d))
+chosen : (t b m : Bool) (v : Option CellValue) (name : List ℕ) (d : Data) → is_time name ≡ t → is_bad_name name ≡ b → is_missing d ≡ m → value_of d ≡ v → IfOk (cond t (Ok None) (cond b (Err (Name name)) (cond m (Ok None) (and_then (ok_or v (fault.Value name)) (λ value. Ok (Some (named_cell name value))))))) (λ o. IfSome o (IsCellOf name d))
 chosen true b m v name d et eb em ev = tt
 chosen false true m v name d et eb em ev = tt
 chosen false false true v name d et eb em ev = tt
@@ -56,7 +58,8 @@ abbrev pub Below : List ℕ → List ℕ → Type 0
 Below a b = slice_cmp nat_cmp a b ≡ Less
 
 with_above : (k name : List ℕ) (d : Data) (r : Result (Option Cell) RowFault) (rest : Result (List Cell) RowFault) → IfOk r (λ o. IfSome o (IsCellOf name d)) → Below k name → IfOk rest (λ cs. AllByRecursion (Below k) (cell_names cs)) → IfOk (with_cell r rest) (λ cs. AllByRecursion (Below k) (cell_names cs))
-with_above k name d (Ok None) rest one h more = more
+with_above k name d (Ok None) (Ok cs) one h more = more
+with_above k name d (Ok None) (Err e) one h more = tt
 with_above k name d (Ok (Some c)) (Ok cs) one h more = (subst (Below k) (sym one.is) h, more)
 with_above k name d (Ok (Some c)) (Err e) one h more = tt
 with_above k name d (Err e) rest one h more = tt
@@ -70,7 +73,8 @@ Ascend cs = IsStrictlySortedBy (slice_cmp nat_cmp) (cell_names cs)
 
 with_ascending : (name : List ℕ) (d : Data) (r : Result (Option Cell) RowFault) (rest : Result (List Cell) RowFault) → IfOk r (λ o. IfSome o (IsCellOf name d)) → IfOk rest (λ cs. AllByRecursion (Below name) (cell_names cs)) → IfOk rest Ascend → IfOk (with_cell r rest) Ascend
 unfolding IsStrictlySortedBy
-with_ascending name d (Ok None) rest one above more = more
+with_ascending name d (Ok None) (Ok cs) one above more = more
+with_ascending name d (Ok None) (Err e) one above more = tt
 with_ascending name d (Ok (Some c)) (Ok cs) one above more =
     let P : List ℕ → Type 0 = λ n. AllByRecursion (Below n) (cell_names cs) in
     (subst P (sym one.is) above, more)

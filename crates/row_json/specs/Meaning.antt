@@ -69,11 +69,7 @@ IsFine name d = (is_bad_name name ≡ false) × ((d ≡ null) ⊎ ((v : Value) �
 abbrev pub IsFaultOf : List ℕ → Data → RowFault → Type 0
 IsFaultOf name d (Name n) = (n ≡ name) × (is_bad_name name ≡ true)
 IsFaultOf name d (fault.Value n) = (n ≡ name) × (is_bad_name name ≡ false) × (d ≢ null) × ((v : Value) → ¬ HoldsValue d v)
-IsFaultOf name d Json = ⊥
-IsFaultOf name d NotObject = ⊥
-IsFaultOf name d NoTime = ⊥
-IsFaultOf name d TooMany = ⊥
-IsFaultOf name d NoMemory = ⊥
+IsFaultOf name d other = ⊥
 
 -- the fault of the member that is the first to have one, in the order of the names
 pub record IsFirstFault (all : Members) (found : RowFault) : Type 0 where

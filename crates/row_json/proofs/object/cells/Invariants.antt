@@ -2,7 +2,8 @@ use Rattle.std.proofs.Common.{◌≡◌}
 use Rattle.std.specs.List.{AllByRecursion}
 use Rattle.serde_json.specs.View.{members_view}
 use Rattle.leaf_model.specs.Values.{IsCell}
-use Rattle.row_json.specs.Row.{cells_of, before}
+use Rattle.row_json.specs.Row.{cells_of}
+use Rattle.row_json.proofs.Rows.{before}
 use Rattle.row_json.proofs.object.cells.Given as goal
 
 abbrev pub invariant-loop-name : goal.invariant-loop-name
