@@ -10,11 +10,13 @@ use Rattle.row_json.specs.declared.object.RowFault.{RowFault}
 use Rattle.row_json.specs.Row.{row_of}
 use Rattle.script_text.specs.declared.fault.ScriptFault.{ScriptFault}
 use Rattle.script_text.specs.declared.fault.ScriptFault.TheVariants.{At, NoMemory}
+use Rattle.script_text.specs.declared.fault.Why.TheVariants as why
 use Rattle.script_text.specs.Lines.{before, behind, lines, lines_of, without_return}
-use Rattle.script_text.specs.Commands.{Fault, joined, with_first, one_row, rows_from}
+use Rattle.script_text.specs.Commands.{Fault, on_line, rows_from}
 use Rattle.script_text.specs.Script.{IfAt}
 use Rattle.script_text.specs.Parts.{IsLineCut, IsFront, IsPartRead, IsTextCut, ends_line, fault_behind, lines_of_parts}
 use Rattle.script_text.proofs.Cut.{pieces_cut, drop_next}
+use Rattle.script_text.proofs.Steps.{joined, with_first}
 
 -- ---- a text cut behind a byte 10
 
@@ -237,15 +239,15 @@ rows_joined : (n : ℕ) (a b : List (List ℕ)) → rows_from n (a ++ b) ≡ row
 rows_joined n [] b = ap (λ (k : ℕ). rows_from k b) (sym (add-zero n)) ∙ then_none (rows_from (n + 0) b)
 rows_joined n (line ∷ a) b =
     let e : n + 1 + length a ≡ n + suc (length a) = omega arith in
-    ap (with_first (one_row n (row_of line))) (rows_joined (n + 1) a b) ∙ then_first (one_row n (row_of line)) (rows_from (n + 1) a) (rows_from (n + 1 + length a) b)
-    ∙ ap (λ (k : ℕ). rows_then (with_first (one_row n (row_of line)) (rows_from (n + 1) a)) (rows_from k b)) e
+    ap (with_first (on_line n why.Row (row_of line))) (rows_joined (n + 1) a b) ∙ then_first (on_line n why.Row (row_of line)) (rows_from (n + 1) a) (rows_from (n + 1 + length a) b)
+    ∙ ap (λ (k : ℕ). rows_then (with_first (on_line n why.Row (row_of line)) (rows_from (n + 1) a)) (rows_from k b)) e
 
 -- the same, behind so many lines more
 abbrev later : ℕ → Result (List Row) Fault → Result (List Row) Fault
 later m (Ok rows) = Ok rows
 later m (Err found) = Err (m + found.0, found.1)
 
-later_first : (m n : ℕ) (first : Result Row RowFault) (rows : Result (List Row) Fault) → with_first (one_row (m + n) first) (later m rows) ≡ later m (with_first (one_row n first) rows)
+later_first : (m n : ℕ) (first : Result Row RowFault) (rows : Result (List Row) Fault) → with_first (on_line (m + n) why.Row first) (later m rows) ≡ later m (with_first (on_line n why.Row first) rows)
 later_first m n (Ok row) (Ok rows) = refl
 later_first m n (Ok row) (Err found) = refl
 later_first m n (Err fault) rows = refl
@@ -254,7 +256,7 @@ rows_shifted : (m n : ℕ) (a : List (List ℕ)) → rows_from (m + n) a ≡ lat
 rows_shifted m n [] = refl
 rows_shifted m n (line ∷ a) =
     let e : m + n + 1 ≡ m + (n + 1) = omega arith in
-    ap (λ (k : ℕ). with_first (one_row (m + n) (row_of line)) (rows_from k a)) e ∙ ap (with_first (one_row (m + n) (row_of line))) (rows_shifted m (n + 1) a)
+    ap (λ (k : ℕ). with_first (on_line (m + n) why.Row (row_of line)) (rows_from k a)) e ∙ ap (with_first (on_line (m + n) why.Row (row_of line))) (rows_shifted m (n + 1) a)
     ∙ later_first m n (row_of line) (rows_from (n + 1) a)
 
 -- as many rows as lines
@@ -265,10 +267,10 @@ count_first k (Err found) rows is = tt
 
 rows_count : (n : ℕ) (a : List (List ℕ)) → IfOk (rows_from n a) (λ rs. length rs ≡ length a)
 rows_count n [] = refl
-rows_count n (line ∷ a) = count_first (length a) (one_row n (row_of line)) (rows_from (n + 1) a) (rows_count (n + 1) a)
+rows_count n (line ∷ a) = count_first (length a) (on_line n why.Row (row_of line)) (rows_from (n + 1) a) (rows_count (n + 1) a)
 
 -- a fault stands on one of the lines
-fault_first : (n k : ℕ) (first : Result Row RowFault) (rows : Result (List Row) Fault) → IfErr rows (λ found. found.0 < n + 1 + k) → IfErr (with_first (one_row n first) rows) (λ found. found.0 < n + suc k)
+fault_first : (n k : ℕ) (first : Result Row RowFault) (rows : Result (List Row) Fault) → IfErr rows (λ found. found.0 < n + 1 + k) → IfErr (with_first (on_line n why.Row first) rows) (λ found. found.0 < n + suc k)
 fault_first n k (Ok row) (Ok rows) is = tt
 fault_first n k (Ok row) (Err found) is = omega (arith, is)
 fault_first n k (Err fault) rows is = omega arith

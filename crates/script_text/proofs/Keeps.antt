@@ -19,13 +19,13 @@ use Rattle.script_text.specs.declared.reading.Step.{Step}
 use Rattle.script_text.specs.declared.script.Script.{Script}
 use Rattle.script_text.specs.declared.verb.Verb.{Verb}
 use Rattle.script_text.specs.declared.verb.Verb.TheVariants as verb
-use Rattle.script_text.specs.Bursts.{end_burst, inside, next_burst, next_lane, opened, stepped, with_item}
+use Rattle.script_text.specs.Bursts.{end_burst, inside, next_burst, next_lane, stepped, verb_at, with_item}
 use Rattle.script_text.specs.Commands.{Fault, IsFleet, leaves}
 use Rattle.script_text.specs.Fits.{AreItems, IsBurst, IsCommand, IsItem, IsScript, OneSteward}
 use Rattle.script_text.specs.Lines.{is_blank}
 use Rattle.script_text.specs.Readings.{Begun, IsReading}
 use Rattle.script_text.specs.Script.{ParsesAs, begun, closed}
-use Rattle.script_text.specs.Stewards.{have_steward, have_stewards, has_steward, has_stewards, is_a_stewards, is_second, is_stewards}
+use Rattle.script_text.specs.Stewards.{has_steward, has_stewards, is_a_stewards, is_second, is_stewards}
 use Rattle.script_text.proofs.Steps.{AllByRecursion-more}
 
 -- ---- lists
@@ -86,23 +86,23 @@ lane_none leaf (c ∷ lane) e =
     let parts = or_none (is_a_stewards c) (has_stewards lane) e in
     or_nones (is_stewards leaf c) (has_steward leaf lane) (not_his leaf c parts.0) (lane_none leaf lane parts.1)
 
-lanes_none : (leaf : ℕ) (lanes : List (List Command)) → have_stewards lanes ≡ false → have_steward leaf lanes ≡ false
+lanes_none : (leaf : ℕ) (lanes : List (List Command)) → list_any has_stewards lanes ≡ false → list_any (has_steward leaf) lanes ≡ false
 lanes_none leaf [] e = refl
 lanes_none leaf (lane ∷ lanes) e =
-    let parts = or_none (has_stewards lane) (have_stewards lanes) e in
-    or_nones (has_steward leaf lane) (have_steward leaf lanes) (lane_none leaf lane parts.0) (lanes_none leaf lanes parts.1)
+    let parts = or_none (has_stewards lane) (list_any has_stewards lanes) e in
+    or_nones (has_steward leaf lane) (list_any (has_steward leaf) lanes) (lane_none leaf lane parts.0) (lanes_none leaf lanes parts.1)
 
 -- a steward's command of a leaf that is no second one stands behind lanes without such
-not_second : (leaf : ℕ) (c : Command) (lanes : List (List Command)) → is_stewards leaf c ≡ true → is_second lanes c ≡ false → have_steward leaf lanes ≡ false
+not_second : (leaf : ℕ) (c : Command) (lanes : List (List Command)) → is_stewards leaf c ≡ true → is_second lanes c ≡ false → list_any (has_steward leaf) lanes ≡ false
 not_second leaf (command.Fleet machines per_machine tables) lanes is not = absurd (true≢false (sym is))
 not_second leaf (command.Add number table rows) lanes is not = absurd (true≢false (sym is))
 not_second leaf (command.Expire number table horizon) lanes is not = absurd (true≢false (sym is))
 not_second leaf (command.Keep number table n) lanes is not = absurd (true≢false (sym is))
 not_second leaf (command.Query query) lanes is not = absurd (true≢false (sym is))
-not_second leaf (command.Flush number table) lanes is not = sym (ap (λ l. have_steward l lanes) (eqb-true number leaf is)) ∙ not
-not_second leaf (command.Drain number stop) lanes is not = sym (ap (λ l. have_steward l lanes) (eqb-true number leaf is)) ∙ not
-not_second leaf (command.Kill number) lanes is not = sym (ap (λ l. have_steward l lanes) (eqb-true number leaf is)) ∙ not
-not_second leaf (command.Start number) lanes is not = sym (ap (λ l. have_steward l lanes) (eqb-true number leaf is)) ∙ not
+not_second leaf (command.Flush number table) lanes is not = sym (ap (λ l. list_any (has_steward l) lanes) (eqb-true number leaf is)) ∙ not
+not_second leaf (command.Drain number stop) lanes is not = sym (ap (λ l. list_any (has_steward l) lanes) (eqb-true number leaf is)) ∙ not
+not_second leaf (command.Kill number) lanes is not = sym (ap (λ l. list_any (has_steward l) lanes) (eqb-true number leaf is)) ∙ not
+not_second leaf (command.Start number) lanes is not = sym (ap (λ l. list_any (has_steward l) lanes) (eqb-true number leaf is)) ∙ not
 not_second leaf (command.Rollover percent) lanes is not = lanes_none leaf lanes not
 
 one_if_few : (b : Bool) → one_if b ≤ 1
@@ -209,14 +209,14 @@ inside_ok : (last : ℕ) (r : Result Step Fault) (s : Step) → inside last r �
 inside_ok last (Ok x) s is = is
 inside_ok last (Err found) s is = absurd (grind (arith, is))
 
-pub opened_keeps : (last n : ℕ) (fleet : Fleet) (script : Script) (words : List ℕ) (v : Verb) (s : Step) → IsReading fleet (record { script = script; standing = standing.Opened }) → opened last n script words v ≡ Ok s → IsReading fleet s.reading
-opened_keeps last n fleet script words verb.Fleet s r read = absurd (grind (arith, read))
-opened_keeps last n fleet script words verb.Burst s r read = absurd (grind (arith, read))
-opened_keeps last n fleet script words verb.Lane s r read =
+pub opened_keeps : (last n : ℕ) (fleet : Fleet) (script : Script) (words : List ℕ) (more : List (List ℕ)) (v : Verb) (s : Step) → IsReading fleet (record { script = script; standing = standing.Opened }) → verb_at last n fleet script standing.Opened words more v ≡ Ok s → IsReading fleet s.reading
+opened_keeps last n fleet script words more verb.Fleet s r read = absurd (grind (arith, read))
+opened_keeps last n fleet script words more verb.Burst s r read = absurd (grind (arith, read))
+opened_keeps last n fleet script words more verb.Lane s r read =
     let lane : next_lane n script [] words ≡ Ok s = inside_ok last (next_lane n script [] words) s read in
     next_lane_by n fleet script [] (is_blank words) true words s refl refl r.items tt no_stewards lane
-opened_keeps last n fleet script words verb.End s r read = absurd (grind (arith, read))
-opened_keeps last n fleet script words (verb.Task task) s r read = absurd (grind (arith, read))
+opened_keeps last n fleet script words more verb.End s r read = absurd (grind (arith, read))
+opened_keeps last n fleet script words more (verb.Task task) s r read = absurd (grind (arith, read))
 
 pub command_keeps : (fleet : Fleet) (script : Script) (earlier : List (List Command)) (lane : List Command) (c : Command) (rows : ℕ) → is_second earlier c ≡ false → IsCommand (leaves fleet) fleet.tables c → IsReading fleet (record { script = script; standing = standing.Lane earlier lane }) → IsReading fleet (stepped script (standing.Lane earlier (lane ++ c ∷ [])) rows).reading
 command_keeps fleet script earlier lane c rows not fits r = record { items = r.items; standing = burst_more (leaves fleet) fleet.tables earlier lane c not fits r.standing }
@@ -239,9 +239,9 @@ pub end_keeps_as : (n : ℕ) (fleet : Fleet) (script : Script) (earlier : List (
 end_keeps_as n fleet script earlier lane lanes words (Ok s) reading is exact = end_keeps n fleet script earlier lane words s reading (ap (λ ls. end_burst n script ls words) (sym is) ∙ exact)
 end_keeps_as n fleet script earlier lane lanes words (Err e) reading is exact = tt
 
-pub opened_keeps_as : (last n : ℕ) (fleet : Fleet) (script : Script) (words : List ℕ) (v : Verb) (r : Result Step ScriptFault) → IsReading fleet (record { script = script; standing = standing.Opened }) → ParsesAs (λ step. step) r (opened last n script words v) → IfOk r (λ step. IsReading fleet step.reading)
-opened_keeps_as last n fleet script words v (Ok s) reading exact = opened_keeps last n fleet script words v s reading exact
-opened_keeps_as last n fleet script words v (Err e) reading exact = tt
+pub opened_keeps_as : (last n : ℕ) (fleet : Fleet) (script : Script) (words : List ℕ) (more : List (List ℕ)) (v : Verb) (r : Result Step ScriptFault) → IsReading fleet (record { script = script; standing = standing.Opened }) → ParsesAs (λ step. step) r (verb_at last n fleet script standing.Opened words more v) → IfOk r (λ step. IsReading fleet step.reading)
+opened_keeps_as last n fleet script words more v (Ok s) reading exact = opened_keeps last n fleet script words more v s reading exact
+opened_keeps_as last n fleet script words more v (Err e) reading exact = tt
 
 -- ---- the whole script
 

@@ -9,11 +9,19 @@ use Rattle.script_text.specs.declared.reading.Step.{Step}
 use Rattle.script_text.specs.declared.script.Script.{Script}
 use Rattle.script_text.specs.Words.{first_word}
 use Rattle.script_text.specs.Lines.{is_skipped}
-use Rattle.script_text.specs.Commands.{Fault, joined, with_first, first_command, verb_of}
+use Rattle.script_text.specs.Commands.{Fault, ◌>>=◌, first_command, verb_of}
 use Rattle.script_text.specs.Bursts.{step_of}
-use Rattle.script_text.specs.Script.{NumberedLine, IfAt, ParsesAs, begun, behind_step, closed, read_from, next_line, script_at, script_behind, script_of}
+use Rattle.script_text.specs.Script.{NumberedLine, IfAt, ParsesAs, begun, closed, read_from, next_line, script_at, script_of}
 use Rattle.script_text.specs.Lines.{lines_of}
 use Rattle.std.specs.Prelude.{IfOk, IfErr, length}
+
+-- what was read before what is read after it, or the first fault
+abbrev pub with_first : {X : Type 0} → Result X Fault → Result (List X) Fault → Result (List X) Fault
+with_first first others = first >>= λ x. others >>= λ xs. Ok (x ∷ xs)
+
+-- what was read before others, or the first fault
+abbrev pub joined : {X : Type 0} → List X → Result (List X) Fault → Result (List X) Fault
+joined first others = others >>= λ xs. Ok (first ++ xs)
 
 -- one more is read
 pub joined_more : {X : Type 0} (first : List X) (x : X) (others : Result (List X) Fault) → joined first (with_first (Ok x) others) ≡ joined (first ++ x ∷ []) others
@@ -26,7 +34,7 @@ AllByRecursion-more P (y ∷ ys) x all is = (all.0, AllByRecursion-more P ys x a
 
 -- what is read of a line and of those after it
 abbrev pub line_with : ℕ → Fleet → NumberedLine → Result Step Fault → Result Script Fault
-line_with last fleet line read = behind_step read (λ step. read_from last fleet step.rows (line.number + 1) step.reading line.after)
+line_with last fleet line read = read >>= λ step. read_from last fleet step.rows (line.number + 1) step.reading line.after
 
 abbrev pub read_at : ℕ → Fleet → Reading → Option NumberedLine → Result Script Fault
 read_at last fleet reading None = closed last reading.script reading.standing
@@ -70,7 +78,10 @@ read_end last n fleet reading lines whole none so_far = ap (read_at last fleet r
 pub parses_as : (r : Result Script ScriptFault) (a b : Result Script Fault) → a ≡ b → ParsesAs (λ s. s) r a → ParsesAs (λ s. s) r b
 parses_as r a b is p = subst (ParsesAs (λ s. s) r) is p
 
--- the whole script
+-- the whole script, behind the fleet
+abbrev script_behind : ℕ → NumberedLine → Result Fleet Fault → Result Script Fault
+script_behind last line read = read >>= λ fleet. read_from last fleet 0 (line.number + 1) (begun line.number fleet) line.after
+
 pub script_none : (text : List ℕ) (script : Script) → None ≡ next_line 1 (lines_of text) → script ≡ record { fleet_line = 0; items = [] } → script_of text ≡ Ok script
 unfolding script_of
 script_none text script none is = ap (script_at (length (lines_of text))) (sym none) ∙ ap Ok (sym is)

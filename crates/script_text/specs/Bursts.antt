@@ -1,5 +1,5 @@
 -- What a line behind a fleet does to what was read before it, outside bursts and inside one.
-use Rattle.std.specs.Prelude.{ℕ, ◌==◌, List, [], ◌∷◌, ◌++◌, length, nat_lt, if◌then◌else◌, Option, Some, None, Result, Ok, Err}
+use Rattle.std.specs.Prelude.{ℕ, ◌==◌, List, [], ◌∷◌, ◌++◌, length, nat_lt, if◌then◌else◌, ok_or, Result, Ok, Err}
 use Rattle.script_text.specs.declared.command.Command.{Command}
 use Rattle.script_text.specs.declared.fault.ScriptFault.{ScriptFault}
 use Rattle.script_text.specs.declared.fault.ScriptFault.TheVariants.{At, NoMemory}
@@ -17,7 +17,7 @@ use Rattle.script_text.specs.declared.verb.Verb.TheVariants as verb
 use Rattle.script_text.specs.Lines.{is_blank}
 use Rattle.script_text.specs.Stewards.{is_second}
 use Rattle.script_text.specs.Words.{first_word, behind_word}
-use Rattle.script_text.specs.Commands.{Fault, command_of, row_count, verb_of}
+use Rattle.script_text.specs.Commands.{Fault, ◌>>=◌, command_of, row_count, verb_of}
 
 -- the items of a script, and one more
 abbrev pub with_item : Script → Item → Script
@@ -39,8 +39,7 @@ inside last (Err found) = Err (found.0, if found.0 == last then why.Place else f
 
 -- a command outside bursts
 abbrev pub one_more : Script → Result Command Fault → Result Step Fault
-one_more script (Ok c) = Ok (stepped (with_item script (item.One c)) standing.Outside (row_count c))
-one_more script (Err found) = Err found
+one_more script read = read >>= λ c. Ok (stepped (with_item script (item.One c)) standing.Outside (row_count c))
 
 -- `burst`
 abbrev pub next_burst : ℕ → Script → List ℕ → Result Step Fault
@@ -57,44 +56,20 @@ end_burst n script lanes words = if is_blank words then Ok (stepped (with_item s
 
 -- a command of a lane that stands behind others
 abbrev pub lane_more : ℕ → Script → List (List Command) → List Command → Result Command Fault → Result Step Fault
-lane_more n script earlier lane (Ok c) = if is_second earlier c then Err (n, why.TwoStewards) else Ok (stepped script (standing.Lane earlier (lane ++ c ∷ [])) (row_count c))
-lane_more n script earlier lane (Err found) = Err found
+lane_more n script earlier lane read = read >>= λ c. if is_second earlier c then Err (n, why.TwoStewards) else Ok (stepped script (standing.Lane earlier (lane ++ c ∷ [])) (row_count c))
 
--- a line outside bursts; a burst that begins on the last line is left open
-abbrev pub outside : ℕ → ℕ → Fleet → Script → List ℕ → List (List ℕ) → Verb → Result Step Fault
-outside last n fleet script words more verb.Fleet = Err (n, why.Place)
-outside last n fleet script words more verb.Burst = inside last (next_burst n script words)
-outside last n fleet script words more verb.Lane = Err (n, why.Place)
-outside last n fleet script words more verb.End = Err (n, why.Place)
-outside last n fleet script words more (verb.Task task) = one_more script (command_of n fleet task words more)
-
--- a line of a burst before its first lane
-abbrev pub opened : ℕ → ℕ → Script → List ℕ → Verb → Result Step Fault
-opened last n script words verb.Fleet = Err (n, why.Place)
-opened last n script words verb.Burst = Err (n, why.Place)
-opened last n script words verb.Lane = inside last (next_lane n script [] words)
-opened last n script words verb.End = Err (n, why.Place)
-opened last n script words (verb.Task task) = Err (n, why.Place)
-
--- a line of a burst's lane, behind earlier ones
-abbrev pub in_lane : ℕ → ℕ → Fleet → Script → List (List Command) → List Command → List ℕ → List (List ℕ) → Verb → Result Step Fault
-in_lane last n fleet script earlier lane words more verb.Fleet = Err (n, why.Place)
-in_lane last n fleet script earlier lane words more verb.Burst = Err (n, why.Place)
-in_lane last n fleet script earlier lane words more verb.Lane = inside last (next_lane n script (earlier ++ lane ∷ []) words)
-in_lane last n fleet script earlier lane words more verb.End = end_burst n script (earlier ++ lane ∷ []) words
-in_lane last n fleet script earlier lane words more (verb.Task task) = inside last (lane_more n script earlier lane (command_of n fleet task words more))
-
--- a line by where it stands
+-- A line by where it stands and what it is; all others are out of their place. A burst that begins on the last line is left open.
 abbrev pub verb_at : ℕ → ℕ → Fleet → Script → Standing → List ℕ → List (List ℕ) → Verb → Result Step Fault
-verb_at last n fleet script standing.Outside words more verb = outside last n fleet script words more verb
-verb_at last n fleet script standing.Opened words more verb = opened last n script words verb
-verb_at last n fleet script (standing.Lane earlier lane) words more verb = in_lane last n fleet script earlier lane words more verb
-
--- a line whose first word is that of a command
-abbrev pub step_with : ℕ → ℕ → Fleet → Reading → List ℕ → List (List ℕ) → Option Verb → Result Step Fault
-step_with last n fleet reading words more (Some verb) = verb_at last n fleet reading.script reading.standing words more verb
-step_with last n fleet reading words more None = Err (n, why.Command)
+verb_at last n fleet script standing.Outside words more verb.Burst = inside last (next_burst n script words)
+verb_at last n fleet script standing.Outside words more (verb.Task task) = one_more script (command_of n fleet task words more)
+verb_at last n fleet script standing.Opened words more verb.Lane = inside last (next_lane n script [] words)
+verb_at last n fleet script (standing.Lane earlier lane) words more verb.Lane = inside last (next_lane n script (earlier ++ lane ∷ []) words)
+verb_at last n fleet script (standing.Lane earlier lane) words more verb.End = end_burst n script (earlier ++ lane ∷ []) words
+verb_at last n fleet script (standing.Lane earlier lane) words more (verb.Task task) = inside last (lane_more n script earlier lane (command_of n fleet task words more))
+verb_at last n fleet script _ words more _ = Err (n, why.Place)
 
 -- Line n of a text with so many lines, behind this fleet and what was read, where those lines follow.
 abbrev pub step_of : ℕ → ℕ → Fleet → Reading → List ℕ → List (List ℕ) → Result Step Fault
-step_of last n fleet reading line more = step_with last n fleet reading (behind_word line) more (verb_of (first_word line))
+step_of last n fleet reading line more = do
+  verb ← ok_or (verb_of (first_word line)) (n, why.Command)
+  verb_at last n fleet reading.script reading.standing (behind_word line) more verb

@@ -64,15 +64,7 @@ IsItem leaves tables (Burst lanes) = IsBurst leaves tables lanes
 -- items behind a first command, which is a fleet
 abbrev pub AreBehind : Command → List Item → Type 0
 AreBehind (Fleet machines per_machine tables) items = AreLeaves machines per_machine × AreTables tables × AllByRecursion (IsItem (machines * per_machine) tables) items
-AreBehind (Add leaf table rows) items = ⊥
-AreBehind (Expire leaf table horizon) items = ⊥
-AreBehind (Keep leaf table n) items = ⊥
-AreBehind (command.Query query) items = ⊥
-AreBehind (Flush leaf table) items = ⊥
-AreBehind (Drain leaf stop) items = ⊥
-AreBehind (Kill leaf) items = ⊥
-AreBehind (Start leaf) items = ⊥
-AreBehind (Rollover percent) items = ⊥
+AreBehind _ items = ⊥
 
 -- items, of which the first is a fleet, and no other is
 abbrev pub AreItems : List Item → Type 0

@@ -12,9 +12,8 @@ use Rattle.script_text.specs.Fits.{IsBurst, IsItem}
 
 -- the lanes of a burst that is open are those of a burst
 abbrev pub IsStanding : Fleet → Standing → Type 0
-IsStanding fleet standing.Outside = Unit {0}
-IsStanding fleet standing.Opened = Unit {0}
 IsStanding fleet (standing.Lane earlier lane) = IsBurst (leaves fleet) fleet.tables (earlier ++ lane ∷ [])
+IsStanding fleet _ = Unit {0}
 
 -- a fleet, and items behind it
 pub record Begun (fleet : Fleet) (items : List Item) : Type 0 where

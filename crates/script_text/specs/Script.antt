@@ -4,7 +4,6 @@ use Rattle.script_text.specs.declared.fleet.Fleet.{Fleet}
 use Rattle.script_text.specs.declared.item.Item.TheVariants as item
 use Rattle.script_text.specs.declared.reading.Reading.{Reading}
 use Rattle.script_text.specs.declared.reading.Standing.{Standing}
-use Rattle.script_text.specs.declared.reading.Step.{Step}
 use Rattle.script_text.specs.declared.reading.Standing.TheVariants as standing
 use Rattle.script_text.specs.declared.script.Script.{Script}
 use Rattle.script_text.specs.declared.fault.Why.{Why}
@@ -13,26 +12,20 @@ use Rattle.script_text.specs.declared.fault.ScriptFault.{ScriptFault}
 use Rattle.script_text.specs.declared.fault.ScriptFault.TheVariants.{At, NoMemory}
 use Rattle.script_text.specs.Lines.{lines_of, is_skipped}
 use Rattle.script_text.specs.Words.{first_word}
-use Rattle.script_text.specs.Commands.{Fault, first_command, fleet_command, verb_of}
+use Rattle.script_text.specs.Commands.{Fault, ◌>>=◌, first_command, fleet_command, verb_of}
 use Rattle.script_text.specs.Bursts.{step_of}
 
 -- a burst that the text's last line leaves open has its fault there
 abbrev pub closed : ℕ → Script → Standing → Result Script Fault
 closed last script standing.Outside = Ok script
-closed last script standing.Opened = Err (last, why.Place)
-closed last script (standing.Lane earlier lane) = Err (last, why.Place)
-
--- what is read behind a step, or the first fault
-abbrev pub behind_step : Result Step Fault → (Step → Result Script Fault) → Result Script Fault
-behind_step (Ok step) others = others step
-behind_step (Err found) others = Err found
+closed last script _ = Err (last, why.Place)
 
 -- What is read of the lines to the text's last one, numbered from n on, behind so many rows of the add before them and behind what was read.
 abbrev pub read_from : ℕ → Fleet → ℕ → ℕ → Reading → List (List ℕ) → Result Script Fault
 read_from last fleet rows n reading [] = closed last reading.script reading.standing
 read_from last fleet (suc rows) n reading (line ∷ more) = read_from last fleet rows (n + 1) reading more
 read_from last fleet zero n reading (line ∷ more) = if is_skipped line then read_from last fleet 0 (n + 1) reading more
-    else behind_step (step_of last n fleet reading line more) (λ step. read_from last fleet step.rows (n + 1) step.reading more)
+    else (step_of last n fleet reading line more >>= λ step. read_from last fleet step.rows (n + 1) step.reading more)
 
 -- a line that may be a command: its number, its bytes, and the lines after it
 pub record NumberedLine : Type 0 where
@@ -49,15 +42,12 @@ next_line n (line ∷ more) = if is_skipped line then next_line (n + 1) more els
 abbrev pub begun : ℕ → Fleet → Reading
 begun n fleet = record { script = record { fleet_line = n; items = item.One (fleet_command fleet) ∷ [] }; standing = standing.Outside }
 
--- the script that begins with this fleet
-abbrev pub script_behind : ℕ → NumberedLine → Result Fleet Fault → Result Script Fault
-script_behind last line (Ok fleet) = read_from last fleet 0 (line.number + 1) (begun line.number fleet) line.after
-script_behind last line (Err found) = Err found
-
 -- the script whose first command stands on this line
 abbrev pub script_at : ℕ → Option NumberedLine → Result Script Fault
-script_at last (Some line) = script_behind last line (first_command line.number line.bytes (verb_of (first_word line.bytes)))
 script_at last None = Ok (record { fleet_line = 0; items = [] })
+script_at last (Some line) = do
+  fleet ← first_command line.number line.bytes (verb_of (first_word line.bytes))
+  read_from last fleet 0 (line.number + 1) (begun line.number fleet) line.after
 
 -- the script that a text is, or the first line that has a fault
 unfoldable pub script_of : List ℕ → Result Script Fault

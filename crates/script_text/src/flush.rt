@@ -1,7 +1,7 @@
 // A flush.
-ghost use Rattle.std.specs.Prelude.{◌≡◌, IfOk, option_map};
-ghost use Rattle.script_text.specs.Words.{words_of, capped};
-ghost use Rattle.script_text.specs.Commands.{FlushForm, IsFleet, flush_of, flush_words, leaves, row_count};
+ghost use Rattle.std.specs.Prelude.{◌≡◌, [], IfOk, option_map};
+ghost use Rattle.script_text.specs.Words.{words_of};
+ghost use Rattle.script_text.specs.Commands.{IsFleet, TargetForm, capped_target, flush_of, flush_words, leaves, row_count};
 ghost use Rattle.script_text.specs.Fits.{IsCommand};
 ghost use Rattle.script_text.specs.Script.{ParsesAs};
 
@@ -38,8 +38,8 @@ pub fn flush(fleet: &Fleet, words: &[u8], number: u64) -> Result<Command, Script
 
 /// The words of `flush L T`.
 fn flush_words(words: &[u8]) -> Option<FlushWords>
-    ensures exact { option_map {U = FlushForm} (λ flush. record { leaf = flush.leaf; table = flush.table.now }) result
-        ≡ option_map {U = FlushForm} (λ (flush : FlushForm). record { leaf = capped flush.leaf; table = flush.table }) (flush_words (words_of words.now)) }
+    ensures exact { option_map {U = TargetForm} (λ flush. record { leaf = flush.leaf; table = flush.table.now; last = [] }) result
+        ≡ option_map capped_target (flush_words (words_of words.now)) }
 {
     let (leaf, rest) = next_word(words)?;
     let (table, rest) = next_word(rest)?;

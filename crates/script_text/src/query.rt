@@ -2,7 +2,8 @@
 ghost use Rattle.std.specs.Prelude.{◌≡◌, IfOk};
 ghost use Rattle.query_text.specs.Grammar.{IsQuery};
 ghost use Rattle.query_text.specs.Reading.{query_of};
-ghost use Rattle.script_text.specs.Commands.{IsFleet, leaves, one_query, query_command, row_count};
+ghost use Rattle.script_text.specs.declared.fault.Why.TheVariants as why;
+ghost use Rattle.script_text.specs.Commands.{IsFleet, leaves, on_line, query_command, row_count};
 ghost use Rattle.script_text.specs.Fits.{IsCommand};
 ghost use Rattle.script_text.specs.Script.{ParsesAs};
 
@@ -17,7 +18,7 @@ use std::alloc::Global;
 /// The query of this text, which stands on the line of this number.
 pub fn query(alloc: Global, fleet: &Fleet, text: &[u8], number: u64) -> Result<Command, ScriptFault>
     requires { IsFleet fleet.now }
-    ensures exact { ParsesAs (λ c. c) result (query_command number fleet.now (one_query number (query_of text.now))) }
+    ensures exact { ParsesAs (λ c. c) result (query_command number fleet.now (query_of text.now)) }
     ensures is_command { IfOk result (IsCommand (leaves fleet.now) fleet.now.tables) }
     ensures no_rows { IfOk result (λ c. row_count c ≡ 0) }
 {
@@ -30,7 +31,7 @@ pub fn query(alloc: Global, fleet: &Fleet, text: &[u8], number: u64) -> Result<C
 
 /// The query that the line of this number holds, whatever its table is.
 fn read_query(alloc: Global, text: &[u8], number: u64) -> Result<Query, ScriptFault>
-    ensures exact { ParsesAs (λ query. query) result (one_query number (query_of text.now)) }
+    ensures exact { ParsesAs (λ query. query) result (on_line number why.Query (query_of text.now)) }
     ensures is_query { IfOk result IsQuery }
 {
     match parse(alloc, text) {

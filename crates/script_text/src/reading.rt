@@ -1,9 +1,10 @@
 // What was read of a script, and what one line more does to it.
 ghost use Rattle.std.specs.Prelude.{◌≡◌, ◌+◌, ◌++◌, ◌<◌, ◌≤◌, ◌^◌, [], ◌∷◌, IfOk, length};
+ghost use Rattle.script_text.specs.declared.fleet.Fleet.{Fleet};
 ghost use Rattle.script_text.specs.declared.reading.Standing.TheVariants as standing;
 ghost use Rattle.script_text.specs.Lines.{lines_of};
 ghost use Rattle.script_text.specs.Commands.{IsFleet, command_of, row_count};
-ghost use Rattle.script_text.specs.Bursts.{fault_inside, in_lane, next_burst, next_lane, end_burst, lane_more, opened, outside, step_of, stepped, with_item};
+ghost use Rattle.script_text.specs.Bursts.{fault_inside, next_burst, next_lane, end_burst, lane_more, step_of, stepped, verb_at, with_item};
 ghost use Rattle.script_text.specs.Readings.{IsReading};
 ghost use Rattle.script_text.specs.Script.{ParsesAs};
 
@@ -106,7 +107,7 @@ fn outside<R: Threads + Sync>(
     requires fleet { IsFleet fleet.now }
     requires place { line.now.number + length line.now.after.now < 2 ^ 64 }
     requires reading { IsReading fleet.now (record { script = script; standing = standing.Outside }) }
-    ensures exact { ParsesAs (λ step. step) result (outside last line.now.number fleet.now script line.now.words.now (lines_of line.now.after.now) line.now.verb) }
+    ensures exact { ParsesAs (λ step. step) result (verb_at last line.now.number fleet.now script standing.Outside line.now.words.now (lines_of line.now.after.now) line.now.verb) }
     ensures is_reading { IfOk result (λ step. IsReading fleet.now step.reading) }
     ensures enough { IfOk result (λ step. step.rows ≤ length (lines_of line.now.after.now)) }
 {
@@ -127,7 +128,7 @@ fn outside<R: Threads + Sync>(
 
 /// What is read with a line of a burst before its first lane.
 fn opened(alloc: Global, last: u64, script: Script, line: &CommandLine) -> Result<Step, ScriptFault>
-    ensures exact { ParsesAs (λ step. step) result (opened last line.now.number script line.now.words.now line.now.verb) }
+    ensures exact { (fleet : Fleet) → ParsesAs (λ step. step) result (verb_at last line.now.number fleet script standing.Opened line.now.words.now (lines_of line.now.after.now) line.now.verb) }
     ensures no_rows { IfOk result (λ step. step.rows ≡ 0) }
 {
     match line.verb {
@@ -158,7 +159,7 @@ fn in_lane<R: Threads + Sync>(
     requires fleet { IsFleet fleet.now }
     requires place { line.now.number + length line.now.after.now < 2 ^ 64 }
     requires reading { IsReading fleet.now (record { script = script; standing = standing.Lane earlier lane }) }
-    ensures exact { ParsesAs (λ step. step) result (in_lane last line.now.number fleet.now script earlier lane line.now.words.now (lines_of line.now.after.now) line.now.verb) }
+    ensures exact { ParsesAs (λ step. step) result (verb_at last line.now.number fleet.now script (standing.Lane earlier lane) line.now.words.now (lines_of line.now.after.now) line.now.verb) }
     ensures is_reading { IfOk result (λ step. IsReading fleet.now step.reading) }
     ensures enough { IfOk result (λ step. step.rows ≤ length (lines_of line.now.after.now)) }
 {

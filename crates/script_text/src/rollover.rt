@@ -1,7 +1,8 @@
 // A rollover.
-ghost use Rattle.std.specs.Prelude.{◌≡◌, ◌<◌, ◌≤◌, ℕ, List, IfOk, IfSome};
+ghost use Rattle.std.specs.Prelude.{◌≡◌, ◌<◌, ◌≤◌, ℕ, List, IfOk, IfSome, option_map};
+ghost use Rattle.script_text.specs.declared.command.Command.TheVariants.{Rollover};
 ghost use Rattle.script_text.specs.Words.{words_of, number_of};
-ghost use Rattle.script_text.specs.Commands.{percent_of, rollover_of, rollover_words, row_count};
+ghost use Rattle.script_text.specs.Commands.{or_words, rollover_words, row_count, within};
 ghost use Rattle.script_text.specs.Fits.{IsCommand};
 ghost use Rattle.script_text.specs.Script.{ParsesAs};
 
@@ -14,7 +15,7 @@ const USUAL_PERCENT: u32 = 2;
 
 /// The rollover of these words, which stand on the line of this number.
 pub fn rollover(words: &[u8], number: u64) -> Result<Command, ScriptFault>
-    ensures exact { ParsesAs (λ c. c) result (rollover_of number (rollover_words (words_of words.now))) }
+    ensures exact { ParsesAs (λ c. c) result (or_words number (option_map Rollover (rollover_words (words_of words.now)))) }
     ensures is_command { (leaves : ℕ) (tables : List (List ℕ)) → IfOk result (IsCommand leaves tables) }
     ensures no_rows { IfOk result (λ c. row_count c ≡ 0) }
 {
@@ -41,7 +42,7 @@ fn rollover_words(words: &[u8]) -> Option<u32>
 
 /// The percent that a word is.
 fn percent_of(word: &[u8]) -> Option<u32>
-    ensures exact { result ≡ percent_of (number_of word.now) }
+    ensures exact { result ≡ within 1 100 (number_of word.now) }
     ensures some { IfSome result (λ percent. 0 < percent) }
     ensures most { IfSome result (λ percent. percent ≤ 100) }
 {

@@ -5,7 +5,8 @@ ghost use Rattle.std.specs.List.{AllByRecursion, AllZip};
 ghost use Rattle.row_json.specs.Row.{row_of};
 ghost use Rattle.leaf_model.specs.Values.{IsRow};
 ghost use Rattle.script_text.specs.Lines.{lines_of};
-ghost use Rattle.script_text.specs.Commands.{one_row, rows_from};
+ghost use Rattle.script_text.specs.declared.fault.Why.TheVariants as why;
+ghost use Rattle.script_text.specs.Commands.{on_line, rows_from};
 ghost use Rattle.script_text.specs.Parts.{IsPartRead, fault_behind};
 ghost use Rattle.script_text.specs.Script.{IfAt, ParsesAs};
 
@@ -113,7 +114,7 @@ fn read_part(alloc: Global, part: &[u8]) -> Result<TableRows, ScriptFault>
 
 /// The row that the line of this number is.
 fn row(alloc: Global, line: &[u8], number: u64) -> Result<Row, ScriptFault>
-    ensures exact { ParsesAs (λ row. row) result (one_row number (row_of line.now)) }
+    ensures exact { ParsesAs (λ row. row) result (on_line number why.Row (row_of line.now)) }
     ensures is_row { IfOk result IsRow }
 {
     match row_json::row(alloc, line) {

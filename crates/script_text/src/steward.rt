@@ -1,6 +1,7 @@
 // The commands of a leaf's steward among the lanes of a burst.
 ghost use Rattle.std.specs.Prelude.{◌≡◌};
-ghost use Rattle.script_text.specs.Stewards.{has_steward, has_stewards, have_steward, have_stewards, is_a_stewards, is_second, is_stewards};
+ghost use Rattle.std.specs.List.{list_any};
+ghost use Rattle.script_text.specs.Stewards.{has_steward, has_stewards, is_a_stewards, is_second, is_stewards};
 
 use crate::command::{Command, Commands};
 
@@ -23,7 +24,7 @@ pub fn is_second(lanes: &[Commands], command: &Command) -> bool
 }
 
 fn have_steward(leaf: u32, lanes: &[Commands]) -> bool
-    ensures { result ≡ have_steward leaf lanes.now }
+    ensures { result ≡ list_any (has_steward leaf) lanes.now }
 {
     lanes.iter().any(|lane| has_steward(leaf, lane.as_slice()))
 }
@@ -52,7 +53,7 @@ fn is_stewards(leaf: u32, command: &Command) -> bool
 }
 
 fn have_stewards(lanes: &[Commands]) -> bool
-    ensures { result ≡ have_stewards lanes.now }
+    ensures { result ≡ list_any has_stewards lanes.now }
 {
     lanes.iter().any(|lane| has_stewards(lane.as_slice()))
 }

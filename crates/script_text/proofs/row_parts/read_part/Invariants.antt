@@ -2,7 +2,8 @@ use Rattle.std.proofs.Common.{◌≡◌, ◌+◌, ◌≤◌, length}
 use Rattle.std.specs.List.{AllByRecursion}
 use Rattle.leaf_model.specs.Values.{IsRow}
 use Rattle.script_text.specs.Lines.{lines_of}
-use Rattle.script_text.specs.Commands.{rows_from, joined}
+use Rattle.script_text.specs.Commands.{rows_from}
+use Rattle.script_text.proofs.Steps.{joined}
 use Rattle.script_text.proofs.row_parts.read_part.Given as goal
 
 abbrev pub invariant-loop-rest : goal.invariant-loop-rest
