@@ -8,7 +8,7 @@ use Rattle.leaf_model.specs.Content.{content}
 use Rattle.leaf_history.specs.History.{no_base}
 use Rattle.region_layout.proofs.Heads.{closed_head}
 use Rattle.row_records.specs.Records.{LogRecord}
-use Rattle.disk_backup.specs.Logs.{IsLog, is_short, is_gated, writes_of}
+use Rattle.disk_backup.specs.Logs.{IsLog, is_short, is_closed, writes_of}
 use Rattle.crash_moments.specs.Left.{NamedStates, Left, closed}
 use Rattle.crash_moments.specs.Base.{HasWritesOf, IsReady}
 
@@ -24,7 +24,7 @@ no_tables name = no_base
 
 no_records : (records : List LogRecord) (end : ℕ) → IsLog [] records end → records ≡ []
 no_records records end (is_short short none at) = none
-no_records records end (is_gated gate rest each is shut at long) = absurd (wrong long)
+no_records records end (is_closed log long) = absurd (wrong long)
   where
     wrong : 1 < 0 → ⊥
     wrong h = omega (arith, h)

@@ -7,7 +7,7 @@ use Rattle.std.proofs.lemmas.List.{append-nil}
 use Rattle.std.proofs.lemmas.List.Concat.{flat_map-cons, flat_map-append}
 use Rattle.row_records.specs.Records.{LogRecord, IsRecord, record_bytes}
 use Rattle.row_records.proofs.Once.{one_record}
-use Rattle.disk_backup.specs.Logs.{IsLog, is_short, is_gated, ClosedLog, open_records, OneLog, OneRecordMore, ClosedIsLog, LogIsClosed}
+use Rattle.disk_backup.specs.Logs.{IsLog, is_short, is_closed, ClosedLog, open_records, OneLog, OneRecordMore, ClosedIsLog, LogIsClosed}
 
 -- ---- a disk has one log
 
@@ -30,11 +30,11 @@ same_records (r ∷ records) (s ∷ others) gate other x y each all shut closed 
 
 pub one_log : OneLog
 one_log disk records others end other (is_short a b c) (is_short d e f) = (b ∙ sym e, c ∙ sym f)
-one_log disk records others end other (is_short a b c) (is_gated gate rest each is shut at long) = absurd (omega (arith, a, long))
-one_log disk records others end other (is_gated gate rest each is shut at long) (is_short a b c) = absurd (omega (arith, a, long))
-one_log disk records others end other (is_gated gate rest each is shut at long) (is_gated gate2 rest2 each2 is2 shut2 at2 long2) =
-    let same = same_records records others gate gate2 rest rest2 each each2 shut shut2 (sym is ∙ is2) in
-    (same, at ∙ ap (λ (l : List LogRecord). length (open_records l)) same ∙ sym at2)
+one_log disk records others end other (is_short a b c) (is_closed log long) = absurd (omega (arith, a, long))
+one_log disk records others end other (is_closed log long) (is_short a b c) = absurd (omega (arith, a, long))
+one_log disk records others end other (is_closed a long) (is_closed b longer) =
+    let same = same_records records others a.gate b.gate a.rest b.rest a.each b.each a.shut b.shut (sym a.is ∙ b.is) in
+    (same, a.end_is ∙ ap (λ (l : List LogRecord). length (open_records l)) same ∙ sym b.end_is)
 
 -- ---- one record more
 
@@ -53,7 +53,8 @@ pub one_record_more : OneRecordMore
 one_record_more records r gate rest each is shut =
     let bytes : open_records records ++ 1 ∷ (record_bytes r ++ gate ∷ rest) ≡ open_records (records ++ r ∷ []) ++ gate ∷ rest =
     sym (append_assoc (open_records records) (1 ∷ record_bytes r) (gate ∷ rest)) ∙ ap (λ (l : List ℕ). l ++ gate ∷ rest) (sym (open_snoc records r)) in
-    is_gated gate rest (all_snoc records r each is) bytes shut (sym (end_snoc records r)) (omega (arith, length-append (open_records records) (1 ∷ (record_bytes r ++ gate ∷ rest)), length-append (record_bytes r) (gate ∷ rest)))
+    is_closed (record { gate = gate; rest = rest; each = all_snoc records r each is; is = bytes; shut = shut; end_is = sym (end_snoc records r) })
+    (omega (arith, length-append (open_records records) (1 ∷ (record_bytes r ++ gate ∷ rest)), length-append (record_bytes r) (gate ∷ rest)))
 
 -- ---- a log with a gate at its end
 
@@ -68,7 +69,7 @@ closed_is_log disk records end closed = log (cases_lt 1 (length disk))
     size = ap length closed.is ∙ omega (arith, length-append (open_records records) (closed.gate ∷ closed.rest))
 
     log : (1 < length disk) ⊎ (length disk ≤ 1) → IsLog disk records end
-    log (inl long) = is_gated closed.gate closed.rest closed.each closed.is closed.shut closed.end_is long
+    log (inl long) = is_closed closed long
     log (inr short) = is_short short (no_records records (omega (arith, size, short))) (omega (arith, closed.end_is, size, short))
 
 pub log_is_closed : LogIsClosed
@@ -84,4 +85,4 @@ log_is_closed disk records end (is_short short none at) inside shut = only disk 
       shut = subst (λ (n : ℕ). get_or (b ∷ rest) n 1 ≢ 1) at shut;
       end_is = at ∙ sym (ap (λ (l : List LogRecord). length (open_records l)) none);
     }
-log_is_closed disk records end (is_gated gate rest each is closed at long) inside shut = record { gate = gate; rest = rest; each = each; is = is; shut = closed; end_is = at }
+log_is_closed disk records end (is_closed log long) inside shut = log

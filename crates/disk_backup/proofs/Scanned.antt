@@ -8,7 +8,7 @@ use Rattle.std.specs.Int.{w64, from_le_bytes}
 use Rattle.std.proofs.lemmas.List.{take_at, drop_at, drop_more}
 use Rattle.row_records.specs.Bytes.{u64_bytes}
 use Rattle.row_records.specs.Records.{LogRecord, IsRecord, record_body, record_bytes, flush_of}
-use Rattle.disk_backup.specs.Logs.{is_short, is_gated, ClosedLog, open_records}
+use Rattle.disk_backup.specs.Logs.{is_short, is_closed, ClosedLog, open_records}
 use Rattle.row_records.proofs.Fields.{wide64}
 use Rattle.row_records.proofs.Once.{one_record}
 use Rattle.row_records.proofs.Pended.{writes_fit, size}
@@ -101,8 +101,8 @@ tail_none (r ∷ records) (s ∷ all) rest tail x gate each every shut e opened 
 
 pub never_damaged : LogIsWhole
 never_damaged disk records all at end long (is_short short none zero_end) s damaged = absurd (omega (arith, long, short))
-never_damaged disk records all at end long (is_gated gate x every is shut at_end long2) s damaged =
-    tail_none records all s.rest damaged.rest x gate s.each every shut (sym s.is ∙ is) (sym (here disk records at s) ∙ damaged.opened) damaged.none
+never_damaged disk records all at end long (is_closed log longer) s damaged =
+    tail_none records all s.rest damaged.rest log.rest log.gate s.each log.each log.shut (sym s.is ∙ log.is) (sym (here disk records at s) ∙ damaged.opened) damaged.none
 
 -- ---- what was scanned is a front of the log
 
@@ -125,7 +125,7 @@ pub scanned_is_front : ScannedIsFront
 scanned_is_front disk records all at end s (is_short short none zero_end) =
     let few : length (open_records records ++ s.rest) ≤ 1 = subst (λ (d : List ℕ). length d ≤ 1) s.is short in
     (all, sym (ap (λ (l : List LogRecord). l ++ all) (none_in records s.rest few s.some)))
-scanned_is_front disk records all at end s (is_gated gate x every is shut at_end long) = front_of records all s.rest x gate s.each every shut (sym s.is ∙ is)
+scanned_is_front disk records all at end s (is_closed log long) = front_of records all s.rest log.rest log.gate s.each log.each log.shut (sym s.is ∙ log.is)
 
 -- ---- for the scan's steps
 

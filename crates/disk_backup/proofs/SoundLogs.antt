@@ -6,7 +6,7 @@ use Rattle.std.proofs.lemmas.List.{take-append-le, take_all, take_min}
 use Rattle.leaf_model.specs.declared.writes.Write.{Write}
 use Rattle.leaf_model.specs.Content.{content}
 use Rattle.row_records.specs.Records.{LogRecord}
-use Rattle.disk_backup.specs.Logs.{IsLog, is_short, is_gated, IsBounded, ClosedLog, writes_of}
+use Rattle.disk_backup.specs.Logs.{IsLog, is_short, is_closed, IsBounded, ClosedLog, writes_of}
 use Rattle.disk_backup.specs.Scanning.{BeginsScan, begun}
 use Rattle.disk_backup.specs.SoundLogs.{HasSoundLog, IsShort}
 use Rattle.disk_backup.proofs.Beginning.{begun_short, begun_long}
@@ -47,7 +47,7 @@ none_short = λ k.
 
 short_log : (disk : List ℕ) (records : List LogRecord) (end : ℕ) → length disk ≤ 1 → IsLog disk records end → (records ≡ []) × (end ≡ 0)
 short_log disk records end short (is_short few none at) = (none, at)
-short_log disk records end short (is_gated gate rest each is shut at long) = absurd (omega (arith, short, long))
+short_log disk records end short (is_closed log long) = absurd (omega (arith, short, long))
 
 begun_log : (disk : List ℕ) (records : List LogRecord) (end : ℕ) → IsLog disk records end → IsLog (begun disk) records end
 begun_log disk records end log = elim (cases_lt 1 (length disk)) [

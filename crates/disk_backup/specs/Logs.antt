@@ -9,17 +9,20 @@ use Rattle.row_records.specs.Records.{LogRecord, IsRecord, record_bytes}
 abbrev pub open_records : List LogRecord → List ℕ
 open_records records = flat_map (λ r. 1 ∷ record_bytes r) records
 
--- The disk is these records behind open gates, then a gate that is not open, at `end`, and any bytes.
--- A disk of at most one byte is an empty log, whatever its byte.
+-- These records behind open gates, then a gate that is not open, at `end`, and any bytes: what a log is that records are written to.
+-- A disk of one byte that is 1, or of no byte, is a log and not closed.
+pub record ClosedLog (records : List LogRecord) (end : ℕ) (disk : List ℕ) : Type 0 where
+  pub gate : ℕ
+  pub rest : List ℕ
+  pub each : AllByRecursion IsRecord records
+  pub is : disk ≡ open_records records ++ gate ∷ rest
+  pub shut : gate ≢ 1
+  pub end_is : end ≡ length (open_records records)
+
+-- A disk of at most one byte is an empty log, whatever its byte. A longer one is a closed log: records, and where they end a gate that is not open.
 pub data IsLog (disk : List ℕ) (records : List LogRecord) (end : ℕ) : Type 0 where
   is_short : length disk ≤ 1 → records ≡ [] → end ≡ 0 → IsLog disk records end
-  is_gated : (gate : ℕ) (rest : List ℕ)
-      → AllByRecursion IsRecord records
-      → disk ≡ open_records records ++ gate ∷ rest
-      → gate ≢ 1
-      → end ≡ length (open_records records)
-      → 1 < length disk
-      → IsLog disk records end
+  is_closed : ClosedLog records end disk → 1 < length disk → IsLog disk records end
 
 -- the writes of one table's records, in order
 abbrev pub writes_of : List ℕ → List LogRecord → List Write
@@ -33,16 +36,6 @@ IsBounded records = (name : List ℕ) (k : ℕ) → length (content (take k (wri
 -- each open gate is followed by a record and a gate, and no table is too long
 abbrev pub IsSound : List ℕ → Type 0
 IsSound disk = (records : List LogRecord) × (end : ℕ) × IsLog disk records end × IsBounded records
-
--- These records behind open gates, and a gate at `end` that is not open: what a log is that records are written to.
--- A disk of one byte that is 1, or of no byte, is a log and not closed.
-pub record ClosedLog (records : List LogRecord) (end : ℕ) (disk : List ℕ) : Type 0 where
-  pub gate : ℕ
-  pub rest : List ℕ
-  pub each : AllByRecursion IsRecord records
-  pub is : disk ≡ open_records records ++ gate ∷ rest
-  pub shut : gate ≢ 1
-  pub end_is : end ≡ length (open_records records)
 
 -- a disk has one log
 abbrev pub OneLog : Type 0

@@ -7,7 +7,7 @@ use Rattle.leaf_model.specs.declared.writes.Write.{Write}
 use Rattle.row_records.specs.Records.{LogRecord}
 use Rattle.berth_face.specs.Berth.{Meaning}
 use Rattle.leaf_history.specs.History.{HistoryState, after, write_count}
-use Rattle.disk_backup.specs.Logs.{IsLog, is_short, is_gated, writes_of}
+use Rattle.disk_backup.specs.Logs.{IsLog, is_short, is_closed, writes_of}
 use Rattle.disk_backup.specs.State.{LogState}
 use Rattle.disk_backup.specs.Settling.{HoldsOwing, with_writes}
 use Rattle.disk_backup.specs.SoundLogs.{HasSoundLog}
@@ -47,7 +47,7 @@ no_count disk name a short has = by has.2
   where
     by : IsLog disk has.0 has.1 → a ≡ 0
     by (is_short few none at) = has.3 ∙ ap (λ (records : List LogRecord). length (writes_of name records)) none
-    by (is_gated gate rest each is shut at long) = absurd (omega (arith, short, long))
+    by (is_closed log long) = absurd (omega (arith, short, long))
 
 has_none : (disk name : List ℕ) (a : ℕ) → length disk ≤ 1 → a ≡ 0 → LogHas disk name a
 has_none disk name a short none = ([], 0, is_short short refl refl, none)
