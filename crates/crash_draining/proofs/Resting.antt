@@ -7,20 +7,20 @@ use Rattle.leaf_history.specs.History.{HistoryState, no_base}
 use Rattle.berth_face.specs.Berth.{Meaning}
 use Rattle.berth_face.specs.Moments.{EachNow}
 use Rattle.region_layout.specs.Images.{TableImage}
-use Rattle.region_layout.specs.Images.{table_named}
 use Rattle.region_layout.specs.Region.{IsClosed}
 use Rattle.region_directory.specs.Region.{IsAdoptable}
 use Rattle.disk_backup.specs.Logs.{open_records}
 use Rattle.disk_backup.specs.Settling.{HasLog}
-use Rattle.region_layout.specs.ImageWrites.{AreImagesOf, IsImageOf}
+use Rattle.region_layout.specs.ImageWrites.{AreImagesOf}
 use Rattle.disk_backup.specs.SoundLogs.{IsShort}
 use Rattle.disk_backup.proofs.SoundLogs.{none_short}
-use Rattle.crash_moments.specs.Left.{NamedStates}
+use Rattle.crash_moments.specs.Left.{NamedStates, closed}
 use Rattle.crash_moments.specs.Watched.{Watched, IsFoundation, IsWatched, AreWatched, is_watched, now_of, others_then, was_opened}
-use Rattle.crash_states.specs.Standing.{StandsNow, IsKept, IsTreated, IsWhole, Rests, RegionRests, is_closed, is_image, tables_of}
+use Rattle.crash_states.specs.Standing.{StandsNow, IsKept, IsTreated, Rests, RegionRests, tables_of}
 use Rattle.crash_states.proofs.Names.{IsOwn, IsForeign, find_name, no_others, each_at}
 use Rattle.crash_states.proofs.States.{now_sound}
 use Rattle.crash_states.proofs.Disks.{sound_log}
+use Rattle.crash_states.proofs.Pairs.{image_left}
 
 -- ---- one table
 
@@ -46,7 +46,7 @@ has_kept writes s has =
 -- ---- the region
 
 pub closed_or_image : (image region : List ℕ) (images : List TableImage) (log_end : ℕ) → IsAdoptable image images log_end → IsClosed region ⊎ (region ≡ image) → IsClosed region ⊎ IsAdoptable region images log_end
-closed_or_image image region images log_end is (inl closed) = inl closed
+closed_or_image image region images log_end is (inl shut) = inl shut
 closed_or_image image region images log_end is (inr whole) = inr (subst (λ (bytes : List ℕ). IsAdoptable bytes images log_end) (sym whole) is)
 
 -- ---- the leaf
@@ -98,17 +98,10 @@ module _ (ws : List Watched) (writes : List ℕ → List Write) (m : Meaning) (e
         by (inr foreign) =
             subst (HasAll (writes name)) (sym (foreign.stands now_of outside ∙ no_others (was_opened m.clock ws) others name ends.opened)) (none_has (writes name) (ends.others name foreign.unwatched))
 
-    whole : IsWhole tables ends.images ends.log_end m
-    whole = record {
-      same = λ name. subst (λ (l : List Write). IsImageOf l (table_named ends.images name)) (sym (has_all name).whole) (ends.same name);
-      logs = λ p left.
-          let had = ends.logs p left in
-          (had.0, had.1, λ name. had.2 name ∙ sym (has_all name).whole);
-    }
-
     region : IsClosed m.held.region ⊎ IsAdoptable m.held.region ends.images ends.log_end → RegionRests tables m
-    region (inl closed) = is_closed closed
-    region (inr is) = is_image ends.images ends.log_end is whole
+    region (inl shut) p left = closed shut
+    region (inr is) p left =
+        image_left tables writes (record { region = m.held.region; disk = p.disk }) ends.images ends.log_end (λ name. (has_all name).whole) is ends.same (ends.logs p left)
 
     pub ends_rest : ((name : List ℕ) → IsFoundation (others name)) → Rests ws others writes None m
     ends_rest sound = record {

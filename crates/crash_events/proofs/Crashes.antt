@@ -42,20 +42,20 @@ closes Whole = tt
 closes Either = tt
 closes Other = tt
 
-region_after : (reads : ℕ → Bool) (base tables : NamedStates) (pair : Pair) (end : ℕ) (r : RegionIs) → ((name : List ℕ) → tables name ≡ base name) → RegionFits reads base pair end r
-    → (r' : RegionIs) × AfterCrash r r' × RegionFits reads tables pair end r'
-region_after reads base tables pair end r same (shows_lost none) = (Closed, closes r, shows_lost none)
-region_after reads base tables pair end r same (shows_closed may shut) = (Closed, closes r, shows_closed refl shut)
-region_after reads base tables pair end Whole same (shows_whole v images may is of gate) = (Whole, tt, shows_whole v images may is (image_of base tables images same of) gate)
-region_after reads base tables pair end Either same (shows_either (shows_lost none)) = (Closed, tt, shows_lost none)
-region_after reads base tables pair end Either same (shows_either (shows_closed may shut)) = no (sym may)
-region_after reads base tables pair end Either same (shows_either (shows_whole v images may is of gate)) = (Whole, tt, shows_whole v images may is (image_of base tables images same of) gate)
-region_after reads base tables pair end Other same (shows_other v head not) = (Other, tt, shows_other v head not)
+region_after : (reads : ℕ → Bool) (base tables : NamedStates) (pair : Pair) (r : RegionIs) → ((name : List ℕ) → tables name ≡ base name) → RegionFits reads base pair r
+    → (r' : RegionIs) × AfterCrash r r' × RegionFits reads tables pair r'
+region_after reads base tables pair r same (shows_lost none) = (Closed, closes r, shows_lost none)
+region_after reads base tables pair r same (shows_closed may shut) = (Closed, closes r, shows_closed refl shut)
+region_after reads base tables pair Whole same (shows_whole v images records end may is of shut) = (Whole, tt, shows_whole v images records end may is (image_of base tables images same of) shut)
+region_after reads base tables pair Either same (shows_either (shows_lost none)) = (Closed, tt, shows_lost none)
+region_after reads base tables pair Either same (shows_either (shows_closed may shut)) = no (sym may)
+region_after reads base tables pair Either same (shows_either (shows_whole v images records end may is of shut)) = (Whole, tt, shows_whole v images records end may is (image_of base tables images same of) shut)
+region_after reads base tables pair Other same (shows_other v head not) = (Other, tt, shows_other v head not)
 
 pub crashes_fit : (reads : ℕ → Bool) (m : Machine) (pair : Pair) → FitsPair reads m pair → (m' : Machine) × (m'.mode ≡ Down) × Step m m' × FitsPair reads m' pair
 crashes_fit reads m pair f =
     let a : After m f.records 0 m.tables = after m f.records 0 m.tables f.logs in
-    let r = region_after reads (state_of m.tables) (state_of a.tables) pair f.end m.region a.states f.region in
+    let r = region_after reads (state_of m.tables) (state_of a.tables) pair m.region a.states f.region in
     let m' : Machine = record { tables = a.tables; hand = None; mode = Down; region = r.0 } in (
       m',
       refl,

@@ -6,7 +6,8 @@ use Rattle.std.proofs.Math.Seq.{take-length}
 use Rattle.berth_face.specs.Berth.{Pair}
 use Rattle.leaf_history.specs.History.{HistoryState}
 use Rattle.row_records.specs.Records.{LogRecord}
-use Rattle.disk_backup.specs.Logs.{writes_of}
+use Rattle.disk_backup.specs.Logs.{IsLog, writes_of}
+use Rattle.disk_backup.proofs.Logs.{one_log, closed_is_log}
 use Rattle.crash_moments.specs.Left.{NamedStates, Left, RegionLeft, closed, other_version, image}
 use Rattle.crash_events.specs.Machine.{Machine, Tracked, RegionIs, Whole, Either, Other}
 use Rattle.crash_events.specs.Events.{IsSettled, MayBe}
@@ -54,14 +55,16 @@ wholes m records name frozen b (x ∷ xs) k l plain others = by (bytes_eq name x
         ap (λ v. writes_of v records) same ∙ (l.0.2 ∙ (ap (λ i. take i x.state.writes) all ∙ take-length x.state.writes))
     by false e rest = rest (λ h. others (e, h))
 
-regions : (reads : ℕ → Bool) (tables : NamedStates) (pair : Pair) (records : List LogRecord) (end : ℕ) (r : RegionIs)
+regions : (reads : ℕ → Bool) (tables : NamedStates) (pair : Pair) (records : List LogRecord) (end : ℕ) (r : RegionIs) → IsLog pair.disk records end
     → (holds_image r ≡ true → (name : List ℕ) → writes_of name records ≡ (tables name).writes)
-    → RegionFits reads tables pair end r → RegionLeft reads tables pair records end
-regions reads tables pair records end r whole (shows_lost none) = closed (inl (let short : length pair.region ≡ 0 = ap (λ (bytes : List ℕ). length bytes) none in omega (arith, short)))
-regions reads tables pair records end r whole (shows_closed may shut) = closed shut
-regions reads tables pair records end Whole whole (shows_whole version images may is of gate) = image version images may is of (whole refl) gate
-regions reads tables pair records end Either whole (shows_either f) = regions reads tables pair records end Whole (λ e. whole refl) f
-regions reads tables pair records end Other whole (shows_other version head n) = other_version version head n
+    → RegionFits reads tables pair r → RegionLeft reads tables pair
+regions reads tables pair records end r log whole (shows_lost none) = closed (inl (let short : length pair.region ≡ 0 = ap (λ (bytes : List ℕ). length bytes) none in omega (arith, short)))
+regions reads tables pair records end r log whole (shows_closed may shut) = closed shut
+regions reads tables pair records end Whole log whole (shows_whole version images those ends may is of shut) =
+    let same : those ≡ records = (one_log pair.disk those records ends end (closed_is_log pair.disk those ends shut) log).0 in
+    image version images ends may is of (those, shut, λ name. ap (λ rs. writes_of name rs) same ∙ whole refl name)
+regions reads tables pair records end Either log whole (shows_either f) = regions reads tables pair records end Whole log (λ e. whole refl) f
+regions reads tables pair records end Other log whole (shows_other version head n) = other_version version head n
 
 -- a pair that fits a kept state belongs to its tables
 pub fitting_is_left : (reads : ℕ → Bool) (m : Machine) (pair : Pair) → IsPlain m.tables → Kept m → FitsPair reads m pair → Left reads (state_of m.tables) pair
@@ -71,6 +74,6 @@ fitting_is_left reads m pair plain k f = record {
   log = f.log;
   bounded = f.bounded;
   front = λ name. fronts m f.records name 0 m.tables k.1 f.logs plain (f.others name);
-  region = regions reads (state_of m.tables) pair f.records f.end m.region
+  region = regions reads (state_of m.tables) pair f.records f.end m.region f.log
       (λ e name. wholes m f.records name (or_left (holds_image m.region) (stays m.mode) e) 0 m.tables k.1 f.logs plain (f.others name)) f.region;
 }

@@ -6,23 +6,26 @@ use Rattle.std.proofs.lemmas.List.{length-take, nil_from_length}
 use Rattle.std.proofs.lemmas.Slice.Eq.{bytes_eq-Decides}
 use Rattle.berth_face.specs.Berth.{Pair, Meaning}
 use Rattle.leaf_model.specs.declared.writes.Write.{Write}
-use Rattle.leaf_model.specs.Content.{content}
 use Rattle.leaf_history.specs.History.{HistoryState, base_of, no_base}
 use Rattle.region_layout.specs.declared.head.Head.TheVariants.{Version}
 use Rattle.region_layout.specs.Images.{TableImage}
+use Rattle.region_layout.specs.ImageWrites.{AreImagesOf}
 use Rattle.leaf_model.specs.Names.{AreDistinct}
 use Rattle.region_layout.specs.Region.{head_of}
 use Rattle.region_directory.specs.Region.{IsImage}
 use Rattle.region_layout.proofs.Heads.{closed_head}
 use Rattle.row_records.specs.Records.{LogRecord}
 use Rattle.disk_backup.specs.Logs.{writes_of}
-use Rattle.crash_moments.specs.Left.{NamedStates, Left, ImageOf, RegionLeft, closed, other_version, image}
+use Rattle.disk_backup.specs.Settling.{HasLog}
+use Rattle.disk_backup.proofs.Logs.{one_log, closed_is_log}
+use Rattle.crash_moments.specs.Left.{NamedStates, Left, RegionLeft, closed, other_version, image}
 use Rattle.crash_moments.specs.Base.{HasWritesOf, IsBaseOf, IsFixed, HasTwoLengths, PairsMayBegin, IsReady}
 use Rattle.crash_events.specs.Machine.{Machine, Tracked, Down, RegionIs, Closed, Whole, Either, Other}
 use Rattle.crash_events.specs.Kept.{is_frozen}
 use Rattle.crash_events.specs.Fits.{FitsPair, RegionFits, shows_lost, shows_closed, shows_whole, shows_other, state_of, IsElsewhere}
 use Rattle.crash_events.specs.Begins.{begun_tables, begun, RegionReads, reads_closed, reads_whole, reads_other, LeavesItself, HasNoOther, MachineBegins}
 use Rattle.crash_events.proofs.Places.{no}
+use Rattle.crash_moments.proofs.Alike.{images_alike}
 use Rattle.crash_moments.proofs.Bases.{both, flushed_le}
 use Rattle.crash_events.proofs.Fresh.{Fresh, IsAll, AtMostOne, OfLog, all_kept, no_hand, all_have}
 use Rattle.crash_events.proofs.Beginning.{IsBegun, ButOne, are_begun, names_are, are_fresh, are_plain, but_one, at_most_one, all_one}
@@ -90,19 +93,9 @@ state_is may base name (x ∷ xs) is b none = by (bytes_eq name x.name) refl (st
     by false e rest = rest (λ h. none (e, h))
 
 -- an image of tables is one of the same tables
-abbrev IsImageOf : HistoryState → TableImage → Type 0
-IsImageOf s t = (t.rows ≡ (content s.writes).rows) × (t.horizon ≡ (content s.writes).horizon) × (t.writes ≡ length s.writes)
-
-each_image : (base tables : NamedStates) (images : List TableImage) → ((name : List ℕ) → tables name ≡ base name) → AllByRecursion (λ (t : TableImage). IsImageOf (base t.name) t) images
-    → AllByRecursion (λ (t : TableImage). IsImageOf (tables t.name) t) images
-each_image base tables [] same of = tt
-each_image base tables (t ∷ images) same of = (subst (λ s. IsImageOf s t) (sym (same t.name)) of.0, each_image base tables images same of.1)
-
-pub image_of : (base tables : NamedStates) (images : List TableImage) → ((name : List ℕ) → tables name ≡ base name) → ImageOf base images → ImageOf tables images
-image_of base tables images same of = record {
-  all = λ name some. of.all name (λ none. some (ap (λ (s : HistoryState). s.writes) (same name) ∙ none));
-  each = each_image base tables images same of.each;
-}
+pub image_of : (base tables : NamedStates) (images : List TableImage) → ((name : List ℕ) → tables name ≡ base name) → AreImagesOf (λ name. (base name).writes) images
+    → AreImagesOf (λ name. (tables name).writes) images
+image_of base tables images same = images_alike (λ name. (base name).writes) (λ name. (tables name).writes) images (λ name. ap (λ (s : HistoryState). s.writes) (sym (same name)))
 
 one_version : (v w : ℕ) → Version v ≡ Version w → v ≡ w
 one_version v w e = cc
@@ -113,14 +106,14 @@ no_other reads region v w images end may is head not =
     let same : v ≡ w = one_version v w (sym is.has.head ∙ head) in
     both (reads w) not (subst (λ n. reads n ≡ true) same may)
 
-region_fits : (reads : ℕ → Bool) (base tables : NamedStates) (p : Pair) (records : List LogRecord) (end : ℕ) (r : RegionIs) → ((name : List ℕ) → tables name ≡ base name)
-    → RegionReads reads p.region r → RegionLeft reads base p records end → RegionFits reads tables p end r
-region_fits reads base tables p records end Closed same (reads_closed is) left = shows_closed refl is
-region_fits reads base tables p records end Other same (reads_other v head not) left = shows_other v head not
-region_fits reads base tables p records end Either same shows left = elim shows [ ]
-region_fits reads base tables p records end Whole same (reads_whole v images e may is) (closed shut) = absurd (closed_head p.region shut v is.has.head)
-region_fits reads base tables p records end Whole same (reads_whole v images e may is) (other_version w head not) = no_other reads p.region v w images e may is head not
-region_fits reads base tables p records end Whole same (reads_whole v images e may is) (image w all may' is' of whole gate) = shows_whole w all may' is' (image_of base tables all same of) gate
+region_fits : (reads : ℕ → Bool) (base tables : NamedStates) (p : Pair) (r : RegionIs) → ((name : List ℕ) → tables name ≡ base name)
+    → RegionReads reads p.region r → RegionLeft reads base p → RegionFits reads tables p r
+region_fits reads base tables p Closed same (reads_closed is) left = shows_closed refl is
+region_fits reads base tables p Other same (reads_other v head not) left = shows_other v head not
+region_fits reads base tables p Either same shows left = elim shows [ ]
+region_fits reads base tables p Whole same (reads_whole v images e may is) (closed shut) = absurd (closed_head p.region shut v is.has.head)
+region_fits reads base tables p Whole same (reads_whole v images e may is) (other_version w head not) = no_other reads p.region v w images e may is head not
+region_fits reads base tables p Whole same (reads_whole v images e may is) (image w all end may' is' of had) = shows_whole w all had.0 end may' is' (image_of base tables all same of) had.1
 
 none_longer : (m : ℕ) (ws : List Write) → ws ≡ [] → take m ws ≡ []
 none_longer m ws e = let short : length (take m ws) ≡ 0 = length-take m ws ∙ (let few : length ws ≡ 0 = ap (λ (us : List Write). length us) e in omega (arith, few)) in nil_from_length (take m ws) short
@@ -146,7 +139,7 @@ pair_fits reads berth base own others r p ready itself distinct none shows left 
       logs = all_have m l.records 0 xs refl few (logs_are reads may berth.held base p ready.begins left l xs b) f;
       others = λ name far. (l.front name).3 ∙ none_longer (l.front name).0 (base name).writes (none name far);
       region = elim (itself.region p left) [
-        | inl held ↦ region_fits reads base (state_of xs) p l.records l.end r same (subst (λ bytes. RegionReads reads bytes r) (sym held) shows) l.region
+        | inl held ↦ region_fits reads base (state_of xs) p r same (subst (λ bytes. RegionReads reads bytes r) (sym held) shows) l.region
         | inr lost ↦ shows_lost lost
       ];
     }
@@ -156,10 +149,21 @@ all_flushed base [] all b = tt
 all_flushed base (x ∷ xs) all b = (all_one base x b.0 (all x.name), all_flushed base xs all b.1)
 
 -- what the region is, is known
-region_known : (reads : ℕ → Bool) (base : NamedStates) (p : Pair) (records : List LogRecord) (end : ℕ) → RegionLeft reads base p records end → (r : RegionIs) × RegionReads reads p.region r
-region_known reads base p records end (closed shut) = (Closed, reads_closed shut)
-region_known reads base p records end (other_version v head not) = (Other, reads_other v head not)
-region_known reads base p records end (image v images may is of whole gate) = (Whole, reads_whole v images end may is)
+region_known : (reads : ℕ → Bool) (base : NamedStates) (p : Pair) → RegionLeft reads base p → (r : RegionIs) × RegionReads reads p.region r
+region_known reads base p (closed shut) = (Closed, reads_closed shut)
+region_known reads base p (other_version v head not) = (Other, reads_other v head not)
+region_known reads base p (image v images end may is of had) = (Whole, reads_whole v images end may is)
+
+-- where each log has all of the base, all of it is flushed
+whole_flushed : (may : Pair → Type 0) (base : NamedStates) (end : ℕ) → ((name : List ℕ) → IsBaseOf may name (base name))
+    → ((p : Pair) → may p → HasLog (λ name. (base name).writes) end p.disk) → (name : List ℕ) → (base name).flushed ≡ length (base name).writes
+whole_flushed may base end is logs name =
+    let least = (is name).least in
+    let disk = least.0.disk in
+    let log = least.3 in
+    let had = logs least.0 least.2 in
+    let same : log.0 ≡ had.0 = (one_log disk log.0 had.0 log.1 end log.2 (closed_is_log disk had.0 end had.1)).0 in
+    least.4 ∙ ap (λ (ws : List Write). length ws) (log.3 ∙ ap (λ rs. writes_of name rs) same ∙ had.2 name)
 
 -- beside an image all is flushed
 frozen_all : (reads : ℕ → Bool) (berth : Meaning) (base : NamedStates) (r : RegionIs) (xs : List Tracked) → IsReady reads berth base → RegionReads reads berth.held.region r
@@ -167,7 +171,8 @@ frozen_all : (reads : ℕ → Bool) (berth : Meaning) (base : NamedStates) (r : 
 frozen_all reads berth base Closed xs ready (reads_closed shut) b e = no e
 frozen_all reads berth base Other xs ready (reads_other v head not) b e = no e
 frozen_all reads berth base Either xs ready shows b e = elim shows [ ]
-frozen_all reads berth base Whole xs ready (reads_whole v images end may is) b e = all_flushed base xs (ready.begins.image v images end may is).0 b
+frozen_all reads berth base Whole xs ready (reads_whole v images end may is) b e =
+    all_flushed base xs (whole_flushed (λ q. berth.leaves berth.clock q) base end ready.begins.base_is (ready.begins.image v images end may is)) b
 
 -- over a ready berth a leaf begins, with all the names that have writes
 pub ready_begins : (reads : ℕ → Bool) (berth : Meaning) (base : NamedStates) (own others : List (List ℕ)) → IsReady reads berth base → LeavesItself berth
@@ -176,7 +181,7 @@ ready_begins reads berth base own others ready itself distinct none =
     let may : Pair → Type 0 = λ q. berth.leaves berth.clock q in
     let xs : List Tracked = begun_tables base own others in
     let l : Left reads base berth.held = ready.begins.left berth.held itself.stands in
-    let known : (r : RegionIs) × RegionReads reads berth.held.region r = region_known reads base berth.held l.records l.end l.region in
+    let known : (r : RegionIs) × RegionReads reads berth.held.region r = region_known reads base berth.held l.region in
     let b : AllByRecursion (IsBegun base) xs = are_begun base own others in
     let f : AllByRecursion Fresh xs = are_fresh may base xs ready.begins.base_is b in
     let all : is_frozen Down known.0 ≡ true → AllByRecursion IsAll xs = λ e. frozen_all reads berth base known.0 xs ready known.1 b e in

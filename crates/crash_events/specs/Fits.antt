@@ -5,11 +5,12 @@ use Rattle.berth_face.specs.Berth.{Pair}
 use Rattle.leaf_history.specs.History.{no_base}
 use Rattle.region_layout.specs.declared.head.Head.TheVariants.{Version}
 use Rattle.region_layout.specs.Images.{TableImage}
+use Rattle.region_layout.specs.ImageWrites.{AreImagesOf}
 use Rattle.region_layout.specs.Region.{IsClosed, head_of}
 use Rattle.region_directory.specs.Region.{IsImage}
 use Rattle.row_records.specs.Records.{LogRecord}
-use Rattle.disk_backup.specs.Logs.{IsLog, IsBounded, writes_of}
-use Rattle.crash_moments.specs.Left.{NamedStates, ImageOf, HasShutGate}
+use Rattle.disk_backup.specs.Logs.{IsLog, ClosedLog, IsBounded, writes_of}
+use Rattle.crash_moments.specs.Left.{NamedStates}
 use Rattle.crash_events.specs.Machine.{Machine, Tracked, RegionIs, Whole, Either, Other}
 use Rattle.crash_events.specs.Events.{MayBe, is_whole}
 use Rattle.crash_events.specs.Kept.{AllPlaces}
@@ -19,13 +20,13 @@ abbrev pub LogFits : Machine → List LogRecord → Type 0
 LogFits m records = AllPlaces (λ t x. (n : ℕ) × MayBe m t x n × (writes_of x.name records ≡ take n x.state.writes)) 0 m.tables
 
 -- the region is what the machine says, or empty where the machine was lost
-pub data RegionFits (reads : ℕ → Bool) (tables : NamedStates) (pair : Pair) (end : ℕ) : RegionIs → Type 0 where
-  shows_lost : {r : RegionIs} → pair.region ≡ [] → RegionFits reads tables pair end r
-  shows_closed : {r : RegionIs} → is_whole r ≡ false → IsClosed pair.region → RegionFits reads tables pair end r
-  shows_whole : (version : ℕ) (images : List TableImage) → reads version ≡ true → IsImage version pair.region images end → ImageOf tables images → HasShutGate pair.disk end
-      → RegionFits reads tables pair end Whole
-  shows_either : RegionFits reads tables pair end Whole → RegionFits reads tables pair end Either
-  shows_other : (version : ℕ) → head_of pair.region ≡ Version version → reads version ≡ false → RegionFits reads tables pair end Other
+pub data RegionFits (reads : ℕ → Bool) (tables : NamedStates) (pair : Pair) : RegionIs → Type 0 where
+  shows_lost : {r : RegionIs} → pair.region ≡ [] → RegionFits reads tables pair r
+  shows_closed : {r : RegionIs} → is_whole r ≡ false → IsClosed pair.region → RegionFits reads tables pair r
+  shows_whole : (version : ℕ) (images : List TableImage) (records : List LogRecord) (end : ℕ) → reads version ≡ true → IsImage version pair.region images end
+      → AreImagesOf (λ name. (tables name).writes) images → ClosedLog records end pair.disk → RegionFits reads tables pair Whole
+  shows_either : RegionFits reads tables pair Whole → RegionFits reads tables pair Either
+  shows_other : (version : ℕ) → head_of pair.region ≡ Version version → reads version ≡ false → RegionFits reads tables pair Other
 
 -- the state of each name: of one that stands in no table, no writes
 abbrev pub state_of : List Tracked → NamedStates
@@ -44,4 +45,4 @@ pub record FitsPair (reads : ℕ → Bool) (m : Machine) (pair : Pair) : Type 0 
   pub bounded : IsBounded records
   pub logs : LogFits m records
   pub others : (name : List ℕ) → IsElsewhere name m.tables → writes_of name records ≡ []
-  pub region : RegionFits reads (state_of m.tables) pair end m.region
+  pub region : RegionFits reads (state_of m.tables) pair m.region

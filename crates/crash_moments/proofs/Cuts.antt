@@ -4,9 +4,13 @@ use Rattle.std.specs.Prelude.{nat_le, if◌then◌else◌, ◌==◌, ◌&&◌, �
 use Rattle.std.specs.List.{AllByRecursion, list_any}
 use Rattle.std.proofs.lemmas.Bool.{false≢true, le-leb, lt-leb, leb-true, eq-eqb, eqb-true, and_from}
 use Rattle.leaf_history.specs.History.{Entry}
-use Rattle.crash_moments.specs.Watched.{is_made, any_made, cut, Between}
+use Rattle.crash_moments.specs.Watched.{is_made, cut, Between}
 
 -- ---- whether the steward made an entry by a moment
+
+-- one of the entries
+abbrev any_made : ℕ → List Entry → Bool
+any_made t = list_any (is_made t)
 
 pub made_by : (t : ℕ) (e : Entry) → e.caller ≡ 0 → e.clock ≤ t → is_made t e ≡ true
 made_by t e steward by_then = and_from (e.caller == 0) (nat_le e.clock t) (eq-eqb e.caller 0 steward) (le-leb e.clock t by_then)
@@ -43,7 +47,7 @@ none_yet t from to (e ∷ more) earlier within = rw (not_yet t from to e earlier
 
 any_before : (t : ℕ) (xs more : List Entry) → any_made t more ≡ false → any_made t (xs ++ more) ≡ any_made t xs
 any_before t [] more none = none
-any_before t (x ∷ xs) more none = ap (λ (b : Bool). if is_made t x then true else b) (any_before t xs more none)
+any_before t (x ∷ xs) more none = ap (λ (b : Bool). is_made t x || b) (any_before t xs more none)
 
 nothing_cut : (t : ℕ) (more : List Entry) → any_made t more ≡ false → cut t more ≡ []
 nothing_cut t [] none = refl
@@ -73,7 +77,7 @@ none_of : (t : ℕ) (es : List Entry) → any_made t es ≡ false → AllByRecur
 none_of t [] none = tt
 none_of t (e ∷ es) none = by (is_made t e) refl (none_of t es) none
   where
-    by : (b : Bool) → is_made t e ≡ b → (any_made t es ≡ false → AllByRecursion (NotMade t) es) → (if b then true else any_made t es) ≡ false → AllByRecursion (NotMade t) (e ∷ es)
+    by : (b : Bool) → is_made t e ≡ b → (any_made t es ≡ false → AllByRecursion (NotMade t) es) → (b || any_made t es) ≡ false → AllByRecursion (NotMade t) (e ∷ es)
     by true is rest none = absurd (false≢true (sym none))
     by false is rest none = (is, rest none)
 
@@ -92,7 +96,7 @@ any_last : (t : ℕ) (es : List Entry) (e : Entry) → is_made t e ≡ true → 
 any_last t [] e made = rw made refl
 any_last t (x ∷ es) e made = by (is_made t x) (any_last t es e made)
   where
-    by : (b : Bool) → any_made t (es ++ e ∷ []) ≡ true → (if b then true else any_made t (es ++ e ∷ [])) ≡ true
+    by : (b : Bool) → any_made t (es ++ e ∷ []) ≡ true → (b || any_made t (es ++ e ∷ [])) ≡ true
     by true rest = refl
     by false rest = rest
 
@@ -107,11 +111,11 @@ any_on : (c d : ℕ) (es more : List Entry) → c ≤ d → any_made c es ≡ tr
 any_on c d [] more later any = absurd (false≢true any)
 any_on c d (e ∷ es) more later any = by (is_made c e) refl any (any_on c d es more later)
   where
-    either : (a b : Bool) → b ≡ true → (if a then true else b) ≡ true
+    either : (a b : Bool) → b ≡ true → (a || b) ≡ true
     either true b is = refl
     either false b is = is
 
-    by : (b : Bool) → is_made c e ≡ b → (if b then true else any_made c es) ≡ true → (any_made c es ≡ true → any_made d (es ++ more) ≡ true) → any_made d (e ∷ es ++ more) ≡ true
+    by : (b : Bool) → is_made c e ≡ b → (b || any_made c es) ≡ true → (any_made c es ≡ true → any_made d (es ++ more) ≡ true) → any_made d (e ∷ es ++ more) ≡ true
     by true made any rest = rw (made_on c d e later made) refl
     by false made any rest = either (is_made d e) (any_made d (es ++ more)) (rest any)
 

@@ -7,7 +7,8 @@ use Rattle.region_layout.specs.Images.{TableImage}
 use Rattle.region_directory.specs.Region.{IsImage}
 use Rattle.row_records.specs.Records.{LogRecord}
 use Rattle.disk_backup.specs.Logs.{IsLog, writes_of}
-use Rattle.crash_moments.specs.Left.{NamedStates, Left, HasShutGate}
+use Rattle.disk_backup.specs.Settling.{HasLog}
+use Rattle.crash_moments.specs.Left.{NamedStates, Left}
 
 -- the writes of a name in a disk's log
 abbrev pub HasWritesOf : List ℕ → List ℕ → List Write → Type 0
@@ -28,12 +29,8 @@ IsFixed may_leave name = (p q : Pair) (u v : List Write) → may_leave p → may
 abbrev pub HasTwoLengths : (Pair → Type 0) → List ℕ → HistoryState → Type 0
 HasTwoLengths may_leave name base = (p : Pair) (u : List Write) → may_leave p → HasWritesOf p.disk name u → (length u ≡ base.flushed) ⊎ (length u ≡ length base.writes)
 
--- the log ends here, before a gate that is not open
-abbrev pub EndsAt : List ℕ → ℕ → Type 0
-EndsAt disk end = ((records : List LogRecord) × IsLog disk records end) × HasShutGate disk end
-
 -- A leaf may begin over these pairs, of which reads give `now`: each belongs to the base, and at most one record may still be
--- lost or not. An empty disk was not written. An image that is read has all that the logs have, and each log ends where it says.
+-- lost or not. An empty disk was not written. Beside an image that is read each log has all of the base, and ends where the image says.
 pub record PairsMayBegin (reads : ℕ → Bool) (may_leave : Pair → Type 0) (now : Pair) (base : NamedStates) : Type 0 where
   pub base_is : (name : List ℕ) → IsBaseOf may_leave name (base name)
   pub left : (pair : Pair) → may_leave pair → Left reads base pair
@@ -41,8 +38,7 @@ pub record PairsMayBegin (reads : ℕ → Bool) (may_leave : Pair → Type 0) (n
       ⊎ ((name : List ℕ) × HasTwoLengths may_leave name (base name) × ((other : List ℕ) → other ≢ name → IsFixed may_leave other))
   pub empty : now.disk ≡ [] → (pair : Pair) → may_leave pair → length pair.disk ≤ 1
   pub image : (version : ℕ) (images : List TableImage) (end : ℕ) → reads version ≡ true → IsImage version now.region images end
-      → ((name : List ℕ) → (base name).flushed ≡ length (base name).writes)
-      × ((pair : Pair) → may_leave pair → EndsAt pair.disk end)
+      → (pair : Pair) → may_leave pair → HasLog (λ name. (base name).writes) end pair.disk
 
 -- the berth tells its contents, and a leaf with this base may begin there now
 pub record IsReady (reads : ℕ → Bool) (berth : Meaning) (base : NamedStates) : Type 0 where

@@ -25,15 +25,10 @@ now_of w = after true w.base w.seen
 abbrev pub is_made : ℕ → Entry → Bool
 is_made t e = (e.caller == 0) && nat_le e.clock t
 
--- it made one of the entries by then
-abbrev pub any_made : ℕ → List Entry → Bool
-any_made t [] = false
-any_made t (e ∷ es) = if is_made t e then true else any_made t es
-
 -- the history up to the last entry that the steward made by this moment: nothing where there is none
 abbrev pub cut : ℕ → List Entry → List Entry
 cut t [] = []
-cut t (e ∷ es) = if any_made t (e ∷ es) then e ∷ cut t es else []
+cut t (e ∷ es) = if list_any (is_made t) (e ∷ es) then e ∷ cut t es else []
 
 -- where the table stood then
 abbrev pub state_then : ℕ → Watched → HistoryState
@@ -42,14 +37,7 @@ state_then t w = after true w.base (cut t w.seen)
 -- the table was opened
 abbrev pub is_open_call : Call → Bool
 is_open_call (call.Open n contents) = true
-is_open_call (call.Add rows) = false
-is_open_call (call.Expire horizon) = false
-is_open_call (call.Keep n) = false
-is_open_call (call.Ask q) = false
-is_open_call call.Take = false
-is_open_call (call.Flushed n) = false
-is_open_call call.Shut = false
-is_open_call call.Done = false
+is_open_call _ = false
 
 abbrev pub is_opening : Entry → Bool
 is_opening e = is_open_call e.call
@@ -80,8 +68,7 @@ is_watched ws name = list_any (λ (w : Watched). bytes_eq name w.name) ws
 
 -- the steward's entries lie between two moments
 abbrev pub Between : ℕ → ℕ → List Entry → Type 0
-Between from to [] = ⊤
-Between from to (e ∷ es) = (e.caller ≡ 0 → (from ≤ e.clock) × (e.clock ≤ to)) × Between from to es
+Between from to = AllByRecursion (λ (e : Entry). e.caller ≡ 0 → (from ≤ e.clock) × (e.clock ≤ to))
 
 -- what holds of a founded table at any time: it was handed in nothing, and at no front of its writes had it more than 2^40 rows
 pub record IsFoundation (s : HistoryState) : Type 0 where

@@ -14,11 +14,11 @@ use Rattle.row_records.specs.Pending.{pending_bytes}
 use Rattle.disk_backup.specs.Logs.{open_records}
 use Rattle.disk_backup.specs.State.{LogState}
 use Rattle.disk_backup.specs.Settling.{HoldsOwing, with_writes}
-use Rattle.crash_moments.specs.Left.{NamedStates}
+use Rattle.crash_moments.specs.Left.{NamedStates, closed}
 use Rattle.crash_moments.specs.Watched.{Watched, AreApart, IsFoundation, IsWatched, is_watched, now_of, was_opened}
 use Rattle.crash_moments.specs.Told.{SeenMore}
 use Rattle.crash_moments.proofs.Telling.{none_more, opened_more}
-use Rattle.crash_states.specs.Standing.{IsKept, IsLogged, Rests, Runs, is_closed, tables_of}
+use Rattle.crash_states.specs.Standing.{IsKept, IsLogged, Rests, Runs, tables_of}
 use Rattle.crash_states.specs.Entries.{Enters, ShutsAll}
 use Rattle.crash_serving.specs.Laws.{IsKilled}
 use Rattle.crash_states.proofs.Names.{IsForeign, IsOwn, find_name, no_others, others_at}
@@ -147,7 +147,7 @@ module _ (ws ws' : List Watched) (owner : ℕ) (log : LogState) (writes : List �
     each = each_kept others;
     sound = sound;
     empty = λ none. let had = runs.logs m.held runs.stands.reads in absurd (omega (arith, owing_long log.owed log.laid log.end had.0 m.held.disk had.1, ap length none));
-    region = is_closed (runs.closed m.held runs.stands.reads);
+    region = λ p left. closed (runs.closed m.held runs.stands.reads);
   }
 
   pub killing : IsKilled ws ws' log writes m

@@ -5,12 +5,13 @@ use Rattle.std.proofs.lemmas.List.{length-append, length-take, take_all}
 use Rattle.leaf_model.specs.declared.writes.Write.{Write}
 use Rattle.leaf_model.specs.Content.{content}
 use Rattle.row_records.specs.Records.{LogRecord}
-use Rattle.berth_face.specs.Berth.{Meaning, Passes, Ended, SameDisk}
+use Rattle.berth_face.specs.Berth.{Pair, Meaning, Passes, Ended, SameDisk}
 use Rattle.berth_face.specs.Moments.{EachNow}
 use Rattle.table_state.specs.Tables.{Table}
 use Rattle.region_layout.specs.declared.head.Head.TheVariants.{Version}
 use Rattle.region_layout.specs.Images.{TableImage, table_of, table_named}
-use Rattle.region_layout.specs.Images as image
+use Rattle.region_layout.specs.Images as layout
+use Rattle.region_layout.specs.ImageWrites.{AreImagesOf}
 use Rattle.region_layout.specs.Region.{IsClosed, image_names}
 use Rattle.region_directory.specs.Region.{IsAdoptable, reads}
 use Rattle.region_directory.proofs.Images.{one_tables, one_log_end}
@@ -19,7 +20,7 @@ use Rattle.adopt.specs.Adopting.{IsLeftBehind, stranger_of}
 use Rattle.disk_backup.specs.Logs.{ClosedLog, writes_of}
 use Rattle.disk_backup.specs.State.{LogState}
 use Rattle.disk_backup.specs.Scanning.{begun}
-use Rattle.disk_backup.specs.Settling.{HoldsLog, HaveLog, with_writes}
+use Rattle.disk_backup.specs.Settling.{HasLog, HoldsLog, HaveLog, with_writes}
 use Rattle.log_recovery.specs.Recovery.{IsRecovered}
 use Rattle.log_recovery.specs.Recovery as recovery
 use Rattle.leaf_history.specs.History.{HistoryState}
@@ -34,9 +35,9 @@ use Rattle.disk_backup.proofs.SoundLogs.{same_writes}
 use Rattle.leaf_opening.proofs.Strangers.{no_writes_there, no_writes_read}
 use Rattle.leaf_opening.proofs.Places.{table_at}
 use Rattle.leaf_opening.proofs.Origins.{log_at}
-use Rattle.crash_moments.specs.Left.{NamedStates}
+use Rattle.crash_moments.specs.Left.{NamedStates, RegionLeft, closed, other_version, image}
 use Rattle.crash_moments.specs.Watched.{Watched, is_watched, now_of, others_then, was_opened}
-use Rattle.crash_states.specs.Standing.{StandsNow, Rests, RegionRests, is_closed, is_other, is_image, IsWhole, IsKept, MayHave, tables_of}
+use Rattle.crash_states.specs.Standing.{StandsNow, Rests, IsKept, MayHave, tables_of}
 use Rattle.crash_states.proofs.Names.{named_at}
 use Rattle.crash_states.proofs.Pairs.{lost_closed}
 use Rattle.crash_states.proofs.States.{with_more}
@@ -69,13 +70,17 @@ may_have_all least most s kept = record {
 same_version : (u v : ℕ) → Version u ≡ Version v → u ≡ v
 same_version u v same = cc
 
-whole_image : (tables : NamedStates) (m : Meaning) (images : List TableImage) (log_end : ℕ) → IsAdoptable m.held.region images log_end → RegionRests tables m → IsWhole tables images log_end m
-whole_image tables m images log_end is (is_closed closed) = absurd (closed_no_image m.held.region closed images log_end is)
-whole_image tables m images log_end is (is_other version head other) =
+-- it is one of the tables, beside a log that has all of them
+whole_image : (tables : NamedStates) (p : Pair) (images : List TableImage) (log_end : ℕ) → IsAdoptable p.region images log_end → RegionLeft reads tables p
+    → AreImagesOf (λ name. (tables name).writes) images × HasLog (λ name. (tables name).writes) log_end p.disk
+whole_image tables p images log_end is (closed shut) = absurd (closed_no_image p.region shut images log_end is)
+whole_image tables p images log_end is (other_version version head other) =
     absurd (false≢true (sym other ∙ ap reads (same_version version is.version (sym head ∙ is.is.has.head)) ∙ is.reads_it))
-whole_image tables m images log_end is (is_image those those_end is_those whole) =
-    let those_whole : IsWhole tables images those_end m = subst (λ (ts : List TableImage). IsWhole tables ts those_end m) (one_tables m.held.region those images those_end log_end is_those is) whole in
-    subst (λ (e : ℕ). IsWhole tables images e m) (one_log_end m.held.region those images those_end log_end is_those is) those_whole
+whole_image tables p images log_end is (image version those end reads_it is_those are had) =
+    let that : IsAdoptable p.region those end = record { version = version; reads_it = reads_it; is = is_those } in (
+      subst (AreImagesOf (λ name. (tables name).writes)) (one_tables p.region those images end log_end that is) are,
+      subst (λ (e : ℕ). HasLog (λ name. (tables name).writes) e p.disk) (one_log_end p.region those images end log_end that is) had,
+    )
 
 module _ (ws : List Watched) (others : NamedStates) (least : List ℕ → List Write) (next : Option LogRecord) (a b : Meaning) (rests : Rests ws others least next a)
     (passes : Passes a b) (stands : StandsNow b) (region : IsLeftBehind a.held.region b.held.region) where
@@ -110,21 +115,21 @@ module _ (ws : List Watched) (others : NamedStates) (least : List ℕ → List W
 
   -- ---- out of the region
 
-  whole_logs : (images : List TableImage) (log_end : ℕ) → IsWhole tables images log_end a → Ended SameDisk a b → HaveLog (log_at log_end) (λ name. (tables name).writes) b
-  whole_logs images log_end whole disks = λ p left.
+  whole_logs : (images : List TableImage) (log_end : ℕ) → IsAdoptable a.held.region images log_end → Ended SameDisk a b → HaveLog (log_at log_end) (λ name. (tables name).writes) b
+  whole_logs images log_end is disks = λ p left.
       let came = disks p left in
-      let had = whole.logs came.0 came.1 in
+      let had = (whole_image tables (record { region = a.held.region; disk = came.0.disk }) images log_end is (rests.region came.0 came.1)).1 in
       (had.0, subst (λ (d : List ℕ). ClosedLog had.0 log_end d) (sym came.2) had.1, had.2)
 
   found_in_image : (log : LogState) (opened : List Table) (images : List TableImage) (log_end : ℕ) → IsAdoptable a.held.region images log_end → stranger_of (names_of ws) (image_names images) ≡ None
-      → opened ≡ image.tables_of (names_of ws) images → log ≡ log_at log_end → Ended SameDisk a b → (writes : List ℕ → List Write) × Finds ws log opened writes b
+      → opened ≡ layout.tables_of (names_of ws) images → log ≡ log_at log_end → Ended SameDisk a b → (writes : List ℕ → List Write) × Finds ws log opened writes b
   found_in_image log opened images log_end is known are log_is disks =
       let writes : List ℕ → List Write = λ name. (tables name).writes in
-      let whole : IsWhole tables images log_end a = whole_image tables a images log_end is rests.region in
-      let made : Finds ws (log_at log_end) opened writes b = finds (log_at log_end) opened (λ name. table_of (table_named images name)) writes refl (whole_logs images log_end whole disks)
+      let same : AreImagesOf writes images = (whole_image tables a.held images log_end is (rests.region a.held rests.stands.reads)).0 in
+      let made : Finds ws (log_at log_end) opened writes b = finds (log_at log_end) opened (λ name. table_of (table_named images name)) writes refl (whole_logs images log_end is disks)
       (λ name. may_have_all (least name) (with_writes next least name) (tables name) (rests.each name))
-      (λ name unwatched. no_writes_there (names_of ws) name (other_name name unwatched) writes images known whole.same) are
-      (λ name. record { contents = (whole.same name).contents; count = (whole.same name).count }) in
+      (λ name unwatched. no_writes_there (names_of ws) name (other_name name unwatched) writes images known same) are
+      (λ name. record { contents = (same name).contents; count = (same name).count }) in
       (writes, subst (λ (l : LogState). Finds ws l opened writes b) (sym log_is) made)
 
   -- ---- out of the log
@@ -132,8 +137,8 @@ module _ (ws : List Watched) (others : NamedStates) (least : List ℕ → List W
   module _ (log : LogState) (opened : List Table) (read : IsRecovered (names_of ws) b.held.disk opened log) (disk : b.held.disk ≡ begun a.held.disk) (durable : EachNow (λ p. p.disk ≡ b.held.disk) b) where
     read_logs : (writes : List ℕ → List Write) → ((name : List ℕ) → writes_of name read.records ≡ writes name) → HaveLog log writes b
     read_logs writes same = λ p left.
-        let closed : ClosedLog read.records log.end p.disk = subst (λ (d : List ℕ). ClosedLog read.records log.end d) (sym (durable p left)) read.closed in
-        (read.records, subst (λ (l : LogState). HoldsLog l read.records p.disk) (sym read.log_is) closed, same)
+        let whole : ClosedLog read.records log.end p.disk = subst (λ (d : List ℕ). ClosedLog read.records log.end d) (sym (durable p left)) read.closed in
+        (read.records, subst (λ (l : LogState). HoldsLog l read.records p.disk) (sym read.log_is) whole, same)
 
     found_as : (writes : List ℕ → List Write) → HasSoundLog writes a.held.disk → ((name : List ℕ) → MayHave (writes name) (tables name)) → (writes : List ℕ → List Write) × Finds ws log opened writes b
     found_as writes had may =

@@ -1,6 +1,5 @@
 pub mod ReadyLogs
 pub mod ReadyTables
-pub mod ReadyImages
 pub mod Ready
 pub mod Watching
 pub mod Opening

@@ -8,10 +8,10 @@ use Rattle.row_records.specs.Records.{LogRecord}
 use Rattle.berth_face.specs.Berth.{Pair, Meaning, Ended, SameDisk}
 use Rattle.berth_face.specs.Moments.{EachNow}
 use Rattle.berth_face.proofs.Moments.{now_of}
-use Rattle.region_layout.specs.Region.{IsClosed, head_of}
-use Rattle.region_directory.specs.Region.{IsAdoptable}
+use Rattle.region_layout.specs.Region.{IsClosed}
+use Rattle.region_directory.specs.Region.{reads}
 use Rattle.disk_backup.specs.Scanning.{FirstByte, BeginsScan}
-use Rattle.disk_backup.specs.Settling.{HasLog, with_writes}
+use Rattle.disk_backup.specs.Settling.{with_writes}
 use Rattle.leaf_opening.specs.declared.opening.Opened.{Opened}
 use Rattle.leaf_opening.specs.declared.ways.OpenFault.{OpenFault}
 use Rattle.leaf_opening.specs.declared.ways.OpenFault.TheVariants as fault
@@ -19,9 +19,9 @@ use Rattle.disk_backup.specs.SoundLogs.{HasSoundLog}
 use Rattle.leaf_opening.specs.Starts.{IsOpeningRefusal, OpensFrom, KeepsDisks}
 use Rattle.disk_backup.proofs.SoundLogs.{sound_begins}
 use Rattle.leaf_opening.proofs.Regions.{left_closed, broken_same}
-use Rattle.crash_moments.specs.Left.{NamedStates}
+use Rattle.crash_moments.specs.Left.{NamedStates, RegionLeft, closed}
 use Rattle.crash_moments.specs.Watched.{Watched}
-use Rattle.crash_states.specs.Standing.{StandsNow, Rests, RegionRests, is_closed, is_other, is_image, IsKept, tables_of}
+use Rattle.crash_states.specs.Standing.{StandsNow, Rests, RegionRests, IsKept, tables_of}
 use Rattle.crash_states.proofs.Pairs.{lost_closed}
 use Rattle.crash_starting.specs.Laws.{OpeningMade}
 use Rattle.crash_starting.proofs.Watching.{watched_later, tables_later}
@@ -32,7 +32,7 @@ closed_or_open : (region : List ℕ) → IsClosed region ⊎ (IsClosed region �
 closed_or_open region = elim (cases_lt (length region) 16) [
   | inl short ↦ inl (inl short)
   | inr long ↦ elim (cases_eq (slice_index region 0) 1) [
-    | inl one ↦ inr (λ closed. elim closed [
+    | inl one ↦ inr (λ shut. elim shut [
       | inl short ↦ absurd (omega (arith, long, short))
       | inr other ↦ absurd (other one)
     ])
@@ -46,15 +46,10 @@ DisksFrom a b = EachNow (λ p. (q : Pair) × a.leaves a.clock q × (p.disk ≡ q
 
 -- over the same region and such disks
 region_stays : (tables : NamedStates) (a b : Meaning) → b.held.region ≡ a.held.region → DisksFrom a b → RegionRests tables a → RegionRests tables b
-region_stays tables a b same disks (is_closed closed) = is_closed (subst IsClosed (sym same) closed)
-region_stays tables a b same disks (is_other version head other) = is_other version (ap head_of same ∙ head) other
-region_stays tables a b same disks (is_image images log_end is whole) =
-    is_image images log_end (subst (λ (r : List ℕ). IsAdoptable r images log_end) (sym same) is) (record {
-      same = whole.same;
-      logs = λ p left.
-          let came = disks p left in
-          subst (HasLog (λ name. (tables name).writes) log_end) (sym came.2) (whole.logs came.0 came.1);
-    })
+region_stays tables a b same disks rests p left =
+    let came = disks p left in
+    subst (λ (region : List ℕ). RegionLeft reads tables (record { region = region; disk = p.disk })) (sym same)
+    (subst (λ (disk : List ℕ). RegionLeft reads tables (record { region = a.held.region; disk = disk })) (sym came.2) (rests came.0 came.1))
 
 -- a berth of which a crash leaves this pair alone
 abbrev pub alone : ℕ → Pair → Meaning
@@ -145,7 +140,7 @@ module _ (ws : List Watched) (others : NamedStates) (least : List ℕ → List W
       opens_rests (alone t p) later (record { reads = refl; regions = λ q is. inl (ap (λ (r : Pair). r.region) is) }) (λ q is. subst (OpensFrom a) (sym is) came)
       (λ none q is. omega (arith, ap (λ (r : Pair). length r.disk) is, ap (λ (d : List ℕ). length d) none))
       (elim (closed_or_open p.region) [
-        | inl shut ↦ is_closed shut
+        | inl shut ↦ λ q is. closed shut
         | inr opened ↦
             region_stays (tables_of others ws a) a (alone t p) (region_open p came opened) (λ q is. (came.from, came.was, ap (λ (r : Pair). r.disk) is ∙ disk_open p came opened)) rests.region
       ])
@@ -159,7 +154,7 @@ module _ (ws : List Watched) (others : NamedStates) (least : List ℕ → List W
   rests_opened b result made region =
       let came : EachNow (OpensFrom a) b = now_of a b (OpensFrom a) made.moments in
       opens_rests b made.passes.later made.stands came (λ none p left. short_open (none_before b made.held none) p (came p left)) (elim region [
-        | inl shut ↦ is_closed shut
+        | inl shut ↦ λ p left. closed shut
         | inr same ↦ region_stays (tables_of others ws a) a b same.0 same.1 rests.region
       ])
 

@@ -17,7 +17,7 @@ use Rattle.crash_moments.specs.Left.{NamedStates, Left}
 use Rattle.crash_moments.specs.Base.{HasWritesOf, IsBaseOf}
 use Rattle.crash_moments.proofs.Bases.{flushed_le}
 use Rattle.crash_moments.specs.Watched.{Watched, IsFoundation, IsWatched, Between, by_name, cut, is_opening, now_of, others_then, was_opened}
-use Rattle.crash_states.specs.Standing.{IsKept, tables_now, tables_of}
+use Rattle.crash_states.specs.Standing.{IsKept, tables_of}
 use Rattle.crash_starting.specs.Laws.{AreUnseen}
 
 -- ---- the base of a name
@@ -80,7 +80,7 @@ base_named base others (w ∷ ws) name same new = by (bytes_eq name w.name) refl
 -- each name stands as the base says
 pub tables_same : (base : NamedStates) (ws : List Watched) (m : Meaning) → AllByRecursion (IsNew base) ws → (name : List ℕ) → tables_of base ws m name ≡ base name
 tables_same base ws m new name =
-    ap (λ (opened : Bool). tables_now (others_then opened base) ws name) (none_opened m.clock base ws new) ∙ base_named base (others_then false base) ws name refl new
+    ap (λ (opened : Bool). by_name now_of (others_then opened base) ws name) (none_opened m.clock base ws new) ∙ base_named base (others_then false base) ws name refl new
 
 -- each table is sound
 pub all_watched : (clock : ℕ) (base : NamedStates) (ws : List Watched) → ((name : List ℕ) → IsFoundation (base name)) → AllByRecursion (IsNew base) ws → AllByRecursion (IsWatched clock) ws

@@ -7,10 +7,10 @@ use Rattle.berth_face.specs.Berth.{Meaning}
 use Rattle.leaf_history.specs.History.{Entry}
 use Rattle.crash_moments.specs.Left.{NamedStates}
 use Rattle.leaf_opening.proofs.Strangers.{is_one_of}
-use Rattle.crash_moments.specs.Watched.{Watched, IsWatched, AreWatched, cut, is_opening, is_watched, others_then, was_opened}
+use Rattle.crash_moments.specs.Watched.{Watched, IsWatched, AreWatched, by_name, cut, is_opening, is_watched, now_of, others_then, was_opened}
 use Rattle.crash_moments.proofs.Cuts.{cut_later}
 use Rattle.crash_moments.proofs.Telling.{between_wider}
-use Rattle.crash_states.specs.Standing.{tables_now, tables_of}
+use Rattle.crash_states.specs.Standing.{tables_of}
 use Rattle.crash_starting.specs.Laws.{names_of}
 
 -- ---- at a later moment
@@ -31,7 +31,7 @@ watched_later c t ws later watched = record { each = each_later c t ws later wat
 
 -- each name stands where it stood
 pub tables_later : (others : NamedStates) (ws : List Watched) (a b : Meaning) → a.clock ≤ b.clock → AreWatched a.clock ws → tables_of others ws b ≡ tables_of others ws a
-tables_later others ws a b later watched = ap (λ (opened : Bool). tables_now (others_then opened others) ws) (opened_later a.clock b.clock ws later watched.each)
+tables_later others ws a b later watched = ap (λ (opened : Bool). by_name now_of (others_then opened others) ws) (opened_later a.clock b.clock ws later watched.each)
 
 -- ---- at each place, and by name
 

@@ -1,6 +1,6 @@
 -- What a disk's log has, with or without what it is owed.
 use Rattle.std.proofs.Common.{◌≡◌, ◌⊎◌, inl, inr, ◌∙◌, ℕ, ◌+◌, Bool, true, false, cond, List, [], ◌∷◌, ◌++◌, length, Option, Some, None, refl, sym, ap, subst, arith, append_assoc, append-nil}
-use Rattle.std.specs.Prelude.{slice_get, bytes_eq}
+use Rattle.std.specs.Prelude.{bytes_eq}
 use Rattle.std.proofs.lemmas.Bool.{cases_eq}
 use Rattle.leaf_model.specs.declared.writes.Write.{Write}
 use Rattle.row_records.specs.Records.{LogRecord, record_bytes}
@@ -8,7 +8,6 @@ use Rattle.row_records.specs.Pending.{pending_bytes}
 use Rattle.disk_backup.specs.Logs.{IsLog, ClosedLog, open_records, writes_of}
 use Rattle.disk_backup.specs.Settling.{HasLog, HoldsOwing, LaidLog, with_writes}
 use Rattle.disk_backup.proofs.Logs.{closed_is_log, one_log, one_record_more}
-use Rattle.crash_moments.specs.Left.{HasShutGate}
 use Rattle.disk_backup.specs.SoundLogs.{HasSoundLog, IsShort}
 use Rattle.disk_backup.proofs.SoundLogs.{bounded_of, shorter, writes_append}
 use Rattle.crash_states.proofs.States.{with_more}
@@ -70,17 +69,6 @@ module _ (writes : List ℕ → List Write) (disk : List ℕ) (records : List Lo
 pub sound_log : (writes : List ℕ → List Write) (end : ℕ) (disk : List ℕ) → HasLog writes end disk → ((name : List ℕ) → IsShort (writes name)) → HasSoundLog writes disk
 sound_log writes end disk had short = sound_closed writes disk had.0 had.2 end had.1 short
 
-byte_at : (front : List ℕ) (byte : ℕ) (rest : List ℕ) → slice_get (front ++ byte ∷ rest) (length front) ≡ Some byte
-byte_at [] byte rest = refl
-byte_at (b ∷ front) byte rest = byte_at front byte rest
-
-pub gate_shut : (records : List LogRecord) (end : ℕ) (disk : List ℕ) → ClosedLog records end disk → HasShutGate disk end
-gate_shut records end disk closed = (
-  closed.gate,
-  ap (λ (d : List ℕ). slice_get d end) closed.is ∙ ap (λ (n : ℕ). slice_get (open_records records ++ closed.gate ∷ closed.rest) n) closed.end_is ∙ byte_at (open_records records) closed.gate closed.rest,
-  closed.shut,
-)
-
--- it is the disk's only one
+-- the log that ends there is the disk's only one
 pub same_log : (writes held : List ℕ → List Write) (end : ℕ) (disk : List ℕ) (had : HasLog writes end disk) (log : HasSoundLog held disk) → (log.records ≡ had.0) × (log.log_end ≡ end)
 same_log writes held end disk had log = one_log disk log.records had.0 log.log_end end log.log (closed_is_log disk had.0 end had.1)

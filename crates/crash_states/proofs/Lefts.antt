@@ -8,7 +8,7 @@ use Rattle.berth_face.specs.Berth.{Pair, Meaning}
 use Rattle.berth_face.specs.Moments.{EachNow}
 use Rattle.berth_face.proofs.Moments.{passes_none}
 use Rattle.region_layout.specs.Images.{TableImage}
-use Rattle.region_layout.specs.Region.{IsClosed, head_of}
+use Rattle.region_layout.specs.Region.{IsClosed}
 use Rattle.region_directory.specs.Region.{reads, IsAdoptable}
 use Rattle.disk_backup.specs.State.{LogState}
 use Rattle.disk_backup.specs.Settling.{HasLog, with_writes}
@@ -17,16 +17,17 @@ use Rattle.leaf_history.specs.History.{HistoryState}
 use Rattle.region_layout.specs.ImageWrites.{AreImagesOf}
 use Rattle.disk_backup.specs.SoundLogs.{HasSoundLog, IsShort}
 use Rattle.disk_backup.proofs.SoundLogs.{none_short, no_writes}
-use Rattle.crash_moments.specs.Left.{NamedStates, Left, RegionLeft, closed, other_version}
+use Rattle.crash_moments.specs.Left.{NamedStates, Left, RegionLeft, closed}
 use Rattle.crash_moments.specs.Watched.{Watched, IsWatched, AreWatched, is_watched, now_of, state_then, tables_then, was_opened}
 use Rattle.crash_moments.specs.Told.{SeenMore, Told}
 use Rattle.crash_moments.proofs.Histories.{cut_keeps}
-use Rattle.crash_states.specs.Standing.{IsLogged, Runs, IsKept, RegionRests, is_closed, is_other, is_image, Rests, IsTreated, Copies, Holds, tables_of}
+use Rattle.crash_moments.proofs.Alike.{region_alike}
+use Rattle.crash_states.specs.Standing.{IsLogged, Runs, IsKept, Rests, IsTreated, Copies, Holds, tables_of}
 use Rattle.crash_states.specs.Laws.{IsLeftNow}
 use Rattle.crash_states.proofs.Names.{IsOwn, IsForeign, find_name, same_by_name, others_at, no_others, each_at, named_at}
 use Rattle.crash_states.proofs.States.{IsFrontOf, IsBetween, front_short, no_front, front_before, shut_then, now_sound, then_sound, without_owed, with_owed, between_few, logged_front, kept_least, kept_most, treated_front, treated_none}
 use Rattle.crash_states.proofs.Disks.{sound_owing, sound_log}
-use Rattle.crash_states.proofs.Pairs.{left_by, image_left, lost_closed, lost_left}
+use Rattle.crash_states.proofs.Pairs.{left_by, image_left, lost_closed, rests_region}
 
 -- ---- a leaf that serves or shuts its tables
 
@@ -93,28 +94,20 @@ module _ (ws : List Watched) (others : NamedStates) (least : List ℕ → List W
       let kept : IsKept (least name) most (tables_then others m.clock ws name) = subst (IsKept (least name) most) (sym (rests_then name)) (rests.each name) in
       (kept_least (least name) most (tables_then others m.clock ws name) kept, kept_most (least name) most (tables_then others m.clock ws name) kept (with_owed next least name).no_less)
 
-  -- what may be left of a region that rests
-  pub rests_region : (held : List ℕ → List Write) (p : Pair) (log : HasSoundLog held p.disk) → m.leaves m.clock p → RegionLeft reads (tables_then others m.clock ws) p log.records log.log_end
-  rests_region held p log left = elim (rests.stands.regions p left) [
-    | inl same ↦ as_it_reads same rests.region
-    | inr none ↦ lost_left (tables_then others m.clock ws) p log.records log.log_end none
-  ]
-    where
-      as_it_reads : p.region ≡ m.held.region → RegionRests (tables_of others ws m) m → RegionLeft reads (tables_then others m.clock ws) p log.records log.log_end
-      as_it_reads same (is_closed shut) = closed (subst IsClosed (sym same) shut)
-      as_it_reads same (is_other version head unread) = other_version version (ap (λ (l : List ℕ). head_of l) same ∙ head) unread
-      as_it_reads same (is_image images log_end is whole) =
-          image_left (tables_then others m.clock ws) (λ name. (tables_of others ws m name).writes) held p log images log_end (λ name. ap (λ (s : HistoryState). s.writes) (rests_then name))
-          (subst (λ (l : List ℕ). IsAdoptable l images log_end) (sym same) is) whole.same (whole.logs p left)
+  -- what may be left of its region
+  region_then : (p : Pair) → m.leaves m.clock p → RegionLeft reads (tables_then others m.clock ws) p
+  region_then p left =
+      region_alike reads (tables_of others ws m) (tables_then others m.clock ws) p (λ name. ap (λ (s : HistoryState). s.writes) (sym (rests_then name)))
+      (rests_region (tables_of others ws m) m p rests.stands rests.region left)
 
 pub rests_left : (ws : List Watched) (others : NamedStates) (least : List ℕ → List Write) (next : Option LogRecord) (m : Meaning) → Rests ws others least next m → IsLeftNow ws others m
 rests_left ws others least next m rests p left =
     let tables : NamedStates = tables_then others m.clock ws in
     let fronts = rests_front ws others least next m rests in
-    let region = rests_region ws others least next m rests in
+    let region : RegionLeft reads tables p = region_then ws others least next m rests p left in
     elim (rests.logs p left) [
-      | inl shortest ↦ left_by tables least p shortest (λ name. (fronts name).0) (region least p shortest left)
-      | inr longest ↦ left_by tables (with_writes next least) p longest (λ name. (fronts name).1) (region (with_writes next least) p longest left)
+      | inl shortest ↦ left_by tables least p shortest (λ name. (fronts name).0) region
+      | inr longest ↦ left_by tables (with_writes next least) p longest (λ name. (fronts name).1) region
     ]
 
 -- ---- a leaf that copies its tables, and one whose image is copied
@@ -161,7 +154,7 @@ module _ (ws : List Watched) (writes : List ℕ → List Write) (m : Meaning) (a
   treated_image others p images log_end had is same =
       let log : HasSoundLog writes p.disk = sound_log writes log_end p.disk had treated_short in
       left_by (tables_then others m.clock ws) writes p log (λ name. treated_front (writes name) (tables_then others m.clock ws name) (treated_then others name))
-      (image_left (tables_then others m.clock ws) writes writes p log images log_end (λ name. (treated_then others name).whole) is same had)
+      (image_left (tables_then others m.clock ws) writes p images log_end (λ name. (treated_then others name).whole) is same had)
 
 pub copies_treated : (ws : List Watched) (drain : DrainState) (writes : List ℕ → List Write) (m : Meaning) → Copies ws drain writes m → AreTreated ws writes m
 copies_treated ws drain writes m copies = record { watched = copies.watched; opened = copies.opened; each = copies.each; others = copies.others }

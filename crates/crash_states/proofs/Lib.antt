@@ -1,7 +1,6 @@
 pub mod Names
 pub mod States
 pub mod Disks
-pub mod Images
 pub mod Pairs
 pub mod Lefts
 pub mod Meeting

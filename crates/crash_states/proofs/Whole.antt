@@ -7,9 +7,7 @@ use Rattle.row_records.specs.Records.{LogRecord}
 use Rattle.berth_face.specs.Berth.{Pair, Meaning}
 use Rattle.berth_face.specs.Moments.{EachNow}
 use Rattle.berth_face.proofs.Moments.{passes_none}
-use Rattle.region_layout.specs.Images.{TableImage}
-use Rattle.region_layout.specs.Region.{IsClosed, head_of}
-use Rattle.region_directory.specs.Region.{reads, IsAdoptable}
+use Rattle.region_directory.specs.Region.{reads}
 use Rattle.disk_backup.specs.State.{LogState}
 use Rattle.disk_backup.specs.Settling.{HasLog, with_writes}
 use Rattle.drain_copy.specs.Draining.{DrainState}
@@ -17,16 +15,16 @@ use Rattle.leaf_history.specs.History.{HistoryState}
 use Rattle.region_layout.specs.ImageWrites.{AreImagesOf}
 use Rattle.disk_backup.specs.SoundLogs.{HasSoundLog, IsShort}
 use Rattle.disk_backup.proofs.SoundLogs.{none_short, no_writes}
-use Rattle.crash_moments.specs.Left.{NamedStates, Left, RegionLeft, closed, other_version}
+use Rattle.crash_moments.specs.Left.{NamedStates, Left, RegionLeft, closed}
 use Rattle.crash_moments.specs.Watched.{Watched, IsWatched, AreWatched, is_watched, now_of, state_then, tables_then, was_opened}
 use Rattle.crash_moments.specs.Told.{SeenMore, Told}
 use Rattle.crash_moments.proofs.Histories.{cut_keeps}
-use Rattle.crash_states.specs.Standing.{IsLogged, Runs, IsKept, RegionRests, is_closed, is_other, is_image, Rests, IsTreated, Copies, Holds, tables_of}
+use Rattle.crash_states.specs.Standing.{IsLogged, Runs, IsKept, Rests, IsTreated, Copies, Holds, tables_of}
 use Rattle.crash_states.specs.Laws.{IsLeftNow}
 use Rattle.crash_states.proofs.Names.{IsOwn, IsForeign, find_name, same_by_name, others_at, no_others, each_at, named_at}
 use Rattle.crash_states.proofs.States.{IsFrontOf, IsBetween, front_short, no_front, front_before, shut_then, now_sound, then_sound, without_owed, with_owed, between_few, logged_front, kept_least, kept_most, treated_front, treated_none}
 use Rattle.crash_states.proofs.Disks.{sound_owing, sound_log}
-use Rattle.crash_states.proofs.Pairs.{left_by, image_left, lost_closed, lost_left}
+use Rattle.crash_states.proofs.Pairs.{left_by, rests_region}
 use Rattle.crash_states.proofs.Lefts.{taken_short, runs_logs}
 
 -- ---- a leaf that serves or shuts its tables
@@ -61,26 +59,13 @@ runs_whole ws others owner log writes m runs p left =
 
 -- ---- a leaf at rest
 
-module _ (ws : List Watched) (others : NamedStates) (least : List ℕ → List Write) (next : Option LogRecord) (m : Meaning) (rests : Rests ws others least next m) where
-  region_now : (held : List ℕ → List Write) (p : Pair) (log : HasSoundLog held p.disk) → m.leaves m.clock p → RegionLeft reads (tables_of others ws m) p log.records log.log_end
-  region_now held p log left = elim (rests.stands.regions p left) [
-    | inl same ↦ as_it_reads same rests.region
-    | inr none ↦ lost_left (tables_of others ws m) p log.records log.log_end none
-  ]
-    where
-      as_it_reads : p.region ≡ m.held.region → RegionRests (tables_of others ws m) m → RegionLeft reads (tables_of others ws m) p log.records log.log_end
-      as_it_reads same (is_closed shut) = closed (subst IsClosed (sym same) shut)
-      as_it_reads same (is_other version head unread) = other_version version (ap (λ (l : List ℕ). head_of l) same ∙ head) unread
-      as_it_reads same (is_image images log_end is whole) =
-          image_left (tables_of others ws m) (λ name. (tables_of others ws m name).writes) held p log images log_end (λ name. refl)
-          (subst (λ (l : List ℕ). IsAdoptable l images log_end) (sym same) is) whole.same (whole.logs p left)
-
 pub rests_whole : (ws : List Watched) (others : NamedStates) (least : List ℕ → List Write) (next : Option LogRecord) (m : Meaning) → Rests ws others least next m
     → EachNow (λ p. Left reads (tables_of others ws m) p) m
 rests_whole ws others least next m rests p left =
     let most : (name : List ℕ) → IsFrontOf (with_writes next least name) (tables_of others ws m name) =
     λ name. kept_most (least name) (with_writes next least name) (tables_of others ws m name) (rests.each name) (with_owed next least name).no_less in
+    let region : RegionLeft reads (tables_of others ws m) p = rests_region (tables_of others ws m) m p rests.stands rests.region left in
     elim (rests.logs p left) [
-      | inl shortest ↦ left_by (tables_of others ws m) least p shortest (λ name. kept_least (least name) (with_writes next least name) (tables_of others ws m name) (rests.each name)) (region_now ws others least next m rests least p shortest left)
-      | inr longest ↦ left_by (tables_of others ws m) (with_writes next least) p longest most (region_now ws others least next m rests (with_writes next least) p longest left)
+      | inl shortest ↦ left_by (tables_of others ws m) least p shortest (λ name. kept_least (least name) (with_writes next least name) (tables_of others ws m name) (rests.each name)) region
+      | inr longest ↦ left_by (tables_of others ws m) (with_writes next least) p longest most region
     ]

@@ -7,16 +7,14 @@ use Rattle.table_state.specs.Tables.{Table}
 use Rattle.leaf_history.specs.History.{HistoryState}
 use Rattle.berth_face.specs.Berth.{Meaning}
 use Rattle.berth_face.specs.Moments.{EachNow}
-use Rattle.region_layout.specs.declared.head.Head.TheVariants.{Version}
 use Rattle.region_layout.specs.Images.{TableImage}
-use Rattle.region_layout.specs.Region.{IsClosed, head_of}
 use Rattle.region_directory.specs.Region.{IsAdoptable, reads}
 use Rattle.disk_backup.specs.State.{LogState}
 use Rattle.disk_backup.specs.Settling.{HasLog, HaveLog, with_writes}
 use Rattle.drain_copy.specs.Draining.{DrainState, Draining, AllClosed}
 use Rattle.region_layout.specs.ImageWrites.{AreImagesOf}
 use Rattle.disk_backup.specs.SoundLogs.{HasSoundLog}
-use Rattle.crash_moments.specs.Left.{NamedStates}
+use Rattle.crash_moments.specs.Left.{NamedStates, RegionLeft}
 use Rattle.crash_moments.specs.Watched.{Watched, AreWatched, IsFoundation, by_name, is_watched, now_of, others_then, was_opened}
 
 -- what every berth promises now: what reads give may be left, and the region is that or lost
@@ -59,24 +57,13 @@ pub record IsKept (least most : List Write) (s : HistoryState) : Type 0 where
   pub longest : most ≡ take (length most) s.writes
   pub handed : s.handed ≡ true → (least ≡ s.writes) × (most ≡ s.writes)
 
--- where each name stands now
-abbrev pub tables_now : NamedStates → List Watched → NamedStates
-tables_now others ws = by_name now_of others ws
-
--- those of a leaf, and of names that it does not have
+-- where each name stands now: of a leaf's tables, and of names that it does not have
 abbrev pub tables_of : NamedStates → List Watched → Meaning → NamedStates
-tables_of others ws m = tables_now (others_then (was_opened m.clock ws) others) ws
+tables_of others ws m = by_name now_of (others_then (was_opened m.clock ws) others) ws
 
--- the image has all that the tables have, and so has each log, which ends where the image says at a gate that is not open
-pub record IsWhole (tables : NamedStates) (images : List TableImage) (log_end : ℕ) (m : Meaning) : Type 0 where
-  pub same : AreImagesOf (λ name. (tables name).writes) images
-  pub logs : EachNow (λ p. HasLog (λ name. (tables name).writes) log_end p.disk) m
-
--- the region as it reads: closed, or of another version, or an image of the tables
-pub data RegionRests (tables : NamedStates) (m : Meaning) : Type 0 where
-  is_closed : IsClosed m.held.region → RegionRests tables m
-  is_other : (version : ℕ) → head_of m.held.region ≡ Version version → reads version ≡ false → RegionRests tables m
-  is_image : (images : List TableImage) (log_end : ℕ) → IsAdoptable m.held.region images log_end → IsWhole tables images log_end m → RegionRests tables m
+-- the region as it reads is left of the tables, beside each disk that a crash may leave
+abbrev pub RegionRests : NamedStates → Meaning → Type 0
+RegionRests tables m = EachNow (λ p. RegionLeft reads tables (record { region = m.held.region; disk = p.disk })) m
 
 -- Each disk that a crash may leave has a log with the least writes of each name, or with those of the next record too. Each table is shut.
 -- Names that the leaf does not have stand as `others` say until it was first opened.

@@ -5,21 +5,21 @@ use Rattle.std.proofs.lemmas.Bool.{false≢true}
 use Rattle.std.proofs.lemmas.List.{take_all}
 use Rattle.leaf_model.specs.declared.writes.Write.{Write}
 use Rattle.row_records.specs.Records.{LogRecord}
-use Rattle.berth_face.specs.Berth.{Meaning}
-use Rattle.region_layout.specs.Images.{TableImage}
+use Rattle.berth_face.specs.Berth.{Pair, Meaning}
+use Rattle.region_directory.specs.Region.{reads}
 use Rattle.disk_backup.specs.Logs.{writes_of}
 use Rattle.disk_backup.specs.Settling.{HasLog, with_writes}
 use Rattle.leaf_history.specs.History.{base_of}
 use Rattle.disk_backup.specs.SoundLogs.{HasSoundLog, IsShort}
-use Rattle.crash_moments.specs.Left.{NamedStates}
+use Rattle.crash_moments.specs.Left.{NamedStates, RegionLeft, closed, other_version, image}
 use Rattle.crash_moments.specs.Watched.{Watched, IsFoundation, IsWatched, now_of, others_then, was_opened}
-use Rattle.crash_states.specs.Standing.{IsKept, IsWhole, RegionRests, is_closed, is_other, is_image, Rests, tables_of}
+use Rattle.crash_moments.proofs.Alike.{region_alike}
+use Rattle.crash_states.specs.Standing.{IsKept, RegionRests, Rests, tables_of}
 use Rattle.crash_states.proofs.Names.{IsOwn, IsForeign, find_name, each_at, others_at}
 use Rattle.crash_states.proofs.States.{front_short, kept_most, now_sound, with_owed, without_owed}
 use Rattle.crash_states.proofs.Disks.{same_log}
 use Rattle.leaf_machine.specs.Leaving.{BeginsAgain}
 use Rattle.leaf_machine.proofs.CopyWatching.{nothing_sound}
-use Rattle.leaf_machine.proofs.DownBegins.{whole_alike}
 
 -- names that the leaf does not have are sound, whether it has opened a table or not
 others_sound : (opened : Bool) (others : NamedStates) (name : List ℕ) → IsFoundation (others name) → IsFoundation (others_then opened others name)
@@ -65,31 +65,30 @@ module _ (ws : List Watched) (others : NamedStates) (least : List ℕ → List W
 
   -- ---- the region
 
-  -- where each log has all of the tables, they have just what the longest has
-  module _ (images : List TableImage) (log_end : ℕ) (whole : IsWhole tables images log_end m) (name : List ℕ) where
-    had : HasLog (λ n. (tables n).writes) log_end m.held.disk
-    had = whole.logs m.held rests.stands.reads
+  -- where a log has all of the tables, they have just what the longest has
+  module _ (p : Pair) (left : m.leaves m.clock p) (log_end : ℕ) (had : HasLog (λ n. (tables n).writes) log_end p.disk) (name : List ℕ) where
+    of_log : (held : List ℕ → List Write) → HasSoundLog held p.disk → (tables name).writes ≡ held name
+    of_log held log = sym (had.2 name) ∙ ap (λ (records : List LogRecord). writes_of name records) (sym (same_log (λ n. (tables n).writes) held log_end p.disk had log).0) ∙ log.each name
 
-    of_log : (held : List ℕ → List Write) → HasSoundLog held m.held.disk → (tables name).writes ≡ held name
-    of_log held log =
-        sym (had.2 name) ∙ ap (λ (records : List LogRecord). writes_of name records) (sym (same_log (λ n. (tables n).writes) held log_end m.held.disk had log).0) ∙ log.each name
-
-    whole_most : (tables name).writes ≡ most name
-    whole_most = by (rests.logs m.held rests.stands.reads)
+    pub whole_most : (tables name).writes ≡ most name
+    whole_most = by (rests.logs p left)
       where
-        by : HasSoundLog least m.held.disk ⊎ HasSoundLog most m.held.disk → (tables name).writes ≡ most name
+        by : HasSoundLog least p.disk ⊎ HasSoundLog most p.disk → (tables name).writes ≡ most name
         by (inl log) =
             let few : length (tables name).writes ≤ length (most name) = omega (arith, ap (λ (l : List Write). length l) (of_log least log), (with_owed next least name).no_less) in
             sym ((rests.each name).longest ∙ take_all (length (most name)) (tables name).writes few)
         by (inr log) = of_log most log
 
   base_region : RegionRests (tables_of base [] m) m
-  base_region = by rests.region
+  base_region p left = by (rests.region p left)
     where
-      by : RegionRests tables m → RegionRests (tables_of base [] m) m
-      by (is_closed shut) = is_closed shut
-      by (is_other version head not_one) = is_other version head not_one
-      by (is_image images log_end is whole) = is_image images log_end is (whole_alike tables (tables_of base [] m) images log_end m (whole_most images log_end whole) whole)
+      beside : Pair
+      beside = record { region = m.held.region; disk = p.disk }
+
+      by : RegionLeft reads tables beside → RegionLeft reads (tables_of base [] m) beside
+      by (closed shut) = closed shut
+      by (other_version version head other) = other_version version head other
+      by (image version images end reads_it is are had) = region_alike reads tables (tables_of base [] m) beside (whole_most p left end had) (image version images end reads_it is are had)
 
   -- ---- the leaf
 

@@ -20,9 +20,9 @@ use Rattle.leaf_opening.specs.declared.ways.Way.TheVariants.{Memory, Disk}
 use Rattle.leaf_opening.specs.OpenedLeaf.{OpenedLeaf}
 use Rattle.leaf_opening.specs.Starts.{IsCome, disk_after}
 use Rattle.leaf_opening.proofs.Regions.{closed_no_image}
-use Rattle.crash_moments.specs.Left.{NamedStates}
+use Rattle.crash_moments.specs.Left.{NamedStates, RegionLeft, closed, other_version, image}
 use Rattle.crash_moments.specs.Watched.{Watched}
-use Rattle.crash_states.specs.Standing.{Rests, RegionRests, is_closed, is_other, is_image, tables_of}
+use Rattle.crash_states.specs.Standing.{Rests, tables_of}
 use Rattle.leaf_table.specs.Turns.{Shared}
 use Rattle.leaf_table.specs.Calls.{base_seen, name_of}
 use Rattle.leaf_steward.specs.declared.notes.Note.{Note}
@@ -59,18 +59,17 @@ record AreFound (names : List (List ℕ)) (disk : List ℕ) (tables : List Table
 -- by the image of a region: it has what the log has
 from_image : (base : NamedStates) (ws : List Watched) (least : List ℕ → List Write) (next : Option LogRecord) (m : Meaning) (names : List (List ℕ)) (disk : List ℕ) (s : OpenedLeaf)
     → Rests ws base least next m → IsCome names m.held.region disk s Memory → AreFound names m.held.disk s.tables
-from_image base ws least next m names disk s rests come = by rests.region
+from_image base ws least next m names disk s rests come = by (rests.region m.held rests.stands.reads)
   where
     version_is : (h : Head) (version other : ℕ) → h ≡ Version version → h ≡ Version other → version ≡ other
     version_is h version other e f = cc
 
-    by : RegionRests (tables_of base ws m) m → AreFound names m.held.disk s.tables
-    by (is_closed closed) = absurd (closed_no_image m.held.region closed come.0 come.1 come.2)
-    by (is_other version head other) = absurd (clash_bool (reads version) (ap (λ (v : ℕ). reads v) (version_is (head_of m.held.region) version come.2.version head come.2.is.has.head) ∙ come.2.reads_it) other)
-    by (is_image found log_end is whole) =
-        let same : found ≡ come.0 = one_tables m.held.region found come.0 log_end come.1 is come.2 in
-        let writes_are : AreImagesOf (λ name. (tables_of base ws m name).writes) come.0 = subst (λ (ts : List TableImage). AreImagesOf (λ name. (tables_of base ws m name).writes) ts) same whole.same in
-        let log = whole.logs m.held rests.stands.reads in
+    by : RegionLeft reads (tables_of base ws m) m.held → AreFound names m.held.disk s.tables
+    by (closed shut) = absurd (closed_no_image m.held.region shut come.0 come.1 come.2)
+    by (other_version version head other) = absurd (clash_bool (reads version) (ap (λ (v : ℕ). reads v) (version_is (head_of m.held.region) version come.2.version head come.2.is.has.head) ∙ come.2.reads_it) other)
+    by (image version found log_end reads_it is had log) =
+        let same : found ≡ come.0 = one_tables m.held.region found come.0 log_end come.1 (record { version = version; reads_it = reads_it; is = is }) come.2 in
+        let writes_are : AreImagesOf (λ name. (tables_of base ws m name).writes) come.0 = subst (λ (ts : List TableImage). AreImagesOf (λ name. (tables_of base ws m name).writes) ts) same had in
         record {
           table = λ name. images.table_of (images.table_named come.0 name);
           are = come.4;

@@ -4,12 +4,13 @@ use Rattle.std.specs.Prelude.{IfSome, drop, nat_lt, slice_get, if◌then◌else�
 use Rattle.std.proofs.lemmas.Bool.{ltb-false}
 use Rattle.std.proofs.lemmas.Bool.Decides.{nat_tests}
 use Rattle.leaf_model.specs.declared.writes.Write.{Write}
-use Rattle.berth_face.specs.Berth.{Meaning}
+use Rattle.berth_face.specs.Berth.{Pair, Meaning}
 use Rattle.leaf_history.specs.History.{Entry}
 use Rattle.region_layout.specs.declared.head.Head.{Head}
 use Rattle.region_layout.specs.declared.head.Head.TheVariants as head
 use Rattle.region_layout.specs.Region.{IsClosed, head_of}
 use Rattle.region_layout.proofs.Heads.{closed_head}
+use Rattle.region_directory.specs.Region.{reads}
 use Rattle.row_records.specs.Records.{LogRecord}
 use Rattle.disk_backup.specs.Logs.{IsLog, writes_of}
 use Rattle.disk_backup.specs.Settling.{with_writes}
@@ -18,8 +19,8 @@ use Rattle.adopt.specs.declared.found.WhyDisk.TheVariants as why
 use Rattle.leaf_opening.specs.declared.ways.Way.{Way}
 use Rattle.leaf_opening.specs.declared.ways.Way.TheVariants.{Memory, Disk}
 use Rattle.leaf_opening.specs.Starts.{IsWayOf}
-use Rattle.crash_moments.specs.Left.{NamedStates}
-use Rattle.crash_states.specs.Standing.{RegionRests, is_closed, is_other, is_image, Rests, tables_of}
+use Rattle.crash_moments.specs.Left.{NamedStates, RegionLeft, closed, other_version, image}
+use Rattle.crash_states.specs.Standing.{Rests, tables_of}
 use Rattle.leaf_machine.specs.Leaving.{BeginsAgain}
 use Rattle.rollover_watch.specs.Watches.{Held}
 use Rattle.script_text.specs.declared.item.Item.{Item}
@@ -46,10 +47,10 @@ closed_way region shut (head.Closed flag) e = (Disk (why.Closed flag), e)
 closed_way region shut (head.Version version) e = absurd (closed_head region shut version e)
 
 -- the way of the region that a leaf at rest leaves
-way_of : (tables : NamedStates) (m : Meaning) → RegionRests tables m → (way : Way) × IsWayOf m.held.region way
-way_of tables m (is_closed shut) = closed_way m.held.region shut (head_of m.held.region) refl
-way_of tables m (is_other version e not_one) = (Disk (why.OtherVersion version), (e, not_one))
-way_of tables m (is_image images log_end is whole) = (Memory, (images, log_end, is))
+way_of : (tables : NamedStates) (p : Pair) → RegionLeft reads tables p → (way : Way) × IsWayOf p.region way
+way_of tables p (closed shut) = closed_way p.region shut (head_of p.region) refl
+way_of tables p (other_version version e not_one) = (Disk (why.OtherVersion version), (e, not_one))
+way_of tables p (image version images end reads_it is are had) = (Memory, (images, end, record { version = version; reads_it = reads_it; is = is }))
 
 log_of : (least most : List ℕ → List Write) (disk : List ℕ) → HasSoundLog least disk ⊎ HasSoundLog most disk → (records : List LogRecord) × (log_end : ℕ) × IsLog disk records log_end
 log_of least most disk (inl log) = (log.records, log.log_end, log.log)
@@ -68,7 +69,7 @@ known_of base m is =
     let least : List ℕ → List Write = is.begins.1.0 in
     let next : Option LogRecord = is.begins.1.1 in
     let rests : Rests [] base least next m = is.begins.1.2 in
-    known_by base m (way_of (tables_of base [] m) m rests.region) (log_of least (with_writes next least) m.held.disk (rests.logs m.held rests.stands.reads))
+    known_by base m (way_of (tables_of base [] m) m.held (rests.region m.held rests.stands.reads)) (log_of least (with_writes next least) m.held.disk (rests.logs m.held rests.stands.reads))
 
 known_where : (base : Option NamedStates) (m : Meaning) → IfSome base (λ states. IsBase states m) → (known : Option Known) × IsKnown base m known
 known_where None m is = (None, tt)

@@ -6,20 +6,21 @@ use Rattle.std.proofs.lemmas.List.{nil_from_length, take_all}
 use Rattle.std.proofs.lemmas.Slice.Eq.{bytes_eq-Decides}
 use Rattle.leaf_model.specs.declared.writes.Write.{Write}
 use Rattle.row_records.specs.Records.{LogRecord}
-use Rattle.berth_face.specs.Berth.{Meaning}
+use Rattle.berth_face.specs.Berth.{Pair, Meaning}
 use Rattle.leaf_history.specs.History.{HistoryState, base_of, no_base}
-use Rattle.region_layout.specs.Images.{TableImage}
+use Rattle.region_directory.specs.Region.{reads}
 use Rattle.disk_backup.specs.Logs.{writes_of}
 use Rattle.disk_backup.specs.Settling.{HasLog, with_writes}
 use Rattle.disk_backup.specs.SoundLogs.{HasSoundLog}
-use Rattle.crash_moments.specs.Left.{NamedStates}
+use Rattle.crash_moments.specs.Left.{NamedStates, RegionLeft, closed, other_version, image}
 use Rattle.crash_moments.specs.Watched.{IsFoundation}
-use Rattle.crash_states.specs.Standing.{IsKept, IsWhole, RegionRests, is_closed, is_other, is_image, Rests, tables_of}
-use Rattle.crash_states.proofs.Disks.{same_log, writes_more}
+use Rattle.crash_moments.proofs.Alike.{region_alike}
+use Rattle.crash_states.specs.Standing.{IsKept, RegionRests, Rests, tables_of}
+use Rattle.crash_states.proofs.Disks.{writes_more}
 use Rattle.crash_states.proofs.States.{no_front, with_owed}
 use Rattle.leaf_machine.specs.Leaving.{IsFrontOf}
 use Rattle.leaf_machine.proofs.CopyWatching.{nothing_sound}
-use Rattle.leaf_machine.proofs.DownBegins.{whole_alike}
+use Rattle.leaf_machine.proofs.LeaveRests.{whole_most}
 use Rattle.play.specs.Played.{AreShut, IsBase}
 use Rattle.play.specs.Keeping.{IsKeptOf, Kept, states_of}
 
@@ -100,35 +101,21 @@ module _ (base : NamedStates) (m : Meaning) (is : IsBase base m) where
     handed = λ done. absurd (false≢true done);
   }
 
-  -- where each log has all of the tables, they have just what the longest has
-  module _ (images : List TableImage) (log_end : ℕ) (whole : IsWhole (tables_of base [] m) images log_end m) (name : List ℕ) where
-    had : HasLog (λ n. (base n).writes) log_end m.held.disk
-    had = whole.logs m.held rests.stands.reads
-
-    of_log : (held : List ℕ → List Write) → HasSoundLog held m.held.disk → (base name).writes ≡ held name
-    of_log held log =
-        sym (had.2 name) ∙ ap (λ (records : List LogRecord). writes_of name records) (sym (same_log (λ n. (base n).writes) held log_end m.held.disk had log).0) ∙ log.each name
-
-    whole_most : (base name).writes ≡ most name
-    whole_most = by (rests.logs m.held rests.stands.reads)
-      where
-        by : HasSoundLog least m.held.disk ⊎ HasSoundLog most m.held.disk → (base name).writes ≡ most name
-        by (inl log) =
-            let few : length (base name).writes ≤ length (most name) = omega (arith, ap (λ (l : List Write). length l) (of_log least log), (with_owed next least name).no_less) in
-            sym ((rests.each name).longest ∙ take_all (length (most name)) (base name).writes few)
-        by (inr log) = of_log most log
-
-    same_writes : (base name).writes ≡ (states_of kept name).writes
-    same_writes = carried (λ s. (base name).writes ≡ s.writes) name refl (λ none. whole_most ∙ none)
+  -- where a log has all of the base, so it has of the list
+  same_writes : (p : Pair) (left : m.leaves m.clock p) (log_end : ℕ) → HasLog (λ n. (base n).writes) log_end p.disk → (name : List ℕ) → (base name).writes ≡ (states_of kept name).writes
+  same_writes p left log_end had name = carried (λ s. (base name).writes ≡ s.writes) name refl (λ none. whole_most [] base least next m rests p left log_end had name ∙ none)
 
   region_kept : RegionRests (tables_of (states_of kept) [] m) m
-  region_kept = by rests.region
+  region_kept p left = by (rests.region p left)
     where
-      by : RegionRests (tables_of base [] m) m → RegionRests (tables_of (states_of kept) [] m) m
-      by (is_closed shut) = is_closed shut
-      by (is_other version head not_one) = is_other version head not_one
-      by (is_image images log_end image whole) =
-          is_image images log_end image (whole_alike (tables_of base [] m) (tables_of (states_of kept) [] m) images log_end m (same_writes images log_end whole) whole)
+      beside : Pair
+      beside = record { region = m.held.region; disk = p.disk }
+
+      by : RegionLeft reads (tables_of base [] m) beside → RegionLeft reads (tables_of (states_of kept) [] m) beside
+      by (closed shut) = closed shut
+      by (other_version version head other) = other_version version head other
+      by (image version images end reads_it is are had) =
+          region_alike reads (tables_of base [] m) (tables_of (states_of kept) [] m) beside (same_writes p left end had) (image version images end reads_it is are had)
 
   rests_kept : Rests [] (states_of kept) least next m
   rests_kept = record {

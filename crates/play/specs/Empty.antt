@@ -14,8 +14,8 @@ use Rattle.berth_mem.specs.Record.{meaning_of, moments}
 use Rattle.disk_backup.specs.Logs.{is_short}
 use Rattle.region_layout.specs.Region.{IsClosed}
 use Rattle.disk_backup.specs.SoundLogs.{HasSoundLog}
-use Rattle.crash_moments.specs.Left.{NamedStates}
-use Rattle.crash_states.specs.Standing.{Rests, is_closed}
+use Rattle.crash_moments.specs.Left.{NamedStates, closed}
+use Rattle.crash_states.specs.Standing.{Rests}
 use Rattle.play.specs.Played.{IsBase}
 
 -- no name has writes
@@ -46,7 +46,7 @@ rests_empty m o there = record {
   each = λ name. record { shut = refl; flushed = lit≤ tt; shortest = refl; longest = refl; handed = λ e. (refl, refl) };
   sound = λ name. record { before = refl; handed_in = refl; counted = record { taken = lit≤ tt; handed_in = lit≤ tt }; short = short };
   empty = λ e p left. subst (λ (disk : List ℕ). length disk ≤ 1) (sym (o.pairs p left).1) (lit≤ tt);
-  region = is_closed (subst (λ (held : Pair). IsClosed held.region) (sym o.held) (inl (lit< tt)));
+  region = λ p left. closed (subst (λ (held : Pair). IsClosed held.region) (sym o.held) (inl (lit< tt)));
 }
   where
     no_region : (p : Pair) → m.leaves m.clock p → p.region ≡ []
