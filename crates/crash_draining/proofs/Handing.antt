@@ -70,7 +70,7 @@ module _ (clock : ℕ) where
   hands_more [] [] all = tt
   hands_more [] (w' ∷ ws') all = absurd all
   hands_more (w ∷ ws) [] all = absurd all
-  hands_more (w ∷ ws) (w' ∷ ws') all = (all.0.name, all.0.base, (added clock w w' all.0, all.0.seen, added_between clock w w' all.0), hands_more ws ws' all.1)
+  hands_more (w ∷ ws) (w' ∷ ws') all = ((all.0.name, all.0.base, (added clock w w' all.0, all.0.seen, added_between clock w w' all.0)), hands_more ws ws' all.1)
 
   -- the names are the same
   pub hands_named : (name : List ℕ) (ws ws' : List Watched) → HandsAll clock ws ws' → is_watched ws' name ≡ is_watched ws name

@@ -54,17 +54,14 @@ region_after reads base tables pair Other same (shows_other v head not) = (Other
 
 pub crashes_fit : (reads : ℕ → Bool) (m : Machine) (pair : Pair) → FitsPair reads m pair → (m' : Machine) × (m'.mode ≡ Down) × Step m m' × FitsPair reads m' pair
 crashes_fit reads m pair f =
-    let a : After m f.records 0 m.tables = after m f.records 0 m.tables f.logs in
+    let a : After m f.sound.0 0 m.tables = after m f.sound.0 0 m.tables f.logs in
     let r = region_after reads (state_of m.tables) (state_of a.tables) pair m.region a.states f.region in
     let m' : Machine = record { tables = a.tables; hand = None; mode = Down; region = r.0 } in (
       m',
       refl,
       crash r.0 a.tables r.1 a.resettled refl,
       record {
-        records = f.records;
-        end = f.end;
-        log = f.log;
-        bounded = f.bounded;
+        sound = f.sound;
         logs = a.logs m';
         others = λ name far. f.others name (a.far name far);
         region = r.2;

@@ -42,10 +42,7 @@ empty_log name = ([], 0, is_short (lit≤ tt) refl refl, refl)
 
 empty_left : (reads : ℕ → Bool) → Left reads no_tables empty
 empty_left reads = record {
-  records = [];
-  end = 0;
-  log = is_short (lit≤ tt) refl refl;
-  bounded = λ name k. none k;
+  sound = ([], 0, is_short (lit≤ tt) refl refl, λ name k. none k);
   front = λ name. (0, lit≤ tt, lit≤ tt, refl);
   region = closed (inl (lit< tt));
 }

@@ -69,11 +69,8 @@ regions reads tables pair records end Other log whole (shows_other version head 
 -- a pair that fits a kept state belongs to its tables
 pub fitting_is_left : (reads : ℕ → Bool) (m : Machine) (pair : Pair) → IsPlain m.tables → Kept m → FitsPair reads m pair → Left reads (state_of m.tables) pair
 fitting_is_left reads m pair plain k f = record {
-  records = f.records;
-  end = f.end;
-  log = f.log;
-  bounded = f.bounded;
-  front = λ name. fronts m f.records name 0 m.tables k.1 f.logs plain (f.others name);
-  region = regions reads (state_of m.tables) pair f.records f.end m.region f.log
-      (λ e name. wholes m f.records name (or_left (holds_image m.region) (stays m.mode) e) 0 m.tables k.1 f.logs plain (f.others name)) f.region;
+  sound = f.sound;
+  front = λ name. fronts m f.sound.0 name 0 m.tables k.1 f.logs plain (f.others name);
+  region = regions reads (state_of m.tables) pair f.sound.0 f.sound.1 m.region f.sound.2
+      (λ e name. wholes m f.sound.0 name (or_left (holds_image m.region) (stays m.mode) e) 0 m.tables k.1 f.logs plain (f.others name)) f.region;
 }

@@ -110,7 +110,7 @@ others_found reads berth base own ready itself distinct =
     let may : Pair → Type 0 = λ q. berth.leaves berth.clock q in
     let l : Left reads base berth.held = ready.begins.left berth.held itself.stands in
     let but : (but : List ℕ) × ButOne base but = but_one reads may berth.held base ready.begins in
-    let names : List (List ℕ) = but.0 ∷ record_names l.records in
+    let names : List (List ℕ) = but.0 ∷ record_names l.sound.0 in
     let others : List (List ℕ) = further own names in (
       others,
       further_distinct own names distinct,
@@ -118,7 +118,7 @@ others_found reads berth base own ready itself distinct =
           let none : IsNone name names = further_none name own names (subst (IsNone name) (names_are base own others) (elsewhere name (begun_tables base own others) far)) in
           let all : (base name).flushed ≡ length (base name).writes = but.1 name (λ same. both (bytes_eq name but.0) none.0 ((bytes_eq-Decides name but.0).1 same)) in
           let front = l.front name in
-          let empty : take front.0 (base name).writes ≡ [] = sym front.3 ∙ none_written name l.records none.1 in
+          let empty : take front.0 (base name).writes ≡ [] = sym front.3 ∙ none_written name l.sound.0 none.1 in
           let short : length (take front.0 (base name).writes) ≡ 0 = ap (λ (ws : List Write). length ws) empty in
           let taken = length-take front.0 (base name).writes in
           nil_from_length (base name).writes (omega (arith, all, short, taken, front.1, front.2)),

@@ -56,11 +56,11 @@ each_two reads may now base r name = elim r.one_open [
     by but two rest false e = fixed_two may base name (r.base_is name) (rest name (λ same. both (bytes_eq name but) e ((bytes_eq-Decides name but).1 same)))
 
 -- what the log of such a pair has of each table
-log_one : (reads : ℕ → Bool) (may : Pair → Type 0) (now : Pair) (base : NamedStates) (p : Pair) → PairsMayBegin reads may now base → may p → (l : Left reads base p) (x : Tracked) → IsBegun base x → OfLog l.records x
+log_one : (reads : ℕ → Bool) (may : Pair → Type 0) (now : Pair) (base : NamedStates) (p : Pair) → PairsMayBegin reads may now base → may p → (l : Left reads base p) (x : Tracked) → IsBegun base x → OfLog l.sound.0 x
 log_one reads may now base p r left l x b =
     let front = l.front x.name in
     let which : (front.0 ≡ (base x.name).flushed) ⊎ (front.0 ≡ length (base x.name).writes) =
-    two_lengths may base p x.name l.records front.0 (each_two reads may now base r x.name) left (l.records, l.end, l.log, refl) front.1 front.3 in
+    two_lengths may base p x.name l.sound.0 front.0 (each_two reads may now base r x.name) left (l.sound.0, l.sound.1, l.sound.2, refl) front.1 front.3 in
     let all : length x.state.writes ≡ length (base x.name).writes = ap (λ (s : HistoryState). length s.writes) b.0 in (
       front.0,
       elim which [
@@ -71,7 +71,7 @@ log_one reads may now base p r left l x b =
     )
 
 logs_are : (reads : ℕ → Bool) (may : Pair → Type 0) (now : Pair) (base : NamedStates) (p : Pair) → PairsMayBegin reads may now base → may p → (l : Left reads base p) (xs : List Tracked)
-    → AllByRecursion (IsBegun base) xs → AllByRecursion (OfLog l.records) xs
+    → AllByRecursion (IsBegun base) xs → AllByRecursion (OfLog l.sound.0) xs
 logs_are reads may now base p r left l [] b = tt
 logs_are reads may now base p r left l (x ∷ xs) b = (log_one reads may now base p r left l x b.0, logs_are reads may now base p r left l xs b.1)
 
@@ -132,11 +132,8 @@ pair_fits reads berth base own others r p ready itself distinct none shows left 
     let few : AtMostOne xs = at_most_one base but.0 xs but.1 (subst AreDistinct (sym (names_are base own others)) distinct) b in
     let same : (name : List ℕ) → state_of xs name ≡ base name = λ name. state_is may base name xs (ready.begins.base_is name) b (none name) in
     record {
-      records = l.records;
-      end = l.end;
-      log = l.log;
-      bounded = l.bounded;
-      logs = all_have m l.records 0 xs refl few (logs_are reads may berth.held base p ready.begins left l xs b) f;
+      sound = l.sound;
+      logs = all_have m l.sound.0 0 xs refl few (logs_are reads may berth.held base p ready.begins left l xs b) f;
       others = λ name far. (l.front name).3 ∙ none_longer (l.front name).0 (base name).writes (none name far);
       region = elim (itself.region p left) [
         | inl held ↦ region_fits reads base (state_of xs) p r same (subst (λ bytes. RegionReads reads bytes r) (sym held) shows) l.region

@@ -9,7 +9,7 @@ use Rattle.region_layout.specs.ImageWrites.{AreImagesOf}
 use Rattle.region_layout.specs.Region.{IsClosed, head_of}
 use Rattle.region_directory.specs.Region.{IsImage}
 use Rattle.row_records.specs.Records.{LogRecord}
-use Rattle.disk_backup.specs.Logs.{IsLog, ClosedLog, IsBounded, writes_of}
+use Rattle.disk_backup.specs.Logs.{IsSound, ClosedLog, writes_of}
 use Rattle.crash_moments.specs.Left.{NamedStates}
 use Rattle.crash_events.specs.Machine.{Machine, Tracked, RegionIs, Whole, Either, Other}
 use Rattle.crash_events.specs.Events.{MayBe, is_whole}
@@ -39,10 +39,7 @@ IsElsewhere name ts = AllByRecursion (λ (x : Tracked). bytes_eq name x.name ≡
 
 -- A pair fits: its log is sound and has what the machine says of each table and nothing of other names, and its region is what the machine says.
 pub record FitsPair (reads : ℕ → Bool) (m : Machine) (pair : Pair) : Type 0 where
-  pub records : List LogRecord
-  pub end : ℕ
-  pub log : IsLog pair.disk records end
-  pub bounded : IsBounded records
-  pub logs : LogFits m records
-  pub others : (name : List ℕ) → IsElsewhere name m.tables → writes_of name records ≡ []
+  pub sound : IsSound pair.disk
+  pub logs : LogFits m sound.0
+  pub others : (name : List ℕ) → IsElsewhere name m.tables → writes_of name sound.0 ≡ []
   pub region : RegionFits reads (state_of m.tables) pair m.region

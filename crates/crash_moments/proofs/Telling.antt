@@ -1,8 +1,8 @@
 -- What calls tell, one after the other, and what stays as it was.
 use Rattle.std.proofs.Common.{◌≡◌, ℕ, zero, suc, ◌<◌, ◌≤◌, Bool, true, false, List, [], ◌∷◌, ◌++◌, Some, refl, sym, ap, subst, ◌∙◌, arith, inl, inr, append_assoc, append-nil}
 use Rattle.region_directory.specs.Region.{reads}
-use Rattle.std.specs.Prelude.{◌||◌, slice_get, bytes_eq, if◌then◌else◌, ⊤}
-use Rattle.std.specs.List.{AllByRecursion, list_any}
+use Rattle.std.specs.Prelude.{◌||◌, slice_get, bytes_eq, if◌then◌else◌}
+use Rattle.std.specs.List.{AllByRecursion, AllZip, list_any}
 use Rattle.std.proofs.lemmas.Bool.{cases_lt, or_left, or_right}
 use Rattle.std.proofs.lemmas.List.Folds.{list_any-append}
 use Rattle.berth_face.specs.Berth.{Meaning}
@@ -17,23 +17,20 @@ use Rattle.crash_moments.proofs.Cuts.{made_by, none_yet, cut_before, cut_later, 
 
 -- the same tables, and at the two moments the same of each history
 abbrev AreCutAlike : ℕ → ℕ → List Watched → List Watched → Type 0
-AreCutAlike t c [] [] = ⊤
-AreCutAlike t c [] (y ∷ ys) = ⊥
-AreCutAlike t c (x ∷ xs) [] = ⊥
-AreCutAlike t c (x ∷ xs) (y ∷ ys) = (y.name ≡ x.name) × (y.base ≡ x.base) × (cut t y.seen ≡ cut c x.seen) × AreCutAlike t c xs ys
+AreCutAlike t c = AllZip (λ (x y : Watched). (y.name ≡ x.name) × (y.base ≡ x.base) × (cut t y.seen ≡ cut c x.seen))
 
 alike_opened : (t c : ℕ) (xs ys : List Watched) → AreCutAlike t c xs ys → was_opened t ys ≡ was_opened c xs
 alike_opened t c [] [] alike = refl
 alike_opened t c [] (y ∷ ys) alike = absurd alike
 alike_opened t c (x ∷ xs) [] alike = absurd alike
 alike_opened t c (x ∷ xs) (y ∷ ys) alike =
-    ap (λ (l : List Entry). list_any is_opening l || was_opened t ys) alike.2 ∙ ap (λ (b : Bool). list_any is_opening (cut c x.seen) || b) (alike_opened t c xs ys alike.3)
+    ap (λ (l : List Entry). list_any is_opening l || was_opened t ys) alike.0.2 ∙ ap (λ (b : Bool). list_any is_opening (cut c x.seen) || b) (alike_opened t c xs ys alike.1)
 
 alike_named : (others : NamedStates) (t c : ℕ) (xs ys : List Watched) → AreCutAlike t c xs ys → by_name (state_then t) others ys ≡ by_name (state_then c) others xs
 alike_named others t c [] [] alike = refl
 alike_named others t c [] (y ∷ ys) alike = absurd alike
 alike_named others t c (x ∷ xs) [] alike = absurd alike
-alike_named others t c (x ∷ xs) (y ∷ ys) alike = by y.name y.base (cut t y.seen) alike.0 alike.1 alike.2 (alike_named others t c xs ys alike.3)
+alike_named others t c (x ∷ xs) (y ∷ ys) alike = by y.name y.base (cut t y.seen) alike.0.0 alike.0.1 alike.0.2 (alike_named others t c xs ys alike.1)
   where
     by : (name : List ℕ) (base : HistoryState) (seen : List Entry) → name ≡ x.name → base ≡ x.base → seen ≡ cut c x.seen → by_name (state_then t) others ys ≡ by_name (state_then c) others xs
         → (let one : NamedStates = λ (n : List ℕ). if bytes_eq n name then after true base seen else by_name (state_then t) others ys n in one ≡ by_name (state_then c) others (x ∷ xs))
@@ -50,8 +47,8 @@ cut_alike t from to [] [] earlier more = tt
 cut_alike t from to [] (y ∷ ys) earlier more = absurd more
 cut_alike t from to (x ∷ xs) [] earlier more = absurd more
 cut_alike t from to (x ∷ xs) (y ∷ ys) earlier more =
-    let added = more.2.0 in
-    (more.0, more.1, ap (cut t) more.2.1 ∙ cut_before t x.seen added (none_yet t from to added earlier more.2.2), cut_alike t from to xs ys earlier more.3)
+    let added = more.0.2 in
+    ((more.0.0, more.0.1, ap (cut t) added.1 ∙ cut_before t x.seen added.0 (none_yet t from to added.0 earlier added.2)), cut_alike t from to xs ys earlier more.1)
 
 -- at a moment before all that was learned, each name stood where it stood
 pub same_then : (others : NamedStates) (t from to : ℕ) (xs ys : List Watched) → t < from → SeenMore from to xs ys → tables_then others t ys ≡ tables_then others t xs
@@ -59,7 +56,7 @@ same_then others t from to xs ys earlier more = alike_tables others t t xs ys (c
 
 later_alike : (c t : ℕ) (ws : List Watched) → c ≤ t → AllByRecursion (λ (w : Watched). Between 0 c w.seen) ws → AreCutAlike t c ws ws
 later_alike c t [] later none = tt
-later_alike c t (w ∷ ws) later none = (refl, refl, cut_later c t w.seen later none.0, later_alike c t ws later none.1)
+later_alike c t (w ∷ ws) later none = ((refl, refl, cut_later c t w.seen later none.0), later_alike c t ws later none.1)
 
 -- once all of the steward's entries were made, no later moment adds one
 pub then_now : (others : NamedStates) (c t : ℕ) (ws : List Watched) → c ≤ t → AllByRecursion (λ (w : Watched). Between 0 c w.seen) ws → tables_then others t ws ≡ tables_then others c ws
@@ -70,7 +67,7 @@ then_now others c t ws later none = alike_tables others t c ws ws (later_alike c
 -- nothing is learned
 pub none_more : (a b : ℕ) (ws : List Watched) → SeenMore a b ws ws
 none_more a b [] = tt
-none_more a b (w ∷ ws) = (refl, refl, ([], sym (append-nil w.seen), tt), none_more a b ws)
+none_more a b (w ∷ ws) = ((refl, refl, ([], sym (append-nil w.seen), tt)), none_more a b ws)
 
 pub between_wider : (a from to b : ℕ) (es : List Entry) → a ≤ from → to ≤ b → Between from to es → Between a b es
 between_wider a from to b [] low high within = tt
@@ -87,16 +84,20 @@ more_on a b c [] [] (z ∷ zs) ab bc first second = absurd second
 more_on a b c [] (y ∷ ys) zs ab bc first second = absurd first
 more_on a b c (x ∷ xs) [] zs ab bc first second = absurd first
 more_on a b c (x ∷ xs) (y ∷ ys) [] ab bc first second = absurd second
-more_on a b c (x ∷ xs) (y ∷ ys) (z ∷ zs) ab bc first second = (
-  second.0 ∙ first.0,
-  second.1 ∙ first.1,
-  (
-    first.2.0 ++ second.2.0,
-    second.2.1 ∙ ap (λ (l : List Entry). l ++ second.2.0) first.2.1 ∙ append_assoc x.seen first.2.0 second.2.0,
-    between_append a c first.2.0 second.2.0 (between_wider a a b c first.2.0 (omega arith) bc first.2.2) (between_wider a b c c second.2.0 ab (omega arith) second.2.2),
-  ),
-  more_on a b c xs ys zs ab bc first.3 second.3,
-)
+more_on a b c (x ∷ xs) (y ∷ ys) (z ∷ zs) ab bc first second =
+    let one = first.0.2 in
+    let two = second.0.2 in (
+      (
+        second.0.0 ∙ first.0.0,
+        second.0.1 ∙ first.0.1,
+        (
+          one.0 ++ two.0,
+          two.1 ∙ ap (λ (l : List Entry). l ++ two.0) one.1 ∙ append_assoc x.seen one.0 two.0,
+          between_append a c one.0 two.0 (between_wider a a b c one.0 (omega arith) bc one.2) (between_wider a b c c two.0 ab (omega arith) two.2),
+        ),
+      ),
+      more_on a b c xs ys zs ab bc first.1 second.1,
+    )
 
 -- ---- what two calls tell is told of both
 
@@ -119,10 +120,10 @@ pub opened_more : (a b c d : ℕ) (xs ys : List Watched) → c ≤ d → SeenMor
 opened_more a b c d [] [] later more opened = opened
 opened_more a b c d [] (y ∷ ys) later more opened = absurd more
 opened_more a b c d (x ∷ xs) [] later more opened = absurd more
-opened_more a b c d (x ∷ xs) (y ∷ ys) later more opened = both (list_any is_opening (cut c x.seen)) (was_opened c xs) opened here (opened_more a b c d xs ys later more.3)
+opened_more a b c d (x ∷ xs) (y ∷ ys) later more opened = both (list_any is_opening (cut c x.seen)) (was_opened c xs) opened here (opened_more a b c d xs ys later more.1)
   where
     here : list_any is_opening (cut c x.seen) ≡ true → list_any is_opening (cut d y.seen) ≡ true
-    here opens = subst (λ (es : List Entry). list_any is_opening (cut d es) ≡ true) (sym more.2.1) (cut_on is_opening c d x.seen more.2.0 later opens)
+    here opens = subst (λ (es : List Entry). list_any is_opening (cut d es) ≡ true) (sym more.0.2.1) (cut_on is_opening c d x.seen more.0.2.0 later opens)
 
     both : (h t : Bool) → (h || t) ≡ true → (h ≡ true → list_any is_opening (cut d y.seen) ≡ true) → (t ≡ true → was_opened d ys ≡ true)
         → (list_any is_opening (cut d y.seen) || was_opened d ys) ≡ true

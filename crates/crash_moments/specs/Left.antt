@@ -8,7 +8,7 @@ use Rattle.region_layout.specs.ImageWrites.{AreImagesOf}
 use Rattle.region_layout.specs.Region.{IsClosed, head_of}
 use Rattle.region_directory.specs.Region.{IsImage}
 use Rattle.row_records.specs.Records.{LogRecord}
-use Rattle.disk_backup.specs.Logs.{IsLog, IsBounded, writes_of}
+use Rattle.disk_backup.specs.Logs.{IsSound, writes_of}
 use Rattle.disk_backup.specs.Settling.{HasLog}
 
 -- the state of each table, by name: one that is not listed has no writes
@@ -31,12 +31,9 @@ pub data RegionLeft (reads : ℕ → Bool) (tables : NamedStates) (pair : Pair) 
       → HasLog (λ name. (tables name).writes) end pair.disk
       → RegionLeft reads tables pair
 
--- The pair belongs to these tables: its log is sound and has a front of the writes of each, and its region is one of those.
+-- The pair belongs to these tables: its log is sound, its records have a front of the writes of each, and its region is one of those.
 -- `reads` says which versions of an image are read.
 pub record Left (reads : ℕ → Bool) (tables : NamedStates) (pair : Pair) : Type 0 where
-  pub records : List LogRecord
-  pub end : ℕ
-  pub log : IsLog pair.disk records end
-  pub bounded : IsBounded records
-  pub front : IsFront tables records
+  pub sound : IsSound pair.disk
+  pub front : IsFront tables sound.0
   pub region : RegionLeft reads tables pair

@@ -1,5 +1,6 @@
 -- What a call of a leaf tells of a crash at any moment of it.
-use Rattle.std.specs.Prelude.{◌≡◌, ℕ, ◌≤◌, ◌==◌, Bool, List, [], ◌∷◌, ◌++◌, ⊤}
+use Rattle.std.specs.Prelude.{◌≡◌, ℕ, ◌≤◌, List, ◌++◌}
+use Rattle.std.specs.List.{AllZip}
 use Rattle.region_directory.specs.Region.{reads}
 use Rattle.berth_face.specs.Berth.{Pair, Meaning, Passes}
 use Rattle.leaf_history.specs.History.{Entry}
@@ -8,9 +9,7 @@ use Rattle.crash_moments.specs.Watched.{Watched, Between, tables_then}
 
 -- each seat has seen more: what came since has only steward's entries of these moments
 abbrev pub SeenMore : ℕ → ℕ → List Watched → List Watched → Type 0
-SeenMore from to [] [] = ⊤
-SeenMore from to (x ∷ xs) (y ∷ ys) = (y.name ≡ x.name) × (y.base ≡ x.base) × ((more : List Entry) × (y.seen ≡ x.seen ++ more) × Between from to more) × SeenMore from to xs ys
-SeenMore from to _ _ = ⊥
+SeenMore from to = AllZip (λ (x y : Watched). (y.name ≡ x.name) × (y.base ≡ x.base) × ((more : List Entry) × (y.seen ≡ x.seen ++ more) × Between from to more))
 
 -- At every moment since the call began, every region and disk that a crash may leave belong to the tables as they stood then.
 pub record Told (others : NamedStates) (before now : List Watched) (old new : Meaning) : Type 0 where

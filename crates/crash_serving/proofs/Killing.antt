@@ -39,7 +39,7 @@ one w = w ∷ []
 
 ends_more : (clock : ℕ) (w w' : Watched) → Ends clock w w' → SeenMore clock clock (one w) (one w')
 ends_more clock w w' (inl shut) = subst (λ (x : Watched). SeenMore clock clock (one w) (one x)) (sym shut.1) (none_more clock clock (one w))
-ends_more clock w w' (inr shuts) = (shuts.1.name, shuts.1.base, entry_more shuts.1, tt)
+ends_more clock w w' (inr shuts) = ((shuts.1.name, shuts.1.base, entry_more shuts.1), tt)
 
 ends_watched : (clock : ℕ) (w w' : Watched) → Ends clock w w' → IsWatched clock w → IsWatched clock w'
 ends_watched clock w w' (inl shut) watched = subst (IsWatched clock) (sym shut.1) watched
@@ -79,7 +79,7 @@ all_more : (clock : ℕ) (ws ws' : List Watched) → ShutsAll clock ws ws' → S
 all_more clock [] [] all = tt
 all_more clock [] (w' ∷ ws') all = absurd all
 all_more clock (w ∷ ws) [] all = absurd all
-all_more clock (w ∷ ws) (w' ∷ ws') all = let first = ends_more clock w w' all.0 in (first.0, first.1, first.2, all_more clock ws ws' all.1)
+all_more clock (w ∷ ws) (w' ∷ ws') all = ((ends_more clock w w' all.0).0, all_more clock ws ws' all.1)
 
 all_each : (clock : ℕ) (ws ws' : List Watched) → ShutsAll clock ws ws' → AllByRecursion (IsWatched clock) ws → AllByRecursion (IsWatched clock) ws'
 all_each clock [] [] all each = tt
@@ -92,13 +92,13 @@ same_names from to [] [] name more = refl
 same_names from to [] (w' ∷ ws') name more = absurd more
 same_names from to (w ∷ ws) [] name more = absurd more
 same_names from to (w ∷ ws) (w' ∷ ws') name more =
-    ap (λ (n : List ℕ). bytes_eq name n || is_watched ws' name) more.0 ∙ ap (λ (b : Bool). bytes_eq name w.name || b) (same_names from to ws ws' name more.3)
+    ap (λ (n : List ℕ). bytes_eq name n || is_watched ws' name) more.0.0 ∙ ap (λ (b : Bool). bytes_eq name w.name || b) (same_names from to ws ws' name more.1)
 
 still_apart : (from to : ℕ) (ws ws' : List Watched) → SeenMore from to ws ws' → AreApart ws → AreApart ws'
 still_apart from to [] [] more apart = tt
 still_apart from to [] (w' ∷ ws') more apart = absurd more
 still_apart from to (w ∷ ws) [] more apart = absurd more
-still_apart from to (w ∷ ws) (w' ∷ ws') more apart = (ap (is_watched ws') more.0 ∙ same_names from to ws ws' w.name more.3 ∙ apart.0, still_apart from to ws ws' more.3 apart.1)
+still_apart from to (w ∷ ws) (w' ∷ ws') more apart = (ap (is_watched ws') more.0.0 ∙ same_names from to ws ws' w.name more.1 ∙ apart.0, still_apart from to ws ws' more.1 apart.1)
 
 -- ---- a leaf
 
@@ -124,7 +124,7 @@ module _ (ws ws' : List Watched) (owner : ℕ) (log : LogState) (writes : List �
       by : IsOwn ws' name ⊎ IsForeign ws' name → IsKept (writes name) (taken name) (tables_of others ws' m name)
       by (inl own) =
           let ends = ends_at m.clock ws ws' own.place own.table all own.at in
-          let same : ends.0.name ≡ name = sym (ends_more m.clock ends.0 own.table ends.2).0 ∙ own.named in
+          let same : ends.0.name ≡ name = sym (ends_more m.clock ends.0 own.table ends.2).0.0 ∙ own.named in
           let is : IsLogged (writes name) (taken name) (now_of ends.0) = subst (λ (n : List ℕ). IsLogged (writes n) (taken n) (now_of ends.0)) same (runs.each own.place ends.0 ends.1) in
           subst (IsKept (writes name) (taken name)) (sym (own.stands now_of (others_at others m.clock ws')))
           (ends_kept (writes name) (taken name) (without_owed log.owed writes name) (with_owed log.owed writes name) m.clock ends.0 own.table ends.2 is)

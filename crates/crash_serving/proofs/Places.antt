@@ -35,7 +35,6 @@ pub set_more : (from to place : ℕ) (w w' : Watched) (ws : List Watched) (more 
     → w'.seen ≡ w.seen ++ more → Between from to more → SeenMore from to ws (slice_set ws place w')
 set_more from to place w w' [] more at name base seen within = absurd cc
 set_more from to zero w w' (v ∷ ws) more at name base seen within =
-    subst (λ (u : Watched). SeenMore from to (u ∷ ws) (w' ∷ ws)) (sym (same_Some v w at)) (name, base, (more, seen, within), none_more from to ws)
+    subst (λ (u : Watched). SeenMore from to (u ∷ ws) (w' ∷ ws)) (sym (same_Some v w at)) ((name, base, (more, seen, within)), none_more from to ws)
 set_more from to (suc place) w w' (v ∷ ws) more at name base seen within =
-    let same = none_more from to (v ∷ []) in
-    (same.0, same.1, same.2, set_more from to place w w' ws more at name base seen within)
+    ((none_more from to (v ∷ [])).0, set_more from to place w w' ws more at name base seen within)

@@ -64,27 +64,27 @@ most_is may base but name varies = by (bytes_eq name but) refl
     by false e = take_all (base name).flushed (base name).writes (omega (arith, varies.rest name e))
 
 module _ (reads : ℕ → Bool) (may : Pair → Type 0) (base : NamedStates) (but : List ℕ) (p : Pair) (varies : OneVaries may base but) (l : Left reads base p) where
-  has_least : (l.front but).0 ≡ (base but).flushed → (name : List ℕ) → writes_of name l.records ≡ least_of base name
+  has_least : (l.front but).0 ≡ (base but).flushed → (name : List ℕ) → writes_of name l.sound.0 ≡ least_of base name
   has_least here name =
       let count : (l.front name).0 ≡ (base name).flushed =
       by_but (λ n. (l.front n).0 ≡ (base n).flushed) but name here (λ e. omega (arith, (l.front name).1, (l.front name).2, varies.rest name e)) in
       (l.front name).3 ∙ ap (λ n. take n (base name).writes) count
 
-  has_most : (l.front but).0 ≡ length (base but).writes → (name : List ℕ) → writes_of name l.records ≡ with_writes (Some (next_of base but)) (least_of base) name
+  has_most : (l.front but).0 ≡ length (base but).writes → (name : List ℕ) → writes_of name l.sound.0 ≡ with_writes (Some (next_of base but)) (least_of base) name
   has_most here name =
       let count : (l.front name).0 ≡ length (base name).writes =
       by_but (λ n. (l.front n).0 ≡ length (base n).writes) but name here (λ e. omega (arith, (l.front name).1, (l.front name).2, varies.rest name e)) in
       (l.front name).3 ∙ take_all (l.front name).0 (base name).writes (omega (arith, count)) ∙ sym (most_is may base but name varies)
 
-  sound : (writes : List ℕ → List Write) → ((name : List ℕ) → writes_of name l.records ≡ writes name) → HasSoundLog writes p.disk
-  sound writes each = record { records = l.records; log_end = l.end; log = l.log; bounded = l.bounded; each = each }
+  sound : (writes : List ℕ → List Write) → ((name : List ℕ) → writes_of name l.sound.0 ≡ writes name) → HasSoundLog writes p.disk
+  sound writes each = record { sound = l.sound; each = each }
 
   -- the log of such a pair
   pub log_is : may p → HasSoundLog (least_of base) p.disk ⊎ HasSoundLog (with_writes (Some (next_of base but)) (least_of base)) p.disk
   log_is left =
-      let has : HasWritesOf p.disk but (writes_of but l.records) = (l.records, l.end, l.log, refl) in
-      let long : length (writes_of but l.records) ≡ (l.front but).0 = ap (λ (ws : List Write). length ws) (l.front but).3 ∙ length-take-le (l.front but).0 (base but).writes (l.front but).1 in
-      elim (varies.two p (writes_of but l.records) left has) [
+      let has : HasWritesOf p.disk but (writes_of but l.sound.0) = (l.sound.0, l.sound.1, l.sound.2, refl) in
+      let long : length (writes_of but l.sound.0) ≡ (l.front but).0 = ap (λ (ws : List Write). length ws) (l.front but).3 ∙ length-take-le (l.front but).0 (base but).writes (l.front but).1 in
+      elim (varies.two p (writes_of but l.sound.0) left has) [
         | inl e ↦ inl (sound (least_of base) (has_least (sym long ∙ e)))
         | inr e ↦ inr (sound (with_writes (Some (next_of base but)) (least_of base)) (has_most (sym long ∙ e)))
       ]

@@ -38,8 +38,8 @@ kept_one may name s most is all =
 -- the pair with the longest log says that it is short
 short_one : (reads : ℕ → Bool) (base : NamedStates) (p : Pair) (name : List ℕ) (writes : List Write) → Left reads base p → HasWritesOf p.disk name writes → IsShort writes
 short_one reads base p name writes l has k =
-    let same : writes_of name l.records ≡ writes = ap (λ (records : List LogRecord). writes_of name records) (one_log p.disk l.records has.0 l.end has.1 l.log has.2).0 ∙ sym has.3 in
-    subst (λ (ws : List Write). length (content (take k ws)).rows ≤ 2 ^ 40) same (l.bounded name k)
+    let same : writes_of name l.sound.0 ≡ writes = ap (λ (records : List LogRecord). writes_of name records) (one_log p.disk l.sound.0 has.0 l.sound.1 has.1 l.sound.2 has.2).0 ∙ sym has.3 in
+    subst (λ (ws : List Write). length (content (take k ws)).rows ≤ 2 ^ 40) same (l.sound.3 name k)
 
 pub founded : (reads : ℕ → Bool) (may : Pair → Type 0) (base : NamedStates) (name : List ℕ) → ((p : Pair) → may p → Left reads base p) → IsBaseOf may name (base name) → IsFoundation (base name)
 founded reads may base name lefts is =

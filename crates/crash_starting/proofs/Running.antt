@@ -127,12 +127,14 @@ module _ (clock : ℕ) (writes : List ℕ → List Write) where
   opens_more [] (w' ∷ ws') all = absurd all
   opens_more (w ∷ ws) [] all = absurd all
   opens_more (w ∷ ws) (w' ∷ ws') all = (
-    all.0.name,
-    all.0.base,
     (
-      all.0.between ++ stewards clock (call.Open (length (writes w.name)) (content (writes w.name))) reply.Noted ∷ [],
-      all.0.seen,
-      entered_between clock (call.Open (length (writes w.name)) (content (writes w.name))) reply.Noted w w' all.0,
+      all.0.name,
+      all.0.base,
+      (
+        all.0.between ++ stewards clock (call.Open (length (writes w.name)) (content (writes w.name))) reply.Noted ∷ [],
+        all.0.seen,
+        entered_between clock (call.Open (length (writes w.name)) (content (writes w.name))) reply.Noted w w' all.0,
+      ),
     ),
     opens_more ws ws' all.1,
   )

@@ -1,5 +1,5 @@
 -- What a disk's log has, with or without what it is owed.
-use Rattle.std.proofs.Common.{◌≡◌, ◌⊎◌, inl, inr, ◌∙◌, ℕ, ◌+◌, Bool, true, false, cond, List, [], ◌∷◌, ◌++◌, length, Option, Some, None, refl, sym, ap, subst, arith, append_assoc, append-nil}
+use Rattle.std.proofs.Common.{◌≡◌, ◌⊎◌, inl, inr, ◌∙◌, ℕ, ◌+◌, Bool, true, false, cond, List, [], ◌∷◌, ◌++◌, length, Option, Some, None, sym, ap, subst, arith, append_assoc, append-nil}
 use Rattle.std.specs.Prelude.{bytes_eq}
 use Rattle.std.proofs.lemmas.Bool.{cases_eq}
 use Rattle.leaf_model.specs.declared.writes.Write.{Write}
@@ -31,13 +31,7 @@ short_without owed writes name short =
 
 module _ (writes : List ℕ → List Write) (disk : List ℕ) (records : List LogRecord) (same : (name : List ℕ) → writes_of name records ≡ writes name) where
   pub sound_closed : (end : ℕ) → ClosedLog records end disk → ((name : List ℕ) → IsShort (writes name)) → HasSoundLog writes disk
-  sound_closed end closed short = record {
-    records = records;
-    log_end = end;
-    log = closed_is_log disk records end closed;
-    bounded = bounded_of records writes same short;
-    each = same;
-  }
+  sound_closed end closed short = record { sound = (records, end, closed_is_log disk records end closed, bounded_of records writes same short); each = same }
 
   -- the gate was opened before the record that is laid behind it
   pub sound_more : (r : LogRecord) (end : ℕ) (laid : LaidLog records r end disk) → laid.gate ≡ 1 → ((name : List ℕ) → IsShort (with_writes (Some r) writes name)) → HasSoundLog (with_writes (Some r) writes) disk
@@ -46,10 +40,12 @@ module _ (writes : List ℕ → List Write) (disk : List ℕ) (records : List Lo
       laid.is ∙ ap (λ (g : ℕ). open_records records ++ g ∷ (pending_bytes (Some r) ++ laid.rest)) opened ∙ ap (λ (l : List ℕ). open_records records ++ 1 ∷ l) (append_assoc (record_bytes r) (0 ∷ []) laid.rest) in
       let log_end = length (open_records records) + 1 + length (record_bytes r) in
       record {
-        records = records ++ r ∷ [];
-        log_end = log_end;
-        log = subst (λ (d : List ℕ). IsLog d (records ++ r ∷ []) log_end) (sym bytes) (one_record_more records r 0 laid.rest laid.each laid.next_is (omega arith));
-        bounded = bounded_of (records ++ r ∷ []) (with_writes (Some r) writes) (writes_more records r writes same) short;
+        sound = (
+          records ++ r ∷ [],
+          log_end,
+          subst (λ (d : List ℕ). IsLog d (records ++ r ∷ []) log_end) (sym bytes) (one_record_more records r 0 laid.rest laid.each laid.next_is (omega arith)),
+          bounded_of (records ++ r ∷ []) (with_writes (Some r) writes) (writes_more records r writes same) short,
+        );
         each = writes_more records r writes same;
       }
 
@@ -70,5 +66,5 @@ pub sound_log : (writes : List ℕ → List Write) (end : ℕ) (disk : List ℕ)
 sound_log writes end disk had short = sound_closed writes disk had.0 had.2 end had.1 short
 
 -- the log that ends there is the disk's only one
-pub same_log : (writes held : List ℕ → List Write) (end : ℕ) (disk : List ℕ) (had : HasLog writes end disk) (log : HasSoundLog held disk) → (log.records ≡ had.0) × (log.log_end ≡ end)
-same_log writes held end disk had log = one_log disk log.records had.0 log.log_end end log.log (closed_is_log disk had.0 end had.1)
+pub same_log : (writes held : List ℕ → List Write) (end : ℕ) (disk : List ℕ) (had : HasLog writes end disk) (log : HasSoundLog held disk) → (log.sound.0 ≡ had.0) × (log.sound.1 ≡ end)
+same_log writes held end disk had log = one_log disk log.sound.0 had.0 log.sound.1 end log.sound.2 (closed_is_log disk had.0 end had.1)

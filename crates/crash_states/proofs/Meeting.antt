@@ -72,8 +72,8 @@ met_more from to place w w' [] at learns = absurd cc
 met_more from to zero w w' (v ∷ ws) at learns =
     let same : w ≡ v = sym (same_Some v w at) in
     subst (λ (u : Watched). SeenMore from to (u ∷ ws) (w' ∷ ws)) same
-    (learns.name, learns.base, (learns.more, learns.seen, callers_between from to learns.more learns.others), none_more from to ws)
-met_more from to (suc place) w w' (v ∷ ws) at learns = (refl, refl, ([], sym (append-nil v.seen), tt), met_more from to place w w' ws at learns)
+    ((learns.name, learns.base, (learns.more, learns.seen, callers_between from to learns.more learns.others)), none_more from to ws)
+met_more from to (suc place) w w' (v ∷ ws) at learns = ((refl, refl, ([], sym (append-nil v.seen), tt)), met_more from to place w w' ws at learns)
 
 -- what holds of each table that stood there and of the one that has learned
 pub met_each : (P : Watched → Type 0) (place : ℕ) (w' : Watched) (ws : List Watched) → P w' → ((at : ℕ) (v : Watched) → slice_get ws at ≡ Some v → P v)

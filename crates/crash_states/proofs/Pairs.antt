@@ -16,10 +16,7 @@ use Rattle.crash_states.proofs.States.{IsFrontOf, front_within}
 pub left_by : (tables : NamedStates) (held : List ℕ → List Write) (p : Pair) (log : HasSoundLog held p.disk) → ((name : List ℕ) → IsFrontOf (held name) (tables name))
     → RegionLeft reads tables p → Left reads tables p
 left_by tables held p log fronts region = record {
-  records = log.records;
-  end = log.log_end;
-  log = log.log;
-  bounded = log.bounded;
+  sound = log.sound;
   front = λ name.
       let is : IsFrontOf (held name) (tables name) = fronts name in
       (length (held name), front_within (held name) (tables name) is, is.flushed, log.each name ∙ is.front);

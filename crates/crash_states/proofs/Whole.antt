@@ -1,31 +1,21 @@
 -- Each pair that a crash may leave now belongs to the tables with all their entries, not only with those up to the steward's last.
-use Rattle.std.proofs.Common.{◌≡◌, ◌⊎◌, inl, inr, ℕ, true, false, List, [], length, take, Option, Some, refl, sym, ap, subst, ◌∙◌, arith}
-use Rattle.std.specs.Prelude.{slice_get}
+use Rattle.std.proofs.Common.{◌≡◌, ◌⊎◌, inl, inr, ℕ, List, [], length, take, Option, sym, ap, subst, ◌∙◌, arith}
 use Rattle.std.proofs.lemmas.List.{take_all}
 use Rattle.leaf_model.specs.declared.writes.Write.{Write}
 use Rattle.row_records.specs.Records.{LogRecord}
-use Rattle.berth_face.specs.Berth.{Pair, Meaning}
+use Rattle.berth_face.specs.Berth.{Meaning}
 use Rattle.berth_face.specs.Moments.{EachNow}
-use Rattle.berth_face.proofs.Moments.{passes_none}
 use Rattle.region_directory.specs.Region.{reads}
 use Rattle.disk_backup.specs.State.{LogState}
-use Rattle.disk_backup.specs.Settling.{HasLog, with_writes}
-use Rattle.drain_copy.specs.Draining.{DrainState}
-use Rattle.leaf_history.specs.History.{HistoryState}
-use Rattle.region_layout.specs.ImageWrites.{AreImagesOf}
-use Rattle.disk_backup.specs.SoundLogs.{HasSoundLog, IsShort}
-use Rattle.disk_backup.proofs.SoundLogs.{none_short, no_writes}
+use Rattle.disk_backup.specs.Settling.{with_writes}
+use Rattle.disk_backup.proofs.SoundLogs.{no_writes}
 use Rattle.crash_moments.specs.Left.{NamedStates, Left, RegionLeft, closed}
-use Rattle.crash_moments.specs.Watched.{Watched, IsWatched, AreWatched, is_watched, now_of, state_then, tables_then, was_opened}
-use Rattle.crash_moments.specs.Told.{SeenMore, Told}
-use Rattle.crash_moments.proofs.Histories.{cut_keeps}
-use Rattle.crash_states.specs.Standing.{IsLogged, Runs, IsKept, Rests, IsTreated, Copies, Holds, tables_of}
-use Rattle.crash_states.specs.Laws.{IsLeftNow}
-use Rattle.crash_states.proofs.Names.{IsOwn, IsForeign, find_name, same_by_name, others_at, no_others, each_at, named_at}
-use Rattle.crash_states.proofs.States.{IsFrontOf, IsBetween, front_short, no_front, front_before, shut_then, now_sound, then_sound, without_owed, with_owed, between_few, logged_front, kept_least, kept_most, treated_front, treated_none}
-use Rattle.crash_states.proofs.Disks.{sound_owing, sound_log}
+use Rattle.crash_moments.specs.Watched.{Watched, now_of, was_opened}
+use Rattle.crash_states.specs.Standing.{IsLogged, Runs, Rests, tables_of}
+use Rattle.crash_states.proofs.Names.{IsOwn, IsForeign, find_name, others_at, no_others}
+use Rattle.crash_states.proofs.States.{IsFrontOf, IsBetween, no_front, without_owed, with_owed, logged_front, kept_least, kept_most}
 use Rattle.crash_states.proofs.Pairs.{left_by, rests_region}
-use Rattle.crash_states.proofs.Lefts.{taken_short, runs_logs}
+use Rattle.crash_states.proofs.Lefts.{runs_logs}
 
 -- ---- a leaf that serves or shuts its tables
 

@@ -62,19 +62,14 @@ module _ (writes : List ℕ → List Write) (disk : List ℕ) (had : HasSoundLog
   pub sound_begins : (now : List ℕ) → BeginsScan (length disk) disk now → HasSoundLog writes now
   sound_begins now (inl same) = subst (HasSoundLog writes) (sym same) had
   sound_begins now (inr first) =
-      let none = short_log disk had.records had.log_end first.short had.log in
-      record {
-        records = had.records;
-        log_end = had.log_end;
-        log = is_short (omega (arith, first.short, first.torn.no_longer)) none.0 none.1;
-        bounded = had.bounded;
-        each = had.each;
-      }
+      let sound = had.sound in
+      let none = short_log disk sound.0 sound.1 first.short sound.2 in
+      record { sound = (sound.0, sound.1, is_short (omega (arith, first.short, first.torn.no_longer)) none.0 none.1, sound.3); each = had.each }
 
   -- the log that is read is the one that it had
   pub same_writes : (now : List ℕ) (records : List LogRecord) (end : ℕ) → now ≡ begun disk → ClosedLog records end now → (name : List ℕ) → writes_of name records ≡ writes name
   same_writes now records end is closed name =
-      let whole = begun_log disk had.records had.log_end had.log in
+      let whole = begun_log disk had.sound.0 had.sound.1 had.sound.2 in
       let read = closed_is_log (begun disk) records end (subst (ClosedLog records end) is closed) in
-      let one = one_log (begun disk) records had.records end had.log_end read whole in
+      let one = one_log (begun disk) records had.sound.0 end had.sound.1 read whole in
       ap (writes_of name) one.0 ∙ had.each name

@@ -30,12 +30,9 @@ use Rattle.leaf_machine.proofs.StartFaults.{told_damaged}
 
 -- ---- a leaf that rests has a log that is sound
 
-log_sound : (writes : List ℕ → List Write) (disk : List ℕ) → HasSoundLog writes disk → IsSound disk
-log_sound writes disk has = (has.records, has.log_end, has.log, has.bounded)
-
 one_sound : (first second : List ℕ → List Write) (disk : List ℕ) → HasSoundLog first disk ⊎ HasSoundLog second disk → IsSound disk
-one_sound first second disk (inl has) = log_sound first disk has
-one_sound first second disk (inr has) = log_sound second disk has
+one_sound first second disk (inl has) = has.sound
+one_sound first second disk (inr has) = has.sound
 
 pub rests_sound : (ws : List Watched) (others : NamedStates) (least : List ℕ → List Write) (next : Option LogRecord) (m : Meaning) → Rests ws others least next m → IsSound m.held.disk
 rests_sound ws others least next m rests = one_sound least (λ name. with_writes next least name) m.held.disk (rests.logs m.held rests.stands.reads)

@@ -107,7 +107,7 @@ serving_logged base counts s m founded none stands settled = λ place t v at sat
 
 -- a log with these writes
 has_writes : (disk : List ℕ) (writes : List ℕ → List Write) (name : List ℕ) (n : ℕ) → HasSoundLog writes disk → length (writes name) ≡ n → LogHas disk name n
-has_writes disk writes name n log count = (log.records, log.log_end, log.log, sym count ∙ ap (λ (ws : List Write). length ws) (sym (log.each name)))
+has_writes disk writes name n log count = (log.sound.0, log.sound.1, log.sound.2, sym count ∙ ap (λ (ws : List Write). length ws) (sym (log.each name)))
 
 -- what a log has at least and at most, it has where that is all of a table
 kept_count : (least most : List Write) (s : HistoryState) → IsKept least most s → length least ≤ length most → s.flushed ≡ length s.writes

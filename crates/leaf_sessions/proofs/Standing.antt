@@ -119,9 +119,7 @@ watch_learned from to g (t ∷ ts) [] (w ∷ ws) count each = absurd (omega (ari
 watch_learned from to g (t ∷ ts) (v ∷ vs) [] count each = absurd (omega (arith, count))
 watch_learned from to g (t ∷ ts) (v ∷ vs) (w ∷ ws) count each =
     let here = each zero t v w refl refl refl in (
-      refl,
-      refl,
-      (here.more, here.seen, callers_between from to here.more here.callers),
+      (refl, refl, (here.more, here.seen, callers_between from to here.more here.callers)),
       watch_learned from to g ts vs ws (omega (arith, count)) (λ place u a b at sat sat'. each (suc place) u a b at sat sat'),
     )
 

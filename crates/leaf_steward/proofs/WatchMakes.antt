@@ -42,12 +42,14 @@ enters_more from to clock place c r w w' [] low high at enters = absurd (none-so
 enters_more from to clock zero c r w w' (v ∷ ws) low high at enters =
     let same : w ≡ v = sym (same_Some v w at) in
     subst (λ (u : Watched). SeenMore from to (u ∷ ws) (w' ∷ ws)) same (
-      enters.name,
-      enters.base,
-      (enters.between ++ stewards clock c r ∷ [], enters.seen, between_append from to enters.between (stewards clock c r ∷ []) (callers_between from to enters.between enters.others) ((λ steward. (low, high)), tt)),
+      (
+        enters.name,
+        enters.base,
+        (enters.between ++ stewards clock c r ∷ [], enters.seen, between_append from to enters.between (stewards clock c r ∷ []) (callers_between from to enters.between enters.others) ((λ steward. (low, high)), tt)),
+      ),
       none_more from to ws,
     )
-enters_more from to clock (suc place) c r w w' (v ∷ ws) low high at enters = (refl, refl, ([], sym (append-nil v.seen), tt), enters_more from to clock place c r w w' ws low high at enters)
+enters_more from to clock (suc place) c r w w' (v ∷ ws) low high at enters = ((refl, refl, ([], sym (append-nil v.seen), tt)), enters_more from to clock place c r w w' ws low high at enters)
 
 module _ (clock : ℕ) (x : Seated) (note : Note) (y : Seated) (one : OneEntry clock x note y) where
   entry_tables : y.tables ≡ x.tables

@@ -53,8 +53,8 @@ way_of tables p (other_version version e not_one) = (Disk (why.OtherVersion vers
 way_of tables p (image version images end reads_it is are had) = (Memory, (images, end, record { version = version; reads_it = reads_it; is = is }))
 
 log_of : (least most : List ℕ → List Write) (disk : List ℕ) → HasSoundLog least disk ⊎ HasSoundLog most disk → (records : List LogRecord) × (log_end : ℕ) × IsLog disk records log_end
-log_of least most disk (inl log) = (log.records, log.log_end, log.log)
-log_of least most disk (inr log) = (log.records, log.log_end, log.log)
+log_of least most disk (inl log) = (log.sound.0, log.sound.1, log.sound.2)
+log_of least most disk (inr log) = (log.sound.0, log.sound.1, log.sound.2)
 
 -- the records and the way that are read are these
 known_by : (base : NamedStates) (m : Meaning) → ((way : Way) × IsWayOf m.held.region way) → ((records : List LogRecord) × (log_end : ℕ) × IsLog m.held.disk records log_end)

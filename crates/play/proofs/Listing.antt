@@ -1,5 +1,5 @@
 -- Over a berth that has a base, a leaf may begin with one that is a list: of the names that the log has, as it reads or with one record more.
-use Rattle.std.proofs.Common.{◌≡◌, ◌⊎◌, inl, inr, ◌∙◌, ℕ, ◌≤◌, Bool, true, false, cond, List, [], ◌∷◌, ◌++◌, length, Option, Some, None, refl, sym, ap, subst, arith}
+use Rattle.std.proofs.Common.{◌≡◌, ◌⊎◌, inl, inr, ◌∙◌, ℕ, Bool, true, false, cond, List, [], ◌∷◌, ◌++◌, length, Option, Some, None, refl, sym, ap, subst, arith}
 use Rattle.std.specs.Prelude.{bytes_eq}
 use Rattle.std.proofs.lemmas.Bool.{false≢true}
 use Rattle.std.proofs.lemmas.List.{nil_from_length, take_all}
@@ -73,8 +73,8 @@ module _ (base : NamedStates) (m : Meaning) (is : IsBase base m) where
   longest = by (rests.logs m.held rests.stands.reads)
     where
       by : HasSoundLog least m.held.disk ⊎ HasSoundLog most m.held.disk → (records : List LogRecord) × ((name : List ℕ) → writes_of name records ≡ most name)
-      by (inl log) = records_with next log.records least log.each
-      by (inr log) = (log.records, log.each)
+      by (inl log) = records_with next log.sound.0 least log.each
+      by (inr log) = (log.sound.0, log.each)
 
   abbrev kept : List Kept
   kept = kept_of base longest.0

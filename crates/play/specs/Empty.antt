@@ -35,7 +35,7 @@ short k =
 
 -- the log of an empty disk has no writes
 empty_log : HasSoundLog none_written []
-empty_log = record { records = []; log_end = 0; log = is_short (lit≤ tt) refl refl; bounded = λ name k. short k; each = λ name. refl }
+empty_log = record { sound = ([], 0, is_short (lit≤ tt) refl refl, λ name k. short k); each = λ name. refl }
 
 -- over it a leaf rests that has no tables yet
 rests_empty : (m : Meaning) → OpenedOn [] [] m → m.leaves m.clock m.held → Rests [] nothing_kept none_written None m
