@@ -14,9 +14,9 @@ use Rattle.leaf_history.specs.Calls as call
 use Rattle.leaf_history.specs.Replies.{Reply}
 use Rattle.leaf_history.specs.Replies as reply
 use Rattle.leaf_history.specs.History.{Entry, HistoryState, LegalFrom, Allowed, AddReply, HasRoom, after, after_entry, changed, is_refusal}
-use Rattle.leaf_history.specs.Laws.{CallersKeep, AreCallers}
+use Rattle.leaf_history.specs.Laws.{CallersKeep, AreCallers, HasSoundCounts}
 use Rattle.leaf_history.proofs.Histories.{LegalFrom-back, after-append, others_keep, counts_stay}
-use Rattle.crash_moments.specs.Watched.{Between, is_made, cut, state_then, now_of}
+use Rattle.crash_moments.specs.Watched.{Between, IsFoundation, is_made, cut, state_then, now_of}
 use Rattle.crash_moments.specs.Laws.{StaysSound, CutKeeps}
 use Rattle.crash_moments.proofs.Cuts.{NotMade, made_by, cut_split}
 
@@ -112,10 +112,14 @@ plain_after : (s : HistoryState) (es : List Entry) → IsPlain (2 ^ 40) s → Le
 plain_after s [] plain legal = plain
 plain_after s (e ∷ es) plain legal = plain_after (after_entry true s e) es (plain_entry s e plain legal.0) legal.1
 
+-- nothing that was handed in is not flushed
+pub founded_counts : (s : HistoryState) → IsFoundation s → HasSoundCounts s
+founded_counts s founded = record { taken = founded.taken; handed_in = omega (arith, founded.handed_in) }
+
 pub stays_sound : StaysSound
 stays_sound base es founded legal =
     let plain : IsPlain (2 ^ 40) (after true base es) = plain_after base es (record { before = founded.before; handed_in = founded.handed_in; within = founded.short }) legal in
-    record { before = plain.before; handed_in = plain.handed_in; counted = counts_stay true base es legal founded.counted; short = plain.within }
+    record { before = plain.before; handed_in = plain.handed_in; taken = (counts_stay true base es legal (founded_counts base founded)).taken; short = plain.within }
 
 -- ---- behind the steward's last entry
 

@@ -4,8 +4,7 @@ use Rattle.std.specs.List.{AllByRecursion, list_any}
 use Rattle.leaf_model.specs.Content.{nothing}
 use Rattle.leaf_history.specs.Calls.{Call}
 use Rattle.leaf_history.specs.Calls as call
-use Rattle.leaf_history.specs.History.{Entry, HistoryState, LegalFrom, after, no_base}
-use Rattle.leaf_history.specs.Laws.{HasSoundCounts}
+use Rattle.leaf_history.specs.History.{Entry, HistoryState, LegalFrom, after, no_base, write_count}
 use Rattle.disk_backup.specs.SoundLogs.{IsShort}
 use Rattle.crash_moments.specs.Left.{NamedStates}
 
@@ -70,11 +69,11 @@ is_watched ws name = list_any (λ (w : Watched). bytes_eq name w.name) ws
 abbrev pub Between : ℕ → ℕ → List Entry → Type 0
 Between from to = AllByRecursion (λ (e : Entry). e.caller ≡ 0 → (from ≤ e.clock) × (e.clock ≤ to))
 
--- what holds of a founded table at any time: it was handed in nothing, and at no front of its writes had it more than 2^40 rows
+-- what holds of a founded table at any time: it was handed in nothing, no more was taken than it has, and at no front of its writes had it more than 2^40 rows
 pub record IsFoundation (s : HistoryState) : Type 0 where
   pub before : s.before ≡ nothing
   pub handed_in : s.handed_in ≡ 0
-  pub counted : HasSoundCounts s
+  pub taken : s.taken ≤ write_count s
   pub short : IsShort s.writes
 
 -- Its history is legal, and no entry of the steward was made later than now.

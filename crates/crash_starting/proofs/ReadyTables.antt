@@ -49,7 +49,7 @@ founded reads may base name lefts is =
     record {
       before = ap (λ (t : HistoryState). t.before) is.is;
       handed_in = none;
-      counted = record { taken = omega (arith, taken, none); handed_in = omega (arith, none) };
+      taken = omega (arith, taken, none);
       short = short_one reads base is.longest.0 name s.writes (lefts is.longest.0 is.longest.1) is.longest.2;
     }
 

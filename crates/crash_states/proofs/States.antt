@@ -55,7 +55,7 @@ pub front_before : (held : List Write) (before now : HistoryState) → CallersKe
 front_before held before now keeps sound few is = record {
   flushed = subst (λ (n : ℕ). n ≤ length held) keeps.flushed is.flushed;
   front = is.front ∙ ap (λ (l : List Write). take (length held) l) keeps.appends.1
-      ∙ take-append-le (length held) before.writes keeps.appends.0 (omega (arith, few, keeps.taken, sound.counted.taken, sound.handed_in));
+      ∙ take-append-le (length held) before.writes keeps.appends.0 (omega (arith, few, keeps.taken, sound.taken, sound.handed_in));
 }
 
 -- ---- what a log has that is owed something, and what it has with that

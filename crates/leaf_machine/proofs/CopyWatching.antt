@@ -13,7 +13,7 @@ abbrev pub no_others : NamedStates
 no_others = λ name. no_base
 
 pub nothing_sound : (name : List ℕ) → IsFoundation (no_others name)
-nothing_sound name = record { before = refl; handed_in = refl; counted = record { taken = omega arith; handed_in = omega arith }; short = none_short }
+nothing_sound name = record { before = refl; handed_in = refl; taken = omega arith; short = none_short }
 
 -- whatever stood of them before the leaf opened a table
 others_gone : (others : NamedStates) (opened : Bool) → opened ≡ true → others_then opened others ≡ others_then opened no_others

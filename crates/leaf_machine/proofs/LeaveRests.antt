@@ -52,7 +52,7 @@ module _ (ws : List Watched) (others : NamedStates) (least : List ℕ → List W
       front_short (most name) (tables name) (kept_most (least name) (most name) (tables name) (rests.each name) (with_owed next least name).no_less) (table_sound name).short
 
   base_sound : (name : List ℕ) → IsFoundation (base name)
-  base_sound name = record { before = refl; handed_in = refl; counted = record { taken = omega arith; handed_in = omega arith }; short = most_short name }
+  base_sound name = record { before = refl; handed_in = refl; taken = omega arith; short = most_short name }
 
   base_kept : (name : List ℕ) → IsKept (least name) (most name) (base name)
   base_kept name = record {

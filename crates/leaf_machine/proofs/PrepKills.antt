@@ -30,7 +30,7 @@ abbrev no_tables : NamedStates
 no_tables = λ name. no_base
 
 none_sound : (name : List ℕ) → IsFoundation (no_tables name)
-none_sound name = record { before = refl; handed_in = refl; counted = record { taken = omega arith; handed_in = omega arith }; short = none_short }
+none_sound name = record { before = refl; handed_in = refl; taken = omega arith; short = none_short }
 
 -- of a leaf that was opened it says nothing how other names stood before
 any_others : (a b : NamedStates) (before now : List Watched) (m : Meaning) → was_opened m.clock now ≡ true → Told a before now m m → Told b before now m m

@@ -26,7 +26,7 @@ abbrev no_tables : NamedStates
 no_tables name = no_base
 
 none_sound : IsFoundation no_base
-none_sound = record { before = refl; handed_in = refl; counted = record { taken = omega arith; handed_in = omega arith }; short = none_short }
+none_sound = record { before = refl; handed_in = refl; taken = omega arith; short = none_short }
 
 -- once the leaf has opened a table, no other name matters
 same_others : (t : ℕ) (ws : List Watched) (others : NamedStates) → was_opened t ws ≡ true → tables_then no_tables t ws ≡ tables_then others t ws

@@ -9,6 +9,7 @@ use Rattle.leaf_history.specs.Laws.{AreCallers, HasSoundCounts, CallersKeep}
 use Rattle.leaf_history.proofs.Histories.{LegalFrom-front, LegalFrom-back, after-append, counts_stay, others_keep}
 use Rattle.crash_moments.specs.Left.{NamedStates}
 use Rattle.crash_moments.specs.Watched.{IsFoundation}
+use Rattle.crash_moments.proofs.Histories.{founded_counts}
 use Rattle.leaf_table.specs.Turns.{Shared, is_founded, start_of}
 use Rattle.leaf_table.specs.Calls.{SeatView, Made, base_seen, name_of, entry_seen, seen_of}
 use Rattle.leaf_table.proofs.Knowing.{callers_of}
@@ -82,7 +83,7 @@ made_on base t clock v c r w of sits m =
     record {
       on = after true (after true s h) m.between;
       keeps = others_keep true (after true s h) m.between back (callers_of v m.between sits.id (omega (arith, sits.share)) m.others);
-      counted = subst HasSoundCounts split (counts_stay true s (h ++ m.between) front of.sound.counted);
+      counted = subst HasSoundCounts split (counts_stay true s (h ++ m.between) front (founded_counts s of.sound));
       allowed = subst (λ (b : HistoryState). Allowed true b v.id c r) split (LegalFrom-back true s (h ++ m.between) (e ∷ []) whole).0;
       now = ap (after true s) m.seen ∙ (after-append true s (h ++ m.between) (e ∷ []) ∙ ap (λ (b : HistoryState). after_entry true b e) split);
     }

@@ -44,7 +44,7 @@ rests_empty m o there = record {
   stands = record { reads = there; regions = λ p left. inr (no_region p left) };
   logs = λ p left. inl (subst (HasSoundLog none_written) (sym (o.pairs p left).1) empty_log);
   each = λ name. record { shut = refl; flushed = lit≤ tt; shortest = refl; longest = refl; handed = λ e. (refl, refl) };
-  sound = λ name. record { before = refl; handed_in = refl; counted = record { taken = lit≤ tt; handed_in = lit≤ tt }; short = short };
+  sound = λ name. record { before = refl; handed_in = refl; taken = lit≤ tt; short = short };
   empty = λ e p left. subst (λ (disk : List ℕ). length disk ≤ 1) (sym (o.pairs p left).1) (lit≤ tt);
   region = λ p left. closed (subst (λ (held : Pair). IsClosed held.region) (sym o.held) (inl (lit< tt)));
 }
