@@ -8,7 +8,8 @@ use Rattle.region_directory.specs.declared.directory.Place.{Place}
 use Rattle.region_directory.specs.declared.directory.BlockPlaces.{BlockPlaces}
 use Rattle.region_directory.specs.declared.directory.TablePlaces.{TablePlaces}
 use Rattle.region_directory.specs.declared.directory.Directory.{Directory}
-use Rattle.region_directory.specs.Directory.{Joined, columns_of, table_columns}
+use Rattle.region_directory.specs.Directory.{Joined, columns_of}
+use Rattle.region_directory.proofs.Ending.{table_columns}
 use Rattle.region_directory.specs.Region.{column_in}
 use Rattle.adopt.specs.declared.spans.Span.{Span}
 use Rattle.adopt.specs.Taken.{block_spans, span_bytes, span_of, spans_of, table_spans}

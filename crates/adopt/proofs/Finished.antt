@@ -15,9 +15,11 @@ use Rattle.region_directory.specs.declared.directory.Place.{Place}
 use Rattle.region_directory.specs.declared.directory.BlockPlaces.{BlockPlaces}
 use Rattle.region_directory.specs.declared.directory.TablePlaces.{TablePlaces}
 use Rattle.region_directory.specs.declared.directory.Directory.{Directory}
-use Rattle.region_directory.specs.Directory.{Joined, columns_of, table_columns}
-use Rattle.region_directory.specs.Region.{IsTableIn, allows, block_in, column_in, directory_from, parts_in, table_in}
+use Rattle.region_directory.specs.Directory.{Joined, columns_of}
+use Rattle.region_directory.specs.Region.{IsTableIn, allows, block_in, column_in, directory_from, parts_in}
 use Rattle.region_directory.specs.Drained.{images_of}
+use Rattle.region_directory.proofs.Ending.{table_columns}
+use Rattle.region_directory.proofs.Images.{table_in}
 use Rattle.adopt.specs.declared.found.AdoptFault.{AdoptFault}
 use Rattle.adopt.specs.declared.found.AdoptFault.TheVariants as fault
 use Rattle.adopt.specs.declared.found.AdoptStep.{AdoptStep}

@@ -2,12 +2,12 @@
 use Rattle.std.proofs.Common.{◌≡◌, ℕ, ◌+◌, true, List, [], ◌∷◌, ◌++◌, length, map, take, drop, refl, sym, ap, ap₂, ◌∙◌, subst, arith, append_assoc, length-append}
 use Rattle.std.proofs.Math.Seq.{take-append_seam, drop-append_seam}
 use Rattle.std.proofs.Math.Nat.{add-sub_cancel_left}
-use Rattle.std.specs.Prelude.{◌≢◌, slice_range}
+use Rattle.std.specs.Prelude.{not, slice_range}
 use Rattle.std.specs.List.{AllByRecursion, flat_map}
 use Rattle.std.specs.List.Sorted.{IsStrictlySortedBy}
 use Rattle.std.specs.declared.cmp.Ordering.{Ordering}
 use Rattle.std.specs.declared.cmp.Ordering.TheVariants.{Less, Equal, Greater}
-use Rattle.std.specs.Ordering.{ordering_then}
+use Rattle.std.specs.Ordering.{is_gt, ordering_then}
 use Rattle.leaf_model.specs.Names.{AreDistinct}
 use Rattle.leaf_model.specs.Values.{IsCellName}
 use Rattle.leaf_model.specs.Groups.{text_cmp}
@@ -24,9 +24,12 @@ use Rattle.region_directory.specs.declared.directory.Place.{Place}
 use Rattle.region_directory.specs.declared.directory.BlockPlaces.{BlockPlaces}
 use Rattle.region_directory.specs.declared.directory.TablePlaces.{TablePlaces}
 use Rattle.region_directory.specs.declared.drained.DrainTable.{DrainTable}
-use Rattle.region_directory.specs.Directory.{Joined, DoNotFall, AreColumns, IsSkipOf, IsTablePlaces, IsDirectory, table_columns}
+use Rattle.region_directory.specs.Directory.{Joined, AreColumns, IsSkipOf, IsTablePlaces, IsDirectory}
 use Rattle.region_directory.specs.Drained.{all_columns, images_of}
-use Rattle.region_directory.specs.Region.{column_in, block_in, parts_in, table_in, allows, IsTableIn, image_of_parts}
+use Rattle.region_directory.specs.Region.{column_in, block_in, parts_in, allows, IsTableIn, image_of_parts}
+use Rattle.region_directory.proofs.Ending.{table_columns}
+use Rattle.region_directory.proofs.Following.{InOrder, none_in_order, one_in_order, more_in_order}
+use Rattle.region_directory.proofs.Images.{table_in}
 use Rattle.drain_copy.specs.Planned.{columns_bytes, blocks_bytes, columns_size, blocks_size, tables_size, blocks_count, tables_count, places_from, blocks_from, table_from, tables_from, planned_directory}
 
 -- ---- lengths
@@ -160,16 +163,22 @@ names_kept : (tables : List DrainTable) (at : ℕ) → map (λ (t : TablePlaces)
 names_kept [] at = refl
 names_kept (t ∷ tables) at = ap (λ (names : List (List ℕ)). t.name ∷ names) (names_kept tables (at + blocks_size t.parts.blocks))
 
-not_greater : (a b : Ordering) → ordering_then a b ≡ Less → a ≢ Greater
-not_greater Less b e = λ g. absurd cc
-not_greater Equal b e = λ g. absurd cc
-not_greater Greater b e = λ g. absurd cc
+not_greater : (a b : Ordering) → ordering_then a b ≡ Less → not (is_gt a) ≡ true
+not_greater Less b e = refl
+not_greater Equal b e = refl
+not_greater Greater b e = absurd cc
 
-do_not_fall : (columns : List BlockColumn) (at : ℕ) → IsStrictlySortedBy heading_cmp (map heading columns) → DoNotFall (places_from at columns)
+-- a column that stands there
+abbrev placed : ℕ → BlockColumn → Place
+placed at c = record { name = c.name; place = at; length = length c.bytes }
+
+in_order : (columns : List BlockColumn) (at : ℕ) → IsStrictlySortedBy heading_cmp (map heading columns) → InOrder (places_from at columns)
 unfolding IsStrictlySortedBy
-do_not_fall [] at sorted = tt
-do_not_fall (c ∷ []) at sorted = tt
-do_not_fall (c ∷ d ∷ rest) at sorted = (not_greater (text_cmp c.name d.name) _ sorted.0.0, do_not_fall (d ∷ rest) (at + length c.bytes) sorted.1)
+in_order [] at sorted = none_in_order
+in_order (c ∷ []) at sorted = one_in_order (placed at c)
+in_order (c ∷ d ∷ rest) at sorted =
+    let next = at + length c.bytes in
+    more_in_order (placed at c) (placed next d) (places_from (next + length d.bytes) rest) (not_greater (text_cmp c.name d.name) _ sorted.0.0) (in_order (d ∷ rest) next sorted.1)
 
 cells_named : (rows : ℕ) (columns : List BlockColumn) (at : ℕ) → AllByRecursion (IsOther rows) columns → AllByRecursion (λ (p : Place). IsCellName p.name) (places_from at columns)
 cells_named rows [] at each = tt
@@ -178,7 +187,7 @@ cells_named rows (c ∷ columns) at each = (each.0.name, cells_named rows column
 are_columns : (b : Block) (at : ℕ) → IsBlock b → AreColumns (places_from at b.columns)
 are_columns b at is =
     subst (λ (cs : List BlockColumn). AreColumns (places_from at cs)) (sym is.columns_are)
-    (is.timed.name, cells_named b.rows is.others (at + length is.times.bytes) is.each, do_not_fall is.others (at + length is.times.bytes) is.ascend)
+    (is.timed.name, cells_named b.rows is.others (at + length is.times.bytes) is.each, in_order is.others (at + length is.times.bytes) is.ascend)
 
 blocks_columned : (blocks : List Block) (at : ℕ) → AllByRecursion IsBlock blocks → AllByRecursion (λ (b : BlockPlaces). AreColumns b.columns) (blocks_from at blocks)
 blocks_columned [] at each = tt

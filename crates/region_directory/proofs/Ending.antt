@@ -10,7 +10,7 @@ use Rattle.row_records.proofs.Fields.{bind_some, held, some_is}
 use Rattle.region_directory.specs.declared.directory.Place.{Place}
 use Rattle.region_directory.specs.declared.directory.TablePlaces.{TablePlaces}
 use Rattle.region_directory.specs.declared.directory.BlockPlaces.{BlockPlaces}
-use Rattle.region_directory.specs.Directory.{Joined, table_columns}
+use Rattle.region_directory.specs.Directory.{Joined}
 use Rattle.region_directory.specs.Tests.{end_by, end_of_place, end_of_block, end_of_table}
 
 -- ---- as a loop does
@@ -53,6 +53,10 @@ nested step outer parts each from (x ∷ xs) =
     bind_same (outer from x) (end_by step from (parts x)) (λ next. end_by outer next xs) (λ next. end_by step next (flat_map parts xs)) (each from x) (λ next. nested step outer parts each next xs)
     ∙ sym (end_append step from (parts x) (flat_map parts xs))
     ∙ ap (end_by step from) (sym (flat_map-cons parts x xs))
+
+-- the columns of a table, in their order
+abbrev pub table_columns : TablePlaces → List Place
+table_columns t = flat_map (λ (b : BlockPlaces). b.columns) t.blocks
 
 table_end : (from : ℕ) (t : TablePlaces) → end_of_table from t ≡ end_by end_of_place from (table_columns t)
 table_end from t = nested end_of_place end_of_block (λ (b : BlockPlaces). b.columns) (λ at b. refl) from t.blocks

@@ -7,7 +7,7 @@ use Rattle.std.specs.Int.{w32, w64}
 use Rattle.std.proofs.lemmas.Bool.{ltb-false, le-ltb, eqb-true, eqb-false}
 use Rattle.leaf_model.specs.Values.{IsTime}
 use Rattle.row_records.specs.Bytes.{name_bytes, i64_bytes, u32_bytes, u64_bytes, IsBytes}
-use Rattle.row_records.specs.Reading.{◌>>=◌, byte_at, number_at, name_at, time_at}
+use Rattle.row_records.specs.Reading.{◌>>=◌, byte_at, many_at, number_at, name_at, time_at}
 use Rattle.row_records.proofs.Fields.{bind_some, passed, held, some_is, Takes, Takes-then, wide32, wide64, byte_takes, number_takes, number_again, name_takes, name_again, time_takes, time_again}
 use Rattle.region_layout.specs.Reading.{below_2_63_at}
 use Rattle.region_layout.proofs.Numbers.{low_takes, low_again}
@@ -15,9 +15,9 @@ use Rattle.region_directory.specs.declared.directory.Place.{Place}
 use Rattle.region_directory.specs.declared.directory.BlockPlaces.{BlockPlaces}
 use Rattle.region_directory.specs.declared.directory.TablePlaces.{TablePlaces}
 use Rattle.region_directory.specs.declared.directory.Directory.{Directory}
-use Rattle.region_directory.specs.Directory.{place_at, places_at, block_at, blocks_at, table_at, tables_at, directory_at}
+use Rattle.region_directory.specs.Directory.{place_at, block_at, table_at, directory_at}
 use Rattle.region_directory.specs.Written.{place_bytes, block_bytes, table_bytes, directory_bytes, PlaceFits, BlockFits, TableFits, MayBeWritten}
-use Rattle.region_directory.proofs.Repeating.{Repeats, items_take, items_again}
+use Rattle.region_directory.proofs.Repeating.{items_take, items_again}
 
 -- ---- columns
 
@@ -53,10 +53,6 @@ place_again p rest fits =
     let sized = u64_bytes p.length ++ rest in
     let regrouped : place_bytes p ++ rest ≡ name_bytes p.name ++ (u64_bytes p.place ++ sized) = append_assoc (name_bytes p.name) (u64_bytes p.place ++ u64_bytes p.length) rest in
     ap place_at regrouped ∙ rw (name_again p.name (u64_bytes p.place ++ sized) fits.name.text, number_again w64 (2 ^ 64) wide64 p.place sized fits.place, number_again w64 (2 ^ 64) wide64 p.length rest fits.length) refl
-
-pub places_repeat : Repeats place_at places_at
-unfolding places_at
-places_repeat = record { none = λ bytes. refl; more = λ n bytes. refl }
 
 -- ---- blocks
 
@@ -100,13 +96,13 @@ block_made bytes rows count columns first second third some =
 pub block_takes : (bytes : List ℕ) (x : BlockPlaces × List ℕ) → IsBytes bytes → block_at bytes ≡ Some x → Takes bytes (block_bytes x.0) x.1 × BlockFits x.0
 unfolding block_at
 block_takes bytes x fits e =
-    let a = bind_some (number_at w32 bytes) (λ rows. number_at w32 rows.1 >>= λ count. cond (is_none rows.0 count.0) None (places_at count.0 count.1 >>= λ columns. Some (made_block rows.0 columns.0, columns.1))) x e in
-    let b = bind_some (number_at w32 a.0.1) (λ count. cond (is_none a.0.0 count.0) None (places_at count.0 count.1 >>= λ columns. Some (made_block a.0.0 columns.0, columns.1))) x a.2 in
-    let g = passed (is_none a.0.0 b.0.0) (places_at b.0.0 b.0.1 >>= λ columns. Some (made_block a.0.0 columns.0, columns.1)) x b.2 in
-    let c = bind_some (places_at b.0.0 b.0.1) (λ columns. Some (made_block a.0.0 columns.0, columns.1)) x g.1 in
+    let a = bind_some (number_at w32 bytes) (λ rows. number_at w32 rows.1 >>= λ count. cond (is_none rows.0 count.0) None (many_at place_at count.0 count.1 >>= λ columns. Some (made_block rows.0 columns.0, columns.1))) x e in
+    let b = bind_some (number_at w32 a.0.1) (λ count. cond (is_none a.0.0 count.0) None (many_at place_at count.0 count.1 >>= λ columns. Some (made_block a.0.0 columns.0, columns.1))) x a.2 in
+    let g = passed (is_none a.0.0 b.0.0) (many_at place_at b.0.0 b.0.1 >>= λ columns. Some (made_block a.0.0 columns.0, columns.1)) x b.2 in
+    let c = bind_some (many_at place_at b.0.0 b.0.1) (λ columns. Some (made_block a.0.0 columns.0, columns.1)) x g.1 in
     let first = number_takes w32 (2 ^ 32) wide32 bytes a.0 fits a.1 in
     let second = number_takes w32 (2 ^ 32) wide32 a.0.1 b.0 first.0.rest_fits b.1 in
-    let third = items_take place_at places_at place_bytes PlaceFits places_repeat place_takes b.0.0 b.0.1 c.0 second.0.rest_fits c.1 in
+    let third = items_take place_at place_bytes PlaceFits place_takes b.0.0 b.0.1 c.0 second.0.rest_fits c.1 in
     let made : BlockPlaces × List ℕ = (made_block a.0.0 c.0.0, c.0.1) in
     subst (λ (y : BlockPlaces × List ℕ). Takes bytes (block_bytes y.0) y.1 × BlockFits y.0) (some_is made x c.2) (block_made bytes a.0 b.0 c.0 first.0 second third (some_rows a.0.0 b.0.0 g.0))
 
@@ -122,12 +118,8 @@ block_again b rest fits =
       number_again w32 (2 ^ 32) wide32 b.rows counted low,
       number_again w32 (2 ^ 32) wide32 (length b.columns) columns fits.count,
       not_none b.rows (length b.columns) fits.some fits.few fits.columned,
-      items_again place_at places_at place_bytes PlaceFits places_repeat place_again b.columns rest fits.each,
+      items_again place_at place_bytes PlaceFits place_again b.columns rest fits.each,
     ) refl
-
-pub blocks_repeat : Repeats block_at blocks_at
-unfolding blocks_at
-blocks_repeat = record { none = λ bytes. refl; more = λ n bytes. refl }
 
 -- ---- tables
 
@@ -156,18 +148,18 @@ table_made bytes name horizon writes skip count blocks first second third fourth
 pub table_takes : (bytes : List ℕ) (x : TablePlaces × List ℕ) → IsBytes bytes → table_at bytes ≡ Some x → Takes bytes (table_bytes x.0) x.1 × TableFits x.0
 unfolding table_at
 table_takes bytes x fits e =
-    let a = bind_some (name_at bytes) (λ name. time_at name.1 >>= λ horizon. below_2_63_at horizon.1 >>= λ writes. number_at w32 writes.1 >>= λ skip. number_at w32 skip.1 >>= λ count. blocks_at count.0 count.1 >>= λ blocks. Some (made_table name.0 horizon.0 writes.0 skip.0 blocks.0, blocks.1)) x e in
-    let b = bind_some (time_at a.0.1) (λ horizon. below_2_63_at horizon.1 >>= λ writes. number_at w32 writes.1 >>= λ skip. number_at w32 skip.1 >>= λ count. blocks_at count.0 count.1 >>= λ blocks. Some (made_table a.0.0 horizon.0 writes.0 skip.0 blocks.0, blocks.1)) x a.2 in
-    let c = bind_some (below_2_63_at b.0.1) (λ writes. number_at w32 writes.1 >>= λ skip. number_at w32 skip.1 >>= λ count. blocks_at count.0 count.1 >>= λ blocks. Some (made_table a.0.0 b.0.0 writes.0 skip.0 blocks.0, blocks.1)) x b.2 in
-    let d = bind_some (number_at w32 c.0.1) (λ skip. number_at w32 skip.1 >>= λ count. blocks_at count.0 count.1 >>= λ blocks. Some (made_table a.0.0 b.0.0 c.0.0 skip.0 blocks.0, blocks.1)) x c.2 in
-    let f = bind_some (number_at w32 d.0.1) (λ count. blocks_at count.0 count.1 >>= λ blocks. Some (made_table a.0.0 b.0.0 c.0.0 d.0.0 blocks.0, blocks.1)) x d.2 in
-    let g = bind_some (blocks_at f.0.0 f.0.1) (λ blocks. Some (made_table a.0.0 b.0.0 c.0.0 d.0.0 blocks.0, blocks.1)) x f.2 in
+    let a = bind_some (name_at bytes) (λ name. time_at name.1 >>= λ horizon. below_2_63_at horizon.1 >>= λ writes. number_at w32 writes.1 >>= λ skip. number_at w32 skip.1 >>= λ count. many_at block_at count.0 count.1 >>= λ blocks. Some (made_table name.0 horizon.0 writes.0 skip.0 blocks.0, blocks.1)) x e in
+    let b = bind_some (time_at a.0.1) (λ horizon. below_2_63_at horizon.1 >>= λ writes. number_at w32 writes.1 >>= λ skip. number_at w32 skip.1 >>= λ count. many_at block_at count.0 count.1 >>= λ blocks. Some (made_table a.0.0 horizon.0 writes.0 skip.0 blocks.0, blocks.1)) x a.2 in
+    let c = bind_some (below_2_63_at b.0.1) (λ writes. number_at w32 writes.1 >>= λ skip. number_at w32 skip.1 >>= λ count. many_at block_at count.0 count.1 >>= λ blocks. Some (made_table a.0.0 b.0.0 writes.0 skip.0 blocks.0, blocks.1)) x b.2 in
+    let d = bind_some (number_at w32 c.0.1) (λ skip. number_at w32 skip.1 >>= λ count. many_at block_at count.0 count.1 >>= λ blocks. Some (made_table a.0.0 b.0.0 c.0.0 skip.0 blocks.0, blocks.1)) x c.2 in
+    let f = bind_some (number_at w32 d.0.1) (λ count. many_at block_at count.0 count.1 >>= λ blocks. Some (made_table a.0.0 b.0.0 c.0.0 d.0.0 blocks.0, blocks.1)) x d.2 in
+    let g = bind_some (many_at block_at f.0.0 f.0.1) (λ blocks. Some (made_table a.0.0 b.0.0 c.0.0 d.0.0 blocks.0, blocks.1)) x f.2 in
     let first = name_takes bytes a.0 fits a.1 in
     let second = time_takes a.0.1 b.0 first.0.rest_fits b.1 in
     let third = low_takes b.0.1 c.0 second.0.rest_fits c.1 in
     let fourth = number_takes w32 (2 ^ 32) wide32 c.0.1 d.0 third.0.rest_fits d.1 in
     let fifth = number_takes w32 (2 ^ 32) wide32 d.0.1 f.0 fourth.0.rest_fits f.1 in
-    let sixth = items_take block_at blocks_at block_bytes BlockFits blocks_repeat block_takes f.0.0 f.0.1 g.0 fifth.0.rest_fits g.1 in
+    let sixth = items_take block_at block_bytes BlockFits block_takes f.0.0 f.0.1 g.0 fifth.0.rest_fits g.1 in
     let made : TablePlaces × List ℕ = (made_table a.0.0 b.0.0 c.0.0 d.0.0 g.0.0, g.0.1) in
     subst (λ (y : TablePlaces × List ℕ). Takes bytes (table_bytes y.0) y.1 × TableFits y.0) (some_is made x g.2) (table_made bytes a.0 b.0 c.0 d.0 f.0 g.0 first second third fourth fifth sixth)
 
@@ -187,12 +179,8 @@ table_again t rest fits =
       low_again t.writes skipped fits.writes,
       number_again w32 (2 ^ 32) wide32 t.skip counted fits.skip,
       number_again w32 (2 ^ 32) wide32 (length t.blocks) blocks fits.count,
-      items_again block_at blocks_at block_bytes BlockFits blocks_repeat block_again t.blocks rest fits.each,
+      items_again block_at block_bytes BlockFits block_again t.blocks rest fits.each,
     ) refl
-
-pub tables_repeat : Repeats table_at tables_at
-unfolding tables_at
-tables_repeat = record { none = λ bytes. refl; more = λ n bytes. refl }
 
 -- ---- a directory
 
@@ -203,14 +191,14 @@ made_directory log_end tables = record { log_end = log_end; tables = tables }
 pub directory_fits : (bytes : List ℕ) (d : Directory) → IsBytes bytes → directory_at bytes ≡ Some d → MayBeWritten d
 unfolding directory_at
 directory_fits bytes d fits e =
-    let a = bind_some (below_2_63_at bytes) (λ log_end. byte_at log_end.1 >>= λ count. cond (ltb 16 count.0) None (tables_at count.0 count.1 >>= λ tables. cond (eqb (length tables.1) 0) (Some (made_directory log_end.0 tables.0)) None)) d e in
-    let b = bind_some (byte_at a.0.1) (λ count. cond (ltb 16 count.0) None (tables_at count.0 count.1 >>= λ tables. cond (eqb (length tables.1) 0) (Some (made_directory a.0.0 tables.0)) None)) d a.2 in
-    let g = passed (ltb 16 b.0.0) (tables_at b.0.0 b.0.1 >>= λ tables. cond (eqb (length tables.1) 0) (Some (made_directory a.0.0 tables.0)) None) d b.2 in
-    let c = bind_some (tables_at b.0.0 b.0.1) (λ tables. cond (eqb (length tables.1) 0) (Some (made_directory a.0.0 tables.0)) None) d g.1 in
+    let a = bind_some (below_2_63_at bytes) (λ log_end. byte_at log_end.1 >>= λ count. cond (ltb 16 count.0) None (many_at table_at count.0 count.1 >>= λ tables. cond (eqb (length tables.1) 0) (Some (made_directory log_end.0 tables.0)) None)) d e in
+    let b = bind_some (byte_at a.0.1) (λ count. cond (ltb 16 count.0) None (many_at table_at count.0 count.1 >>= λ tables. cond (eqb (length tables.1) 0) (Some (made_directory a.0.0 tables.0)) None)) d a.2 in
+    let g = passed (ltb 16 b.0.0) (many_at table_at b.0.0 b.0.1 >>= λ tables. cond (eqb (length tables.1) 0) (Some (made_directory a.0.0 tables.0)) None) d b.2 in
+    let c = bind_some (many_at table_at b.0.0 b.0.1) (λ tables. cond (eqb (length tables.1) 0) (Some (made_directory a.0.0 tables.0)) None) d g.1 in
     let h = held (eqb (length c.0.1) 0) (Some (made_directory a.0.0 c.0.0)) d c.2 in
     let first = low_takes bytes a.0 fits a.1 in
     let second = byte_takes a.0.1 b.0 first.0.rest_fits b.1 in
-    let third = items_take table_at tables_at table_bytes TableFits tables_repeat table_takes b.0.0 b.0.1 c.0 second.0.rest_fits c.1 in
+    let third = items_take table_at table_bytes TableFits table_takes b.0.0 b.0.1 c.0 second.0.rest_fits c.1 in
     subst MayBeWritten (some_is (made_directory a.0.0 c.0.0) d h.1) (record { log_end = first.1; few = omega (arith, third.1, ltb-false 16 b.0.0 g.0); each = third.2 })
 
 -- what was written is read again
@@ -219,5 +207,5 @@ unfolding directory_at directory_bytes
 directory_again d fits =
     let tables = flat_map table_bytes d.tables in
     let low : ltb 16 (length d.tables) ≡ false = le-ltb _ _ fits.few in
-    let all : tables_at (length d.tables) tables ≡ Some (d.tables, []) = ap (tables_at (length d.tables)) (sym (append-nil tables)) ∙ items_again table_at tables_at table_bytes TableFits tables_repeat table_again d.tables [] fits.each in
+    let all : many_at table_at (length d.tables) tables ≡ Some (d.tables, []) = ap (many_at table_at (length d.tables)) (sym (append-nil tables)) ∙ items_again table_at table_bytes TableFits table_again d.tables [] fits.each in
     rw (low_again d.log_end (length d.tables ∷ tables) fits.log_end, low, all) refl

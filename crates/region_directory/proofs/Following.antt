@@ -1,18 +1,19 @@
 -- Columns that follow one another by name, and the tests of names.
-use Rattle.std.proofs.Common.{◌≡◌, ℕ, ◌+◌, ◌-◌, ◌≤◌, ◌<◌, Bool, true, false, not, ◌&&◌, ◌||◌, List, [], ◌∷◌, length, take, drop, refl, sym, ap, ◌∙◌, arith}
-use Rattle.std.specs.Prelude.{◌≢◌, slice_index_or}
+use Rattle.std.proofs.Common.{◌≡◌, ℕ, zero, suc, ◌+◌, ◌-◌, ◌≤◌, ◌<◌, Bool, true, false, not, ◌&&◌, ◌||◌, List, [], ◌∷◌, length, take, drop, refl, sym, ap, subst, ◌∙◌, arith}
+use Rattle.std.specs.Prelude.{slice_index_or}
 use Rattle.std.specs.List.{list_any}
+use Rattle.std.specs.List.Sorted.{IsSortedByKey}
 use Rattle.std.specs.Str.{bytes_eq}
-use Rattle.std.specs.Ordering.{is_gt}
+use Rattle.std.specs.Ordering.{is_gt, is_lt, ordering_reverse}
 use Rattle.std.specs.declared.cmp.Ordering.{Ordering}
 use Rattle.std.specs.declared.cmp.Ordering.TheVariants.{Less, Equal, Greater}
 use Rattle.std.proofs.lemmas.Bool.{and_parts}
+use Rattle.std.proofs.lemmas.Cmp.{nat_list_cmp_total}
 use Rattle.std.proofs.lemmas.List.{take_all, drop_more, drop_all}
 use Rattle.leaf_model.specs.Groups.{text_cmp}
 use Rattle.leaf_model.specs.Names.{is_among, are_distinct}
 use Rattle.region_directory.specs.declared.directory.Place.{Place}
 use Rattle.region_directory.specs.declared.directory.TablePlaces.{TablePlaces}
-use Rattle.region_directory.specs.Directory.{DoNotFall}
 use Rattle.region_directory.specs.Tests.{do_not_fall, is_named, table_names}
 
 -- ---- one name after another, as a loop does
@@ -33,36 +34,66 @@ module _ (places : List Place) (last : List ℕ) (i : ℕ) where
 
 -- ---- what the test says
 
-not_greater : (o : Ordering) → not (is_gt o) ≡ true → o ≢ Greater
-not_greater Less e = λ g. absurd cc
-not_greater Equal e = λ g. absurd cc
-not_greater Greater e = absurd cc
+-- no name falls
+abbrev pub InOrder : List Place → Type 0
+InOrder places = IsSortedByKey (λ (p : Place). p.name) text_cmp places
 
-is_up : (o : Ordering) → o ≢ Greater → not (is_gt o) ≡ true
-is_up Less up = refl
-is_up Equal up = refl
-is_up Greater up = absurd (up refl)
+not_below : (a b : List ℕ) → not (is_gt (text_cmp a b)) ≡ true → is_lt (text_cmp b a) ≡ false
+not_below a b e = ap is_lt (nat_list_cmp_total.antisymm b a) ∙ by (text_cmp a b) e
+  where
+    by : (o : Ordering) → not (is_gt o) ≡ true → is_lt (ordering_reverse o) ≡ false
+    by Less e = refl
+    by Equal e = refl
+    by Greater e = absurd cc
 
-order_behind : (p : Place) (rest : List Place) → do_not_fall p.name rest ≡ true → DoNotFall (p ∷ rest)
-order_behind p [] e = tt
+not_above : (a b : List ℕ) → is_lt (text_cmp b a) ≡ false → not (is_gt (text_cmp a b)) ≡ true
+not_above a b e = by (text_cmp a b) (sym (ap is_lt (nat_list_cmp_total.antisymm b a)) ∙ e)
+  where
+    by : (o : Ordering) → is_lt (ordering_reverse o) ≡ false → not (is_gt o) ≡ true
+    by Less e = refl
+    by Equal e = refl
+    by Greater e = absurd cc
+
+pub none_in_order : InOrder []
+none_in_order k d low within = absurd (omega (arith, within))
+
+pub one_in_order : (p : Place) → InOrder (p ∷ [])
+one_in_order p k d low within = absurd (omega (arith, within))
+
+pub more_in_order : (p q : Place) (rest : List Place) → not (is_gt (text_cmp p.name q.name)) ≡ true → InOrder (q ∷ rest) → InOrder (p ∷ q ∷ rest)
+more_in_order p q rest up others zero d low within = not_below p.name q.name up
+more_in_order p q rest up others (suc k) d low within =
+    let next : k + 1 < length (q ∷ rest) = omega (arith, within) in
+    let one : suc (k + 1) ≡ suc k + 1 = omega arith in
+    subst (λ (n : ℕ). is_lt (text_cmp (slice_index_or (p ∷ q ∷ rest) n d).name (slice_index_or (q ∷ rest) k d).name) ≡ false) one (others k d (omega arith) next)
+
+behind_in_order : (p : Place) (rest : List Place) → InOrder (p ∷ rest) → InOrder rest
+behind_in_order p rest up k d low within =
+    let next : suc k + 1 < length (p ∷ rest) = omega (arith, within) in
+    let one : suc k + 1 ≡ suc (k + 1) = omega arith in
+    subst (λ (n : ℕ). is_lt (text_cmp (slice_index_or (p ∷ rest) n d).name (slice_index_or rest k d).name) ≡ false) one (up (suc k) d (omega arith) next)
+
+order_behind : (p : Place) (rest : List Place) → do_not_fall p.name rest ≡ true → InOrder (p ∷ rest)
+order_behind p [] e = one_in_order p
 order_behind p (q ∷ rest) e =
     let both = and_parts (not (is_gt (text_cmp p.name q.name))) (do_not_fall q.name rest) e in
-    (not_greater (text_cmp p.name q.name) both.0, order_behind q rest both.1)
+    more_in_order p q rest both.0 (order_behind q rest both.1)
 
-pub order_from : (places : List Place) → do_not_fall [] places ≡ true → DoNotFall places
-order_from [] e = tt
+pub order_from : (places : List Place) → do_not_fall [] places ≡ true → InOrder places
+order_from [] e = none_in_order
 order_from (p ∷ rest) e = order_behind p rest (and_parts (not (is_gt (text_cmp [] p.name))) (do_not_fall p.name rest) e).1
 
-behind_again : (p : Place) (rest : List Place) → DoNotFall (p ∷ rest) → do_not_fall p.name rest ≡ true
+behind_again : (p : Place) (rest : List Place) → InOrder (p ∷ rest) → do_not_fall p.name rest ≡ true
 behind_again p [] up = refl
 behind_again p (q ∷ rest) up =
-    ap (λ (b : Bool). b && do_not_fall q.name rest) (is_up (text_cmp p.name q.name) up.0) ∙ behind_again q rest up.1
+    let first : is_lt (text_cmp q.name p.name) ≡ false = up 0 p (omega arith) (omega arith) in
+    ap (λ (b : Bool). b && do_not_fall q.name rest) (not_above p.name q.name first) ∙ behind_again q rest (behind_in_order p (q ∷ rest) up)
 
 least : (name : List ℕ) → not (is_gt (text_cmp [] name)) ≡ true
 least [] = refl
 least (b ∷ name) = refl
 
-pub order_again : (places : List Place) → DoNotFall places → do_not_fall [] places ≡ true
+pub order_again : (places : List Place) → InOrder places → do_not_fall [] places ≡ true
 order_again [] up = refl
 order_again (p ∷ rest) up = ap (λ (b : Bool). b && do_not_fall p.name rest) (least p.name) ∙ behind_again p rest up
 

@@ -7,7 +7,11 @@ use Rattle.region_layout.specs.Region.{IsClosed}
 use Rattle.region_layout.proofs.Heads.{closed_head}
 use Rattle.region_directory.specs.declared.directory.TablePlaces.{TablePlaces}
 use Rattle.region_directory.specs.declared.directory.Directory.{Directory}
-use Rattle.region_directory.specs.Region.{IsImage, IsAdoptable, table_in}
+use Rattle.region_directory.specs.Region.{IsImage, IsAdoptable, image_of_parts, parts_in}
+
+-- a table of a directory, by its columns in the region
+abbrev pub table_in : List ℕ → TablePlaces → TableImage
+table_in region t = image_of_parts t.name (parts_in region t)
 
 one_directory : (region : List ℕ) (s t : List TableImage) (d e : ℕ) (a : IsAdoptable region s d) (b : IsAdoptable region t e) → a.is.directory ≡ b.is.directory
 one_directory region s t d e a b = some_is a.is.directory b.is.directory (sym a.is.has.read ∙ b.is.has.read)

@@ -2,7 +2,6 @@ pub mod Repeating
 pub mod Entries
 pub mod Sizes
 pub mod Putting
-pub mod Loops
 pub mod Following
 pub mod Ending
 pub mod Tested

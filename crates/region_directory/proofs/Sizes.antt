@@ -4,14 +4,15 @@ use Rattle.std.specs.List.{flat_map, sum, AllByRecursion}
 use Rattle.std.proofs.lemmas.List.Concat.{flat_map-cons}
 use Rattle.std.proofs.lemmas.List.Sums.{sum-map, sum_by-cons}
 use Rattle.row_records.specs.Bytes.{i64_bytes, u32_bytes, u64_bytes, IsBytes}
+use Rattle.row_records.specs.Reading.{many_at}
 use Rattle.region_directory.specs.declared.directory.Place.{Place}
 use Rattle.region_directory.specs.declared.directory.BlockPlaces.{BlockPlaces}
 use Rattle.region_directory.specs.declared.directory.TablePlaces.{TablePlaces}
 use Rattle.region_directory.specs.declared.directory.Directory.{Directory}
-use Rattle.region_directory.specs.Directory.{place_at, places_at, block_at, blocks_at}
+use Rattle.region_directory.specs.Directory.{place_at, block_at}
 use Rattle.region_directory.specs.Written.{place_bytes, block_bytes, table_bytes, directory_bytes, PlaceFits, BlockFits}
 use Rattle.region_directory.proofs.Repeating.{too_few}
-use Rattle.region_directory.proofs.Entries.{places_repeat, place_takes, blocks_repeat, block_takes}
+use Rattle.region_directory.proofs.Entries.{place_takes, block_takes}
 
 abbrev pub place_size : Place → ℕ
 place_size p = 17 + length p.name
@@ -62,10 +63,10 @@ blocks_least [] each = omega arith
 blocks_least (b ∷ blocks) each = omega (arith, ap length (flat_map-cons block_bytes b blocks), length-append (block_bytes b) (flat_map block_bytes blocks), block_least b each.0, blocks_least blocks each.1)
 
 -- so few bytes are not so many columns, or blocks
-pub few_for_places : (count : ℕ) (bytes : List ℕ) → IsBytes bytes → length bytes / 17 < count → places_at count bytes ≡ None
+pub few_for_places : (count : ℕ) (bytes : List ℕ) → IsBytes bytes → length bytes / 17 < count → many_at place_at count bytes ≡ None
 few_for_places count bytes fits few =
-    too_few place_at places_at place_bytes PlaceFits places_repeat place_takes count bytes fits (λ items each n. omega (arith, few, n, places_least items))
+    too_few place_at place_bytes PlaceFits place_takes count bytes fits (λ items each n. omega (arith, few, n, places_least items))
 
-pub few_for_blocks : (count : ℕ) (bytes : List ℕ) → IsBytes bytes → length bytes / 25 < count → blocks_at count bytes ≡ None
+pub few_for_blocks : (count : ℕ) (bytes : List ℕ) → IsBytes bytes → length bytes / 25 < count → many_at block_at count bytes ≡ None
 few_for_blocks count bytes fits few =
-    too_few block_at blocks_at block_bytes BlockFits blocks_repeat block_takes count bytes fits (λ items each n. omega (arith, few, n, blocks_least items each))
+    too_few block_at block_bytes BlockFits block_takes count bytes fits (λ items each n. omega (arith, few, n, blocks_least items each))

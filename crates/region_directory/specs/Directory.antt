@@ -1,12 +1,12 @@
 -- A directory, field by field from the left.
-use Rattle.std.specs.Prelude.{◌≡◌, ◌≢◌, ℕ, zero, suc, ◌+◌, ◌<◌, ◌≤◌, ◌^◌, List, [], ◌∷◌, ◌++◌, map, Bool, ◌||◌, ◌==◌, nat_lt, if◌then◌else◌, Option, Some, None, ⊤}
+use Rattle.std.specs.Prelude.{◌≡◌, ℕ, ◌+◌, ◌<◌, ◌≤◌, ◌^◌, List, [], ◌∷◌, ◌++◌, map, Bool, ◌||◌, ◌==◌, nat_lt, if◌then◌else◌, Option, Some, None}
 use Rattle.std.specs.Prelude as prelude
 use Rattle.std.specs.List.{AllByRecursion, flat_map}
+use Rattle.std.specs.List.Sorted.{IsSortedByKey}
 use Rattle.std.specs.Int.{w32, w64}
-use Rattle.std.specs.declared.cmp.Ordering.TheVariants.{Greater}
 use Rattle.leaf_model.specs.Values.{IsCellName, time_name}
 use Rattle.leaf_model.specs.Groups.{text_cmp}
-use Rattle.row_records.specs.Reading.{◌>>=◌, byte_at, number_at, name_at, time_at}
+use Rattle.row_records.specs.Reading.{◌>>=◌, byte_at, many_at, number_at, name_at, time_at}
 use Rattle.region_layout.specs.Reading.{below_2_63_at}
 use Rattle.leaf_model.specs.Names.{AreDistinct}
 use Rattle.region_directory.specs.declared.directory.Place.{Place}
@@ -22,28 +22,15 @@ place_at bytes = do
   size ← number_at w64 place.1
   Some (record { name = name.0; place = place.0; length = size.0 }, size.1)
 
-unfoldable pub places_at : ℕ → List ℕ → Option (List Place × List ℕ)
-places_at zero bytes = Some ([], bytes)
-places_at (suc n) bytes = do
-  first ← place_at bytes
-  others ← places_at n first.1
-  Some (first.0 ∷ others.0, others.1)
-
 -- 1 to 65,536 rows, and at least one column
 unfoldable pub block_at : List ℕ → Option (BlockPlaces × List ℕ)
 block_at bytes = do
   rows ← number_at w32 bytes
   count ← number_at w32 rows.1
   if (rows.0 == 0) || (nat_lt 65536 rows.0 || (count.0 == 0)) then None
-      else (places_at count.0 count.1 >>= λ columns. Some (record { rows = rows.0; columns = columns.0 }, columns.1))
+      else (many_at place_at count.0 count.1 >>= λ columns. Some (record { rows = rows.0; columns = columns.0 }, columns.1))
 
-unfoldable pub blocks_at : ℕ → List ℕ → Option (List BlockPlaces × List ℕ)
-blocks_at zero bytes = Some ([], bytes)
-blocks_at (suc n) bytes = do
-  first ← block_at bytes
-  others ← blocks_at n first.1
-  Some (first.0 ∷ others.0, others.1)
-
+-- a name, a horizon, how many writes, how many rows are cut away, and the blocks behind their number
 unfoldable pub table_at : List ℕ → Option (TablePlaces × List ℕ)
 table_at bytes = do
   name ← name_at bytes
@@ -51,15 +38,8 @@ table_at bytes = do
   writes ← below_2_63_at horizon.1
   skip ← number_at w32 writes.1
   count ← number_at w32 skip.1
-  blocks ← blocks_at count.0 count.1
+  blocks ← many_at block_at count.0 count.1
   Some (record { name = name.0; horizon = horizon.0; writes = writes.0; skip = skip.0; blocks = blocks.0 }, blocks.1)
-
-unfoldable pub tables_at : ℕ → List ℕ → Option (List TablePlaces × List ℕ)
-tables_at zero bytes = Some ([], bytes)
-tables_at (suc n) bytes = do
-  first ← table_at bytes
-  others ← tables_at n first.1
-  Some (first.0 ∷ others.0, others.1)
 
 -- the log's end, at most 16 tables behind their number, and nothing after them
 unfoldable pub directory_at : List ℕ → Option Directory
@@ -67,25 +47,21 @@ directory_at bytes = do
   log_end ← below_2_63_at bytes
   count ← byte_at log_end.1
   if nat_lt 16 count.0 then None
-      else (tables_at count.0 count.1 >>= λ tables. if prelude.length tables.1 == 0 then Some (record { log_end = log_end.0; tables = tables.0 }) else None)
+      else (many_at table_at count.0 count.1 >>= λ tables. if prelude.length tables.1 == 0 then Some (record { log_end = log_end.0; tables = tables.0 }) else None)
 
 -- ---- the rules that a directory keeps by itself
 
--- no name falls; two columns of one name have two kinds, which the columns tell
-abbrev pub DoNotFall : List Place → Type 0
-DoNotFall [] = ⊤
-DoNotFall (p ∷ []) = ⊤
-DoNotFall (p ∷ q ∷ rest) = (text_cmp p.name q.name ≢ Greater) × DoNotFall (q ∷ rest)
-
--- the times first
+-- the times first, and behind them no name falls; two columns of one name have two kinds, which the columns tell
 abbrev pub AreColumns : List Place → Type 0
 AreColumns [] = ⊥
-AreColumns (times ∷ others) = (times.name ≡ time_name) × AllByRecursion (λ (p : Place). IsCellName p.name) others × DoNotFall others
+AreColumns (times ∷ others) = (times.name ≡ time_name) × AllByRecursion (λ (p : Place). IsCellName p.name) others × IsSortedByKey (λ (p : Place). p.name) text_cmp others
 
+-- fewer rows are cut away than the first block has
 abbrev pub IsSkipOf : ℕ → List BlockPlaces → Type 0
 IsSkipOf skip [] = skip ≡ 0
 IsSkipOf skip (b ∷ blocks) = skip < b.rows
 
+-- a table's blocks are columns, and its cut is one of its first block
 pub record IsTablePlaces (t : TablePlaces) : Type 0 where
   pub skip : IsSkipOf t.skip t.blocks
   pub columns : AllByRecursion (λ (b : BlockPlaces). AreColumns b.columns) t.blocks
@@ -95,12 +71,9 @@ abbrev pub Joined : ℕ → List Place → ℕ → Type 0
 Joined from [] to = from ≡ to
 Joined from (p ∷ rest) to = (p.place ≡ from) × Joined (from + p.length) rest to
 
-abbrev pub table_columns : TablePlaces → List Place
-table_columns t = flat_map (λ (b : BlockPlaces). b.columns) t.blocks
-
 -- all columns, in their order
 abbrev pub columns_of : Directory → List Place
-columns_of d = flat_map table_columns d.tables
+columns_of d = flat_map (λ (t : TablePlaces). flat_map (λ (b : BlockPlaces). b.columns) t.blocks) d.tables
 
 -- the directory stands at a place
 pub record IsDirectory (place : ℕ) (d : Directory) : Type 0 where

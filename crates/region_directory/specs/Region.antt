@@ -40,12 +40,15 @@ allows version Texts = true
 abbrev pub directory_from : List ℕ → ℕ
 directory_from region = from_le_bytes w64 (take 8 (drop 8 region))
 
+-- the bytes that stand at a place of a region, under the column's name
 abbrev pub column_in : List ℕ → Place → BlockColumn
 column_in region p = record { name = p.name; bytes = slice_range region p.place (p.place + p.length) }
 
+-- a block of such columns
 abbrev pub block_in : List ℕ → BlockPlaces → Block
 block_in region b = record { rows = b.rows; columns = map (column_in region) b.columns }
 
+-- a table of such blocks
 abbrev pub parts_in : List ℕ → TablePlaces → Parts
 parts_in region t = record { horizon = t.horizon; writes = t.writes; skip = t.skip; blocks = map (block_in region) t.blocks }
 
@@ -53,15 +56,10 @@ parts_in region t = record { horizon = t.horizon; writes = t.writes; skip = t.sk
 abbrev pub image_of_parts : List ℕ → Parts → TableImage
 image_of_parts name p = record { name = name; horizon = p.horizon; writes = p.writes; rows = rows_held p.blocks [] p.skip p.horizon }
 
-abbrev pub table_in : List ℕ → TablePlaces → TableImage
-table_in region t = image_of_parts t.name (parts_in region t)
-
-abbrev pub Allows : ℕ → Parts → Type 0
-Allows version p = AllByRecursion (λ (b : Block). AllByRecursion (λ (c : BlockColumn). allows version (kind_in c.bytes) ≡ true) b.columns) p.blocks
-
+-- its columns mean rows, and are of kinds that the version allows
 pub record IsTableIn (version : ℕ) (region : List ℕ) (t : TablePlaces) : Type 0 where
   pub parts : IsParts (parts_in region t)
-  pub kinds : Allows version (parts_in region t)
+  pub kinds : AllByRecursion (λ (b : Block). AllByRecursion (λ (c : BlockColumn). allows version (kind_in c.bytes) ≡ true) b.columns) (parts_in region t).blocks
 
 -- ---- an image of a version
 
@@ -77,7 +75,7 @@ pub record IsImage (version : ℕ) (region : List ℕ) (tables : List TableImage
   pub directory : Directory
   pub has : HasDirectory version region directory
   pub each : AllByRecursion (IsTableIn version region) directory.tables
-  pub tables_are : tables ≡ map (table_in region) directory.tables
+  pub tables_are : tables ≡ map (λ (t : TablePlaces). image_of_parts t.name (parts_in region t)) directory.tables
   pub log_end_is : log_end ≡ directory.log_end
 
 -- an image that a start adopts: the name that all crates above use

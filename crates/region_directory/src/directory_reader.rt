@@ -2,9 +2,9 @@
 ghost use Rattle.std.specs.Prelude.{◌≡◌, ◌*◌, ◌<◌, length, Err};
 ghost use Rattle.std.specs.Int.{w32};
 ghost use Rattle.row_records.specs.declared.fault.ReadError.TheVariants.{Broken};
-ghost use Rattle.row_records.specs.Reading.{ReadsAs, number_at};
+ghost use Rattle.row_records.specs.Reading.{ReadsAs, many_at, number_at};
 ghost use Rattle.region_layout.specs.Reading.{below_2_63_at};
-ghost use Rattle.region_directory.specs.Directory.{place_at, places_at, block_at, blocks_at, table_at, tables_at, directory_at};
+ghost use Rattle.region_directory.specs.Directory.{place_at, block_at, table_at, directory_at};
 
 use crate::directory::{
     BlockPlaces, BlockPlacesList, Directory, Place, Places, TablePlaces, TablePlacesList,
@@ -57,7 +57,7 @@ fn place_of(alloc: Global, bytes: &[u8]) -> Result<(Place, &[u8]), ReadError>
 }
 
 fn places_of(alloc: Global, count: u32, bytes: &[u8]) -> Result<(Vec<Place>, &[u8]), ReadError>
-    ensures { ReadsAs (λ x. (x.0.items, x.1.now)) result (places_at count bytes.now) }
+    ensures { ReadsAs (λ x. (x.0.items, x.1.now)) result (many_at place_at count bytes.now) }
 {
     let mut places = Vec::new(alloc);
     let mut rest = bytes;
@@ -75,7 +75,7 @@ fn places_in_front(
     count: u32,
     bytes: &[u8],
 ) -> Result<(Vec<Place>, &[u8]), ReadError>
-    ensures given { ReadsAs (λ x. (x.0.items, x.1.now)) result (places_at count bytes.now) }
+    ensures given { ReadsAs (λ x. (x.0.items, x.1.now)) result (many_at place_at count bytes.now) }
     ensures far { length bytes.now < 17 * count → result ≡ Err Broken }
 {
     if count as usize > bytes.len() / PLACE_BYTES {
@@ -103,7 +103,7 @@ fn blocks_of(
     count: u32,
     bytes: &[u8],
 ) -> Result<(Vec<BlockPlaces>, &[u8]), ReadError>
-    ensures { ReadsAs (λ x. (x.0.items, x.1.now)) result (blocks_at count bytes.now) }
+    ensures { ReadsAs (λ x. (x.0.items, x.1.now)) result (many_at block_at count bytes.now) }
 {
     let mut blocks = Vec::new(alloc);
     let mut rest = bytes;
@@ -121,7 +121,7 @@ fn blocks_in_front(
     count: u32,
     bytes: &[u8],
 ) -> Result<(Vec<BlockPlaces>, &[u8]), ReadError>
-    ensures given { ReadsAs (λ x. (x.0.items, x.1.now)) result (blocks_at count bytes.now) }
+    ensures given { ReadsAs (λ x. (x.0.items, x.1.now)) result (many_at block_at count bytes.now) }
     ensures far { length bytes.now < 25 * count → result ≡ Err Broken }
 {
     if count as usize > bytes.len() / BLOCK_BYTES {
@@ -154,7 +154,7 @@ fn table_of(alloc: Global, bytes: &[u8]) -> Result<(TablePlaces, &[u8]), ReadErr
 }
 
 fn tables_of(alloc: Global, count: u8, bytes: &[u8]) -> Result<(Vec<TablePlaces>, &[u8]), ReadError>
-    ensures { ReadsAs (λ x. (x.0.items, x.1.now)) result (tables_at count bytes.now) }
+    ensures { ReadsAs (λ x. (x.0.items, x.1.now)) result (many_at table_at count bytes.now) }
 {
     let mut tables = Vec::new(alloc);
     let mut rest = bytes;

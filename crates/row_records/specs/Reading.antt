@@ -31,6 +31,14 @@ abbrev pub ReadsAs : {X Y : Type 0} → (X → Y) → Result X ReadError → Opt
 ReadsAs view (Ok x) read = read ≡ Some (view x)
 ReadsAs view (Err e) read = ReadFails e read
 
+-- so many of these, one behind another
+abbrev pub many_at : {A : Type 0} → (List ℕ → Option (A × List ℕ)) → ℕ → List ℕ → Option (List A × List ℕ)
+many_at one zero bytes = Some ([], bytes)
+many_at one (suc n) bytes = do
+  first ← one bytes
+  others ← many_at one n first.1
+  Some (first.0 ∷ others.0, others.1)
+
 -- a byte
 abbrev pub byte_at : List ℕ → Option (ℕ × List ℕ)
 byte_at [] = None
@@ -96,11 +104,7 @@ row_at bytes = do
 
 -- so many rows
 unfoldable pub rows_at : ℕ → List ℕ → Option (List Row × List ℕ)
-rows_at zero bytes = Some ([], bytes)
-rows_at (suc n) bytes = do
-  first ← row_at bytes
-  others ← rows_at n first.1
-  Some (first.0 ∷ others.0, others.1)
+rows_at n bytes = many_at row_at n bytes
 
 -- at most 100,000 rows behind their number
 unfoldable pub add_at : List ℕ → Option (Write × List ℕ)
@@ -123,11 +127,7 @@ write_at (suc (suc (suc (suc b))) ∷ rest) = None
 
 -- so many writes
 unfoldable pub writes_at : ℕ → List ℕ → Option (List Write × List ℕ)
-writes_at zero bytes = Some ([], bytes)
-writes_at (suc n) bytes = do
-  first ← write_at bytes
-  others ← writes_at n first.1
-  Some (first.0 ∷ others.0, others.1)
+writes_at n bytes = many_at write_at n bytes
 
 -- the name, the number of writes and the writes
 unfoldable pub flush_at : List ℕ → Option (LogRecord × List ℕ)

@@ -1,7 +1,8 @@
 use Rattle.std.proofs.Common.{◌≡◌, ◌-◌}
 use Rattle.row_records.proofs.Loop.{with_front}
-use Rattle.region_directory.specs.Directory.{blocks_at}
+use Rattle.row_records.specs.Reading.{many_at}
+use Rattle.region_directory.specs.Directory.{block_at}
 use Rattle.region_directory.proofs.directory_reader.blocks_of.Given as goal
 
 abbrev pub invariant-loop : goal.invariant-loop
-invariant-loop l = with_front l.blocks.items (blocks_at (l.count - l.counter) l.rest) ≡ blocks_at l.count l.bytes
+invariant-loop l = with_front l.blocks.items (many_at block_at (l.count - l.counter) l.rest) ≡ many_at block_at l.count l.bytes
