@@ -1,5 +1,5 @@
 -- In an image each column means as many cells as its block has rows.
-use Rattle.std.proofs.Common.{◌≡◌, ℕ, List, [], ◌∷◌, ◌++◌, map, Option, unwrap_or, sym, ap, subst, ◌∙◌}
+use Rattle.std.proofs.Common.{◌≡◌, ℕ, List, [], ◌∷◌, ◌++◌, map, sym, subst}
 use Rattle.std.specs.List.{AllByRecursion, flat_map}
 use Rattle.region_layout.specs.Images.{TableImage}
 use Rattle.row_blocks.specs.declared.column.BlockColumn.{BlockColumn}
@@ -10,14 +10,11 @@ use Rattle.region_directory.specs.declared.directory.BlockPlaces.{BlockPlaces}
 use Rattle.region_directory.specs.declared.directory.TablePlaces.{TablePlaces}
 use Rattle.region_directory.specs.declared.directory.Directory.{Directory}
 use Rattle.region_directory.specs.Region.{HasDirectory, IsAdoptable, IsTableIn, block_in, column_in}
+use Rattle.region_directory.proofs.Images.{same_directory}
 use Rattle.adopt.specs.declared.spans.Span.{Span}
 use Rattle.adopt.specs.Adopting.{IsNoImage}
 use Rattle.adopt.specs.Taken.{block_spans, span_of, spans_of, table_spans}
 use Rattle.adopt.proofs.Columns.{all_at, span_in}
-
--- a region has one directory
-pub one_directory : (region : List ℕ) (v w : ℕ) (d e : Directory) → HasDirectory v region d → HasDirectory w region e → d ≡ e
-one_directory region v w d e has also = ap (λ (o : Option Directory). unwrap_or o d) (sym has.read ∙ also.read)
 
 abbrev pub Means : List ℕ → Span → Type 0
 Means region s = MeanCells (span_in region s) s.rows
@@ -53,7 +50,7 @@ tables_mean version region (t ∷ ts) each = all_append (Means region) (table_sp
 pub each_table : (version : ℕ) (region : List ℕ) (d : Directory) (images : List TableImage) (log_end : ℕ) → HasDirectory version region d → (is : IsAdoptable region images log_end)
     → AllByRecursion (IsTableIn is.version region) d.tables
 each_table version region d images log_end has is =
-    subst (λ (e : Directory). AllByRecursion (IsTableIn is.version region) e.tables) (one_directory region is.version version is.is.directory d is.is.has has) is.is.each
+    subst (λ (e : Directory). AllByRecursion (IsTableIn is.version region) e.tables) (same_directory region is.version version is.is.directory d is.is.has has) is.is.each
 
 -- a region is no image where a column means another number of cells
 pub no_cells : (version : ℕ) (region : List ℕ) (d : Directory) (init : List Span) (s : Span) (rest : List Span) → HasDirectory version region d → spans_of d ≡ init ++ s ∷ rest

@@ -1,5 +1,5 @@
 -- What a crash may leave at each moment while a region is read, its flag is closed and it is cut.
-use Rattle.std.proofs.Common.{◌≡◌, ◌⊎◌, inl, inr, ℕ, ◌+◌, ◌≤◌, List, [], ◌∷◌, length, take, Ok, Err, refl, sym, ap, subst, ◌∙◌, arith, length-take}
+use Rattle.std.proofs.Common.{◌≡◌, ◌⊎◌, inl, inr, ℕ, ◌≤◌, List, [], ◌∷◌, length, take, Ok, Err, refl, sym, ap, subst, ◌∙◌, arith, length-take}
 use Rattle.std.specs.Prelude.{Result, OnOk, OnErr}
 use Rattle.berth_face.specs.Berth.{Pair, Meaning, Passes, Stays, Cut, Torn, RegionWritten, RegionCut}
 use Rattle.berth_face.specs.Moments.{EachNow, Throughout}

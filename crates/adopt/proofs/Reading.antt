@@ -1,5 +1,5 @@
 -- What the bytes of a directory tell.
-use Rattle.std.proofs.Common.{◌≡◌, inl, inr, ℕ, ◌+◌, ◌<◌, ◌≤◌, ◌^◌, List, [], ◌∷◌, length, take, drop, Option, Some, None, Ok, Err, refl, sym, ap, subst, ◌∙◌, arith}
+use Rattle.std.proofs.Common.{◌≡◌, inl, inr, ℕ, ◌+◌, ◌<◌, ◌≤◌, ◌^◌, List, [], ◌∷◌, length, take, drop, Option, Some, None, Ok, Err, sym, ap, subst, ◌∙◌, arith}
 use Rattle.std.specs.Prelude.{Result, IfOk}
 use Rattle.std.specs.Int.{w64, from_le_bytes}
 use Rattle.std.specs.List.{AllByRecursion}
@@ -7,32 +7,22 @@ use Rattle.std.proofs.lemmas.Bool.{cases_lt}
 use Rattle.std.proofs.lemmas.List.{drop-take, drop_all, take-take}
 use Rattle.region_layout.specs.declared.head.Head.TheVariants.{Version}
 use Rattle.region_layout.specs.Region.{head_of}
-use Rattle.region_layout.specs.Reading.{below_2_63_at}
 use Rattle.region_directory.specs.declared.directory.TablePlaces.{TablePlaces}
 use Rattle.region_directory.specs.declared.directory.Directory.{Directory}
-use Rattle.region_directory.specs.Directory.{IsDirectory, columns_of, directory_at}
+use Rattle.region_directory.specs.Directory.{IsDirectory, columns_of}
 use Rattle.region_directory.specs.Region.{HasDirectory, directory_from}
 use Rattle.region_directory.specs.Written.{MayBeWritten, TableFits}
+use Rattle.region_directory.proofs.Sizes.{directory_length}
 use Rattle.adopt.specs.declared.looked.Looked.{Looked}
 use Rattle.adopt.specs.Finding.{LooksAt, StandsAt, TellsPlace, closed_flag}
 use Rattle.adopt.specs.Taken.{IsRead, span_bytes, spans_of}
 use Rattle.adopt.proofs.Heads.{behind_flag, closed_size, head_long}
 use Rattle.adopt.proofs.Columns.{joined_total, same_all, same_joined}
 
--- no bytes are no directory
-nothing_read : directory_at [] ≡ None
-unfolding directory_at below_2_63_at
-nothing_read = refl
-
-none_some : {X : Type 0} (o : Option X) (x : X) → o ≡ None → o ≡ Some x → ⊥
-none_some None x e f = absurd cc
-none_some (Some y) x e f = absurd cc
-
 -- the directory stands in the region
 pub directory_inside : (version : ℕ) (region : List ℕ) (d : Directory) → HasDirectory version region d → directory_from region ≤ length region
 directory_inside version region d has = elim (cases_lt (length region) (directory_from region)) [
-  | inl past ↦ absurd (none_some (directory_at (drop (directory_from region) region)) d
-      (ap directory_at (drop_all (directory_from region) region (omega (arith, past))) ∙ nothing_read) has.read)
+  | inl past ↦ let none = ap length (sym (drop_all (directory_from region) region (omega (arith, past))) ∙ has.bytes) in absurd (omega (arith, none, directory_length d))
   | inr not_past ↦ not_past
 ]
 
@@ -81,14 +71,14 @@ module _ (region now front : List ℕ) (version : ℕ) (closed : now ≡ closed_
   looks place None tells stands = λ d has.
       let here = tells.place_is ∙ place_of front region front_is in
       let some = tells.behind in
-      stands d (ap directory_at (bytes_are place some) ∙ ap (λ (n : ℕ). directory_at (drop n region)) here ∙ has.read) (subst (λ (n : ℕ). IsDirectory n d) (sym here) has.itself)
+      stands d (bytes_are place some ∙ ap (λ (n : ℕ). drop n region) here ∙ has.bytes) (subst (λ (n : ℕ). IsDirectory n d) (sym here) has.itself)
   looks place (Some l) tells stands =
       let here = tells.place_is ∙ place_of front region front_is in
       let some = tells.behind in (
         record {
           head = opened;
           letters = sym (letters_of front region front_is) ∙ tells.letters;
-          read = ap (λ (n : ℕ). directory_at (drop n region)) (sym here) ∙ sym (ap directory_at (bytes_are place some)) ∙ stands.0.0;
+          bytes = ap (λ (n : ℕ). drop n region) (sym here) ∙ sym (bytes_are place some) ∙ stands.0.0;
           itself = subst (λ (n : ℕ). IsDirectory n l.directory) here stands.0.1;
         },
         stands.1 ∙ here,

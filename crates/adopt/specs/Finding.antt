@@ -6,8 +6,9 @@ use Rattle.row_blocks.specs.Columns.{MeanCells}
 use Rattle.region_layout.specs.Region.{IsClosed}
 use Rattle.region_directory.specs.declared.directory.TablePlaces.{TablePlaces}
 use Rattle.region_directory.specs.declared.directory.Directory.{Directory}
-use Rattle.region_directory.specs.Directory.{IsDirectory, directory_at}
+use Rattle.region_directory.specs.Directory.{IsDirectory}
 use Rattle.region_directory.specs.Region.{HasDirectory, directory_from}
+use Rattle.region_directory.specs.Written.{directory_bytes}
 use Rattle.adopt.specs.declared.spans.Span.{Span}
 use Rattle.adopt.specs.declared.looked.Looked.{Looked}
 use Rattle.adopt.specs.declared.found.AdoptFault.{AdoptFault}
@@ -33,8 +34,8 @@ pub record TellsPlace (front : List ℕ) (place : ℕ) : Type 0 where
 
 -- the directory that bytes are which stand at a place, or they are none
 abbrev pub IsThere : ℕ → List ℕ → Option Directory → Type 0
-IsThere place bytes None = (d : Directory) → directory_at bytes ≡ Some d → IsDirectory place d → ⊥
-IsThere place bytes (Some d) = (directory_at bytes ≡ Some d) × IsDirectory place d
+IsThere place bytes None = (d : Directory) → bytes ≡ directory_bytes d → IsDirectory place d → ⊥
+IsThere place bytes (Some d) = (bytes ≡ directory_bytes d) × IsDirectory place d
 
 -- the directory at a place of a region, or there is none
 abbrev pub StandsAt : ℕ → List ℕ → Option Looked → Type 0

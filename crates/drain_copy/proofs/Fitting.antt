@@ -11,7 +11,7 @@ use Rattle.table_state.specs.Tables.{IsParts}
 use Rattle.region_layout.specs.Names.{IsName}
 use Rattle.region_directory.specs.declared.drained.DrainTable.{DrainTable}
 use Rattle.region_directory.specs.Drained.{is_wide}
-use Rattle.region_directory.specs.Written.{IsShort, PlaceFits, BlockFits, TableFits, MayBeWritten}
+use Rattle.region_directory.specs.Written.{PlaceFits, BlockFits, TableFits, MayBeWritten}
 use Rattle.drain_copy.specs.Planned.{columns_size, blocks_size, tables_size, places_from, blocks_from, tables_from, planned_directory}
 
 places_number : (columns : List BlockColumn) (at : ℕ) → length (places_from at columns) ≡ length columns
@@ -28,21 +28,21 @@ tables_number (t ∷ tables) at = ap (λ (n : ℕ). suc n) (tables_number tables
 
 -- ---- the names of columns
 
-time_short : IsShort time_name
-time_short = record { text = search rules; short = omega arith }
+time_short : IsName time_name
+time_short = (search rules, omega arith)
 
-others_short : (rows : ℕ) (columns : List BlockColumn) → AllByRecursion (IsOther rows) columns → AllByRecursion (λ (c : BlockColumn). IsShort c.name) columns
+others_short : (rows : ℕ) (columns : List BlockColumn) → AllByRecursion (IsOther rows) columns → AllByRecursion (λ (c : BlockColumn). IsName c.name) columns
 others_short rows [] each = tt
-others_short rows (c ∷ columns) each = (record { text = each.0.name.text; short = each.0.name.short }, others_short rows columns each.1)
+others_short rows (c ∷ columns) each = ((each.0.name.text, each.0.name.short), others_short rows columns each.1)
 
-block_short : (b : Block) → IsBlock b → AllByRecursion (λ (c : BlockColumn). IsShort c.name) b.columns
+block_short : (b : Block) → IsBlock b → AllByRecursion (λ (c : BlockColumn). IsName c.name) b.columns
 block_short b is =
-    subst (λ (cs : List BlockColumn). AllByRecursion (λ (c : BlockColumn). IsShort c.name) cs) (sym is.columns_are)
-    (subst IsShort (sym is.timed.name) time_short, others_short b.rows is.others is.each)
+    subst (λ (cs : List BlockColumn). AllByRecursion (λ (c : BlockColumn). IsName c.name) cs) (sym is.columns_are)
+    (subst IsName (sym is.timed.name) time_short, others_short b.rows is.others is.each)
 
 -- ---- places, blocks and tables
 
-places_fit : (columns : List BlockColumn) (at : ℕ) → AllByRecursion (λ (c : BlockColumn). IsShort c.name) columns → at + columns_size columns < 2 ^ 63 → AllByRecursion PlaceFits (places_from at columns)
+places_fit : (columns : List BlockColumn) (at : ℕ) → AllByRecursion (λ (c : BlockColumn). IsName c.name) columns → at + columns_size columns < 2 ^ 63 → AllByRecursion PlaceFits (places_from at columns)
 places_fit [] at each room = tt
 places_fit (c ∷ columns) at each room =
     (record { name = each.0; place = omega (arith, room); length = omega (arith, room) }, places_fit columns (at + length c.bytes) each.1 (omega (arith, room)))
@@ -84,7 +84,7 @@ tables_fit (t ∷ tables) at names each narrow room =
     let count : length blocks < 2 ^ 32 = leb-false (2 ^ 32) (length blocks) first.0 in
     let number : length (blocks_from at blocks) ≡ length blocks = blocks_number blocks at in (
       record {
-        name = record { text = names.0.0; short = names.0.1 };
+        name = names.0;
         horizon = each.0.horizon;
         writes = leb-false (2 ^ 63) t.parts.writes second.0;
         skip = skip_fits t.parts.skip blocks each.0.skip each.0.blocks;

@@ -1,5 +1,5 @@
 -- The image that was planned is one.
-use Rattle.std.proofs.Common.{◌≡◌, ℕ, ◌+◌, ◌<◌, ◌^◌, false, ltb, Some, List, ◌++◌, length, take, drop, map, refl, sym, ap, ◌∙◌, subst, arith, append_assoc, length-append}
+use Rattle.std.proofs.Common.{◌≡◌, ℕ, ◌+◌, ◌<◌, ◌^◌, false, ltb, List, ◌++◌, length, take, drop, map, refl, sym, ap, ◌∙◌, subst, arith, append_assoc, length-append}
 use Rattle.std.specs.Prelude.{codes}
 use Rattle.std.specs.List.{AllByRecursion}
 use Rattle.std.proofs.Math.Seq.{drop-append_seam}
@@ -11,9 +11,10 @@ use Rattle.region_layout.specs.declared.head.Head.TheVariants.{Version}
 use Rattle.region_layout.specs.Region.{head_bytes, head_of}
 use Rattle.table_state.specs.Tables.{IsParts}
 use Rattle.region_directory.specs.declared.drained.DrainTable.{DrainTable}
-use Rattle.region_directory.specs.Directory.{directory_at, IsDirectory}
+use Rattle.region_directory.specs.Directory.{IsDirectory}
 use Rattle.region_directory.specs.Drained.{all_columns, images_of}
 use Rattle.region_directory.specs.Region.{layout, directory_from, IsAdoptable}
+use Rattle.region_directory.specs.Written.{MayBeWritten, directory_bytes}
 use Rattle.drain_copy.specs.Draining.{image_bytes, directory_of}
 use Rattle.drain_copy.specs.Planned.{tables_size, planned_directory}
 use Rattle.drain_copy.proofs.Laying.{tables_back, tables_length, is_directory}
@@ -52,9 +53,9 @@ head_long : (place : ℕ) → length (head_bytes layout place) ≡ 16
 head_long place = refl
 
 pub adoptable : (tables : List DrainTable) (log_end place : ℕ) (directory : List ℕ) → AreDistinct (map (λ (t : DrainTable). t.name) tables) → AllByRecursion (λ (t : DrainTable). IsParts t.parts) tables
-    → place ≡ 16 + tables_size tables → place < 2 ^ 64 → directory_at directory ≡ Some (planned_directory tables log_end)
+    → MayBeWritten (planned_directory tables log_end) → place ≡ 16 + tables_size tables → place < 2 ^ 64 → directory ≡ directory_bytes (planned_directory tables log_end)
     → IsAdoptable (image_bytes place (all_columns tables) directory) (images_of tables) log_end
-adoptable tables log_end place directory distinct each is fits read =
+adoptable tables log_end place directory distinct each written is fits spelled =
     let columns = all_columns tables in
     let image = image_bytes place columns directory in
     let long : place ≡ 16 + length (joined columns) = is ∙ ap (λ (n : ℕ). 16 + n) (sym (tables_length tables)) in
@@ -69,8 +70,8 @@ adoptable tables log_end place directory distinct each is fits read =
         has = record {
           head = image_head place columns directory;
           letters = image_letters place columns directory;
-          read = ap directory_at behind ∙ read;
-          itself = subst (λ (n : ℕ). IsDirectory n (planned_directory tables log_end)) (sym found) (is_directory tables log_end place distinct each is);
+          bytes = behind ∙ spelled;
+          itself = subst (λ (n : ℕ). IsDirectory n (planned_directory tables log_end)) (sym found) (is_directory tables log_end place distinct each written is fits);
         };
         each = back.0;
         tables_are = back.1;

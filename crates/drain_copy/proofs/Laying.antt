@@ -1,5 +1,5 @@
 -- An image read by the directory that was planned for it.
-use Rattle.std.proofs.Common.{◌≡◌, ℕ, ◌+◌, true, List, [], ◌∷◌, ◌++◌, length, map, take, drop, refl, sym, ap, ap₂, ◌∙◌, subst, arith, append_assoc, length-append}
+use Rattle.std.proofs.Common.{◌≡◌, ℕ, ◌+◌, ◌<◌, ◌^◌, true, List, [], ◌∷◌, ◌++◌, length, map, take, drop, refl, sym, ap, ap₂, ◌∙◌, subst, arith, append_assoc, length-append}
 use Rattle.std.proofs.Math.Seq.{take-append_seam, drop-append_seam}
 use Rattle.std.proofs.Math.Nat.{add-sub_cancel_left}
 use Rattle.std.specs.Prelude.{not, slice_range}
@@ -24,9 +24,10 @@ use Rattle.region_directory.specs.declared.directory.Place.{Place}
 use Rattle.region_directory.specs.declared.directory.BlockPlaces.{BlockPlaces}
 use Rattle.region_directory.specs.declared.directory.TablePlaces.{TablePlaces}
 use Rattle.region_directory.specs.declared.drained.DrainTable.{DrainTable}
-use Rattle.region_directory.specs.Directory.{Joined, AreColumns, IsSkipOf, IsTablePlaces, IsDirectory}
+use Rattle.region_directory.specs.Directory.{Joined, AreColumns, IsBlockPlaces, IsSkipOf, IsTablePlaces, IsDirectory}
 use Rattle.region_directory.specs.Drained.{all_columns, images_of}
 use Rattle.region_directory.specs.Region.{column_in, block_in, parts_in, allows, IsTableIn, image_of_parts}
+use Rattle.region_directory.specs.Written.{BlockFits, TableFits, MayBeWritten}
 use Rattle.region_directory.proofs.Ending.{table_columns}
 use Rattle.region_directory.proofs.Following.{InOrder, none_in_order, one_in_order, more_in_order}
 use Rattle.region_directory.proofs.Images.{table_in}
@@ -189,24 +190,37 @@ are_columns b at is =
     subst (λ (cs : List BlockColumn). AreColumns (places_from at cs)) (sym is.columns_are)
     (is.timed.name, cells_named b.rows is.others (at + length is.times.bytes) is.each, in_order is.others (at + length is.times.bytes) is.ascend)
 
-blocks_columned : (blocks : List Block) (at : ℕ) → AllByRecursion IsBlock blocks → AllByRecursion (λ (b : BlockPlaces). AreColumns b.columns) (blocks_from at blocks)
-blocks_columned [] at each = tt
-blocks_columned (b ∷ blocks) at each = (are_columns b at each.0, blocks_columned blocks (at + columns_size b.columns) each.1)
+blocks_ruled : (blocks : List Block) (at : ℕ) → AllByRecursion IsBlock blocks → AllByRecursion BlockFits (blocks_from at blocks) → AllByRecursion IsBlockPlaces (blocks_from at blocks)
+blocks_ruled [] at each fits = tt
+blocks_ruled (b ∷ blocks) at each fits =
+    (record { some = fits.0.some; few = fits.0.few; count = fits.0.count; columns = are_columns b at each.0 }, blocks_ruled blocks (at + columns_size b.columns) each.1 fits.1)
 
 skip_kept : (skip : ℕ) (blocks : List Block) (at : ℕ) → IsSkip skip blocks → IsSkipOf skip (blocks_from at blocks)
 skip_kept skip [] at is = is
 skip_kept skip (b ∷ blocks) at is = is
 
-tables_ruled : (tables : List DrainTable) (at : ℕ) → AllByRecursion (λ (t : DrainTable). IsParts t.parts) tables → AllByRecursion IsTablePlaces (tables_from at tables)
-tables_ruled [] at each = tt
-tables_ruled (t ∷ tables) at each =
-    (record { skip = skip_kept t.parts.skip t.parts.blocks at each.0.skip; columns = blocks_columned t.parts.blocks at each.0.blocks }, tables_ruled tables (at + blocks_size t.parts.blocks) each.1)
+tables_ruled : (tables : List DrainTable) (at : ℕ) → AllByRecursion (λ (t : DrainTable). IsParts t.parts) tables → AllByRecursion TableFits (tables_from at tables) → AllByRecursion IsTablePlaces (tables_from at tables)
+tables_ruled [] at each fits = tt
+tables_ruled (t ∷ tables) at each fits = (
+  record {
+    name = fits.0.name;
+    horizon = fits.0.horizon;
+    writes = fits.0.writes;
+    skip = skip_kept t.parts.skip t.parts.blocks at each.0.skip;
+    count = fits.0.count;
+    blocks = blocks_ruled t.parts.blocks at each.0.blocks fits.0.each;
+  },
+  tables_ruled tables (at + blocks_size t.parts.blocks) each.1 fits.1,
+)
 
 pub is_directory : (tables : List DrainTable) (log_end place : ℕ) → AreDistinct (map (λ (t : DrainTable). t.name) tables) → AllByRecursion (λ (t : DrainTable). IsParts t.parts) tables
-    → place ≡ 16 + tables_size tables → IsDirectory place (planned_directory tables log_end)
-is_directory tables log_end place distinct each is = record {
+    → MayBeWritten (planned_directory tables log_end) → place ≡ 16 + tables_size tables → place < 2 ^ 64 → IsDirectory place (planned_directory tables log_end)
+is_directory tables log_end place distinct each fits is low = record {
+  low = low;
+  log_end = fits.log_end;
+  few = fits.few;
   distinct = subst AreDistinct (sym (names_kept tables 16)) distinct;
-  each = tables_ruled tables 16 each;
+  each = tables_ruled tables 16 each fits.each;
   joined = subst (λ (n : ℕ). Joined 16 (flat_map table_columns (tables_from 16 tables)) n) (sym is) (tables_joined tables 16);
 }
 

@@ -1,11 +1,11 @@
 // All the memory that a drain takes, before a column is moved.
-ghost use Rattle.std.specs.Prelude.{◌≡◌, ◌+◌, ◌<◌, ◌≤◌, ◌^◌, [], Some, length, IfOk};
+ghost use Rattle.std.specs.Prelude.{◌≡◌, ◌+◌, ◌<◌, ◌≤◌, ◌^◌, [], length, IfOk};
 ghost use Rattle.std.specs.List.{AllByRecursion};
 ghost use Rattle.std.specs.VecDeque.{deque_capacity, deque_len};
 ghost use Rattle.region_layout.specs.Names.{IsName};
 ghost use Rattle.table_state.specs.Tables.{IsParts};
 ghost use Rattle.region_directory.specs.declared.drained.DrainTable.{DrainTable};
-ghost use Rattle.region_directory.specs.Directory.{directory_at};
+ghost use Rattle.region_directory.specs.Written.{directory_bytes};
 ghost use Rattle.drain_copy.specs.Planned.{HasRoom, planned_directory, tables_count, tables_size};
 
 use crate::places::directory_of;
@@ -36,7 +36,7 @@ impl Plan {
         requires parts { AllByRecursion (λ (t : DrainTable). IsParts t.parts) tables.now }
         requires log_end { log_end < 2 ^ 63 }
         requires room { HasRoom tables.now sizes }
-        ensures read { IfOk result (λ plan. directory_at plan.directory.items ≡ Some (planned_directory tables.now log_end)) }
+        ensures bytes { IfOk result (λ plan. plan.directory.items ≡ directory_bytes (planned_directory tables.now log_end)) }
         ensures place { IfOk result (λ plan. plan.place ≡ 16 + tables_size tables.now) }
         ensures fits { IfOk result (λ plan. plan.place + length plan.directory.items < 2 ^ 63) }
         ensures empty { IfOk result (λ plan. plan.columns.items ≡ []) }

@@ -75,7 +75,7 @@ joined_from from to (p ∷ rest) e =
     let h = held (ltb (from + p.length) (2 ^ 64)) (Some (from + p.length)) a.0 g.1 in
     (eqb-true p.place from g.0, subst (λ (n : ℕ). Joined n rest to) (sym (some_is (from + p.length) a.0 h.1)) (joined_from a.0 to rest a.2))
 
-joined_up : (from to : ℕ) (places : List Place) → Joined from places to → from ≤ to
+pub joined_up : (from to : ℕ) (places : List Place) → Joined from places to → from ≤ to
 joined_up from to [] joined = omega (arith, joined)
 joined_up from to (p ∷ rest) joined = omega (arith, joined_up (from + p.length) to rest joined.1)
 

@@ -33,7 +33,7 @@ unfolding place_bytes
 place_made bytes name place size first second third =
     let last_two = Takes-then name.1 (u64_bytes place.0) place.1 (u64_bytes size.0) size.1 second.0 third.0 in
     let all = Takes-then bytes (name_bytes name.0) name.1 (u64_bytes place.0 ++ u64_bytes size.0) size.1 first.0 last_two in
-    (all, record { name = record { text = first.2; short = first.1 }; place = second.1; length = third.1 })
+    (all, record { name = (first.2, first.1); place = second.1; length = third.1 })
 
 pub place_takes : (bytes : List ℕ) (x : Place × List ℕ) → IsBytes bytes → place_at bytes ≡ Some x → Takes bytes (place_bytes x.0) x.1 × PlaceFits x.0
 unfolding place_at
@@ -52,7 +52,7 @@ unfolding place_at place_bytes
 place_again p rest fits =
     let sized = u64_bytes p.length ++ rest in
     let regrouped : place_bytes p ++ rest ≡ name_bytes p.name ++ (u64_bytes p.place ++ sized) = append_assoc (name_bytes p.name) (u64_bytes p.place ++ u64_bytes p.length) rest in
-    ap place_at regrouped ∙ rw (name_again p.name (u64_bytes p.place ++ sized) fits.name.text, number_again w64 (2 ^ 64) wide64 p.place sized fits.place, number_again w64 (2 ^ 64) wide64 p.length rest fits.length) refl
+    ap place_at regrouped ∙ rw (name_again p.name (u64_bytes p.place ++ sized) fits.name.0, number_again w64 (2 ^ 64) wide64 p.place sized fits.place, number_again w64 (2 ^ 64) wide64 p.length rest fits.length) refl
 
 -- ---- blocks
 
@@ -143,7 +143,7 @@ table_made bytes name horizon writes skip count blocks first second third fourth
     let four = Takes-then horizon.1 (u64_bytes writes.0) writes.1 (u32_bytes skip.0 ++ (u32_bytes (length blocks.0) ++ blocked)) blocks.1 third.0 three in
     let five = Takes-then name.1 (i64_bytes horizon.0) horizon.1 (u64_bytes writes.0 ++ (u32_bytes skip.0 ++ (u32_bytes (length blocks.0) ++ blocked))) blocks.1 second.0 four in
     let all = Takes-then bytes (name_bytes name.0) name.1 (i64_bytes horizon.0 ++ (u64_bytes writes.0 ++ (u32_bytes skip.0 ++ (u32_bytes (length blocks.0) ++ blocked)))) blocks.1 first.0 five in
-    (all, record { name = record { text = first.2; short = first.1 }; horizon = second.1; writes = third.1; skip = fourth.1; count = omega (arith, fifth.1, sixth.1); each = sixth.2 })
+    (all, record { name = (first.2, first.1); horizon = second.1; writes = third.1; skip = fourth.1; count = omega (arith, fifth.1, sixth.1); each = sixth.2 })
 
 pub table_takes : (bytes : List ℕ) (x : TablePlaces × List ℕ) → IsBytes bytes → table_at bytes ≡ Some x → Takes bytes (table_bytes x.0) x.1 × TableFits x.0
 unfolding table_at
@@ -174,7 +174,7 @@ table_again t rest fits =
     append_assoc (name_bytes t.name) (i64_bytes t.horizon ++ (u64_bytes t.writes ++ (u32_bytes t.skip ++ (u32_bytes (length t.blocks) ++ flat_map block_bytes t.blocks)))) rest in
     ap table_at regrouped
     ∙ rw (
-      name_again t.name (i64_bytes t.horizon ++ written) fits.name.text,
+      name_again t.name (i64_bytes t.horizon ++ written) fits.name.0,
       time_again t.horizon written fits.horizon,
       low_again t.writes skipped fits.writes,
       number_again w32 (2 ^ 32) wide32 t.skip counted fits.skip,
@@ -187,10 +187,14 @@ table_again t rest fits =
 abbrev pub made_directory : ℕ → List TablePlaces → Directory
 made_directory log_end tables = record { log_end = log_end; tables = tables }
 
--- what was read has room
-pub directory_fits : (bytes : List ℕ) (d : Directory) → IsBytes bytes → directory_at bytes ≡ Some d → MayBeWritten d
-unfolding directory_at
-directory_fits bytes d fits e =
+nothing_left : (rest : List ℕ) → length rest ≡ 0 → rest ≡ []
+nothing_left [] none = refl
+nothing_left (b ∷ rest) none = absurd (omega (arith, none))
+
+-- what was read is what was written, and has room
+pub directory_takes : (bytes : List ℕ) (d : Directory) → IsBytes bytes → directory_at bytes ≡ Some d → (bytes ≡ directory_bytes d) × MayBeWritten d
+unfolding directory_at directory_bytes
+directory_takes bytes d fits e =
     let a = bind_some (below_2_63_at bytes) (λ log_end. byte_at log_end.1 >>= λ count. cond (ltb 16 count.0) None (many_at table_at count.0 count.1 >>= λ tables. cond (eqb (length tables.1) 0) (Some (made_directory log_end.0 tables.0)) None)) d e in
     let b = bind_some (byte_at a.0.1) (λ count. cond (ltb 16 count.0) None (many_at table_at count.0 count.1 >>= λ tables. cond (eqb (length tables.1) 0) (Some (made_directory a.0.0 tables.0)) None)) d a.2 in
     let g = passed (ltb 16 b.0.0) (many_at table_at b.0.0 b.0.1 >>= λ tables. cond (eqb (length tables.1) 0) (Some (made_directory a.0.0 tables.0)) None) d b.2 in
@@ -199,7 +203,14 @@ directory_fits bytes d fits e =
     let first = low_takes bytes a.0 fits a.1 in
     let second = byte_takes a.0.1 b.0 first.0.rest_fits b.1 in
     let third = items_take table_at table_bytes TableFits table_takes b.0.0 b.0.1 c.0 second.0.rest_fits c.1 in
-    subst MayBeWritten (some_is (made_directory a.0.0 c.0.0) d h.1) (record { log_end = first.1; few = omega (arith, third.1, ltb-false 16 b.0.0 g.0); each = third.2 })
+    let tables = flat_map table_bytes c.0.0 in
+    let behind = Takes-then a.0.1 (b.0.0 ∷ []) b.0.1 tables c.0.1 second.0 third.0 in
+    let all = Takes-then bytes (u64_bytes a.0.0) a.0.1 (b.0.0 ∷ tables) c.0.1 first.0 behind in
+    let none : c.0.1 ≡ [] = nothing_left c.0.1 (eqb-true (length c.0.1) 0 h.0) in
+    let whole : bytes ≡ u64_bytes a.0.0 ++ (b.0.0 ∷ tables) = all.parts ∙ ap (λ (l : List ℕ). (u64_bytes a.0.0 ++ (b.0.0 ∷ tables)) ++ l) none ∙ append-nil (u64_bytes a.0.0 ++ (b.0.0 ∷ tables)) in
+    let counted = ap (λ (k : ℕ). u64_bytes a.0.0 ++ (k ∷ tables)) (sym third.1) in
+    subst (λ (x : Directory). (bytes ≡ directory_bytes x) × MayBeWritten x) (some_is (made_directory a.0.0 c.0.0) d h.1)
+    (whole ∙ counted, record { log_end = first.1; few = omega (arith, third.1, ltb-false 16 b.0.0 g.0); each = third.2 })
 
 -- what was written is read again
 pub directory_again : (d : Directory) → MayBeWritten d → directory_at (directory_bytes d) ≡ Some d

@@ -1,5 +1,5 @@
 -- Images of the same bytes are one, and their tables have distinct names.
-use Rattle.std.proofs.Common.{◌≡◌, ℕ, List, [], ◌∷◌, map, refl, sym, ap, subst, ◌∙◌}
+use Rattle.std.proofs.Common.{◌≡◌, ℕ, List, [], ◌∷◌, map, drop, refl, sym, ap, subst, ◌∙◌}
 use Rattle.leaf_model.specs.Names.{AreDistinct}
 use Rattle.row_records.proofs.Fields.{some_is}
 use Rattle.region_layout.specs.Images.{TableImage}
@@ -7,14 +7,21 @@ use Rattle.region_layout.specs.Region.{IsClosed}
 use Rattle.region_layout.proofs.Heads.{closed_head}
 use Rattle.region_directory.specs.declared.directory.TablePlaces.{TablePlaces}
 use Rattle.region_directory.specs.declared.directory.Directory.{Directory}
-use Rattle.region_directory.specs.Region.{IsImage, IsAdoptable, image_of_parts, parts_in}
+use Rattle.region_directory.specs.Region.{HasDirectory, IsImage, IsAdoptable, directory_from, image_of_parts, parts_in}
+use Rattle.region_directory.proofs.Found.{kept_again}
 
 -- a table of a directory, by its columns in the region
 abbrev pub table_in : List ℕ → TablePlaces → TableImage
 table_in region t = image_of_parts t.name (parts_in region t)
 
+-- a region has one directory
+pub same_directory : (region : List ℕ) (v w : ℕ) (d e : Directory) → HasDirectory v region d → HasDirectory w region e → d ≡ e
+same_directory region v w d e has also =
+    let place = directory_from region in
+    some_is d e (sym (kept_again (drop place region) place d has.bytes has.itself) ∙ kept_again (drop place region) place e also.bytes also.itself)
+
 one_directory : (region : List ℕ) (s t : List TableImage) (d e : ℕ) (a : IsAdoptable region s d) (b : IsAdoptable region t e) → a.is.directory ≡ b.is.directory
-one_directory region s t d e a b = some_is a.is.directory b.is.directory (sym a.is.has.read ∙ b.is.has.read)
+one_directory region s t d e a b = same_directory region a.version b.version a.is.directory b.is.directory a.is.has b.is.has
 
 pub one_tables : (region : List ℕ) (s t : List TableImage) (d e : ℕ) → IsAdoptable region s d → IsAdoptable region t e → s ≡ t
 one_tables region s t d e a b = a.is.tables_are ∙ ap (λ (dir : Directory). map (table_in region) dir.tables) (one_directory region s t d e a b) ∙ sym b.is.tables_are

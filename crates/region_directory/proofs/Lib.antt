@@ -5,5 +5,6 @@ pub mod Putting
 pub mod Following
 pub mod Ending
 pub mod Tested
+pub mod Kept
 pub mod Found
 pub mod Images

@@ -12,7 +12,7 @@ use Rattle.region_directory.specs.declared.directory.Place.{Place}
 use Rattle.region_directory.specs.declared.directory.BlockPlaces.{BlockPlaces}
 use Rattle.region_directory.specs.declared.directory.TablePlaces.{TablePlaces}
 use Rattle.region_directory.specs.declared.directory.Directory.{Directory}
-use Rattle.region_directory.specs.Directory.{AreColumns, IsSkipOf, IsTablePlaces, IsDirectory, columns_of}
+use Rattle.region_directory.specs.Directory.{AreColumns, IsBlockPlaces, IsSkipOf, IsTablePlaces, IsDirectory, columns_of}
 use Rattle.region_directory.specs.Written.{PlaceFits, BlockFits, TableFits, MayBeWritten}
 use Rattle.region_directory.specs.Tests.{has_cell_name, do_not_fall, are_columns, has_columns, table_names, is_skip_of, is_table_places, end_by, end_of_table, ends_at, is_directory}
 use Rattle.region_directory.proofs.Following.{order_from, order_again}
@@ -59,7 +59,7 @@ cell_name : (p : Place) → PlaceFits p → has_cell_name p ≡ true → IsCellN
 cell_name p fits e =
     let first = and_parts (nat_lt 0 (length p.name)) (nat_le (length p.name) 255 && not (bytes_eq p.name time_name)) e in
     let second = and_parts (nat_le (length p.name) 255) (not (bytes_eq p.name time_name)) first.1 in
-    record { text = fits.name.text; some = ltb-true _ _ first.0; short = fits.name.short; other = not_same p.name time_name second.1 }
+    record { text = fits.name.0; some = ltb-true _ _ first.0; short = fits.name.1; other = not_same p.name time_name second.1 }
 
 cell_again : (p : Place) → IsCellName p.name → has_cell_name p ≡ true
 cell_again p is =
@@ -68,8 +68,8 @@ cell_again p is =
 
 -- ---- columns
 
-columns_from : (b : BlockPlaces) → BlockFits b → has_columns b ≡ true → AreColumns b.columns
-columns_from b fits e = by b.columns fits.each e
+block_from : (b : BlockPlaces) → BlockFits b → has_columns b ≡ true → IsBlockPlaces b
+block_from b fits e = record { some = fits.some; few = fits.few; count = fits.count; columns = by b.columns fits.each e }
   where
     by : (columns : List Place) → AllByRecursion PlaceFits columns → are_columns columns ≡ true → AreColumns columns
     by [] each f = absurd cc
@@ -78,8 +78,8 @@ columns_from b fits e = by b.columns fits.each e
         let second = and_parts (list_all has_cell_name others) (do_not_fall [] others) first.1 in
         (same_name times.name time_name first.0, each_from has_cell_name PlaceFits (λ (p : Place). IsCellName p.name) cell_name others each.1 second.0, order_from others second.1)
 
-columns_again : (b : BlockPlaces) → AreColumns b.columns → has_columns b ≡ true
-columns_again b are = by b.columns are
+block_again : (b : BlockPlaces) → IsBlockPlaces b → has_columns b ≡ true
+block_again b is = by b.columns is.columns
   where
     by : (columns : List Place) → AreColumns columns → are_columns columns ≡ true
     by [] h = absurd h
@@ -100,11 +100,18 @@ skip_again skip (b ∷ blocks) is = lt-ltb skip b.rows is
 table_from : (t : TablePlaces) → TableFits t → is_table_places t ≡ true → IsTablePlaces t
 table_from t fits e =
     let both = and_parts (is_skip_of t.skip t.blocks) (list_all has_columns t.blocks) e in
-    record { skip = skip_from t.skip t.blocks both.0; columns = each_from has_columns BlockFits (λ (b : BlockPlaces). AreColumns b.columns) columns_from t.blocks fits.each both.1 }
+    record {
+      name = fits.name;
+      horizon = fits.horizon;
+      writes = fits.writes;
+      skip = skip_from t.skip t.blocks both.0;
+      count = fits.count;
+      blocks = each_from has_columns BlockFits IsBlockPlaces block_from t.blocks fits.each both.1;
+    }
 
 table_again : (t : TablePlaces) → IsTablePlaces t → is_table_places t ≡ true
 table_again t is =
-    both_again (is_skip_of t.skip t.blocks) (list_all has_columns t.blocks) (skip_again t.skip t.blocks is.skip) (each_again has_columns (λ (b : BlockPlaces). AreColumns b.columns) columns_again t.blocks is.columns)
+    both_again (is_skip_of t.skip t.blocks) (list_all has_columns t.blocks) (skip_again t.skip t.blocks is.skip) (each_again has_columns IsBlockPlaces block_again t.blocks is.blocks)
 
 -- ---- a directory
 
@@ -115,18 +122,21 @@ ends_from place (Some n) e = ap (λ (k : ℕ). Some k) (eqb-true n place e)
 ends_again : (place : ℕ) (end_place : Option ℕ) → end_place ≡ Some place → ends_at place end_place ≡ true
 ends_again place end_place e = ap (ends_at place) e ∙ eq-eqb place place refl
 
-pub rules_from : (place : ℕ) (d : Directory) → MayBeWritten d → is_directory place d ≡ true → IsDirectory place d
-rules_from place d fits e =
+pub rules_from : (place : ℕ) (d : Directory) → place < 2 ^ 64 → MayBeWritten d → is_directory place d ≡ true → IsDirectory place d
+rules_from place d low fits e =
     let first = and_parts (are_distinct (table_names d.tables)) (list_all is_table_places d.tables && ends_at place (end_by end_of_table 16 d.tables)) e in
     let second = and_parts (list_all is_table_places d.tables) (ends_at place (end_by end_of_table 16 d.tables)) first.1 in
     record {
+      low = low;
+      log_end = fits.log_end;
+      few = fits.few;
       distinct = distinct_names (table_names d.tables) first.0;
       each = each_from is_table_places TableFits IsTablePlaces table_from d.tables fits.each second.0;
       joined = joined_from 16 place (columns_of d) (sym (tables_end 16 d.tables) ∙ ends_from place (end_by end_of_table 16 d.tables) second.1);
     }
 
-pub rules_again : (place : ℕ) (d : Directory) → place < 2 ^ 64 → IsDirectory place d → is_directory place d ≡ true
-rules_again place d low is =
+pub rules_again : (place : ℕ) (d : Directory) → IsDirectory place d → is_directory place d ≡ true
+rules_again place d is =
     both_again (are_distinct (table_names d.tables)) (list_all is_table_places d.tables && ends_at place (end_by end_of_table 16 d.tables)) (are_distinct-from (table_names d.tables) is.distinct)
     (both_again (list_all is_table_places d.tables) (ends_at place (end_by end_of_table 16 d.tables)) (each_again is_table_places IsTablePlaces table_again d.tables is.each)
-    (ends_again place (end_by end_of_table 16 d.tables) (tables_end 16 d.tables ∙ joined_again 16 place (columns_of d) is.joined low)))
+    (ends_again place (end_by end_of_table 16 d.tables) (tables_end 16 d.tables ∙ joined_again 16 place (columns_of d) is.joined is.low)))

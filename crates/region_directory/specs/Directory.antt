@@ -1,18 +1,21 @@
--- A directory, field by field from the left.
+-- The directory of a region: how it is read, field by field from the left, and the rules that it keeps.
 use Rattle.std.specs.Prelude.{◌≡◌, ℕ, ◌+◌, ◌<◌, ◌≤◌, ◌^◌, List, [], ◌∷◌, ◌++◌, map, Bool, ◌||◌, ◌==◌, nat_lt, if◌then◌else◌, Option, Some, None}
 use Rattle.std.specs.Prelude as prelude
 use Rattle.std.specs.List.{AllByRecursion, flat_map}
 use Rattle.std.specs.List.Sorted.{IsSortedByKey}
 use Rattle.std.specs.Int.{w32, w64}
-use Rattle.leaf_model.specs.Values.{IsCellName, time_name}
+use Rattle.leaf_model.specs.Values.{IsCellName, IsTime, time_name}
 use Rattle.leaf_model.specs.Groups.{text_cmp}
 use Rattle.row_records.specs.Reading.{◌>>=◌, byte_at, many_at, number_at, name_at, time_at}
+use Rattle.region_layout.specs.Names.{IsName}
 use Rattle.region_layout.specs.Reading.{below_2_63_at}
 use Rattle.leaf_model.specs.Names.{AreDistinct}
 use Rattle.region_directory.specs.declared.directory.Place.{Place}
 use Rattle.region_directory.specs.declared.directory.BlockPlaces.{BlockPlaces}
 use Rattle.region_directory.specs.declared.directory.TablePlaces.{TablePlaces}
 use Rattle.region_directory.specs.declared.directory.Directory.{Directory}
+
+-- ---- how it is read
 
 -- a column's name, place and length
 unfoldable pub place_at : List ℕ → Option (Place × List ℕ)
@@ -56,15 +59,26 @@ abbrev pub AreColumns : List Place → Type 0
 AreColumns [] = ⊥
 AreColumns (times ∷ others) = (times.name ≡ time_name) × AllByRecursion (λ (p : Place). IsCellName p.name) others × IsSortedByKey (λ (p : Place). p.name) text_cmp others
 
--- fewer rows are cut away than the first block has
+-- 1 to 65,536 rows, and fewer than 2^32 columns
+pub record IsBlockPlaces (b : BlockPlaces) : Type 0 where
+  pub some : 0 < b.rows
+  pub few : b.rows ≤ 65536
+  pub count : prelude.length b.columns < 2 ^ 32
+  pub columns : AreColumns b.columns
+
+-- fewer rows are cut away than the first block has, and none where there is no block
 abbrev pub IsSkipOf : ℕ → List BlockPlaces → Type 0
 IsSkipOf skip [] = skip ≡ 0
 IsSkipOf skip (b ∷ blocks) = skip < b.rows
 
--- a table's blocks are columns, and its cut is one of its first block
+-- a name of a table, numbers that fit, a cut of the first block's rows, and fewer than 2^32 blocks
 pub record IsTablePlaces (t : TablePlaces) : Type 0 where
+  pub name : IsName t.name
+  pub horizon : IsTime t.horizon
+  pub writes : t.writes < 2 ^ 63
   pub skip : IsSkipOf t.skip t.blocks
-  pub columns : AllByRecursion (λ (b : BlockPlaces). AreColumns b.columns) t.blocks
+  pub count : prelude.length t.blocks < 2 ^ 32
+  pub blocks : AllByRecursion IsBlockPlaces t.blocks
 
 -- each column stands where the one before ends
 abbrev pub Joined : ℕ → List Place → ℕ → Type 0
@@ -75,8 +89,11 @@ Joined from (p ∷ rest) to = (p.place ≡ from) × Joined (from + p.length) res
 abbrev pub columns_of : Directory → List Place
 columns_of d = flat_map (λ (t : TablePlaces). flat_map (λ (b : BlockPlaces). b.columns) t.blocks) d.tables
 
--- the directory stands at a place
+-- The directory stands at a place below 2^64: the columns go from the head up to it. At most 16 tables of distinct names, and an end of the log below 2^63.
 pub record IsDirectory (place : ℕ) (d : Directory) : Type 0 where
+  pub low : place < 2 ^ 64
+  pub log_end : d.log_end < 2 ^ 63
+  pub few : prelude.length d.tables ≤ 16
   pub distinct : AreDistinct (map (λ (t : TablePlaces). t.name) d.tables)
   pub each : AllByRecursion IsTablePlaces d.tables
   pub joined : Joined 16 (columns_of d) place

@@ -1,5 +1,5 @@
 -- What a region means, by its fields.
-use Rattle.std.specs.Prelude.{◌≡◌, ℕ, ◌+◌, ◌==◌, Bool, true, List, [], map, take, drop, codes, slice_range, Some}
+use Rattle.std.specs.Prelude.{◌≡◌, ℕ, ◌+◌, ◌==◌, Bool, true, List, [], map, take, drop, codes, slice_range}
 use Rattle.std.specs.List.{AllByRecursion}
 use Rattle.std.specs.Int.{w64, from_le_bytes}
 use Rattle.column_bytes.specs.declared.kind.Kind.{Kind}
@@ -17,7 +17,8 @@ use Rattle.region_directory.specs.declared.directory.Directory.{Directory}
 use Rattle.row_blocks.specs.Blocks.{Block}
 use Rattle.row_blocks.specs.Held.{rows_held}
 use Rattle.table_state.specs.Tables.{IsParts}
-use Rattle.region_directory.specs.Directory.{directory_at, IsDirectory}
+use Rattle.region_directory.specs.Directory.{IsDirectory}
+use Rattle.region_directory.specs.Written.{directory_bytes}
 
 -- ---- versions: all that a newer layout changes
 
@@ -63,11 +64,11 @@ pub record IsTableIn (version : ℕ) (region : List ℕ) (t : TablePlaces) : Typ
 
 -- ---- an image of a version
 
--- an open head of a version, the letters, and behind the columns a directory that keeps its own rules
+-- an open head of a version, the letters, and behind the columns the bytes of a directory that keeps its own rules
 pub record HasDirectory (version : ℕ) (region : List ℕ) (d : Directory) : Type 0 where
   pub head : head_of region ≡ Version version
   pub letters : take 3 (drop 1 region) ≡ codes "SCB"
-  pub read : directory_at (drop (directory_from region) region) ≡ Some d
+  pub bytes : drop (directory_from region) region ≡ directory_bytes d
   pub itself : IsDirectory (directory_from region) d
 
 -- these tables and this end of the log

@@ -1,9 +1,10 @@
 -- A directory as bytes, and what its fields have room for.
-use Rattle.std.specs.Prelude.{ℕ, ◌<◌, ◌≤◌, ◌^◌, List, ◌∷◌, ◌++◌, IsUtf8}
+use Rattle.std.specs.Prelude.{ℕ, ◌<◌, ◌≤◌, ◌^◌, List, ◌∷◌, ◌++◌}
 use Rattle.std.specs.Prelude as prelude
 use Rattle.std.specs.List.{AllByRecursion, flat_map}
 use Rattle.leaf_model.specs.Values.{IsTime}
 use Rattle.row_records.specs.Bytes.{name_bytes, u32_bytes, u64_bytes, i64_bytes}
+use Rattle.region_layout.specs.Names.{IsName}
 use Rattle.region_directory.specs.declared.directory.Place.{Place}
 use Rattle.region_directory.specs.declared.directory.BlockPlaces.{BlockPlaces}
 use Rattle.region_directory.specs.declared.directory.TablePlaces.{TablePlaces}
@@ -29,13 +30,8 @@ directory_bytes d = u64_bytes d.log_end ++ (prelude.length d.tables ∷ flat_map
 
 -- ---- what the fields have room for
 
--- a name of at most 255 bytes of UTF-8
-pub record IsShort (name : List ℕ) : Type 0 where
-  pub text : IsUtf8 name
-  pub short : prelude.length name ≤ 255
-
 pub record PlaceFits (p : Place) : Type 0 where
-  pub name : IsShort p.name
+  pub name : IsName p.name
   pub place : p.place < 2 ^ 64
   pub length : p.length < 2 ^ 64
 
@@ -48,7 +44,7 @@ pub record BlockFits (b : BlockPlaces) : Type 0 where
   pub each : AllByRecursion PlaceFits b.columns
 
 pub record TableFits (t : TablePlaces) : Type 0 where
-  pub name : IsShort t.name
+  pub name : IsName t.name
   pub horizon : IsTime t.horizon
   pub writes : t.writes < 2 ^ 63
   pub skip : t.skip < 2 ^ 32

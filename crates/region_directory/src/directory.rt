@@ -152,8 +152,8 @@ pub struct Directory {
 impl Directory {
     /// The directory that the bytes are which stand at this place, or nothing where they are none.
     pub fn read(alloc: Global, bytes: &[u8], place: u64) -> Result<Option<Directory>, AllocError>
-        ensures found { IfOk result (λ found. IfSome found (λ d. (directory_at bytes.now ≡ Some d) × IsDirectory place d)) }
-        ensures only { (d : Directory) → directory_at bytes.now ≡ Some d → IsDirectory place d → IfOk result (λ found. found ≡ Some d) }
+        ensures found { IfOk result (λ found. IfSome found (λ d. (bytes.now ≡ directory_bytes d) × IsDirectory place d)) }
+        ensures only { (d : Directory) → bytes.now ≡ directory_bytes d → IsDirectory place d → IfOk result (λ found. found ≡ Some d) }
         // What is read has room in a directory.
         ensures fits { IfOk result (λ found. IfSome found (λ d. MayBeWritten d)) }
     {
