@@ -45,7 +45,7 @@ abbrev pub IsTooLong : List LogRecord → LogRecord → Type 0
 IsTooLong records r = (k : ℕ) × (2 ^ 40 < length (content (take k (writes_of r.name (records ++ r ∷ [])))).rows)
 
 -- an open gate with no record and gate behind it
-pub record IsCut (names : List (List ℕ)) (disk : List ℕ) : Type 0 where
+pub record IsDamagedLog (names : List (List ℕ)) (disk : List ℕ) : Type 0 where
   pub records : List LogRecord
   pub at : ℕ
   pub scanned : Scanned disk records at
@@ -55,6 +55,6 @@ pub record IsCut (names : List (List ℕ)) (disk : List ℕ) : Type 0 where
 -- why a log that reads as this disk was not read to its end
 abbrev pub IsRecoveryRefusal : List (List ℕ) → List ℕ → RecoveryFault → Type 0
 IsRecoveryRefusal names disk (Stranger name) = (records : List LogRecord) × (r : LogRecord) × ComesTo names disk records r × (r.name ≡ name) × (list_any (bytes_eq name) names ≡ false)
-IsRecoveryRefusal names disk DiskDamaged = IsCut names disk ⊎ ((records : List LogRecord) × (r : LogRecord) × ComesTo names disk records r × IsTooLong records r)
+IsRecoveryRefusal names disk DiskDamaged = IsDamagedLog names disk ⊎ ((records : List LogRecord) × (r : LogRecord) × ComesTo names disk records r × IsTooLong records r)
 IsRecoveryRefusal names disk DiskFault = ⊤
 IsRecoveryRefusal names disk NoMemory = ⊤

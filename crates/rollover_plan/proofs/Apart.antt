@@ -1,7 +1,7 @@
 -- The leaves of turns that follow one another stand apart.
 use Rattle.std.proofs.Common.{◌≡◌, ◌≢◌, ℕ, zero, suc, ◌+◌, ◌-◌, ◌*◌, ◌/◌, ◌<◌, ◌≤◌, min, List, [], ◌∷◌, map, take, drop, sym, ap, ◌∙◌, subst, arith}
 use Rattle.std.specs.List.{AllByRecursion, range_with_len}
-use Rattle.rollover_plan.specs.Plan.{IsCut, AreApart}
+use Rattle.rollover_plan.specs.Plan.{IsCutInWaves, AreOnOwnMachines}
 use Rattle.rollover_plan.proofs.Turns.{leaf_at, machine_of, leaf_below, turns_apart}
 
 module _ (f : ℕ → ℕ) where
@@ -34,7 +34,7 @@ module _ (m p : ℕ) (some : 0 < m) where
   pub leaves_known : AllByRecursion (λ leaf. leaf < m * p) (map (leaf_at m p) (range_with_len 0 (m * p)))
   leaves_known = all_turns (leaf_at m p) (λ leaf. leaf < m * p) 0 (m * p) (λ i l u. leaf_below m p i some (omega arith))
 
-  apart_turns : (a k : ℕ) → k ≤ m → a + k ≤ m * p → AreApart p (map (leaf_at m p) (range_with_len a k))
+  apart_turns : (a k : ℕ) → k ≤ m → a + k ≤ m * p → AreOnOwnMachines p (map (leaf_at m p) (range_with_len a k))
   apart_turns a zero short inside = tt
   apart_turns a (suc k) short inside = (
     all_turns (leaf_at m p) (λ other. other / p ≢ leaf_at m p a / p) (a + 1) k
@@ -43,10 +43,10 @@ module _ (m p : ℕ) (some : 0 < m) where
   )
 
   -- a wave has at most one leaf of a machine
-  pub cut_apart : (share : ℕ) → share ≤ m → (a k : ℕ) → a + k ≤ m * p → (waves : List (List ℕ)) → IsCut share (map (leaf_at m p) (range_with_len a k)) waves
-      → AllByRecursion (λ wave. AreApart p wave) waves
+  pub cut_apart : (share : ℕ) → share ≤ m → (a k : ℕ) → a + k ≤ m * p → (waves : List (List ℕ)) → IsCutInWaves share (map (leaf_at m p) (range_with_len a k)) waves
+      → AllByRecursion (λ wave. AreOnOwnMachines p wave) waves
   cut_apart share most a k inside [] cut = tt
   cut_apart share most a k inside (wave ∷ waves) cut = (
-    subst (AreApart p) (sym (cut.1 ∙ take_turns (leaf_at m p) share a k)) (apart_turns a (min share k) (omega arith) (omega arith)),
-    cut_apart share most (a + min share k) (k - share) (omega arith) waves (subst (λ ls. IsCut share ls waves) (drop_turns (leaf_at m p) share a k) cut.2),
+    subst (AreOnOwnMachines p) (sym (cut.1 ∙ take_turns (leaf_at m p) share a k)) (apart_turns a (min share k) (omega arith) (omega arith)),
+    cut_apart share most (a + min share k) (k - share) (omega arith) waves (subst (λ ls. IsCutInWaves share ls waves) (drop_turns (leaf_at m p) share a k) cut.2),
   )

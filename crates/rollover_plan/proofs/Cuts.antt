@@ -4,16 +4,16 @@ use Rattle.std.specs.List.{AllByRecursion, concat}
 use Rattle.std.proofs.lemmas.List.{take-append-drop, length-take, length-drop, take_min, drop_min, take_at, drop_at, append-nil, append_assoc, nil_from_length}
 use Rattle.std.proofs.lemmas.Bool.{cases_lt}
 use Rattle.std.proofs.Math.Nat.{suc-mul, zero-mul}
-use Rattle.rollover_plan.specs.Plan.{IsCut}
+use Rattle.rollover_plan.specs.Plan.{IsCutInWaves}
 
 -- joined, the waves are the leaves
-pub cut_joined : (share : ℕ) (leaves : List ℕ) (waves : List (List ℕ)) → IsCut share leaves waves → concat waves ≡ leaves
+pub cut_joined : (share : ℕ) (leaves : List ℕ) (waves : List (List ℕ)) → IsCutInWaves share leaves waves → concat waves ≡ leaves
 cut_joined share leaves [] cut = sym cut
 cut_joined share leaves (wave ∷ waves) cut =
     ap (λ w. w ++ concat waves) cut.1 ∙ ap (λ rest. take share leaves ++ rest) (cut_joined share (drop share leaves) waves cut.2) ∙ take-append-drop share leaves
 
 -- no wave has more than the share
-pub cut_few : (share : ℕ) (leaves : List ℕ) (waves : List (List ℕ)) → IsCut share leaves waves → AllByRecursion (λ wave. length wave ≤ share) waves
+pub cut_few : (share : ℕ) (leaves : List ℕ) (waves : List (List ℕ)) → IsCutInWaves share leaves waves → AllByRecursion (λ wave. length wave ≤ share) waves
 cut_few share leaves [] cut = tt
 cut_few share leaves (wave ∷ waves) cut =
     (omega (arith, ap length cut.1, length-take share leaves), cut_few share (drop share leaves) waves cut.2)
@@ -29,18 +29,18 @@ all_rest P zero xs all = all
 all_rest P (suc n) [] all = tt
 all_rest P (suc n) (x ∷ xs) all = all_rest P n xs all.1
 
-pub cut_all : (P : ℕ → Type 0) (share : ℕ) (leaves : List ℕ) (waves : List (List ℕ)) → IsCut share leaves waves → AllByRecursion P leaves → AllByRecursion (λ wave. AllByRecursion P wave) waves
+pub cut_all : (P : ℕ → Type 0) (share : ℕ) (leaves : List ℕ) (waves : List (List ℕ)) → IsCutInWaves share leaves waves → AllByRecursion P leaves → AllByRecursion (λ wave. AllByRecursion P wave) waves
 cut_all P share leaves [] cut all = tt
 cut_all P share leaves (wave ∷ waves) cut all =
     (subst (AllByRecursion P) (sym cut.1) (all_first P share leaves all), cut_all P share (drop share leaves) waves cut.2 (all_rest P share leaves all))
 
 -- where no leaf is left, no wave is
-none_left : (share : ℕ) (leaves : List ℕ) (waves : List (List ℕ)) → length leaves ≡ 0 → IsCut share leaves waves → waves ≡ []
+none_left : (share : ℕ) (leaves : List ℕ) (waves : List (List ℕ)) → length leaves ≡ 0 → IsCutInWaves share leaves waves → waves ≡ []
 none_left share leaves [] none cut = refl
 none_left share leaves (wave ∷ waves) none cut = absurd (omega (arith, cut.0))
 
 -- all waves but the last are full
-pub cut_full : (share : ℕ) (leaves : List ℕ) (waves : List (List ℕ)) → IsCut share leaves waves → 0 < share → length waves * share < length leaves + share
+pub cut_full : (share : ℕ) (leaves : List ℕ) (waves : List (List ℕ)) → IsCutInWaves share leaves waves → 0 < share → length waves * share < length leaves + share
 cut_full share leaves [] cut some = omega arith
 cut_full share leaves (wave ∷ waves) cut some =
     let left : length (drop share leaves) ≡ length leaves - share = length-drop share leaves in
@@ -57,7 +57,7 @@ cut_full share leaves (wave ∷ waves) cut some =
     ]
 
 -- and there are no more waves than leaves
-pub cut_count : (share : ℕ) (leaves : List ℕ) (waves : List (List ℕ)) → IsCut share leaves waves → 0 < share → length waves ≤ length leaves
+pub cut_count : (share : ℕ) (leaves : List ℕ) (waves : List (List ℕ)) → IsCutInWaves share leaves waves → 0 < share → length waves ≤ length leaves
 cut_count share leaves [] cut some = omega arith
 cut_count share leaves (wave ∷ waves) cut some =
     let left : length (drop share leaves) ≡ length leaves - share = length-drop share leaves in
@@ -73,10 +73,10 @@ cut_more share wave rest left is many = (
 
 -- the waves so far, and those that what is left is cut into
 pub record IsCutting (share : ℕ) (leaves left : List ℕ) (waves : List (List ℕ)) : Type 0 where
-  pub rest : (further : List (List ℕ)) → IsCut share left further → IsCut share leaves (waves ++ further)
+  pub rest : (further : List (List ℕ)) → IsCutInWaves share left further → IsCutInWaves share leaves (waves ++ further)
 
 pub cutting_begins : (share : ℕ) (leaves left : List ℕ) → left ≡ leaves → IsCutting share leaves left []
-cutting_begins share leaves left same = record { rest = λ further cut. subst (λ ls. IsCut share ls further) same cut }
+cutting_begins share leaves left same = record { rest = λ further cut. subst (λ ls. IsCutInWaves share ls further) same cut }
 
 pub cutting_goes_on : (share : ℕ) (leaves left : List ℕ) (waves : List (List ℕ)) (wave rest : List ℕ) → IsCutting share leaves left waves
     → left ≡ wave ++ rest → length wave ≡ min share (length left) → 0 < length left → IsCutting share leaves rest (waves ++ wave ∷ [])
@@ -84,25 +84,25 @@ cutting_goes_on share leaves left waves wave rest cutting is many some =
     let next = cut_more share wave rest left is many in
     record {
       rest = λ further cut.
-          subst (IsCut share leaves) (sym (append_assoc waves (wave ∷ []) further))
-          (cutting.rest (wave ∷ further) (some, next.0, subst (λ ls. IsCut share ls further) next.1 cut));
+          subst (IsCutInWaves share leaves) (sym (append_assoc waves (wave ∷ []) further))
+          (cutting.rest (wave ∷ further) (some, next.0, subst (λ ls. IsCutInWaves share ls further) next.1 cut));
     }
 
-pub cutting_ends : (share : ℕ) (leaves left : List ℕ) (waves : List (List ℕ)) → IsCutting share leaves left waves → length left ≡ 0 → IsCut share leaves waves
+pub cutting_ends : (share : ℕ) (leaves left : List ℕ) (waves : List (List ℕ)) → IsCutting share leaves left waves → length left ≡ 0 → IsCutInWaves share leaves waves
 cutting_ends share leaves left waves cutting none =
-    subst (IsCut share leaves) (append-nil waves) (cutting.rest [] (nil_from_length left none))
+    subst (IsCutInWaves share leaves) (append-nil waves) (cutting.rest [] (nil_from_length left none))
 
 -- one more behind a list
 pub one_pushed : (new old front : List ℕ) (y : ℕ) {x : ℕ} → new ≡ old ++ x ∷ [] → old ≡ front → x ≡ y → new ≡ front ++ y ∷ []
 one_pushed new old front y {x = x} pushed is same = pushed ∙ ap (λ xs. xs ++ x ∷ []) is ∙ ap (λ z. front ++ z ∷ []) same
 
 -- the same cut, said of what is the same
-pub cut_same : (n m : ℕ) (leaves all : List ℕ) (cut waves : List (List ℕ)) → IsCut n leaves cut → n ≡ m → leaves ≡ all → waves ≡ cut → IsCut m all waves
+pub cut_same : (n m : ℕ) (leaves all : List ℕ) (cut waves : List (List ℕ)) → IsCutInWaves n leaves cut → n ≡ m → leaves ≡ all → waves ≡ cut → IsCutInWaves m all waves
 cut_same n m leaves all cut waves is same_share same_leaves same_waves =
-    subst (λ k. IsCut k all waves) same_share (subst (λ ls. IsCut n ls waves) same_leaves (subst (IsCut n leaves) (sym same_waves) is))
+    subst (λ k. IsCutInWaves k all waves) same_share (subst (λ ls. IsCutInWaves n ls waves) same_leaves (subst (IsCutInWaves n leaves) (sym same_waves) is))
 
 -- there is one cut
-pub one_cut : (share : ℕ) (leaves : List ℕ) (waves others : List (List ℕ)) → IsCut share leaves waves → IsCut share leaves others → waves ≡ others
+pub one_cut : (share : ℕ) (leaves : List ℕ) (waves others : List (List ℕ)) → IsCutInWaves share leaves waves → IsCutInWaves share leaves others → waves ≡ others
 one_cut share leaves [] others cut other = sym (none_left share leaves others (ap length cut) other)
 one_cut share leaves (wave ∷ waves) [] cut other = none_left share leaves (wave ∷ waves) (ap length other) cut
 one_cut share leaves (wave ∷ waves) (w ∷ ws) cut other =

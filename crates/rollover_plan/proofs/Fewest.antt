@@ -4,7 +4,7 @@ use Rattle.std.specs.List.{AllByRecursion, concat}
 use Rattle.std.proofs.lemmas.Bool.{cases_eq}
 use Rattle.std.proofs.lemmas.List.{length-append}
 use Rattle.std.proofs.Math.Nat.{suc-mul, lt_of_mul-lt-mul_right}
-use Rattle.rollover_plan.specs.Plan.{IsCut, IsFewest, times, one_if_same}
+use Rattle.rollover_plan.specs.Plan.{IsCutInWaves, IsFewest, times, one_if_same}
 use Rattle.rollover_plan.proofs.Once.{one_here, none_here}
 use Rattle.rollover_plan.proofs.Cuts.{cut_full}
 
@@ -61,7 +61,7 @@ joined_within share (wave ∷ waves) few =
     let both : length (wave ++ concat waves) ≡ length wave + length (concat waves) = length-append wave (concat waves) in
     omega arith
 
-pub cut_fewest : (n share : ℕ) (leaves : List ℕ) (waves : List (List ℕ)) → length leaves ≡ n → 0 < share → IsCut share leaves waves → IsFewest n share waves
+pub cut_fewest : (n share : ℕ) (leaves : List ℕ) (waves : List (List ℕ)) → length leaves ≡ n → 0 < share → IsCutInWaves share leaves waves → IsFewest n share waves
 cut_fewest n share leaves waves count some cut others all few =
     let held : n ≤ total n (concat others) = total_all n (concat others) all in
     let within : total n (concat others) ≤ length (concat others) = total_within n (concat others) in

@@ -2,14 +2,14 @@
 use Rattle.std.proofs.Common.{◌≡◌, ℕ, ◌*◌, ◌<◌, ◌≤◌, List, length, map, ap, ◌∙◌, subst, arith}
 use Rattle.std.specs.List.{range_with_len}
 use Rattle.std.proofs.lemmas.List.FromFn.{length-map-range_with_len}
-use Rattle.rollover_plan.specs.Plan.{share, by_place, times, IsCut, IsPlan, IsFewest}
+use Rattle.rollover_plan.specs.Plan.{share, by_place, times, IsCutInWaves, IsPlan, IsFewest}
 use Rattle.rollover_plan.proofs.Turns.{leaf_at, by_turns}
 use Rattle.rollover_plan.proofs.Cuts.{cut_joined, cut_few, cut_all, cut_count}
 use Rattle.rollover_plan.proofs.Apart.{leaves_known, cut_apart}
 use Rattle.rollover_plan.proofs.Once.{leaf_once}
 use Rattle.rollover_plan.proofs.Fewest.{cut_fewest}
 
-module _ (m p percent : ℕ) (machines : 0 < m) (places : 0 < p) (waves : List (List ℕ)) (cut : IsCut (share m p percent) (by_place m p) waves) where
+module _ (m p percent : ℕ) (machines : 0 < m) (places : 0 < p) (waves : List (List ℕ)) (cut : IsCutInWaves (share m p percent) (by_place m p) waves) where
   at_least_one : 0 < share m p percent
   at_least_one = omega arith
 
@@ -19,8 +19,8 @@ module _ (m p percent : ℕ) (machines : 0 < m) (places : 0 < p) (waves : List (
   whole : length (by_place m p) ≡ m * p
   whole = ap length (by_turns m p machines) ∙ length-map-range_with_len (leaf_at m p) 0 (m * p)
 
-  cut_turns : IsCut (share m p percent) (map (leaf_at m p) (range_with_len 0 (m * p))) waves
-  cut_turns = subst (λ leaves. IsCut (share m p percent) leaves waves) (by_turns m p machines) cut
+  cut_turns : IsCutInWaves (share m p percent) (map (leaf_at m p) (range_with_len 0 (m * p))) waves
+  cut_turns = subst (λ leaves. IsCutInWaves (share m p percent) leaves waves) (by_turns m p machines) cut
 
   pub planned : IsPlan m p percent waves
   planned = record {

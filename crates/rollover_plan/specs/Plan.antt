@@ -16,9 +16,9 @@ abbrev pub by_place : ℕ → ℕ → List ℕ
 by_place machines per_machine = flat_map (at_place machines per_machine) (range_with_len 0 per_machine)
 
 -- each wave takes the first leaves of those that are left, as many as its share, until none is left
-abbrev pub IsCut : ℕ → List ℕ → List (List ℕ) → Type 0
-IsCut share leaves [] = leaves ≡ []
-IsCut share leaves (wave ∷ waves) = (0 < length leaves) × (wave ≡ take share leaves) × IsCut share (drop share leaves) waves
+abbrev pub IsCutInWaves : ℕ → List ℕ → List (List ℕ) → Type 0
+IsCutInWaves share leaves [] = leaves ≡ []
+IsCutInWaves share leaves (wave ∷ waves) = (0 < length leaves) × (wave ≡ take share leaves) × IsCutInWaves share (drop share leaves) waves
 
 -- one where two numbers are the same, and none otherwise
 abbrev pub one_if_same : ℕ → ℕ → ℕ
@@ -30,18 +30,18 @@ times leaf [] = 0
 times leaf (other ∷ others) = one_if_same other leaf + times leaf others
 
 -- no two of these leaves stand on one machine
-abbrev pub AreApart : ℕ → List ℕ → Type 0
-AreApart per_machine [] = ⊤
-AreApart per_machine (leaf ∷ leaves) = AllByRecursion (λ other. other / per_machine ≢ leaf / per_machine) leaves × AreApart per_machine leaves
+abbrev pub AreOnOwnMachines : ℕ → List ℕ → Type 0
+AreOnOwnMachines per_machine [] = ⊤
+AreOnOwnMachines per_machine (leaf ∷ leaves) = AllByRecursion (λ other. other / per_machine ≢ leaf / per_machine) leaves × AreOnOwnMachines per_machine leaves
 
 -- The waves of a rollover: its leaves in order, cut by the share. So each leaf stands in just one wave, no other number in any, no wave has more
 -- than the share, and none has two leaves of one machine.
 pub record IsPlan (machines per_machine percent : ℕ) (waves : List (List ℕ)) : Type 0 where
-  pub cut : IsCut (share machines per_machine percent) (by_place machines per_machine) waves
+  pub cut : IsCutInWaves (share machines per_machine percent) (by_place machines per_machine) waves
   pub once : (leaf : ℕ) → leaf < machines * per_machine → times leaf (concat waves) ≡ 1
   pub known : AllByRecursion (λ wave. AllByRecursion (λ leaf. leaf < machines * per_machine) wave) waves
   pub few : AllByRecursion (λ wave. length wave ≤ share machines per_machine percent) waves
-  pub apart : AllByRecursion (λ wave. AreApart per_machine wave) waves
+  pub apart : AllByRecursion (λ wave. AreOnOwnMachines per_machine wave) waves
 
 -- no waves in which every leaf stands, with at most as many in each, are fewer
 abbrev pub IsFewest : ℕ → ℕ → List (List ℕ) → Type 0

@@ -1,6 +1,6 @@
 // The waves of a rollover.
 ghost use Rattle.std.specs.Prelude.{◌≡◌, ◌+◌, ◌*◌, ◌/◌, ◌%◌, ◌<◌, ◌≤◌, length, IfOk};
-ghost use Rattle.rollover_plan.specs.Plan.{share, by_place, IsCut, IsPlan, IsFewest};
+ghost use Rattle.rollover_plan.specs.Plan.{share, by_place, IsCutInWaves, IsPlan, IsFewest};
 
 use crate::wave::{Wave, Waves};
 use std::alloc::{AllocError, Global};
@@ -42,7 +42,7 @@ fn by_place(alloc: Global, machines: u32, per_machine: u32) -> Result<Vec<u32>, 
 #[tactic(auto, using(crate::proofs::Cuts::cutting_begins, crate::proofs::Cuts::cutting_goes_on, crate::proofs::Cuts::cutting_ends))]
 fn cut(alloc: Global, leaves: &[u32], share: u32) -> Result<Vec<Wave>, AllocError>
     requires { 0 < share }
-    ensures { IfOk result (λ waves. IsCut share leaves.now waves.items) }
+    ensures { IfOk result (λ waves. IsCutInWaves share leaves.now waves.items) }
 {
     let mut waves = Vec::new(alloc);
     for run in leaves.chunks(share as usize) {
