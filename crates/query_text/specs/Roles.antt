@@ -1,7 +1,6 @@
 -- What a token may stand for: a keyword, a name, an aggregate's kind, a table, a comparison, a constant.
 use Rattle.std.specs.Prelude.{ℕ, Bool, true, false, ◌||◌, List, [], ◌∷◌, length, map, ℤ, pos, Option, Some, None, option_map, if◌then◌else◌, nat_lt, nat_le, codes, bytes_eq}
 use Rattle.std.specs.List.{list_any}
-use Rattle.leaf_model.specs.declared.rows.Value.{Value}
 use Rattle.leaf_model.specs.declared.rows.Value.TheVariants as value
 use Rattle.leaf_model.specs.declared.queries.Op.{Op}
 use Rattle.leaf_model.specs.declared.queries.Agg.{Agg}

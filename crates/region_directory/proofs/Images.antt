@@ -1,13 +1,12 @@
 -- Images of the same bytes are one, and their tables have distinct names.
-use Rattle.std.proofs.Common.{◌≡◌, ℕ, List, [], ◌∷◌, map, drop, refl, sym, ap, subst, ◌∙◌}
-use Rattle.leaf_model.specs.Names.{AreDistinct}
+use Rattle.std.proofs.Common.{◌≡◌, ℕ, List, map, drop, sym, ap, ◌∙◌}
 use Rattle.row_records.proofs.Fields.{some_is}
 use Rattle.region_layout.specs.Images.{TableImage}
 use Rattle.region_layout.specs.Region.{IsClosed}
 use Rattle.region_layout.proofs.Heads.{closed_head}
 use Rattle.region_directory.specs.declared.directory.TablePlaces.{TablePlaces}
 use Rattle.region_directory.specs.declared.directory.Directory.{Directory}
-use Rattle.region_directory.specs.Region.{HasDirectory, IsImage, IsAdoptable, directory_from, image_of_parts, parts_in}
+use Rattle.region_directory.specs.Region.{HasDirectory, IsAdoptable, directory_from, image_of_parts, parts_in}
 use Rattle.region_directory.proofs.Found.{kept_again}
 
 -- a table of a directory, by its columns in the region
@@ -31,12 +30,3 @@ one_log_end region s t d e a b = a.is.log_end_is ∙ ap (λ (dir : Directory). d
 
 pub not_closed : (region : List ℕ) (s : List TableImage) (d : ℕ) → IsClosed region → IsAdoptable region s d → ⊥
 not_closed region s d closed a = closed_head region closed a.version a.is.has.head
-
-names_stay : (region : List ℕ) (tables : List TablePlaces) → map (λ (t : TableImage). t.name) (map (table_in region) tables) ≡ map (λ (t : TablePlaces). t.name) tables
-names_stay region [] = refl
-names_stay region (t ∷ tables) = ap (λ (names : List (List ℕ)). t.name ∷ names) (names_stay region tables)
-
-pub image_distinct : (version : ℕ) (region : List ℕ) (images : List TableImage) (log_end : ℕ) → IsImage version region images log_end → AreDistinct (map (λ (t : TableImage). t.name) images)
-image_distinct version region images log_end is =
-    let same = ap (λ (l : List TableImage). map (λ (t : TableImage). t.name) l) is.tables_are ∙ names_stay region is.directory.tables in
-    subst (λ (names : List (List ℕ)). AreDistinct names) (sym same) is.has.itself.distinct

@@ -15,7 +15,7 @@ use Rattle.leaf_model.specs.declared.rows.Cell.{Cell}
 use Rattle.row_json.specs.Row.{is_time, is_bad_name, is_missing, text_of, value_of, named_cell, cell_of, and_then, cells_of}
 use Rattle.row_json.specs.Meaning.{HoldsValue, IsOther}
 use Rattle.row_json.specs.declared.object.RowFault.{RowFault}
-use Rattle.row_json.specs.declared.object.RowFault.TheVariants.{Json, NotObject, NoTime, TooMany, Name, NoMemory}
+use Rattle.row_json.specs.declared.object.RowFault.TheVariants.{Name}
 use Rattle.row_json.specs.declared.object.RowFault.TheVariants as fault
 use Rattle.row_json.proofs.Rows.{before, with_cell, before_none}
 use Rattle.row_json.proofs.Order.{Below}
