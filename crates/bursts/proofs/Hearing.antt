@@ -1,5 +1,5 @@
 -- What the watches hear of commands one after another, and which lane has the rollover.
-use Rattle.std.proofs.Common.{◌≡◌, ◌⊎◌, inl, inr, ℕ, zero, suc, ◌+◌, ◌≤◌, ◌||◌, Bool, true, false, cond, List, [], ◌∷◌, ◌++◌, length, refl, sym, ap, subst, ◌∙◌, arith}
+use Rattle.std.proofs.Common.{◌≡◌, ◌⊎◌, inl, inr, ℕ, ◌+◌, ◌≤◌, ◌||◌, Bool, true, false, cond, List, [], ◌∷◌, ◌++◌, length, refl, ap, subst, ◌∙◌, arith}
 use Rattle.std.specs.List.{filter}
 use Rattle.berth_face.specs.Berth.{Meaning}
 use Rattle.script_text.specs.declared.command.Command.{Command}
@@ -10,18 +10,18 @@ use Rattle.rollover_watch.specs.Watches.{Held}
 use Rattle.printed_lines.specs.declared.line.Line.{Line}
 use Rattle.transcript.specs.Pieces.{Fleet, Piece, Played, commands_in}
 use Rattle.transcript.specs.Holds.{Hold}
-use Rattle.transcript.specs.Watching.{Hears, Watched}
+use Rattle.transcript.specs.Watching.{Hears, HearsAll}
 use Rattle.bursts.specs.Played.{LanePlayed}
 use Rattle.bursts.specs.Rolling.{has_rollover, is_rollover, one_if, rolling}
 use Rattle.bursts.proofs.Needed.{or_left, or_right}
 
 -- ---- what is heard
 
-pub watched_join : (fleet : Fleet) (a b : List Played) (old mid new : List Held) → Watched fleet a old mid → Watched fleet b mid new → Watched fleet (a ++ b) old new
-watched_join fleet [] b old mid new heard more = subst (λ (ws : List Held). Watched fleet b ws new) heard more
+pub watched_join : (fleet : Fleet) (a b : List Played) (old mid new : List Held) → HearsAll fleet a old mid → HearsAll fleet b mid new → HearsAll fleet (a ++ b) old new
+watched_join fleet [] b old mid new heard more = subst (λ (ws : List Held). HearsAll fleet b ws new) heard more
 watched_join fleet (p ∷ ps) b old mid new heard more = (heard.0, heard.1, watched_join fleet ps b heard.0 mid new heard.2 more)
 
-pub watched_one : (fleet : Fleet) (p : Played) (old new : List Held) → Hears fleet p old new → Watched fleet (p ∷ []) old new
+pub watched_one : (fleet : Fleet) (p : Played) (old new : List Held) → Hears fleet p old new → HearsAll fleet (p ∷ []) old new
 watched_one fleet p old new heard = (new, heard, refl)
 
 or_false : (a b : Bool) → (a || b) ≡ false → (a ≡ false) × (b ≡ false)
@@ -41,7 +41,7 @@ quiet_one fleet (command.Kill leaf) pieces ws never = refl
 quiet_one fleet (command.Start leaf) pieces ws never = refl
 quiet_one fleet (command.Rollover percent) pieces ws never = absurd cc
 
-quiet : (fleet : Fleet) (ps : List Played) (ws : List Held) → has_rollover (commands_in ps) ≡ false → Watched fleet ps ws ws
+quiet : (fleet : Fleet) (ps : List Played) (ws : List Held) → has_rollover (commands_in ps) ≡ false → HearsAll fleet ps ws ws
 quiet fleet [] ws never = refl
 quiet fleet (p ∷ ps) ws never =
     let both = or_false (is_rollover p.command) (has_rollover (commands_in ps)) never in

@@ -6,7 +6,7 @@ use Rattle.berth_face.specs.Berth.{Meaning}
 use Rattle.berth_face.proofs.Moments.{passes_none, passes_on}
 use Rattle.printed_lines.specs.declared.line.Ending.{Ending}
 use Rattle.transcript.specs.Pieces.{Deed, Piece, Called, Worn, Acted, Says}
-use Rattle.transcript.specs.Counts.{Counted, IsCounted, deeds_in, disk_faults_in, disk_reads_in, is_disk_fault, is_region_fault, reads_disk, region_faults_in}
+use Rattle.transcript.specs.Counts.{Counted, CountsRose, deeds_in, disk_faults_in, disk_reads_in, is_disk_fault, is_region_fault, reads_disk, region_faults_in}
 use Rattle.transcript.specs.Holds.{AllMeet, Hold, caller_in}
 use Rattle.transcript.specs.Stage.{Leaf}
 use Rattle.player.specs.Crew.{AllCounted, AllPass, CountedIf, HasLeaf, HasSeats, PassesIf, StillHas}
@@ -105,7 +105,7 @@ counted_faults a b c m n k e g h = omega (arith, e, g, h)
 counted_reads : (a b c m n k : ℕ) → k ≡ m + n → (m ≡ 0 → b ≡ a) → (n ≡ 0 → c ≡ b) → k ≡ 0 → c ≡ a
 counted_reads a b c m n k e g h none = h (omega (arith, e, none)) ∙ g (omega (arith, e, none))
 
-counted_on : (leaf : ℕ) (xs ys : List Piece) (a b c : Meaning) → IsCounted leaf xs a b → IsCounted leaf ys b c → IsCounted leaf (xs ++ ys) a c
+counted_on : (leaf : ℕ) (xs ys : List Piece) (a b c : Meaning) → CountsRose leaf xs a b → CountsRose leaf ys b c → CountsRose leaf (xs ++ ys) a c
 counted_on leaf xs ys a b c g h = record {
   region = counted_faults a.region_faults b.region_faults c.region_faults (region_faults_in leaf xs) (region_faults_in leaf ys) (region_faults_in leaf (xs ++ ys))
       (deeds_append (λ deed ending. is_region_fault ending) leaf xs ys) g.region h.region;
@@ -116,7 +116,7 @@ counted_on leaf xs ys a b c g h = record {
 }
 
 -- pieces that tell no deed of a leaf count nothing
-no_deeds : (leaf : ℕ) (xs : List Piece) (m : Meaning) → ((test : Deed → Ending → Bool) → deeds_in test leaf xs ≡ 0) → IsCounted leaf xs m m
+no_deeds : (leaf : ℕ) (xs : List Piece) (m : Meaning) → ((test : Deed → Ending → Bool) → deeds_in test leaf xs ≡ 0) → CountsRose leaf xs m m
 no_deeds leaf xs m none = record {
   region = let zero_is : region_faults_in leaf xs ≡ 0 = none (λ deed ending. is_region_fault ending) in omega (arith, zero_is);
   disk = let zero_is : disk_faults_in leaf xs ≡ 0 = none (λ deed ending. is_disk_fault ending) in omega (arith, zero_is);

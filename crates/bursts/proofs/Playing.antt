@@ -15,7 +15,7 @@ use Rattle.transcript.specs.Holds.{Hold}
 use Rattle.transcript.specs.Lanes.{PlaysOn}
 use Rattle.player.specs.Crew.{AllCounted, PlaysWith}
 use Rattle.bursts.specs.Played.{CommandPlayed, LanePlayed, TurnsPlayed, all_of}
-use Rattle.transcript.specs.Watching.{Watched}
+use Rattle.transcript.specs.Watching.{HearsAll}
 use Rattle.bursts.proofs.Held.{all_counted_on, counted_none}
 use Rattle.bursts.proofs.Hearing.{watched_join, watched_one}
 
@@ -115,7 +115,7 @@ module _ {B : Type 0} (meaning : B → Meaning) (fleet : Fleet) where
     counted = subst (λ ps. AllCounted meaning ps xs zs) (sym (pieces_all_snoc a.played b.played))
         (all_counted_on meaning xs ys zs (pieces_in (all_of a.played)) (pieces_in b.played) a.counted b.counted);
     fit = subst (AllByRecursion (IsOf fleet.names)) (sym is) (all_append (IsOf fleet.names) lines (Lane number ∷ own) a.fit (tt, b.fit));
-    heard = subst (λ ps. Watched fleet ps us ws) (sym (all_snoc a.played b.played)) (watched_join fleet (all_of a.played) b.played us vs ws a.heard b.heard);
+    heard = subst (λ ps. HearsAll fleet ps us ws) (sym (all_snoc a.played b.played)) (watched_join fleet (all_of a.played) b.played us vs ws a.heard b.heard);
     lines_are = is ∙ (ap₂ (λ (ls ms : List Line). ls ++ Lane number ∷ ms) a.lines_are b.lines_are
         ∙ sym (lane_snoc 0 a.played b.played number (same_count a.played done number a.lanes_are count)));
   }

@@ -22,7 +22,7 @@ use Rattle.bursts.specs.declared.work.LaneWork.{LaneWork}
 use Rattle.bursts.specs.Lent.{IsWorked, Lent, TakenBack, TakingBack}
 use Rattle.bursts.specs.Played.{FansPlayed, IsBehind, LanePlayed, all_of}
 use Rattle.bursts.specs.Rolling.{Between, has_rollover, one_if, rolling}
-use Rattle.transcript.specs.Watching.{Watched}
+use Rattle.transcript.specs.Watching.{HearsAll}
 use Rattle.bursts.proofs.Hearing.{one_if_false, one_if_true, quiet_lane, rolling_append, watched_join}
 use Rattle.bursts.proofs.Held.{counted_first, counted_none, counted_second, pass_none, still_same, there_too}
 use Rattle.bursts.proofs.Cutting.{rest_same}
@@ -205,7 +205,7 @@ module _ {B : Type 0} (meaning : B → Meaning) (fleet : Fleet) where
     counted = subst (λ ps. AllCounted meaning ps xs zs) (sym (pieces_all_snoc a.played b.played))
         (counts_back meaning needs acts xs off rest off' rest' zs cut takes (pieces_in (all_of a.played)) (pieces_in b.played) b.counted a.counted);
     fit = subst (AllByRecursion (IsOf fleet.names)) (sym is) (all_append (IsOf fleet.names) lines (Lane number ∷ own) a.fit (tt, b.fit));
-    heard = subst (λ ps. Watched fleet ps us ws) (sym (all_snoc a.played b.played)) (watched_join fleet (all_of a.played) b.played us vs ws a.heard b.heard);
+    heard = subst (λ ps. HearsAll fleet ps us ws) (sym (all_snoc a.played b.played)) (watched_join fleet (all_of a.played) b.played us vs ws a.heard b.heard);
     lines_are = is ∙ (ap₂ (λ (ls ms : List Line). ls ++ Lane number ∷ ms) a.lines_are b.lines_are
         ∙ sym (lane_snoc 0 a.played b.played number (same_count a.played back number a.lanes_are count)));
   }

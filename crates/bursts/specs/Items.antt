@@ -10,7 +10,7 @@ use Rattle.transcript.specs.Pieces.{Fleet, PlayedItem, all_pieces, item_lines, i
 use Rattle.transcript.specs.Holds.{Hold}
 use Rattle.transcript.specs.Lanes.{PlaysItem}
 use Rattle.transcript.specs.Steps.{MayPlay}
-use Rattle.transcript.specs.Watching.{Watched}
+use Rattle.transcript.specs.Watching.{HearsAll}
 use Rattle.player.specs.Crew.{AllCounted}
 
 -- an item that such a fleet may play
@@ -24,5 +24,5 @@ pub record ItemPlayed {B : Type 0} (meaning : B → Meaning) (fleet : Fleet) (it
   pub item_is : item_of played ≡ item
   pub plays : PlaysItem meaning fleet xs played ys
   pub counted : AllCounted meaning (all_pieces (played ∷ [])) xs ys
-  pub heard : Watched fleet (plays_of played) before after
+  pub heard : HearsAll fleet (plays_of played) before after
   pub lines_are : lines ≡ item_lines played

@@ -13,7 +13,7 @@ use Rattle.transcript.specs.Pieces.{Fleet, Piece, Played, commands_in, lane_line
 use Rattle.transcript.specs.Holds.{Hold, AllMeet}
 use Rattle.transcript.specs.Steps.{Plays}
 use Rattle.transcript.specs.Lanes.{Fans, PlaysOn}
-use Rattle.transcript.specs.Watching.{Hears, Watched}
+use Rattle.transcript.specs.Watching.{Hears, HearsAll}
 use Rattle.player.specs.Crew.{AllCounted, HasFor}
 
 -- a command of a lane, for which all that it needs is held
@@ -36,7 +36,7 @@ pub record LanePlayed {B : Type 0} (meaning : B → Meaning) (fleet : Fleet) (co
   pub plays : PlaysOn meaning fleet xs played ys
   pub counted : AllCounted meaning (pieces_in played) xs ys
   pub fit : AllByRecursion (IsOf fleet.names) lines
-  pub heard : Watched fleet played before after
+  pub heard : HearsAll fleet played before after
   pub lines_are : lines ≡ lines_in (pieces_in played)
 
 -- the commands of all lanes, lane by lane
@@ -50,7 +50,7 @@ pub record TurnsPlayed {B : Type 0} (meaning : B → Meaning) (fleet : Fleet) (l
   pub plays : PlaysOn meaning fleet xs (all_of played) ys
   pub counted : AllCounted meaning (pieces_in (all_of played)) xs ys
   pub fit : AllByRecursion (IsOf fleet.names) lines
-  pub heard : Watched fleet (all_of played) before after
+  pub heard : HearsAll fleet (all_of played) before after
   pub lines_are : lines ≡ lane_lines 0 played
 
 -- what lanes did beside one another
@@ -60,7 +60,7 @@ pub record FansPlayed {B : Type 0} (meaning : B → Meaning) (fleet : Fleet) (la
   pub fans : Fans meaning fleet xs played ys
   pub counted : AllCounted meaning (pieces_in (all_of played)) xs ys
   pub fit : AllByRecursion (IsOf fleet.names) lines
-  pub heard : Watched fleet (all_of played) before after
+  pub heard : HearsAll fleet (all_of played) before after
   pub lines_are : lines ≡ lane_lines 0 played
 
 -- the same, once all seats had met

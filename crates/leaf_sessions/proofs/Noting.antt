@@ -37,11 +37,11 @@ pub record NotesAt (place : ℕ) (notes : List Note) (v w : SeatView) : Type 0 w
 -- whatever a note tells of is one entry, which its line shows
 one_made : (base : Option TableBase) (clock : ℕ) (v w : SeatView) (what : What) → MadeAs base clock v what w
     → (c : Call) × (r : Reply) × Made base clock v c r w × Shows None (said_of_note what) (entry_seen v.id clock c r)
-one_made base clock v w (what.Opened n) m = (call.Open n m.0, reply.Noted, m.1, (m.0, refl))
-one_made base clock v w (what.Took n) m = (call.Take, reply.Counted n, m, (refl, refl))
-one_made base clock v w (what.Flushed n) m = (call.Flushed n, reply.Noted, m, refl)
-one_made base clock v w (what.Closed n) m = (call.Shut, reply.Counted n, m, (refl, refl))
-one_made base clock v w what.Handed m = (call.Done, reply.Noted, m, refl)
+one_made base clock v w (what.Opened n) m = (call.Open n m.0, reply.Noted, m.1, (refl, (m.0, refl)))
+one_made base clock v w (what.Took n) m = (call.Take, reply.Counted n, m, (refl, refl, refl))
+one_made base clock v w (what.Flushed n) m = (call.Flushed n, reply.Noted, m, (refl, refl))
+one_made base clock v w (what.Closed n) m = (call.Shut, reply.Counted n, m, (refl, refl, refl))
+one_made base clock v w what.Handed m = (call.Done, reply.Noted, m, (refl, refl))
 
 made_ids : (base : Option TableBase) (clock : ℕ) (v w : SeatView) (what : What) → MadeAs base clock v what w → SameIds v w
 made_ids base clock v w what made = let one = one_made base clock v w what made in same_made base clock v w one.0 one.1 one.2

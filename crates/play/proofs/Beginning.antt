@@ -16,7 +16,7 @@ use Rattle.leaf_steward.specs.Seated.{AreAlike, AreFounded, AtEach, Seated}
 use Rattle.leaf_machine.specs.States.{MayBegin}
 use Rattle.rollover_watch.specs.Watches.{Held}
 use Rattle.transcript.specs.Pieces.{Fleet, leaf_count}
-use Rattle.transcript.specs.Counts.{IsCounted}
+use Rattle.transcript.specs.Counts.{CountsRose}
 use Rattle.transcript.specs.Holds.{Hold}
 use Rattle.transcript.specs.Stage.{IsDown, Leaf, Stands, seated_of}
 use Rattle.transcript.specs.Transcript.{Known}
@@ -201,7 +201,7 @@ module _ {B : Type 0} (base : ℕ → Option NamedStates) (meaning : B → Meani
     items_are = refl;
     text = appends_nothing was;
     heard = refl;
-    counted = λ leaf old x l b at now held. subst (λ (c : B). IsCounted leaf [] (meaning c) (meaning b)) (same_berth leaf old x l b at now held) (counted_nothing leaf (meaning b));
+    counted = λ leaf old x l b at now held. subst (λ (c : B). CountsRose leaf [] (meaning c) (meaning b)) (same_berth leaf old x l b at now held) (counted_nothing leaf (meaning b));
     keeps = record {
       as_many = sym (ap (λ (bs : List B). length bs) had ∙ (sym (as_many_holds names rows stewards callers 0 taken) ∙ ap (λ (ys : List (Hold B)). length ys) (sym made)));
       each = λ leaf old x l b at now held. subst (λ (c : B). KeepsCounts (meaning c) (meaning b)) (same_berth leaf old x l b at now held) (keeps_same (meaning b));

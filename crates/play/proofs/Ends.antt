@@ -17,13 +17,13 @@ use Rattle.script_text.specs.Fits.{AreItems, AreTables, IsItem, IsTableName}
 use Rattle.printed_lines.specs.declared.line.Line.{Line}
 use Rattle.printed_lines.specs.Lines.{lines_text}
 use Rattle.transcript.specs.Pieces.{Fleet, PlayedItem, all_lines, all_pieces, fleet_of, item_of, leaf_count, plays_in}
-use Rattle.transcript.specs.Counts.{IsCounted}
+use Rattle.transcript.specs.Counts.{CountsRose}
 use Rattle.transcript.specs.Strangers.{IsNamedBy, Strangers}
 use Rattle.transcript.specs.Transcript.{Known, Transcript, first_life}
 use Rattle.transcript.specs.Holds.{Hold}
 use Rattle.transcript.specs.Leaving.{AtBerth, IsToldRun, IsWritten, LeavesBerth}
 use Rattle.transcript.specs.Stage.{Leaf}
-use Rattle.transcript.specs.Watching.{Watched}
+use Rattle.transcript.specs.Watching.{HearsAll}
 use Rattle.sessions.specs.Laws.{IsToldFleet}
 use Rattle.player.specs.Crew.{berth_in}
 use Rattle.bursts.specs.Items.{MayPlayItem}
@@ -184,14 +184,14 @@ module _ {B : Type 0} (meaning : B → Meaning) (front rest own : List B) (xs : 
     record ToldBy (lines : List Line) (fleet : Fleet) (items : List Item) : Type 0 where
       transcript : Transcript fleet known items (lines_text fleet.names lines)
       lines_are : all_lines transcript.played ≡ lines
-      heard : Watched fleet (plays_in transcript.played) watching watched
-      counts : (leaf : ℕ) → leaf < (leaf_count fleet) → AtBerth meaning olds news leaf (IsCounted leaf (all_pieces transcript.played))
+      heard : HearsAll fleet (plays_in transcript.played) watching watched
+      counts : (leaf : ℕ) → leaf < (leaf_count fleet) → AtBerth meaning olds news leaf (CountsRose leaf (all_pieces transcript.played))
       strangers : (leaf : ℕ) (k : Known) → leaf < (leaf_count fleet) → known leaf ≡ Some k → Strangers (IsNamedBy fleet.names k.held) leaf (all_pieces transcript.played)
       leaves : (leaf : ℕ) (k : Known) → leaf < (leaf_count fleet) → known leaf ≡ Some k →
           AtBerth meaning olds news leaf (LeavesBerth fleet.names k.base (transcript.lives leaf) (transcript.histories leaf))
       others : drop (leaf_count fleet) news ≡ drop (leaf_count fleet) olds
 
-    fleet_told : (fleet : Fleet) (played : List PlayedItem) → leaf_count fleet ≡ length front → AreCounted meaning front xs (all_pieces played) → Watched fleet (plays_in played) watching watched → IsToldFleet meaning fleet known played front xs
+    fleet_told : (fleet : Fleet) (played : List PlayedItem) → leaf_count fleet ≡ length front → AreCounted meaning front xs (all_pieces played) → HearsAll fleet (plays_in played) watching watched → IsToldFleet meaning fleet known played front xs
         → ToldBy (all_lines played) fleet (map item_of played)
     fleet_told fleet played size counted heard told =
         let t : Transcript fleet known (map item_of played) (lines_text fleet.names (all_lines played)) = told.transcript in
@@ -199,9 +199,9 @@ module _ {B : Type 0} (meaning : B → Meaning) (front rest own : List B) (xs : 
         record {
           transcript = t;
           lines_are = ap all_lines same;
-          heard = subst (λ (ps : List PlayedItem). Watched fleet (plays_in ps) watching watched) (sym same) heard;
-          counts = λ leaf below. at_berth (IsCounted leaf (all_pieces t.played)) leaf (omega (arith, below, size))
-              (λ old x l new at now held. subst (λ (ps : List PlayedItem). IsCounted leaf (all_pieces ps) (meaning old) (meaning new)) (sym same) (counted leaf old x l new at now held));
+          heard = subst (λ (ps : List PlayedItem). HearsAll fleet (plays_in ps) watching watched) (sym same) heard;
+          counts = λ leaf below. at_berth (CountsRose leaf (all_pieces t.played)) leaf (omega (arith, below, size))
+              (λ old x l new at now held. subst (λ (ps : List PlayedItem). CountsRose leaf (all_pieces ps) (meaning old) (meaning new)) (sym same) (counted leaf old x l new at now held));
           strangers = λ leaf k below is. subst (λ (ps : List PlayedItem). Strangers (IsNamedBy fleet.names k.held) leaf (all_pieces ps)) (sym same) (told.strangers leaf k below is);
           leaves = λ leaf k below is. at_berth (LeavesBerth fleet.names k.base (t.lives leaf) (t.histories leaf)) leaf (omega (arith, below, size))
               (λ old x l new at now held. told.leaves leaf k old new x is at now (berth_held x l new held));

@@ -18,11 +18,11 @@ use Rattle.printed_lines.specs.declared.line.Ending.{Ending}
 use Rattle.printed_lines.specs.declared.line.Line.{Line}
 use Rattle.printed_lines.specs.Lines.{line_text, lines_text}
 use Rattle.transcript.specs.Pieces.{Deed, Fleet, Piece, Called, Worn, Acted, Says, Played, PlayedItem, all_lines, all_pieces, item_lines, item_of, leaf_count, pieces_in, plays_in, plays_of}
-use Rattle.transcript.specs.Counts.{Counted, IsCounted, deeds_in, disk_faults_in, disk_reads_in, is_disk_fault, is_region_fault, reads_disk, region_faults_in}
+use Rattle.transcript.specs.Counts.{Counted, CountsRose, deeds_in, disk_faults_in, disk_reads_in, is_disk_fault, is_region_fault, reads_disk, region_faults_in}
 use Rattle.transcript.specs.Stage.{Leaf}
 use Rattle.transcript.specs.Holds.{HasMet, Hold}
 use Rattle.transcript.specs.Steps.{MayPlay}
-use Rattle.transcript.specs.Watching.{Watched}
+use Rattle.transcript.specs.Watching.{HearsAll}
 use Rattle.player.specs.Crew.{AllPass, CountedIf, PassesIf}
 use Rattle.bursts.specs.Items.{ItemPlayed, MayPlayItem}
 use Rattle.sessions.specs.Laws as sessions
@@ -68,7 +68,7 @@ counted_faults a b c m n k e g h = omega (arith, e, g, h)
 counted_reads : (a b c m n k : ℕ) → k ≡ m + n → (m ≡ 0 → b ≡ a) → (n ≡ 0 → c ≡ b) → k ≡ 0 → c ≡ a
 counted_reads a b c m n k e g h none = h (omega (arith, e, none)) ∙ g (omega (arith, e, none))
 
-pub counted_on : (leaf : ℕ) (xs ys : List Piece) (a b c : Meaning) → IsCounted leaf xs a b → IsCounted leaf ys b c → IsCounted leaf (xs ++ ys) a c
+pub counted_on : (leaf : ℕ) (xs ys : List Piece) (a b c : Meaning) → CountsRose leaf xs a b → CountsRose leaf ys b c → CountsRose leaf (xs ++ ys) a c
 counted_on leaf xs ys a b c g h = record {
   region = counted_faults a.region_faults b.region_faults c.region_faults (region_faults_in leaf xs) (region_faults_in leaf ys) (region_faults_in leaf (xs ++ ys))
       (deeds_append (λ deed ending. is_region_fault ending) leaf xs ys) g.region h.region;
@@ -78,7 +78,7 @@ counted_on leaf xs ys a b c g h = record {
       (deeds_append reads_disk leaf xs ys) g.reads h.reads;
 }
 
-pub counted_nothing : (leaf : ℕ) (m : Meaning) → IsCounted leaf [] m m
+pub counted_nothing : (leaf : ℕ) (m : Meaning) → CountsRose leaf [] m m
 counted_nothing leaf m = record { region = omega arith; disk = omega arith; reads = λ none. refl }
 
 -- ---- berths
@@ -106,10 +106,10 @@ pass_before {B} meaning x y l new passes held = by x.held (subst (PassesIf meani
 
 -- and what these pieces tell of it is counted
 counted_before : {B : Type 0} (meaning : B → Meaning) (leaf : ℕ) (pieces : List Piece) (x y : Hold B) (l : Leaf) (new : B) → CountedIf meaning leaf pieces x.held y.held → y.held ≡ Some (l, new)
-    → (m : Leaf) × (old : B) × (x.held ≡ Some (m, old)) × IsCounted leaf pieces (meaning old) (meaning new)
+    → (m : Leaf) × (old : B) × (x.held ≡ Some (m, old)) × CountsRose leaf pieces (meaning old) (meaning new)
 counted_before {B} meaning leaf pieces x y l new counted held = by x.held (subst (CountedIf meaning leaf pieces x.held) held counted)
   where
-    by : (o : Option (Leaf × B)) → CountedIf meaning leaf pieces o (Some (l, new)) → (m : Leaf) × (old : B) × (o ≡ Some (m, old)) × IsCounted leaf pieces (meaning old) (meaning new)
+    by : (o : Option (Leaf × B)) → CountedIf meaning leaf pieces o (Some (l, new)) → (m : Leaf) × (old : B) × (o ≡ Some (m, old)) × CountsRose leaf pieces (meaning old) (meaning new)
     by None c = absurd c
     by (Some h) c = (h.0, h.1, refl, c)
 
@@ -136,8 +136,8 @@ plays_snoc : (ps : List PlayedItem) (p : PlayedItem) → plays_in (ps ++ p ∷ [
 plays_snoc ps p = flat_map-append plays_of ps (p ∷ []) ∙ ap (λ (qs : List Played). plays_in ps ++ qs) (append-nil (plays_of p))
 
 -- what watches heard of some commands, and then of others
-heard_on : (fleet : Fleet) (ps qs : List Played) (a b c : List Held) → Watched fleet ps a b → Watched fleet qs b c → Watched fleet (ps ++ qs) a c
-heard_on fleet [] qs a b c first next = subst (λ (watches : List Held). Watched fleet qs watches c) first next
+heard_on : (fleet : Fleet) (ps qs : List Played) (a b c : List Held) → HearsAll fleet ps a b → HearsAll fleet qs b c → HearsAll fleet (ps ++ qs) a c
+heard_on fleet [] qs a b c first next = subst (λ (watches : List Held). HearsAll fleet qs watches c) first next
 heard_on fleet (p ∷ ps) qs a b c first next = (first.0, first.1, heard_on fleet ps qs first.0 b c first.2 next)
 
 -- a command behind the fleet may be played
@@ -178,12 +178,12 @@ run_goes_on {B} base meaning fleet crew olds was written after watching between 
       played = run.played ++ p ∷ [];
       items_are = map-append item_of run.played (p ∷ []) ∙ ap₂ (λ (is js : List Item). is ++ js) run.items_are (ap (λ (i : Item). i ∷ []) step.item_is);
       text = subst (λ ls. Appends was after (lines_text fleet.names ls)) (sym (lines_snoc run.played p)) text;
-      heard = subst (λ (qs : List Played). Watched fleet qs watching watched) (sym (plays_snoc run.played p))
+      heard = subst (λ (qs : List Played). HearsAll fleet qs watching watched) (sym (plays_snoc run.played p))
           (heard_on fleet (plays_in run.played) (plays_of p) watching between watched run.heard step.heard);
       counted = λ leaf old y l new at now held.
           let had = held_before leaf y now in
           let before = counted_before meaning leaf (all_pieces (p ∷ [])) had.0 y l new (step.counted.each leaf had.0 y had.1 now) held in
-          subst (λ ps. IsCounted leaf ps (meaning old) (meaning new)) (sym (pieces_snoc run.played p))
+          subst (λ ps. CountsRose leaf ps (meaning old) (meaning new)) (sym (pieces_snoc run.played p))
           (counted_on leaf (all_pieces run.played) (all_pieces (p ∷ [])) (meaning old) (meaning before.1) (meaning new)
           (run.counted leaf old had.0 before.0 before.1 at had.1 before.2) before.3);
       keeps = holds_keep meaning olds xs ys run.keeps passes;

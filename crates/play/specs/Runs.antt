@@ -11,13 +11,13 @@ use Rattle.script_text.specs.declared.item.Item.{Item}
 use Rattle.script_text.specs.Fits.{AreLeaves}
 use Rattle.printed_lines.specs.Lines.{lines_text, name_at}
 use Rattle.transcript.specs.Pieces.{Fleet, Piece, PlayedItem, all_lines, all_pieces, fleet_of, item_lines, item_of, plays_in, plays_of}
-use Rattle.transcript.specs.Counts.{IsCounted}
+use Rattle.transcript.specs.Counts.{CountsRose}
 use Rattle.transcript.specs.Transcript.{Known}
 use Rattle.transcript.specs.Leaving.{AreKnown}
 use Rattle.transcript.specs.Stage.{Leaf}
 use Rattle.transcript.specs.Holds.{Hold}
 use Rattle.transcript.specs.Lanes.{PlaysItem}
-use Rattle.transcript.specs.Watching.{Watched}
+use Rattle.transcript.specs.Watching.{HearsAll}
 use Rattle.sessions.specs.Session.{Session}
 use Rattle.sessions.specs.Laws.{IsToldFleet}
 use Rattle.player.specs.Crew.{AllCounted, berth_in}
@@ -65,7 +65,7 @@ pub record HoldsKeep {B : Type 0} (meaning : B → Meaning) (olds : List B) (xs 
 
 -- what each leaf's lines tell of has its cause
 abbrev pub AreCounted : {B : Type 0} → (B → Meaning) → List B → List (Hold B) → List Piece → Type 0
-AreCounted meaning olds xs pieces = AtHolds meaning olds xs (λ leaf old now. IsCounted leaf pieces old now)
+AreCounted meaning olds xs pieces = AtHolds meaning olds xs (λ leaf old now. CountsRose leaf pieces old now)
 
 -- ---- items
 
@@ -74,7 +74,7 @@ pub record RunSoFar {B : Type 0} (base : ℕ → Option NamedStates) (meaning : 
   pub played : List PlayedItem
   pub items_are : map item_of played ≡ items
   pub text : Appends was written (lines_text fleet.names (all_lines played))
-  pub heard : Watched fleet (plays_in played) watching watched
+  pub heard : HearsAll fleet (plays_in played) watching watched
   pub counted : AreCounted meaning olds xs (all_pieces played)
   pub keeps : HoldsKeep meaning olds xs
   pub session : (known : ℕ → Option Known) → AreKnown meaning olds olds base known → Session meaning fleet known olds played xs
@@ -85,7 +85,7 @@ pub record Advances {B : Type 0} (meaning : B → Meaning) (fleet : Fleet) (xs y
   pub item_is : item_of played ≡ item
   pub plays : PlaysItem meaning fleet xs played ys
   pub text : Appends was written (lines_text fleet.names (item_lines played))
-  pub heard : Watched fleet (plays_of played) watching watched
+  pub heard : HearsAll fleet (plays_of played) watching watched
   pub counted : AllCounted meaning (all_pieces (played ∷ [])) xs ys
 
 -- a run of all the items
@@ -93,7 +93,7 @@ pub record IsRun {B : Type 0} (base : ℕ → Option NamedStates) (meaning : B �
   pub played : List PlayedItem
   pub items_are : map item_of played ≡ items
   pub text : Appends was now (lines_text fleet.names (all_lines played))
-  pub heard : Watched fleet (plays_in played) watching watched
+  pub heard : HearsAll fleet (plays_in played) watching watched
   pub counted : AreCounted meaning olds xs (all_pieces played)
   pub told : (known : ℕ → Option Known) → AreKnown meaning olds olds base known → IsToldFleet meaning fleet known played olds xs
 

@@ -1,7 +1,7 @@
 -- All leaves are asked, one call after another.
-use Rattle.std.proofs.Common.{◌≡◌, ℕ, zero, suc, ◌+◌, ◌<◌, List, [], ◌∷◌, ◌++◌, length, inl, inr, Some, refl, sym, ap, ap₂, subst, ◌∙◌, arith, append_assoc}
+use Rattle.std.proofs.Common.{◌≡◌, ℕ, zero, suc, ◌+◌, ◌<◌, List, [], ◌∷◌, ◌++◌, length, Some, refl, sym, ap, ap₂, subst, ◌∙◌, arith, append_assoc}
 use Rattle.std.specs.Prelude.{slice_get, slice_set, Bool, Option, None}
-use Rattle.std.specs.List.{AllByRecursion}
+use Rattle.std.specs.List.{AllByRecursion, AllZip, range_with_len}
 use Rattle.leaf_model.specs.declared.rows.Row.{Row}
 use Rattle.leaf_model.specs.declared.queries.Query.{Query}
 use Rattle.berth_face.specs.Berth.{Meaning}
@@ -12,21 +12,19 @@ use Rattle.leaf_table.specs.Turns.{Shared}
 use Rattle.leaf_table.specs.Calls.{SeatView}
 use Rattle.leaf_table.specs.Lists.{row}
 use Rattle.aggregator.specs.Asks.{Asked, IsAsked}
-use Rattle.aggregator.specs.Merges.{IsAnswer}
 use Rattle.aggregator.specs.Sorts.{by_leaf}
-use Rattle.printed_lines.specs.declared.line.Said.TheVariants as said
 use Rattle.printed_lines.specs.declared.line.Ending.{Ending}
 use Rattle.printed_lines.specs.declared.line.Line.{Line}
 use Rattle.printed_lines.specs.Lines.{IsOf}
 use Rattle.transcript.specs.Pieces.{Deed, Piece, lines_in}
-use Rattle.transcript.specs.Shapes.{AskPieces, CallPiece, IsAskSaid, named, named_in}
+use Rattle.transcript.specs.Shapes.{CallPiece, named, named_in}
 use Rattle.transcript.specs.Counts.{deeds_in}
 use Rattle.transcript.specs.Answers.{AnswerIs}
 use Rattle.transcript.specs.Holds.{Hold, with_callers}
 use Rattle.transcript.specs.Steps as step
 use Rattle.transcript.specs.Steps.{CallStep, Goes, IsReplyPiece}
 use Rattle.player.proofs.AskLines.{number_named, reply_lines}
-use Rattle.player.proofs.CallPieces.{reply_piece}
+use Rattle.player.proofs.CallPieces.{call_prints, reply_piece}
 
 -- ---- the pieces of the replies
 
@@ -46,21 +44,18 @@ pub ask_fit : (names : List (List ℕ)) (leaf table : ℕ) (q : Query) (rs : Lis
 ask_fit names leaf table q [] within = tt
 ask_fit names leaf table q (r ∷ rs) within = ((reply_piece leaf table (call.Ask q) r).fits names within, ask_fit names (suc leaf) table q rs within)
 
--- what a query may be told
-ask_said : (leaf table : ℕ) (q : Query) (r : Reply) (p : Piece) → IsAnswer r → IsReplyPiece leaf table (call.Ask q) r p → CallPiece IsAskSaid leaf table (call.Ask q) p
-ask_said leaf table q (told.Groups number gs) p answer says = inl (number, said.Asked, tt, says)
-ask_said leaf table q (told.Shut number) p answer says = inl (number, said.RefusedShut, tt, says)
-ask_said leaf table q (told.NoMemory number) p answer says = inl (number, said.RefusedMemory, tt, says)
-ask_said leaf table q told.Worn p answer says = inr says
-ask_said leaf table q (told.Added number kept late) p answer says = absurd answer
-ask_said leaf table q (told.Removed number rows) p answer says = absurd answer
-ask_said leaf table q (told.Full number) p answer says = absurd answer
+-- one of each leaf, in their order
+abbrev pub AreAsked : ℕ → Query → List ℕ → List Piece → Type 0
+AreAsked table q leaves pieces = AllZip (λ leaf piece. CallPiece leaf table (call.Ask q) piece) leaves pieces
 
-pub ask_prints : (leaf table : ℕ) (q : Query) (rs : List Reply) → AllByRecursion IsAnswer rs → AskPieces leaf (length rs) table (call.Ask q) (ask_pieces leaf table q rs)
-ask_prints leaf table q [] answers = refl
-ask_prints leaf table q (r ∷ rs) answers =
+pub ask_prints : (leaf table : ℕ) (q : Query) (rs : List Reply) → AreAsked table q (range_with_len leaf (length rs)) (ask_pieces leaf table q rs)
+ask_prints leaf table q [] = tt
+ask_prints leaf table q (r ∷ rs) =
     let p = reply_piece leaf table (call.Ask q) r in
-    (ask_said leaf table q r p.piece answers.0 p.says, ask_prints (suc leaf) table q rs answers.1)
+    let next : suc leaf ≡ leaf + 1 = omega arith in (
+      call_prints leaf table (call.Ask q) r p.piece p.says,
+      subst (λ (first : ℕ). AreAsked table q (range_with_len first (length rs)) (ask_pieces (suc leaf) table q rs)) next (ask_prints (suc leaf) table q rs),
+    )
 
 -- ---- the leaves that are named
 

@@ -1,7 +1,7 @@
 -- What a query of all leaves comes to.
 use Rattle.std.proofs.Common.{◌≡◌, ◌⊎◌, inl, inr, ⊎_elim, true, false, ℕ, zero, suc, ◌+◌, ◌-◌, ◌<◌, ◌≤◌, List, [], ◌∷◌, ◌++◌, length, take, Option, Some, None, Result, Ok, Err, Vec, Global, refl, sym, ap, ap₂, subst, ◌∙◌, arith, length-set, get_or-set_same}
 use Rattle.std.specs.Prelude.{IfOk, IsErr, Bool, is_some, option_and_then, slice_get, slice_set}
-use Rattle.std.specs.List.{AllByRecursion, flat_map}
+use Rattle.std.specs.List.{AllByRecursion, flat_map, range_with_len}
 use Rattle.std.proofs.lemmas.List.{append-nil, length-map}
 use Rattle.std.proofs.lemmas.Option.{slice_get_within}
 use Rattle.std.proofs.lemmas.Result.{IfOk-weaker}
@@ -35,7 +35,7 @@ use Rattle.printed_lines.specs.declared.line.Line.{Line}
 use Rattle.printed_lines.specs.declared.line.Line.TheVariants as line
 use Rattle.printed_lines.specs.Lines.{IsOf}
 use Rattle.transcript.specs.Pieces.{Deed, Piece, Says, leaf_count, lines_in, place_of}
-use Rattle.transcript.specs.Shapes.{AskPieces, named, named_in}
+use Rattle.transcript.specs.Shapes.{named, named_in}
 use Rattle.transcript.specs.Histories.{Ground}
 use Rattle.transcript.specs.Counts.{deeds_in}
 use Rattle.transcript.specs.Answers.{AnswerIs, partial, rows_before}
@@ -51,7 +51,7 @@ use Rattle.player.specs.Stage.{held_of, hold_at}
 use Rattle.player.specs.Members.{AreMembers, fleet_in, holds_from, holds_in}
 use Rattle.player.specs.Commands.{AsksAll, AsksRow, query_lines}
 use Rattle.player.proofs.AskLines.{asked_are, number_named, numbered, named_numbered, reply_lines}
-use Rattle.player.proofs.AskSteps.{AreAt, AskedAt, ask_calm, ask_fit, ask_lines, ask_named, ask_pieces, ask_prints, ask_silent, asked_at, asked_counts, asked_holds, asks_go, paired, paired_of}
+use Rattle.player.proofs.AskSteps.{AreAsked, AreAt, AskedAt, ask_calm, ask_fit, ask_lines, ask_named, ask_pieces, ask_prints, ask_silent, asked_at, asked_counts, asked_holds, asks_go, paired, paired_of}
 use Rattle.player.proofs.Calling.{called_on}
 use Rattle.player.proofs.Chains.{all_more, counted_calm, deeds_more, goes_more, lines_more, passes_if_none}
 use Rattle.player.proofs.Columns.{column_get, column_set, element_at, lengths_set, rows_kept, same_some}
@@ -415,8 +415,8 @@ module _ {B : Type 0} (x : Members B) (table : ℕ) (are : AreMembers x) (within
       prints = record {
         asks = ask_pieces 0 table q rs;
         rows = answer_lines q (groups q over);
-        each = subst (λ (n : ℕ). AskPieces 0 n (place_of q.table x.names) (call.Ask q) (ask_pieces 0 table q rs)) (sizes.0 ∙ size)
-            (subst (λ (t : ℕ). AskPieces 0 (length rs) t (call.Ask q) (ask_pieces 0 table q rs)) is (ask_prints 0 table q rs answers));
+        each = subst (λ (n : ℕ). AreAsked (place_of q.table x.names) q (range_with_len 0 n) (ask_pieces 0 table q rs)) (sizes.0 ∙ size)
+            (subst (λ (t : ℕ). AreAsked t q (range_with_len 0 (length rs)) (ask_pieces 0 table q rs)) is (ask_prints 0 table q rs));
         are = refl;
       };
       goes = record {

@@ -12,10 +12,10 @@ use Rattle.printed_lines.specs.declared.line.Ending.{Ending}
 use Rattle.printed_lines.specs.declared.line.Line.{Line}
 use Rattle.printed_lines.specs.Lines.{IsOf}
 use Rattle.transcript.specs.Pieces.{Acted, Called, Deed, Piece, Says, Worn, lines_in, piece_lines}
-use Rattle.transcript.specs.Counts.{Counted, IsCounted, deeds_in, is_disk_fault, is_region_fault, reads_disk}
+use Rattle.transcript.specs.Counts.{Counted, CountsRose, deeds_in, is_disk_fault, is_region_fault, reads_disk}
 use Rattle.transcript.specs.Holds.{Hold, caller_in, with_callers, with_leaf}
 use Rattle.transcript.specs.Steps as step
-use Rattle.transcript.specs.Steps.{CallStep, DeedStep, Goes, noted_all}
+use Rattle.transcript.specs.Steps.{Goes, noted_all}
 use Rattle.transcript.specs.Stage.{Leaf}
 use Rattle.player.specs.declared.answer.Answer.{Answer}
 use Rattle.player.specs.Crew.{AllPass, CountedIf, PassesIf, StillHas}
@@ -53,7 +53,7 @@ bounded top b m n c d first second = omega (arith, first, second)
 counted_on : (b m n c d all : ℕ) → all ≡ c + d → Counted b m c → Counted m n d → Counted b n all
 counted_on b m n c d all is first second = subst (Counted b n) (sym is) (bounded (2 ^ 64 - 1) b m n c d first second)
 
-pub counted_more : (leaf : ℕ) (ps qs : List Piece) (m n o : Meaning) → IsCounted leaf ps m n → IsCounted leaf qs n o → IsCounted leaf (ps ++ qs) m o
+pub counted_more : (leaf : ℕ) (ps qs : List Piece) (m n o : Meaning) → CountsRose leaf ps m n → CountsRose leaf qs n o → CountsRose leaf (ps ++ qs) m o
 counted_more leaf ps qs m n o first second = record {
   region = counted_on m.region_faults n.region_faults o.region_faults _ _ _ (deeds_more (λ deed ends. is_region_fault ends) leaf ps qs) first.region second.region;
   disk = counted_on m.disk_faults n.disk_faults o.disk_faults _ _ _ (deeds_more (λ deed ends. is_disk_fault ends) leaf ps qs) first.disk second.disk;
@@ -62,7 +62,7 @@ counted_more leaf ps qs m n o first second = record {
       second.reads (omega (arith, both, none)) ∙ first.reads (omega (arith, both, none));
 }
 
-pub counted_none : (leaf : ℕ) (ps : List Piece) (m : Meaning) → ((test : Deed → Ending → Bool) → deeds_in test leaf ps ≡ 0) → IsCounted leaf ps m m
+pub counted_none : (leaf : ℕ) (ps : List Piece) (m : Meaning) → ((test : Deed → Ending → Bool) → deeds_in test leaf ps ≡ 0) → CountsRose leaf ps m m
 counted_none leaf ps m calm = record {
   region = none_told m.region_faults _ (calm (λ deed ends. is_region_fault ends));
   disk = none_told m.disk_faults _ (calm (λ deed ends. is_disk_fault ends));

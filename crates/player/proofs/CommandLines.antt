@@ -13,7 +13,7 @@ use Rattle.printed_lines.specs.declared.line.Line.{Line}
 use Rattle.printed_lines.specs.declared.line.Line.TheVariants as line
 use Rattle.printed_lines.specs.Lines.{EndsOf, IsOf}
 use Rattle.transcript.specs.Pieces.{Piece, Acted, Deed, Noted, lines_in, piece_lines, verb_of}
-use Rattle.transcript.specs.Counts.{Counted, IsCounted, deeds_in, is_disk_fault, is_region_fault, reads_disk}
+use Rattle.transcript.specs.Counts.{Counted, CountsRose, deeds_in, is_disk_fault, is_region_fault, reads_disk}
 use Rattle.transcript.specs.Steps.{noted_all}
 use Rattle.player.specs.Lines.{AreEnded, AreTold, note_lines}
 use Rattle.player.specs.Moves.{ArePlaces, FaultRose}
@@ -89,7 +89,7 @@ not_read true none = absurd (omega (arith, none))
 not_read false none = refl
 
 pub counted : (number : ℕ) (deed : Deed) (notes : List Noted) (ends : Ending) (m m' : Meaning) → Passes m m' → FaultRose ends m m'
-    → (reads_disk deed ends ≡ false → m'.disk_reads ≡ m.disk_reads) → IsCounted number (Acted number deed notes ends ∷ []) m m'
+    → (reads_disk deed ends ≡ false → m'.disk_reads ≡ m.disk_reads) → CountsRose number (Acted number deed notes ends ∷ []) m m'
 counted number deed notes ends m m' time rose same = record {
   region = subst (Counted m.region_faults m'.region_faults) (sym (one_such number (is_region_fault ends))) (region_rose ends m m' time rose);
   disk = subst (Counted m.disk_faults m'.disk_faults) (sym (one_such number (is_disk_fault ends))) (disk_rose ends m m' time rose);

@@ -184,7 +184,7 @@ module _ {B : Type 0} where
         let callers = column number (lists_in rows.items) in
         record {
           piece = calls.piece;
-          prints = call_prints number table (row x.tables.now number) (column number (lists_in x.rows.items)) calls.piece callers r calls.step;
+          prints = call_prints number table (call_of r) calls.step.reply calls.piece calls.step.says;
           goes = one_called meaning x.names (holds_in x) (holds_in (with_parts x x.leaves rows)) number table (call_of r) was callers result
               (holds_at 0 number number x.tables.now x.leaves.items there.0 (lists_in x.rows.items) (omega arith) there.1) called_then
               (seats_still number (lists_in x.rows.items) (lists_in rows.items) only.lengths) calls;

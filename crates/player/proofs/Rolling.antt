@@ -1,5 +1,5 @@
 -- The pieces of a rollover: those of its deeds, with a line before each wave.
-use Rattle.std.proofs.Common.{◌≡◌, ℕ, zero, suc, ◌+◌, ◌≤◌, Bool, true, false, List, [], ◌∷◌, ◌++◌, length, take, drop, map, Option, None, refl, sym, ap, subst, ◌∙◌, append_assoc, append-nil, arith, nat_lt}
+use Rattle.std.proofs.Common.{◌≡◌, ℕ, zero, suc, ◌+◌, ◌≤◌, Bool, true, false, List, [], ◌∷◌, ◌++◌, length, take, drop, map, None, refl, sym, ap, subst, ◌∙◌, arith, nat_lt}
 use Rattle.std.specs.List.{flat_map}
 use Rattle.std.proofs.lemmas.List.{length-append, length-map, map-append}
 use Rattle.std.proofs.lemmas.Bool.Decides.{nat_tests}
@@ -8,16 +8,15 @@ use Rattle.rollover_driver.specs.declared.driving.Rolled.{Rolled}
 use Rattle.rollover_driver.specs.Calls.{AreOfEach, AreOfWave, Call}
 use Rattle.rollover_driver.specs.Calls as call
 use Rattle.rollover_driver.specs.Drives.{WavesGo}
-use Rattle.printed_lines.specs.declared.line.Ending.{Ending}
 use Rattle.printed_lines.specs.declared.line.Line.{Line}
 use Rattle.printed_lines.specs.declared.line.Line.TheVariants as line
 use Rattle.printed_lines.specs.Lines.{IsOf}
-use Rattle.transcript.specs.Pieces.{Deed, Drains, Noted, Piece, Says, Starts, lines_in, piece_lines}
-use Rattle.transcript.specs.Shapes.{EachActs, WavePieces, WavesPieces}
+use Rattle.transcript.specs.Pieces.{Deed, Drains, Piece, Says, Starts, lines_in, piece_lines}
+use Rattle.transcript.specs.Shapes.{EachActs, WavesPieces}
 use Rattle.transcript.specs.Watching.{calls_in, drained_by, piece_calls, started_by}
 use Rattle.player.specs.Restarts.{AreAnswered}
 use Rattle.player.proofs.Chains.{lines_more}
-use Rattle.player.specs.Rolled.{deed_count, joined_parts, wave_lines, waves_lines}
+use Rattle.player.specs.Rolled.{deed_count, joined_parts, waves_lines}
 
 -- the same pieces, with lines between them that name no table
 pub data Woven : (deeds all : List Piece) → Type 0 where
@@ -40,10 +39,6 @@ woven_front : (front deeds all : List Piece) → Woven deeds all → Woven (fron
 woven_front [] deeds all woven = woven
 woven_front (p ∷ front) deeds all woven = Woven.deed (p ∷ (front ++ deeds)) (p ∷ (front ++ all)) p (front ++ deeds) (front ++ all) refl (woven_front front deeds all woven) refl
 
-calls_more : (ps qs : List Piece) → calls_in (ps ++ qs) ≡ calls_in ps ++ calls_in qs
-calls_more [] qs = refl
-calls_more (p ∷ ps) qs = ap (λ (cs : List Call). piece_calls p ++ cs) (calls_more ps qs) ∙ sym (append_assoc (piece_calls p) (calls_in ps) (calls_in qs))
-
 -- pieces of calls that are joined come apart
 pub record Apart (cs ds : List Call) (ps : List Piece) : Type 0 where
   pub front : List Piece
@@ -65,7 +60,7 @@ apart (call.Starts leaf got ∷ cs) ds (p ∷ ps) are =
 
 -- the drains of these leaves
 drains_act : (leaves : List ℕ) (cs : List Call) (ps : List Piece) → AreOfEach call.Drains leaves cs → AreAnswered cs ps → EachActs (Drains None) leaves ps
-drains_act [] [] [] are answered = refl
+drains_act [] [] [] are answered = tt
 drains_act [] [] (p ∷ ps) are answered = absurd answered
 drains_act [] (c ∷ cs) ps are answered = absurd are
 drains_act (leaf ∷ leaves) [] ps are answered = absurd are
@@ -76,7 +71,7 @@ drains_act (leaf ∷ leaves) (c ∷ cs) (p ∷ ps) are answered =
 
 -- and their starts
 starts_act : (leaves : List ℕ) (cs : List Call) (ps : List Piece) → AreOfEach call.Starts leaves cs → AreAnswered cs ps → EachActs Starts leaves ps
-starts_act [] [] [] are answered = refl
+starts_act [] [] [] are answered = tt
 starts_act [] [] (p ∷ ps) are answered = absurd answered
 starts_act [] (c ∷ cs) ps are answered = absurd are
 starts_act (leaf ∷ leaves) [] ps are answered = absurd are
@@ -134,7 +129,8 @@ joined_all (p ∷ ps) = ap (λ (ls : List Line). piece_lines p ++ ls) (joined_al
 
 -- a deed of each leaf is one piece
 acts_count : (act : Deed) (leaves : List ℕ) (ps : List Piece) → EachActs act leaves ps → length ps ≡ length leaves
-acts_count act [] ps are = ap (λ (qs : List Piece). length qs) are
+acts_count act [] [] are = refl
+acts_count act [] (p ∷ ps) are = absurd are
 acts_count act (leaf ∷ leaves) [] are = absurd are
 acts_count act (leaf ∷ leaves) (p ∷ ps) are = ap suc (acts_count act leaves ps are.1)
 

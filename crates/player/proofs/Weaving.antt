@@ -1,5 +1,5 @@
 -- Lines that name no table, put between the pieces of deeds, change nothing that the leaves do.
-use Rattle.std.proofs.Common.{◌≡◌, ℕ, ◌+◌, Bool, List, [], ◌∷◌, ◌++◌, length, Option, Some, None, Result, Vec, Global, refl, sym, ap, subst, ◌∙◌}
+use Rattle.std.proofs.Common.{◌≡◌, ℕ, ◌+◌, Bool, List, [], ◌∷◌, ◌++◌, Option, Some, None, Result, Vec, Global, sym, ap, subst, ◌∙◌}
 use Rattle.std.specs.Prelude.{IfOk, slice_set, ◌==◌, ◌&&◌, if◌then◌else◌}
 use Rattle.std.specs.List.{AllByRecursion}
 use Rattle.berth_face.specs.Berth.{Meaning}
@@ -7,7 +7,7 @@ use Rattle.printed_lines.specs.declared.line.Ending.{Ending}
 use Rattle.printed_lines.specs.declared.line.Line.{Line}
 use Rattle.printed_lines.specs.Lines.{IsOf}
 use Rattle.transcript.specs.Pieces.{Acted, Called, Deed, Piece, Says, Worn, lines_in, piece_lines}
-use Rattle.transcript.specs.Counts.{Counted, IsCounted, deeds_in, is_disk_fault, is_region_fault, reads_disk}
+use Rattle.transcript.specs.Counts.{Counted, CountsRose, deeds_in, is_disk_fault, is_region_fault, reads_disk}
 use Rattle.transcript.specs.Stage.{Leaf}
 use Rattle.transcript.specs.Holds.{Hold, with_callers, with_leaf}
 use Rattle.transcript.specs.Steps as step
@@ -49,7 +49,7 @@ same_deeds test leaf deeds all (Woven.deed d a p rest others first woven is) =
     ap (λ (ps : List Piece). deeds_in test leaf ps) is
     ∙ (deeds_front test leaf p others rest (same_deeds test leaf rest others woven) ∙ ap (λ (ps : List Piece). deeds_in test leaf ps) (sym first))
 
-counted_woven : (leaf : ℕ) (deeds all : List Piece) (m n : Meaning) → Woven deeds all → IsCounted leaf deeds m n → IsCounted leaf all m n
+counted_woven : (leaf : ℕ) (deeds all : List Piece) (m n : Meaning) → Woven deeds all → CountsRose leaf deeds m n → CountsRose leaf all m n
 counted_woven leaf deeds all m n woven counted = record {
   region = subst (Counted m.region_faults n.region_faults) (sym (same_deeds (λ deed ending. is_region_fault ending) leaf deeds all woven)) counted.region;
   disk = subst (Counted m.disk_faults n.disk_faults) (sym (same_deeds (λ deed ending. is_disk_fault ending) leaf deeds all woven)) counted.disk;

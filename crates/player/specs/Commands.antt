@@ -1,7 +1,7 @@
 -- What each command does to the leaves that a crew holds.
 use Rattle.std.specs.Prelude.{◌≡◌, ◌⊎◌, ◌==◌, ℕ, zero, suc, ◌<◌, List, [], ◌∷◌, ◌++◌, length, slice_set, false, Option, Some, None, Result, Vec, IfOk, IsErr, if◌then◌else◌, ⊤}
 use Rattle.std.specs.Global.{Global}
-use Rattle.std.specs.List.{AllByRecursion}
+use Rattle.std.specs.List.{AllByRecursion, range_with_len}
 use Rattle.berth_face.specs.Berth.{Meaning}
 use Rattle.leaf_model.specs.Values.{IsRow, IsTime}
 use Rattle.leaf_model.specs.declared.queries.Query.{Query}
@@ -17,15 +17,14 @@ use Rattle.aggregator.specs.declared.lists.Named.{Named}
 use Rattle.aggregator.specs.declared.fanned.Fanned.{Fanned}
 use Rattle.aggregator.specs.Asks.{AllAsked}
 use Rattle.script_text.specs.declared.command.Command.TheVariants as command
-use Rattle.printed_lines.specs.declared.line.Said.{Said}
 use Rattle.printed_lines.specs.declared.line.Said.TheVariants as said
 use Rattle.printed_lines.specs.declared.line.Ending.{Ending}
 use Rattle.printed_lines.specs.declared.line.Line.{Line}
 use Rattle.printed_lines.specs.declared.line.Line.TheVariants as line
 use Rattle.printed_lines.specs.Lines.{IsOf}
 use Rattle.transcript.specs.Pieces.{Deed, Drains, Flushes, Kills, Piece, Starts, lines_in, verb_of}
-use Rattle.transcript.specs.Shapes.{ActPiece, ActPieces, CallPiece, IsAddSaid, IsRemoveSaid, QueryPieces}
-use Rattle.transcript.specs.Counts.{IsCounted, reads_disk}
+use Rattle.transcript.specs.Shapes.{ActPiece, CallPiece, EachActs, QueryPieces}
+use Rattle.transcript.specs.Counts.{CountsRose, reads_disk}
 use Rattle.transcript.specs.Answers.{Answers}
 use Rattle.transcript.specs.Holds.{GoOn, grounds_in}
 use Rattle.transcript.specs.Stage.{Leaf, Carries}
@@ -77,7 +76,7 @@ pub record ActsWith {B E : Type 0} (meaning : B → Meaning) (names : List (List
     (answer : Answer) (result : Result (Vec Line Global) E) (leaf' : Leaf) (callers' : List (Option SeatView)) (b' : B) : Type 0 where
   pub piece : Piece
   pub step : DeedStep number deed (meaning b) (meaning b') leaf callers piece leaf' callers'
-  pub counted : IsCounted number (piece ∷ []) (meaning b) (meaning b')
+  pub counted : CountsRose number (piece ∷ []) (meaning b) (meaning b')
   pub fit : AllByRecursion (IsOf names) (lines_in (piece ∷ []))
   pub lines_are : IfOk result (λ lines. lines.items ≡ lines_in (piece ∷ []))
   pub answered : answer ≡ answer_of step.ends
@@ -98,7 +97,7 @@ pub record DeedAt {B E : Type 0} (meaning : B → Meaning) (number : ℕ) (deed 
 -- the first k leaves were started
 pub record StartsFirst {B E : Type 0} (meaning : B → Meaning) (k : ℕ) (x : Members B) (result : Result (Vec Line Global) E) (y : Members B) : Type 0 where
   pub pieces : List Piece
-  pub prints : ActPieces 0 k Starts pieces
+  pub prints : EachActs Starts (range_with_len 0 k) pieces
   pub goes : GoesWith meaning x.names (holds_in x) result pieces (holds_in y)
 
 -- ---- calls
@@ -114,16 +113,10 @@ IsRequest (request.Add rows) = AllByRecursion IsRow rows
 IsRequest (request.Expire horizon) = IsTime horizon
 IsRequest (request.Keep n) = ⊤
 
--- what it may be told
-abbrev pub MayBeTold : Request → Said → Type 0
-MayBeTold (request.Add rows) said = IsAddSaid said
-MayBeTold (request.Expire horizon) said = IsRemoveSaid said
-MayBeTold (request.Keep n) said = IsRemoveSaid said
-
 -- a call of one of the leaves
 pub record CallsAt {B E : Type 0} (meaning : B → Meaning) (leaf table : ℕ) (r : Request) (x : Members B) (result : Result (Vec Line Global) E) (y : Members B) : Type 0 where
   pub piece : Piece
-  pub prints : CallPiece (MayBeTold r) leaf table (call_of r) piece
+  pub prints : CallPiece leaf table (call_of r) piece
   pub goes : GoesWith meaning x.names (holds_in x) result (piece ∷ []) (holds_in y)
 
 -- ---- queries

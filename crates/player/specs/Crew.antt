@@ -14,7 +14,7 @@ use Rattle.printed_lines.specs.declared.line.Line.{Line}
 use Rattle.printed_lines.specs.declared.line.Ending.{Ending}
 use Rattle.printed_lines.specs.Lines.{IsOf}
 use Rattle.transcript.specs.Pieces.{Deed, Fleet, Piece, leaf_count, lines_in, place_of}
-use Rattle.transcript.specs.Counts.{IsCounted, deeds_in}
+use Rattle.transcript.specs.Counts.{CountsRose, deeds_in}
 use Rattle.transcript.specs.Holds.{Hold, caller_in}
 use Rattle.transcript.specs.Stage.{Leaf, IsDown}
 use Rattle.transcript.specs.Steps.{Plays}
@@ -102,7 +102,7 @@ pub record AllPass {B : Type 0} (meaning : B → Meaning) (xs ys : List (Hold B)
 
 -- a leaf's berth counted what these pieces tell; of a leaf that is not held they tell no deed
 abbrev pub CountedIf : {B : Type 0} → (B → Meaning) → ℕ → List Piece → Option (Leaf × B) → Option (Leaf × B) → Type 0
-CountedIf meaning leaf pieces (Some x) (Some y) = IsCounted leaf pieces (meaning x.1) (meaning y.1)
+CountedIf meaning leaf pieces (Some x) (Some y) = CountsRose leaf pieces (meaning x.1) (meaning y.1)
 CountedIf meaning leaf pieces None None = (test : Deed → Ending → Bool) → deeds_in test leaf pieces ≡ 0
 CountedIf meaning leaf pieces (Some x) None = ⊥
 CountedIf meaning leaf pieces None (Some y) = ⊥

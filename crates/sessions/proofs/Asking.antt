@@ -1,6 +1,6 @@
 -- Answers: they name leaves of the fleet and one of its tables, so they are over what is known of those.
 use Rattle.std.proofs.Common.{◌≡◌, ℕ, zero, suc, ◌+◌, ◌<◌, List, [], ◌∷◌, ◌++◌, length, inl, inr, refl, sym, ap, ap₂, subst, ◌∙◌, arith, Option}
-use Rattle.std.specs.List.{AllByRecursion}
+use Rattle.std.specs.List.{AllByRecursion, AllZip, range_with_len}
 use Rattle.std.proofs.lemmas.Grind.{flat_map-append}
 use Rattle.leaf_model.specs.declared.rows.Row.{Row}
 use Rattle.leaf_model.specs.declared.queries.Query.{Query}
@@ -14,7 +14,7 @@ use Rattle.printed_lines.specs.declared.line.Said.{Said}
 use Rattle.printed_lines.specs.declared.line.Said.TheVariants.{Added, Removed, Asked, RefusedShut, RefusedFull, RefusedMemory, Opened, Took, Flushed, Closed, Handed}
 use Rattle.printed_lines.specs.declared.line.Line.TheVariants as line
 use Rattle.transcript.specs.Pieces.{Fleet, Piece, PlayedItem, Says, leaf_count, place_of}
-use Rattle.transcript.specs.Shapes.{AskPieces, CallPiece, IsAskSaid, Prints, QueryPieces, named, named_by, named_in}
+use Rattle.transcript.specs.Shapes.{CallPiece, Prints, QueryPieces, named, named_by, named_in}
 use Rattle.transcript.specs.Histories.{Ground}
 use Rattle.transcript.specs.Answers.{AnswerIs, Answers, partial, rows_before}
 use Rattle.transcript.specs.Transcript.{Known, grounds_of}
@@ -44,21 +44,23 @@ said_named leaves leaf table tables number (Flushed n) below within = tt
 said_named leaves leaf table tables number (Closed n) below within = tt
 said_named leaves leaf table tables number Handed below within = tt
 
-ask_named : (leaves leaf table tables : ℕ) (c : Call) (p : Piece) → leaf < leaves → CallPiece IsAskSaid leaf table c p → IsWithin tables p
+ask_named : (leaves leaf table tables : ℕ) (c : Call) (p : Piece) → leaf < leaves → CallPiece leaf table c p → IsWithin tables p
     → AllByRecursion (IsBelow leaves table tables) (named_in p)
 ask_named leaves leaf table tables c p below (inl k) within =
-    subst (λ (q : Piece). AllByRecursion (IsBelow leaves table tables) (named_in q)) (sym k.3)
-    (said_named leaves leaf table tables k.0 k.1 below (subst (λ (q : Piece). IsWithin tables q) k.3 within))
+    subst (λ (q : Piece). AllByRecursion (IsBelow leaves table tables) (named_in q)) (sym k.2)
+    (said_named leaves leaf table tables k.0 k.1 below (subst (λ (q : Piece). IsWithin tables q) k.2 within))
 ask_named leaves leaf table tables c p below (inr is) within = subst (λ (q : Piece). AllByRecursion (IsBelow leaves table tables) (named_in q)) (sym is) tt
 
-asks_named : (leaves leaf count table tables : ℕ) (c : Call) (asks : List Piece) → leaf + count ≡ leaves → AskPieces leaf count table c asks → AllByRecursion (IsWithin tables) asks
+asks_named : (leaves leaf count table tables : ℕ) (c : Call) (asks : List Piece) → leaf + count ≡ leaves
+    → AllZip (λ l piece. CallPiece l table c piece) (range_with_len leaf count) asks → AllByRecursion (IsWithin tables) asks
     → AllByRecursion (IsBelow leaves table tables) (named asks)
-asks_named leaves leaf zero table tables c asks all is within = subst (λ (ps : List Piece). AllByRecursion (IsBelow leaves table tables) (named ps)) (sym is) tt
+asks_named leaves leaf zero table tables c [] all is within = tt
+asks_named leaves leaf zero table tables c (p ∷ ps) all is within = absurd is
 asks_named leaves leaf (suc count) table tables c [] all is within = absurd is
 asks_named leaves leaf (suc count) table tables c (p ∷ ps) all is within =
     All-append (IsBelow leaves table tables) (named_in p) (named ps)
     (ask_named leaves leaf table tables c p (omega (arith, all)) is.0 within.0)
-    (asks_named leaves (suc leaf) count table tables c ps (omega (arith, all)) is.1 within.1)
+    (asks_named leaves (leaf + 1) count table tables c ps (omega (arith, all)) is.1 within.1)
 
 All-front : {X : Type 0} (P : X → Type 0) (xs ys : List X) → AllByRecursion P (xs ++ ys) → AllByRecursion P xs
 All-front P [] ys h = tt

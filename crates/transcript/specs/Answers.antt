@@ -11,7 +11,7 @@ use Rattle.script_text.specs.declared.command.Command.TheVariants as command
 use Rattle.printed_lines.specs.declared.line.Ending.{Ending}
 use Rattle.printed_lines.specs.declared.line.Ending.TheVariants as ends
 use Rattle.printed_lines.specs.declared.line.Line.TheVariants as line
-use Rattle.transcript.specs.Pieces.{Piece, Called, Worn, Acted, Says, Deed, Flushes, Played, Fleet, place_of}
+use Rattle.transcript.specs.Pieces.{Piece, Worn, Acted, Says, Deed, Flushes, Played, Fleet, place_of}
 use Rattle.transcript.specs.Shapes.{named}
 use Rattle.transcript.specs.Histories.{Ground}
 
@@ -52,8 +52,7 @@ worn_ending leaf deed _ = None
 abbrev pub worn_in : Piece → Option (ℕ × ℕ)
 worn_in (Worn leaf table) = Some (leaf, table)
 worn_in (Acted leaf deed notes ending) = worn_ending leaf deed ending
-worn_in (Called leaf table c number said) = None
-worn_in (Says l) = None
+worn_in _ = None
 
 -- only of a table with 2^62 entries
 abbrev pub WornIsLong : (ℕ → ℕ → List Entry) → Piece → Type 0

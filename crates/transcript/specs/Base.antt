@@ -1,15 +1,10 @@
 -- The histories' beginnings.
 use Rattle.std.specs.Prelude.{◌≡◌, ℕ, suc, List, [], ◌∷◌, length}
-use Rattle.leaf_history.specs.History.{HistoryState, Entry}
+use Rattle.leaf_history.specs.History.{Entry}
 use Rattle.row_records.specs.Records.{LogRecord}
 use Rattle.disk_backup.specs.Logs.{IsLog, writes_of}
 use Rattle.crash_moments.specs.Left.{NamedStates}
 use Rattle.crash_moments.specs.Watched.{Watched}
-use Rattle.printed_lines.specs.Lines.{name_at}
-
--- the base of a table by its place
-abbrev pub base_at : List (List ℕ) → NamedStates → ℕ → HistoryState
-base_at names base table = base (name_at names table)
 
 -- the log of a disk has so many writes of this name
 abbrev pub LogHas : List ℕ → List ℕ → ℕ → Type 0

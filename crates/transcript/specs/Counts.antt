@@ -4,7 +4,7 @@ use Rattle.berth_face.specs.Berth.{Meaning}
 use Rattle.leaf_opening.specs.declared.ways.Way.TheVariants.{Memory}
 use Rattle.printed_lines.specs.declared.line.Ending.{Ending}
 use Rattle.printed_lines.specs.declared.line.Ending.TheVariants as ends
-use Rattle.transcript.specs.Pieces.{Piece, Called, Worn, Acted, Says, Deed, Starts}
+use Rattle.transcript.specs.Pieces.{Piece, Acted, Deed, Starts}
 
 abbrev pub is_region_fault : Ending → Bool
 is_region_fault ends.FaultRegion = true
@@ -25,9 +25,7 @@ reads_disk _ ending = false
 abbrev pub deeds_in : (Deed → Ending → Bool) → ℕ → List Piece → ℕ
 deeds_in test leaf [] = 0
 deeds_in test leaf (Acted l deed notes ending ∷ pieces) = (if (l == leaf) && test deed ending then 1 else 0) + deeds_in test leaf pieces
-deeds_in test leaf (Called l t c number said ∷ pieces) = deeds_in test leaf pieces
-deeds_in test leaf (Worn l t ∷ pieces) = deeds_in test leaf pieces
-deeds_in test leaf (Says l ∷ pieces) = deeds_in test leaf pieces
+deeds_in test leaf (_ ∷ pieces) = deeds_in test leaf pieces
 
 -- at least so many faults were counted, unless the count stands at its last value
 abbrev pub Counted : ℕ → ℕ → ℕ → Type 0
@@ -43,7 +41,7 @@ abbrev pub disk_reads_in : ℕ → List Piece → ℕ
 disk_reads_in leaf pieces = deeds_in reads_disk leaf pieces
 
 -- A leaf's fault lines have their cause; and where each of its starts came from memory, the disk was not read.
-pub record IsCounted (leaf : ℕ) (pieces : List Piece) (old new : Meaning) : Type 0 where
+pub record CountsRose (leaf : ℕ) (pieces : List Piece) (old new : Meaning) : Type 0 where
   pub region : Counted old.region_faults new.region_faults (region_faults_in leaf pieces)
   pub disk : Counted old.disk_faults new.disk_faults (disk_faults_in leaf pieces)
   pub reads : disk_reads_in leaf pieces ≡ 0 → new.disk_reads ≡ old.disk_reads

@@ -9,7 +9,7 @@ use Rattle.leaf_history.specs.Replies as reply
 use Rattle.leaf_history.specs.History.{Entry, HistoryState, LegalFrom}
 use Rattle.printed_lines.specs.declared.line.Said.{Said}
 use Rattle.printed_lines.specs.declared.line.Said.TheVariants.{Added, Removed, Asked, RefusedShut, RefusedFull, RefusedMemory, Opened, Took, Flushed, Closed, Handed}
-use Rattle.transcript.specs.Pieces.{Piece, Called, Worn, Acted, Says, Noted, Played, PlayedItem, One, Burst, pieces_in}
+use Rattle.transcript.specs.Pieces.{Piece, Called, Acted, Noted, PlayedItem, One, Burst, pieces_in}
 
 -- the line of an entry, with the call that a caller made
 pub record Shown : Type 0 where
@@ -26,8 +26,7 @@ shown_notes table notes = flat_map (λ (n : Noted). shown_if (n.table == table) 
 abbrev pub shown_in : ℕ → ℕ → Piece → List Shown
 shown_in leaf table (Called l t c number said) = shown_if ((l == leaf) && (t == table)) (record { number = number; call = Some c; said = said })
 shown_in leaf table (Acted l deed notes ending) = if l == leaf then shown_notes table notes else []
-shown_in leaf table (Worn l t) = []
-shown_in leaf table (Says line) = []
+shown_in leaf table _ = []
 
 -- the entry lines of a table, in the order of printing
 abbrev pub shown : ℕ → ℕ → List Piece → List Shown
@@ -41,18 +40,17 @@ Shows c Asked e = (c ≡ Some e.call) × ((gs : List Group) × (e.reply ≡ repl
 Shows c RefusedShut e = (c ≡ Some e.call) × (e.reply ≡ reply.Shut)
 Shows c RefusedFull e = (c ≡ Some e.call) × (e.reply ≡ reply.Full)
 Shows c RefusedMemory e = (c ≡ Some e.call) × (e.reply ≡ reply.NoMemory)
-Shows c (Opened n) e = (contents : Contents) × (e.call ≡ call.Open n contents)
-Shows c (Took n) e = (e.call ≡ call.Take) × (e.reply ≡ reply.Counted n)
-Shows c (Flushed n) e = e.call ≡ call.Flushed n
-Shows c (Closed n) e = (e.call ≡ call.Shut) × (e.reply ≡ reply.Counted n)
-Shows c Handed e = e.call ≡ call.Done
+Shows c (Opened n) e = (c ≡ None) × ((contents : Contents) × (e.call ≡ call.Open n contents))
+Shows c (Took n) e = (c ≡ None) × (e.call ≡ call.Take) × (e.reply ≡ reply.Counted n)
+Shows c (Flushed n) e = (c ≡ None) × (e.call ≡ call.Flushed n)
+Shows c (Closed n) e = (c ≡ None) × (e.call ≡ call.Shut) × (e.reply ≡ reply.Counted n)
+Shows c Handed e = (c ≡ None) × (e.call ≡ call.Done)
 
 -- Lines with the numbers from n on show these entries.
 abbrev pub Tells : ℕ → List Shown → List Entry → Type 0
 Tells n [] [] = ⊤
-Tells n [] (e ∷ es) = ⊥
-Tells n (s ∷ ss) [] = ⊥
 Tells n (s ∷ ss) (e ∷ es) = (s.number ≡ n) × Shows s.call s.said e × Tells (suc n) ss es
+Tells n _ _ = ⊥
 
 -- what a table begins from: founded with a base, or not
 pub record Ground : Type 0 where

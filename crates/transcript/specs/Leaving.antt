@@ -17,10 +17,10 @@ use Rattle.printed_lines.specs.Lines.{lines_text}
 use Rattle.transcript.specs.Base.{LogHas, unseen, watched_with}
 use Rattle.transcript.specs.Pieces.{all_lines, all_pieces, fleet_of, leaf_count, plays_in}
 use Rattle.transcript.specs.Life.{Life}
-use Rattle.transcript.specs.Counts.{IsCounted}
+use Rattle.transcript.specs.Counts.{CountsRose}
 use Rattle.transcript.specs.Strangers.{IsNamedBy, Strangers}
 use Rattle.transcript.specs.Transcript.{Known, Transcript}
-use Rattle.transcript.specs.Watching.{Watched}
+use Rattle.transcript.specs.Watching.{HearsAll}
 
 -- ---- one leaf's berth with a base
 
@@ -35,9 +35,8 @@ pub record LeavesBerth (names : List (List ℕ)) (base : NamedStates) (life : Li
 -- what is known of a leaf's beginning, by its berth's base
 abbrev pub IsKnown : Option NamedStates → Meaning → Option Known → Type 0
 IsKnown None m None = ⊤
-IsKnown None m (Some k) = ⊥
-IsKnown (Some base) m None = ⊥
 IsKnown (Some base) m (Some k) = (k.base ≡ base) × (k.held ≡ m.held) × IsWayOf m.held.region k.way × ((name : List ℕ) → LogHas m.held.disk name (k.read name))
+IsKnown _ m _ = ⊥
 
 -- ---- all of them
 
@@ -54,8 +53,8 @@ module _ {B : Type 0} (meaning : B → Meaning) (olds news : List B) where
   pub record IsToldRun (items : List Item) (known : ℕ → Option Known) (lines : List Line) (before after : List Held) : Type 0 where
     pub transcript : Transcript (fleet_of items) known items (lines_text (fleet_of items).names lines)
     pub lines_are : all_lines transcript.played ≡ lines
-    pub watched : Watched (fleet_of items) (plays_in transcript.played) before after
-    pub counts : (leaf : ℕ) → leaf < (leaf_count (fleet_of items)) → AtBerth leaf (IsCounted leaf (all_pieces transcript.played))
+    pub watched : HearsAll (fleet_of items) (plays_in transcript.played) before after
+    pub counts : (leaf : ℕ) → leaf < (leaf_count (fleet_of items)) → AtBerth leaf (CountsRose leaf (all_pieces transcript.played))
     pub strangers : (leaf : ℕ) (k : Known) → leaf < (leaf_count (fleet_of items)) → known leaf ≡ Some k →
         Strangers (IsNamedBy (fleet_of items).names k.held) leaf (all_pieces transcript.played)
     pub leaves : (leaf : ℕ) (k : Known) → leaf < (leaf_count (fleet_of items)) → known leaf ≡ Some k →

@@ -9,7 +9,7 @@ use Rattle.printed_lines.specs.declared.line.Said.{Said}
 use Rattle.printed_lines.specs.declared.line.Said.TheVariants.{Opened, Took, Flushed, Closed, Handed}
 use Rattle.printed_lines.specs.declared.line.Ending.{Ending}
 use Rattle.printed_lines.specs.declared.line.Ending.TheVariants as ends
-use Rattle.transcript.specs.Pieces.{Noted, Deed, Starts, Flushes, Drains, Kills, Piece, Called, Worn, Acted, Says}
+use Rattle.transcript.specs.Pieces.{Noted, Deed, Starts, Flushes, Drains, Kills, Piece, Worn, Acted}
 
 -- what the log is owed: a table's place, and how many writes were taken of it up to then
 pub record Owed : Type 0 where
@@ -42,17 +42,16 @@ pub record Life : Type 0 where
 -- the notes say this, table by table from a place on
 abbrev pub Notes : ℕ → List Said → List Noted → Type 0
 Notes place [] [] = ⊤
-Notes place [] (n ∷ ns) = ⊥
-Notes place (said ∷ saids) [] = ⊥
 Notes place (said ∷ saids) (n ∷ ns) = (n.table ≡ place) × (n.said ≡ said) × Notes (suc place) saids ns
+Notes place _ _ = ⊥
 
 -- one entry of a table
 abbrev pub Note : ℕ → Said → List Noted → Type 0
 Note table said notes = (number : ℕ) × (notes ≡ record { table = table; number = number; said = said } ∷ [])
 
 -- two entries of a table
-abbrev pub Pair : ℕ → Said → Said → List Noted → Type 0
-Pair table one other notes = (first second : ℕ) × (notes ≡ record { table = table; number = first; said = one } ∷ record { table = table; number = second; said = other } ∷ [])
+abbrev pub TwoNotes : ℕ → Said → Said → List Noted → Type 0
+TwoNotes table one other notes = (first second : ℕ) × (notes ≡ record { table = table; number = first; said = one } ∷ record { table = table; number = second; said = other } ∷ [])
 
 -- the entry of what was owed, once it is on the disk
 abbrev pub OwedNote : Option Owed → List Noted → Type 0
@@ -132,7 +131,7 @@ pub data OfFlush (table : ℕ) (life : Life) (notes : List Noted) (ending : Endi
   done : (owed : Option Owed) (first own : List Noted) (count : ℕ)
       → life.mode ≡ Up owed
       → OwedNote owed first
-      → Pair table (Took count) (Flushed count) own
+      → TwoNotes table (Took count) (Flushed count) own
       → notes ≡ first ++ own
       → ending ≡ ends.Done
       → next ≡ on life (Up None) life.way notes
@@ -181,7 +180,7 @@ pub data Treats (p : Progress) (notes : List Noted) (q : Progress) : Type 0 wher
   whole : (first own : List Noted) (count : ℕ)
       → p.shut ≡ false
       → OwedNote p.owed first
-      → Pair p.treated (Closed count) (Flushed count) own
+      → TwoNotes p.treated (Closed count) (Flushed count) own
       → notes ≡ first ++ own
       → q ≡ record { owed = None; treated = suc p.treated; shut = false }
       → Treats p notes q
@@ -230,7 +229,7 @@ pub data Starves (tables : ℕ) (p : Progress) (notes : List Noted) (q : Progres
       → p.shut ≡ false
       → p.treated < tables
       → OwedNote p.owed first
-      → Pair p.treated (Closed count) (Flushed count) own
+      → TwoNotes p.treated (Closed count) (Flushed count) own
       → notes ≡ first ++ own
       → q ≡ record { owed = None; treated = p.treated; shut = true }
       → Starves tables p notes q
@@ -332,6 +331,4 @@ abbrev pub Lives : Bool → ℕ → ℕ → Life → List Piece → Life → Typ
 Lives told tables leaf life [] next = next ≡ life
 Lives told tables leaf life (Acted l deed notes ending ∷ pieces) next =
     MatchBool (l == leaf) ((between : Life) × Does told tables deed life notes ending between × Lives told tables leaf between pieces next) (Lives told tables leaf life pieces next)
-Lives told tables leaf life (Called l table c number said ∷ pieces) next = Lives told tables leaf life pieces next
-Lives told tables leaf life (Worn l table ∷ pieces) next = Lives told tables leaf life pieces next
-Lives told tables leaf life (Says line ∷ pieces) next = Lives told tables leaf life pieces next
+Lives told tables leaf life (_ ∷ pieces) next = Lives told tables leaf life pieces next

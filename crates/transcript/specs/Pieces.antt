@@ -115,9 +115,8 @@ fleet_made _ = no_fleet
 
 -- the fleet that a script's first command makes: none where there is no command
 abbrev pub fleet_of : List Item → Fleet
-fleet_of [] = no_fleet
 fleet_of (item.One c ∷ items) = fleet_made c
-fleet_of (item.Burst lanes ∷ items) = no_fleet
+fleet_of _ = no_fleet
 
 -- the place of a name among the tables, or their number
 abbrev pub place_of : List ℕ → List (List ℕ) → ℕ

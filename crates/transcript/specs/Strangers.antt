@@ -6,7 +6,7 @@ use Rattle.log_recovery.specs.Recovery.{IsRecoveryRefusal}
 use Rattle.log_recovery.specs.declared.fault.RecoveryFault.TheVariants as found
 use Rattle.printed_lines.specs.declared.line.Ending.{Ending}
 use Rattle.printed_lines.specs.declared.line.Ending.TheVariants as ends
-use Rattle.transcript.specs.Pieces.{Piece, Called, Worn, Acted, Says}
+use Rattle.transcript.specs.Pieces.{Piece, Acted}
 
 -- the directory of the region's image, or a record of the log, has this name first of those that the leaf does not have
 abbrev pub IsNamedBy : List (List ℕ) → Pair → List ℕ → Type 0
@@ -22,6 +22,4 @@ until_up P _ rest = rest
 abbrev pub Strangers : (List ℕ → Type 0) → ℕ → List Piece → Type 0
 Strangers P leaf [] = ⊤
 Strangers P leaf (Acted l deed notes ending ∷ pieces) = MatchBool (l == leaf) (until_up P ending (Strangers P leaf pieces)) (Strangers P leaf pieces)
-Strangers P leaf (Called l table c number said ∷ pieces) = Strangers P leaf pieces
-Strangers P leaf (Worn l table ∷ pieces) = Strangers P leaf pieces
-Strangers P leaf (Says line ∷ pieces) = Strangers P leaf pieces
+Strangers P leaf (_ ∷ pieces) = Strangers P leaf pieces

@@ -15,7 +15,7 @@ use Rattle.script_text.specs.declared.command.Command.{Command}
 use Rattle.script_text.specs.declared.command.Command.TheVariants as command
 use Rattle.printed_lines.specs.declared.line.Ending.{Ending}
 use Rattle.printed_lines.specs.declared.line.Ending.TheVariants as ends
-use Rattle.transcript.specs.Pieces.{Piece, Called, Worn, Acted, Says, Deed, Starts, Flushes, Drains, Kills, Played, Fleet}
+use Rattle.transcript.specs.Pieces.{Piece, Acted, Deed, Starts, Drains, Played, Fleet}
 use Rattle.transcript.specs.Shapes.{Rolls}
 
 -- ---- what the leaves answered
@@ -42,14 +42,11 @@ started_by _ = started.Fault
 abbrev pub deed_calls : ℕ → Deed → Ending → List Call
 deed_calls leaf Starts ending = call.Starts leaf (started_by ending) ∷ []
 deed_calls leaf (Drains stop) ending = call.Drains leaf (drained_by ending) ∷ []
-deed_calls leaf (Flushes table) ending = []
-deed_calls leaf Kills ending = []
+deed_calls leaf _ ending = []
 
 abbrev pub piece_calls : Piece → List Call
 piece_calls (Acted leaf deed notes ending) = deed_calls leaf deed ending
-piece_calls (Called leaf table c number said) = []
-piece_calls (Worn leaf table) = []
-piece_calls (Says line) = []
+piece_calls _ = []
 
 -- the calls that pieces tell, with what the leaves answered
 abbrev pub calls_in : List Piece → List Call
@@ -76,6 +73,6 @@ Hears fleet p old new = by p.command
     by _ = new ≡ old
 
 -- and of commands one after another. In a burst the rollovers stand in one lane.
-abbrev pub Watched : Fleet → List Played → List Held → List Held → Type 0
-Watched fleet [] old new = new ≡ old
-Watched fleet (p ∷ ps) old new = (between : List Held) × Hears fleet p old between × Watched fleet ps between new
+abbrev pub HearsAll : Fleet → List Played → List Held → List Held → Type 0
+HearsAll fleet [] old new = new ≡ old
+HearsAll fleet (p ∷ ps) old new = (between : List Held) × Hears fleet p old between × HearsAll fleet ps between new
