@@ -1,55 +1,49 @@
--- A text that is no script is refused with its own first fault, which is none of a caller's limits.
-use Rattle.std.proofs.Common.{◌≡◌, ℕ, List, Option, Err}
+-- A text is refused with its own first fault, which is none of a caller's limits.
+use Rattle.std.proofs.Common.{◌≡◌, ◌≤◌, ◌∙◌, ℕ, false, List, length, Option, Err, ap, arith}
+use Rattle.std.specs.Prelude.{nat_lt}
+use Rattle.std.proofs.lemmas.Bool.{cond-false}
+use Rattle.std.proofs.lemmas.Bool.Decides.{nat_tests}
 use Rattle.berth_face.specs.Streams.{ReadsAll, TakesAtMost}
 use Rattle.script_text.specs.declared.fault.Why.{Why}
 use Rattle.script_text.specs.declared.fault.Why.TheVariants as why
 use Rattle.script_text.specs.declared.fault.ScriptFault.{ScriptFault}
 use Rattle.script_text.specs.declared.fault.ScriptFault.TheVariants.{At, NoMemory}
+use Rattle.script_text.specs.declared.script.Script.{Script}
 use Rattle.script_text.specs.Script.{IfAt, script_of}
 use Rattle.script_text.proofs.Own.{own_fault}
-use Rattle.play.specs.Outcome.{IsNoPlay, TakesText, IfScript, status_of_fault}
+use Rattle.play.specs.Outcome.{IsRefused, TakesText, IfScript, if_short, play_verdict, status_of_fault, status_played}
 use Rattle.play.specs.Source.{longest_text}
+use Rattle.play.specs.declared.status.Status.{Status}
 use Rattle.play.specs.declared.status.Status.TheVariants as status
 
--- a text that is no script is refused so
-pub no_play : (berths : ℕ) (before after : Option (List ℕ)) (text : List ℕ) (line : ℕ) (w : Why) → ReadsAll before after text → script_of text ≡ Err (line, w) → IsNoPlay berths before after line w
-no_play berths before after text line why.TooLong r e = absurd (own_fault text line why.TooLong e)
-no_play berths before after text line why.NoBerth r e = absurd (own_fault text line why.NoBerth e)
-no_play berths before after text line why.Command r e = (text, r, e)
-no_play berths before after text line why.NoFleet r e = (text, r, e)
-no_play berths before after text line why.Place r e = (text, r, e)
-no_play berths before after text line why.Words r e = (text, r, e)
-no_play berths before after text line why.Leaf r e = (text, r, e)
-no_play berths before after text line why.Table r e = (text, r, e)
-no_play berths before after text line why.Lanes r e = (text, r, e)
-no_play berths before after text line why.TwoStewards r e = (text, r, e)
-no_play berths before after text line why.Short r e = (text, r, e)
-no_play berths before after text line (why.Row fault) r e = (text, r, e)
-no_play berths before after text line (why.Query fault) r e = (text, r, e)
+-- the status of a text that is not too long is what it comes to
+pub short_decides : (text : List ℕ) (s : Status) → length text ≤ longest_text → if_short text s ≡ s
+short_decides text s small =
+    let short : nat_lt longest_text (length text) ≡ false = grind (arith, nat_tests, small) in
+    cond-false (nat_lt longest_text (length text)) (status.Script 0 why.TooLong) s short
+
+-- a text whose first fault is this is refused so
+pub no_play : (berths : ℕ) (before after : Option (List ℕ)) (text : List ℕ) (line : ℕ) (w : Why) → ReadsAll before after text → length text ≤ longest_text → script_of text ≡ Err (line, w)
+    → IsRefused (play_verdict berths) before after line w
+no_play berths before after text line w r small e = by w e (short_decides text (status_played berths (script_of text)) small ∙ ap (status_played berths) e)
+  where
+    by : (w : Why) → script_of text ≡ Err (line, w) → play_verdict berths text ≡ status.Script line w → IsRefused (play_verdict berths) before after line w
+    by why.TooLong e is = absurd (own_fault text line why.TooLong e)
+    by _ e is = (text, r, is)
 
 pub no_more_taken : (before after : Option (List ℕ)) (text : List ℕ) (line : ℕ) (w : Why) → script_of text ≡ Err (line, w) → TakesAtMost before after longest_text → TakesText (status.Script line w) before after
 no_more_taken before after text line why.TooLong e t = absurd (own_fault text line why.TooLong e)
-no_more_taken before after text line why.NoBerth e t = t
-no_more_taken before after text line why.Command e t = t
-no_more_taken before after text line why.NoFleet e t = t
-no_more_taken before after text line why.Place e t = t
-no_more_taken before after text line why.Words e t = t
-no_more_taken before after text line why.Leaf e t = t
-no_more_taken before after text line why.Table e t = t
-no_more_taken before after text line why.Lanes e t = t
-no_more_taken before after text line why.TwoStewards e t = t
-no_more_taken before after text line why.Short e t = t
-no_more_taken before after text line (why.Row fault) e t = t
-no_more_taken before after text line (why.Query fault) e t = t
+no_more_taken before after text line _ e t = t
 
 -- ---- of a fault that was found
 
 abbrev pub Found : List ℕ → ScriptFault → Type 0
 Found text fault = IfAt fault (λ line w. script_of text ≡ Err (line, w))
 
-pub no_play_fault : (berths : ℕ) (before after : Option (List ℕ)) (text : List ℕ) (fault : ScriptFault) → ReadsAll before after text → Found text fault → IfScript (status_of_fault fault) (IsNoPlay berths before after)
-no_play_fault berths before after text (At line w) r e = no_play berths before after text line w r e
-no_play_fault berths before after text NoMemory r e = tt
+pub no_play_fault : (berths : ℕ) (before after : Option (List ℕ)) (text : List ℕ) (fault : ScriptFault) → ReadsAll before after text → length text ≤ longest_text → Found text fault
+    → IfScript (status_of_fault fault) (IsRefused (play_verdict berths) before after)
+no_play_fault berths before after text (At line w) r small e = no_play berths before after text line w r small e
+no_play_fault berths before after text NoMemory r small e = tt
 
 pub no_more_fault : (before after : Option (List ℕ)) (text : List ℕ) (fault : ScriptFault) → Found text fault → TakesAtMost before after longest_text → TakesText (status_of_fault fault) before after
 no_more_fault before after text (At line w) e t = no_more_taken before after text line w e t

@@ -1,10 +1,11 @@
 -- The leaves of a soak, and what it takes of a source.
-use Rattle.std.proofs.Common.{◌≡◌, ◌≤◌, ◌∙◌, ℕ, List, [], Option, Some, None, refl, sym, ap, subst, arith}
+use Rattle.std.proofs.Common.{◌≡◌, ◌≤◌, ◌∙◌, ℕ, Bool, true, false, List, [], Option, Some, None, refl, sym, ap, subst, arith}
+use Rattle.std.specs.Prelude.{nat_lt, if◌then◌else◌}
 use Rattle.berth_face.specs.Streams.{TakesAtMost}
 use Rattle.script_text.specs.declared.script.Script.{Script}
-use Rattle.script_text.specs.declared.fault.Why.{Why}
+use Rattle.script_text.specs.declared.fault.Why.TheVariants as why
 use Rattle.soak.specs.Soak.{soak_script}
-use Rattle.play.specs.Outcome.{IfScript, IsNoSoak, TakesText}
+use Rattle.play.specs.Outcome.{IfScript, TakesText, soak_verdict}
 use Rattle.play.specs.Played.{leaves_in, soak_leaves}
 use Rattle.play.specs.Source.{longest_text}
 use Rattle.play.specs.declared.status.Status.{Status}
@@ -25,10 +26,13 @@ takes_none None n = ([], tt, omega arith)
 takes_none (Some text) n = ([], refl, omega arith)
 
 -- where nothing is taken, no text is too long
-pub none_taken : (berths : ℕ) (before : Option (List ℕ)) (s : Status) → IfScript s (IsNoSoak berths) → TakesText s before before
-none_taken berths before status.Done causes = takes_none before longest_text
-none_taken berths before status.Words causes = takes_none before longest_text
-none_taken berths before (status.Script line why) causes = subst (λ (w : Why). TakesText (status.Script line w) before before) (sym causes.1) (takes_none before longest_text)
-none_taken berths before status.ReadFault causes = takes_none before longest_text
-none_taken berths before status.WriteFault causes = takes_none before longest_text
-none_taken berths before status.NoMemory causes = takes_none before longest_text
+not_long : (berths line : ℕ) → soak_verdict berths ≡ status.Script line why.TooLong → ⊥
+not_long berths line is = by (nat_lt berths soak_leaves) is
+  where
+    by : (few : Bool) → (if few then status.Script 0 why.NoBerth else status.Done) ≡ status.Script line why.TooLong → ⊥
+    by true e = cc
+    by false e = cc
+
+pub none_taken : (berths : ℕ) (before : Option (List ℕ)) (s : Status) → IfScript s (λ line w. soak_verdict berths ≡ status.Script line w) → TakesText s before before
+none_taken berths before (status.Script line why.TooLong) causes = absurd (not_long berths line causes)
+none_taken berths before _ causes = takes_none before longest_text

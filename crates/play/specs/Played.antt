@@ -14,7 +14,7 @@ use Rattle.soak.specs.Soak.{soak_script}
 use Rattle.transcript.specs.Pieces.{fleet_of, leaf_count}
 use Rattle.transcript.specs.Leaving.{IsWritten}
 use Rattle.play.specs.declared.words.Request.{Request}
-use Rattle.play.specs.declared.words.Request.TheVariants.{Count, Play, Soak}
+use Rattle.play.specs.declared.words.Request.TheVariants.{Play, Soak}
 
 -- how many leaves a script's fleet has
 abbrev pub leaves_in : List Item → ℕ
@@ -73,10 +73,9 @@ leaves_told None = 256
 
 -- how many leaves what the words ask for makes
 abbrev pub leaves_asked : Option Request → Option (List ℕ) → ℕ
-leaves_asked None before = 0
-leaves_asked (Some (Count range)) before = 0
 leaves_asked (Some Play) before = leaves_told before
 leaves_asked (Some (Soak seed rows)) before = soak_leaves
+leaves_asked _ before = 0
 
 -- The berths are in their places. So many of them the leaves used, and no count of their faults fell; all others are untouched.
 pub record LeavesBerths {B : Type 0} (meaning : B → Meaning) (leaves : ℕ) (olds news : List B) : Type 0 where

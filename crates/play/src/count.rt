@@ -8,7 +8,7 @@ ghost use Rattle.berth_face.specs.Streams.{TakesAtMost};
 ghost use Rattle.script_text.specs.Lines.{lines_of};
 ghost use Rattle.play.specs.declared.count.CountError.TheVariants.{NoMemory};
 ghost use Rattle.play.specs.Count.{count_of, is_in, IfFault, IsPartCounted, error_behind};
-ghost use Rattle.play.specs.Outcome.{IsCounted, IsCutShort, IsNoRows, IfScript, UnlessCutOff, UnlessWritten, TakesText, count_verdict};
+ghost use Rattle.play.specs.Outcome.{IsCounted, IsCutShort, IsRefused, IfScript, UnlessCutOff, UnlessWritten, TakesText, count_verdict};
 ghost use Rattle.play.specs.Source.{most_taken};
 
 use crate::status::Status;
@@ -61,7 +61,7 @@ pub fn count_source<R: Threads + Sync, S: Source, K: Sink>(
 ) -> Status
     ensures done { result ≡ Status.Done → IsCounted range (S.left source.old) (S.left source.new) (K.written sink.old) (K.written sink.new) }
     ensures known_words { result ≢ Status.Words }
-    ensures script { IfScript result (IsNoRows (S.left source.old) (S.left source.new)) }
+    ensures script { IfScript result (IsRefused (count_verdict range) (S.left source.old) (S.left source.new)) }
     ensures read_fault { result ≡ Status.ReadFault → Rose (S.faults source.old) (S.faults source.new) }
     ensures write_fault { result ≡ Status.WriteFault → Rose (K.faults sink.old) (K.faults sink.new) }
     ensures exact { IfSome (S.left source.old) (λ text. UnlessCutOff result (result ≡ count_verdict range text)) }

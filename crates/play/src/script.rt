@@ -2,7 +2,7 @@
 ghost use Rattle.std.specs.Prelude.{◌≡◌, ◌≢◌, ◌<◌, ◌∷◌, [], length, map, Some, None, IfSome, IfOk, IfErr};
 ghost use Rattle.berth_face.specs.Causes.{Rose};
 ghost use Rattle.berth_face.specs.Streams.{TakesAtMost};
-ghost use Rattle.play.specs.Outcome.{IsNoPlay, IfScript, UnlessCutOff, UnlessPlayed, TakesText, play_verdict, status_of_fault};
+ghost use Rattle.play.specs.Outcome.{IsRefused, IfScript, UnlessCutOff, UnlessPlayed, TakesText, play_verdict, status_of_fault};
 ghost use Rattle.play.specs.Played.{AreBases, IsPlayed, LeavesBerths, leaves_told};
 ghost use Rattle.play.specs.Source.{most_taken};
 
@@ -31,7 +31,7 @@ pub fn play_source<N: Bases, R: Wait + Threads + Sync, S: Source, K: Sink, B: Be
     ensures done { result ≡ Status.Done → IsPlayed N.base B.meaning (S.left source.old) (S.left source.new) (K.written sink.old) (K.written sink.new) berths.old.items berths.new.items
         (map (λ watch. held watch) watches.old.items) (map (λ watch. held watch) watches.new.items) }
     ensures known_words { result ≢ Status.Words }
-    ensures script { IfScript result (IsNoPlay (length berths.old.items) (S.left source.old) (S.left source.new)) }
+    ensures script { IfScript result (IsRefused (play_verdict (length berths.old.items)) (S.left source.old) (S.left source.new)) }
     ensures read_fault { result ≡ Status.ReadFault → Rose (S.faults source.old) (S.faults source.new) }
     ensures write_fault { result ≡ Status.WriteFault → Rose (K.faults sink.old) (K.faults sink.new) }
     ensures exact { IfSome (S.left source.old) (λ text. UnlessCutOff result (result ≡ play_verdict (length berths.old.items) text)) }

@@ -1,7 +1,7 @@
 // The play of a script that two numbers make.
 ghost use Rattle.std.specs.Prelude.{◌≡◌, ◌≢◌, ◌≤◌, length, map};
 ghost use Rattle.berth_face.specs.Causes.{Rose};
-ghost use Rattle.play.specs.Outcome.{IfScript, IsNoSoak, UnlessCutOff, UnlessPlayed, soak_verdict};
+ghost use Rattle.play.specs.Outcome.{IfScript, UnlessCutOff, UnlessPlayed, soak_verdict};
 ghost use Rattle.play.specs.Played.{AreBases, IsSoaked, LeavesBerths, soak_leaves};
 
 use crate::bases::Bases;
@@ -34,7 +34,7 @@ pub fn play_soak<N: Bases, R: Wait + Threads + Sync, K: Sink, B: Berth, G: Gate>
     ensures done { result ≡ Status.Done → IsSoaked N.base B.meaning seed rows (K.written sink.old) (K.written sink.new) berths.old.items berths.new.items
         (map (λ watch. held watch) watches.old.items) (map (λ watch. held watch) watches.new.items) }
     ensures known_words { result ≢ Status.Words }
-    ensures script { IfScript result (IsNoSoak (length berths.old.items)) }
+    ensures script { IfScript result (λ line why. soak_verdict (length berths.old.items) ≡ Status.Script line why) }
     ensures unread { result ≢ Status.ReadFault }
     ensures write_fault { result ≡ Status.WriteFault → Rose (K.faults sink.old) (K.faults sink.new) }
     ensures exact { UnlessCutOff result (result ≡ soak_verdict (length berths.old.items)) }

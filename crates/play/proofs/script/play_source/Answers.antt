@@ -1,6 +1,6 @@
-use Rattle.std.proofs.Common.{rules, ◌≡◌, sym, subst, length, Ok}
+use Rattle.std.proofs.Common.{rules, ◌≡◌, ◌≤◌, sym, subst, length, Ok}
 use Rattle.berth_face.specs.Streams.{ReadsAll, TakesAtMost}
-use Rattle.play.specs.Outcome.{IfScript, IsNoPlay, TakesText}
+use Rattle.play.specs.Outcome.{IfScript, IsRefused, TakesText, play_verdict}
 use Rattle.play.specs.Source.{longest_text}
 use Rattle.script_text.specs.Fits.{IsScript}
 use Rattle.script_text.specs.Script.{script_of}
@@ -12,8 +12,9 @@ pub returns-in-Err-clause-script : goal.returns-in-Err-clause-script
 returns-in-Err-clause-script g c =
     let read : ReadsAll (g.S.Source.left c.args.source.now) (g.S.Source.left c.read_all.new.source) c.in-Ok.text.items = search rules in
     let found : Found c.in-Ok.text.items c.in-Err.fault = search rules in
-    subst (λ s. IfScript s (IsNoPlay (length c.args.berths.now.items) (g.S.Source.left c.args.source.now) (g.S.Source.left c.read_all.new.source))) (sym c.status_of.ensures)
-    (no_play_fault (length c.args.berths.now.items) (g.S.Source.left c.args.source.now) (g.S.Source.left c.read_all.new.source) c.in-Ok.text.items c.in-Err.fault read found)
+    let small : length c.in-Ok.text.items ≤ longest_text = search rules in
+    subst (λ s. IfScript s (IsRefused (play_verdict (length c.args.berths.now.items)) (g.S.Source.left c.args.source.now) (g.S.Source.left c.read_all.new.source))) (sym c.status_of.ensures)
+    (no_play_fault (length c.args.berths.now.items) (g.S.Source.left c.args.source.now) (g.S.Source.left c.read_all.new.source) c.in-Ok.text.items c.in-Err.fault read small found)
 
 pub returns-in-Err-clause-too_long : goal.returns-in-Err-clause-too_long
 returns-in-Err-clause-too_long g c =
