@@ -23,6 +23,7 @@ pub mod Starting
 pub mod AskLines
 pub mod AskSteps
 pub mod AskRows
+pub mod AskKnown
 pub mod Asking
 pub mod Playing
 pub mod Begun
