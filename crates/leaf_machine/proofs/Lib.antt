@@ -26,4 +26,5 @@ pub mod PrepMeets
 pub mod PrepShuts
 pub mod PrepTreats
 pub mod PrepKills
+pub mod PrepColumns
 pub mod PrepCopies

@@ -8,7 +8,7 @@ use Rattle.leaf_model.specs.declared.writes.Write.{Write}
 use Rattle.leaf_model.specs.Content.{Contents, content_from}
 use Rattle.berth_face.specs.Berth.{Meaning}
 use Rattle.leaf_history.specs.History.{HistoryState, write_count}
-use Rattle.table_state.specs.Tables.{Table}
+use Rattle.table_state.specs.Tables.{IsParts, Table}
 use Rattle.region_directory.specs.declared.drained.DrainTable.{DrainTable}
 use Rattle.region_directory.specs.Drained.{all_columns, has_no_room, images_of as drained_images}
 use Rattle.region_directory.specs.Region.{IsAdoptable, image_of_parts}
@@ -28,6 +28,7 @@ use Rattle.crash_draining.specs.Laws.{AreTaken}
 use Rattle.crash_draining.proofs.Copying.{planned}
 use Rattle.leaf_steward.specs.declared.notes.Note.{Note}
 use Rattle.leaf_steward.specs.Seated.{AreFounded, AreSeated, watched_by}
+use Rattle.leaf_machine.proofs.PrepColumns.{drain_long}
 use Rattle.leaf_machine.proofs.PrepNames.{treated_all}
 use Rattle.leaf_steward.proofs.WatchPlaces.{watch_all}
 use Rattle.leaf_steward.proofs.Watching.{now_seen, watch_at, watch_length, watch_names}
@@ -159,9 +160,18 @@ module _ (x : Shutting) (m : Meaning) (is : IsShutting x m) (sits : AreSeated x.
     stands = λ founded. let old = is.stands founded in (old.0, (old.1.0, copies founded old.1.0 old.1.1));
   }
 
-  pub is_copy : (tables : List DrainTable) → AreTablesOf x.serving.seated.names x.closed tables → has_no_room tables ≡ false → drain.heap ≡ all_columns tables
-      → IsCopyOf x (record { seated = x.serving.seated; drain = drain })
-  is_copy tables are room heap = record { seated = refl; tables = tables; are = are; has_room = room; image = image; heap = heap; next = begin }
+  pub is_copy : (tables : List DrainTable) → AreTablesOf x.serving.seated.names x.closed tables → AllByRecursion (λ (t : DrainTable). IsParts t.parts) tables → has_no_room tables ≡ false
+      → drain.heap ≡ all_columns tables → IsCopyOf x (record { seated = x.serving.seated; drain = drain })
+  is_copy tables are parts room heap = record {
+    seated = refl;
+    tables = tables;
+    are = are;
+    has_room = room;
+    image = image;
+    heap = heap;
+    columns = drain_long x.serving.seated.tables x.serving.seated.seats x.closed tables drain.heap all (λ place t v c at was is_content. is.contents place t v at was c is_content) are.closed_are parts heap;
+    next = begin;
+  }
 
 -- ---- a step
 

@@ -1,5 +1,5 @@
 -- What a step of a leaf that shuts its tables does.
-use Rattle.std.specs.Prelude.{◌≡◌, ℕ, ◌<◌, true, false, List, [], ◌∷◌, ◌++◌, length, IsSome, IsTrue, None, Result, Ok, Err, ⊤}
+use Rattle.std.specs.Prelude.{◌≡◌, ℕ, ◌<◌, ◌≤◌, true, false, List, [], ◌∷◌, ◌++◌, length, IsSome, IsTrue, None, Result, Ok, Err, ⊤}
 use Rattle.leaf_model.specs.declared.writes.Write.{Write}
 use Rattle.berth_face.specs.Berth.{Meaning}
 use Rattle.berth_face.specs.Causes.{Rose}
@@ -19,7 +19,7 @@ use Rattle.leaf_machine.specs.declared.preparing.Prepared.{Prepared}
 use Rattle.leaf_machine.specs.declared.preparing.Prepared.TheVariants as prepared
 use Rattle.leaf_machine.specs.declared.preparing.PrepareFault.{PrepareFault}
 use Rattle.leaf_machine.specs.declared.preparing.PrepareFault.TheVariants.{DiskFault, NoRoom, NoMemory}
-use Rattle.leaf_machine.specs.States.{Serving, Shutting, Copying, GoesOn, GoesOnCopying, treated}
+use Rattle.leaf_machine.specs.States.{Serving, Shutting, Copying, GoesOn, GoesOnCopying, columns_seen, treated}
 use Rattle.leaf_machine.specs.Flushes.{OwedNotes}
 use Rattle.leaf_machine.specs.Shut.{AreTablesOf}
 
@@ -106,7 +106,7 @@ told_of_plan plan.NoMemory = NoMemory
 abbrev pub HasNoRoom : Shutting → Type 0
 HasNoRoom x = (tables : List DrainTable) × AreTablesOf x.serving.seated.names x.closed tables × IsTrue (has_no_room tables)
 
--- the copy of a leaf all of whose tables are treated: it is an image of them, and nothing of it is in the region yet
+-- the copy of a leaf all of whose tables are treated: it is an image of them, each that has rows has a column, and nothing of it is in the region yet
 pub record IsCopyOf (x : Shutting) (c : Copying) : Type 0 where
   pub seated : c.seated ≡ x.serving.seated
   pub tables : List DrainTable
@@ -114,6 +114,7 @@ pub record IsCopyOf (x : Shutting) (c : Copying) : Type 0 where
   pub has_room : has_no_room tables ≡ false
   pub image : IsAdoptable c.drain.image (images_of x.serving.seated.names x.closed) x.serving.owing.log.end
   pub heap : c.drain.heap ≡ all_columns tables
+  pub columns : columns_seen x.serving.seated.tables x.serving.seated.seats ≤ length c.drain.heap
   pub next : c.drain.next ≡ next.Begin
 
 abbrev pub berth_of_step : {B : Type 0} → Result (Prepared B) ((Shutting × B) × PrepareFault) → B

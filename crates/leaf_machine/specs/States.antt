@@ -1,5 +1,6 @@
 -- What holds of a leaf in each of its states.
-use Rattle.std.specs.Prelude.{◌≡◌, ◌≢◌, ◌⊎◌, ℕ, suc, ◌-◌, ◌<◌, ◌≤◌, Bool, false, List, [], length, slice_get, Option, Some, IfSome, IsSome, IsTrue, if◌then◌else◌}
+use Rattle.std.specs.Prelude.{◌≡◌, ◌≢◌, ◌⊎◌, ℕ, suc, ◌+◌, ◌-◌, ◌<◌, ◌≤◌, Bool, false, List, [], ◌∷◌, length, slice_get, Option, Some, IfSome, IsSome, IsTrue, if◌then◌else◌}
+use Rattle.leaf_model.specs.declared.rows.Row.{Row}
 use Rattle.leaf_model.specs.declared.writes.Write.{Write}
 use Rattle.row_records.specs.Records.{LogRecord}
 use Rattle.berth_face.specs.Berth.{Meaning}
@@ -7,7 +8,8 @@ use Rattle.leaf_history.specs.History.{HistoryState, held, write_count}
 use Rattle.table_state.specs.Tables.{Table}
 use Rattle.drain_copy.specs.declared.step.Next.TheVariants.{Nothing}
 use Rattle.drain_copy.specs.Draining.{DrainState}
-use Rattle.leaf_table.specs.Calls.{base_seen, state_seen}
+use Rattle.leaf_table.specs.Turns.{Shared}
+use Rattle.leaf_table.specs.Calls.{SeatView, base_seen, state_seen}
 use Rattle.crash_moments.specs.Left.{NamedStates}
 use Rattle.crash_moments.specs.Told.{Told}
 use Rattle.crash_moments.specs.Watched.{IsFoundation}
@@ -35,6 +37,19 @@ pub record Copying : Type 0 where
 -- how many tables are shut, whole in the log and sealed
 abbrev pub treated : Shutting → ℕ
 treated x = if x.shut then length x.closed - 1 else length x.closed
+
+-- ---- how many columns tables have at least
+
+-- rows have one
+abbrev pub least_columns : List Row → ℕ
+least_columns [] = 0
+least_columns (row ∷ rows) = 1
+
+-- of tables as their seats have seen them last
+abbrev pub columns_seen : List Shared → List SeatView → ℕ
+columns_seen [] vs = 0
+columns_seen (t ∷ ts) [] = 0
+columns_seen (t ∷ ts) (v ∷ vs) = least_columns (held (state_seen (base_seen t) v)).rows + columns_seen ts vs
 
 -- ---- what region and disk hold, where the tables are founded
 

@@ -77,7 +77,7 @@ module _ {B : Type 0} (meaning : B → Meaning) (number : ℕ) (names : List (Li
   held_first : LeafHeld number names known (meaning new.berth) [] (IsDown new.seated) (meaning new.berth)
   held_first = record {
     life = first_life known names;
-    lives = refl;
+    lives = λ grounds histories told. refl;
     in_place = new.in_place;
     grounded = new.grounded;
     mode = first_mode known names new.seated;

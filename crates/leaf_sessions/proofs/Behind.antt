@@ -10,10 +10,12 @@ use Rattle.printed_lines.specs.declared.line.Ending.TheVariants as ends
 use Rattle.transcript.specs.Pieces.{Acted, Called, Piece, Says, Worn}
 use Rattle.transcript.specs.Strangers.{IsNamedBy, Strangers, until_up}
 use Rattle.transcript.specs.Life.{Life, Mode, Down, Up, Preparing}
+use Rattle.transcript.specs.Answers.{columns_handed}
 use Rattle.transcript.specs.Transcript.{Known, first_life}
 use Rattle.transcript.specs.Stage.{Leaf, IsDown, IsUp, IsPreparing, seated_of, seated_with, with_seats}
 use Rattle.leaf_sessions.specs.Session.{AreGrounded, AreInPlace, FitsMode, FitsNext, HasNoDeed, IsDurable, KnownLeaf, LeafHeld}
 use Rattle.leaf_sessions.proofs.Lives.{lives_between}
+use Rattle.leaf_sessions.proofs.ToldOn.{told_met}
 use Rattle.leaf_sessions.proofs.Durable.{durable_met}
 use Rattle.leaf_sessions.proofs.Standing.{LeafMeets, seat_there, seats_become, stands_met, told_on}
 
@@ -81,7 +83,7 @@ pub held_meets : (number : ℕ) (names : List (List ℕ)) (known : Option Known)
     → LeafHeld number names known old pieces leaf m → LeafMeets known leaf leaf' m → LeafHeld number names known old pieces leaf' m
 held_meets number names known old pieces leaf leaf' m now met = record {
   life = now.life;
-  lives = now.lives;
+  lives = λ grounds histories told. now.lives grounds histories (told_met grounds histories names known leaf leaf' m now.in_place met told);
   in_place = place_met names known leaf leaf' m now.in_place met;
   grounded = grounded_met names known leaf leaf' m now.in_place met now.grounded;
   mode = subst (λ (l : Leaf). FitsMode now.life.mode l) (sym met.leaf_is) (fits_seats now.life.mode leaf met.seats now.mode);
@@ -147,7 +149,8 @@ pub held_between : (number : ℕ) (names : List (List ℕ)) (known : Option Know
     → LeafHeld number names known old (before ++ more) leaf m → LeafHeld number names known old (before ++ (none ++ more)) leaf m
 held_between number names known old before none more leaf m apart s = record {
   life = s.life;
-  lives = lives_between (is_some known) (length names) number (first_life known names) s.life before none more apart s.lives;
+  lives = λ grounds histories told.
+      lives_between (is_some known) (length names) (columns_handed grounds histories) number (first_life known names) s.life before none more apart (s.lives grounds histories told);
   in_place = s.in_place;
   grounded = s.grounded;
   mode = s.mode;

@@ -37,6 +37,8 @@ use Rattle.leaf_sessions.proofs.Lists.{clash_bool}
 use Rattle.leaf_sessions.proofs.Ways.{same_way, way_left}
 use Rattle.leaf_sessions.proofs.Modes.{as_many, counts_stay, down_mode, founded_known, not_resting, not_serving, preparing_mode, resting_mode, same_held, up_mode, way_stays, where_known}
 use Rattle.leaf_sessions.proofs.NoteLines.{closed_noted, noted_none, noted_split, opened_noted, owed_noted}
+use Rattle.leaf_sessions.proofs.CountingNotes.{AreStewards}
+use Rattle.leaf_sessions.proofs.Handing.{hands_nothing}
 use Rattle.leaf_sessions.proofs.Drains.{drain_lives}
 
 -- what a life's counts say of a start that opens
@@ -100,7 +102,8 @@ start_opened : (known : Option Known) (tables : ℕ) (life : Life) (m m' : Meani
 start_opened known tables life m m' leaf x s notes way ends leaf' size mode fits opens is none each told ends_are now =
     let o = opening life.durable (length x.tables) notes (counts_opened known life m m' leaf x s notes way fits opens is told) each in record {
       next = opened_life (is_some known) way o.counts;
-      does = lives.opens way o.counts (down_mode life.mode x mode) (way_opens known life m m' leaf x s notes way fits told) o.claimed_are (o.size ∙ size) o.told ends_are refl;
+      hands = hands_nothing leaf';
+      does = λ least few. lives.opens way o.counts (down_mode life.mode x mode) (way_opens known life m m' leaf x s notes way fits told) o.claimed_are (o.size ∙ size) o.told ends_are refl;
       counts = acting.opened way o.counts ends_are o.told refl;
       mode = subst (λ (l : Leaf). FitsMode (Up None) l) (sym now) none;
       way = way_opened known m m' x s notes way o.counts told;
@@ -171,7 +174,8 @@ start_lives names known life m m' leaf notes ends leaf' in_place grounded stands
     (subst (λ (l : Leaf). FitsMode life.mode l) is mode) fits opens is none each (where_known known leaf m (StartsTold x m m' s notes way) stands told) ends_are now
 start_lives names known life m m' leaf notes ends leaf' in_place grounded stands mode fits opens (steps.refused x f is worn sound told notes_are ends_are same) = record {
   next = refused_life life f;
-  does = lives.refuses (down_mode life.mode x (subst (λ (l : Leaf). FitsMode life.mode l) is mode))
+  hands = hands_nothing leaf';
+  does = λ least few. lives.refuses (down_mode life.mode x (subst (λ (l : Leaf). FitsMode life.mode l) is mode))
       (subst (λ (e : Ending). IsStartRefusal (is_some known) e) (sym ends_are) (refusal (is_some known) f (undamaged names known m leaf x f in_place grounded stands is sound)))
       (noted_none notes notes_are)
       (ap (λ (e : Ending). on life Down (way_refused e life.way) []) (sym ends_are));
@@ -181,7 +185,8 @@ start_lives names known life m m' leaf notes ends leaf' in_place grounded stands
 }
 start_lives names known life m m' leaf notes ends leaf' in_place grounded stands mode fits opens (steps.not_down not notes_are same ends_are now) = record {
   next = life;
-  does = lives.not_down (not_resting leaf life.mode mode not) (noted_none notes notes_are) ends_are refl;
+  hands = hands_nothing leaf';
+  does = λ least few. lives.not_down (not_resting leaf life.mode mode not) (noted_none notes notes_are) ends_are refl;
   counts = acting.keeps refl (counts_stay life.durable notes notes_are);
   mode = subst (λ (l : Leaf). FitsMode life.mode l) (sym now) mode;
   way = way_stays known life life leaf m m' refl fits (same_held known leaf m m' stands same);
@@ -217,7 +222,8 @@ up_flushed : (known : Option Known) (tables table : ℕ) (life : Life) (m m' : M
 up_flushed known tables table life m m' leaf owed s s' notes r ends leaf' mode owes fits same ends_are now (flushing.done first taking flushed n noted notes_are reply_is none) =
     let is : ends ≡ ending.Done = ends_are ∙ ap (λ (q : FlushReply). ending_of_flush q) reply_is in record {
       next = on life (Up None) life.way (noted_all notes);
-      does = lives.done owed (noted_all first) (noted_all (taken_and_flushed table taking flushed n)) n mode (owed_noted owed s.owing first owes noted) (taking, flushed, refl)
+      hands = hands_nothing leaf';
+      does = λ least few. lives.done owed (noted_all first) (noted_all (taken_and_flushed table taking flushed n)) n mode (owed_noted owed s.owing first owes noted) (taking, flushed, refl)
           (noted_split notes first (taken_and_flushed table taking flushed n) notes_are) is refl;
       counts = acting.keeps (ap (λ (e : Ending). is_disk_fault e) is) refl;
       mode = subst (λ (l : Leaf). FitsMode (Up None) l) (sym now) none;
@@ -227,7 +233,8 @@ up_flushed known tables table life m m' leaf owed s s' notes r ends leaf' mode o
     let there = record_there s'.owing.log.owed some in
     let left : Mode = Up (Some (record { table = table; count = n })) in record {
       next = failed life left;
-      does = lives.half owed (noted_all first) (noted_all (taken table taking n)) n mode (owed_noted owed s.owing first owes noted) (taking, refl)
+      hands = hands_nothing leaf';
+      does = λ least few. lives.half owed (noted_all first) (noted_all (taken table taking n)) n mode (owed_noted owed s.owing first owes noted) (taking, refl)
           (noted_split notes first (taken table taking n) notes_are) (ends_are ∙ ap (λ (q : FlushReply). ending_of_flush q) reply_is) refl;
       counts = acting.lost refl;
       mode = subst (λ (l : Leaf). FitsMode left l) (sym now) (there.0, there.1, owner_is, count_is);
@@ -236,7 +243,8 @@ up_flushed known tables table life m m' leaf owed s s' notes r ends leaf' mode o
 up_flushed known tables table life m m' leaf owed s s' notes r ends leaf' mode owes fits same ends_are now (flushing.worn first noted notes_are reply_is worn none) =
     let is : ends ≡ ending.Worn = ends_are ∙ ap (λ (q : FlushReply). ending_of_flush q) reply_is in record {
       next = on life (Up None) life.way (noted_all notes);
-      does = lives.worn owed mode (owed_noted owed s.owing notes owes (subst (λ (ns : List Note). OwedNotes s.owing.log.owed s.owing ns) (sym notes_are) noted)) is refl;
+      hands = hands_nothing leaf';
+      does = λ least few. lives.worn owed mode (owed_noted owed s.owing notes owes (subst (λ (ns : List Note). OwedNotes s.owing.log.owed s.owing ns) (sym notes_are) noted)) is refl;
       counts = acting.keeps (ap (λ (e : Ending). is_disk_fault e) is) refl;
       mode = subst (λ (l : Leaf). FitsMode (Up None) l) (sym now) none;
       way = way_stays known life (on life (Up None) life.way (noted_all notes)) leaf m m' refl fits same;
@@ -245,7 +253,8 @@ up_flushed known tables table life m m' leaf owed s s' notes r ends leaf' mode o
     let told = owed_told owed s owes some in
     let still : IsOwedAs (Some told.0) s.owing = subst (λ (o : Option Owed). IsOwedAs o s.owing) told.1 owes in record {
       next = failed life (Up (Some told.0));
-      does = lives.stuck told.0 (mode ∙ ap (λ (o : Option Owed). Up o) told.1) (noted_none notes notes_are) (ends_are ∙ ap (λ (q : FlushReply). ending_of_flush q) reply_is) refl;
+      hands = hands_nothing leaf';
+      does = λ least few. lives.stuck told.0 (mode ∙ ap (λ (o : Option Owed). Up o) told.1) (noted_none notes notes_are) (ends_are ∙ ap (λ (q : FlushReply). ending_of_flush q) reply_is) refl;
       counts = acting.lost refl;
       mode = subst (λ (l : Leaf). FitsMode (Up (Some told.0)) l) (sym now) (still.0, owed_is ∙ still.1, owner_is ∙ still.2, count_is ∙ still.3);
       way = way_stays known life (failed life (Up (Some told.0))) leaf m m' refl fits same;
@@ -259,7 +268,8 @@ flush_lives known tables table life m m' leaf notes ends leaf' stands mode fits 
     up_flushed known tables table life m m' leaf u.0 s s' notes r ends leaf' u.1 u.2 fits (where_known known leaf m (m'.held.region ≡ m.held.region) stands region) ends_are now flushes
 flush_lives known tables table life m m' leaf notes ends leaf' stands mode fits (steps.not_up not notes_are same ends_are now) = record {
   next = life;
-  does = lives.not_up (not_serving leaf life.mode mode not) (noted_none notes notes_are) ends_are refl;
+  hands = hands_nothing leaf';
+  does = λ least few. lives.not_up (not_serving leaf life.mode mode not) (noted_none notes notes_are) ends_are refl;
   counts = acting.keeps (ap (λ (e : Ending). is_disk_fault e) ends_are) (counts_stay life.durable notes notes_are);
   mode = subst (λ (l : Leaf). FitsMode life.mode l) (sym now) mode;
   way = way_stays known life life leaf m m' refl fits (same_held known leaf m m' stands same);
@@ -292,7 +302,8 @@ killed : (known : Option Known) (tables : ℕ) (life : Life) (m m' : Meaning) (l
 killed known tables life m m' leaf p place count notes ends leaf' y begins from size each fits same ends_are now =
     let c = closed_noted place count notes each in record {
       next = on life Down life.way [];
-      does = lives.kills p begins
+      hands = hands_nothing leaf';
+      does = λ least few. lives.kills p begins
           (c.0, ap (λ (n : ℕ). n + length c.0) from ∙ (ap (λ (n : ℕ). place + n) c.1 ∙ size), subst (λ (n : ℕ). Notes n (map said.Closed c.0) (noted_all notes)) (sym from) c.2)
           ends_are refl;
       counts = acting.keeps (ap (λ (e : Ending). is_disk_fault e) ends_are) (counts_closed life.durable place count notes each);
@@ -316,7 +327,8 @@ kill_lives names known life m m' leaf notes ends leaf' in_place stands mode fits
     fits (same_held known leaf m m' stands same) ends_are now
 kill_lives names known life m m' leaf notes ends leaf' in_place stands mode fits (steps.not_up down notes_are same ends_are now) = record {
   next = life;
-  does = lives.not_up (resting_mode leaf life.mode mode down) (noted_none notes notes_are) ends_are refl;
+  hands = hands_nothing leaf';
+  does = λ least few. lives.not_up (resting_mode leaf life.mode mode down) (noted_none notes notes_are) ends_are refl;
   counts = acting.keeps (ap (λ (e : Ending). is_disk_fault e) ends_are) (counts_stay life.durable notes notes_are);
   mode = subst (λ (l : Leaf). FitsMode life.mode l) (sym now) mode;
   way = way_stays known life life leaf m m' refl fits (same_held known leaf m m' stands same);
@@ -325,14 +337,14 @@ kill_lives names known life m m' leaf notes ends leaf' in_place stands mode fits
 -- ---- any deed
 
 pub deed_lives : (names : List (List ℕ)) (known : Option Known) (deed : Deed) (life : Life) (m m' : Meaning) (leaf : Leaf) (notes : List Note) (ends : Ending) (leaf' : Leaf)
-    → AreInPlace names (seated_of leaf) → AreGrounded known (seated_of leaf) → IfSome known (λ (k : Known). StandsKnown k leaf m)
+    → AreInPlace names (seated_of leaf) → AreGrounded known (seated_of leaf) → AreStewards (seated_of leaf) → IfSome known (λ (k : Known). StandsKnown k leaf m)
     → FitsMode life.mode leaf → FitsNext known life leaf m → OpensCounts known life m m' leaf notes
     → Moves deed m m' leaf notes ends leaf' → Lived known (length names) deed life (noted_all notes) ends leaf' m'
-deed_lives names known Starts life m m' leaf notes ends leaf' in_place grounded stands mode fits opens moves =
+deed_lives names known Starts life m m' leaf notes ends leaf' in_place grounded stewards stands mode fits opens moves =
     start_lives names known life m m' leaf notes ends leaf' in_place grounded stands mode fits opens moves
-deed_lives names known (Flushes table) life m m' leaf notes ends leaf' in_place grounded stands mode fits opens moves =
+deed_lives names known (Flushes table) life m m' leaf notes ends leaf' in_place grounded stewards stands mode fits opens moves =
     flush_lives known (length names) table life m m' leaf notes ends leaf' stands mode fits moves
-deed_lives names known (Drains stop) life m m' leaf notes ends leaf' in_place grounded stands mode fits opens moves =
-    drain_lives names known stop life m m' leaf notes ends leaf' in_place grounded stands mode fits moves
-deed_lives names known Kills life m m' leaf notes ends leaf' in_place grounded stands mode fits opens moves =
+deed_lives names known (Drains stop) life m m' leaf notes ends leaf' in_place grounded stewards stands mode fits opens moves =
+    drain_lives names known stop life m m' leaf notes ends leaf' in_place grounded stewards stands mode fits moves
+deed_lives names known Kills life m m' leaf notes ends leaf' in_place grounded stewards stands mode fits opens moves =
     kill_lives names known life m m' leaf notes ends leaf' in_place stands mode fits moves

@@ -17,7 +17,7 @@ use Rattle.printed_lines.specs.declared.line.Said.TheVariants as said
 use Rattle.transcript.specs.Pieces.{Noted}
 use Rattle.transcript.specs.Life.{IsCopyLength, Owed, Progress, Stage, Step, Steps, durable_after, durable_by, durable_with, first_open}
 use Rattle.transcript.specs.Life as life
-use Rattle.transcript.specs.Steps.{At, MakesStep, MakesSteps, Part, noted_all}
+use Rattle.transcript.specs.Steps.{At, IsLongCopy, MakesStep, MakesSteps, Part, noted_all}
 use Rattle.transcript.specs.Steps as moves
 use Rattle.leaf_sessions.specs.Session.{IsOwedAs, IsProgressOf}
 use Rattle.leaf_sessions.proofs.NoteLines.{noted_none, noted_split, owed_noted}
@@ -143,16 +143,16 @@ steps_take copy n at ns t (moves.none k a notes b n_is notes_are same) takes = s
 steps_take copy n at ns t (moves.more k a notes b fewer first others between n_is step rest ns_are) takes =
     step_takes copy at first between step (steps_take copy fewer between others t rest takes)
 
--- a copy that is planned takes three steps or more
+-- a copy that is planned takes three steps or more, and one for each table that has rows
 abbrev IsLong : At → Type 0
 IsLong (moves.Shuts x) = ⊤
-IsLong (moves.Copies x copy made) = IsCopyLength copy
+IsLong (moves.Copies x copy made) = IsLongCopy x copy
 
 step_long : (at : At) (ns : List Note) (t : At) → MakesStep at ns t → IsLong at → IsLong t
 step_long at ns t (moves.treats x y at_is few treats part t_is) long = subst IsLong (sym t_is) tt
 step_long at ns t (moves.plans x copy at_is all is none t_is) long = subst IsLong (sym t_is) is
 step_long at ns t (moves.copies x copy made at_is few none t_is) long =
-    let same : IsCopyLength copy = subst IsLong at_is long in
+    let same : IsLongCopy x copy = subst IsLong at_is long in
     subst IsLong (sym t_is) same
 
 steps_long : (n : ℕ) (at : At) (ns : List Note) (t : At) → MakesSteps n at ns t → IsLong at → IsLong t
@@ -160,11 +160,14 @@ steps_long n at ns t (moves.none k a notes b n_is notes_are same) long = subst I
 steps_long n at ns t (moves.more k a notes b fewer first others between n_is step rest ns_are) long =
     steps_long fewer between others t rest (step_long at first between step long)
 
-pub copy_long : (n copy made : ℕ) (x y : Shutting) (ns : List Note) → MakesSteps n (moves.Shuts x) ns (moves.Copies y copy made) → IsCopyLength copy
-copy_long n copy made x y ns steps = steps_long n (moves.Shuts x) ns (moves.Copies y copy made) steps tt
+pub copy_columns : (n copy made : ℕ) (x y : Shutting) (ns : List Note) → MakesSteps n (moves.Shuts x) ns (moves.Copies y copy made) → IsLongCopy y copy
+copy_columns n copy made x y ns steps = steps_long n (moves.Shuts x) ns (moves.Copies y copy made) steps tt
+
+pub copy_long : (n copy made : ℕ) (x y : Shutting) (ns : List Note) → MakesSteps n (moves.Shuts x) ns (moves.Copies y copy made) → IsCopyLength 0 copy
+copy_long n copy made x y ns steps = let long = copy_columns n copy made x y ns steps in omega (arith, long)
 
 -- the least that a copy takes
-pub least_copy : IsCopyLength 3
+pub least_copy : IsCopyLength 0 3
 least_copy = omega arith
 
 step_made : (tables copy : ℕ) (at : At) (ns : List Note) (t : At) (s : Stage) → TakesSteps copy t → FitsAt tables s at → MakesStep at ns t → StepMade tables copy s ns t

@@ -1,5 +1,5 @@
 -- The life of a leaf behind a drain, by what that does to it.
-use Rattle.std.proofs.Common.{◌≡◌, ℕ, zero, suc, ◌+◌, ◌<◌, false, List, [], ◌++◌, length, map, refl, sym, ap, subst, ◌∙◌, arith, Option, Some, None}
+use Rattle.std.proofs.Common.{◌≡◌, ℕ, zero, suc, ◌+◌, ◌<◌, ◌≤◌, false, List, [], ◌++◌, length, map, refl, sym, ap, subst, ◌∙◌, arith, Option, Some, None}
 use Rattle.std.specs.Prelude.{IfSome, IsTrue, is_some, option_map, replicate}
 use Rattle.std.proofs.lemmas.List.{append-nil}
 use Rattle.berth_face.specs.Berth.{Meaning, Pair}
@@ -14,21 +14,23 @@ use Rattle.crash_moments.specs.Left.{NamedStates}
 use Rattle.leaf_steward.specs.declared.notes.Note.{Note}
 use Rattle.leaf_steward.specs.Seated.{Seated, AreFounded}
 use Rattle.leaf_steward.specs.Making.{EachNoted, IsClosedNote, IsHandedNote}
-use Rattle.leaf_machine.specs.States.{Shutting, treated}
+use Rattle.leaf_machine.specs.States.{Shutting, columns_seen, treated}
 use Rattle.leaf_machine.specs.Prepares.{Halts, Starves, AllTreated}
 use Rattle.transcript.specs.Pieces.{Drains, Noted}
 use Rattle.transcript.specs.Transcript.{Known}
-use Rattle.transcript.specs.Life.{Life, Mode, Down, Up, Preparing, Owed, Progress, OfDrain, BeginsAt, ClosesRest, MayMake, claimed, durable_with, failed, first_open, on, way_stopped}
+use Rattle.transcript.specs.Life.{Life, Mode, Down, Up, Preparing, Progress, OfDrain, BeginsAt, ClosesRest, MayMake, claimed, durable_with, failed, first_open, on, way_stopped}
 use Rattle.transcript.specs.Life as life
 use Rattle.transcript.specs.Stage.{Leaf, IsDown, IsUp, IsPreparing, Stands, seated_of}
-use Rattle.transcript.specs.Steps.{BeginsShutting, DrainMoves, IsDownLeaf, MakesSteps, RegionStopped, noted_all}
+use Rattle.transcript.specs.Steps.{BeginsShutting, DrainMoves, IsDownLeaf, MakesSteps, Part, RegionStopped, noted_all}
 use Rattle.transcript.specs.Steps as moves
 use Rattle.leaf_sessions.specs.Session.{AreGrounded, AreInPlace, FitsMode, FitsNext, IsProgressOf, StandsKnown}
-use Rattle.leaf_sessions.specs.Acting.{CountsGo, FitsWay, Lived}
+use Rattle.leaf_sessions.specs.Acting.{FitsWay, Hands, Lived}
 use Rattle.leaf_sessions.specs.Acting as acting
 use Rattle.leaf_sessions.proofs.Modes.{as_many, counts_stay, founded_known, resting_mode}
 use Rattle.leaf_sessions.proofs.NoteLines.{closed_noted, handed_noted, noted_split}
-use Rattle.leaf_sessions.proofs.DrainSteps.{closed_still, copied, copy_long, durable_still, halts, handed_still, least_copy, starves, through}
+use Rattle.leaf_sessions.proofs.CountingNotes.{AreStewards}
+use Rattle.leaf_sessions.proofs.Handing.{begun_stewards, handed_columns, hands_nothing, steps_stewards}
+use Rattle.leaf_sessions.proofs.DrainSteps.{closed_still, copied, copy_columns, copy_long, durable_still, halts, handed_still, least_copy, starves, through}
 
 -- ---- what is known where the base is
 
@@ -116,18 +118,25 @@ module _ (known : Option Known) (tables : ℕ) (stop : Option ℕ) (old : Life) 
     (stands : IfSome known (λ (k : Known). StandsKnown k leaf m)) (fits : FitsNext known old leaf m) (b : Begun old.mode leaf x) (size : length x.serving.seated.tables ≡ tables) where
   -- each table is handed over, and the leaf is down
   drained : (y : Shutting) (z : Seated) (treating handing notes : List Note) (n copy made : ℕ)
-      → MakesSteps n (moves.Shuts x) treating (moves.Copies y copy made) → suc made ≡ copy → MayMake stop (suc n)
+      → AreStewards x.serving.seated → MakesSteps n (moves.Shuts x) treating (moves.Copies y copy made) → suc made ≡ copy → MayMake stop (suc n) → Part y.serving.seated handing z
       → EachNoted IsHandedNote 0 (length x.serving.seated.tables) handing → notes ≡ treating ++ handing → IfSome known (λ (k : Known). IsWayOf m'.held.region Memory)
       → Lived known tables (Drains stop) old (noted_all notes) ending.Done (IsDown z) m'
-  drained y z treating handing notes n copy made steps last may noted notes_are memory =
+  drained y z treating handing notes n copy made stewards steps last may part noted notes_are memory =
       let split = noted_split notes treating handing notes_are in
       let hand : life.Notes 0 (replicate tables said.Handed) (noted_all handing) =
       subst (λ (n : ℕ). life.Notes 0 (replicate n said.Handed) (noted_all handing)) size (handed_noted 0 (length x.serving.seated.tables) handing noted) in
       let next : Life = on old Down (claimed (is_some known) Memory) (noted_all treating) in
-      let does : OfDrain (is_some known) tables stop old (noted_all notes) ending.Done next =
-      life.done copy n made b.at (noted_all treating) (noted_all handing) (copy_long n copy made x y treating steps) b.begins
+      let hands : Hands (IsDown z) = record {
+        handed = noted_all handing;
+        columns = columns_seen y.serving.seated.tables y.serving.seated.seats;
+        told = λ grounds histories on. handed_columns grounds histories z on part.from part.to y.serving.seated handing (length x.serving.seated.tables) part.made noted
+            (steps_stewards n (moves.Shuts x) treating (moves.Copies y copy made) steps stewards);
+      } in
+      let does : (least : List Noted → ℕ) → least hands.handed ≤ hands.columns → OfDrain (is_some known) tables least stop old (noted_all notes) ending.Done next =
+      λ least few. life.done copy n made b.at (noted_all treating) (noted_all handing) (let long = copy_columns n copy made x y treating steps in omega (arith, few, long)) b.begins
       (copied tables n copy made x y treating b.at b.progress size steps) last may hand split refl refl in record {
         next = next;
+        hands = hands;
         does = does;
         counts = acting.keeps refl
             (durable_still old.durable (noted_all treating) (noted_all handing) (handed_still 0 tables (noted_all handing) hand)
@@ -141,10 +150,11 @@ module _ (known : Option Known) (tables : ℕ) (stop : Option ℕ) (old : Life) 
       → Lived known tables (Drains stop) old (noted_all notes) ending.FaultRegion (IsDown y.serving.seated) m'
   region_failed y notes n copy made steps may =
       let next : Life = on old Down None (noted_all notes) in
-      let does : OfDrain (is_some known) tables stop old (noted_all notes) ending.FaultRegion next =
-      life.region_fails copy n made b.at (copy_long n copy made x y notes steps) b.begins (copied tables n copy made x y notes b.at b.progress size steps) may refl refl in record {
+      let does : (least : List Noted → ℕ) → OfDrain (is_some known) tables least stop old (noted_all notes) ending.FaultRegion next =
+      λ least. life.region_fails copy n made b.at (copy_long n copy made x y notes steps) b.begins (copied tables n copy made x y notes b.at b.progress size steps) may refl refl in record {
         next = next;
-        does = does;
+        hands = hands_nothing (IsDown y.serving.seated);
+        does = λ least few. does least;
         counts = acting.keeps refl refl;
         mode = tt;
         way = no_way known m' next refl;
@@ -157,10 +167,11 @@ module _ (known : Option Known) (tables : ℕ) (stop : Option ℕ) (old : Life) 
   roomless y notes n steps all may same =
       let th = through tables 3 n x y notes b.at b.progress size steps in
       let next : Life = on old (Preparing th.q) old.way (noted_all notes) in
-      let does : OfDrain (is_some known) tables stop old (noted_all notes) ending.FaultRoom next =
-      life.no_room 3 n b.at th.q least_copy b.begins th.run (th.progress.treated_are ∙ (all ∙ th.size)) may refl refl in record {
+      let does : (least : List Noted → ℕ) → OfDrain (is_some known) tables least stop old (noted_all notes) ending.FaultRoom next =
+      λ least. life.no_room 3 n b.at th.q least_copy b.begins th.run (th.progress.treated_are ∙ (all ∙ th.size)) may refl refl in record {
         next = next;
-        does = does;
+        hands = hands_nothing (IsPreparing y);
+        does = λ least few. does least;
         counts = acting.keeps refl refl;
         mode = th.progress;
         way = kept_way known old leaf m m' stands fits same next refl;
@@ -174,10 +185,11 @@ module _ (known : Option Known) (tables : ℕ) (stop : Option ℕ) (old : Life) 
       let th = through tables 3 n x y treating b.at b.progress size steps in
       let st = starves tables y z starving th.q th.size th.progress s in
       let next : Life = on old (Preparing st.0) old.way (noted_all notes) in
-      let does : OfDrain (is_some known) tables stop old (noted_all notes) ending.FaultMemory next =
-      life.no_memory 3 n b.at th.q st.0 (noted_all treating) (noted_all starving) least_copy b.begins th.run st.1 may (noted_split notes treating starving notes_are) refl refl in record {
+      let does : (least : List Noted → ℕ) → OfDrain (is_some known) tables least stop old (noted_all notes) ending.FaultMemory next =
+      λ least. life.no_memory 3 n b.at th.q st.0 (noted_all treating) (noted_all starving) least_copy b.begins th.run st.1 may (noted_split notes treating starving notes_are) refl refl in record {
         next = next;
-        does = does;
+        hands = hands_nothing (IsPreparing z);
+        does = λ least few. does least;
         counts = acting.keeps refl refl;
         mode = st.2;
         way = kept_way known old leaf m m' stands fits same next refl;
@@ -193,10 +205,11 @@ module _ (known : Option Known) (tables : ℕ) (stop : Option ℕ) (old : Life) 
       let hl = halts y z halting th.q th.progress h in
       let below : th.q.treated < tables = omega (arith, few, th.progress.treated_are, th.size) in
       let next : Life = failed old (Preparing hl.0) in
-      let does : OfDrain (is_some known) tables stop old (noted_all notes) ending.FaultDisk next =
-      life.disk_fails 3 n b.at th.q hl.0 (noted_all treating) (noted_all halting) least_copy b.begins th.run below hl.1 may (noted_split notes treating halting notes_are) refl refl in record {
+      let does : (least : List Noted → ℕ) → OfDrain (is_some known) tables least stop old (noted_all notes) ending.FaultDisk next =
+      λ least. life.disk_fails 3 n b.at th.q hl.0 (noted_all treating) (noted_all halting) least_copy b.begins th.run below hl.1 may (noted_split notes treating halting notes_are) refl refl in record {
         next = next;
-        does = does;
+        hands = hands_nothing (IsPreparing z);
+        does = λ least few. does least;
         counts = acting.lost refl;
         mode = hl.2;
         way = kept_way known old leaf m m' stands fits same next refl;
@@ -219,10 +232,11 @@ module _ (known : Option Known) (tables : ℕ) (stop : Option ℕ) (old : Life) 
         subst (λ (n : ℕ). life.Notes n (map said.Closed shut.0) (noted_all closing)) place shut.2,
       ) in
       let next : Life = on old Down (way_stopped (life.Shutting th.q) old.way) (noted_all treating) in
-      let does : OfDrain (is_some known) tables stop old (noted_all notes) ending.Stopped next =
-      life.stops 3 n b.at (life.Shutting th.q) (noted_all treating) (noted_all closing) least_copy b.begins th.run stop_is rest split refl refl in record {
+      let does : (least : List Noted → ℕ) → OfDrain (is_some known) tables least stop old (noted_all notes) ending.Stopped next =
+      λ least. life.stops 3 n b.at (life.Shutting th.q) (noted_all treating) (noted_all closing) least_copy b.begins th.run stop_is rest split refl refl in record {
         next = next;
-        does = does;
+        hands = hands_nothing (IsDown z);
+        does = λ least few. does least;
         counts = acting.keeps refl
             (durable_still old.durable (noted_all treating) (noted_all closing) (closed_still (length y.closed) shut.0 (noted_all closing) shut.2)
             ∙ ap (λ (ns : List Noted). durable_with old.durable ns) (sym split));
@@ -236,11 +250,12 @@ module _ (known : Option Known) (tables : ℕ) (stop : Option ℕ) (old : Life) 
       → Lived known tables (Drains stop) old (noted_all notes) ending.Stopped (IsDown y.serving.seated) m'
   stopped_copying y notes n copy made stop_is steps region =
       let next : Life = on old Down (way_stopped (life.Copying made) old.way) (noted_all notes) in
-      let does : OfDrain (is_some known) tables stop old (noted_all notes) ending.Stopped next =
-      life.stops copy n b.at (life.Copying made) (noted_all notes) [] (copy_long n copy made x y notes steps) b.begins (copied tables n copy made x y notes b.at b.progress size steps) stop_is refl
+      let does : (least : List Noted → ℕ) → OfDrain (is_some known) tables least stop old (noted_all notes) ending.Stopped next =
+      λ least. life.stops copy n b.at (life.Copying made) (noted_all notes) [] (copy_long n copy made x y notes steps) b.begins (copied tables n copy made x y notes b.at b.progress size steps) stop_is refl
       (sym (append-nil (noted_all notes))) refl refl in record {
         next = next;
-        does = does;
+        hands = hands_nothing (IsDown y.serving.seated);
+        does = λ least few. does least;
         counts = acting.keeps refl refl;
         mode = tt;
         way = stopped_way known old leaf m m' made fits region next refl;
@@ -251,9 +266,10 @@ not_up : (known : Option Known) (tables : ℕ) (stop : Option ℕ) (old : Life) 
     → IfSome known (λ (k : Known). StandsKnown k leaf m) → FitsMode old.mode leaf → FitsNext known old leaf m → IsDownLeaf leaf → m'.held ≡ m.held
     → Lived known tables (Drains stop) old [] ending.NotUp leaf m'
 not_up known tables stop old m m' leaf stands mode fits down held =
-    let does : OfDrain (is_some known) tables stop old [] ending.NotUp old = life.not_up (resting_mode leaf old.mode mode down) refl refl refl in record {
+    let does : (least : List Noted → ℕ) → OfDrain (is_some known) tables least stop old [] ending.NotUp old = λ least. life.not_up (resting_mode leaf old.mode mode down) refl refl refl in record {
       next = old;
-      does = does;
+      hands = hands_nothing leaf;
+      does = λ least few. does least;
       counts = acting.keeps refl (counts_stay old.durable [] refl);
       mode = mode;
       way = kept_way known old leaf m m' stands fits (λ tells. ap (λ (h : Pair). h.region) held) old refl;
@@ -262,38 +278,38 @@ not_up known tables stop old m m' leaf stands mode fits down held =
 -- ---- any drain
 
 pub drain_lives : (names : List (List ℕ)) (known : Option Known) (stop : Option ℕ) (life : Life) (m m' : Meaning) (leaf : Leaf) (notes : List Note) (ends : Ending) (leaf' : Leaf)
-    → AreInPlace names (seated_of leaf) → AreGrounded known (seated_of leaf) → IfSome known (λ k. StandsKnown k leaf m)
+    → AreInPlace names (seated_of leaf) → AreGrounded known (seated_of leaf) → AreStewards (seated_of leaf) → IfSome known (λ k. StandsKnown k leaf m)
     → FitsMode life.mode leaf → FitsNext known life leaf m
     → DrainMoves m m' leaf stop notes ends leaf' → Lived known (length names) (Drains stop) life (noted_all notes) ends leaf' m'
-drain_lives names known stop old m m' leaf notes ends leaf' place grounded stands mode fits (moves.done x y z treating handing n copy made shuts steps last may part noted notes_are region ends_are leaf_is) =
+drain_lives names known stop old m m' leaf notes ends leaf' place grounded stewards stands mode fits (moves.done x y z treating handing n copy made shuts steps last may part noted notes_are region ends_are leaf_is) =
     let b = begun old.mode leaf x mode shuts in
     rw (ends_are, leaf_is)
-    (drained known (length names) stop old m m' leaf x stands fits b (b.tables ∙ as_many names (seated_of leaf) place) y z treating handing notes n copy made steps last may noted notes_are
+    (drained known (length names) stop old m m' leaf x stands fits b (b.tables ∙ as_many names (seated_of leaf) place) y z treating handing notes n copy made (begun_stewards leaf x shuts stewards) steps last may part noted notes_are
     (promised (IsWayOf m'.held.region Memory) names known leaf m place grounded stands region))
-drain_lives names known stop old m m' leaf notes ends leaf' place grounded stands mode fits (moves.failed x y n copy made shuts steps may ends_are leaf_is) =
+drain_lives names known stop old m m' leaf notes ends leaf' place grounded stewards stands mode fits (moves.failed x y n copy made shuts steps may ends_are leaf_is) =
     let b = begun old.mode leaf x mode shuts in
     rw (ends_are, leaf_is)
     (region_failed known (length names) stop old m m' leaf x stands fits b (b.tables ∙ as_many names (seated_of leaf) place) y notes n copy made steps may)
-drain_lives names known stop old m m' leaf notes ends leaf' place grounded stands mode fits (moves.roomless x y n shuts steps all may region ends_are leaf_is) =
+drain_lives names known stop old m m' leaf notes ends leaf' place grounded stewards stands mode fits (moves.roomless x y n shuts steps all may region ends_are leaf_is) =
     let b = begun old.mode leaf x mode shuts in
     rw (ends_are, leaf_is)
     (roomless known (length names) stop old m m' leaf x stands fits b (b.tables ∙ as_many names (seated_of leaf) place) y notes n steps all may region)
-drain_lives names known stop old m m' leaf notes ends leaf' place grounded stands mode fits (moves.starved x y z treating starving n shuts steps may s part notes_are region ends_are leaf_is) =
+drain_lives names known stop old m m' leaf notes ends leaf' place grounded stewards stands mode fits (moves.starved x y z treating starving n shuts steps may s part notes_are region ends_are leaf_is) =
     let b = begun old.mode leaf x mode shuts in
     rw (ends_are, leaf_is)
     (starved known (length names) stop old m m' leaf x stands fits b (b.tables ∙ as_many names (seated_of leaf) place) y z treating starving notes n steps may s notes_are region)
-drain_lives names known stop old m m' leaf notes ends leaf' place grounded stands mode fits (moves.halted x y z treating halting n shuts steps may few h notes_are region ends_are leaf_is) =
+drain_lives names known stop old m m' leaf notes ends leaf' place grounded stewards stands mode fits (moves.halted x y z treating halting n shuts steps may few h notes_are region ends_are leaf_is) =
     let b = begun old.mode leaf x mode shuts in
     rw (ends_are, leaf_is)
     (halted known (length names) stop old m m' leaf x stands fits b (b.tables ∙ as_many names (seated_of leaf) place) y z treating halting notes n steps may few h notes_are region)
-drain_lives names known stop old m m' leaf notes ends leaf' place grounded stands mode fits (moves.stopped x y z treating closing n count shuts stop_is steps count_is noted part notes_are region serves ends_are leaf_is) =
+drain_lives names known stop old m m' leaf notes ends leaf' place grounded stewards stands mode fits (moves.stopped x y z treating closing n count shuts stop_is steps count_is noted part notes_are region serves ends_are leaf_is) =
     let b = begun old.mode leaf x mode shuts in
     rw (ends_are, leaf_is)
     (stopped known (length names) stop old m m' leaf x stands fits b (b.tables ∙ as_many names (seated_of leaf) place) y z treating closing notes n count stop_is steps count_is noted notes_are region)
-drain_lives names known stop old m m' leaf notes ends leaf' place grounded stands mode fits (moves.stopped_copying x y n copy made shuts stop_is steps region ends_are leaf_is) =
+drain_lives names known stop old m m' leaf notes ends leaf' place grounded stewards stands mode fits (moves.stopped_copying x y n copy made shuts stop_is steps region ends_are leaf_is) =
     let b = begun old.mode leaf x mode shuts in
     rw (ends_are, leaf_is)
     (stopped_copying known (length names) stop old m m' leaf x stands fits b (b.tables ∙ as_many names (seated_of leaf) place) y notes n copy made stop_is steps
     (promised (RegionStopped made m m') names known leaf m place grounded stands region))
-drain_lives names known stop old m m' leaf notes ends leaf' place grounded stands mode fits (moves.not_up down notes_are held ends_are leaf_is) =
+drain_lives names known stop old m m' leaf notes ends leaf' place grounded stewards stands mode fits (moves.not_up down notes_are held ends_are leaf_is) =
     rw (notes_are, ends_are, leaf_is) (not_up known (length names) stop old m m' leaf stands mode fits down held)

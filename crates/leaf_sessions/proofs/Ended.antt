@@ -1,11 +1,11 @@
 -- A leaf ends: its tables' histories are those that were printed, and its berth is left so.
-use Rattle.std.proofs.Common.{◌≡◌, ◌⊎◌, inl, inr, ℕ, zero, suc, ◌+◌, ◌<◌, Bool, List, [], ◌∷◌, ◌++◌, length, Option, Some, None, refl, sym, ap, ap₂, subst, ◌∙◌, arith, IsPermutation}
-use Rattle.std.specs.Prelude.{slice_get}
+use Rattle.std.proofs.Common.{◌≡◌, ◌⊎◌, inl, inr, ℕ, zero, suc, ◌+◌, ◌<◌, List, [], ◌∷◌, ◌++◌, length, Option, Some, None, refl, sym, ap, subst, ◌∙◌, arith, IsPermutation}
+use Rattle.std.specs.Prelude.{is_some, slice_get}
 use Rattle.std.specs.List.{AllByRecursion}
 use Rattle.std.proofs.lemmas.List.{append-nil}
 use Rattle.berth_face.specs.Berth.{Meaning}
 use Rattle.turnstile.specs.Seats.{AreIds, Owns}
-use Rattle.leaf_history.specs.History.{Entry, HistoryState, LegalFrom}
+use Rattle.leaf_history.specs.History.{Entry, LegalFrom}
 use Rattle.leaf_table.specs.Turns.{Shared, is_founded, start_of}
 use Rattle.leaf_table.specs.Calls.{SeatView, AreOwnOrStewards, OwnsTheRest, base_seen, name_of, seen_of}
 use Rattle.leaf_table.proofs.Knowing.{makers_known}
@@ -16,7 +16,9 @@ use Rattle.printed_lines.specs.Lines.{name_at}
 use Rattle.transcript.specs.Pieces.{Piece, PlayedItem, all_pieces}
 use Rattle.transcript.specs.Histories.{Ground, InOrder, IsHistoryOf, Shown, Tells, shown}
 use Rattle.transcript.specs.Strangers.{IsNamedBy, Strangers}
-use Rattle.transcript.specs.Transcript.{Known, ground_of}
+use Rattle.transcript.specs.Answers.{columns_handed}
+use Rattle.transcript.specs.Life.{Lives}
+use Rattle.transcript.specs.Transcript.{Known, first_life, ground_of}
 use Rattle.transcript.specs.Leaving.{LeavesBerth}
 use Rattle.transcript.specs.Stage.{Leaf, seated_of}
 use Rattle.transcript.specs.Holds.{Hold, caller_in, ground_at, seen_by, seen_in, steward_in}
@@ -27,6 +29,7 @@ use Rattle.leaf_sessions.proofs.TableActs.{nothing_since}
 use Rattle.leaf_sessions.proofs.Standing.{leaves_met}
 use Rattle.leaf_sessions.proofs.Lending.{seats_at, seen_is, table_whole}
 use Rattle.leaf_sessions.proofs.Sessions.{many_tables}
+use Rattle.leaf_sessions.proofs.ToldOn.{ground_is, told_at_end}
 
 -- ---- what its tables began from
 
@@ -36,9 +39,6 @@ ground_there [] table t at = absurd cc
 ground_there (x ∷ xs) zero t at =
     ap (λ (u : Shared). let g : Ground = record { founded = is_founded (base_seen u); base = start_of (base_seen u) } in g) (same_some x t at)
 ground_there (x ∷ xs) (suc table) t at = ground_there xs table t at
-
-ground_is : (g : Ground) (founded : Bool) (base : HistoryState) → founded ≡ g.founded → base ≡ g.base → record { founded = founded; base = base } ≡ g
-ground_is g founded base e f = ap₂ (λ (b : Bool) (s : HistoryState). let h : Ground = record { founded = b; base = s } in h) e f
 
 -- ---- the history of one table
 
@@ -163,3 +163,17 @@ left {B} meaning number names known old items x k is now met l b held =
     left_of number names known old (all_pieces items) l (meaning b) (λ place. seen_in x place) k is (now.held l b held).1 (λ place v sat.
     let steward_is : steward_in x.held place ≡ Some v = ap (λ (h : Option (Leaf × B)). steward_in h place) held ∙ sat in
     seen_alike v (caller_in x.callers place) (λ s e. (met place v s steward_is e).0) ∙ ap (λ (w : Option SeatView). seen_by w (caller_in x.callers place)) (sym steward_is))
+
+-- ---- its life
+
+pub lives_all : {B : Type 0} (meaning : B → Meaning) (number : ℕ) (names : List (List ℕ)) (known : Option Known) (old : Meaning) (items : List PlayedItem) (x : Hold B)
+    → (now : LeafSession meaning number names known old [] (λ place. []) items x) → AreMet x → (l : Leaf) (b : B) (held : x.held ≡ Some (l, b))
+    → Lives (is_some known) (length names) (columns_handed (λ table. ground_of known (name_at names table)) (λ table. seen_in x table)) number (first_life known names) (all_pieces items)
+    (now.held l b held).1.life
+lives_all {B} meaning number names known old items x now met l b held =
+    let is = (now.held l b held).1 in
+    is.lives (λ table. ground_of known (name_at names table)) (λ table. seen_in x table)
+    (told_at_end names known (seated_of l) (λ table. seen_in x table) is.in_place is.grounded (λ place v sat.
+    let steward_is : steward_in x.held place ≡ Some v = ap (λ (h : Option (Leaf × B)). steward_in h place) held ∙ sat in
+    let same = seen_alike v (caller_in x.callers place) (λ s e. (met place v s steward_is e).0) ∙ ap (λ (w : Option SeatView). seen_by w (caller_in x.callers place)) (sym steward_is) in
+    ([], sym same ∙ sym (append-nil (seen_of v)))))

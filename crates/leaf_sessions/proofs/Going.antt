@@ -5,6 +5,7 @@ use Rattle.berth_face.specs.Berth.{Meaning}
 use Rattle.leaf_steward.specs.declared.notes.Note.{Note}
 use Rattle.printed_lines.specs.declared.line.Ending.{Ending}
 use Rattle.transcript.specs.Pieces.{Acted, Deed, Piece}
+use Rattle.transcript.specs.Answers.{columns_handed}
 use Rattle.transcript.specs.Transcript.{Known, first_life}
 use Rattle.transcript.specs.Stage.{Leaf, Carries, seated_of}
 use Rattle.transcript.specs.Steps.{Moves, noted_all}
@@ -13,6 +14,7 @@ use Rattle.leaf_sessions.specs.Acting.{Lived}
 use Rattle.leaf_sessions.proofs.CountingNotes.{AreStewards}
 use Rattle.leaf_sessions.proofs.Deeds.{deed_lives}
 use Rattle.leaf_sessions.proofs.Lives.{lives_act}
+use Rattle.leaf_sessions.proofs.ToldOn.{told_made}
 use Rattle.leaf_sessions.proofs.Behind.{some_weaken}
 use Rattle.leaf_sessions.proofs.Moved.{grounded_moved, known_moved, next_moved, opens, place_moved}
 
@@ -23,12 +25,15 @@ module _ (number : ℕ) (names : List (List ℕ)) (known : Option Known) (old : 
 
   -- the life of the leaf behind the deed
   lived : Lived known (length names) deed s.life (noted_all notes) ends moved m'
-  lived = deed_lives names known deed s.life m m' met notes ends moved s.in_place s.grounded stands s.mode s.next (opens names known s.life m m' met notes s.in_place s.grounded stands s.next) moves
+  lived = deed_lives names known deed s.life m m' met notes ends moved s.in_place s.grounded stewards stands s.mode s.next (opens names known s.life m m' met notes s.in_place s.grounded stands s.next) moves
 
   pub held_acts : LeafHeld number names known old (pieces ++ Acted number deed (noted_all notes) ends ∷ []) moved m'
   held_acts = record {
     life = lived.next;
-    lives = lives_act (is_some known) (length names) number (first_life known names) s.life lived.next pieces deed (noted_all notes) ends s.lives lived.does;
+    lives = λ grounds histories told.
+        lives_act (is_some known) (length names) (columns_handed grounds histories) number (first_life known names) s.life lived.next pieces deed (noted_all notes) ends
+        (s.lives grounds histories (told_made grounds histories m.clock m'.clock (seated_of met) notes (seated_of moved) carries.made stewards told))
+        (lived.does (columns_handed grounds histories) (lived.hands.told grounds histories told));
     in_place = place_moved names met moved notes m m' s.in_place carries;
     grounded = grounded_moved names met moved notes m m' s.in_place carries known s.grounded;
     mode = lived.mode;

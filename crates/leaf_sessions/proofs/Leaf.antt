@@ -14,9 +14,10 @@ use Rattle.printed_lines.specs.declared.line.Said.{Said}
 use Rattle.printed_lines.specs.Lines.{name_at}
 use Rattle.transcript.specs.Pieces.{Called, Deed, Piece, Played, PlayedItem, One, Burst, Worn, all_pieces, pieces_in}
 use Rattle.transcript.specs.Histories.{InOrder, IsHistoryOf, shown}
-use Rattle.transcript.specs.Answers.{WornIsLong}
+use Rattle.transcript.specs.Answers.{WornIsLong, columns_handed}
+use Rattle.transcript.specs.Life.{Lives}
 use Rattle.transcript.specs.Strangers.{IsNamedBy, Strangers}
-use Rattle.transcript.specs.Transcript.{Known, ground_of}
+use Rattle.transcript.specs.Transcript.{Known, first_life, ground_of}
 use Rattle.transcript.specs.Leaving.{LeavesBerth}
 use Rattle.transcript.specs.Stage.{Leaf}
 use Rattle.transcript.specs.Holds.{Hold, HoldMeets, ground_at, seen_in, with_callers, with_leaf}
@@ -35,7 +36,7 @@ use Rattle.leaf_sessions.proofs.Reaching.{deed_is_long}
 use Rattle.leaf_sessions.proofs.Lending.{in_turn, joined_on, lends}
 use Rattle.leaf_sessions.proofs.Cutting.{cut_apart, cut_both, cut_off, cut_rest}
 use Rattle.leaf_sessions.proofs.Returning.{back_grows, back_holds, back_on}
-use Rattle.leaf_sessions.proofs.Ended.{grounds_are, history, left, order, strangers_in}
+use Rattle.leaf_sessions.proofs.Ended.{grounds_are, history, left, lives_all, order, strangers_in}
 
 module _ {B : Type 0} (meaning : B → Meaning) (number : ℕ) (names : List (List ℕ)) (known : Option Known) where
   -- ---- it begins
@@ -167,6 +168,12 @@ module _ {B : Type 0} (meaning : B → Meaning) (number : ℕ) (names : List (Li
     pub leaf_order : LeafSession meaning number names known old [] (λ place. []) items x → IsWhole x → AreMet x → (table : ℕ) → table < length names
         → InOrder number table 0 items (length (seen_in x table))
     leaf_order now whole met table below = order meaning number names known old items x now whole met table below
+
+    -- its life, by its histories
+    pub leaf_lives : (now : LeafSession meaning number names known old [] (λ place. []) items x) → AreMet x → (l : Leaf) (b : B) (held : x.held ≡ Some (l, b))
+        → Lives (is_some known) (length names) (columns_handed (λ table. ground_of known (name_at names table)) (λ table. seen_in x table)) number (first_life known names) (all_pieces items)
+        (now.held l b held).1.life
+    leaf_lives now met l b held = lives_all meaning number names known old items x now met l b held
 
     pub leaf_strangers : (k : Known) → known ≡ Some k → LeafSession meaning number names known old [] (λ place. []) items x → IsWhole x → Strangers (IsNamedBy names k.held) number (all_pieces items)
     leaf_strangers k is now whole = strangers_in meaning number names known old items x k is now whole

@@ -19,6 +19,7 @@ pub mod DurableStart
 pub mod Ended
 pub mod Going
 pub mod Growing
+pub mod Handing
 pub mod Ids
 pub mod Leaf
 pub mod Lending
@@ -44,6 +45,7 @@ pub mod Tables
 pub mod Taking
 pub mod Telling
 pub mod Terms
+pub mod ToldOn
 pub mod Unheld
 pub mod Ways
 pub mod Wearing

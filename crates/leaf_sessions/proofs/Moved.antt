@@ -1,5 +1,5 @@
 -- What a deed of the steward leaves: the leaf in its place, its next start, and what stands of its berth.
-use Rattle.std.proofs.Common.{◌≡◌, ℕ, suc, true, false, Bool, List, [], ◌∷◌, ◌++◌, length, map, Option, Some, None, refl, sym, ap, subst, ◌∙◌}
+use Rattle.std.proofs.Common.{◌≡◌, ℕ, suc, true, false, Bool, List, [], ◌∷◌, ◌++◌, length, map, Option, Some, None, refl, sym, ap, subst, ◌∙◌, arith}
 use Rattle.std.specs.Prelude.{IsTrue, IfSome, slice_get}
 use Rattle.berth_face.specs.Berth.{Meaning}
 use Rattle.leaf_opening.specs.declared.ways.Way.{Way}
@@ -221,5 +221,5 @@ known_moved number names (Some k) old deed life pieces m m' met notes ends moved
     record {
       now = record { tells = subst IsTrue (sym on.told.passes.tells) s.now.tells; sound = s.now.sound; stands = on.stands };
       told = told_on k.base names met moved old m m' s.told on;
-      named = named_act number names k.held life pieces deed m m' met notes ends moved lived.next s.now.tells mode in_place.same_names moves lived.does s.named;
+      named = named_act number names (λ handed. 0) k.held life pieces deed m m' met notes ends moved lived.next s.now.tells mode in_place.same_names moves (lived.does (λ handed. 0) (omega arith)) s.named;
     }

@@ -42,26 +42,26 @@ flush_begun table life notes ends next (OfFlush.stuck o up none ended now) begun
 flush_begun table life notes ends next (OfFlush.worn owed up owes ended now) begun = begun_of next _ now ∙ begun
 flush_begun table life notes ends next (OfFlush.not_up other none ended now) begun = begun_of next _ now ∙ begun
 
-drain_begun : (told : Bool) (tables : ℕ) (stop : Option ℕ) (life : Life) (notes : List Noted) (ends : Ending) (next : Life) → OfDrain told tables stop life notes ends next
+drain_begun : (told : Bool) (tables : ℕ) (columns : List Noted → ℕ) (stop : Option ℕ) (life : Life) (notes : List Noted) (ends : Ending) (next : Life) → OfDrain told tables columns stop life notes ends next
     → life.begun ≡ true → next.begun ≡ true
-drain_begun told tables stop life notes ends next (OfDrain.done copy n made p treating handing size begins steps last may hands all ended now) begun = begun_of next _ now ∙ begun
-drain_begun told tables stop life notes ends next (OfDrain.region_fails copy n made p size begins steps may ended now) begun = begun_of next _ now ∙ begun
-drain_begun told tables stop life notes ends next (OfDrain.no_room copy n p q size begins steps treated may ended now) begun = begun_of next _ now ∙ begun
-drain_begun told tables stop life notes ends next (OfDrain.no_memory copy n p q r treating starving size begins steps starves may all ended now) begun = begun_of next _ now ∙ begun
-drain_begun told tables stop life notes ends next (OfDrain.disk_fails copy n p q r treating halting size begins steps fewer halts may all ended now) begun = begun_of next _ now ∙ begun
-drain_begun told tables stop life notes ends next (OfDrain.stops copy n p s treating closing size begins steps stops closes all ended now) begun = begun_of next _ now ∙ begun
-drain_begun told tables stop life notes ends next (OfDrain.not_up down none ended now) begun = begun_of next _ now ∙ begun
+drain_begun told tables columns stop life notes ends next (OfDrain.done copy n made p treating handing size begins steps last may hands all ended now) begun = begun_of next _ now ∙ begun
+drain_begun told tables columns stop life notes ends next (OfDrain.region_fails copy n made p size begins steps may ended now) begun = begun_of next _ now ∙ begun
+drain_begun told tables columns stop life notes ends next (OfDrain.no_room copy n p q size begins steps treated may ended now) begun = begun_of next _ now ∙ begun
+drain_begun told tables columns stop life notes ends next (OfDrain.no_memory copy n p q r treating starving size begins steps starves may all ended now) begun = begun_of next _ now ∙ begun
+drain_begun told tables columns stop life notes ends next (OfDrain.disk_fails copy n p q r treating halting size begins steps fewer halts may all ended now) begun = begun_of next _ now ∙ begun
+drain_begun told tables columns stop life notes ends next (OfDrain.stops copy n p s treating closing size begins steps stops closes all ended now) begun = begun_of next _ now ∙ begun
+drain_begun told tables columns stop life notes ends next (OfDrain.not_up down none ended now) begun = begun_of next _ now ∙ begun
 
 kill_begun : (tables : ℕ) (life : Life) (notes : List Noted) (ends : Ending) (next : Life) → OfKill tables life notes ends next → life.begun ≡ true → next.begun ≡ true
 kill_begun tables life notes ends next (OfKill.kills p begins closes ended now) begun = begun_of next _ now ∙ begun
 kill_begun tables life notes ends next (OfKill.not_up down none ended now) begun = begun_of next _ now ∙ begun
 
-does_begun : (told : Bool) (tables : ℕ) (deed : Deed) (life : Life) (notes : List Noted) (ends : Ending) (next : Life) → Does told tables deed life notes ends next
+does_begun : (told : Bool) (tables : ℕ) (columns : List Noted → ℕ) (deed : Deed) (life : Life) (notes : List Noted) (ends : Ending) (next : Life) → Does told tables columns deed life notes ends next
     → life.begun ≡ true → next.begun ≡ true
-does_begun told tables Starts life notes ends next does begun = start_begun told tables life notes ends next does begun
-does_begun told tables (Flushes table) life notes ends next does begun = flush_begun table life notes ends next does begun
-does_begun told tables (Drains stop) life notes ends next does begun = drain_begun told tables stop life notes ends next does begun
-does_begun told tables Kills life notes ends next does begun = kill_begun tables life notes ends next does begun
+does_begun told tables columns Starts life notes ends next does begun = start_begun told tables life notes ends next does begun
+does_begun told tables columns (Flushes table) life notes ends next does begun = flush_begun table life notes ends next does begun
+does_begun told tables columns (Drains stop) life notes ends next does begun = drain_begun told tables columns stop life notes ends next does begun
+does_begun told tables columns Kills life notes ends next does begun = kill_begun tables life notes ends next does begun
 
 -- ---- of a leaf that is down no deed but a start does anything
 
@@ -85,16 +85,16 @@ flush_rests table life notes ends next down (OfFlush.stuck o up none ended now) 
 flush_rests table life notes ends next down (OfFlush.worn owed up owes ended now) = absurd (down_up life.mode owed down up)
 flush_rests table life notes ends next down (OfFlush.not_up other none ended now) = record { now = now; ended = ended }
 
-drain_rests : (told : Bool) (tables : ℕ) (stop : Option ℕ) (life : Life) (notes : List Noted) (ends : Ending) (next : Life) → life.mode ≡ Down → OfDrain told tables stop life notes ends next
+drain_rests : (told : Bool) (tables : ℕ) (columns : List Noted → ℕ) (stop : Option ℕ) (life : Life) (notes : List Noted) (ends : Ending) (next : Life) → life.mode ≡ Down → OfDrain told tables columns stop life notes ends next
     → Rests life ends next
-drain_rests told tables stop life notes ends next down (OfDrain.done copy n made p treating handing size begins steps last may hands all ended now) = absurd (never_begins life.mode p down begins)
-drain_rests told tables stop life notes ends next down (OfDrain.region_fails copy n made p size begins steps may ended now) = absurd (never_begins life.mode p down begins)
-drain_rests told tables stop life notes ends next down (OfDrain.no_room copy n p q size begins steps treated may ended now) = absurd (never_begins life.mode p down begins)
-drain_rests told tables stop life notes ends next down (OfDrain.no_memory copy n p q r treating starving size begins steps starves may all ended now) = absurd (never_begins life.mode p down begins)
-drain_rests told tables stop life notes ends next down (OfDrain.disk_fails copy n p q r treating halting size begins steps fewer halts may all ended now) =
+drain_rests told tables columns stop life notes ends next down (OfDrain.done copy n made p treating handing size begins steps last may hands all ended now) = absurd (never_begins life.mode p down begins)
+drain_rests told tables columns stop life notes ends next down (OfDrain.region_fails copy n made p size begins steps may ended now) = absurd (never_begins life.mode p down begins)
+drain_rests told tables columns stop life notes ends next down (OfDrain.no_room copy n p q size begins steps treated may ended now) = absurd (never_begins life.mode p down begins)
+drain_rests told tables columns stop life notes ends next down (OfDrain.no_memory copy n p q r treating starving size begins steps starves may all ended now) = absurd (never_begins life.mode p down begins)
+drain_rests told tables columns stop life notes ends next down (OfDrain.disk_fails copy n p q r treating halting size begins steps fewer halts may all ended now) =
     absurd (never_begins life.mode p down begins)
-drain_rests told tables stop life notes ends next down (OfDrain.stops copy n p s treating closing size begins steps stops closes all ended now) = absurd (never_begins life.mode p down begins)
-drain_rests told tables stop life notes ends next down (OfDrain.not_up is_down none ended now) = record { now = now; ended = ended }
+drain_rests told tables columns stop life notes ends next down (OfDrain.stops copy n p s treating closing size begins steps stops closes all ended now) = absurd (never_begins life.mode p down begins)
+drain_rests told tables columns stop life notes ends next down (OfDrain.not_up is_down none ended now) = record { now = now; ended = ended }
 
 kill_rests : (tables : ℕ) (life : Life) (notes : List Noted) (ends : Ending) (next : Life) → life.mode ≡ Down → OfKill tables life notes ends next → Rests life ends next
 kill_rests tables life notes ends next down (OfKill.kills p begins closes ended now) = absurd (never_begins life.mode p down begins)
@@ -225,15 +225,15 @@ module _ (number : ℕ) (names : List (List ℕ)) (held : Pair) where
   start_goes tables life m m' leaf notes ends leaf' next tells down same_names mode handed moves (OfStart.not_down up none ended now) = absurd (up mode)
 
   -- a deed of a leaf that was never up
-  fresh_goes : (tables : ℕ) (deed : Deed) (life : Life) (m m' : Meaning) (leaf : Leaf) (notes : List Note) (ends : Ending) (leaf' : Leaf) (next : Life) → IsTrue m.tells → IsDownLeaf leaf
-      → (seated_of leaf).names ≡ names → life.mode ≡ Down → IsAsHanded held m → Moves deed m m' leaf notes ends leaf' → Does true tables deed life (noted_all notes) ends next → Goes life ends next m'
-  fresh_goes tables Starts life m m' leaf notes ends leaf' next tells down same_names mode handed moves does =
+  fresh_goes : (tables : ℕ) (columns : List Noted → ℕ) (deed : Deed) (life : Life) (m m' : Meaning) (leaf : Leaf) (notes : List Note) (ends : Ending) (leaf' : Leaf) (next : Life) → IsTrue m.tells → IsDownLeaf leaf
+      → (seated_of leaf).names ≡ names → life.mode ≡ Down → IsAsHanded held m → Moves deed m m' leaf notes ends leaf' → Does true tables columns deed life (noted_all notes) ends next → Goes life ends next m'
+  fresh_goes tables columns Starts life m m' leaf notes ends leaf' next tells down same_names mode handed moves does =
       start_goes tables life m m' leaf notes ends leaf' next tells down same_names mode handed moves does
-  fresh_goes tables (Flushes table) life m m' leaf notes ends leaf' next tells down same_names mode handed moves does =
+  fresh_goes tables columns (Flushes table) life m m' leaf notes ends leaf' next tells down same_names mode handed moves does =
       rests_goes life ends next m m' mode handed (flush_rests table life (noted_all notes) ends next mode does) (flush_held table m m' leaf notes ends leaf' down moves)
-  fresh_goes tables (Drains stop) life m m' leaf notes ends leaf' next tells down same_names mode handed moves does =
-      rests_goes life ends next m m' mode handed (drain_rests true tables stop life (noted_all notes) ends next mode does) (drain_held stop m m' leaf notes ends leaf' down moves)
-  fresh_goes tables Kills life m m' leaf notes ends leaf' next tells down same_names mode handed moves does =
+  fresh_goes tables columns (Drains stop) life m m' leaf notes ends leaf' next tells down same_names mode handed moves does =
+      rests_goes life ends next m m' mode handed (drain_rests true tables columns stop life (noted_all notes) ends next mode does) (drain_held stop m m' leaf notes ends leaf' down moves)
+  fresh_goes tables columns Kills life m m' leaf notes ends leaf' next tells down same_names mode handed moves does =
       rests_goes life ends next m m' mode handed (kill_rests tables life (noted_all notes) ends next mode does) (kill_held m m' leaf notes ends leaf' down moves)
 
 -- ---- a run
@@ -244,15 +244,15 @@ named_first number names k m same = record {
   on = λ more all. all refl;
 }
 
-pub named_act : (number : ℕ) (names : List (List ℕ)) (held : Pair) (life : Life) (pieces : List Piece) (deed : Deed) (m m' : Meaning) (leaf : Leaf) (notes : List Note) (ends : Ending) (leaf' : Leaf) (next : Life)
-    → IsTrue m.tells → FitsMode life.mode leaf → (seated_of leaf).names ≡ names → Moves deed m m' leaf notes ends leaf' → Does true (length names) deed life (noted_all notes) ends next
+pub named_act : (number : ℕ) (names : List (List ℕ)) (columns : List Noted → ℕ) (held : Pair) (life : Life) (pieces : List Piece) (deed : Deed) (m m' : Meaning) (leaf : Leaf) (notes : List Note) (ends : Ending) (leaf' : Leaf) (next : Life)
+    → IsTrue m.tells → FitsMode life.mode leaf → (seated_of leaf).names ≡ names → Moves deed m m' leaf notes ends leaf' → Does true (length names) columns deed life (noted_all notes) ends next
     → AreNamed number names held life pieces m → AreNamed number names held next (pieces ++ Acted number deed (noted_all notes) ends ∷ []) m'
-named_act number names held life pieces deed m m' leaf notes ends leaf' next tells fits same_names moves does named =
+named_act number names columns held life pieces deed m m' leaf notes ends leaf' next tells fits same_names moves does named =
     goes_named number names held life pieces deed m m' (noted_all notes) ends next (by life.begun refl) named
   where
     by : (b : Bool) → life.begun ≡ b → Goes number names held life ends next m'
-    by true begun = begun_goes number names held life ends next m' begun (does_begun true (length names) deed life (noted_all notes) ends next does begun)
+    by true begun = begun_goes number names held life ends next m' begun (does_begun true (length names) columns deed life (noted_all notes) ends next does begun)
     by false fresh =
         let was = named.rest fresh in
         let down : IsDownLeaf leaf = down_leaf leaf (subst (λ (mode : Mode). FitsMode mode leaf) was.0 fits) in
-        fresh_goes number names held (length names) deed life m m' leaf notes ends leaf' next tells down same_names was.0 was.1 moves does
+        fresh_goes number names held (length names) columns deed life m m' leaf notes ends leaf' next tells down same_names was.0 was.1 moves does

@@ -1,6 +1,6 @@
 -- The copy of a leaf's tables, step by step.
 use Rattle.std.proofs.Common.{◌≡◌, ℕ, zero, suc, ◌+◌, ◌<◌, ◌≤◌, Bool, true, false, ltb, List, [], ◌∷◌, ◌++◌, length, drop, replicate, Option, Result, Ok, Err, refl, sym, ap, subst, ◌∙◌, le_refl, arith, inl}
-use Rattle.std.specs.Prelude.{IsTrue, slice_index, ⊤}
+use Rattle.std.specs.Prelude.{IsTrue, slice_index}
 use Rattle.std.proofs.lemmas.Bool.{le-ltb, ltb-true, ltb-false}
 use Rattle.std.proofs.lemmas.List.{length-drop}
 use Rattle.leaf_model.specs.declared.writes.Write.{Write}
@@ -25,13 +25,14 @@ use Rattle.leaf_steward.specs.Seated.{Seated, AreFounded, watched_by}
 use Rattle.leaf_steward.specs.Making.{Makes, EachNoted, IsHandedNote}
 use Rattle.leaf_machine.specs.declared.copying.Copied.{Copied}
 use Rattle.leaf_machine.specs.declared.copying.Copied.TheVariants as copied
-use Rattle.leaf_machine.specs.States.{Copying, GoesOnCopying, RestsOn}
+use Rattle.leaf_machine.specs.States.{Copying, GoesOnCopying, RestsOn, Shutting, columns_seen}
+use Rattle.leaf_machine.specs.Prepares.{IsCopyOf}
 use Rattle.leaf_machine.specs.Copies.{CopyGoesOn, IsCopyStep, berth_of_copy, seats_of_copy, IsUnderWay}
 use Rattle.leaf_machine.proofs.UpMaking.{makes_since}
 use Rattle.printed_lines.specs.declared.line.Ending.TheVariants as ending
-use Rattle.transcript.specs.Life.{IsCopyLength, MayMake}
+use Rattle.transcript.specs.Life.{MayMake}
 use Rattle.transcript.specs.Steps as step
-use Rattle.transcript.specs.Steps.{MakesStep, RegionStopped}
+use Rattle.transcript.specs.Steps.{IsLongCopy, MakesStep, RegionStopped}
 use Rattle.player.specs.Steps.{AreLeft, Spends, copy_left}
 use Rattle.player.specs.Moves as move
 use Rattle.player.specs.Moves.{CopyEnds, CopyRests, CopyStands, MakesCopies}
@@ -98,8 +99,8 @@ failed_copy leaf fault = Err (leaf, fault)
 -- ---- how many steps it takes
 
 -- a copy that begins takes three steps and one for each column
-pub copy_long : (c : Copying) → c.drain.next ≡ next.Begin → IsCopyLength (copy_left c)
-copy_long c first = subst (λ (n : Next). 3 ≤ left_from n c.drain.heap) (sym first) (omega arith)
+pub copy_long : (x : Shutting) (c : Copying) → IsCopyOf x c → IsLongCopy x (copy_left c)
+copy_long x c is = subst (λ (n : Next). 3 + columns_seen x.serving.seated.tables x.serving.seated.seats ≤ left_from n c.drain.heap) (sym is.next) (let columns = is.columns in omega (arith, columns))
 
 last_left : (c : Copying) → c.drain.next ≡ next.Flag → copy_left c ≡ 1
 last_left c last = ap (λ (n : Next). left_from n c.drain.heap) last

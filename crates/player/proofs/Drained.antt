@@ -136,7 +136,7 @@ module _ {B E : Type 0} (number : ℕ) (meaning : B → Meaning) (x : Shutting) 
         whole = leaf.0;
         made = suc so_far.made;
         steps = makes_more so_far.made (step.Shuts x) so_far.notes (step.Shuts leaf.0) notes (step.Copies leaf.0 (copy_left copy.0) 0) so_far.steps
-            (MakesStep.plans leaf.0 (copy_left copy.0) refl stepped.one.0 (copy_long copy.0 stepped.one.2.next) stepped.one.1 refl);
+            (MakesStep.plans leaf.0 (copy_left copy.0) refl stepped.one.0 (copy_long leaf.0 copy.0 stepped.one.2) stepped.one.1 refl);
         left_are = left_now;
         copy = stepped.one.2;
         carries = copy_carries;

@@ -6,14 +6,15 @@ use Rattle.berth_face.specs.Berth.{Meaning}
 use Rattle.leaf_history.specs.History.{Entry}
 use Rattle.transcript.specs.Pieces.{Fleet, Piece, PlayedItem, all_pieces, leaf_count}
 use Rattle.transcript.specs.Life.{Life, Lives}
-use Rattle.transcript.specs.Transcript.{Known, first_life}
+use Rattle.transcript.specs.Answers.{columns_handed}
+use Rattle.transcript.specs.Transcript.{Known, first_life, grounds_of}
 use Rattle.transcript.specs.Leaving.{LeavesBerth}
 use Rattle.transcript.specs.Stage.{Leaf}
 use Rattle.transcript.specs.Holds.{GoOn, HasMet, Hold, seen_in}
 use Rattle.leaf_sessions.specs.Session.{AreMet, IsWhole, LeafSession}
 use Rattle.sessions.specs.Session.{Session, nothing_yet}
 use Rattle.sessions.specs.Laws.{IsToldFleet, SessionsEnd, berth_in}
-use Rattle.leaf_sessions.proofs.Leaf.{leaf_history, leaf_leaves, leaf_meets, leaf_order, leaf_strangers, meet_grows}
+use Rattle.leaf_sessions.proofs.Leaf.{leaf_history, leaf_leaves, leaf_lives, leaf_meets, leaf_order, leaf_strangers, meet_grows}
 use Rattle.leaf_sessions.proofs.Lists.{element_at, same_some, within}
 use Rattle.leaf_sessions.proofs.Terms.{Grows}
 use Rattle.sessions.proofs.Whole.{still_whole}
@@ -138,7 +139,8 @@ module _ {B : Type 0} (meaning : B → Meaning) (olds : List B) (fleet : Fleet) 
       prints = s.stretch.prints;
       each_lives = λ leaf below.
           let end = ended_so leaf below in
-          subst (λ (l : Life). Lives (is_some (known leaf)) (length fleet.names) leaf (first_life (known leaf) fleet.names) pieces l) end.life_is (end.now.held end.last end.berth end.held).1.lives;
+          subst (λ (l : Life). Lives (is_some (known leaf)) (length fleet.names) (columns_handed (grounds_of fleet known leaf) (histories leaf)) leaf (first_life (known leaf) fleet.names) pieces l)
+          end.life_is (leaf_lives meaning leaf fleet.names (known leaf) (meaning end.old) items (finals leaf).hold end.now end.met end.last end.berth end.held);
       one_history = λ leaf table below within.
           let end = ended_so leaf below in
           leaf_history meaning leaf fleet.names (known leaf) (meaning end.old) items (finals leaf).hold end.now end.whole end.met table within;

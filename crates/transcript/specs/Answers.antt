@@ -1,17 +1,18 @@
--- What the answers say, by the histories; and which seats are told as worn.
-use Rattle.std.specs.Prelude.{◌≡◌, ℕ, ◌-◌, ◌^◌, ◌≤◌, List, length, take, Option, Some, None, IfSome, ⊤}
+-- What the answers say, by the histories; which seats are told as worn; and which columns tables have that are handed over.
+use Rattle.std.specs.Prelude.{◌≡◌, ℕ, ◌+◌, ◌-◌, ◌^◌, ◌≤◌, List, [], ◌∷◌, length, take, Option, Some, None, IfSome, ⊤}
 use Rattle.std.specs.List.{flat_map, AllByRecursion}
 use Rattle.leaf_model.specs.declared.rows.Row.{Row}
 use Rattle.leaf_model.specs.declared.queries.Query.{Query}
 use Rattle.leaf_model.specs.Groups.{groups}
 use Rattle.answer_text.specs.Answer.{answer_lines}
 use Rattle.leaf_history.specs.History.{Entry, after, held}
+use Rattle.leaf_machine.specs.States.{least_columns}
 use Rattle.script_text.specs.declared.command.Command.{Command}
 use Rattle.script_text.specs.declared.command.Command.TheVariants as command
 use Rattle.printed_lines.specs.declared.line.Ending.{Ending}
 use Rattle.printed_lines.specs.declared.line.Ending.TheVariants as ends
 use Rattle.printed_lines.specs.declared.line.Line.TheVariants as line
-use Rattle.transcript.specs.Pieces.{Piece, Worn, Acted, Says, Deed, Flushes, Played, Fleet, place_of}
+use Rattle.transcript.specs.Pieces.{Piece, Worn, Acted, Says, Deed, Flushes, Noted, Played, Fleet, place_of}
 use Rattle.transcript.specs.Shapes.{named}
 use Rattle.transcript.specs.Histories.{Ground}
 
@@ -57,3 +58,10 @@ worn_in _ = None
 -- only of a table with 2^62 entries
 abbrev pub WornIsLong : (ℕ → ℕ → List Entry) → Piece → Type 0
 WornIsLong histories piece = IfSome (worn_in piece) (λ x. 2 ^ 62 ≤ length (histories x.0 x.1))
+
+-- ---- columns
+
+-- how many columns tables have at least that are handed over in these entries: one for each that has rows then
+abbrev pub columns_handed : (ℕ → Ground) → (ℕ → List Entry) → List Noted → ℕ
+columns_handed grounds histories [] = 0
+columns_handed grounds histories (n ∷ ns) = least_columns (rows_before (grounds n.table) (histories n.table) n.number) + columns_handed grounds histories ns

@@ -1,5 +1,5 @@
 -- The life of one leaf, as its steward's deeds print it: in which state it is, what its next start prints, and what its next `opened` lines tell.
--- No rule looks at a table's history.
+-- No rule looks at a table's history; how many columns tables have at least that are handed over is said from outside.
 use Rattle.std.specs.Prelude.{◌≡◌, ℕ, zero, suc, ◌+◌, ◌<◌, ◌≤◌, Bool, true, false, List, [], ◌∷◌, ◌++◌, length, map, Option, Some, None, IfSome, option_map, slice_set, replicate, ◌==◌, MatchBool, if◌then◌else◌, ⊤}
 use Rattle.leaf_opening.specs.declared.ways.Way.{Way}
 use Rattle.leaf_opening.specs.declared.ways.Way.TheVariants.{Memory, Disk}
@@ -9,7 +9,7 @@ use Rattle.printed_lines.specs.declared.line.Said.{Said}
 use Rattle.printed_lines.specs.declared.line.Said.TheVariants.{Opened, Took, Flushed, Closed, Handed}
 use Rattle.printed_lines.specs.declared.line.Ending.{Ending}
 use Rattle.printed_lines.specs.declared.line.Ending.TheVariants as ends
-use Rattle.transcript.specs.Pieces.{Noted, Deed, Starts, Flushes, Drains, Kills, Piece, Worn, Acted}
+use Rattle.transcript.specs.Pieces.{Noted, Deed, Starts, Flushes, Drains, Kills, Piece, Acted}
 
 -- what the log is owed: a table's place, and how many writes were taken of it up to then
 pub record Owed : Type 0 where
@@ -204,9 +204,10 @@ pub data Steps (tables copy : ℕ) : ℕ → Stage → List Noted → Stage → 
   more : (n : ℕ) (s : Stage) (notes : List Noted) (t : Stage) (fewer : ℕ) (first others : List Noted) (between : Stage)
       → n ≡ suc fewer → Step tables copy s first between → Steps tables copy fewer between others t → notes ≡ first ++ others → Steps tables copy n s notes t
 
--- How many steps the copy of a leaf's tables takes: the begin, one for each column, the directory, and the flag. How many columns there are is no function of the content.
-abbrev pub IsCopyLength : ℕ → Type 0
-IsCopyLength copy = 3 ≤ copy
+-- How many steps the copy of tables takes that have so many columns or more: one for each column, the begin, the directory, and the flag. How many columns there are is no function of
+-- the content.
+abbrev pub IsCopyLength : ℕ → ℕ → Type 0
+IsCopyLength columns copy = columns + 3 ≤ copy
 
 -- the disk fails: before anything was flushed, or when the next table was closed
 pub data Halts (p : Progress) (notes : List Noted) (q : Progress) : Type 0 where
@@ -259,48 +260,49 @@ way_stopped (Shutting p) way = way
 way_stopped (Copying zero) way = way
 way_stopped (Copying (suc made)) way = option_map (λ (w : Way). Disk (why.Closed 0)) way
 
--- A drain makes its steps until one is the last and each table is handed over; or one fails; or it has made as many as it was to make, and the leaf is killed.
-pub data OfDrain (told : Bool) (tables : ℕ) (stop : Option ℕ) (life : Life) (notes : List Noted) (ending : Ending) (next : Life) : Type 0 where
+-- A drain makes its steps until one is the last and each table is handed over, which had at least the columns that are said of these entries; or one fails; or it has made as many as it was
+-- to make, and the leaf is killed.
+pub data OfDrain (told : Bool) (tables : ℕ) (columns : List Noted → ℕ) (stop : Option ℕ) (life : Life) (notes : List Noted) (ending : Ending) (next : Life) : Type 0 where
   done : (copy n made : ℕ) (p : Progress) (treating handing : List Noted)
-      → IsCopyLength copy → BeginsAt life.mode p → Steps tables copy n (Shutting p) treating (Copying made) → suc made ≡ copy → MayMake stop (suc n)
+      → IsCopyLength (columns handing) copy → BeginsAt life.mode p → Steps tables copy n (Shutting p) treating (Copying made) → suc made ≡ copy → MayMake stop (suc n)
       → Notes 0 (replicate tables Handed) handing
       → notes ≡ treating ++ handing
       → ending ≡ ends.Done
       → next ≡ on life Down (claimed told Memory) treating
-      → OfDrain told tables stop life notes ending next
+      → OfDrain told tables columns stop life notes ending next
   region_fails : (copy n made : ℕ) (p : Progress)
-      → IsCopyLength copy → BeginsAt life.mode p → Steps tables copy n (Shutting p) notes (Copying made) → MayMake stop (suc n)
+      → IsCopyLength 0 copy → BeginsAt life.mode p → Steps tables copy n (Shutting p) notes (Copying made) → MayMake stop (suc n)
       → ending ≡ ends.FaultRegion
       → next ≡ on life Down None notes
-      → OfDrain told tables stop life notes ending next
+      → OfDrain told tables columns stop life notes ending next
   no_room : (copy n : ℕ) (p q : Progress)
-      → IsCopyLength copy → BeginsAt life.mode p → Steps tables copy n (Shutting p) notes (Shutting q) → q.treated ≡ tables → MayMake stop (suc n)
+      → IsCopyLength 0 copy → BeginsAt life.mode p → Steps tables copy n (Shutting p) notes (Shutting q) → q.treated ≡ tables → MayMake stop (suc n)
       → ending ≡ ends.FaultRoom
       → next ≡ on life (Preparing q) life.way notes
-      → OfDrain told tables stop life notes ending next
+      → OfDrain told tables columns stop life notes ending next
   no_memory : (copy n : ℕ) (p q r : Progress) (treating starving : List Noted)
-      → IsCopyLength copy → BeginsAt life.mode p → Steps tables copy n (Shutting p) treating (Shutting q) → Starves tables q starving r → MayMake stop (suc n)
+      → IsCopyLength 0 copy → BeginsAt life.mode p → Steps tables copy n (Shutting p) treating (Shutting q) → Starves tables q starving r → MayMake stop (suc n)
       → notes ≡ treating ++ starving
       → ending ≡ ends.FaultMemory
       → next ≡ on life (Preparing r) life.way notes
-      → OfDrain told tables stop life notes ending next
+      → OfDrain told tables columns stop life notes ending next
   disk_fails : (copy n : ℕ) (p q r : Progress) (treating halting : List Noted)
-      → IsCopyLength copy → BeginsAt life.mode p → Steps tables copy n (Shutting p) treating (Shutting q) → q.treated < tables → Halts q halting r → MayMake stop (suc n)
+      → IsCopyLength 0 copy → BeginsAt life.mode p → Steps tables copy n (Shutting p) treating (Shutting q) → q.treated < tables → Halts q halting r → MayMake stop (suc n)
       → notes ≡ treating ++ halting
       → ending ≡ ends.FaultDisk
       → next ≡ failed life (Preparing r)
-      → OfDrain told tables stop life notes ending next
+      → OfDrain told tables columns stop life notes ending next
   stops : (copy n : ℕ) (p : Progress) (s : Stage) (treating closing : List Noted)
-      → IsCopyLength copy → BeginsAt life.mode p → Steps tables copy n (Shutting p) treating s → stop ≡ Some n → ClosesRest tables s closing
+      → IsCopyLength 0 copy → BeginsAt life.mode p → Steps tables copy n (Shutting p) treating s → stop ≡ Some n → ClosesRest tables s closing
       → notes ≡ treating ++ closing
       → ending ≡ ends.Stopped
       → next ≡ on life Down (way_stopped s life.way) treating
-      → OfDrain told tables stop life notes ending next
+      → OfDrain told tables columns stop life notes ending next
   not_up : life.mode ≡ Down
       → notes ≡ []
       → ending ≡ ends.NotUp
       → next ≡ life
-      → OfDrain told tables stop life notes ending next
+      → OfDrain told tables columns stop life notes ending next
 
 -- ---- kills
 
@@ -320,15 +322,15 @@ pub data OfKill (tables : ℕ) (life : Life) (notes : List Noted) (ending : Endi
 -- ---- all of it
 
 -- what a deed prints and leaves, of a leaf of so many tables, whose berth's base is known or not
-abbrev pub Does : Bool → ℕ → Deed → Life → List Noted → Ending → Life → Type 0
-Does told tables Starts life notes ending next = OfStart told tables life notes ending next
-Does told tables (Flushes table) life notes ending next = OfFlush table life notes ending next
-Does told tables (Drains stop) life notes ending next = OfDrain told tables stop life notes ending next
-Does told tables Kills life notes ending next = OfKill tables life notes ending next
+abbrev pub Does : Bool → ℕ → (List Noted → ℕ) → Deed → Life → List Noted → Ending → Life → Type 0
+Does told tables columns Starts life notes ending next = OfStart told tables life notes ending next
+Does told tables columns (Flushes table) life notes ending next = OfFlush table life notes ending next
+Does told tables columns (Drains stop) life notes ending next = OfDrain told tables columns stop life notes ending next
+Does told tables columns Kills life notes ending next = OfKill tables life notes ending next
 
 -- The deeds among the pieces that are this leaf's, one after another. In a burst they stand in one lane.
-abbrev pub Lives : Bool → ℕ → ℕ → Life → List Piece → Life → Type 0
-Lives told tables leaf life [] next = next ≡ life
-Lives told tables leaf life (Acted l deed notes ending ∷ pieces) next =
-    MatchBool (l == leaf) ((between : Life) × Does told tables deed life notes ending between × Lives told tables leaf between pieces next) (Lives told tables leaf life pieces next)
-Lives told tables leaf life (_ ∷ pieces) next = Lives told tables leaf life pieces next
+abbrev pub Lives : Bool → ℕ → (List Noted → ℕ) → ℕ → Life → List Piece → Life → Type 0
+Lives told tables columns leaf life [] next = next ≡ life
+Lives told tables columns leaf life (Acted l deed notes ending ∷ pieces) next =
+    MatchBool (l == leaf) ((between : Life) × Does told tables columns deed life notes ending between × Lives told tables columns leaf between pieces next) (Lives told tables columns leaf life pieces next)
+Lives told tables columns leaf life (_ ∷ pieces) next = Lives told tables columns leaf life pieces next

@@ -1,5 +1,5 @@
 -- What each command does to the leaves of a fleet and their callers' seats as the program holds them: the pieces that it prints, and what stands behind it.
-use Rattle.std.specs.Prelude.{◌≡◌, ◌≢◌, ℕ, zero, suc, ◌+◌, ◌<◌, List, [], ◌∷◌, ◌++◌, length, map, Option, Some, None, slice_get, slice_set, IsTrue, ⊤}
+use Rattle.std.specs.Prelude.{◌≡◌, ◌≢◌, ℕ, zero, suc, ◌+◌, ◌<◌, ◌≤◌, List, [], ◌∷◌, ◌++◌, length, map, Option, Some, None, slice_get, slice_set, IsTrue, ⊤}
 use Rattle.berth_face.specs.Berth.{Meaning}
 use Rattle.leaf_history.specs.Calls.{Call}
 use Rattle.leaf_history.specs.History.{Entry}
@@ -23,7 +23,7 @@ use Rattle.leaf_machine.specs.declared.faults.StartFault.{StartFault}
 use Rattle.leaf_machine.specs.declared.faults.StartFault.TheVariants as fault
 use Rattle.leaf_machine.specs.declared.up.FlushReply.{FlushReply}
 use Rattle.leaf_machine.specs.declared.up.FlushReply.TheVariants as reply
-use Rattle.leaf_machine.specs.States.{Serving, Shutting, treated}
+use Rattle.leaf_machine.specs.States.{Serving, Shutting, columns_seen, treated}
 use Rattle.leaf_machine.specs.Starts.{CameUp, IsOpenedNote, IsStartRefused}
 use Rattle.leaf_machine.specs.Flushes as flushing
 use Rattle.leaf_machine.specs.Prepares.{Treats, Halts, Starves, AllTreated, begins}
@@ -38,7 +38,7 @@ use Rattle.script_text.specs.Fits.{IsCommand}
 use Rattle.transcript.specs.Pieces.{Piece, Called, Worn, Acted, Says, Deed, Starts, Flushes, Drains, Kills, Noted, Fleet, leaf_count}
 use Rattle.transcript.specs.Shapes.{Prints}
 use Rattle.transcript.specs.Answers.{Answers}
-use Rattle.transcript.specs.Life.{IsCopyLength, MayMake}
+use Rattle.transcript.specs.Life.{MayMake}
 use Rattle.transcript.specs.Holds.{Hold, GoOn, grounds_in, with_callers, with_leaf}
 use Rattle.transcript.specs.Stage.{Leaf, IsDown, IsUp, IsPreparing, seated_of, Stands, ServingStands, AreHandedNothing, Carries, MeetAll}
 
@@ -219,6 +219,10 @@ pub data At : Type 0 where
   Shuts : (x : Shutting) → At
   Copies : (x : Shutting) (copy made : ℕ) → At
 
+-- the copy of its tables takes that many steps: the begin, a column at least for each that has rows, the directory, and the flag
+abbrev pub IsLongCopy : Shutting → ℕ → Type 0
+IsLongCopy x copy = 3 + columns_seen x.serving.seated.tables x.serving.seated.seats ≤ copy
+
 -- One step that neither ends the drain nor fails: one table more is treated; or all are, and their copy is planned; or a step of the copy is made.
 pub data MakesStep (s : At) (notes : List Note) (t : At) : Type 0 where
   treats : (x y : Shutting)
@@ -231,7 +235,7 @@ pub data MakesStep (s : At) (notes : List Note) (t : At) : Type 0 where
   plans : (x : Shutting) (copy : ℕ)
       → s ≡ Shuts x
       → AllTreated x
-      → IsCopyLength copy
+      → IsLongCopy x copy
       → notes ≡ []
       → t ≡ Copies x copy 0
       → MakesStep s notes t

@@ -49,7 +49,7 @@ returns-in-Ok-clause-step g c =
       all_treated c.args.self.0 c.requires.all,
       refl,
       subst (λ v. IsCopyOf v.0 copy) c.self.view_is
-          (is_copy x m c.self.invariant.0 c.sits.ensures whole.all whole.none drain here c.in-Ok.ensures.begins.0 tables are c.in-Ok.ensures.fits c.in-Ok.ensures.begins.1),
+          (is_copy x m c.self.invariant.0 c.sits.ensures whole.all whole.none drain here c.in-Ok.ensures.begins.0 tables are c.into_tables.ensures.parts c.in-Ok.ensures.fits c.in-Ok.ensures.begins.1),
     )
 
 pub returns-in-Ok-clause-crash : goal.returns-in-Ok-clause-crash
