@@ -8,13 +8,13 @@ use Rattle.script_text.specs.declared.fault.Why.{Why}
 use Rattle.script_text.specs.declared.fault.Why.TheVariants as why
 use Rattle.script_text.specs.declared.fault.ScriptFault.{ScriptFault}
 use Rattle.script_text.specs.declared.fault.ScriptFault.TheVariants.{At, NoMemory}
-use Rattle.script_text.specs.declared.script.Script.{Script}
 use Rattle.script_text.specs.Script.{IfAt, script_of}
 use Rattle.script_text.proofs.Own.{own_fault}
-use Rattle.play.specs.Outcome.{IsRefused, TakesText, IfScript, if_short, play_verdict, status_of_fault, status_played}
-use Rattle.play.specs.Source.{longest_text}
-use Rattle.play.specs.declared.status.Status.{Status}
-use Rattle.play.specs.declared.status.Status.TheVariants as status
+use Rattle.row_count.specs.Outcome.{IsRefused, TakesText, IfScript, if_short}
+use Rattle.row_count.specs.Source.{longest_text}
+use Rattle.row_count.specs.declared.status.Status.{Status}
+use Rattle.row_count.specs.declared.status.Status.TheVariants as status
+use Rattle.play.specs.Outcome.{play_verdict, status_of_fault, status_played}
 
 -- the status of a text that is not too long is what it comes to
 pub short_decides : (text : List ℕ) (s : Status) → length text ≤ longest_text → if_short text s ≡ s

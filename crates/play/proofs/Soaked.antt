@@ -5,11 +5,12 @@ use Rattle.berth_face.specs.Streams.{TakesAtMost}
 use Rattle.script_text.specs.declared.script.Script.{Script}
 use Rattle.script_text.specs.declared.fault.Why.TheVariants as why
 use Rattle.soak.specs.Soak.{soak_script}
-use Rattle.play.specs.Outcome.{IfScript, TakesText, soak_verdict}
+use Rattle.row_count.specs.Outcome.{IfScript, TakesText}
+use Rattle.row_count.specs.Source.{longest_text}
+use Rattle.row_count.specs.declared.status.Status.{Status}
+use Rattle.row_count.specs.declared.status.Status.TheVariants as status
+use Rattle.play.specs.Outcome.{soak_verdict}
 use Rattle.play.specs.Played.{leaves_in, soak_leaves}
-use Rattle.play.specs.Source.{longest_text}
-use Rattle.play.specs.declared.status.Status.{Status}
-use Rattle.play.specs.declared.status.Status.TheVariants as status
 
 -- its script makes as many
 pub soak_count : (seed rows : ℕ) → leaves_in (soak_script seed rows).items ≡ soak_leaves

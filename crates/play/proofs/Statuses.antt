@@ -1,8 +1,8 @@
 -- A run is done where nothing is at fault.
 use Rattle.std.proofs.Common.{◌≡◌, inl, inr, ◌∙◌, ℕ, refl}
 use Rattle.script_text.specs.declared.fault.Why.{Why}
+use Rattle.row_count.specs.declared.status.Status.TheVariants as status
 use Rattle.play.specs.Complete.{IsComplete}
-use Rattle.play.specs.declared.status.Status.TheVariants as status
 
 words_differ : status.Words ≡ status.Done → ⊥
 words_differ e = cc

@@ -1,8 +1,9 @@
 -- That a run is done where nothing is at fault.
 use Rattle.std.specs.Prelude.{◌≡◌, ◌⊎◌, ◌↔◌, ℕ, List, Option, Some, None, IfSome}
 use Rattle.berth_face.specs.Causes.{Rose}
-use Rattle.play.specs.Outcome.{IfScript, IsTextRefused, UnlessCutOff, verdict}
-use Rattle.play.specs.declared.status.Status.{Status}
+use Rattle.row_count.specs.Outcome.{IfScript, UnlessCutOff}
+use Rattle.row_count.specs.declared.status.Status.{Status}
+use Rattle.play.specs.Outcome.{IsTextRefused, verdict}
 use Rattle.play.specs.declared.words.Request.{Request}
 
 -- what the clauses `words`, `script`, `read_fault`, `write_fault` and `exact` of `run` say of a status: over so many berths, of a source and a sink whose counts of faults were and are these

@@ -1,10 +1,7 @@
 pub mod Words
-pub mod Count
 pub mod Empty
-pub mod Source
 pub mod Played
 pub mod Runs
 pub mod Outcome
-pub mod Faults
 pub mod Keeping
 pub mod Complete

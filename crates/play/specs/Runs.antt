@@ -22,8 +22,8 @@ use Rattle.sessions.specs.Session.{Session}
 use Rattle.sessions.specs.Laws.{IsToldFleet}
 use Rattle.player.specs.Crew.{AllCounted, berth_in}
 use Rattle.bursts.specs.Items.{MayPlayItem}
+use Rattle.row_count.specs.declared.status.Status.{Status}
 use Rattle.play.specs.Played.{KeepsCounts}
-use Rattle.play.specs.declared.status.Status.{Status}
 
 -- ---- the tables
 

@@ -12,8 +12,6 @@ ghost use Rattle.play.specs.Played.{AreBases, LeavesBerths, leaves_in};
 ghost use Rattle.play.specs.Runs.{Advances, HoldsKeep, IsEnd, IsFleetOf, RunSoFar, berths_in};
 
 use crate::bases::Bases;
-use crate::status::Status;
-use crate::stream::write_all;
 use crate::tables::{NewTables, new_tables};
 use berth_face::{Berth, Gate, Sink};
 use bursts::play_item;
@@ -21,6 +19,7 @@ use leaf_model::Names;
 use player::Crew;
 use printed_lines::{Line, put_lines};
 use rollover_watch::Watch;
+use row_count::{Status, write_all};
 use script_text::{Command, Item, Items};
 use std::alloc::{AllocError, Global};
 use std::collections::VecDeque;

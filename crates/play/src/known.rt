@@ -3,19 +3,20 @@ ghost use Rattle.std.specs.Prelude.{◌≡◌, ◌↔◌, List, Option, None, So
 ghost use Rattle.berth_face.specs.Causes.{Rose};
 ghost use Rattle.berth_face.specs.Streams.{TakesAtMost};
 ghost use Rattle.rollover_watch.specs.Watches.{Held};
+ghost use Rattle.row_count.specs.Outcome.{IsCutShort, IfScript, UnlessCutOff, UnlessWritten, TakesText};
+ghost use Rattle.row_count.specs.Source.{most_taken};
 ghost use Rattle.play.specs.Keeping.{ArePlayedTwice, IsKeptBase, Kept, LeavesKnown, bases_of, states_of};
-ghost use Rattle.play.specs.Outcome.{IsDone, IsCutShort, IfScript, IsTextRefused, IfCount, IfUnread, UnlessCutOff, UnlessPlayed, UnlessWritten, TakesText, verdict};
+ghost use Rattle.play.specs.Outcome.{IsDone, IsTextRefused, IfCount, IfUnread, UnlessPlayed, verdict};
 ghost use Rattle.play.specs.Played.{AreBases, IsBase, IsPlayed, LeavesBerths, leaves_asked};
-ghost use Rattle.play.specs.Source.{most_taken};
 ghost use Rattle.play.specs.Words.{request_of};
 ghost use Rattle.play.specs.declared.words.Request.TheVariants.{Play};
 
 use crate::bases::Bases;
 use crate::kept::{Choice, KnownBerths};
 use crate::program::run;
-use crate::status::Status;
 use berth_face::{Berth, Gate, Sink, Source};
 use rollover_watch::Watch;
+use row_count::Status;
 use std::alloc::{AllocError, Global};
 use std::marker::Brand;
 use std::snapshot::Snapshot;

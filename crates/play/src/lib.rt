@@ -3,24 +3,19 @@
 
 mod bases;
 mod berths;
-mod count;
-mod faults;
 mod kept;
 mod known;
 mod laws;
 mod program;
 mod script;
 mod soaking;
-mod status;
-mod stream;
 mod tables;
 mod words;
 
 pub use bases::{Bases, EmptyBerths};
-pub use faults::fault_text;
 pub use kept::{Choice, KeptTables, KnownBerths};
 pub use known::{keep, run_keeping, run_known, run_twice};
 pub use laws::complete;
 pub use program::run;
+pub use row_count::{Status, fault_text};
 pub use script_text::Why;
-pub use status::Status;

@@ -2,19 +2,19 @@
 ghost use Rattle.std.specs.Prelude.{◌≡◌, ◌↔◌, None, IfSome, length, map, string_bytes};
 ghost use Rattle.berth_face.specs.Causes.{Rose};
 ghost use Rattle.berth_face.specs.Streams.{TakesAtMost};
-ghost use Rattle.play.specs.Outcome.{IsDone, IsCutShort, IfScript, IsTextRefused, IfCount, IfUnread, UnlessCutOff, UnlessPlayed, UnlessWritten, TakesText, verdict};
+ghost use Rattle.row_count.specs.Outcome.{IsCutShort, IfScript, UnlessCutOff, UnlessWritten, TakesText};
+ghost use Rattle.row_count.specs.Source.{most_taken};
+ghost use Rattle.play.specs.Outcome.{IsDone, IsTextRefused, IfCount, IfUnread, UnlessPlayed, verdict};
 ghost use Rattle.play.specs.Played.{AreBases, LeavesBerths, leaves_asked};
-ghost use Rattle.play.specs.Source.{most_taken};
 ghost use Rattle.play.specs.Words.{request_of};
 
 use crate::bases::Bases;
-use crate::count::count_source;
 use crate::script::play_source;
 use crate::soaking::play_soak;
-use crate::status::Status;
 use crate::words::{Request, request_of};
 use berth_face::{Berth, Gate, Sink, Source};
 use rollover_watch::Watch;
+use row_count::{Status, count_source};
 use std::alloc::Global;
 use std::sync::Wait;
 use std::thread::Threads;

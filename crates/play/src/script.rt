@@ -2,16 +2,16 @@
 ghost use Rattle.std.specs.Prelude.{◌≡◌, ◌≢◌, ◌<◌, ◌∷◌, [], length, map, Some, None, IfSome, IfOk, IfErr};
 ghost use Rattle.berth_face.specs.Causes.{Rose};
 ghost use Rattle.berth_face.specs.Streams.{TakesAtMost};
-ghost use Rattle.play.specs.Outcome.{IsRefused, IfScript, UnlessCutOff, UnlessPlayed, TakesText, play_verdict, status_of_fault};
+ghost use Rattle.row_count.specs.Outcome.{IsRefused, IfScript, UnlessCutOff, TakesText};
+ghost use Rattle.row_count.specs.Source.{most_taken};
+ghost use Rattle.play.specs.Outcome.{UnlessPlayed, play_verdict, status_of_fault};
 ghost use Rattle.play.specs.Played.{AreBases, IsPlayed, LeavesBerths, leaves_told};
-ghost use Rattle.play.specs.Source.{most_taken};
 
 use crate::bases::Bases;
 use crate::berths::{leaf_count, play_items};
-use crate::status::Status;
-use crate::stream::{ReadError, read_all};
 use berth_face::{Berth, Gate, Sink, Source};
 use rollover_watch::Watch;
+use row_count::{ReadError, Status, read_all};
 use script_text::{ScriptFault, Why, parse};
 use std::alloc::Global;
 use std::sync::Wait;

@@ -1,6 +1,6 @@
 use Rattle.std.proofs.Common.{rules, ◌≡◌, ap}
+use Rattle.row_count.specs.declared.status.Status.{Status}
 use Rattle.play.specs.Played.{IsPlayed}
-use Rattle.play.specs.declared.status.Status.{Status}
 use Rattle.play.proofs.KeepsBase.{is_played, leaves_kept}
 use Rattle.play.proofs.known.run_keeping.Goals as goal
 

@@ -1,7 +1,8 @@
 use Rattle.std.proofs.Common.{rules, ◌≡◌, ◌≤◌, sym, subst, length, Ok}
 use Rattle.berth_face.specs.Streams.{ReadsAll, TakesAtMost}
-use Rattle.play.specs.Outcome.{IfScript, IsRefused, TakesText, play_verdict}
-use Rattle.play.specs.Source.{longest_text}
+use Rattle.row_count.specs.Outcome.{IfScript, IsRefused, TakesText}
+use Rattle.row_count.specs.Source.{longest_text}
+use Rattle.play.specs.Outcome.{play_verdict}
 use Rattle.script_text.specs.Fits.{IsScript}
 use Rattle.script_text.specs.Script.{script_of}
 use Rattle.play.proofs.Ends.{leaves_as_told}

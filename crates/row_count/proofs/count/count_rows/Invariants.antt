@@ -1,6 +1,6 @@
 use Rattle.std.specs.VecDeque.{deque_len}
-use Rattle.play.proofs.Counts.{AreCounted}
-use Rattle.play.proofs.count.count_rows.Given as goal
+use Rattle.row_count.proofs.Counts.{AreCounted}
+use Rattle.row_count.proofs.count.count_rows.Given as goal
 
 abbrev pub invariant-loop-count : goal.invariant-loop-count
 invariant-loop-count g l = AreCounted l.fn.range l.text l.lines l.rows l.counts.items

@@ -5,14 +5,14 @@ use Rattle.std.proofs.lemmas.List.Sums.{sum_by-cons}
 use Rattle.leaf_model.specs.declared.rows.Row.{Row}
 use Rattle.row_json.specs.declared.object.RowFault.{RowFault}
 use Rattle.row_json.specs.Row.{row_of}
-use Rattle.play.specs.declared.count.CountError.{CountError}
-use Rattle.play.specs.declared.count.CountError.TheVariants.{Fault, NoMemory}
-use Rattle.play.specs.declared.count.LineFault.{LineFault}
-use Rattle.play.specs.declared.count.PartCount.{PartCount}
-use Rattle.play.specs.declared.words.Range.{Range}
+use Rattle.row_count.specs.declared.count.CountError.{CountError}
+use Rattle.row_count.specs.declared.count.CountError.TheVariants.{Fault, NoMemory}
+use Rattle.row_count.specs.declared.count.LineFault.{LineFault}
+use Rattle.row_count.specs.declared.count.PartCount.{PartCount}
+use Rattle.row_count.specs.declared.count.Range.{Range}
 use Rattle.script_text.specs.Lines.{lines, lines_of, is_blank, without_return}
 use Rattle.script_text.specs.Parts.{lines_of_parts}
-use Rattle.play.specs.Count.{IfFault, IsPartCounted, with_row, rows_of_lines, rows_of, is_in, count_in, count_of, error_behind}
+use Rattle.row_count.specs.Count.{IfFault, IsPartCounted, with_row, rows_of_lines, rows_of, is_in, count_in, count_of, error_behind}
 
 -- how many rows are in the range, of the text that follows the line n
 abbrev pub count_after : Range → ℕ → List ℕ → Result ℕ LineFault

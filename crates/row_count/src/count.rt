@@ -6,14 +6,13 @@ ghost use Rattle.row_json.specs.Row.{row_of};
 ghost use Rattle.berth_face.specs.Causes.{Rose};
 ghost use Rattle.berth_face.specs.Streams.{TakesAtMost};
 ghost use Rattle.script_text.specs.Lines.{lines_of};
-ghost use Rattle.play.specs.declared.count.CountError.TheVariants.{NoMemory};
-ghost use Rattle.play.specs.Count.{count_of, is_in, IfFault, IsPartCounted, error_behind};
-ghost use Rattle.play.specs.Outcome.{IsCounted, IsCutShort, IsRefused, IfScript, UnlessCutOff, UnlessWritten, TakesText, count_verdict};
-ghost use Rattle.play.specs.Source.{most_taken};
+ghost use Rattle.row_count.specs.declared.count.CountError.TheVariants.{NoMemory};
+ghost use Rattle.row_count.specs.Count.{count_of, is_in, IfFault, IsPartCounted, error_behind};
+ghost use Rattle.row_count.specs.Outcome.{IsCounted, IsCutShort, IsRefused, IfScript, UnlessCutOff, UnlessWritten, TakesText, count_verdict};
+ghost use Rattle.row_count.specs.Source.{most_taken};
 
 use crate::status::Status;
 use crate::stream::{ReadError, read_all, write_all};
-use crate::words::Range;
 use berth_face::{Sink, Source};
 use leaf_model::Row;
 use rayon::prelude::*;
@@ -22,6 +21,13 @@ use script_text::{Why, cut_line, is_blank, parts_of, without_return};
 use std::alloc::{AllocError, Global};
 use std::collections::VecDeque;
 use std::thread::Threads;
+
+/// The times from `from` to `to`.
+#[derive(Clone, Copy, Debug)]
+pub struct Range {
+    pub from: i64,
+    pub to: i64,
+}
 
 /// A line that is no row: its number, from 1, and its first fault.
 #[derive(Debug, Drop)]

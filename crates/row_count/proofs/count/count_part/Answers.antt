@@ -1,7 +1,7 @@
 use Rattle.std.proofs.Common.{◌≡◌, ap, ◌∙◌, arith, true}
 use Rattle.script_text.specs.Lines.{is_blank, without_return}
-use Rattle.play.proofs.Counts.{count_blank, count_start, more_by, one_line}
-use Rattle.play.proofs.count.count_part.Goals as goal
+use Rattle.row_count.proofs.Counts.{count_blank, count_start, more_by, one_line}
+use Rattle.row_count.proofs.count.count_part.Goals as goal
 
 pub loop-rest-init : goal.loop-rest-init
 loop-rest-init c = (count_start c.args.range c.args.part.now, omega arith, omega arith, omega arith)

@@ -5,11 +5,11 @@ use Rattle.leaf_model.specs.declared.rows.Row.{Row}
 use Rattle.row_json.specs.declared.object.RowFault.{RowFault}
 use Rattle.row_json.specs.Row.{row_of}
 use Rattle.script_text.specs.Lines.{lines, lines_of, without_return, is_blank}
-use Rattle.play.specs.declared.count.CountError.{CountError}
-use Rattle.play.specs.declared.count.CountError.TheVariants.{Fault, NoMemory}
-use Rattle.play.specs.declared.count.LineFault.{LineFault}
-use Rattle.play.specs.declared.count.PartCount.{PartCount}
-use Rattle.play.specs.declared.words.Range.{Range}
+use Rattle.row_count.specs.declared.count.CountError.{CountError}
+use Rattle.row_count.specs.declared.count.CountError.TheVariants.{Fault, NoMemory}
+use Rattle.row_count.specs.declared.count.LineFault.{LineFault}
+use Rattle.row_count.specs.declared.count.PartCount.{PartCount}
+use Rattle.row_count.specs.declared.count.Range.{Range}
 
 -- the row of line n before those of the lines after it, or the first fault
 abbrev pub with_row : ℕ → Result Row RowFault → Result (List Row) LineFault → Result (List Row) LineFault

@@ -2,11 +2,11 @@ use Rattle.std.proofs.Common.{Bor, List, ℕ, Result, ap, sym, subst, ◌∙◌}
 use Rattle.std.specs.List.{AllZip}
 use Rattle.rayon.proofs.ListFacts.{IfOk-then}
 use Rattle.rayon.proofs.ToStd.{slice-AllZip}
-use Rattle.play.specs.declared.count.CountError.{CountError}
-use Rattle.play.specs.declared.count.PartCount.{PartCount}
-use Rattle.play.specs.declared.words.Range.{Range}
-use Rattle.play.specs.Count.{IsPartCounted}
-use Rattle.play.proofs.count.count_each.Goals as goal
+use Rattle.row_count.specs.declared.count.CountError.{CountError}
+use Rattle.row_count.specs.declared.count.PartCount.{PartCount}
+use Rattle.row_count.specs.declared.count.Range.{Range}
+use Rattle.row_count.specs.Count.{IsPartCounted}
+use Rattle.row_count.proofs.count.count_each.Goals as goal
 
 pub returns : goal.returns
 returns g c =

@@ -1,8 +1,8 @@
 use Rattle.std.proofs.Common.{◌≡◌, ◌+◌, ◌≤◌, length}
 use Rattle.script_text.specs.Lines.{lines_of}
-use Rattle.play.specs.Count.{count_of}
-use Rattle.play.proofs.Counts.{count_after, more_by}
-use Rattle.play.proofs.count.count_part.Given as goal
+use Rattle.row_count.specs.Count.{count_of}
+use Rattle.row_count.proofs.Counts.{count_after, more_by}
+use Rattle.row_count.proofs.count.count_part.Given as goal
 
 abbrev pub invariant-loop-rest : goal.invariant-loop-rest
 invariant-loop-rest l =

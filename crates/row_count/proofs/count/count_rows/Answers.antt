@@ -1,7 +1,7 @@
 use Rattle.std.proofs.Common.{rules, ◌≡◌, ◌^◌, [], arith}
 use Rattle.script_text.proofs.InParts.{lines_short}
-use Rattle.play.proofs.Counts.{all_counted, counts_fit, error_fits, none_counted, one_counted, part_refused}
-use Rattle.play.proofs.count.count_rows.Goals as goal
+use Rattle.row_count.proofs.Counts.{all_counted, counts_fit, error_fits, none_counted, one_counted, part_refused}
+use Rattle.row_count.proofs.count.count_rows.Goals as goal
 
 pub loop-count-init : goal.loop-count-init
 loop-count-init g c =
