@@ -1,5 +1,5 @@
 -- What is decoded of columns, and which places are left.
-use Rattle.std.proofs.Common.{◌≡◌, ℕ, ◌+◌, ◌<◌, Bool, true, false, ◌&&◌, cond, List, [], ◌∷◌, ◌++◌, length, map, take, filter, get_or, slice_index, slice_index_or, ℤ, pos, int_le, Option, Some, None, refl, sym, ap, ◌∙◌, arith}
+use Rattle.std.proofs.Common.{◌≡◌, ℕ, ◌+◌, ◌<◌, Bool, true, false, ◌&&◌, cond, List, [], ◌∷◌, ◌++◌, length, map, take, filter, get_or, slice_index, slice_index_or, ℤ, pos, int_le, Option, Some, None, sym, ap, ◌∙◌, arith}
 use Rattle.std.specs.Prelude.{bytes_eq}
 use Rattle.std.specs.List.{AllByRecursion, range_with_len}
 use Rattle.std.proofs.lemmas.List.Elements.{filter_agree}
@@ -32,10 +32,6 @@ text_at bytes texts present codes i within cells =
     ∙ get_or-map-range_with_len (λ k. cond (slice_index_or present k false) (Some (values.Text (slice_index_or texts (slice_index codes k) []))) None) 0 (length codes) i i None within (omega arith)
 
 -- ---- the column of a name
-
-pub cell_other : (name other : List ℕ) (v : Option Value) (cells : List Cell) → bytes_eq name other ≡ false → cell_value name (cell_of other v ++ cells) ≡ cell_value name cells
-cell_other name other None cells e = refl
-cell_other name other (Some v) cells e = ap (λ (b : Bool). cond b (Some v) (cell_value name cells)) e
 
 pub cell_same : (name other : List ℕ) (v : Option Value) (cells : List Cell) → bytes_eq name other ≡ true → cell_value name cells ≡ None → cell_value name (cell_of other v ++ cells) ≡ v
 cell_same name other None cells e none = none

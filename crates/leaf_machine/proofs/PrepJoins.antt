@@ -4,12 +4,11 @@ use Rattle.std.specs.Prelude.{IsTrue}
 use Rattle.std.specs.List.{AllByRecursion}
 use Rattle.leaf_model.specs.declared.writes.Write.{Write}
 use Rattle.berth_face.specs.Berth.{Meaning}
-use Rattle.berth_face.proofs.Moments.{passes_none, passes_on}
+use Rattle.berth_face.proofs.Moments.{passes_on}
 use Rattle.leaf_table.specs.Turns.{Shared, is_founded}
 use Rattle.leaf_table.specs.Calls.{base_seen}
-use Rattle.crash_moments.proofs.Telling.{none_more, told_join}
+use Rattle.crash_moments.proofs.Telling.{told_join}
 use Rattle.crash_states.specs.Standing.{Runs}
-use Rattle.crash_states.proofs.Lefts.{runs_told}
 use Rattle.leaf_steward.specs.declared.notes.Note.{Note}
 use Rattle.leaf_steward.specs.Seated.{Seated, AreFounded, watched_by}
 use Rattle.leaf_steward.specs.Making.{Makes, NotesOn, OneEntry}
@@ -75,19 +74,6 @@ goes_to x y m m' runs tells founded writes was =
     record { later = on.later; runs = on.runs; told = on.told }
 
 -- ---- parts
-
-pub part_none : (x : Serving) (notes : List Note) (m : Meaning) → IsPartOfStep x x notes notes m m
-part_none x notes m = record {
-  made = no_notes m.clock m.clock x.seated x.seated notes notes (le_refl m.clock) refl refl;
-  crash = λ tells founded writes runs. record {
-    later = writes;
-    runs = runs;
-    told = λ others. runs_told (watched_by x.seated) (watched_by x.seated) others x.owing.owner x.owing.log writes m runs (none_more m.clock m.clock (watched_by x.seated));
-  };
-  region = λ tells. refl;
-  time = passes_none m;
-  reads = refl;
-}
 
 module _ (x y z : Serving) (old mid new : List Note) (m m' m'' : Meaning) (first : IsPartOfStep x y old mid m m') (second : IsPartOfStep y z mid new m' m'') where
   tells_still : IsTrue m.tells → IsTrue m'.tells

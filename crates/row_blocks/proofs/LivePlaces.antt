@@ -1,8 +1,8 @@
 -- Rows of a block at or after a horizon, one place after another.
-use Rattle.std.proofs.Common.{◌≡◌, ℕ, zero, suc, ◌+◌, ◌-◌, ◌<◌, ◌≤◌, Bool, true, false, ◌||◌, cond, ltb, List, [], ◌∷◌, ◌++◌, length, take, drop, get_or, slice_index_or, ℤ, pos, ◌≤ℤ◌, int_le, Option, Some, None, refl, sym, ap, subst, ◌∙◌, arith}
+use Rattle.std.proofs.Common.{◌≡◌, ℕ, zero, suc, ◌+◌, ◌-◌, ◌<◌, ◌≤◌, Bool, true, false, ◌||◌, cond, List, [], ◌∷◌, ◌++◌, length, take, drop, get_or, slice_index_or, ℤ, pos, ◌≤ℤ◌, int_le, Option, Some, None, refl, sym, ap, subst, ◌∙◌, arith}
 use Rattle.std.specs.List.{AllByRecursion, list_any}
 use Rattle.std.specs.Int.{from_bool}
-use Rattle.std.proofs.lemmas.Bool.{false_from_ne_true, ltb-false, ltb-true, true_from_ne_false}
+use Rattle.std.proofs.lemmas.Bool.{false_from_ne_true, true_from_ne_false}
 use Rattle.std.proofs.lemmas.Int.{ints}
 use Rattle.std.proofs.lemmas.List.{append-nil, drop-drop, drop_all, drop_more, get_or-map, length-drop, take_all, take_more}
 use Rattle.std.proofs.lemmas.List.FromFn.{get_or-map-range_with_len, length-map-range_with_len}
@@ -141,13 +141,6 @@ pub place_next : (b : Block) (h : ℤ) (i left one : ℕ) (there : Bool) → i <
 place_next b h i left one there within some few is e =
     one_taken (int_le h (time_at b i)) (slice_index_or (rows_in b) i no_row) (live_rows (i + 1) h b) (live_rows i h b) left (left - one) (live_next b h i within) some few
     (ap (λ (k : ℕ). left - k) (is ∙ ap from_bool e))
-
-pub some_left : (b : Block) (h : ℤ) (i n : ℕ) → n < length (live_rows i h b) → i < b.rows
-some_left b h i n few = by (ltb i b.rows) refl
-  where
-    by : (x : Bool) → ltb i b.rows ≡ x → i < b.rows
-    by true e = ltb-true i b.rows e
-    by false e = absurd (none_past b h i n (omega (arith, ltb-false i b.rows e)) few)
 
 -- ---- times that were read
 

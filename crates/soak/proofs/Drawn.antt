@@ -61,10 +61,6 @@ rows_none seed from = let none : from - from ≡ 0 = omega arith in ap (λ k. ma
 pub rows_count : (seed from to : ℕ) → length (rows_between seed from to) ≡ to - from
 rows_count seed from to = length-map-range_with_len (row_at seed) from (to - from)
 
--- a leaf's rows begin where those of the leaf before it end
-pub shares_rise : (rows leaf : ℕ) → first_row rows leaf ≤ first_row rows (leaf + 1)
-shares_rise rows leaf = let more : (leaf + 1) * rows ≡ leaf * rows + rows = omega arith in omega (arith, more)
-
 pub shares_fit : (rows leaf : ℕ) → rows ≤ 800000 → first_row rows (leaf + 1) - first_row rows leaf ≤ 100000
 shares_fit rows leaf few = let more : (leaf + 1) * rows ≡ leaf * rows + rows = omega arith in omega (arith, more, few)
 

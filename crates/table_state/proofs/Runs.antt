@@ -1,5 +1,5 @@
 -- Whole runs of rows, sealed one after another.
-use Rattle.std.proofs.Common.{◌≡◌, ℕ, zero, suc, ◌+◌, ◌-◌, ◌*◌, ◌/◌, ◌<◌, ◌≤◌, List, [], ◌∷◌, ◌++◌, length, map, take, drop, refl, sym, ap, ap₂, subst, ◌∙◌, Bor, arith}
+use Rattle.std.proofs.Common.{◌≡◌, ℕ, zero, suc, ◌+◌, ◌-◌, ◌*◌, ◌/◌, ◌≤◌, List, [], ◌∷◌, ◌++◌, length, map, take, drop, refl, sym, ap, ap₂, subst, ◌∙◌, Bor, arith}
 use Rattle.std.specs.Prelude.{slice_range}
 use Rattle.std.specs.List.{AllByRecursion}
 use Rattle.std.proofs.lemmas.List.{append-nil, drop-map, take-map, take_all}
@@ -50,10 +50,6 @@ blocks_more blocks now b all is pushed = subst (AllByRecursion IsBlock) (sym pus
     by : (l : List Block) → AllByRecursion IsBlock l → AllByRecursion IsBlock (l ++ b ∷ [])
     by [] each = (is, tt)
     by (c ∷ l) each = (each.0, by l each.1)
-
--- short rows have no whole run
-pub no_run : (n : ℕ) → n < 65536 → in_runs n ≡ 0
-no_run n short = omega (arith, short)
 
 pub runs_fit : (n : ℕ) → in_runs n ≤ n
 runs_fit n = omega arith
