@@ -2,8 +2,7 @@
 use crate::plays::{empty_berth, only, run_line};
 use berth_face::{Failed, Sink};
 use berth_mem::{MemBerth, MemSink, MemSource, Method};
-use play::Status;
-use script_text::Why;
+use play::{Status, fault_text};
 use std::alloc::{AllocError, Global};
 use std::sync::Wait;
 use std::test::*;
@@ -28,23 +27,21 @@ impl Sink for NarrowSink {
 /// A row whose time is in the range of the counts.
 const ROW: &str = "{\"time\":1}";
 
+/// What is said where the source fails.
+const READ: &str = "the input could not be read";
+
+/// What is said where the sink fails.
+const WRITE: &str = "the output could not be written";
+
 /// A leaf that takes a row.
 const SCRIPT: &str = "fleet 1 1 errors\nadd 0 errors 1\n{\"time\":1}\n";
 
-/// How a run ended, in words.
-fn ending(status: &Status) -> &'static str {
-    match status {
-        Status::Done => "done",
-        Status::Words => "words",
-        Status::Script {
-            line: 1,
-            why: Why::NoBerth,
-        } => "no berth at line 1",
-        Status::Script { .. } => "script",
-        Status::ReadFault => "read fault",
-        Status::WriteFault => "write fault",
-        Status::NoMemory => "no memory",
+/// How a run ended: done, or what its status says to people.
+fn ending(alloc: Global, status: &Status) -> Result<String, AllocError> {
+    if matches!(status, Status::Done) {
+        return String::from_str(alloc, "done");
     }
+    Ok(fault_text(alloc, status)?.into_inner())
 }
 
 /// How a run ends over a source of the text and a sink of one byte a call, of which these calls fail, and what it wrote. Call 0
@@ -57,14 +54,14 @@ fn run_failing<R: Wait + Threads + Sync>(
     take: u64,
     put: u64,
     berths: &mut Vec<MemBerth>,
-) -> Result<(&'static str, Vec<u8>), AllocError> {
+) -> Result<(String, Vec<u8>), AllocError> {
     let text = text.as_bytes().to_vec(alloc)?;
     let mut source = MemSource::failing(text, only(alloc, Method::Take, take)?);
     let inner = MemSink::failing(only(alloc, Method::Put, put)?);
     let mut sink = NarrowSink { inner };
     let status = run_line(rt, alloc, line, &mut source, &mut sink, berths)?;
     let written = sink.inner.bytes().to_vec(alloc)?;
-    Ok((ending(&status), written))
+    Ok((ending(alloc, &status)?, written))
 }
 
 #[test]
@@ -72,28 +69,28 @@ fn each_fault_of_source_and_sink_has_its_status(rt: HostRuntime) -> Result<(), F
     let alloc = rt.alloc();
     for (line, text, take, put, want, written) in [
         // The second call of a source comes when all is read, and is to tell the end.
-        ("count 1 2", ROW, 1, 0, "read fault", ""),
-        ("count 1 2", ROW, 2, 0, "read fault", ""),
-        ("play", SCRIPT, 1, 0, "read fault", ""),
-        ("play", SCRIPT, 2, 0, "read fault", ""),
+        ("count 1 2", ROW, 1, 0, READ, ""),
+        ("count 1 2", ROW, 2, 0, READ, ""),
+        ("play", SCRIPT, 1, 0, READ, ""),
+        ("play", SCRIPT, 2, 0, READ, ""),
         // What is written is a front of what a run without a fault writes.
-        ("count 1 2", ROW, 0, 1, "write fault", ""),
-        ("count 1 2", ROW, 0, 5, "write fault", "coun"),
-        ("count 1 2", ROW, 0, 8, "write fault", "count 1"),
+        ("count 1 2", ROW, 0, 1, WRITE, ""),
+        ("count 1 2", ROW, 0, 5, WRITE, "coun"),
+        ("count 1 2", ROW, 0, 8, WRITE, "count 1"),
         ("count 1 2", ROW, 0, 9, "done", "count 1\n"),
-        ("play", SCRIPT, 0, 1, "write fault", ""),
+        ("play", SCRIPT, 0, 1, WRITE, ""),
         (
             "play",
             SCRIPT,
             0,
             42,
-            "write fault",
+            WRITE,
             "0 errors #1 opened 0\nstart 0 disk nohead\n",
         ),
     ] {
         let mut berths = vec![in alloc; empty_berth(alloc)]?;
         let (ended, got) = run_failing(&rt, alloc, line, text, take, put, &mut berths)?;
-        assert_eq!(rt; ended, want, "at {line}, {take}, {put}");
+        assert_eq!(rt; ended.as_str(), want, "at {line}, {take}, {put}");
         assert_eq!(rt;
             got.as_slice(),
             written.as_bytes(),
@@ -102,6 +99,9 @@ fn each_fault_of_source_and_sink_has_its_status(rt: HostRuntime) -> Result<(), F
     }
     let mut none = Vec::new(alloc);
     let (ended, got) = run_failing(&rt, alloc, "play", SCRIPT, 0, 0, &mut none)?;
-    assert_eq!(rt; (ended, got.len()), ("no berth at line 1", 0));
+    assert_eq!(rt;
+        (ended.as_str(), got.len()),
+        ("line 1: the fleet has more leaves than there are berths", 0)
+    );
     Ok(())
 }
