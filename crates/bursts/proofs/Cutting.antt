@@ -8,7 +8,8 @@ use Rattle.turnstile.specs.Seats.{keeps_all_but}
 use Rattle.leaf_table.specs.Calls.{SeatView}
 use Rattle.script_text.specs.declared.command.Command.{Command}
 use Rattle.script_text.specs.Fits.{IsCommand}
-use Rattle.transcript.specs.Pieces.{Fleet, leaf_count}
+use Rattle.script_text.specs.declared.fleet.Fleet.{Fleet}
+use Rattle.script_text.specs.Commands.{leaf_count}
 use Rattle.transcript.specs.Holds.{Hold, caller_in}
 use Rattle.transcript.specs.Stage.{Leaf}
 use Rattle.transcript.specs.Lanes.{CutsOff, CutsOffAt, SplitsIf}

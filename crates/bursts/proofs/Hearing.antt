@@ -8,7 +8,8 @@ use Rattle.script_text.specs.Fits.{OneSteward}
 use Rattle.script_text.specs.Stewards.{has_steward, is_stewards}
 use Rattle.rollover_watch.specs.Watches.{Held}
 use Rattle.printed_lines.specs.declared.line.Line.{Line}
-use Rattle.transcript.specs.Pieces.{Fleet, Piece, Played, commands_in}
+use Rattle.script_text.specs.declared.fleet.Fleet.{Fleet}
+use Rattle.transcript.specs.Pieces.{Piece, Played, commands_in}
 use Rattle.transcript.specs.Holds.{Hold}
 use Rattle.transcript.specs.Watching.{Hears, HearsAll}
 use Rattle.bursts.specs.Played.{LanePlayed}

@@ -7,7 +7,8 @@ use Rattle.script_text.specs.declared.command.Command.{Command}
 use Rattle.script_text.specs.declared.item.Item.TheVariants as item
 use Rattle.rollover_watch.specs.Watches.{Held}
 use Rattle.printed_lines.specs.declared.line.Line.{Line}
-use Rattle.transcript.specs.Pieces.{Fleet, One, Burst, Piece, Played, pieces_in}
+use Rattle.script_text.specs.declared.fleet.Fleet.{Fleet}
+use Rattle.transcript.specs.Pieces.{One, Burst, Piece, Played, pieces_in}
 use Rattle.transcript.specs.Holds.{Hold, AllMeet}
 use Rattle.transcript.specs.Lanes.{PlaysItem}
 use Rattle.player.specs.Crew.{AllCounted, HasAll, StillHas}

@@ -1,12 +1,13 @@
 -- What was cut off for lanes, one behind another.
 use Rattle.std.proofs.Common.{◌≡◌, ℕ, zero, suc, ◌+◌, ◌<◌, Bool, true, List, [], ◌∷◌, ◌++◌, length, take, drop, refl, sym, ap, subst, ◌∙◌, arith}
+use Rattle.std.proofs.Math.Seq.{take-append_seam}
 use Rattle.std.specs.List.{AllByRecursion}
 use Rattle.std.specs.Prelude.{slice_index_or, IfSome, None}
 use Rattle.berth_face.specs.Berth.{Meaning}
 use Rattle.leaf_table.specs.Turns.{Shared}
 use Rattle.script_text.specs.declared.command.Command.{Command}
 use Rattle.rollover_watch.specs.Watches.{Held}
-use Rattle.transcript.specs.Pieces.{Fleet}
+use Rattle.script_text.specs.declared.fleet.Fleet.{Fleet}
 use Rattle.transcript.specs.Holds.{Hold}
 use Rattle.transcript.specs.Lanes.{CutsOff}
 use Rattle.player.specs.Crew.{AllPass, CrewState, StillHas, is_set}
@@ -35,14 +36,6 @@ snoc_same (c ∷ us) (d ∷ bs) a b e =
     let same = snoc_same us bs a b others in
     let front : us ≡ bs = same.0 in
     (cc, same.1)
-
-pub empty_of : {A : Type 0} (xs : List A) → length xs ≡ 0 → xs ≡ []
-empty_of [] none = refl
-empty_of (x ∷ xs) none = absurd (omega (arith, none))
-
-take_front : {A : Type 0} (xs ys : List A) → take (length xs) (xs ++ ys) ≡ xs
-take_front {A = A} [] ys = refl
-take_front {A = A} (x ∷ xs) ys = ap (λ (zs : List A). x ∷ zs) (take_front xs ys)
 
 -- two lists whose elements stand so to one another
 abbrev pub Pairs : {A : Type 0} → (A → A → Type 0) → List A → List A → Type 0
@@ -250,7 +243,7 @@ module _ {B X : Type 0} {Y : X → Type 0} (hear : LaneWork B X Y → List Held)
   all_played now now' len same long size each =
       let whole : length now' ≡ length works = long ∙ ap (λ (ws : List (LaneWork B X Y)). length ws) same in
       let are : take len (now' ++ drop (length now') works) ≡ now' =
-      ap (λ (n : ℕ). take n (now' ++ drop (length now') works)) (size ∙ sym whole) ∙ take_front now' (drop (length now') works) in
+      ap (λ (n : ℕ). take n (now' ++ drop (length now') works)) (size ∙ sym whole) ∙ take-append_seam now' (drop (length now') works) in
       subst (λ (ws : List (LaneWork B X Y)). Lent count (IsWorked hear was meaning fleet' tables') xs ws cut rest) (sym are)
       (over now' (all_done hear was meaning fleet tables count xs works now' cut rest lent whole
       (subst (λ (ws : List (LaneWork B X Y)). (i : ℕ) (d : LaneWork B X Y) → i < length ws → IsDone hear meaning (slice_index_or ws i d) (slice_index_or now' i d)) same each)))

@@ -10,9 +10,11 @@ use Rattle.script_text.specs.declared.command.Command.{Command}
 use Rattle.script_text.specs.declared.command.Command.TheVariants as command
 use Rattle.script_text.specs.Fits.{IsCommand, OneSteward}
 use Rattle.script_text.specs.Stewards.{has_steward, is_stewards}
-use Rattle.transcript.specs.Pieces.{Fleet, leaf_count, place_of}
+use Rattle.script_text.specs.declared.fleet.Fleet.{Fleet}
+use Rattle.script_text.specs.Commands.{leaf_count}
+use Rattle.transcript.specs.Pieces.{place_among}
 use Rattle.transcript.specs.Holds.{Hold}
-use Rattle.transcript.specs.Steps.{MayPlay}
+use Rattle.transcript.specs.Plays.{MayPlay}
 use Rattle.player.specs.Crew.{HasAll, HasFor, HasLeaf, HasSeats, StillHas, is_set}
 use Rattle.bursts.specs.declared.plan.Plan.{Plan}
 use Rattle.bursts.specs.Needs.{AreAlone, ArePlans, Everywhere, IsAmong, IsPlan, IsPlanOf, Nowhere, OnlyAt, Places, acts_on, leaves_of, marked, marked_by, needed, table_of}
@@ -22,20 +24,20 @@ use Rattle.bursts.proofs.Held.{still_leaf, still_seats}
 -- ---- commands
 
 -- a name among the tables has a place
-known_place : (name : List ℕ) (names : List (List ℕ)) (k : ℕ) → k < length names → slice_index_or names k name ≡ name → place_of name names < length names
+known_place : (name : List ℕ) (names : List (List ℕ)) (k : ℕ) → k < length names → slice_index_or names k name ≡ name → place_among name names < length names
 known_place name [] k h e = absurd (omega (arith, h))
-known_place name (n ∷ ns) zero h e = here (bytes_eq name n) (place_of name ns) (length ns) ((bytes_eq-Decides name n).1 (sym e))
+known_place name (n ∷ ns) zero h e = here (bytes_eq name n) (place_among name ns) (length ns) ((bytes_eq-Decides name n).1 (sym e))
   where
     here : (b : Bool) (n count : ℕ) → b ≡ true → cond b 0 (suc n) < suc count
     here true n count e = omega arith
     here false n count e = absurd cc
-known_place name (n ∷ ns) (suc k) h e = below (bytes_eq name n) (place_of name ns) (length ns) (known_place name ns k (omega (arith, h)) e)
+known_place name (n ∷ ns) (suc k) h e = below (bytes_eq name n) (place_among name ns) (length ns) (known_place name ns k (omega (arith, h)) e)
   where
     below : (b : Bool) (n count : ℕ) → n < count → cond b 0 (suc n) < suc count
     below true n count e = omega arith
     below false n count e = omega (arith, e)
 
-pub place_below : (name : List ℕ) (names : List (List ℕ)) → Contains names name → place_of name names < length names
+pub place_below : (name : List ℕ) (names : List (List ℕ)) → Contains names name → place_among name names < length names
 place_below name names has = known_place name names has.0 has.1 has.2
 
 -- the table that a command needs seats at is one of the fleet's
@@ -70,7 +72,7 @@ module _ {B : Type 0} (fleet : Fleet) (xs : List (Hold B)) where
   has_for (command.Add leaf t rows) is seats leaves = seats t refl
   has_for (command.Expire leaf t horizon) is seats leaves = seats t refl
   has_for (command.Keep leaf t n) is seats leaves = seats t refl
-  has_for (command.Query q) is seats leaves = seats (place_of q.table fleet.names) refl
+  has_for (command.Query q) is seats leaves = seats (place_among q.table fleet.names) refl
   has_for (command.Flush leaf t) is seats leaves = leaves leaf refl is.0
   has_for (command.Drain leaf stop) is seats leaves = leaves leaf refl is.0
   has_for (command.Kill leaf) is seats leaves = leaves leaf refl is
@@ -85,7 +87,7 @@ module _ {B : Type 0} (fleet : Fleet) (xs : List (Hold B)) where
   all_has_for all (command.Add leaf t rows) may = all.seats t may.1
   all_has_for all (command.Expire leaf t horizon) may = all.seats t may.1
   all_has_for all (command.Keep leaf t n) may = all.seats t may.1
-  all_has_for all (command.Query q) may = all.seats (place_of q.table fleet.names) (place_below q.table fleet.names may.0)
+  all_has_for all (command.Query q) may = all.seats (place_among q.table fleet.names) (place_below q.table fleet.names may.0)
   all_has_for all (command.Flush leaf t) may = all.leaves leaf
   all_has_for all (command.Drain leaf stop) may = all.leaves leaf
   all_has_for all (command.Kill leaf) may = all.leaves leaf
@@ -102,7 +104,7 @@ module _ {B : Type 0} (fleet : Fleet) (xs ys : List (Hold B)) (still : StillHas 
   still_for (command.Add leaf t rows) has = still_seats xs ys still t has
   still_for (command.Expire leaf t horizon) has = still_seats xs ys still t has
   still_for (command.Keep leaf t n) has = still_seats xs ys still t has
-  still_for (command.Query q) has = still_seats xs ys still (place_of q.table fleet.names) has
+  still_for (command.Query q) has = still_seats xs ys still (place_among q.table fleet.names) has
   still_for (command.Flush leaf t) has = still_leaf xs ys still leaf has
   still_for (command.Drain leaf stop) has = still_leaf xs ys still leaf has
   still_for (command.Kill leaf) has = still_leaf xs ys still leaf has

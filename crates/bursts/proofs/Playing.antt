@@ -10,7 +10,8 @@ use Rattle.rollover_watch.specs.Watches.{Held}
 use Rattle.printed_lines.specs.declared.line.Line.{Line}
 use Rattle.printed_lines.specs.declared.line.Line.TheVariants.{Lane}
 use Rattle.printed_lines.specs.Lines.{IsOf}
-use Rattle.transcript.specs.Pieces.{Fleet, Played, commands_in, lane_lines, lines_in, piece_lines, pieces_in}
+use Rattle.script_text.specs.declared.fleet.Fleet.{Fleet}
+use Rattle.transcript.specs.Pieces.{Played, commands_in, lane_lines, lines_in, piece_lines, pieces_in}
 use Rattle.transcript.specs.Holds.{Hold}
 use Rattle.transcript.specs.Lanes.{PlaysOn}
 use Rattle.player.specs.Crew.{AllCounted, PlaysWith}

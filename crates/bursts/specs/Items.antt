@@ -6,10 +6,12 @@ use Rattle.script_text.specs.declared.item.Item.TheVariants.{One, Burst}
 use Rattle.script_text.specs.Fits.{IsBurst}
 use Rattle.rollover_watch.specs.Watches.{Held}
 use Rattle.printed_lines.specs.declared.line.Line.{Line}
-use Rattle.transcript.specs.Pieces.{Fleet, PlayedItem, all_pieces, item_lines, item_of, leaf_count, plays_of}
+use Rattle.script_text.specs.declared.fleet.Fleet.{Fleet}
+use Rattle.script_text.specs.Commands.{leaf_count}
+use Rattle.transcript.specs.Pieces.{PlayedItem, all_pieces, item_lines, item_of, plays_of}
 use Rattle.transcript.specs.Holds.{Hold}
 use Rattle.transcript.specs.Lanes.{PlaysItem}
-use Rattle.transcript.specs.Steps.{MayPlay}
+use Rattle.transcript.specs.Plays.{MayPlay}
 use Rattle.transcript.specs.Watching.{HearsAll}
 use Rattle.player.specs.Crew.{AllCounted}
 

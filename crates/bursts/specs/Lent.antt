@@ -7,7 +7,7 @@ use Rattle.leaf_table.specs.Turns.{Shared}
 use Rattle.script_text.specs.declared.command.Command.{Command}
 use Rattle.rollover_watch.specs.Watches.{Held}
 use Rattle.printed_lines.specs.declared.line.Line.{Line}
-use Rattle.transcript.specs.Pieces.{Fleet}
+use Rattle.script_text.specs.declared.fleet.Fleet.{Fleet}
 use Rattle.transcript.specs.Holds.{Hold}
 use Rattle.transcript.specs.Lanes.{CutsOff}
 use Rattle.player.specs.Crew.{AllPass, HasSeats, StillHas}

@@ -4,7 +4,9 @@ use Rattle.std.specs.List.{AllByRecursion}
 use Rattle.script_text.specs.declared.command.Command.{Command}
 use Rattle.script_text.specs.declared.command.Command.TheVariants as command
 use Rattle.script_text.specs.Fits.{IsCommand}
-use Rattle.transcript.specs.Pieces.{Fleet, leaf_count, place_of}
+use Rattle.script_text.specs.declared.fleet.Fleet.{Fleet}
+use Rattle.script_text.specs.Commands.{leaf_count}
+use Rattle.transcript.specs.Pieces.{place_among}
 use Rattle.transcript.specs.Holds.{Hold}
 use Rattle.player.specs.Crew.{HasLeaf, HasSeats, Spares, is_set}
 use Rattle.bursts.specs.declared.plan.Needs.{Needs}
@@ -22,7 +24,7 @@ table_of names (command.Fleet machines per_machine tables) = Nowhere
 table_of names (command.Add leaf table rows) = OnlyAt table
 table_of names (command.Expire leaf table horizon) = OnlyAt table
 table_of names (command.Keep leaf table n) = OnlyAt table
-table_of names (command.Query q) = OnlyAt (place_of q.table names)
+table_of names (command.Query q) = OnlyAt (place_among q.table names)
 table_of names (command.Flush leaf table) = Nowhere
 table_of names (command.Drain leaf stop) = Nowhere
 table_of names (command.Kill leaf) = Nowhere

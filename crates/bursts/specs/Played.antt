@@ -9,9 +9,11 @@ use Rattle.rollover_watch.specs.Watches.{Held}
 use Rattle.printed_lines.specs.declared.line.Line.{Line}
 use Rattle.printed_lines.specs.declared.line.Line.TheVariants.{Lane}
 use Rattle.printed_lines.specs.Lines.{IsOf}
-use Rattle.transcript.specs.Pieces.{Fleet, Piece, Played, commands_in, lane_lines, leaf_count, lines_in, pieces_in}
+use Rattle.script_text.specs.declared.fleet.Fleet.{Fleet}
+use Rattle.script_text.specs.Commands.{leaf_count}
+use Rattle.transcript.specs.Pieces.{Piece, Played, commands_in, lane_lines, lines_in, pieces_in}
 use Rattle.transcript.specs.Holds.{Hold, AllMeet}
-use Rattle.transcript.specs.Steps.{Plays}
+use Rattle.transcript.specs.Plays.{Plays}
 use Rattle.transcript.specs.Lanes.{Fans, PlaysOn}
 use Rattle.transcript.specs.Watching.{Hears, HearsAll}
 use Rattle.player.specs.Crew.{AllCounted, HasFor}

@@ -4,7 +4,7 @@ ghost use Rattle.std.specs.List.{AllByRecursion};
 ghost use Rattle.script_text.specs.declared.item.Item.TheVariants.{Burst};
 ghost use Rattle.script_text.specs.Fits.{IsBurst};
 ghost use Rattle.printed_lines.specs.Lines.{IsOf};
-ghost use Rattle.transcript.specs.Pieces.{leaf_count};
+ghost use Rattle.script_text.specs.Commands.{leaf_count};
 ghost use Rattle.player.specs.Crew.{AllPass, HasAll};
 ghost use Rattle.bursts.specs.Items.{ItemPlayed};
 

@@ -3,7 +3,7 @@ ghost use Rattle.std.specs.Prelude.{◌≡◌, IfOk, map};
 ghost use Rattle.std.specs.List.{AllByRecursion};
 ghost use Rattle.script_text.specs.declared.item.Item.TheVariants.{One};
 ghost use Rattle.printed_lines.specs.Lines.{IsOf};
-ghost use Rattle.transcript.specs.Steps.{MayPlay};
+ghost use Rattle.transcript.specs.Plays.{MayPlay};
 ghost use Rattle.player.specs.Crew.{AllPass, HasAll, HasFor, StillHas};
 ghost use Rattle.bursts.specs.Items.{ItemPlayed};
 ghost use Rattle.bursts.specs.Played.{CommandPlayed};

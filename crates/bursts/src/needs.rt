@@ -2,7 +2,7 @@
 ghost use Rattle.std.specs.Prelude.{◌≡◌, false, true, length, replicate, IfOk};
 ghost use Rattle.std.specs.List.{AllByRecursion};
 ghost use Rattle.script_text.specs.Fits.{IsCommand};
-ghost use Rattle.transcript.specs.Pieces.{leaf_count};
+ghost use Rattle.script_text.specs.Commands.{leaf_count};
 ghost use Rattle.bursts.specs.Needs.{AreNeeds, HasPlaces, leaves_of, marked, table_of};
 
 use crate::plan::Needs;

@@ -2,7 +2,7 @@
 ghost use Rattle.std.specs.Prelude.{◌≡◌, ◌<◌, IfOk, IsTrue, count_by};
 ghost use Rattle.std.specs.List.{AllByRecursion};
 ghost use Rattle.script_text.specs.Fits.{IsCommand};
-ghost use Rattle.transcript.specs.Pieces.{leaf_count};
+ghost use Rattle.script_text.specs.Commands.{leaf_count};
 ghost use Rattle.player.specs.Crew.{is_set};
 ghost use Rattle.bursts.specs.Needs.{ArePlans, AreSpare, IsPlanOf, needs_at};
 

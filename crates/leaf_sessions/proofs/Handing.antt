@@ -2,6 +2,7 @@
 use Rattle.std.proofs.Common.{◌≡◌, ℕ, suc, ◌+◌, ◌-◌, ◌<◌, ◌≤◌, Bool, false, List, [], ◌∷◌, ◌++◌, length, take, Some, None, refl, sym, ap, subst, ◌∙◌, arith}
 use Rattle.std.specs.Prelude.{slice_get, slice_set}
 use Rattle.std.proofs.lemmas.List.{append_assoc, length-append}
+use Rattle.std.proofs.Math.Seq.{take-append_seam}
 use Rattle.leaf_history.specs.Calls as call
 use Rattle.leaf_history.specs.Replies as reply
 use Rattle.leaf_history.specs.History.{Entry, HistoryState, LegalFrom, after, held}
@@ -65,17 +66,12 @@ begun_stewards (IsPreparing y) x begins are = subst (λ (y : Shutting). AreStewa
 
 -- ---- a table that is handed over
 
-take_front : (xs ys : List Entry) → take (length xs) (xs ++ ys) ≡ xs
-take_front [] [] = refl
-take_front [] (y ∷ ys) = refl
-take_front (x ∷ xs) ys = ap (λ (es : List Entry). x ∷ es) (take_front xs ys)
-
 -- it holds then what the steward's seat had seen it hold: others change nothing of a shut table
 rows_handed : (g : Ground) (entries more : List Entry) (t : Shared) (clock number : ℕ) (v w : SeatView) → IsStewards v → Made (base_seen t) clock v call.Done reply.Noted w → number ≡ length w.seen
     → g ≡ ground_of_table t → entries ≡ seen_of w ++ more → rows_before g entries number ≡ (held (state_seen (base_seen t) v)).rows
 rows_handed g entries more t clock number v w steward made counted ground on =
     ap (λ (x : Ground). (held (after x.founded x.base (take (number - 1) entries))).rows) ground
-    ∙ (ap (λ (es : List Entry). (held (after founded start es)).rows) (ap (λ (n : ℕ). take n entries) count ∙ (ap (λ (es : List Entry). take (length front) es) entries_are ∙ take_front front (own ∷ more)))
+    ∙ (ap (λ (es : List Entry). (held (after founded start es)).rows) (ap (λ (n : ℕ). take n entries) count ∙ (ap (λ (es : List Entry). take (length front) es) entries_are ∙ take-append_seam front (own ∷ more)))
     ∙ ap (λ (s : HistoryState). (held s).rows) (after-append founded start (seen_of v) made.between ∙ still))
   where
     founded : Bool

@@ -15,7 +15,8 @@ use Rattle.leaf_table.specs.Lists.{row}
 use Rattle.leaf_steward.specs.Seated.{AreAlike, AreFounded, AtEach, Seated}
 use Rattle.leaf_machine.specs.States.{MayBegin}
 use Rattle.rollover_watch.specs.Watches.{Held}
-use Rattle.transcript.specs.Pieces.{Fleet, leaf_count}
+use Rattle.script_text.specs.declared.fleet.Fleet.{Fleet}
+use Rattle.script_text.specs.Commands.{leaf_count}
 use Rattle.transcript.specs.Counts.{CountsRose}
 use Rattle.transcript.specs.Holds.{Hold}
 use Rattle.transcript.specs.Stage.{IsDown, Leaf, Stands, seated_of}

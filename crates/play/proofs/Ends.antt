@@ -16,7 +16,9 @@ use Rattle.script_text.specs.Script.{script_of}
 use Rattle.script_text.specs.Fits.{AreItems, AreTables, IsItem, IsTableName}
 use Rattle.printed_lines.specs.declared.line.Line.{Line}
 use Rattle.printed_lines.specs.Lines.{lines_text}
-use Rattle.transcript.specs.Pieces.{Fleet, PlayedItem, all_lines, all_pieces, fleet_of, item_of, leaf_count, plays_in}
+use Rattle.script_text.specs.declared.fleet.Fleet.{Fleet}
+use Rattle.script_text.specs.Commands.{leaf_count}
+use Rattle.transcript.specs.Pieces.{PlayedItem, all_lines, all_pieces, script_fleet, item_of, plays_in}
 use Rattle.transcript.specs.Counts.{CountsRose}
 use Rattle.transcript.specs.Strangers.{IsNamedBy, Strangers}
 use Rattle.transcript.specs.Transcript.{Known, Transcript, first_life}
@@ -28,7 +30,7 @@ use Rattle.sessions.specs.Laws.{IsToldFleet}
 use Rattle.player.specs.Crew.{berth_in}
 use Rattle.bursts.specs.Items.{MayPlayItem}
 use Rattle.play.specs.Played.{KeepsCounts, LeavesBerths, leaves_in, leaves_of, leaves_told}
-use Rattle.play.specs.Runs.{AreCounted, HoldsKeep, IsFleetOf, IsRun, berths_in, fleet_with}
+use Rattle.play.specs.Runs.{AreCounted, HoldsKeep, IsFleetOf, IsRun, berths_in, fleet_named}
 use Rattle.sessions.proofs.Lists.{All-weaken}
 use Rattle.sessions.proofs.Sessions.{berth_held}
 use Rattle.leaf_sessions.proofs.Lists.{element_at, length_mapped, same_some, within}
@@ -57,12 +59,12 @@ fleet_is machines per_machine tables more c = record {
   is = refl;
   are_names = tables_are_names tables c.1;
   leaves = c.0;
-  may_play = (tt, All-weaken (IsItem (leaf_count (fleet_with machines per_machine tables)) tables) (MayPlayItem (fleet_with machines per_machine tables)) (item_may (fleet_with machines per_machine tables)) more c.2);
+  may_play = (tt, All-weaken (IsItem (leaf_count (fleet_named machines per_machine tables)) tables) (MayPlayItem (fleet_named machines per_machine tables)) (item_may (fleet_named machines per_machine tables)) more c.2);
 }
 
 -- what was read of the first item is that fleet
 pub plan_is : (items : List Item) → AreItems items → 0 < length items → (machines per_machine : ℕ) (names : List (List ℕ))
-    → machines ≡ (fleet_of items).machines → per_machine ≡ (fleet_of items).per_machine → names ≡ (fleet_of items).names → IsFleetOf items machines per_machine names
+    → machines ≡ (script_fleet items).machines → per_machine ≡ (script_fleet items).per_machine → names ≡ (script_fleet items).names → IsFleetOf items machines per_machine names
 plan_is [] c some machines per_machine names e f h = absurd (omega (arith, some))
 plan_is (item.One (command.Fleet m p tables) ∷ more) c some machines per_machine names e f h = rw (e, f, h) (fleet_is m p tables more c)
 plan_is (item.One (command.Add leaf table rows) ∷ more) c some machines per_machine names e f h = absurd c
@@ -108,14 +110,6 @@ nothing_written base meaning items was berths watches e = rw e (record {
     leaves = λ leaf k below is. absurd (none_below leaf below);
     others = refl;
   };
-})
-
--- all berths are as they were
-pub same_berths : {B : Type 0} (meaning : B → Meaning) (leaves : ℕ) (olds news : List B) → news ≡ olds → LeavesBerths meaning leaves olds news
-same_berths {B} meaning leaves olds news e = subst (λ (bs : List B). LeavesBerths meaning leaves olds bs) (sym e) (record {
-  as_many = refl;
-  used = λ leaf old new at now. subst (λ (b : B). KeepsCounts (meaning old) (meaning b)) (same_some old new (sym at ∙ now)) (keeps_same (meaning old));
-  others = refl;
 })
 
 -- ---- a run over the first berths
@@ -208,18 +202,18 @@ module _ {B : Type 0} (meaning : B → Meaning) (front rest own : List B) (xs : 
           others = subst (λ n. drop n news ≡ drop n olds) (sym size) same_behind;
         }
 
-    run_told : (lines : List Line) (items : List Item) → ToldBy lines (fleet_of items) items → IsToldRun meaning olds news items known lines watching watched
+    run_told : (lines : List Line) (items : List Item) → ToldBy lines (script_fleet items) items → IsToldRun meaning olds news items known lines watching watched
     run_told lines items t = record { transcript = t.transcript; lines_are = t.lines_are; watched = t.heard; counts = t.counts; strangers = t.strangers; leaves = t.leaves; others = t.others }
 
-  run_written : (base : ℕ → Option NamedStates) (items : List Item) (was now : Option (List ℕ)) (watching watched : List Held) → leaf_count (fleet_of items) ≡ length front
-      → IsRun base meaning (fleet_of items) front was now watching watched items xs → IsWritten meaning olds news base items was now watching watched
+  run_written : (base : ℕ → Option NamedStates) (items : List Item) (was now : Option (List ℕ)) (watching watched : List Held) → leaf_count (script_fleet items) ≡ length front
+      → IsRun base meaning (script_fleet items) front was now watching watched items xs → IsWritten meaning olds news base items was now watching watched
   run_written base items was now watching watched size run = record {
     lines = all_lines run.played;
     written = run.text;
     told = λ known bases.
-        let told = fleet_told known watching watched (fleet_of items) run.played size run.counted run.heard
+        let told = fleet_told known watching watched (script_fleet items) run.played size run.counted run.heard
         (run.told known (λ leaf old at. bases leaf old (front_at front rest leaf (within front leaf old at) ∙ at))) in
-        run_told known watching watched (all_lines run.played) items (subst (λ (is : List Item). ToldBy known watching watched (all_lines run.played) (fleet_of items) is) run.items_are told);
+        run_told known watching watched (all_lines run.played) items (subst (λ (is : List Item). ToldBy known watching watched (all_lines run.played) (script_fleet items) is) run.items_are told);
   }
 
 -- ---- over all berths
@@ -239,15 +233,15 @@ module _ {B : Type 0} (meaning : B → Meaning) (olds news own : List B) (old_xs
   abbrev parts : front ++ drop leaves olds ≡ olds
   parts = take-append-drop leaves olds
 
-  pub crew_written : (base : ℕ → Option NamedStates) (items played : List Item) (fleet : Fleet) (was now : Option (List ℕ)) (watching watched : List Held) → fleet_of items ≡ fleet → leaf_count fleet ≡ leaves
+  pub crew_written : (base : ℕ → Option NamedStates) (items played : List Item) (fleet : Fleet) (was now : Option (List ℕ)) (watching watched : List Held) → script_fleet items ≡ fleet → leaf_count fleet ≡ leaves
       → played ≡ items → IsRun base meaning fleet (berths_in old_xs) was now watching watched played xs → IsWritten meaning olds news base items was now watching watched
   crew_written base items played fleet was now watching watched is size all ran =
       let run : IsRun base meaning fleet (berths_in old_xs) was now watching watched items xs =
       subst (λ (is : List Item). IsRun base meaning fleet (berths_in old_xs) was now watching watched is xs) all ran in
-      let here : IsRun base meaning (fleet_of items) front was now watching watched items xs =
+      let here : IsRun base meaning (script_fleet items) front was now watching watched items xs =
       subst (λ (f : Fleet). IsRun base meaning f front was now watching watched items xs) (sym is)
       (subst (λ (bs : List B). IsRun base meaning fleet bs was now watching watched items xs) had run) in
-      let sized : leaf_count (fleet_of items) ≡ length front = ap (λ (f : Fleet). leaf_count f) is ∙ (size ∙ sym front_is) in
+      let sized : leaf_count (script_fleet items) ≡ length front = ap (λ (f : Fleet). leaf_count f) is ∙ (size ∙ sym front_is) in
       subst (λ (bs : List B). IsWritten meaning bs news base items was now watching watched) parts
       (subst (λ (bs : List B). IsWritten meaning (front ++ drop leaves olds) bs base items was now watching watched) (sym has)
       (run_written meaning front (drop leaves olds) own xs are count_front base items was now watching watched sized here))

@@ -26,7 +26,9 @@ use Rattle.rollover_watch.specs.Watches.{Held}
 use Rattle.script_text.specs.declared.item.Item.{Item}
 use Rattle.printed_lines.specs.declared.line.Line.{Line}
 use Rattle.transcript.specs.Base.{watched_with}
-use Rattle.transcript.specs.Pieces.{Fleet, fleet_of, leaf_count}
+use Rattle.script_text.specs.declared.fleet.Fleet.{Fleet}
+use Rattle.script_text.specs.Commands.{leaf_count}
+use Rattle.transcript.specs.Pieces.{script_fleet}
 use Rattle.transcript.specs.Leaving.{AreKnown, IsKnown, IsToldRun}
 use Rattle.transcript.specs.Transcript.{Known}
 use Rattle.leaf_sessions.proofs.Lists.{element_at, same_some, within}
@@ -125,7 +127,7 @@ module _ {B : Type 0} (base : ℕ → Option NamedStates) (meaning : B → Meani
   histories = told.transcript.histories
 
   abbrev fleet : Fleet
-  fleet = fleet_of items
+  fleet = script_fleet items
 
   -- of a leaf of the fleet
   kept_of_some : (leaf : ℕ) (new : B) (k : Known) → slice_get news leaf ≡ Some new → known leaf ≡ Some k → leaf < leaf_count fleet
@@ -202,7 +204,7 @@ pub bases_left : {B : Type 0} (base : ℕ → Option NamedStates) (meaning : B �
 bases_left base meaning before after was now old new next leaves = λ leaf b at.
     let told = leaves.played.written.told leaves.known leaves.are_known in
     base_there meaning b next leaf (λ kept is.
-    kept_is_base (fleet_of leaves.played.script.items) leaf (leaves.known leaf) (told.transcript.histories leaf) (meaning b) kept (leaves.keeps.each leaf b kept at is))
+    kept_is_base (script_fleet leaves.played.script.items) leaf (leaves.known leaf) (told.transcript.histories leaf) (meaning b) kept (leaves.keeps.each leaf b kept at is))
 
 -- ---- a play
 

@@ -17,11 +17,13 @@ use Rattle.script_text.specs.Fits.{IsCommand}
 use Rattle.printed_lines.specs.declared.line.Ending.{Ending}
 use Rattle.printed_lines.specs.declared.line.Line.{Line}
 use Rattle.printed_lines.specs.Lines.{line_text, lines_text}
-use Rattle.transcript.specs.Pieces.{Deed, Fleet, Piece, Called, Worn, Acted, Says, Played, PlayedItem, all_lines, all_pieces, item_lines, item_of, leaf_count, pieces_in, plays_in, plays_of}
+use Rattle.script_text.specs.declared.fleet.Fleet.{Fleet}
+use Rattle.script_text.specs.Commands.{leaf_count}
+use Rattle.transcript.specs.Pieces.{Deed, Piece, Called, Worn, Acted, Says, Played, PlayedItem, all_lines, all_pieces, item_lines, item_of, pieces_in, plays_in, plays_of}
 use Rattle.transcript.specs.Counts.{Counted, CountsRose, deeds_in, disk_faults_in, disk_reads_in, is_disk_fault, is_region_fault, reads_disk, region_faults_in}
 use Rattle.transcript.specs.Stage.{Leaf}
 use Rattle.transcript.specs.Holds.{HasMet, Hold}
-use Rattle.transcript.specs.Steps.{MayPlay}
+use Rattle.transcript.specs.Plays.{MayPlay}
 use Rattle.transcript.specs.Watching.{HearsAll}
 use Rattle.player.specs.Crew.{AllPass, CountedIf, PassesIf}
 use Rattle.bursts.specs.Items.{ItemPlayed, MayPlayItem}

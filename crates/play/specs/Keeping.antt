@@ -8,7 +8,9 @@ use Rattle.crash_states.specs.Standing.{tables_of}
 use Rattle.leaf_machine.specs.Leaving.{IsFrontOf}
 use Rattle.rollover_watch.specs.Watches.{Held}
 use Rattle.transcript.specs.Base.{watched_with}
-use Rattle.transcript.specs.Pieces.{Fleet, fleet_of, leaf_count}
+use Rattle.script_text.specs.declared.fleet.Fleet.{Fleet}
+use Rattle.script_text.specs.Commands.{leaf_count}
+use Rattle.transcript.specs.Pieces.{script_fleet}
 use Rattle.transcript.specs.Leaving.{AreKnown}
 use Rattle.transcript.specs.Transcript.{Known}
 use Rattle.play.specs.Played.{IsBase, IsPlayed}
@@ -74,7 +76,7 @@ pub record LeavesKnown {B : Type 0} (base : ℕ → Option NamedStates) (meaning
   pub played : IsPlayed base meaning before after was now old new watching watched
   pub known : ℕ → Option Known
   pub are_known : AreKnown meaning old new base known
-  pub keeps : KeepsEach meaning new (fleet_of played.script.items) known (played.written.told known are_known).transcript.histories next
+  pub keeps : KeepsEach meaning new (script_fleet played.script.items) known (played.written.told known are_known).transcript.histories next
 
 -- ---- two runs
 

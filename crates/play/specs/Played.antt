@@ -11,14 +11,15 @@ use Rattle.script_text.specs.declared.script.Script.{Script}
 use Rattle.script_text.specs.Commands.{Fault}
 use Rattle.script_text.specs.Script.{script_of}
 use Rattle.soak.specs.Soak.{soak_script}
-use Rattle.transcript.specs.Pieces.{fleet_of, leaf_count}
+use Rattle.script_text.specs.Commands.{leaf_count}
+use Rattle.transcript.specs.Pieces.{script_fleet}
 use Rattle.transcript.specs.Leaving.{IsWritten}
 use Rattle.play.specs.declared.words.Request.{Request}
 use Rattle.play.specs.declared.words.Request.TheVariants.{Play, Soak}
 
 -- how many leaves a script's fleet has
 abbrev pub leaves_in : List Item → ℕ
-leaves_in items = leaf_count (fleet_of items)
+leaves_in items = leaf_count (script_fleet items)
 
 -- ---- what is known of the berths
 

@@ -10,7 +10,8 @@ use Rattle.rollover_watch.specs.Watches.{Held}
 use Rattle.script_text.specs.declared.item.Item.{Item}
 use Rattle.script_text.specs.Fits.{AreLeaves}
 use Rattle.printed_lines.specs.Lines.{lines_text, name_at}
-use Rattle.transcript.specs.Pieces.{Fleet, Piece, PlayedItem, all_lines, all_pieces, fleet_of, item_lines, item_of, plays_in, plays_of}
+use Rattle.script_text.specs.declared.fleet.Fleet.{Fleet}
+use Rattle.transcript.specs.Pieces.{Piece, PlayedItem, all_lines, all_pieces, script_fleet, item_lines, item_of, plays_in, plays_of}
 use Rattle.transcript.specs.Counts.{CountsRose}
 use Rattle.transcript.specs.Transcript.{Known}
 use Rattle.transcript.specs.Leaving.{AreKnown}
@@ -39,15 +40,15 @@ table_bases base names leaf table = table_base (base leaf) (name_at names table)
 -- ---- the leaves
 
 -- a fleet of so many leaves with these names, which plays the items
-abbrev pub fleet_with : ℕ → ℕ → List (List ℕ) → Fleet
-fleet_with machines per_machine names = record { machines = machines; per_machine = per_machine; names = names }
+abbrev pub fleet_named : ℕ → ℕ → List (List ℕ) → Fleet
+fleet_named machines per_machine names = record { machines = machines; per_machine = per_machine; names = names }
 
 -- it is the fleet that the items make, and all of them may be played
 pub record IsFleetOf (items : List Item) (machines per_machine : ℕ) (names : List (List ℕ)) : Type 0 where
-  pub is : fleet_of items ≡ fleet_with machines per_machine names
+  pub is : script_fleet items ≡ fleet_named machines per_machine names
   pub are_names : AreNames names
   pub leaves : AreLeaves machines per_machine
-  pub may_play : AllByRecursion (MayPlayItem (fleet_with machines per_machine names)) items
+  pub may_play : AllByRecursion (MayPlayItem (fleet_named machines per_machine names)) items
 
 -- the berths of the leaves that are held
 abbrev pub berths_in : {B : Type 0} → List (Hold B) → List B

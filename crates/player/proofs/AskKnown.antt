@@ -1,5 +1,6 @@
 -- What is known of leaves that are asked, by the seats at their tables.
 use Rattle.std.proofs.Common.{◌≡◌, ℕ, zero, suc, ◌+◌, ◌-◌, ◌≤◌, List, [], ◌∷◌, ◌++◌, length, take, Option, Some, None, refl, sym, ap, ap₂, ◌∙◌, arith}
+use Rattle.std.proofs.lemmas.List.{take-append-le}
 use Rattle.std.specs.Prelude.{slice_get}
 use Rattle.std.specs.List.{flat_map}
 use Rattle.leaf_model.specs.declared.rows.Row.{Row}
@@ -117,9 +118,4 @@ pub rows_stay : (g : Ground) (base : Option TableBase) (entries seen more : List
     → rows_before g entries n ≡ fan.rows_before base seen n
 rows_stay g base entries seen more n ground goes few =
     ap₂ (λ (h : Ground) (es : List Entry). (held (after h.founded h.base es)).rows) ground
-    (ap (λ (es : List Entry). take (n - 1) es) goes ∙ take_front (n - 1) seen more few)
-  where
-    take_front : (k : ℕ) (xs ys : List Entry) → k ≤ length xs → take k (xs ++ ys) ≡ take k xs
-    take_front zero xs ys few = refl
-    take_front (suc k) [] ys few = absurd (omega (arith, few))
-    take_front (suc k) (x ∷ xs) ys few = ap (λ (zs : List Entry). x ∷ zs) (take_front k xs ys (omega (arith, few)))
+    (ap (λ (es : List Entry). take (n - 1) es) goes ∙ take-append-le (n - 1) seen more few)

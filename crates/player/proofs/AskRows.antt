@@ -1,5 +1,6 @@
 -- One row of seats was asked.
-use Rattle.std.proofs.Common.{◌≡◌, ◌⊎◌, inl, inr, ⊎_elim, ℕ, zero, suc, ◌<◌, List, [], ◌∷◌, ◌++◌, length, take, drop, Result, Vec, Global, refl, ap, subst, ◌∙◌, arith, get_or-set_same}
+use Rattle.std.proofs.Common.{◌≡◌, ◌⊎◌, inl, inr, ⊎_elim, ℕ, zero, suc, ◌<◌, List, [], ◌∷◌, length, drop, Result, Vec, Global, refl, ap, subst, ◌∙◌, arith, get_or-set_same}
+use Rattle.std.proofs.lemmas.List.{take_at}
 use Rattle.std.specs.Prelude.{IsErr, slice_set, slice_index_or}
 use Rattle.std.specs.Vec.{with_items}
 use Rattle.leaf_model.specs.declared.queries.Query.{Query}
@@ -11,12 +12,6 @@ use Rattle.aggregator.specs.Asks.{AllAsked}
 use Rattle.player.specs.Commands.{AsksRow}
 use Rattle.player.proofs.AskSteps.{asked_counts}
 use Rattle.player.proofs.Columns.{lists_count, lists_set, row_is}
-
-take_front : {A : Type 0} (n : ℕ) (xs ys : List A) → n ≡ length xs → take n (xs ++ ys) ≡ xs
-take_front zero [] ys is = refl
-take_front zero (x ∷ xs) ys is = absurd (omega (arith, is))
-take_front (suc n) [] ys is = absurd (omega (arith, is))
-take_front (suc n) (x ∷ xs) ys is = ap (λ zs. x ∷ zs) (take_front n xs ys (omega (arith, is)))
 
 -- the row that stands there, set again
 row_again : {A : Type 0} (rows : List (List A)) (t : ℕ) → slice_set rows t (row rows t) ≡ rows
@@ -35,7 +30,7 @@ module _ {E : Type 0} (q : Query) (tables : List (List Shared)) (table : ℕ) (r
 
   rows_then : lists_in (slice_set rows table (with_items v after)) ≡ slice_set (lists_in rows) table after
   rows_then = lists_set rows table v low read (with_items v after) after
-      (take_front v.len after (drop (length after) v.items) (omega (arith, v.ok.0, count, ap (λ (xs : List SeatView). length xs) same)))
+      (take_at after (drop (length after) v.items) v.len (omega (arith, v.ok.0, count, ap (λ (xs : List SeatView). length xs) same)))
 
   pub row_then : row (lists_in (slice_set rows table (with_items v after))) table ≡ after
   row_then = ap (λ (rs : List (List SeatView)). row rs table) rows_then ∙ get_or-set_same (lists_in rows) table after [] (omega (arith, low, lists_count rows))

@@ -21,8 +21,9 @@ use Rattle.transcript.specs.Shapes.{CallPiece, named, named_in}
 use Rattle.transcript.specs.Counts.{deeds_in}
 use Rattle.transcript.specs.Answers.{AnswerIs}
 use Rattle.transcript.specs.Holds.{Hold, with_callers}
-use Rattle.transcript.specs.Steps as step
-use Rattle.transcript.specs.Steps.{CallStep, Goes, IsReplyPiece}
+use Rattle.transcript.specs.Plays as going
+use Rattle.transcript.specs.Steps.{CallStep, IsReplyPiece}
+use Rattle.transcript.specs.Plays.{Goes}
 use Rattle.player.proofs.AskLines.{number_named, reply_lines}
 use Rattle.player.proofs.CallPieces.{call_prints, reply_piece}
 
@@ -187,7 +188,7 @@ module _ (q : Query) (fleet : List (List Shared)) (table : ℕ) where
 
   pub asks_go : {B : Type 0} (meaning : B → Meaning) (done xs : List (Hold B)) (leaf : ℕ) (vs : List SeatView) (rs : List Reply) (ws : List SeatView) → leaf ≡ length done → AreAt leaf xs vs
       → Asked q fleet table leaf vs rs ws → Goes meaning (done ++ xs) (ask_pieces leaf table q rs) (done ++ asked_holds xs ws)
-  asks_go meaning done [] leaf [] [] [] is are h = step.none (done ++ []) [] (done ++ []) refl refl
+  asks_go meaning done [] leaf [] [] [] is are h = going.none (done ++ []) [] (done ++ []) refl refl
   asks_go {B} meaning done (x ∷ xs) leaf (v ∷ vs) (r ∷ rs) (w ∷ ws) is are h =
       let y : Hold B = with_callers x (slice_set x.callers table (Some w)) in
       let p : Piece = (reply_piece leaf table (call.Ask q) r).piece in
@@ -197,7 +198,7 @@ module _ (q : Query) (fleet : List (List Shared)) (table : ℕ) where
       let here : Goes meaning (slice_set (done ++ x ∷ xs) leaf y) (ask_pieces (suc leaf) table q rs) (done ++ y ∷ ys) =
       subst (λ (zs : List (Hold B)). Goes meaning zs (ask_pieces (suc leaf) table q rs) (done ++ y ∷ ys)) (sym (behind_set done x y xs leaf is))
       (subst (λ (zs : List (Hold B)). Goes meaning ((done ++ y ∷ []) ++ xs) (ask_pieces (suc leaf) table q rs) zs) (append_assoc done (y ∷ []) ys) others) in
-      step.call (done ++ x ∷ xs) (p ∷ ask_pieces (suc leaf) table q rs) (done ++ y ∷ ys) leaf table (call.Ask q) x (slice_set x.callers table (Some w)) p (ask_pieces (suc leaf) table q rs)
+      going.call (done ++ x ∷ xs) (p ∷ ask_pieces (suc leaf) table q rs) (done ++ y ∷ ys) leaf table (call.Ask q) x (slice_set x.callers table (Some w)) p (ask_pieces (suc leaf) table q rs)
       (behind_get done x xs leaf is) (one_step leaf x.tables x.callers v r w are.0 are.1 h.0) here refl
   asks_go meaning done [] leaf (v ∷ vs) rs ws is are h = absurd are
   asks_go meaning done (x ∷ xs) leaf [] rs ws is are h = absurd are

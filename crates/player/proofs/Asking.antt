@@ -1,10 +1,10 @@
 -- What a query of all leaves comes to.
-use Rattle.std.proofs.Common.{◌≡◌, ◌⊎◌, inl, inr, ⊎_elim, true, false, ℕ, suc, ◌+◌, ◌-◌, ◌<◌, List, [], ◌∷◌, ◌++◌, length, Option, Some, Result, Ok, Err, Vec, Global, refl, sym, ap, ap₂, subst, ◌∙◌, arith, length-set, get_or-set_same}
+use Rattle.std.proofs.Common.{true≢false, ◌≡◌, ◌⊎◌, inl, inr, ⊎_elim, true, false, ℕ, suc, ◌+◌, ◌-◌, ◌<◌, List, [], ◌∷◌, ◌++◌, length, Option, Some, Result, Ok, Vec, Global, refl, sym, ap, ap₂, subst, ◌∙◌, arith, length-set, get_or-set_same}
 use Rattle.std.specs.Prelude.{IfOk, IsErr, Bool, is_some, option_and_then, slice_get, slice_set}
 use Rattle.std.specs.List.{AllByRecursion, range_with_len}
 use Rattle.std.proofs.lemmas.List.{append-nil, length-map}
 use Rattle.std.proofs.lemmas.Option.{slice_get_within}
-use Rattle.std.proofs.lemmas.Result.{IfOk-weaker}
+use Rattle.std.proofs.lemmas.Result.{IfOk-from_err, IfOk-weaker}
 use Rattle.leaf_model.specs.declared.rows.Row.{Row}
 use Rattle.leaf_model.specs.declared.queries.Query.{Query}
 use Rattle.leaf_model.specs.declared.groups.Group.{Group}
@@ -34,14 +34,15 @@ use Rattle.printed_lines.specs.declared.line.Ending.{Ending}
 use Rattle.printed_lines.specs.declared.line.Line.{Line}
 use Rattle.printed_lines.specs.declared.line.Line.TheVariants as line
 use Rattle.printed_lines.specs.Lines.{IsOf}
-use Rattle.transcript.specs.Pieces.{Deed, Piece, Says, leaf_count, lines_in, place_of}
+use Rattle.script_text.specs.Commands.{leaf_count}
+use Rattle.transcript.specs.Pieces.{Deed, Piece, Says, lines_in, place_among}
 use Rattle.transcript.specs.Shapes.{named, named_in}
 use Rattle.transcript.specs.Counts.{deeds_in}
 use Rattle.transcript.specs.Answers.{AnswerIs, partial, rows_before}
 use Rattle.transcript.specs.Holds.{GoOn, Hold, caller_in, grounds_in, histories_of}
 use Rattle.transcript.specs.Stage.{Leaf}
-use Rattle.transcript.specs.Steps as step
-use Rattle.transcript.specs.Steps.{Goes}
+use Rattle.transcript.specs.Plays as going
+use Rattle.transcript.specs.Plays.{Goes}
 use Rattle.player.specs.declared.leaf.OneLeaf.{OneLeaf}
 use Rattle.player.specs.declared.members.Members.{Members}
 use Rattle.player.specs.Crew.{CountedIf, HasSeats, PassesIf, column}
@@ -306,20 +307,20 @@ module _ {B : Type 0} (x : Members B) (table : ℕ) (are : AreMembers x) (within
         (ap₂ (λ (n : ℕ) (gs : List Group). line.Answer n count (answer_lines q gs)) named_as answered)
         ∙ sym lines_are
 
-    pub asks_all : {E : Type 0} (meaning : B → Meaning) (result : Result (Vec Line Global) E) → table ≡ place_of q.table x.names
+    pub asks_all : {E : Type 0} (meaning : B → Meaning) (result : Result (Vec Line Global) E) → table ≡ place_among q.table x.names
         → IfOk result (λ lines. (f : Fanned) × Sorts rs f × (f.groups ≡ groups q over) × (lines.items ≡ query_lines count table q f)) → AsksAll meaning q x result y
     asks_all meaning result is told = record {
       pieces = pieces;
       prints = record {
         asks = ask_pieces 0 table q rs;
         rows = answer_lines q (groups q over);
-        each = subst (λ (n : ℕ). AreAsked (place_of q.table x.names) q (range_with_len 0 n) (ask_pieces 0 table q rs)) (sizes.0 ∙ size)
+        each = subst (λ (n : ℕ). AreAsked (place_among q.table x.names) q (range_with_len 0 n) (ask_pieces 0 table q rs)) (sizes.0 ∙ size)
             (subst (λ (t : ℕ). AreAsked t q (range_with_len 0 (length rs)) (ask_pieces 0 table q rs)) is (ask_prints 0 table q rs));
         are = refl;
       };
       goes = record {
         goes = goes_more meaning xs ys ys (ask_pieces 0 table q rs) (Says answer ∷ []) (goes_asks meaning)
-            (step.say ys (Says answer ∷ []) ys answer [] (step.none ys [] ys refl refl) refl);
+            (going.say ys (Says answer ∷ []) ys answer [] (going.none ys [] ys refl refl) refl);
         counted = record {
           count = counts_same;
           each = λ leaf a b was here.
@@ -358,28 +359,21 @@ same_rows x now are same = record {
   each = λ leaf one at. let was = are.each leaf one at in record { names = was.names; tables = was.tables; seats = was.seats };
 }
 
-never : false ≡ true → ⊥
-never same = cc
-
-no_lines : {A E : Type 0} (P : A → Type 0) (result : Result A E) → IsErr result → IfOk result P
-no_lines P (Ok a) err = absurd (never err)
-no_lines P (Err e) err = tt
-
 module _ {B F : Type 0} (x : Members B) (table : ℕ) (q : Query) (now : Vec (Vec SeatView Global) Global) (asked : Result Fanned F) (are : AreMembers x) (within : table < length x.names) (has : HasSeats (holds_in x) table)
     (asks : AsksRow q x.tables.now table (lists_in x.rows.items) asked (lists_in now.items)) where
   pub members_row : AreMembers (with_parts x x.leaves now)
   members_row = ⊎_elim (λ h. same_rows x now are h.1) (λ h. members_asked x table are within has q h.0 h.1.replies now h.2 h.1.asked) asks
 
-  module _ {E : Type 0} (meaning : B → Meaning) (result : Result (Vec Line Global) E) (is : table ≡ place_of q.table x.names) where
+  module _ {E : Type 0} (meaning : B → Meaning) (result : Result (Vec Line Global) E) (is : table ≡ place_among q.table x.names) where
     -- the asks failed
     pub asks_refused : IsErr result → AsksAll meaning q x result (with_parts x x.leaves now) ⊎ (IsErr result × (holds_in (with_parts x x.leaves now) ≡ holds_in x))
     asks_refused err =
         ⊎_elim (λ h. inr (err, ap (λ (rs : List (List SeatView)). holds_from 0 x.tables.now x.leaves.items rs) h.1))
-        (λ h. inl (asks_all x table are within has q h.0 h.1.replies now h.2 h.1.asked meaning result is (no_lines _ result err))) asks
+        (λ h. inl (asks_all x table are within has q h.0 h.1.replies now h.2 h.1.asked meaning result is (IfOk-from_err result _ err))) asks
 
 -- the leaves were asked, and their lines are told
 pub asks_told : {B E F : Type 0} (x : Members B) (table : ℕ) (q : Query) (now : Vec (Vec SeatView Global) Global) (asked : Result Fanned F) (are : AreMembers x) (within : table < length x.names) (has : HasSeats (holds_in x) table)
-    (asks : AsksRow q x.tables.now table (lists_in x.rows.items) asked (lists_in now.items)) (meaning : B → Meaning) (result : Result (Vec Line Global) E) (is : table ≡ place_of q.table x.names)
+    (asks : AsksRow q x.tables.now table (lists_in x.rows.items) asked (lists_in now.items)) (meaning : B → Meaning) (result : Result (Vec Line Global) E) (is : table ≡ place_among q.table x.names)
     (f : Fanned) → asked ≡ Ok f
     → ((histories : ℕ → List Entry) → fan.GoOn (row (lists_in now.items) table) histories → IfOk asked (λ g. g.groups ≡ groups q (fan.partial (bases_in x.tables.now table) histories g.named)))
     → IfOk result (λ lines. lines.items ≡ query_lines (leaf_count (fleet_in x)) table q f)
@@ -391,7 +385,7 @@ asks_told {B} {E} {F} x table q now asked are within has asks meaning result is 
     by : AsksRow {E = F} q x.tables.now table (lists_in x.rows.items) (Ok f) (lists_in now.items)
         → ((histories : ℕ → List Entry) → fan.GoOn (row (lists_in now.items) table) histories → f.groups ≡ groups q (fan.partial (bases_in x.tables.now table) histories f.named))
         → AsksAll meaning q x result (with_parts x x.leaves now) ⊎ (IsErr result × (holds_in (with_parts x x.leaves now) ≡ holds_in x))
-    by (inl h) over = absurd (never h.0)
+    by (inl h) over = absurd (true≢false (sym h.0))
     by (inr h) over =
         let rs = h.1.replies in
         let sorts : Sorts rs f = h.1.sorts in

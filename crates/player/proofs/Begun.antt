@@ -16,7 +16,7 @@ use Rattle.script_text.specs.Fits.{AreLeaves}
 use Rattle.leaf_steward.specs.Seated.{Seated, AreAlike, AreFounded, AtEach, IsUnused}
 use Rattle.leaf_steward.proofs.Seating.{same_at}
 use Rattle.leaf_machine.specs.States.{MayBegin}
-use Rattle.transcript.specs.Pieces.{leaf_count}
+use Rattle.script_text.specs.Commands.{leaf_count}
 use Rattle.transcript.specs.Stage.{Leaf, IsDown, Stands, seated_of}
 use Rattle.transcript.specs.Holds.{Hold, caller_in}
 use Rattle.player.specs.declared.leaf.OneLeaf.{OneLeaf}

@@ -15,7 +15,9 @@ use Rattle.transcript.specs.Pieces.{Acted, Called, Deed, Piece, Says, Worn, line
 use Rattle.transcript.specs.Counts.{Counted, CountsRose, deeds_in, is_disk_fault, is_region_fault, reads_disk}
 use Rattle.transcript.specs.Holds.{Hold, caller_in, with_callers, with_leaf}
 use Rattle.transcript.specs.Steps as step
-use Rattle.transcript.specs.Steps.{Goes, noted_all}
+use Rattle.transcript.specs.Plays as going
+use Rattle.transcript.specs.Steps.{noted_all}
+use Rattle.transcript.specs.Plays.{Goes}
 use Rattle.transcript.specs.Stage.{Leaf}
 use Rattle.player.specs.declared.answer.Answer.{Answer}
 use Rattle.player.specs.Crew.{AllPass, CountedIf, PassesIf, StillHas}
@@ -73,16 +75,16 @@ counted_none leaf ps m calm = record {
 
 module _ {B : Type 0} (meaning : B → Meaning) where
   pub goes_more : (xs ys zs : List (Hold B)) (ps qs : List Piece) → Goes meaning xs ps ys → Goes meaning ys qs zs → Goes meaning xs (ps ++ qs) zs
-  goes_more xs ys zs ps qs (step.none us pieces bs empty same) more =
+  goes_more xs ys zs ps qs (going.none us pieces bs empty same) more =
       subst (λ (ws : List (Hold B)). Goes meaning ws (pieces ++ qs) zs) same (subst (λ (rs : List Piece). Goes meaning bs (rs ++ qs) zs) (sym empty) more)
-  goes_more xs ys zs ps qs (step.call us pieces bs leaf table c x callers p others at called goes are) more =
-      step.call us (pieces ++ qs) zs leaf table c x callers p (others ++ qs) at called (goes_more (slice_set us leaf (with_callers x callers)) bs zs others qs goes more)
+  goes_more xs ys zs ps qs (going.call us pieces bs leaf table c x callers p others at called goes are) more =
+      going.call us (pieces ++ qs) zs leaf table c x callers p (others ++ qs) at called (goes_more (slice_set us leaf (with_callers x callers)) bs zs others qs goes more)
       (ap (λ (rs : List Piece). rs ++ qs) are)
-  goes_more xs ys zs ps qs (step.act us pieces bs leaf deed x l l' b b' callers p others at held acted goes are) more =
-      step.act us (pieces ++ qs) zs leaf deed x l l' b b' callers p (others ++ qs) at held acted (goes_more (slice_set us leaf (with_leaf x l' b' callers)) bs zs others qs goes more)
+  goes_more xs ys zs ps qs (going.act us pieces bs leaf deed x l l' b b' callers p others at held acted goes are) more =
+      going.act us (pieces ++ qs) zs leaf deed x l l' b b' callers p (others ++ qs) at held acted (goes_more (slice_set us leaf (with_leaf x l' b' callers)) bs zs others qs goes more)
       (ap (λ (rs : List Piece). rs ++ qs) are)
-  goes_more xs ys zs ps qs (step.say us pieces bs l others goes are) more =
-      step.say us (pieces ++ qs) zs l (others ++ qs) (goes_more us bs zs others qs goes more) (ap (λ (rs : List Piece). rs ++ qs) are)
+  goes_more xs ys zs ps qs (going.say us pieces bs l others goes are) more =
+      going.say us (pieces ++ qs) zs l (others ++ qs) (goes_more us bs zs others qs goes more) (ap (λ (rs : List Piece). rs ++ qs) are)
 
   -- ---- of one leaf
 
@@ -152,8 +154,8 @@ module _ {B : Type 0} (meaning : B → Meaning) where
   one_act names xs ys number deed x l l' b b' callers answer result at held now seats acts time =
       let y : Hold B = with_leaf x l' b' callers in
       subst (λ (zs : List (Hold B)). GoesWith meaning names xs result (acts.piece ∷ []) zs) (sym now) (record {
-        goes = step.act xs (acts.piece ∷ []) (slice_set xs number y) number deed x l l' b b' callers acts.piece [] at held acts.step
-            (step.none (slice_set xs number y) [] (slice_set xs number y) refl refl) refl;
+        goes = going.act xs (acts.piece ∷ []) (slice_set xs number y) number deed x l l' b b' callers acts.piece [] at held acts.step
+            (going.none (slice_set xs number y) [] (slice_set xs number y) refl refl) refl;
         counted = record {
           count = length-set xs number y;
           each = each_set (λ j h h'. CountedIf meaning j (acts.piece ∷ []) h.held h'.held) xs number x y at
@@ -175,7 +177,7 @@ module _ {B : Type 0} (meaning : B → Meaning) where
   one_called names xs ys leaf table c x callers result at now seats calls =
       let y : Hold B = with_callers x callers in
       subst (λ (zs : List (Hold B)). GoesWith meaning names xs result (calls.piece ∷ []) zs) (sym now) (record {
-        goes = step.call xs (calls.piece ∷ []) (slice_set xs leaf y) leaf table c x callers calls.piece [] at calls.step (step.none (slice_set xs leaf y) [] (slice_set xs leaf y) refl refl) refl;
+        goes = going.call xs (calls.piece ∷ []) (slice_set xs leaf y) leaf table c x callers calls.piece [] at calls.step (going.none (slice_set xs leaf y) [] (slice_set xs leaf y) refl refl) refl;
         counted = record {
           count = length-set xs leaf y;
           each = each_set (λ j h h'. CountedIf meaning j (calls.piece ∷ []) h.held h'.held) xs leaf x y at
@@ -245,7 +247,7 @@ module _ {B : Type 0} (meaning : B → Meaning) where
 
   pub goes_with_none : {E : Type 0} (names : List (List ℕ)) (xs : List (Hold B)) (result : Result (Vec Line Global) E) → IfOk result (λ lines. lines.items ≡ []) → GoesWith meaning names xs result [] xs
   goes_with_none names xs result empty = record {
-    goes = step.none xs [] xs refl refl;
+    goes = going.none xs [] xs refl refl;
     counted = record {
       count = refl;
       each = λ leaf x y was now. subst (λ (z : Hold B). CountedIf meaning leaf [] x.held z.held) (same_at xs leaf x y was now) (counted_calm leaf [] x.held (λ test. refl));

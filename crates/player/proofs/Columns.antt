@@ -1,7 +1,7 @@
 -- Columns of rows, of which one row has become another.
 use Rattle.std.proofs.Common.{◌≡◌, ◌⊎◌, inl, inr, ℕ, zero, suc, ◌<◌, List, [], ◌∷◌, length, Option, Some, refl, sym, ap, ◌∙◌, arith, length-set, Vec, Global}
 use Rattle.std.specs.Prelude.{slice_get, slice_set, slice_index_or}
-use Rattle.std.proofs.lemmas.List.{map-set, get_or-map, length-map}
+use Rattle.std.proofs.lemmas.List.{map-set, get_or-map, length-map, nil_from_length}
 use Rattle.leaf_table.specs.Calls.{SeatView}
 use Rattle.leaf_table.specs.Lists.{lists_in, place, row}
 use Rattle.leaf_steward.proofs.Seating.{set_other}
@@ -16,10 +16,6 @@ element_at (x ∷ xs) (suc i) within = element_at xs i (omega (arith, within))
 
 pub same_some : {A : Type 0} (x y : A) → Some x ≡ Some y → x ≡ y
 same_some x y e = cc
-
-pub empty_of : {A : Type 0} (xs : List A) → length xs ≡ 0 → xs ≡ []
-empty_of [] none = refl
-empty_of (x ∷ xs) none = absurd (omega (arith, none))
 
 module _ {A : Type 0} (leaf : ℕ) where
   pub column_count : (rows : List (List A)) → length (column leaf rows) ≡ length rows
@@ -67,7 +63,7 @@ rows_kept {A} n size rows rows' count lengths are = record {
 }
   where
     by : (t : ℕ) → (row rows t ≡ []) ⊎ (length (row rows t) ≡ size) → (row rows' t ≡ []) ⊎ (length (row rows' t) ≡ size)
-    by t (inl none) = inl (empty_of (row rows' t) (lengths t ∙ ap (λ (xs : List A). length xs) none))
+    by t (inl none) = inl (nil_from_length (row rows' t) (lengths t ∙ ap (λ (xs : List A). length xs) none))
     by t (inr all) = inr (lengths t ∙ all)
 
 pub only_rows : (leaf n size : ℕ) (rows rows' : List (List SeatView)) → OnlyColumn leaf rows rows' → AreRows n size rows → AreRows n size rows'

@@ -12,7 +12,7 @@ use Rattle.printed_lines.specs.declared.line.Ending.TheVariants as ending
 use Rattle.printed_lines.specs.declared.line.Line.{Line}
 use Rattle.printed_lines.specs.declared.line.Line.TheVariants as line
 use Rattle.printed_lines.specs.Lines.{EndsOf, IsOf}
-use Rattle.transcript.specs.Pieces.{Piece, Acted, Deed, Noted, lines_in, piece_lines, verb_of}
+use Rattle.transcript.specs.Pieces.{Piece, Acted, Deed, Noted, lines_in, piece_lines, deed_verb}
 use Rattle.transcript.specs.Counts.{Counted, CountsRose, deeds_in, is_disk_fault, is_region_fault, reads_disk}
 use Rattle.transcript.specs.Steps.{noted_all}
 use Rattle.player.specs.Lines.{AreEnded, AreTold, note_lines}
@@ -113,4 +113,4 @@ fit_all number names verb ends (n ∷ ns) places ended = (places.0, fit_all numb
 pub deed_fits : (number : ℕ) (names : List (List ℕ)) (deed : Deed) (notes : List Note) (ends : Ending) → ArePlaces (length names) notes → EndsOf names ends
     → AllByRecursion (IsOf names) (lines_in (Acted number deed (noted_all notes) ends ∷ []))
 deed_fits number names deed notes ends places ended =
-    subst (AllByRecursion (IsOf names)) (sym (one_piece (Acted number deed (noted_all notes) ends))) (fit_all number names (verb_of deed) ends notes places ended)
+    subst (AllByRecursion (IsOf names)) (sym (one_piece (Acted number deed (noted_all notes) ends))) (fit_all number names (deed_verb deed) ends notes places ended)

@@ -14,7 +14,7 @@ use Rattle.leaf_machine.specs.declared.up.FlushReply.TheVariants as reply
 use Rattle.printed_lines.specs.declared.line.Ending.{Ending}
 use Rattle.printed_lines.specs.declared.line.Line.{Line}
 use Rattle.printed_lines.specs.Lines.{EndsOf}
-use Rattle.transcript.specs.Pieces.{Acted, Deed, Starts, Flushes, Drains, Kills, lines_in, verb_of}
+use Rattle.transcript.specs.Pieces.{Acted, Deed, Starts, Flushes, Drains, Kills, lines_in, deed_verb}
 use Rattle.transcript.specs.Counts.{reads_disk}
 use Rattle.transcript.specs.Stage.{Leaf, seated_of, Carries, MeetAll}
 use Rattle.transcript.specs.Steps as step
@@ -97,7 +97,7 @@ module _ {B E : Type 0} (number : ℕ) (meaning : B → Meaning) (b b1 b2 b3 : B
       → Passes (meaning b1) (meaning b2)
       → FaultRose ends (meaning b1) (meaning b2)
       → (reads_disk deed ends ≡ false → (meaning b2).disk_reads ≡ (meaning b1).disk_reads)
-      → IfOk result (λ lines. AreEnded number (verb_of deed) notes ends lines.items)
+      → IfOk result (λ lines. AreEnded number (deed_verb deed) notes ends lines.items)
       → answer ≡ answer_of ends
       → ActsWith meaning names number deed leaf callers b answer result after after_callers b3
   acts fits keeps first second moves carries time cause reads told answered = record {
@@ -119,6 +119,6 @@ module _ {B E : Type 0} (number : ℕ) (meaning : B → Meaning) (b b1 b2 b3 : B
     fit = deed_fits number names deed notes ends (places fits keeps carries)
         (deed_ends names deed (meaning b1) (meaning b2) (seated_of leaf) met notes ends moved fits.seats keeps moves);
     answered = answered;
-    lines_are = IfOk-weaker result (λ lines. AreEnded number (verb_of deed) notes ends lines.items) (λ lines. lines.items ≡ lines_in (Acted number deed (noted_all notes) ends ∷ []))
+    lines_are = IfOk-weaker result (λ lines. AreEnded number (deed_verb deed) notes ends lines.items) (λ lines. lines.items ≡ lines_in (Acted number deed (noted_all notes) ends ∷ []))
         (λ lines are. are ∙ sym (one_piece (Acted number deed (noted_all notes) ends))) told;
   }

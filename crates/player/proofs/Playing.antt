@@ -1,8 +1,8 @@
 -- What each command comes to.
-use Rattle.std.proofs.Common.{◌≡◌, ◌⊎◌, inl, inr, ⊎_elim, true, false, ℕ, ℤ, [], ◌∷◌, List, Result, Ok, Err, Vec, Global, refl, sym, subst}
+use Rattle.std.proofs.Common.{◌≡◌, ◌⊎◌, inl, inr, ⊎_elim, ℕ, ℤ, [], ◌∷◌, List, Result, Vec, Global, refl, sym, subst}
 use Rattle.std.specs.Prelude.{IfOk, IsErr}
 use Rattle.std.specs.List.{AllByRecursion}
-use Rattle.std.proofs.lemmas.Result.{IfOk-weaker}
+use Rattle.std.proofs.lemmas.Result.{IfOk-from_err, IfOk-weaker}
 use Rattle.leaf_model.specs.declared.queries.Query.{Query}
 use Rattle.berth_face.specs.Berth.{Meaning}
 use Rattle.rollover_watch.specs.Watches.{Held}
@@ -10,14 +10,15 @@ use Rattle.script_text.specs.declared.command.Command.{Command}
 use Rattle.script_text.specs.declared.command.Command.TheVariants as command
 use Rattle.printed_lines.specs.declared.line.Line.{Line}
 use Rattle.printed_lines.specs.Lines.{IsOf}
-use Rattle.transcript.specs.Pieces.{Fleet, lines_in}
+use Rattle.script_text.specs.declared.fleet.Fleet.{Fleet}
+use Rattle.transcript.specs.Pieces.{lines_in}
 use Rattle.transcript.specs.Holds.{Hold}
 use Rattle.player.specs.declared.call.Request.TheVariants as request
 use Rattle.player.specs.declared.members.Members.{Members}
-use Rattle.player.specs.Crew.{AllPass, PlaysWith, StillHas}
+use Rattle.player.specs.Crew.{PlaysWith, StillHas}
 use Rattle.player.specs.Members.{fleet_in, holds_in}
 use Rattle.player.specs.Commands.{AsksAll, CallsAt}
-use Rattle.player.proofs.Chains.{still_none, time_none}
+use Rattle.player.proofs.Chains.{still_none}
 
 module _ {B E : Type 0} (meaning : B → Meaning) (x y : Members B) (watches : List Held) (result : Result (Vec Line Global) E) where
   expired : (leaf table : ℕ) (horizon : ℤ) → CallsAt meaning leaf table (request.Expire horizon) x result y
@@ -56,21 +57,10 @@ pub query_still : {B E : Type 0} (meaning : B → Meaning) (q : Query) (x y : Me
     → StillHas (holds_in x) (holds_in y)
 query_still meaning q x y result asks = ⊎_elim (λ h. h.goes.still) (λ h. subst (StillHas (holds_in x)) (sym h.1) (still_none meaning (holds_in x))) asks
 
-pub query_time : {B E : Type 0} (meaning : B → Meaning) (q : Query) (x y : Members B) (result : Result (Vec Line Global) E) → AsksAll meaning q x result y ⊎ (IsErr result × (holds_in y ≡ holds_in x))
-    → AllPass meaning (holds_in x) (holds_in y)
-query_time meaning q x y result asks = ⊎_elim (λ h. h.goes.time) (λ h. subst (AllPass meaning (holds_in x)) (sym h.1) (time_none meaning (holds_in x))) asks
-
-never : false ≡ true → ⊥
-never same = cc
-
-no_fit : {A E : Type 0} (P : A → Type 0) (result : Result A E) → IsErr result → IfOk result P
-no_fit P (Ok a) err = absurd (never err)
-no_fit P (Err e) err = tt
-
 -- the lines are of the fleet's tables
 pub lines_fit : {B E : Type 0} (meaning : B → Meaning) (fleet : Fleet) (c : Command) (xs ys : List (Hold B)) (before after : List Held) (result : Result (Vec Line Global) E)
     → PlaysWith meaning fleet c xs before result ys after ⊎ (IsErr result × (ys ≡ xs) × (after ≡ before)) → IfOk result (λ lines. AllByRecursion (IsOf fleet.names) lines.items)
 lines_fit meaning fleet c xs ys before after result played =
     ⊎_elim (λ (h : PlaysWith meaning fleet c xs before result ys after). IfOk-weaker result (λ lines. lines.items ≡ lines_in h.pieces) (λ lines. AllByRecursion (IsOf fleet.names) lines.items)
     (λ lines are. subst (AllByRecursion (IsOf fleet.names)) (sym are) h.fit) h.lines_are)
-    (λ h. no_fit (λ lines. AllByRecursion (IsOf fleet.names) lines.items) result h.0) played
+    (λ h. IfOk-from_err result (λ lines. AllByRecursion (IsOf fleet.names) lines.items) h.0) played

@@ -6,10 +6,12 @@ use Rattle.std.proofs.lemmas.List.{map-append}
 use Rattle.std.proofs.lemmas.Option.{slice_get_within}
 use Rattle.berth_face.specs.Berth.{Meaning}
 use Rattle.leaf_table.specs.Lists.{lists_in}
-use Rattle.rollover_driver.specs.Calls.{Call}
+use Rattle.rollover_driver.specs.Calls.{FleetCall}
 use Rattle.rollover_driver.specs.Calls as call
 use Rattle.printed_lines.specs.declared.line.Line.{Line}
-use Rattle.transcript.specs.Pieces.{Fleet, Piece, leaf_count, lines_in, piece_lines}
+use Rattle.script_text.specs.declared.fleet.Fleet.{Fleet}
+use Rattle.script_text.specs.Commands.{leaf_count}
+use Rattle.transcript.specs.Pieces.{Piece, lines_in, piece_lines}
 use Rattle.transcript.specs.Holds.{Hold}
 use Rattle.player.specs.declared.answer.Answer.{Answer}
 use Rattle.player.specs.declared.act.Task.{Task}
@@ -23,7 +25,7 @@ use Rattle.player.specs.Restarts.{AreAnswered, ArePartsOf, Chain, HasDone, MayDo
 use Rattle.player.proofs.Chains.{goes_with_more, goes_with_none}
 use Rattle.player.proofs.HoldLists.{holds_count, still_leaf}
 
-answered_more : (cs ds : List Call) (ps qs : List Piece) → AreAnswered cs ps → AreAnswered ds qs → AreAnswered (cs ++ ds) (ps ++ qs)
+answered_more : (cs ds : List FleetCall) (ps qs : List Piece) → AreAnswered cs ps → AreAnswered ds qs → AreAnswered (cs ++ ds) (ps ++ qs)
 answered_more [] ds [] qs front back = back
 answered_more [] ds (p ∷ ps) qs front back = absurd front
 answered_more (call.Drains leaf got ∷ cs) ds [] qs front back = absurd front
@@ -66,7 +68,7 @@ module _ {B E : Type 0} (meaning : B → Meaning) where
       by (Ok before) = sym (append-nil (lines_of before.items))
       by (Err e) = tt
 
-  restarted_more : (x y z : Members B) (told told' told'' : Result (Vec (Vec Line Global) Global) E) (calls : List Call) (c : Call) (number : ℕ) (t : Task) (answer : Answer) (lines : Result (Vec Line Global) E)
+  restarted_more : (x y z : Members B) (told told' told'' : Result (Vec (Vec Line Global) Global) E) (calls : List FleetCall) (c : FleetCall) (number : ℕ) (t : Task) (answer : Answer) (lines : Result (Vec Line Global) E)
       → Restarted meaning x told calls y told' → (done : HasDone meaning number t y (answer, lines) z) → IfOk told'' (λ parts. PartJoins told' lines parts.items)
       → AreAnswered (c ∷ []) (done.deed.piece ∷ []) → Restarted meaning x told (calls ++ c ∷ []) z told''
   restarted_more x y z told told' told'' calls c number t answer lines so_far done parts one = record {
@@ -88,14 +90,14 @@ module _ {B E : Type 0} (meaning : B → Meaning) where
     parts = parts_more told told' told'' lines so_far.pieces done.deed.piece so_far.parts done.deed.goes.lines_are parts;
   }
 
-  pub drained_more : (x y z : Members B) (told told' told'' : Result (Vec (Vec Line Global) Global) E) (calls : List Call) (number : ℕ) (answer : Answer) (lines : Result (Vec Line Global) E)
+  pub drained_more : (x y z : Members B) (told told' told'' : Result (Vec (Vec Line Global) Global) E) (calls : List FleetCall) (number : ℕ) (answer : Answer) (lines : Result (Vec Line Global) E)
       → Restarted meaning x told calls y told' → HasDone meaning number (task.Drain None) y (answer, lines) z → IfOk told'' (λ parts. PartJoins told' lines parts.items)
       → Restarted meaning x told (calls ++ call.Drains number answer.drained ∷ []) z told''
   drained_more x y z told told' told'' calls number answer lines so_far done parts =
       restarted_more x y z told told' told'' calls (call.Drains number answer.drained) number (task.Drain None) answer lines so_far done parts
       ((done.deed.prints.0, done.deed.prints.1, done.deed.prints.2, ap (λ (a : Answer). a.drained) done.deed.answered), tt)
 
-  pub started_more : (x y z : Members B) (told told' told'' : Result (Vec (Vec Line Global) Global) E) (calls : List Call) (number : ℕ) (answer : Answer) (lines : Result (Vec Line Global) E)
+  pub started_more : (x y z : Members B) (told told' told'' : Result (Vec (Vec Line Global) Global) E) (calls : List FleetCall) (number : ℕ) (answer : Answer) (lines : Result (Vec Line Global) E)
       → Restarted meaning x told calls y told' → HasDone meaning number task.Start y (answer, lines) z → IfOk told'' (λ parts. PartJoins told' lines parts.items)
       → Restarted meaning x told (calls ++ call.Starts number answer.started ∷ []) z told''
   started_more x y z told told' told'' calls number answer lines so_far done parts =
@@ -103,16 +105,16 @@ module _ {B E : Type 0} (meaning : B → Meaning) where
       ((done.deed.prints.0, done.deed.prints.1, done.deed.prints.2, ap (λ (a : Answer). a.started) done.deed.answered), tt)
 
   -- a chain of deeds
-  pub chained : (x : Members B) (told : Result (Vec (Vec Line Global) Global) E) (y : Members B) (told' : Result (Vec (Vec Line Global) Global) E) (calls : List Call) → Chain (λ x leaf t r y. HasDone meaning leaf t x r y) x told calls y told'
+  pub chained : (x : Members B) (told : Result (Vec (Vec Line Global) Global) E) (y : Members B) (told' : Result (Vec (Vec Line Global) Global) E) (calls : List FleetCall) → Chain (λ x leaf t r y. HasDone meaning leaf t x r y) x told calls y told'
       → Restarted meaning x told calls y told'
   chained x told y told' calls (restart.none cs z o none same kept) =
-      subst (λ (ds : List Call). Restarted meaning x told ds z o) (sym none)
+      subst (λ (ds : List FleetCall). Restarted meaning x told ds z o) (sym none)
       (subst (λ (w : Members B). Restarted meaning x told [] w o) (sym same) (subst (λ (q : Result (Vec (Vec Line Global) Global) E). Restarted meaning x told [] x q) (sym kept) (restarted_none x told)))
   chained x told y told' calls (restart.drained cs z o earlier mid told_mid leaf answer lines so_far done parts is) =
-      subst (λ (ds : List Call). Restarted meaning x told ds z o) (sym is)
+      subst (λ (ds : List FleetCall). Restarted meaning x told ds z o) (sym is)
       (drained_more x mid z told told_mid o earlier leaf answer lines (chained x told mid told_mid earlier so_far) done parts)
   chained x told y told' calls (restart.started cs z o earlier mid told_mid leaf answer lines so_far done parts is) =
-      subst (λ (ds : List Call). Restarted meaning x told ds z o) (sym is)
+      subst (λ (ds : List FleetCall). Restarted meaning x told ds z o) (sym is)
       (started_more x mid z told told_mid o earlier leaf answer lines (chained x told mid told_mid earlier so_far) done parts)
 
 -- a crew that has each leaf of its fleet has all

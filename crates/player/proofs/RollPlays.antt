@@ -8,12 +8,12 @@ use Rattle.berth_face.specs.Berth.{Meaning}
 use Rattle.rollover_plan.specs.Plan.{IsPlan}
 use Rattle.rollover_watch.specs.Watches.{Held}
 use Rattle.rollover_driver.specs.declared.driving.Rolled.{Rolled}
-use Rattle.rollover_driver.specs.Calls.{Call}
+use Rattle.rollover_driver.specs.Calls.{FleetCall}
 use Rattle.rollover_driver.specs.Drives.{Drives}
 use Rattle.script_text.specs.declared.command.Command.TheVariants as command
 use Rattle.printed_lines.specs.declared.line.Line.{Line}
 use Rattle.printed_lines.specs.declared.line.Line.TheVariants as line
-use Rattle.transcript.specs.Pieces.{Fleet, Piece, Says, lines_in, piece_lines}
+use Rattle.transcript.specs.Pieces.{Piece, Says, lines_in, piece_lines}
 use Rattle.transcript.specs.Shapes.{RollPieces, Rolls}
 use Rattle.transcript.specs.Watching.{calls_in, watch_line}
 use Rattle.player.specs.declared.members.Members.{Members}
@@ -122,7 +122,7 @@ module _ {B E : Type 0} (meaning : B → Meaning) (x y : Members B) (percent : �
         fit = goes.fit;
         heard = record {
           rolls = rolls;
-          drives = subst (λ (cs : List Call). Drives plan old cs made new) (sym calls_are) (subst (λ (r : Rolled). Drives plan old through.calls r new) (sym made_is) through.drives);
+          drives = subst (λ (cs : List FleetCall). Drives plan old cs made new) (sym calls_are) (subst (λ (r : Rolled). Drives plan old through.calls r new) (sym made_is) through.drives);
           texts_are = refl;
         };
         lines_are = lines_are;

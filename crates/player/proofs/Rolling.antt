@@ -1,11 +1,11 @@
 -- The pieces of a rollover: those of its deeds, with a line before each wave.
-use Rattle.std.proofs.Common.{◌≡◌, ℕ, zero, suc, ◌+◌, ◌≤◌, Bool, true, false, List, [], ◌∷◌, ◌++◌, length, take, drop, map, None, refl, sym, ap, subst, ◌∙◌, arith, nat_lt}
+use Rattle.std.proofs.Common.{◌≡◌, ℕ, suc, ◌+◌, ◌≤◌, Bool, true, false, List, [], ◌∷◌, ◌++◌, length, take, map, None, refl, sym, ap, subst, ◌∙◌, arith, nat_lt}
 use Rattle.std.specs.List.{flat_map}
-use Rattle.std.proofs.lemmas.List.{length-append, length-map, map-append}
+use Rattle.std.proofs.lemmas.List.{length-append, length-map, map-append, take_at, drop_at}
 use Rattle.std.proofs.lemmas.Bool.Decides.{nat_tests}
 use Rattle.rollover_watch.specs.Watches.{Held}
 use Rattle.rollover_driver.specs.declared.driving.Rolled.{Rolled}
-use Rattle.rollover_driver.specs.Calls.{AreOfEach, AreOfWave, Call}
+use Rattle.rollover_driver.specs.Calls.{AreOfEach, AreOfWave, FleetCall}
 use Rattle.rollover_driver.specs.Calls as call
 use Rattle.rollover_driver.specs.Drives.{WavesGo}
 use Rattle.printed_lines.specs.declared.line.Line.{Line}
@@ -40,14 +40,14 @@ woven_front [] deeds all woven = woven
 woven_front (p ∷ front) deeds all woven = Woven.deed (p ∷ (front ++ deeds)) (p ∷ (front ++ all)) p (front ++ deeds) (front ++ all) refl (woven_front front deeds all woven) refl
 
 -- pieces of calls that are joined come apart
-pub record Apart (cs ds : List Call) (ps : List Piece) : Type 0 where
+pub record Apart (cs ds : List FleetCall) (ps : List Piece) : Type 0 where
   pub front : List Piece
   pub back : List Piece
   pub is : ps ≡ front ++ back
   pub first : AreAnswered cs front
   pub second : AreAnswered ds back
 
-apart : (cs ds : List Call) (ps : List Piece) → AreAnswered (cs ++ ds) ps → Apart cs ds ps
+apart : (cs ds : List FleetCall) (ps : List Piece) → AreAnswered (cs ++ ds) ps → Apart cs ds ps
 apart [] ds ps are = record { front = []; back = ps; is = refl; first = tt; second = are }
 apart (call.Drains leaf got ∷ cs) ds [] are = absurd are
 apart (call.Starts leaf got ∷ cs) ds [] are = absurd are
@@ -59,29 +59,29 @@ apart (call.Starts leaf got ∷ cs) ds (p ∷ ps) are =
     record { front = p ∷ rest.front; back = rest.back; is = ap (λ (qs : List Piece). p ∷ qs) rest.is; first = (are.0, rest.first); second = rest.second }
 
 -- the drains of these leaves
-drains_act : (leaves : List ℕ) (cs : List Call) (ps : List Piece) → AreOfEach call.Drains leaves cs → AreAnswered cs ps → EachActs (Drains None) leaves ps
+drains_act : (leaves : List ℕ) (cs : List FleetCall) (ps : List Piece) → AreOfEach call.Drains leaves cs → AreAnswered cs ps → EachActs (Drains None) leaves ps
 drains_act [] [] [] are answered = tt
 drains_act [] [] (p ∷ ps) are answered = absurd answered
 drains_act [] (c ∷ cs) ps are answered = absurd are
 drains_act (leaf ∷ leaves) [] ps are answered = absurd are
-drains_act (leaf ∷ leaves) (c ∷ cs) [] are answered = absurd (subst (λ (d : Call). AreAnswered (d ∷ cs) []) are.0.1 answered)
+drains_act (leaf ∷ leaves) (c ∷ cs) [] are answered = absurd (subst (λ (d : FleetCall). AreAnswered (d ∷ cs) []) are.0.1 answered)
 drains_act (leaf ∷ leaves) (c ∷ cs) (p ∷ ps) are answered =
-    let all : AreAnswered (call.Drains leaf are.0.0 ∷ cs) (p ∷ ps) = subst (λ (d : Call). AreAnswered (d ∷ cs) (p ∷ ps)) are.0.1 answered in
+    let all : AreAnswered (call.Drains leaf are.0.0 ∷ cs) (p ∷ ps) = subst (λ (d : FleetCall). AreAnswered (d ∷ cs) (p ∷ ps)) are.0.1 answered in
     ((all.0.0, all.0.1, all.0.2), drains_act leaves cs ps are.1 all.1)
 
 -- and their starts
-starts_act : (leaves : List ℕ) (cs : List Call) (ps : List Piece) → AreOfEach call.Starts leaves cs → AreAnswered cs ps → EachActs Starts leaves ps
+starts_act : (leaves : List ℕ) (cs : List FleetCall) (ps : List Piece) → AreOfEach call.Starts leaves cs → AreAnswered cs ps → EachActs Starts leaves ps
 starts_act [] [] [] are answered = tt
 starts_act [] [] (p ∷ ps) are answered = absurd answered
 starts_act [] (c ∷ cs) ps are answered = absurd are
 starts_act (leaf ∷ leaves) [] ps are answered = absurd are
-starts_act (leaf ∷ leaves) (c ∷ cs) [] are answered = absurd (subst (λ (d : Call). AreAnswered (d ∷ cs) []) are.0.1 answered)
+starts_act (leaf ∷ leaves) (c ∷ cs) [] are answered = absurd (subst (λ (d : FleetCall). AreAnswered (d ∷ cs) []) are.0.1 answered)
 starts_act (leaf ∷ leaves) (c ∷ cs) (p ∷ ps) are answered =
-    let all : AreAnswered (call.Starts leaf are.0.0 ∷ cs) (p ∷ ps) = subst (λ (d : Call). AreAnswered (d ∷ cs) (p ∷ ps)) are.0.1 answered in
+    let all : AreAnswered (call.Starts leaf are.0.0 ∷ cs) (p ∷ ps) = subst (λ (d : FleetCall). AreAnswered (d ∷ cs) (p ∷ ps)) are.0.1 answered in
     ((all.0.0, all.0.1, all.0.2), starts_act leaves cs ps are.1 all.1)
 
 -- the calls that the pieces tell are those that they answer
-pub told_calls : (cs : List Call) (ps : List Piece) → AreAnswered cs ps → calls_in ps ≡ cs
+pub told_calls : (cs : List FleetCall) (ps : List Piece) → AreAnswered cs ps → calls_in ps ≡ cs
 told_calls [] [] are = refl
 told_calls [] (p ∷ ps) are = absurd are
 told_calls (call.Drains leaf got ∷ cs) [] are = absurd are
@@ -89,39 +89,23 @@ told_calls (call.Starts leaf got ∷ cs) [] are = absurd are
 told_calls (call.Drains leaf got ∷ cs) (p ∷ ps) are =
     let one = are.0 in
     ap (λ (q : Piece). piece_calls q ++ calls_in ps) one.2
-    ∙ (ap (λ (ds : List Call). (call.Drains leaf (drained_by one.1) ∷ []) ++ ds) (told_calls cs ps are.1) ∙ ap (λ g. call.Drains leaf g ∷ cs) (sym one.3))
+    ∙ (ap (λ (ds : List FleetCall). (call.Drains leaf (drained_by one.1) ∷ []) ++ ds) (told_calls cs ps are.1) ∙ ap (λ g. call.Drains leaf g ∷ cs) (sym one.3))
 told_calls (call.Starts leaf got ∷ cs) (p ∷ ps) are =
     let one = are.0 in
     ap (λ (q : Piece). piece_calls q ++ calls_in ps) one.2
-    ∙ (ap (λ (ds : List Call). (call.Starts leaf (started_by one.1) ∷ []) ++ ds) (told_calls cs ps are.1) ∙ ap (λ g. call.Starts leaf g ∷ cs) (sym one.3))
+    ∙ (ap (λ (ds : List FleetCall). (call.Starts leaf (started_by one.1) ∷ []) ++ ds) (told_calls cs ps are.1) ∙ ap (λ g. call.Starts leaf g ∷ cs) (sym one.3))
 
 pub woven_calls : (deeds all : List Piece) → Woven deeds all → calls_in all ≡ calls_in deeds
 woven_calls deeds all (Woven.ends d a none empty) = ap (λ (ps : List Piece). calls_in ps) (empty ∙ sym none)
 woven_calls deeds all (Woven.says d a l others fits woven is) = ap (λ (ps : List Piece). calls_in ps) is ∙ woven_calls d others woven
 woven_calls deeds all (Woven.deed d a p rest others first woven is) =
-    ap (λ (ps : List Piece). calls_in ps) is ∙ (ap (λ (cs : List Call). piece_calls p ++ cs) (woven_calls rest others woven) ∙ ap (λ (ps : List Piece). calls_in ps) (sym first))
+    ap (λ (ps : List Piece). calls_in ps) is ∙ (ap (λ (cs : List FleetCall). piece_calls p ++ cs) (woven_calls rest others woven) ∙ ap (λ (ps : List Piece). calls_in ps) (sym first))
 
 -- ---- lists
 
 take_none : {A : Type 0} (xs : List A) → take 0 xs ≡ []
 take_none [] = refl
 take_none (x ∷ xs) = refl
-
-drop_none : {A : Type 0} (xs : List A) → drop 0 xs ≡ xs
-drop_none [] = refl
-drop_none (x ∷ xs) = refl
-
-take_front : {A : Type 0} (n : ℕ) (xs ys : List A) → n ≡ length xs → take n (xs ++ ys) ≡ xs
-take_front zero [] ys is = take_none ys
-take_front (suc n) [] ys is = absurd (omega (arith, is))
-take_front zero (x ∷ xs) ys is = absurd (omega (arith, is))
-take_front (suc n) (x ∷ xs) ys is = ap (λ zs. x ∷ zs) (take_front n xs ys (omega (arith, is)))
-
-drop_front : {A : Type 0} (n : ℕ) (xs ys : List A) → n ≡ length xs → drop n (xs ++ ys) ≡ ys
-drop_front zero [] ys is = drop_none ys
-drop_front (suc n) [] ys is = absurd (omega (arith, is))
-drop_front zero (x ∷ xs) ys is = absurd (omega (arith, is))
-drop_front (suc n) (x ∷ xs) ys is = drop_front n xs ys (omega (arith, is))
 
 joined_all : (ps : List Piece) → joined_parts (map piece_lines ps) ≡ lines_in ps
 joined_all [] = refl
@@ -184,9 +168,9 @@ one_wave total begun first others rolled fd fs fr deeds joined drained started s
       lines = ap (λ (ls : List Line). l ∷ ls) (lines_more (fd ++ fs) rest)
           ∙ (ap (λ (ls : List Line). l ∷ (lines_in (fd ++ fs) ++ ls)) sub.lines
           ∙ (ap (λ (ls : List Line). (l ∷ ls) ++ waves_lines (suc (suc begun)) total (take (length sub.pieces) others) (map piece_lines fr))
-          (sym (joined_all (fd ++ fs)) ∙ ap (λ (ls : List (List Line)). joined_parts ls) (sym (take_front (deed_count first) (map piece_lines (fd ++ fs)) (map piece_lines fr) size)))
+          (sym (joined_all (fd ++ fs)) ∙ ap (λ (ls : List (List Line)). joined_parts ls) (sym (take_at (map piece_lines (fd ++ fs)) (map piece_lines fr) (deed_count first) (sym size))))
           ∙ (ap (λ (ls : List (List Line)). (l ∷ joined_parts (take (deed_count first) (map piece_lines (fd ++ fs) ++ map piece_lines fr))) ++ waves_lines (suc (suc begun)) total (take (length sub.pieces) others) ls)
-          (sym (drop_front (deed_count first) (map piece_lines (fd ++ fs)) (map piece_lines fr) size))
+          (sym (drop_at (map piece_lines (fd ++ fs)) (map piece_lines fr) (deed_count first) (sym size)))
           ∙ ap (λ (ls : List (List Line)). waves_lines (suc begun) total (first ∷ take (length sub.pieces) others) ls) (sym parts))));
     }
   where
@@ -199,24 +183,24 @@ at_most r b n k is within = omega arith
 one_more : (r : Rolled) (b k : ℕ) → r.waves ≤ b + 1 + k → r.waves ≤ b + suc k
 one_more r b k within = omega arith
 
-pub rolled_waves : (total begun : ℕ) (waves : List (List ℕ)) (asked : Bool) (old : List Held) (calls : List Call) (rolled : Rolled) (new : List Held) → WavesGo total begun waves asked old calls rolled new
+pub rolled_waves : (total begun : ℕ) (waves : List (List ℕ)) (asked : Bool) (old : List Held) (calls : List FleetCall) (rolled : Rolled) (new : List Held) → WavesGo total begun waves asked old calls rolled new
     → (deeds : List Piece) → AreAnswered calls deeds → Rolling total begun waves rolled deeds
 rolled_waves total begun [] asked old calls rolled new goes deeds answered =
-    no_more total begun [] rolled deeds (none_answered deeds (subst (λ (ds : List Call). AreAnswered ds deeds) goes.0 answered)) goes.1
+    no_more total begun [] rolled deeds (none_answered deeds (subst (λ (ds : List FleetCall). AreAnswered ds deeds) goes.0 answered)) goes.1
 rolled_waves total begun (first ∷ others) true old calls rolled new goes deeds answered =
-    no_more total begun (first ∷ others) rolled deeds (none_answered deeds (subst (λ (ds : List Call). AreAnswered ds deeds) goes.0 answered))
+    no_more total begun (first ∷ others) rolled deeds (none_answered deeds (subst (λ (ds : List FleetCall). AreAnswered ds deeds) goes.0 answered))
     (goes.1 ∙ ap (λ (h : Bool). record { waves = begun; halted = h }) (sym (first_below (length others))))
 rolled_waves total begun (first ∷ others) false old calls rolled new goes deeds answered =
     let wave : AreOfWave first goes.0 = goes.4 in
-    let one = apart goes.0 goes.1 deeds (subst (λ (ds : List Call). AreAnswered ds deeds) goes.5 answered) in
-    let two = apart wave.0 wave.1 one.front (subst (λ (ds : List Call). AreAnswered ds one.front) wave.4 one.first) in
+    let one = apart goes.0 goes.1 deeds (subst (λ (ds : List FleetCall). AreAnswered ds deeds) goes.5 answered) in
+    let two = apart wave.0 wave.1 one.front (subst (λ (ds : List FleetCall). AreAnswered ds one.front) wave.4 one.first) in
     let next : begun + 1 ≡ suc begun = omega arith in
     one_wave total begun first others rolled two.front two.back one.back deeds (one.is ∙ ap (λ (ps : List Piece). ps ++ one.back) two.is)
     (drains_act first wave.0 two.front wave.2 two.first) (starts_act first wave.1 two.back wave.3 two.second)
     (subst (λ (k : ℕ). Rolling total k others rolled one.back) next (rolled_waves total (begun + 1) others goes.2 goes.3 goes.1 rolled new goes.7 one.back one.second))
 
 -- no more waves are begun than there are
-pub waves_within : (total begun : ℕ) (waves : List (List ℕ)) (asked : Bool) (old : List Held) (calls : List Call) (rolled : Rolled) (new : List Held) → WavesGo total begun waves asked old calls rolled new
+pub waves_within : (total begun : ℕ) (waves : List (List ℕ)) (asked : Bool) (old : List Held) (calls : List FleetCall) (rolled : Rolled) (new : List Held) → WavesGo total begun waves asked old calls rolled new
     → rolled.waves ≤ begun + length waves
 waves_within total begun [] asked old calls rolled new goes = at_most rolled begun 0 0 (ap (λ (k : Rolled). k.waves) goes.1) (omega arith)
 waves_within total begun (first ∷ others) true old calls rolled new goes = at_most rolled begun (suc (length others)) 0 (ap (λ (k : Rolled). k.waves) goes.1) (omega arith)

@@ -3,6 +3,7 @@ use Rattle.std.proofs.Common.{◌≡◌, ◌≢◌, ◌⊎◌, inl, inr, ◌==�
 use Rattle.std.specs.Prelude.{slice_get, slice_set, slice_index_or, vec_len}
 use Rattle.std.specs.Vec.{with_item}
 use Rattle.std.proofs.lemmas.Bool.{cases_eq, eq-eqb, ne_eqb}
+use Rattle.std.proofs.lemmas.List.{nil_from_length}
 use Rattle.std.proofs.lemmas.Option.{slice_get_within}
 use Rattle.leaf_table.specs.Turns.{Shared}
 use Rattle.leaf_table.specs.Calls.{SeatView, name_of}
@@ -12,7 +13,7 @@ use Rattle.player.specs.Crew.{column}
 use Rattle.player.specs.Rows.{AreCalled, HasSeat, IsColumn, MayMeet, OnlyColumn, with_place}
 use Rattle.player.specs.Stage.{IsMember, KeepsSeats}
 use Rattle.player.proofs.Calling.{stands_at}
-use Rattle.player.proofs.Columns.{column_get, column_with, element_at, empty_of, lists_count, lists_with, only_rows, only_with, row_is}
+use Rattle.player.proofs.Columns.{column_get, column_with, element_at, lists_count, lists_with, only_rows, only_with, row_is}
 
 module _ (leaf : ℕ) (tables : List Shared) (rows : List (Vec SeatView Global)) (table : ℕ) (v : Vec SeatView Global)
     (is : IsColumn leaf tables (lists_in rows)) (within : table < length tables) (has : HasSeat leaf table (lists_in rows)) (read : v ≡ slice_index_or rows table v) where
@@ -94,7 +95,7 @@ module _ (leaf : ℕ) (tables : List Shared) (rows : List (Vec SeatView Global))
   pub seat_none : b ≡ true → slice_get (column leaf (lists_in rows)) table ≡ Some None
   seat_none none =
       column_get leaf (lists_in rows) table (omega (arith, is.sizes.count, within))
-      ∙ ap (λ (xs : List SeatView). Some (slice_get xs leaf)) (empty_of the_row (omega (arith, zero_of (vec_len v) (sym empty ∙ none), row_count)))
+      ∙ ap (λ (xs : List SeatView). Some (slice_get xs leaf)) (nil_from_length the_row (omega (arith, zero_of (vec_len v) (sym empty ∙ none), row_count)))
 
 -- ---- a leaf whose seats stay at their tables
 

@@ -4,7 +4,8 @@ use Rattle.std.specs.Prelude.{IfOk}
 use Rattle.std.specs.List.{range_with_len}
 use Rattle.berth_face.specs.Berth.{Meaning}
 use Rattle.printed_lines.specs.declared.line.Line.{Line}
-use Rattle.transcript.specs.Pieces.{Deed, Fleet, Piece, Starts}
+use Rattle.script_text.specs.declared.fleet.Fleet.{Fleet}
+use Rattle.transcript.specs.Pieces.{Deed, Piece, Starts}
 use Rattle.transcript.specs.Shapes.{ActPiece, EachActs}
 use Rattle.player.specs.declared.members.Members.{Members}
 use Rattle.player.specs.Lines.{AreJoined}

@@ -10,8 +10,8 @@ use Rattle.transcript.specs.Pieces.{Acted, Called, Deed, Piece, Says, Worn, line
 use Rattle.transcript.specs.Counts.{Counted, CountsRose, deeds_in, is_disk_fault, is_region_fault, reads_disk}
 use Rattle.transcript.specs.Stage.{Leaf}
 use Rattle.transcript.specs.Holds.{Hold, with_callers, with_leaf}
-use Rattle.transcript.specs.Steps as step
-use Rattle.transcript.specs.Steps.{Goes}
+use Rattle.transcript.specs.Plays as going
+use Rattle.transcript.specs.Plays.{Goes}
 use Rattle.player.specs.Crew.{CountedIf}
 use Rattle.player.specs.Members.{GoesWith}
 use Rattle.player.proofs.Chains.{all_more}
@@ -76,21 +76,21 @@ fit_woven names deeds all (Woven.deed d a p rest others first woven is) fit =
 module _ {B : Type 0} (meaning : B → Meaning) where
   goes_woven : (xs ys : List (Hold B)) (deeds all : List Piece) → Woven deeds all → Goes meaning xs deeds ys → Goes meaning xs all ys
   goes_woven xs ys deeds all (Woven.ends d a none empty) goes = subst (λ (ps : List Piece). Goes meaning xs ps ys) (none ∙ sym empty) goes
-  goes_woven xs ys deeds all (Woven.says d a l others fits woven is) goes = step.say xs a ys l others (goes_woven xs ys d others woven goes) is
-  goes_woven xs ys deeds all (Woven.deed d a p rest others first woven is) (step.none us ps vs empty same) = absurd (some_none p rest ps first empty)
-  goes_woven xs ys deeds all (Woven.deed d a p rest others first woven is) (step.call us ps vs leaf table c x callers q qs at called goes are) =
+  goes_woven xs ys deeds all (Woven.says d a l others fits woven is) goes = going.say xs a ys l others (goes_woven xs ys d others woven goes) is
+  goes_woven xs ys deeds all (Woven.deed d a p rest others first woven is) (going.none us ps vs empty same) = absurd (some_none p rest ps first empty)
+  goes_woven xs ys deeds all (Woven.deed d a p rest others first woven is) (going.call us ps vs leaf table c x callers q qs at called goes are) =
       let same = sym first ∙ are in
-      step.call us a vs leaf table c x callers q others at called
+      going.call us a vs leaf table c x callers q others at called
       (goes_woven (slice_set us leaf (with_callers x callers)) vs rest others woven (subst (λ (rs : List Piece). Goes meaning (slice_set us leaf (with_callers x callers)) rs vs) (sym (same_tail p q rest qs same)) goes))
       (is ∙ ap (λ (r : Piece). r ∷ others) (same_head p q rest qs same))
-  goes_woven xs ys deeds all (Woven.deed d a p rest others first woven is) (step.act us ps vs leaf deed x l l' b b' callers q qs at held acted goes are) =
+  goes_woven xs ys deeds all (Woven.deed d a p rest others first woven is) (going.act us ps vs leaf deed x l l' b b' callers q qs at held acted goes are) =
       let same = sym first ∙ are in
-      step.act us a vs leaf deed x l l' b b' callers q others at held acted
+      going.act us a vs leaf deed x l l' b b' callers q others at held acted
       (goes_woven (slice_set us leaf (with_leaf x l' b' callers)) vs rest others woven (subst (λ (rs : List Piece). Goes meaning (slice_set us leaf (with_leaf x l' b' callers)) rs vs) (sym (same_tail p q rest qs same)) goes))
       (is ∙ ap (λ (r : Piece). r ∷ others) (same_head p q rest qs same))
-  goes_woven xs ys deeds all (Woven.deed d a p rest others first woven is) (step.say us ps vs l qs goes are) =
+  goes_woven xs ys deeds all (Woven.deed d a p rest others first woven is) (going.say us ps vs l qs goes are) =
       let same = sym first ∙ are in
-      step.say us a vs l others (goes_woven us vs rest others woven (subst (λ (rs : List Piece). Goes meaning us rs vs) (sym (same_tail p (Says l) rest qs same)) goes))
+      going.say us a vs l others (goes_woven us vs rest others woven (subst (λ (rs : List Piece). Goes meaning us rs vs) (sym (same_tail p (Says l) rest qs same)) goes))
       (is ∙ ap (λ (r : Piece). r ∷ others) (same_head p (Says l) rest qs same))
 
   counted_if_woven : (leaf : ℕ) (deeds all : List Piece) (o p : Option (Leaf × B)) → Woven deeds all → CountedIf meaning leaf deeds o p → CountedIf meaning leaf all o p

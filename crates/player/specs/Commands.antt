@@ -22,7 +22,7 @@ use Rattle.printed_lines.specs.declared.line.Ending.{Ending}
 use Rattle.printed_lines.specs.declared.line.Line.{Line}
 use Rattle.printed_lines.specs.declared.line.Line.TheVariants as line
 use Rattle.printed_lines.specs.Lines.{IsOf}
-use Rattle.transcript.specs.Pieces.{Deed, Drains, Flushes, Kills, Piece, Starts, lines_in, verb_of}
+use Rattle.transcript.specs.Pieces.{Deed, Drains, Flushes, Kills, Piece, Starts, lines_in, deed_verb}
 use Rattle.transcript.specs.Shapes.{ActPiece, CallPiece, EachActs, QueryPieces}
 use Rattle.transcript.specs.Counts.{CountsRose, reads_disk}
 use Rattle.transcript.specs.Answers.{Answers}
@@ -68,7 +68,7 @@ pub record Does {E : Type 0} (number : ℕ) (deed : Deed) (m m' : Meaning) (leaf
   pub carries : Carries leaf leaf' notes m m'
   pub cause : FaultRose ends m m'
   pub reads : reads_disk deed ends ≡ false → m'.disk_reads ≡ m.disk_reads
-  pub told : IfOk lines (λ lines. AreEnded number (verb_of deed) notes ends lines.items)
+  pub told : IfOk lines (λ lines. AreEnded number (deed_verb deed) notes ends lines.items)
   pub answered : answer ≡ answer_of ends
 
 -- the same between two meetings of all seats, with its piece

@@ -13,11 +13,13 @@ use Rattle.rollover_watch.specs.Watches.{Held}
 use Rattle.printed_lines.specs.declared.line.Line.{Line}
 use Rattle.printed_lines.specs.declared.line.Ending.{Ending}
 use Rattle.printed_lines.specs.Lines.{IsOf}
-use Rattle.transcript.specs.Pieces.{Deed, Fleet, Piece, leaf_count, lines_in, place_of}
+use Rattle.script_text.specs.declared.fleet.Fleet.{Fleet}
+use Rattle.script_text.specs.Commands.{leaf_count}
+use Rattle.transcript.specs.Pieces.{Deed, Piece, lines_in, place_among}
 use Rattle.transcript.specs.Counts.{CountsRose, deeds_in}
 use Rattle.transcript.specs.Holds.{Hold, caller_in}
 use Rattle.transcript.specs.Stage.{Leaf, IsDown}
-use Rattle.transcript.specs.Steps.{Plays}
+use Rattle.transcript.specs.Plays.{Plays}
 use Rattle.transcript.specs.Watching.{Hears}
 
 -- the fleet, the tables of each leaf, and what is held of each leaf
@@ -64,7 +66,7 @@ HasFor fleet xs (command.Fleet machines per_machine tables) = (leaf : ℕ) → H
 HasFor fleet xs (command.Add leaf table rows) = HasSeats xs table
 HasFor fleet xs (command.Expire leaf table horizon) = HasSeats xs table
 HasFor fleet xs (command.Keep leaf table n) = HasSeats xs table
-HasFor fleet xs (command.Query q) = HasSeats xs (place_of q.table fleet.names)
+HasFor fleet xs (command.Query q) = HasSeats xs (place_among q.table fleet.names)
 HasFor fleet xs (command.Flush leaf table) = HasLeaf xs leaf
 HasFor fleet xs (command.Drain leaf stop) = HasLeaf xs leaf
 HasFor fleet xs (command.Kill leaf) = HasLeaf xs leaf

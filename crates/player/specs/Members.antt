@@ -10,9 +10,11 @@ use Rattle.leaf_table.specs.Lists.{lists_in, row}
 use Rattle.script_text.specs.Fits.{AreLeaves}
 use Rattle.printed_lines.specs.declared.line.Line.{Line}
 use Rattle.printed_lines.specs.Lines.{IsOf}
-use Rattle.transcript.specs.Pieces.{Fleet, Piece, leaf_count, lines_in}
+use Rattle.script_text.specs.declared.fleet.Fleet.{Fleet}
+use Rattle.script_text.specs.Commands.{leaf_count}
+use Rattle.transcript.specs.Pieces.{Piece, lines_in}
 use Rattle.transcript.specs.Holds.{Hold}
-use Rattle.transcript.specs.Steps.{Goes}
+use Rattle.transcript.specs.Plays.{Goes}
 use Rattle.player.specs.declared.leaf.OneLeaf.{OneLeaf}
 use Rattle.player.specs.declared.members.Members.{Members}
 use Rattle.player.specs.Crew.{AllCounted, AllPass, StillHas}

@@ -6,11 +6,12 @@ use denote.Param.Members.{Shared}
 use Rattle.berth_face.specs.Berth.{Meaning}
 use Rattle.rollover_watch.specs.declared.event.Drained.{Drained}
 use Rattle.rollover_watch.specs.declared.event.Started.{Started}
-use Rattle.rollover_driver.specs.Calls.{Call}
+use Rattle.rollover_driver.specs.Calls.{FleetCall}
 use Rattle.rollover_driver.specs.Calls as call
 use Rattle.printed_lines.specs.declared.line.Ending.{Ending}
 use Rattle.printed_lines.specs.declared.line.Line.{Line}
-use Rattle.transcript.specs.Pieces.{Acted, Deed, Drains, Noted, Piece, Starts, leaf_count, piece_lines}
+use Rattle.script_text.specs.Commands.{leaf_count}
+use Rattle.transcript.specs.Pieces.{Acted, Deed, Drains, Noted, Piece, Starts, piece_lines}
 use Rattle.transcript.specs.Watching.{drained_by, started_by}
 use Rattle.player.specs.declared.answer.Answer.{Answer}
 use Rattle.player.specs.declared.act.Task.{Task}
@@ -82,7 +83,7 @@ abbrev pub IsStarted : ℕ → Started → Piece → Type 0
 IsStarted leaf got p = (notes : List Noted) × (ending : Ending) × (p ≡ Acted leaf Starts notes ending) × (got ≡ started_by ending)
 
 -- the pieces of calls, one for each
-abbrev pub AreAnswered : List Call → List Piece → Type 0
+abbrev pub AreAnswered : List FleetCall → List Piece → Type 0
 AreAnswered [] [] = ⊤
 AreAnswered [] (p ∷ ps) = ⊥
 AreAnswered (call.Drains leaf got ∷ calls) [] = ⊥
@@ -95,20 +96,20 @@ abbrev pub no_lines : Result (Vec Line Global) (Unit {0})
 no_lines = Err tt
 
 -- calls one after another, with the lines of each
-pub data Chain {T E : Type 0} (did : T → ℕ → Task → Answer × Result (Vec Line Global) E → T → Type 0) (x : T) (told : Result (Vec (Vec Line Global) Global) E) : (calls : List Call) (y : T) (told' : Result (Vec (Vec Line Global) Global) E) → Type 0 where
-  none : (calls : List Call) (y : T) (told' : Result (Vec (Vec Line Global) Global) E)
+pub data Chain {T E : Type 0} (did : T → ℕ → Task → Answer × Result (Vec Line Global) E → T → Type 0) (x : T) (told : Result (Vec (Vec Line Global) Global) E) : (calls : List FleetCall) (y : T) (told' : Result (Vec (Vec Line Global) Global) E) → Type 0 where
+  none : (calls : List FleetCall) (y : T) (told' : Result (Vec (Vec Line Global) Global) E)
       → calls ≡ []
       → y ≡ x
       → told' ≡ told
       → Chain did x told calls y told'
-  drained : (calls : List Call) (y : T) (told' : Result (Vec (Vec Line Global) Global) E) (earlier : List Call) (mid : T) (told_mid : Result (Vec (Vec Line Global) Global) E)
+  drained : (calls : List FleetCall) (y : T) (told' : Result (Vec (Vec Line Global) Global) E) (earlier : List FleetCall) (mid : T) (told_mid : Result (Vec (Vec Line Global) Global) E)
       (leaf : ℕ) (answer : Answer) (lines : Result (Vec Line Global) E)
       → Chain did x told earlier mid told_mid
       → did mid leaf (task.Drain None) (answer, lines) y
       → IfOk told' (λ parts. PartJoins told_mid lines parts.items)
       → calls ≡ earlier ++ call.Drains leaf answer.drained ∷ []
       → Chain did x told calls y told'
-  started : (calls : List Call) (y : T) (told' : Result (Vec (Vec Line Global) Global) E) (earlier : List Call) (mid : T) (told_mid : Result (Vec (Vec Line Global) Global) E)
+  started : (calls : List FleetCall) (y : T) (told' : Result (Vec (Vec Line Global) Global) E) (earlier : List FleetCall) (mid : T) (told_mid : Result (Vec (Vec Line Global) Global) E)
       (leaf : ℕ) (answer : Answer) (lines : Result (Vec Line Global) E)
       → Chain did x told earlier mid told_mid
       → did mid leaf task.Start (answer, lines) y
@@ -117,7 +118,7 @@ pub data Chain {T E : Type 0} (did : T → ℕ → Task → Answer × Result (Ve
       → Chain did x told calls y told'
 
 -- leaves took these calls, with their pieces and the lines of each
-pub record Restarted {B E : Type 0} (meaning : B → Meaning) (x : Members B) (told : Result (Vec (Vec Line Global) Global) E) (calls : List Call) (y : Members B) (told' : Result (Vec (Vec Line Global) Global) E) : Type 0 where
+pub record Restarted {B E : Type 0} (meaning : B → Meaning) (x : Members B) (told : Result (Vec (Vec Line Global) Global) E) (calls : List FleetCall) (y : Members B) (told' : Result (Vec (Vec Line Global) Global) E) : Type 0 where
   pub pieces : List Piece
   pub answered : AreAnswered calls pieces
   pub members : AreMembers x → AreMembers y

@@ -5,7 +5,7 @@ use Rattle.std.specs.List.{flat_map}
 use Rattle.berth_face.specs.Berth.{Meaning}
 use Rattle.rollover_watch.specs.Watches.{Held}
 use Rattle.rollover_driver.specs.declared.driving.Rolled.{Rolled}
-use Rattle.rollover_driver.specs.Calls.{Call}
+use Rattle.rollover_driver.specs.Calls.{FleetCall}
 use Rattle.rollover_driver.specs.Drives.{Drives}
 use Rattle.printed_lines.specs.declared.line.Line.{Line}
 use Rattle.printed_lines.specs.declared.line.Line.TheVariants as line
@@ -17,7 +17,7 @@ use Rattle.player.specs.Restarts.{Restarted}
 pub record RollsThrough {B E : Type 0} (meaning : B → Meaning) (plan : List (List ℕ)) (x : Members B) (old : List Held) (rolled : Rolled) (told : Result (Vec (Vec Line Global) Global) E) (y : Members B) (new : List Held) : Type 0 where
   pub first : Result (Vec (Vec Line Global) Global) E
   pub none : IfOk first (λ parts. parts.items ≡ [])
-  pub calls : List Call
+  pub calls : List FleetCall
   pub restarted : Restarted meaning x first calls y told
   pub drives : Drives plan old calls rolled new
 

@@ -2,7 +2,8 @@
 ghost use Rattle.std.specs.Prelude.{◌≡◌, ◌<◌, ℕ, length};
 ghost use Rattle.berth_face.specs.Berth.{Passes};
 ghost use Rattle.leaf_table.specs.Lists.{lists_in};
-ghost use Rattle.transcript.specs.Pieces.{Drains, Flushes, Kills, Starts, leaf_count};
+ghost use Rattle.script_text.specs.Commands.{leaf_count};
+ghost use Rattle.transcript.specs.Pieces.{Drains, Flushes, Kills, Starts};
 ghost use Rattle.player.specs.Crew.{HasLeaf, column};
 ghost use Rattle.player.specs.Rows.{OnlyColumn};
 ghost use Rattle.player.specs.Stage.{IsMember, KeepsSeats, berth_of, seats_of, state_of};

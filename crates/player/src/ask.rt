@@ -8,7 +8,7 @@ ghost use Rattle.leaf_table.specs.Calls.{SeatView};
 ghost use Rattle.leaf_table.specs.Lists.{lists_in, row};
 ghost use Rattle.aggregator.specs.Asks.{AreSeatsAt, AllAsked};
 ghost use Rattle.aggregator.specs.Partial.{GoOn, bases_in, partial};
-ghost use Rattle.transcript.specs.Pieces.{place_of};
+ghost use Rattle.transcript.specs.Pieces.{place_among};
 ghost use Rattle.player.specs.Crew.{HasSeats};
 ghost use Rattle.player.specs.Members.{AreMembers, SameFleet, fleet_in, holds_in};
 ghost use Rattle.player.specs.Commands.{AsksAll, AsksRow, asked_line, asked_lines, number_in, query_lines};
@@ -35,8 +35,8 @@ impl<'t, B: Berth> Members<'t, B> {
         query: &Query,
     ) -> Result<Vec<Line>, AllocError>
         requires members { AreMembers self.old }
-        requires table { place_of query.now.table self.old.names < length self.old.names }
-        requires has { HasSeats (holds_in self.old) (place_of query.now.table self.old.names) }
+        requires table { place_among query.now.table self.old.names < length self.old.names }
+        requires has { HasSeats (holds_in self.old) (place_among query.now.table self.old.names) }
         ensures members { AreMembers self.new }
         ensures same { SameFleet self.old self.new }
         ensures asks { AsksAll B.meaning query.now self.old result self.new ⊎ (IsErr result × (holds_in self.new ≡ holds_in self.old)) }
@@ -70,7 +70,7 @@ fn ask_row<R: Threads + Wait + Sync, G: Gate>(
 /// The place of the first table of that name, or the number of tables.
 pub fn place_of(names: &Names, name: &str) -> u32
     requires { length names.now < 2 ^ 32 }
-    ensures { result ≡ place_of name.now names.now }
+    ensures { result ≡ place_among name.now names.now }
 {
     let names = names.as_slice();
     match position_of(names, name) {

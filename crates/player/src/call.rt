@@ -3,7 +3,7 @@ ghost use Rattle.std.specs.Prelude.{◌≡◌, ◌<◌, length};
 ghost use Rattle.turnstile.specs.Seats.{IsSeatOf};
 ghost use Rattle.leaf_table.specs.Calls.{Answered, IsCaller, SameSeat, base_seen};
 ghost use Rattle.leaf_table.specs.Lists.{lists_in, row};
-ghost use Rattle.transcript.specs.Pieces.{leaf_count};
+ghost use Rattle.script_text.specs.Commands.{leaf_count};
 ghost use Rattle.player.specs.Crew.{HasSeats};
 ghost use Rattle.player.specs.Rows.{Calls, HasSeat, IsColumn, OnlyColumn, called_at};
 ghost use Rattle.player.specs.Lines.{CallsWith};

@@ -11,10 +11,11 @@ ghost use Rattle.leaf_steward.specs.Seated.{AreAlike, AreFounded, AtEach};
 ghost use Rattle.leaf_machine.specs.States.{MayBegin};
 ghost use Rattle.script_text.specs.Fits.{AreLeaves};
 ghost use Rattle.printed_lines.specs.Lines.{IsOf};
-ghost use Rattle.transcript.specs.Pieces.{leaf_count, place_of};
+ghost use Rattle.script_text.specs.Commands.{leaf_count};
+ghost use Rattle.transcript.specs.Pieces.{place_among};
 ghost use Rattle.transcript.specs.Stage.{Leaf, Stands, seated_of};
 ghost use Rattle.transcript.specs.Holds.{Hold, AllMeet, HasMet};
-ghost use Rattle.transcript.specs.Steps.{MayPlay};
+ghost use Rattle.transcript.specs.Plays.{MayPlay};
 ghost use Rattle.transcript.specs.Lanes.{CutsOff, TakesBack};
 ghost use Rattle.player.specs.Crew.{AllPass, HasAll, HasFor, HasLeaf, HasSeats, MayTakeBack, PlaysWith, SameSeats, Spares, StillHas, berth_in, is_set, new_holds, seated_at};
 
@@ -117,7 +118,7 @@ impl<'t, B: Berth> Crew<'t, B> {
 
     /// The place of the first table of that name, or the number of tables.
     pub fn place_of(&self, table: &str) -> u32
-        ensures { result ≡ place_of table.now self.now.fleet.names }
+        ensures { result ≡ place_among table.now self.now.fleet.names }
     {
         place_of(&self.members.names, table)
     }

@@ -2,7 +2,7 @@
 ghost use Rattle.std.specs.Prelude.{◌≡◌, ◌⊎◌, ◌<◌, ◌≤◌, ℕ, [], length, map, IsErr};
 ghost use Rattle.script_text.specs.declared.command.Command.TheVariants.{Rollover};
 ghost use Rattle.std.specs.List.{AllByRecursion};
-ghost use Rattle.transcript.specs.Pieces.{leaf_count};
+ghost use Rattle.script_text.specs.Commands.{leaf_count};
 ghost use Rattle.player.specs.Crew.{AllPass, HasLeaf, PlaysWith, StillHas};
 ghost use Rattle.player.specs.Members.{AreMembers, SameFleet, fleet_in, holds_in};
 ghost use Rattle.player.specs.Restarts.{HasDone, IsRestart, MayDo};

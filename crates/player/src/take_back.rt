@@ -2,7 +2,7 @@
 ghost use Rattle.std.specs.Prelude.{◌≡◌, ◌⊎◌, ◌<◌, ◌≤◌, ℕ, Option, Some, None, length, slice_get};
 ghost use Rattle.turnstile.specs.Seats.{IsSeatOf};
 ghost use Rattle.leaf_table.specs.Lists.{lists_in, row};
-ghost use Rattle.transcript.specs.Pieces.{leaf_count};
+ghost use Rattle.script_text.specs.Commands.{leaf_count};
 ghost use Rattle.transcript.specs.Holds.{Hold};
 ghost use Rattle.transcript.specs.Lanes.{JoinsTo, TakesBack};
 ghost use Rattle.player.specs.declared.leaf.OneLeaf.{OneLeaf};

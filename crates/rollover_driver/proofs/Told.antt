@@ -3,7 +3,7 @@ use Rattle.std.proofs.Common.{◌≡◌, ℕ, ◌<◌, suc, zero, Bool, true, fa
 use Rattle.std.specs.List.{AllByRecursion}
 use Rattle.rollover_watch.specs.declared.event.RollEvent.{RollEvent}
 use Rattle.rollover_watch.specs.Watches.{Held, is_halt_asked}
-use Rattle.rollover_driver.specs.Calls.{Call, AreOfEach}
+use Rattle.rollover_driver.specs.Calls.{FleetCall, AreOfEach}
 use Rattle.rollover_driver.specs.Drives.{AreAllTold}
 
 pub or_false : (b : Bool) → (b || false) ≡ b
@@ -28,7 +28,7 @@ told_both (event ∷ events) others old mid new x y front back = (
 )
 
 -- calls of the leaves of a list, and then of others
-pub each_both : {A : Type 0} (kind : ℕ → A → Call) (leaves others : List ℕ) (calls behind : List Call) → AreOfEach kind leaves calls → AreOfEach kind others behind
+pub each_both : {A : Type 0} (kind : ℕ → A → FleetCall) (leaves others : List ℕ) (calls behind : List FleetCall) → AreOfEach kind leaves calls → AreOfEach kind others behind
     → AreOfEach kind (leaves ++ others) (calls ++ behind)
 each_both kind [] others [] behind front back = back
 each_both kind [] others (call ∷ calls) behind front back = absurd front

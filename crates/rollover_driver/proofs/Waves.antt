@@ -5,18 +5,18 @@ use Rattle.std.proofs.lemmas.List.{drop_all, drop_more}
 use Rattle.rollover_watch.specs.declared.event.RollEvent.TheVariants as event
 use Rattle.rollover_watch.specs.Watches.{Held, AreTold}
 use Rattle.rollover_driver.specs.declared.driving.Rolled.{Rolled}
-use Rattle.rollover_driver.specs.Calls.{Call, AreOfWave}
+use Rattle.rollover_driver.specs.Calls.{FleetCall, AreOfWave}
 use Rattle.rollover_driver.specs.Drives.{WavesGo, Drives}
 use Rattle.rollover_driver.specs.Done.{HasDone, HasRolled, wave_begins}
 use Rattle.rollover_driver.proofs.Told.{all_at, all_still}
 
 -- so many waves were begun; whatever those behind them come to completes the rollover
-pub record IsRolling {F : Type 0} (has : F → ℕ → Type 0) (stands : F → List Call → F → Type 0) (waves : List (List ℕ)) (f : F) (old : List Held) (begun : ℕ) (asked : Bool)
+pub record IsRolling {F : Type 0} (has : F → ℕ → Type 0) (stands : F → List FleetCall → F → Type 0) (waves : List (List ℕ)) (f : F) (old : List Held) (begun : ℕ) (asked : Bool)
     (g : F) (now : List Held) : Type 0 where
   pub same : (leaf : ℕ) → has f leaf → has g leaf
-  pub calls : List Call
-  pub goes : (first : F) (before : List Call) → stands first before f → stands first (before ++ calls) g
-  pub further : (rest : List Call) (rolled : Rolled) (new : List Held) → WavesGo (length waves) begun (drop begun waves) asked now rest rolled new
+  pub calls : List FleetCall
+  pub goes : (first : F) (before : List FleetCall) → stands first before f → stands first (before ++ calls) g
+  pub further : (rest : List FleetCall) (rolled : Rolled) (new : List Held) → WavesGo (length waves) begun (drop begun waves) asked now rest rolled new
       → WavesGo (length waves) 0 waves false old (calls ++ rest) rolled new
 
 abbrev made : ℕ → Bool → Rolled
@@ -26,12 +26,12 @@ made begun halted = record { waves = begun; halted = halted }
 pub rolled_at : {begun i : ℕ} (halted : Bool) → begun ≡ i → made begun halted ≡ made i halted
 rolled_at halted same = ap (λ (n : ℕ). made n halted) same
 
-module _ {F : Type 0} (has : F → ℕ → Type 0) (stands : F → List Call → F → Type 0) (waves : List (List ℕ)) (f : F) (old : List Held) where
+module _ {F : Type 0} (has : F → ℕ → Type 0) (stands : F → List FleetCall → F → Type 0) (waves : List (List ℕ)) (f : F) (old : List Held) where
   pub rolling_none : IsRolling has stands waves f old 0 false f old
   rolling_none = record {
     same = λ leaf had. had;
     calls = [];
-    goes = λ first before stood. subst (λ (cs : List Call). stands first cs f) (sym (append-nil before)) stood;
+    goes = λ first before stood. subst (λ (cs : List FleetCall). stands first cs f) (sym (append-nil before)) stood;
     further = λ rest rolled new goes. goes;
   }
 
@@ -45,9 +45,9 @@ module _ {F : Type 0} (has : F → ℕ → Type 0) (stands : F → List Call →
   rolling_more i wave asked later g h mid now so_far none inside is done = record {
     same = λ leaf had. done.same leaf (so_far.same leaf had);
     calls = so_far.calls ++ done.calls;
-    goes = λ first before stood. subst (λ (cs : List Call). stands first cs h) (append_assoc before so_far.calls done.calls) (done.goes first (before ++ so_far.calls) (so_far.goes first before stood));
+    goes = λ first before stood. subst (λ (cs : List FleetCall). stands first cs h) (append_assoc before so_far.calls done.calls) (done.goes first (before ++ so_far.calls) (so_far.goes first before stood));
     further = λ rest rolled new goes.
-        subst (λ (cs : List Call). WavesGo (length waves) 0 waves false old cs rolled new) (sym (append_assoc so_far.calls done.calls rest))
+        subst (λ (cs : List FleetCall). WavesGo (length waves) 0 waves false old cs rolled new) (sym (append_assoc so_far.calls done.calls rest))
         (so_far.further (done.calls ++ rest) rolled new
         (subst (λ (ws : List (List ℕ)). WavesGo (length waves) i ws asked mid (done.calls ++ rest) rolled new) (sym (next_at i wave inside is))
         (subst (λ (b : Bool). WavesGo (length waves) i (wave ∷ drop (i + 1) waves) b mid (done.calls ++ rest) rolled new) (sym none)
@@ -61,7 +61,7 @@ module _ {F : Type 0} (has : F → ℕ → Type 0) (stands : F → List Call →
     same = so_far.same;
     calls = so_far.calls;
     goes = so_far.goes;
-    rolls = subst (λ (cs : List Call). WavesGo (length waves) 0 waves false old cs rolled now) (append-nil so_far.calls)
+    rolls = subst (λ (cs : List FleetCall). WavesGo (length waves) 0 waves false old cs rolled now) (append-nil so_far.calls)
         (so_far.further [] rolled now
         (subst (λ (ws : List (List ℕ)). WavesGo (length waves) i ws asked now [] rolled now) (sym (drop_all i waves end)) (refl, is, refl)));
   }
@@ -73,7 +73,7 @@ module _ {F : Type 0} (has : F → ℕ → Type 0) (stands : F → List Call →
     same = so_far.same;
     calls = so_far.calls;
     goes = so_far.goes;
-    rolls = subst (λ (cs : List Call). WavesGo (length waves) 0 waves false old cs rolled now) (append-nil so_far.calls)
+    rolls = subst (λ (cs : List FleetCall). WavesGo (length waves) 0 waves false old cs rolled now) (append-nil so_far.calls)
         (so_far.further [] rolled now
         (subst (λ (ws : List (List ℕ)). WavesGo (length waves) i ws asked now [] rolled now) (sym (drop_more waves i d inside))
         (subst (λ (b : Bool). WavesGo (length waves) i (get_or waves i d ∷ drop (i + 1) waves) b now [] rolled now) (sym halt) (refl, is, refl))));
@@ -95,7 +95,7 @@ module _ {F : Type 0} (has : F → ℕ → Type 0) (stands : F → List Call →
   -- and at last it is told that it ended
   pub drive_ends : (same_waves : List (List ℕ)) (g : F) (between new : List Held) (rolled : Rolled) → HasRolled has stands waves f old rolled g between → waves ≡ same_waves
       → ((fleet : F) → stands fleet [] fleet) → AreTold (event.Ended rolled.waves rolled.halted) between new
-      → (calls : List Call) × stands f calls g × Drives same_waves old calls rolled new
+      → (calls : List FleetCall) × stands f calls g × Drives same_waves old calls rolled new
   drive_ends same_waves g between new rolled done is stays told = (
     done.calls,
     done.goes f [] (stays f),

@@ -1,9 +1,9 @@
 -- A text cut at a byte.
-use Rattle.std.proofs.Common.{◌≡◌, ◌<◌, ◌≤◌, ◌+◌, ◌-◌, ℕ, zero, suc, List, [], ◌∷◌, length, take, drop, get_or, refl, ap, sym, arith, Bool, true, false, eqb, add-one, map}
+use Rattle.std.proofs.Common.{◌≡◌, ◌<◌, ◌≤◌, ◌+◌, ◌-◌, ℕ, zero, suc, List, [], ◌∷◌, length, take, drop, get_or, refl, ap, sym, arith, Bool, true, false, eqb, add-one}
 use Rattle.std.proofs.Math.Seq.{take-length, drop-length}
 use Rattle.std.proofs.lemmas.Bool.{false_from_ne_true}
 use Rattle.std.proofs.lemmas.List.{length-drop, drop-drop}
-use Rattle.script_text.specs.Lines.{pieces, before, behind, lines, lines_of, without_return}
+use Rattle.script_text.specs.Lines.{pieces, before, behind}
 
 -- what stands before the first such byte
 before_first : (at : ℕ) (text : List ℕ) (end : ℕ) → end < length text → eqb (get_or text end 0) at ≡ true → ((j : ℕ) → j < end → eqb (get_or text j 0) at ≡ true → ⊥) → before at text ≡ take end text
@@ -75,13 +75,6 @@ behind_no_longer at (b ∷ bs) = omega (arith, behind_by at b bs (eqb b at) refl
 pub behind_shorter : (at : ℕ) (text : List ℕ) → 0 < length text → length (behind at text) < length text
 behind_shorter at [] some = absurd (omega arith)
 behind_shorter at (b ∷ bs) some = behind_by at b bs (eqb b at) refl (behind_no_longer at bs)
-
-pub lines_of-cut : (text line rest : List ℕ) → lines text ≡ line ∷ lines rest → lines_of text ≡ without_return line ∷ lines_of rest
-lines_of-cut text line rest cut = ap (map without_return) cut
-
-pub lines_of-none : (text : List ℕ) → length text ≡ 0 → lines_of text ≡ []
-lines_of-none [] none = refl
-lines_of-none (b ∷ bs) none = absurd (omega arith)
 
 -- places in a list
 pub drop_next : {X : Type 0} (xs : List X) (i : ℕ) (x : X) (rest : List X) → drop i xs ≡ x ∷ rest → (drop (i + 1) xs ≡ rest) × (i + 1 ≤ length xs)

@@ -170,15 +170,6 @@ front_more text rest line after count so_far some are cut shorter =
       ended = λ more. ends_line-append so_far.front first.piece (so_far.ended some) (first.ended more);
     }
 
-pub front_cut : (text rest : List ℕ) (count k : ℕ) → IsFront text rest count → k ≡ length text - length rest → IsTextCut text (take k text) (drop k text)
-front_cut text rest count k is at =
-    cut_there text is.front rest k is.both (ap (λ (ls : List (List ℕ)). ls ++ lines_of rest) is.first ∙ ap (λ (ls : List (List ℕ)). take count (lines_of text) ++ ls) is.others ∙ take-append-drop count (lines_of text)) at
-
-pub front_lines : (text rest : List ℕ) (count k : ℕ) → IsFront text rest count → k ≡ length text - length rest → (lines_of (take k text) ≡ take count (lines_of text)) × (lines_of (drop k text) ≡ drop count (lines_of text)) × (drop k text ≡ rest)
-front_lines text rest count k is at =
-    let places = split_at text is.front rest k is.both at in
-    (ap lines_of places.0 ∙ is.first, ap lines_of places.1 ∙ is.others, places.1)
-
 -- the front of a cut at a line's end
 pub front_of_cut : (text front rest : List ℕ) (count : ℕ) → IsTextCut text front rest → (0 < length rest → ends_line front ≡ true) → count ≡ length (lines_of front) → IsFront text rest count
 front_of_cut text front rest count cut ended is =

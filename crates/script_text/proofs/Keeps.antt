@@ -19,12 +19,12 @@ use Rattle.script_text.specs.declared.reading.Step.{Step}
 use Rattle.script_text.specs.declared.script.Script.{Script}
 use Rattle.script_text.specs.declared.verb.Verb.{Verb}
 use Rattle.script_text.specs.declared.verb.Verb.TheVariants as verb
-use Rattle.script_text.specs.Bursts.{end_burst, inside, next_burst, next_lane, stepped, verb_at, with_item}
-use Rattle.script_text.specs.Commands.{Fault, IsFleet, leaves}
+use Rattle.script_text.specs.Bursts.{end_burst, inside, next_lane, stepped, verb_at, with_item}
+use Rattle.script_text.specs.Commands.{Fault, IsFleet, leaf_count}
 use Rattle.script_text.specs.Fits.{AreItems, IsBurst, IsCommand, IsItem, IsScript, OneSteward}
 use Rattle.script_text.specs.Lines.{is_blank}
 use Rattle.script_text.specs.Readings.{Begun, IsReading}
-use Rattle.script_text.specs.Script.{ParsesAs, begun, closed}
+use Rattle.script_text.specs.Script.{ParsesAs, closed}
 use Rattle.script_text.specs.Stewards.{has_steward, has_stewards, is_a_stewards, is_second, is_stewards}
 use Rattle.script_text.proofs.Steps.{AllByRecursion-more}
 
@@ -163,35 +163,15 @@ burst_lane leaves tables lanes few each one =
 
 -- ---- what was read
 
-begun_more : (fleet : Fleet) (script : Script) (one : Item) → Begun fleet script.items → IsItem (leaves fleet) fleet.tables one → Begun fleet (with_item script one).items
-begun_more fleet script one b fits = record { later = b.later ++ one ∷ []; all = ap (λ items. items ++ one ∷ []) b.all; each = AllByRecursion-more (IsItem (leaves fleet) fleet.tables) b.later one b.each fits }
+begun_more : (fleet : Fleet) (script : Script) (one : Item) → Begun fleet script.items → IsItem (leaf_count fleet) fleet.names one → Begun fleet (with_item script one).items
+begun_more fleet script one b fits = record { later = b.later ++ one ∷ []; all = ap (λ items. items ++ one ∷ []) b.all; each = AllByRecursion-more (IsItem (leaf_count fleet) fleet.names) b.later one b.each fits }
 
-pub one_keeps : (fleet : Fleet) (script : Script) (c : Command) (rows : ℕ) → IsReading fleet (record { script = script; standing = standing.Outside }) → IsCommand (leaves fleet) fleet.tables c → IsReading fleet (stepped (with_item script (item.One c)) standing.Outside rows).reading
-one_keeps fleet script c rows r fits = record {
-  items = begun_more fleet script (item.One c) r.items fits;
-  standing = tt;
-}
-
-next_burst_by : (n : ℕ) (fleet : Fleet) (script : Script) (blank : Bool) (words : List ℕ) (s : Step) → is_blank words ≡ blank → Begun fleet script.items → next_burst n script words ≡ Ok s → IsReading fleet s.reading
-next_burst_by n fleet script true words s is b read =
-    let same : Ok (stepped script standing.Opened 0) ≡ Ok s = rw is at read in
-    let there : stepped script standing.Opened 0 ≡ s = cc in
-    let now : IsReading fleet (stepped script standing.Opened 0).reading = record {
-      items = b;
-      standing = tt;
-    } in
-    subst (λ (t : Step). IsReading fleet t.reading) there now
-next_burst_by n fleet script false words s is b read = absurd (grind (arith, read, is))
-
-pub burst_keeps : (n : ℕ) (fleet : Fleet) (script : Script) (words : List ℕ) (s : Step) → Begun fleet script.items → next_burst n script words ≡ Ok s → IsReading fleet s.reading
-burst_keeps n fleet script words s b read = next_burst_by n fleet script (is_blank words) words s refl b read
-
-next_lane_by : (n : ℕ) (fleet : Fleet) (script : Script) (lanes : List (List Command)) (blank few : Bool) (words : List ℕ) (s : Step) → is_blank words ≡ blank → nat_lt (length lanes) 16 ≡ few → Begun fleet script.items → AllByRecursion (AllByRecursion (IsCommand (leaves fleet) fleet.tables)) lanes → OneSteward lanes → next_lane n script lanes words ≡ Ok s → IsReading fleet s.reading
+next_lane_by : (n : ℕ) (fleet : Fleet) (script : Script) (lanes : List (List Command)) (blank few : Bool) (words : List ℕ) (s : Step) → is_blank words ≡ blank → nat_lt (length lanes) 16 ≡ few → Begun fleet script.items → AllByRecursion (AllByRecursion (IsCommand (leaf_count fleet) fleet.names)) lanes → OneSteward lanes → next_lane n script lanes words ≡ Ok s → IsReading fleet s.reading
 next_lane_by n fleet script lanes true true words s is low b each one read =
     let same : Ok (stepped script (standing.Lane lanes []) 0) ≡ Ok s = rw (is, low) at read in
     let there : stepped script (standing.Lane lanes []) 0 ≡ s = cc in
     let below : length lanes < 16 = grind (arith, nat_tests, low) in
-    let now : IsReading fleet (stepped script (standing.Lane lanes []) 0).reading = record { items = b; standing = burst_lane (leaves fleet) fleet.tables lanes below each one } in
+    let now : IsReading fleet (stepped script (standing.Lane lanes []) 0).reading = record { items = b; standing = burst_lane (leaf_count fleet) fleet.names lanes below each one } in
     subst (λ (t : Step). IsReading fleet t.reading) there now
 next_lane_by n fleet script lanes true false words s is low b each one read = absurd (grind (arith, read, is, low))
 next_lane_by n fleet script lanes false few words s is low b each one read = absurd (grind (arith, read, is))
@@ -199,7 +179,7 @@ next_lane_by n fleet script lanes false few words s is low b each one read = abs
 pub lane_keeps : (n : ℕ) (fleet : Fleet) (script : Script) (earlier : List (List Command)) (lane : List Command) (words : List ℕ) (s : Step) → IsReading fleet (record { script = script; standing = standing.Lane earlier lane }) → next_lane n script (earlier ++ lane ∷ []) words ≡ Ok s → IsReading fleet s.reading
 lane_keeps n fleet script earlier lane words s r read =
     let lanes = earlier ++ lane ∷ [] in
-    let b : IsBurst (leaves fleet) fleet.tables lanes = r.standing in
+    let b : IsBurst (leaf_count fleet) fleet.names lanes = r.standing in
     next_lane_by n fleet script lanes (is_blank words) (nat_lt (length lanes) 16) words s refl refl r.items b.each b.stewards read
 
 no_stewards : OneSteward []
@@ -218,10 +198,10 @@ opened_keeps last n fleet script words more verb.Lane s r read =
 opened_keeps last n fleet script words more verb.End s r read = absurd (grind (arith, read))
 opened_keeps last n fleet script words more (verb.Task task) s r read = absurd (grind (arith, read))
 
-pub command_keeps : (fleet : Fleet) (script : Script) (earlier : List (List Command)) (lane : List Command) (c : Command) (rows : ℕ) → is_second earlier c ≡ false → IsCommand (leaves fleet) fleet.tables c → IsReading fleet (record { script = script; standing = standing.Lane earlier lane }) → IsReading fleet (stepped script (standing.Lane earlier (lane ++ c ∷ [])) rows).reading
-command_keeps fleet script earlier lane c rows not fits r = record { items = r.items; standing = burst_more (leaves fleet) fleet.tables earlier lane c not fits r.standing }
+pub command_keeps : (fleet : Fleet) (script : Script) (earlier : List (List Command)) (lane : List Command) (c : Command) (rows : ℕ) → is_second earlier c ≡ false → IsCommand (leaf_count fleet) fleet.names c → IsReading fleet (record { script = script; standing = standing.Lane earlier lane }) → IsReading fleet (stepped script (standing.Lane earlier (lane ++ c ∷ [])) rows).reading
+command_keeps fleet script earlier lane c rows not fits r = record { items = r.items; standing = burst_more (leaf_count fleet) fleet.names earlier lane c not fits r.standing }
 
-end_burst_by : (n : ℕ) (fleet : Fleet) (script : Script) (lanes : List (List Command)) (blank : Bool) (words : List ℕ) (s : Step) → is_blank words ≡ blank → Begun fleet script.items → IsBurst (leaves fleet) fleet.tables lanes → end_burst n script lanes words ≡ Ok s → IsReading fleet s.reading
+end_burst_by : (n : ℕ) (fleet : Fleet) (script : Script) (lanes : List (List Command)) (blank : Bool) (words : List ℕ) (s : Step) → is_blank words ≡ blank → Begun fleet script.items → IsBurst (leaf_count fleet) fleet.names lanes → end_burst n script lanes words ≡ Ok s → IsReading fleet s.reading
 end_burst_by n fleet script lanes true words s is begun_items b read =
     let same : Ok (stepped (with_item script (item.Burst lanes)) standing.Outside 0) ≡ Ok s = rw is at read in
     let there : stepped (with_item script (item.Burst lanes)) standing.Outside 0 ≡ s = cc in
@@ -244,9 +224,6 @@ opened_keeps_as last n fleet script words more v (Ok s) reading exact = opened_k
 opened_keeps_as last n fleet script words more v (Err e) reading exact = tt
 
 -- ---- the whole script
-
-pub begun_reading : (n : ℕ) (fleet : Fleet) → IsReading fleet (begun n fleet)
-begun_reading n fleet = record { items = record { later = []; all = refl; each = tt }; standing = tt }
 
 fits_all : (fleet : Fleet) (script : Script) → IsFleet fleet → IsReading fleet (record { script = script; standing = standing.Outside }) → IsScript script
 fits_all fleet script f r = record {

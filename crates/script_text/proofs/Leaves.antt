@@ -42,8 +42,8 @@ unsome : (x y : ℕ) → Some x ≡ Some y → x ≡ y
 unsome x y is = ap (λ o. elim o [ None ↦ 0 | Some z ↦ z ]) is
 
 -- a fleet of these sizes
-pub fleet_sizes : (a b : Option ℕ) (machines per_machine : ℕ) (tables : List (List ℕ)) → Some machines ≡ option_map capped a → Some per_machine ≡ option_map capped b → leaves_in_range machines per_machine ≡ true → fleet_with a b tables ≡ (if are_tables tables then Some (record { machines = machines; per_machine = per_machine; tables = tables }) else None)
-fleet_sizes (Some x) (Some y) machines per_machine tables one two is =
+pub fleet_sizes : (a b : Option ℕ) (machines per_machine : ℕ) (names : List (List ℕ)) → Some machines ≡ option_map capped a → Some per_machine ≡ option_map capped b → leaves_in_range machines per_machine ≡ true → fleet_with a b names ≡ (if are_tables names then Some (record { machines = machines; per_machine = per_machine; names = names }) else None)
+fleet_sizes (Some x) (Some y) machines per_machine names one two is =
     let are = are_leaves machines per_machine is in
     let first : machines ≡ capped x = unsome machines (capped x) one in
     let second : per_machine ≡ capped y = unsome per_machine (capped y) two in
@@ -51,5 +51,5 @@ fleet_sizes (Some x) (Some y) machines per_machine tables one two is =
     let y_is : per_machine ≡ y = second ∙ uncapped y (subst (λ n. n ≤ 256) second (few_of_each machines per_machine are)) in
     let same : leaves_in_range x y ≡ true = subst (λ n. leaves_in_range n y ≡ true) x_is (subst (λ n. leaves_in_range machines n ≡ true) y_is is) in
     rw (x_is, y_is, same)
-fleet_sizes (Some x) None machines per_machine tables one two is = absurd (grind (arith, two))
-fleet_sizes None b machines per_machine tables one two is = absurd (grind (arith, one))
+fleet_sizes (Some x) None machines per_machine names one two is = absurd (grind (arith, two))
+fleet_sizes None b machines per_machine names one two is = absurd (grind (arith, one))

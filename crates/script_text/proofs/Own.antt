@@ -25,7 +25,7 @@ use Rattle.script_text.specs.declared.verb.Verb.{Verb}
 use Rattle.script_text.specs.declared.verb.Verb.TheVariants as verb
 use Rattle.script_text.specs.Lines.{lines_of, is_blank, is_skipped}
 use Rattle.script_text.specs.Words.{words_of, first_word, behind_word, trimmed, number_of, count_of, time_of, place_of}
-use Rattle.script_text.specs.Commands.{Fault, ◌>>=◌, on_line, or_words, fleet_of, leaves, leaf_in, table_in, target_in, TargetForm, target_words, of_target, within, rows_from, add_at, query_command, one_number, leaf_of, flush_words, DrainForm, drain_words, drain_of, rollover_words, first_command, command_of, row_count, verb_of}
+use Rattle.script_text.specs.Commands.{Fault, ◌>>=◌, on_line, or_words, fleet_of, leaf_count, leaf_in, table_in, target_in, TargetForm, target_words, of_target, within, rows_from, add_at, query_command, one_number, leaf_of, flush_words, DrainForm, drain_words, drain_of, rollover_words, first_command, command_of, row_count, verb_of}
 use Rattle.script_text.specs.Script.{NumberedLine, begun, closed, read_from, next_line, script_at, script_of}
 use Rattle.script_text.specs.Bursts.{end_burst, inside, lane_more, next_burst, next_lane, one_more, step_of, stepped, verb_at, with_item}
 use Rattle.script_text.specs.Stewards.{is_second}
@@ -57,10 +57,10 @@ own_words n o = own_or o (n, why.Words) tt
 
 -- a leaf and a table
 own_leaf_in : (n : ℕ) (fleet : Fleet) (leaf : ℕ) → Own (leaf_in n fleet leaf)
-own_leaf_in n fleet leaf = own_if {X = ℕ} (nat_lt leaf (leaves fleet)) (Ok leaf) (Err (n, why.Leaf)) tt tt
+own_leaf_in n fleet leaf = own_if {X = ℕ} (nat_lt leaf (leaf_count fleet)) (Ok leaf) (Err (n, why.Leaf)) tt tt
 
 own_table_in : (n : ℕ) (fleet : Fleet) (table : List ℕ) → Own (table_in n fleet table)
-own_table_in n fleet table = own_or (place_of fleet.tables table) (n, why.Table) tt
+own_table_in n fleet table = own_or (place_of fleet.names table) (n, why.Table) tt
 
 own_target : (n : ℕ) (fleet : Fleet) (leaf : ℕ) (table : List ℕ) → Own (target_in n fleet leaf table)
 own_target n fleet leaf table = own_then (leaf_in n fleet leaf) (λ number. table_in n fleet table >>= λ place. Ok (record { leaf = number; table = place })) (own_leaf_in n fleet leaf)

@@ -61,16 +61,16 @@ verb_of word = if bytes_eq word (codes "fleet") then Some verb.Fleet
     else option_map verb.Task (task_of word))))
 
 -- as many leaves as the machines of a fleet have
-abbrev pub leaves : Fleet → ℕ
-leaves fleet = fleet.machines * fleet.per_machine
+abbrev pub leaf_count : Fleet → ℕ
+leaf_count fleet = fleet.machines * fleet.per_machine
 
 -- the command that a fleet is
 abbrev pub fleet_command : Fleet → Command
-fleet_command fleet = command.Fleet fleet.machines fleet.per_machine fleet.tables
+fleet_command fleet = command.Fleet fleet.machines fleet.per_machine fleet.names
 
 -- what is known of a fleet that was read
 abbrev pub IsFleet : Fleet → Type 0
-IsFleet fleet = AreLeaves fleet.machines fleet.per_machine × AreTables fleet.tables
+IsFleet fleet = AreLeaves fleet.machines fleet.per_machine × AreTables fleet.names
 
 -- machines of as many leaves each: at least one of either, and at most 256 leaves in all
 abbrev pub leaves_in_range : ℕ → ℕ → Bool
@@ -78,7 +78,7 @@ leaves_in_range machines per_machine = nat_lt 0 machines && nat_lt 0 per_machine
 
 -- a fleet of these numbers and tables, where they are in their range
 abbrev pub fleet_with : Option ℕ → Option ℕ → List (List ℕ) → Option Fleet
-fleet_with (Some machines) (Some per_machine) tables = if leaves_in_range machines per_machine && are_tables tables then Some (record { machines = machines; per_machine = per_machine; tables = tables }) else None
+fleet_with (Some machines) (Some per_machine) names = if leaves_in_range machines per_machine && are_tables names then Some (record { machines = machines; per_machine = per_machine; names = names }) else None
 fleet_with _ _ _ = None
 
 -- `fleet M P T..`
@@ -88,11 +88,11 @@ fleet_of _ = None
 
 -- the leaf of this number, where the fleet has it
 abbrev pub leaf_in : ℕ → Fleet → ℕ → Result ℕ Fault
-leaf_in n fleet leaf = if nat_lt leaf (leaves fleet) then Ok leaf else Err (n, why.Leaf)
+leaf_in n fleet leaf = if nat_lt leaf (leaf_count fleet) then Ok leaf else Err (n, why.Leaf)
 
 -- the place of the table of this name, where the fleet has it
 abbrev pub table_in : ℕ → Fleet → List ℕ → Result ℕ Fault
-table_in n fleet name = ok_or (place_of fleet.tables name) (n, why.Table)
+table_in n fleet name = ok_or (place_of fleet.names name) (n, why.Table)
 
 -- the leaf of this number and the table of this name, where the fleet has them: a fault of the leaf comes first
 abbrev pub target_in : ℕ → Fleet → ℕ → List ℕ → Result Target Fault

@@ -7,19 +7,19 @@ use Rattle.script_text.specs.declared.item.Item.TheVariants as item
 use Rattle.script_text.specs.declared.reading.Reading.{Reading}
 use Rattle.script_text.specs.declared.reading.Standing.{Standing}
 use Rattle.script_text.specs.declared.reading.Standing.TheVariants as standing
-use Rattle.script_text.specs.Commands.{fleet_command, leaves}
+use Rattle.script_text.specs.Commands.{fleet_command, leaf_count}
 use Rattle.script_text.specs.Fits.{IsBurst, IsItem}
 
 -- the lanes of a burst that is open are those of a burst
 abbrev pub IsStanding : Fleet → Standing → Type 0
-IsStanding fleet (standing.Lane earlier lane) = IsBurst (leaves fleet) fleet.tables (earlier ++ lane ∷ [])
+IsStanding fleet (standing.Lane earlier lane) = IsBurst (leaf_count fleet) fleet.names (earlier ++ lane ∷ [])
 IsStanding fleet _ = Unit {0}
 
 -- a fleet, and items behind it
 pub record Begun (fleet : Fleet) (items : List Item) : Type 0 where
   pub later : List Item
   pub all : items ≡ item.One (fleet_command fleet) ∷ later
-  pub each : AllByRecursion (IsItem (leaves fleet) fleet.tables) later
+  pub each : AllByRecursion (IsItem (leaf_count fleet) fleet.names) later
 
 -- what was read behind this fleet
 pub record IsReading (fleet : Fleet) (reading : Reading) : Type 0 where

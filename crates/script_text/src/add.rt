@@ -2,7 +2,7 @@
 ghost use Rattle.std.specs.Prelude.{◌≡◌, ◌+◌, ◌≤◌, ◌<◌, ◌^◌, IfOk, IfSome, length};
 ghost use Rattle.script_text.specs.Lines.{lines_of};
 ghost use Rattle.script_text.specs.Words.{number_of, words_of};
-ghost use Rattle.script_text.specs.Commands.{IsFleet, add_of, leaves, row_count, target_words, within};
+ghost use Rattle.script_text.specs.Commands.{IsFleet, add_of, leaf_count, row_count, target_words, within};
 ghost use Rattle.script_text.specs.Fits.{IsCommand};
 ghost use Rattle.script_text.specs.Script.{ParsesAs};
 
@@ -28,7 +28,7 @@ pub fn add<R: Threads + Sync>(
     requires fleet { IsFleet fleet.now }
     requires place { number + length after.now < 2 ^ 64 }
     ensures exact { ParsesAs (λ c. c) result (add_of number fleet.now (target_words (words_of words.now)) (lines_of after.now)) }
-    ensures is_command { IfOk result (IsCommand (leaves fleet.now) fleet.now.tables) }
+    ensures is_command { IfOk result (IsCommand (leaf_count fleet.now) fleet.now.names) }
     ensures enough { IfOk result (λ c. row_count c ≤ length (lines_of after.now)) }
 {
     let Some(words) = target_words(words) else {

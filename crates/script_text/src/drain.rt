@@ -1,7 +1,7 @@
 // A drain.
 ghost use Rattle.std.specs.Prelude.{◌≡◌, ◌≤◌, IfOk, IfSome, option_map};
 ghost use Rattle.script_text.specs.Words.{words_of, capped};
-ghost use Rattle.script_text.specs.Commands.{DrainForm, IsFleet, drain_of, drain_words, leaves, row_count};
+ghost use Rattle.script_text.specs.Commands.{DrainForm, IsFleet, drain_of, drain_words, leaf_count, row_count};
 ghost use Rattle.script_text.specs.Fits.{IsCommand};
 ghost use Rattle.script_text.specs.Script.{ParsesAs};
 
@@ -26,7 +26,7 @@ struct DrainWords {
 pub fn drain(fleet: &Fleet, words: &[u8], number: u64) -> Result<Command, ScriptFault>
     requires { IsFleet fleet.now }
     ensures exact { ParsesAs (λ c. c) result (drain_of number fleet.now (drain_words (words_of words.now))) }
-    ensures is_command { IfOk result (IsCommand (leaves fleet.now) fleet.now.tables) }
+    ensures is_command { IfOk result (IsCommand (leaf_count fleet.now) fleet.now.names) }
     ensures no_rows { IfOk result (λ c. row_count c ≡ 0) }
 {
     let Some(drain) = drain_words(words) else {

@@ -1,7 +1,7 @@
 // An expiry.
 ghost use Rattle.std.specs.Prelude.{◌≡◌, IfOk};
 ghost use Rattle.script_text.specs.Words.{words_of};
-ghost use Rattle.script_text.specs.Commands.{IsFleet, expire_of, leaves, row_count, target_words};
+ghost use Rattle.script_text.specs.Commands.{IsFleet, expire_of, leaf_count, row_count, target_words};
 ghost use Rattle.script_text.specs.Fits.{IsCommand};
 ghost use Rattle.script_text.specs.Script.{ParsesAs};
 
@@ -15,7 +15,7 @@ use crate::words::time_of;
 pub fn expire(fleet: &Fleet, words: &[u8], number: u64) -> Result<Command, ScriptFault>
     requires { IsFleet fleet.now }
     ensures exact { ParsesAs (λ c. c) result (expire_of number fleet.now (target_words (words_of words.now))) }
-    ensures is_command { IfOk result (IsCommand (leaves fleet.now) fleet.now.tables) }
+    ensures is_command { IfOk result (IsCommand (leaf_count fleet.now) fleet.now.names) }
     ensures no_rows { IfOk result (λ c. row_count c ≡ 0) }
 {
     let Some(words) = target_words(words) else {

@@ -3,7 +3,7 @@ ghost use Rattle.std.specs.Prelude.{◌≡◌, ◌&&◌, ◌<◌, ◌^◌, lengt
 ghost use Rattle.std.specs.Str.{IsUtf8};
 ghost use Rattle.leaf_model.specs.Names.{is_table_name, is_among};
 ghost use Rattle.script_text.specs.Words.{words_of, first_word, may_follow, are_tables};
-ghost use Rattle.script_text.specs.Commands.{IsFleet, first_command, fleet_of, leaves, leaves_in_range, or_words, verb_of};
+ghost use Rattle.script_text.specs.Commands.{IsFleet, first_command, fleet_of, leaf_count, leaves_in_range, or_words, verb_of};
 ghost use Rattle.script_text.specs.Fits.{AreLeaves, AreTables};
 ghost use Rattle.script_text.specs.Script.{ParsesAs};
 
@@ -24,14 +24,14 @@ const MAX_LEAVES: u64 = 256;
 pub struct Fleet {
     pub machines: u32,
     pub per_machine: u32,
-    pub tables: Names,
+    pub names: Names,
 }
 
 impl Fleet {
-    /// How many leaves all machines have.
-    pub fn leaves(&self) -> u32
+    /// As many leaves as all its machines have.
+    pub fn leaf_count(&self) -> u32
         requires { IsFleet self.now }
-        ensures { result ≡ leaves self.now }
+        ensures { result ≡ leaf_count self.now }
     {
         self.machines * self.per_machine
     }
@@ -68,10 +68,10 @@ fn read_fleet(alloc: Global, words: &[u8], number: u64) -> Result<Fleet, ScriptF
         return Err(fault_at(number, Why::Words));
     };
     match tables(alloc, sizes.names)? {
-        Some(tables) => Ok(Fleet {
+        Some(names) => Ok(Fleet {
             machines: sizes.machines,
             per_machine: sizes.per_machine,
-            tables,
+            names,
         }),
         None => Err(fault_at(number, Why::Words)),
     }
@@ -79,7 +79,7 @@ fn read_fleet(alloc: Global, words: &[u8], number: u64) -> Result<Fleet, ScriptF
 
 /// The numbers of machines and of leaves of each, where they are in their range, and the words behind them.
 fn sizes_of(words: &[u8]) -> Option<Sizes>
-    ensures some { IfSome result (λ sizes. fleet_of (words_of words.now) ≡ (if are_tables (words_of sizes.names.now) then Some (record { machines = sizes.machines; per_machine = sizes.per_machine; tables = words_of sizes.names.now }) else None)) }
+    ensures some { IfSome result (λ sizes. fleet_of (words_of words.now) ≡ (if are_tables (words_of sizes.names.now) then Some (record { machines = sizes.machines; per_machine = sizes.per_machine; names = words_of sizes.names.now }) else None)) }
     ensures are_leaves { IfSome result (λ sizes. AreLeaves sizes.machines sizes.per_machine) }
     ensures none { result ≡ None → fleet_of (words_of words.now) ≡ None }
 {

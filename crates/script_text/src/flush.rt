@@ -1,7 +1,7 @@
 // A flush.
 ghost use Rattle.std.specs.Prelude.{◌≡◌, [], IfOk, option_map};
 ghost use Rattle.script_text.specs.Words.{words_of};
-ghost use Rattle.script_text.specs.Commands.{IsFleet, TargetForm, capped_target, flush_of, flush_words, leaves, row_count};
+ghost use Rattle.script_text.specs.Commands.{IsFleet, TargetForm, capped_target, flush_of, flush_words, leaf_count, row_count};
 ghost use Rattle.script_text.specs.Fits.{IsCommand};
 ghost use Rattle.script_text.specs.Script.{ParsesAs};
 
@@ -23,7 +23,7 @@ struct FlushWords<'a> {
 pub fn flush(fleet: &Fleet, words: &[u8], number: u64) -> Result<Command, ScriptFault>
     requires { IsFleet fleet.now }
     ensures exact { ParsesAs (λ c. c) result (flush_of number fleet.now (flush_words (words_of words.now))) }
-    ensures is_command { IfOk result (IsCommand (leaves fleet.now) fleet.now.tables) }
+    ensures is_command { IfOk result (IsCommand (leaf_count fleet.now) fleet.now.names) }
     ensures no_rows { IfOk result (λ c. row_count c ≡ 0) }
 {
     let Some(flush) = flush_words(words) else {

@@ -2,7 +2,7 @@
 ghost use Rattle.std.specs.Prelude.{◌≡◌, ◌≤◌, ◌<◌, ◌+◌, ◌^◌, Some, IfOk, length, option_map};
 ghost use Rattle.script_text.specs.Lines.{lines_of};
 ghost use Rattle.script_text.specs.Words.{words_of, capped};
-ghost use Rattle.script_text.specs.Commands.{IsFleet, command_of, leaf_of, leaves, one_number, row_count};
+ghost use Rattle.script_text.specs.Commands.{IsFleet, command_of, leaf_of, leaf_count, one_number, row_count};
 ghost use Rattle.script_text.specs.Fits.{IsCommand};
 ghost use Rattle.script_text.specs.Script.{ParsesAs};
 
@@ -35,7 +35,7 @@ pub fn command<R: Threads + Sync>(
     requires fleet { IsFleet fleet.now }
     requires place { number + length after.now < 2 ^ 64 }
     ensures exact { ParsesAs (λ c. c) result (command_of number fleet.now task words.now (lines_of after.now)) }
-    ensures is_command { IfOk result (IsCommand (leaves fleet.now) fleet.now.tables) }
+    ensures is_command { IfOk result (IsCommand (leaf_count fleet.now) fleet.now.names) }
     ensures enough { IfOk result (λ c. row_count c ≤ length (lines_of after.now)) }
 {
     match task {
@@ -61,7 +61,7 @@ pub fn command<R: Threads + Sync>(
 fn leaf_of(fleet: &Fleet, words: &[u8], number: u64) -> Result<u32, ScriptFault>
     requires { IsFleet fleet.now }
     ensures exact { ParsesAs (λ leaf. leaf) result (leaf_of number fleet.now (one_number (words_of words.now))) }
-    ensures below { IfOk result (λ leaf. leaf < leaves fleet.now) }
+    ensures below { IfOk result (λ leaf. leaf < leaf_count fleet.now) }
 {
     match one_number(words) {
         Some(leaf) => leaf_in(fleet, leaf, number),

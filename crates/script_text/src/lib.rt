@@ -28,6 +28,7 @@ mod words;
 
 pub use command::{Command, Commands};
 pub use fault::{ScriptFault, Why};
+pub use fleet::Fleet;
 pub use item::{Item, Items, LaneList};
 pub use lines::{cut_line, is_blank, without_return};
 pub use parsing::parse;

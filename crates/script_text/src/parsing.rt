@@ -92,7 +92,7 @@ fn begun(alloc: Global, fleet: &Fleet, fleet_line: u64) -> Result<Reading, Alloc
     items.push(Item::One(Command::Fleet {
         machines: fleet.machines,
         per_machine: fleet.per_machine,
-        tables: fleet.tables.copy()?,
+        tables: fleet.names.copy()?,
     }))?;
     let script = Script {
         fleet_line,

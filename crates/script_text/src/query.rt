@@ -3,7 +3,7 @@ ghost use Rattle.std.specs.Prelude.{◌≡◌, IfOk};
 ghost use Rattle.query_text.specs.Grammar.{IsQuery};
 ghost use Rattle.query_text.specs.Reading.{query_of};
 ghost use Rattle.script_text.specs.declared.fault.Why.TheVariants as why;
-ghost use Rattle.script_text.specs.Commands.{IsFleet, leaves, on_line, query_command, row_count};
+ghost use Rattle.script_text.specs.Commands.{IsFleet, leaf_count, on_line, query_command, row_count};
 ghost use Rattle.script_text.specs.Fits.{IsCommand};
 ghost use Rattle.script_text.specs.Script.{ParsesAs};
 
@@ -19,11 +19,11 @@ use std::alloc::Global;
 pub fn query(alloc: Global, fleet: &Fleet, text: &[u8], number: u64) -> Result<Command, ScriptFault>
     requires { IsFleet fleet.now }
     ensures exact { ParsesAs (λ c. c) result (query_command number fleet.now (query_of text.now)) }
-    ensures is_command { IfOk result (IsCommand (leaves fleet.now) fleet.now.tables) }
+    ensures is_command { IfOk result (IsCommand (leaf_count fleet.now) fleet.now.names) }
     ensures no_rows { IfOk result (λ c. row_count c ≡ 0) }
 {
     let query = read_query(alloc, text, number)?;
-    match place_of(fleet.tables.as_slice(), query.table.as_str().as_bytes()) {
+    match place_of(fleet.names.as_slice(), query.table.as_str().as_bytes()) {
         Some(_place) => Ok(Command::Query(query)),
         None => Err(fault_at(number, Why::Table)),
     }

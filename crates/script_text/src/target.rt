@@ -1,7 +1,7 @@
 // The leaf that a command names, and the table.
 ghost use Rattle.std.specs.Prelude.{◌≡◌, ◌<◌, IfOk, length, option_map};
 ghost use Rattle.script_text.specs.Words.{words_of};
-ghost use Rattle.script_text.specs.Commands.{IsFleet, TargetForm, capped_target, leaf_in, leaves, target_in, target_words};
+ghost use Rattle.script_text.specs.Commands.{IsFleet, TargetForm, capped_target, leaf_in, leaf_count, target_in, target_words};
 ghost use Rattle.script_text.specs.Script.{ParsesAs};
 
 use crate::fault::{ScriptFault, Why, fault_at};
@@ -48,9 +48,9 @@ pub fn target_words(words: &[u8]) -> Option<TargetWords>
 pub fn leaf_in(fleet: &Fleet, leaf: u64, number: u64) -> Result<u32, ScriptFault>
     requires { IsFleet fleet.now }
     ensures exact { ParsesAs (λ leaf. leaf) result (leaf_in number fleet.now leaf) }
-    ensures below { IfOk result (λ leaf. leaf < leaves fleet.now) }
+    ensures below { IfOk result (λ leaf. leaf < leaf_count fleet.now) }
 {
-    if leaf >= fleet.leaves() as u64 {
+    if leaf >= fleet.leaf_count() as u64 {
         return Err(fault_at(number, Why::Leaf));
     }
     Ok(leaf as u32)
@@ -60,11 +60,11 @@ pub fn leaf_in(fleet: &Fleet, leaf: u64, number: u64) -> Result<u32, ScriptFault
 pub fn target_in(fleet: &Fleet, leaf: u64, table: &[u8], number: u64) -> Result<Target, ScriptFault>
     requires { IsFleet fleet.now }
     ensures exact { ParsesAs (λ target. target) result (target_in number fleet.now leaf table.now) }
-    ensures leaf { IfOk result (λ target. target.leaf < leaves fleet.now) }
-    ensures table { IfOk result (λ target. target.table < length fleet.now.tables) }
+    ensures leaf { IfOk result (λ target. target.leaf < leaf_count fleet.now) }
+    ensures table { IfOk result (λ target. target.table < length fleet.now.names) }
 {
     let leaf = leaf_in(fleet, leaf, number)?;
-    match place_of(fleet.tables.as_slice(), table) {
+    match place_of(fleet.names.as_slice(), table) {
         Some(table) => Ok(Target { leaf, table }),
         None => Err(fault_at(number, Why::Table)),
     }

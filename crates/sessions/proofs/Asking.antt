@@ -13,7 +13,9 @@ use Rattle.script_text.specs.declared.command.Command.TheVariants as command
 use Rattle.printed_lines.specs.declared.line.Said.{Said}
 use Rattle.printed_lines.specs.declared.line.Said.TheVariants.{Added, Removed, Asked, RefusedShut, RefusedFull, RefusedMemory, Opened, Took, Flushed, Closed, Handed}
 use Rattle.printed_lines.specs.declared.line.Line.TheVariants as line
-use Rattle.transcript.specs.Pieces.{Fleet, Piece, PlayedItem, Says, leaf_count, place_of}
+use Rattle.script_text.specs.declared.fleet.Fleet.{Fleet}
+use Rattle.script_text.specs.Commands.{leaf_count}
+use Rattle.transcript.specs.Pieces.{Piece, PlayedItem, Says, place_among}
 use Rattle.transcript.specs.Shapes.{CallPiece, Prints, QueryPieces, named, named_by, named_in}
 use Rattle.transcript.specs.Histories.{Ground}
 use Rattle.transcript.specs.Answers.{AnswerIs, Answers, partial, rows_before}
@@ -70,9 +72,9 @@ from_none : (n : ℕ) → 0 + n ≡ n
 from_none n = omega arith
 
 query_named : (fleet : Fleet) (q : Query) (pieces : List Piece) → QueryPieces fleet q pieces → AllByRecursion (IsWithin (length fleet.names)) pieces
-    → AllByRecursion (IsBelow (leaf_count fleet) (place_of q.table fleet.names) (length fleet.names)) (named pieces)
+    → AllByRecursion (IsBelow (leaf_count fleet) (place_among q.table fleet.names) (length fleet.names)) (named pieces)
 query_named fleet q pieces asked within =
-    let table : ℕ = place_of q.table fleet.names in
+    let table : ℕ = place_among q.table fleet.names in
     let tables : ℕ = length fleet.names in
     let leaves : ℕ = leaf_count fleet in
     let answer : List Piece = Says (line.Answer (length (named asked.asks)) (leaf_count fleet) asked.rows) ∷ [] in
@@ -102,7 +104,7 @@ module _ {B : Type 0} (meaning : B → Meaning) (fleet : Fleet) (known : ℕ →
   pub answers_known : (c : Command) (histories : ℕ → ℕ → List Entry) → Prints fleet c pieces → AllByRecursion (IsWithin (length fleet.names)) pieces
       → Answers fleet (grounds_in ys) histories (record { command = c; pieces = pieces }) → Answers fleet (grounds_of fleet known) histories (record { command = c; pieces = pieces })
   answers_known (command.Query q) histories prints within answers =
-      let table : ℕ = place_of q.table fleet.names in
+      let table : ℕ = place_among q.table fleet.names in
       let same = partial_same (λ leaf. grounds_in ys leaf table) (λ leaf. grounds_of fleet known leaf table) (λ leaf. histories leaf table) (named pieces)
       (All-weaken (IsBelow (leaf_count fleet) table (length fleet.names)) (λ (l : ℕ × ℕ). grounds_in ys l.0 table ≡ grounds_of fleet known l.0 table)
       (λ l is. ground_is l.0 table is.0 is.1) (named pieces) (query_named fleet q pieces prints within)) in

@@ -3,7 +3,9 @@ use Rattle.std.proofs.Common.{◌≡◌, ◌⊎◌, ℕ, Bool, false, List, [], 
 use Rattle.std.specs.Prelude.{is_some, slice_get}
 use Rattle.berth_face.specs.Berth.{Meaning}
 use Rattle.leaf_history.specs.History.{Entry}
-use Rattle.transcript.specs.Pieces.{Fleet, Piece, Played, PlayedItem, One, Burst, all_pieces, leaf_count, pieces_in, plays_in}
+use Rattle.script_text.specs.declared.fleet.Fleet.{Fleet}
+use Rattle.script_text.specs.Commands.{leaf_count}
+use Rattle.transcript.specs.Pieces.{Piece, Played, PlayedItem, One, Burst, all_pieces, pieces_in, plays_in}
 use Rattle.transcript.specs.Transcript.{Known}
 use Rattle.transcript.specs.Holds.{Hold, seen_in}
 use Rattle.transcript.specs.Lanes.{CutsOff, CutsOffAt, Fans, TakesBack, TakesBackAt}

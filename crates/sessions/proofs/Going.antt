@@ -11,13 +11,16 @@ use Rattle.leaf_table.specs.Calls.{SeatView, name_of}
 use Rattle.script_text.specs.declared.command.Command.{Command}
 use Rattle.printed_lines.specs.declared.line.Line.{Line}
 use Rattle.printed_lines.specs.declared.line.Said.{Said}
-use Rattle.transcript.specs.Pieces.{Acted, Called, Deed, Fleet, Piece, PlayedItem, Says, Worn, leaf_count}
+use Rattle.script_text.specs.declared.fleet.Fleet.{Fleet}
+use Rattle.script_text.specs.Commands.{leaf_count}
+use Rattle.transcript.specs.Pieces.{Acted, Called, Deed, Piece, PlayedItem, Says, Worn}
 use Rattle.transcript.specs.Answers.{WornIsLong}
 use Rattle.transcript.specs.Transcript.{Known}
 use Rattle.transcript.specs.Stage.{Leaf}
 use Rattle.transcript.specs.Holds.{GoOn, Hold, with_callers, with_leaf}
-use Rattle.transcript.specs.Steps.{CallStep, DeedStep, Goes}
-use Rattle.transcript.specs.Steps as steps
+use Rattle.transcript.specs.Steps.{CallStep, DeedStep}
+use Rattle.transcript.specs.Plays.{Goes}
+use Rattle.transcript.specs.Plays as going
 use Rattle.leaf_sessions.specs.Session.{HasNoDeed, IsNoDeed, IsOthers, LeafSession}
 use Rattle.leaf_sessions.proofs.Leaf.{call_grows, call_worn, deed_grows, deed_worn, leaf_acts, leaf_calls, leaf_opens, leaf_others, piece_of_call}
 use Rattle.leaf_sessions.proofs.Lists.{get_set_other, get_set_same, length_mapped, length_set, same_some, within}
@@ -215,20 +218,20 @@ module _ {B : Type 0} (meaning : B → Meaning) (fleet : Fleet) (known : ℕ →
   }
 
   goes_on : (xs : List (Hold B)) (more : List Piece) (ys : List (Hold B)) → Goes meaning xs more ys → (ps : List Piece) → All ps xs → Along ps more xs ys
-  goes_on xs more ys (steps.none ws qs zs empty same) ps now =
+  goes_on xs more ys (going.none ws qs zs empty same) ps now =
       subst (λ (qs : List Piece). Along ps qs xs ys) (sym empty)
       (subst (λ (zs : List (Hold B)). Along ps [] xs zs) (sym same) (nothing ps xs now))
-  goes_on xs more ys (steps.call ws qs zs leaf table c x callers p others at step rest is) ps now =
+  goes_on xs more ys (going.call ws qs zs leaf table c x callers p others at step rest is) ps now =
       let y : Hold B = with_callers x callers in
       let first = calls ps xs leaf table c x callers p now at step in
       subst (λ (qs : List Piece). Along ps qs xs ys) (sym is)
       (joined ps (p ∷ []) others xs (slice_set xs leaf y) ys first (goes_on (slice_set xs leaf y) others ys rest (ps ++ p ∷ []) first.leaves))
-  goes_on xs more ys (steps.act ws qs zs leaf deed x l l' b b' callers p others at held step rest is) ps now =
+  goes_on xs more ys (going.act ws qs zs leaf deed x l l' b b' callers p others at held step rest is) ps now =
       let y : Hold B = with_leaf x l' b' callers in
       let first = acts ps xs leaf deed x l l' b b' callers p now at held step in
       subst (λ (qs : List Piece). Along ps qs xs ys) (sym is)
       (joined ps (p ∷ []) others xs (slice_set xs leaf y) ys first (goes_on (slice_set xs leaf y) others ys rest (ps ++ p ∷ []) first.leaves))
-  goes_on xs more ys (steps.say ws qs zs l others rest is) ps now =
+  goes_on xs more ys (going.say ws qs zs l others rest is) ps now =
       let first = says ps xs l now in
       subst (λ (qs : List Piece). Along ps qs xs ys) (sym is)
       (joined ps (Says l ∷ []) others xs xs ys first (goes_on xs others ys rest (ps ++ Says l ∷ []) first.leaves))

@@ -4,12 +4,13 @@ use Rattle.std.specs.List.{AllByRecursion}
 use Rattle.std.proofs.lemmas.List.{append-nil, append_assoc}
 use Rattle.berth_face.specs.Berth.{Meaning}
 use Rattle.leaf_history.specs.History.{Entry}
-use Rattle.transcript.specs.Pieces.{Fleet, Piece, Played, PlayedItem, One, pieces_in, plays_in}
+use Rattle.script_text.specs.declared.fleet.Fleet.{Fleet}
+use Rattle.transcript.specs.Pieces.{Piece, Played, PlayedItem, One, pieces_in, plays_in}
 use Rattle.transcript.specs.Shapes.{Prints}
 use Rattle.transcript.specs.Answers.{Answers, WornIsLong}
 use Rattle.transcript.specs.Transcript.{Known, grounds_of}
 use Rattle.transcript.specs.Holds.{GoOn, Hold}
-use Rattle.transcript.specs.Steps.{Plays}
+use Rattle.transcript.specs.Plays.{Plays}
 use Rattle.transcript.specs.Lanes.{PlaysOn}
 use Rattle.sessions.specs.Session.{Stretch}
 use Rattle.leaf_sessions.proofs.Terms.{with_pieces}

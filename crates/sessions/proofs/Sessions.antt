@@ -4,11 +4,12 @@ use Rattle.std.specs.Prelude.{slice_get}
 use Rattle.std.specs.List.{flat_map}
 use Rattle.berth_face.specs.Berth.{Meaning}
 use Rattle.leaf_history.specs.History.{Entry}
-use Rattle.transcript.specs.Pieces.{Fleet, Played, PlayedItem, One, Burst, all_pieces, plays_in}
+use Rattle.script_text.specs.declared.fleet.Fleet.{Fleet}
+use Rattle.transcript.specs.Pieces.{Played, PlayedItem, One, Burst, all_pieces, plays_in}
 use Rattle.transcript.specs.Transcript.{Known}
 use Rattle.transcript.specs.Stage.{Leaf}
 use Rattle.transcript.specs.Holds.{AllMeet, Hold, seen_in}
-use Rattle.transcript.specs.Steps.{Plays}
+use Rattle.transcript.specs.Plays.{Plays}
 use Rattle.transcript.specs.Lanes.{Fans, PlaysItem, PlaysOn}
 use Rattle.leaf_sessions.specs.Session.{AreMet, AreSame, IsWhole, LeafSession}
 use Rattle.sessions.specs.Session.{Session, Stretch, nothing_yet}

@@ -7,13 +7,15 @@ use Rattle.script_text.specs.declared.item.Item.{Item}
 use Rattle.script_text.specs.declared.item.Item.TheVariants as item
 use Rattle.script_text.specs.declared.command.Command.{Command}
 use Rattle.printed_lines.specs.Lines.{lines_text}
-use Rattle.transcript.specs.Pieces.{Fleet, PlayedItem, all_lines, all_pieces, item_of, leaf_count}
+use Rattle.script_text.specs.declared.fleet.Fleet.{Fleet}
+use Rattle.script_text.specs.Commands.{leaf_count}
+use Rattle.transcript.specs.Pieces.{PlayedItem, all_lines, all_pieces, item_of}
 use Rattle.transcript.specs.Strangers.{IsNamedBy, Strangers}
 use Rattle.transcript.specs.Transcript.{Known, Transcript}
 use Rattle.transcript.specs.Leaving.{LeavesBerth}
 use Rattle.transcript.specs.Stage.{Leaf}
 use Rattle.transcript.specs.Holds.{Hold, HasMet}
-use Rattle.transcript.specs.Steps.{MayPlay}
+use Rattle.transcript.specs.Plays.{MayPlay}
 use Rattle.transcript.specs.Lanes.{PlaysItem}
 use Rattle.std.specs.List.{AllByRecursion}
 use Rattle.leaf_sessions.specs.Session.{IsNewHold}

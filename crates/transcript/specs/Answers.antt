@@ -12,7 +12,8 @@ use Rattle.script_text.specs.declared.command.Command.TheVariants as command
 use Rattle.printed_lines.specs.declared.line.Ending.{Ending}
 use Rattle.printed_lines.specs.declared.line.Ending.TheVariants as ends
 use Rattle.printed_lines.specs.declared.line.Line.TheVariants as line
-use Rattle.transcript.specs.Pieces.{Piece, Worn, Acted, Says, Deed, Flushes, Noted, Played, Fleet, place_of}
+use Rattle.script_text.specs.declared.fleet.Fleet.{Fleet}
+use Rattle.transcript.specs.Pieces.{Piece, Worn, Acted, Says, Deed, Flushes, Noted, Played, place_among}
 use Rattle.transcript.specs.Shapes.{named}
 use Rattle.transcript.specs.Histories.{Ground}
 
@@ -34,7 +35,7 @@ Answers fleet grounds histories p = by_command p.command
   where
     by_command : Command → Type 0
     by_command (command.Query q) =
-        let table = place_of q.table fleet.names in
+        let table = place_among q.table fleet.names in
         AllByRecursion (AnswerIs q (partial (λ leaf. grounds leaf table) (λ leaf. histories leaf table) (named p.pieces))) p.pieces
     by_command _ = ⊤
 

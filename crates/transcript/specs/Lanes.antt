@@ -4,10 +4,11 @@ use Rattle.std.specs.List.{flat_map}
 use Rattle.berth_face.specs.Berth.{Meaning}
 use Rattle.turnstile.specs.Seats.{keeps_all_but, given, Joined}
 use Rattle.leaf_table.specs.Calls.{SeatView}
-use Rattle.transcript.specs.Pieces.{Played, PlayedItem, One, Burst, Fleet}
+use Rattle.script_text.specs.declared.fleet.Fleet.{Fleet}
+use Rattle.transcript.specs.Pieces.{Played, PlayedItem, One, Burst}
 use Rattle.transcript.specs.Stage.{Leaf, Meets, MeetAll}
 use Rattle.transcript.specs.Holds.{Hold, AllMeet, caller_in}
-use Rattle.transcript.specs.Steps.{Plays}
+use Rattle.transcript.specs.Plays.{Plays}
 
 -- ---- cut off
 

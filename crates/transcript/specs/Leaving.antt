@@ -15,7 +15,8 @@ use Rattle.script_text.specs.declared.item.Item.{Item}
 use Rattle.printed_lines.specs.declared.line.Line.{Line}
 use Rattle.printed_lines.specs.Lines.{lines_text}
 use Rattle.transcript.specs.Base.{LogHas, unseen, watched_with}
-use Rattle.transcript.specs.Pieces.{all_lines, all_pieces, fleet_of, leaf_count, plays_in}
+use Rattle.script_text.specs.Commands.{leaf_count}
+use Rattle.transcript.specs.Pieces.{all_lines, all_pieces, script_fleet, plays_in}
 use Rattle.transcript.specs.Life.{Life}
 use Rattle.transcript.specs.Counts.{CountsRose}
 use Rattle.transcript.specs.Strangers.{IsNamedBy, Strangers}
@@ -51,18 +52,18 @@ module _ {B : Type 0} (meaning : B → Meaning) (olds news : List B) where
   -- These lines are a transcript of the items, faults and strangers have their cause, the watches heard what the lines tell, and the berths are left so; those that no leaf uses are
   -- untouched.
   pub record IsToldRun (items : List Item) (known : ℕ → Option Known) (lines : List Line) (before after : List Held) : Type 0 where
-    pub transcript : Transcript (fleet_of items) known items (lines_text (fleet_of items).names lines)
+    pub transcript : Transcript (script_fleet items) known items (lines_text (script_fleet items).names lines)
     pub lines_are : all_lines transcript.played ≡ lines
-    pub watched : HearsAll (fleet_of items) (plays_in transcript.played) before after
-    pub counts : (leaf : ℕ) → leaf < (leaf_count (fleet_of items)) → AtBerth leaf (CountsRose leaf (all_pieces transcript.played))
-    pub strangers : (leaf : ℕ) (k : Known) → leaf < (leaf_count (fleet_of items)) → known leaf ≡ Some k →
-        Strangers (IsNamedBy (fleet_of items).names k.held) leaf (all_pieces transcript.played)
-    pub leaves : (leaf : ℕ) (k : Known) → leaf < (leaf_count (fleet_of items)) → known leaf ≡ Some k →
-        AtBerth leaf (LeavesBerth (fleet_of items).names k.base (transcript.lives leaf) (transcript.histories leaf))
-    pub others : drop (leaf_count (fleet_of items)) news ≡ drop (leaf_count (fleet_of items)) olds
+    pub watched : HearsAll (script_fleet items) (plays_in transcript.played) before after
+    pub counts : (leaf : ℕ) → leaf < (leaf_count (script_fleet items)) → AtBerth leaf (CountsRose leaf (all_pieces transcript.played))
+    pub strangers : (leaf : ℕ) (k : Known) → leaf < (leaf_count (script_fleet items)) → known leaf ≡ Some k →
+        Strangers (IsNamedBy (script_fleet items).names k.held) leaf (all_pieces transcript.played)
+    pub leaves : (leaf : ℕ) (k : Known) → leaf < (leaf_count (script_fleet items)) → known leaf ≡ Some k →
+        AtBerth leaf (LeavesBerth (script_fleet items).names k.base (transcript.lives leaf) (transcript.histories leaf))
+    pub others : drop (leaf_count (script_fleet items)) news ≡ drop (leaf_count (script_fleet items)) olds
 
   -- The text of these lines was written, whatever is known of the berths' beginnings.
   pub record IsWritten (base : ℕ → Option NamedStates) (items : List Item) (was now : Option (List ℕ)) (before after : List Held) : Type 0 where
     pub lines : List Line
-    pub written : Appends was now (lines_text (fleet_of items).names lines)
+    pub written : Appends was now (lines_text (script_fleet items).names lines)
     pub told : (known : ℕ → Option Known) → AreKnown base known → IsToldRun items known lines before after

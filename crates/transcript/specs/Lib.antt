@@ -11,5 +11,6 @@ pub mod Leaving
 pub mod Stage
 pub mod Holds
 pub mod Steps
+pub mod Plays
 pub mod Lanes
 pub mod Watching

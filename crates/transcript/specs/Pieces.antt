@@ -1,7 +1,8 @@
 -- What the commands of a script print, piece by piece.
-use Rattle.std.specs.Prelude.{ℕ, suc, ◌*◌, List, [], ◌∷◌, ◌++◌, map, Option, if◌then◌else◌, bytes_eq}
+use Rattle.std.specs.Prelude.{ℕ, suc, List, [], ◌∷◌, ◌++◌, map, Option, if◌then◌else◌, bytes_eq}
 use Rattle.std.specs.List.{flat_map}
 use Rattle.leaf_history.specs.Calls.{Call}
+use Rattle.script_text.specs.declared.fleet.Fleet.{Fleet}
 use Rattle.script_text.specs.declared.command.Command.{Command}
 use Rattle.script_text.specs.declared.command.Command.TheVariants as command
 use Rattle.script_text.specs.declared.item.Item.{Item}
@@ -34,11 +35,11 @@ pub data Piece : Type 0 where
   Acted : (leaf : ℕ) (deed : Deed) (notes : List Noted) (ending : Ending) → Piece
   Says : (line : Line) → Piece
 
-abbrev pub verb_of : Deed → Verb
-verb_of Starts = Start
-verb_of (Flushes table) = Flush
-verb_of (Drains stop) = Drain
-verb_of Kills = Kill
+abbrev pub deed_verb : Deed → Verb
+deed_verb Starts = Start
+deed_verb (Flushes table) = Flush
+deed_verb (Drains stop) = Drain
+deed_verb Kills = Kill
 
 abbrev pub noted_line : ℕ → Noted → Line
 noted_line leaf n = line.Entry leaf n.table n.number n.said
@@ -46,7 +47,7 @@ noted_line leaf n = line.Entry leaf n.table n.number n.said
 abbrev pub piece_lines : Piece → List Line
 piece_lines (Called leaf table call number said) = line.Entry leaf table number said ∷ []
 piece_lines (Worn leaf table) = line.Worn leaf table ∷ []
-piece_lines (Acted leaf deed notes ending) = map (noted_line leaf) notes ++ line.Ended (verb_of deed) leaf ending ∷ []
+piece_lines (Acted leaf deed notes ending) = map (noted_line leaf) notes ++ line.Ended (deed_verb deed) leaf ending ∷ []
 piece_lines (Says l) = l ∷ []
 
 abbrev pub lines_in : List Piece → List Line
@@ -98,14 +99,6 @@ all_pieces items = pieces_in (plays_in items)
 
 -- ---- the fleet
 
-pub record Fleet : Type 0 where
-  pub machines : ℕ
-  pub per_machine : ℕ
-  pub names : List (List ℕ)
-
-abbrev pub leaf_count : Fleet → ℕ
-leaf_count f = f.machines * f.per_machine
-
 abbrev pub no_fleet : Fleet
 no_fleet = record { machines = 0; per_machine = 0; names = [] }
 
@@ -114,11 +107,11 @@ fleet_made (command.Fleet machines per_machine tables) = record { machines = mac
 fleet_made _ = no_fleet
 
 -- the fleet that a script's first command makes: none where there is no command
-abbrev pub fleet_of : List Item → Fleet
-fleet_of (item.One c ∷ items) = fleet_made c
-fleet_of _ = no_fleet
+abbrev pub script_fleet : List Item → Fleet
+script_fleet (item.One c ∷ items) = fleet_made c
+script_fleet _ = no_fleet
 
 -- the place of a name among the tables, or their number
-abbrev pub place_of : List ℕ → List (List ℕ) → ℕ
-place_of name [] = 0
-place_of name (n ∷ ns) = if bytes_eq name n then 0 else suc (place_of name ns)
+abbrev pub place_among : List ℕ → List (List ℕ) → ℕ
+place_among name [] = 0
+place_among name (n ∷ ns) = if bytes_eq name n then 0 else suc (place_among name ns)

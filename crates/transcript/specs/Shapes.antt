@@ -11,7 +11,9 @@ use Rattle.printed_lines.specs.declared.line.Said.TheVariants.{Asked}
 use Rattle.printed_lines.specs.declared.line.Ending.{Ending}
 use Rattle.printed_lines.specs.declared.line.Line.TheVariants as line
 use Rattle.rollover_plan.specs.Plan.{IsPlan}
-use Rattle.transcript.specs.Pieces.{Piece, Called, Worn, Acted, Says, Deed, Starts, Flushes, Drains, Kills, Noted, Fleet, leaf_count, place_of}
+use Rattle.script_text.specs.declared.fleet.Fleet.{Fleet}
+use Rattle.script_text.specs.Commands.{leaf_count}
+use Rattle.transcript.specs.Pieces.{Piece, Called, Worn, Acted, Says, Deed, Starts, Flushes, Drains, Kills, Noted, place_among}
 
 -- A caller's call of a table. What it may be told, the table's history says, of which its line shows an entry.
 abbrev pub CallPiece : ℕ → ℕ → Call → Piece → Type 0
@@ -44,7 +46,7 @@ named pieces = flat_map named_in pieces
 pub record QueryPieces (fleet : Fleet) (q : Query) (pieces : List Piece) : Type 0 where
   pub asks : List Piece
   pub rows : List (List ℕ)
-  pub each : AllZip (λ leaf piece. CallPiece leaf (place_of q.table fleet.names) (call.Ask q) piece) (range_with_len 0 (leaf_count fleet)) asks
+  pub each : AllZip (λ leaf piece. CallPiece leaf (place_among q.table fleet.names) (call.Ask q) piece) (range_with_len 0 (leaf_count fleet)) asks
   pub are : pieces ≡ asks ++ Says (line.Answer (length (named asks)) (leaf_count fleet) rows) ∷ []
 
 -- a wave of so many: its line, a drain of each of its leaves, and a start of each

@@ -7,7 +7,9 @@ use Rattle.leaf_opening.specs.declared.ways.Way.{Way}
 use Rattle.crash_moments.specs.Left.{NamedStates}
 use Rattle.script_text.specs.declared.item.Item.{Item}
 use Rattle.printed_lines.specs.Lines.{lines_text, name_at}
-use Rattle.transcript.specs.Pieces.{Played, PlayedItem, Fleet, all_lines, all_pieces, item_of, leaf_count, plays_in}
+use Rattle.script_text.specs.declared.fleet.Fleet.{Fleet}
+use Rattle.script_text.specs.Commands.{leaf_count}
+use Rattle.transcript.specs.Pieces.{Played, PlayedItem, all_lines, all_pieces, item_of, plays_in}
 use Rattle.transcript.specs.Shapes.{Prints}
 use Rattle.transcript.specs.Life.{Life, Down, Lives}
 use Rattle.transcript.specs.Histories.{Ground, IsHistoryOf, InOrder, shown}

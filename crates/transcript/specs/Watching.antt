@@ -8,14 +8,15 @@ use Rattle.rollover_watch.specs.declared.event.Drained.TheVariants as drained
 use Rattle.rollover_watch.specs.declared.event.Started.{Started}
 use Rattle.rollover_watch.specs.declared.event.Started.TheVariants as started
 use Rattle.rollover_watch.specs.Watches.{Held}
-use Rattle.rollover_driver.specs.Calls.{Call}
+use Rattle.rollover_driver.specs.Calls.{FleetCall}
 use Rattle.rollover_driver.specs.Calls as call
 use Rattle.rollover_driver.specs.Drives.{Drives}
 use Rattle.script_text.specs.declared.command.Command.{Command}
 use Rattle.script_text.specs.declared.command.Command.TheVariants as command
 use Rattle.printed_lines.specs.declared.line.Ending.{Ending}
 use Rattle.printed_lines.specs.declared.line.Ending.TheVariants as ends
-use Rattle.transcript.specs.Pieces.{Piece, Acted, Deed, Starts, Drains, Played, Fleet}
+use Rattle.script_text.specs.declared.fleet.Fleet.{Fleet}
+use Rattle.transcript.specs.Pieces.{Piece, Acted, Deed, Starts, Drains, Played}
 use Rattle.transcript.specs.Shapes.{Rolls}
 
 -- ---- what the leaves answered
@@ -39,17 +40,17 @@ started_by ends.FaultMemory = started.NoMemory
 started_by _ = started.Fault
 
 -- a deed as a call of a fleet, with its answer
-abbrev pub deed_calls : ℕ → Deed → Ending → List Call
+abbrev pub deed_calls : ℕ → Deed → Ending → List FleetCall
 deed_calls leaf Starts ending = call.Starts leaf (started_by ending) ∷ []
 deed_calls leaf (Drains stop) ending = call.Drains leaf (drained_by ending) ∷ []
 deed_calls leaf _ ending = []
 
-abbrev pub piece_calls : Piece → List Call
+abbrev pub piece_calls : Piece → List FleetCall
 piece_calls (Acted leaf deed notes ending) = deed_calls leaf deed ending
 piece_calls _ = []
 
 -- the calls that pieces tell, with what the leaves answered
-abbrev pub calls_in : List Piece → List Call
+abbrev pub calls_in : List Piece → List FleetCall
 calls_in pieces = flat_map piece_calls pieces
 
 -- ---- what the watches hear

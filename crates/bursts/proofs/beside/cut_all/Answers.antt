@@ -1,6 +1,7 @@
 use Rattle.std.proofs.Common.{◌≡◌, suc, Bool, true, List, [], ◌∷◌, ◌++◌, length, map, refl, sym, ap, subst, ◌∙◌, append_assoc, arith, rules}
-use Rattle.std.proofs.lemmas.List.{append-nil, map-append}
-use Rattle.transcript.specs.Pieces.{Fleet, leaf_count}
+use Rattle.std.proofs.lemmas.List.{append-nil, map-append, nil_from_length}
+use Rattle.script_text.specs.declared.fleet.Fleet.{Fleet}
+use Rattle.script_text.specs.Commands.{leaf_count}
 use Rattle.script_text.specs.declared.command.Command.{Command}
 use Rattle.transcript.specs.Lanes.{CutsOff}
 use Rattle.player.specs.Crew.{is_set}
@@ -10,7 +11,7 @@ use Rattle.bursts.specs.Needs.{CanLend, commands_in}
 use Rattle.bursts.proofs.Cutting.{lends_leaf, lends_on, lends_seats, length_snoc, marks_leaves, marks_tables}
 use Rattle.bursts.specs.Rolling.{has_rollover}
 use Rattle.bursts.proofs.Handing.{all_split, few_left, first_quiet, its_watches, left_watches, none_rolled, others_quiet}
-use Rattle.bursts.proofs.Lending.{cut_more, empty_of, lent_left, lent_none}
+use Rattle.bursts.proofs.Lending.{cut_more, lent_left, lent_none}
 use Rattle.bursts.proofs.beside.cut_all.Goals as goal
 
 pub loop-plan-init : goal.loop-plan-init
@@ -105,7 +106,7 @@ returns-in_err-off-clause-lent g c =
 pub returns-clause-lent : goal.returns-clause-lent
 returns-clause-lent g c =
     let inv = c.loop-plan.invariant in
-    let none : c.loop-plan.plans.items ≡ [] = empty_of c.loop-plan.plans.items (omega (arith, c.in_default.ensures.cases.0, c.loop-plan.plans.ok.0)) in (
+    let none : c.loop-plan.plans.items ≡ [] = nil_from_length c.loop-plan.plans.items (omega (arith, c.in_default.ensures.cases.0, c.loop-plan.plans.ok.0)) in (
       inv.cut,
       inv.lent,
       λ ok. ap (λ (ps : List Plan). map commands_in ps ++ inv.cut) (sym none) ∙ inv.all,

@@ -1,6 +1,6 @@
 use Rattle.std.proofs.Common.{◌≡◌, [], refl, ◌∙◌, arith}
 use Rattle.std.specs.Prelude.{Ok}
-use Rattle.bursts.proofs.Lending.{empty_of}
+use Rattle.std.proofs.lemmas.List.{nil_from_length}
 use Rattle.bursts.proofs.Taking.{may_take, taking_begins, taking_ends, taking_goes_on}
 use Rattle.bursts.proofs.beside.take_all_back.Goals as goal
 
@@ -31,6 +31,6 @@ loop-lane-preserved g c =
 
 pub returns-clause-back : goal.returns-clause-back
 returns-clause-back g c =
-    let none : c.loop-lane.lanes.items ≡ [] = empty_of c.loop-lane.lanes.items (omega (arith, c.in_default.ensures.cases.0, c.loop-lane.lanes.ok.0)) in
+    let none : c.loop-lane.lanes.items ≡ [] = nil_from_length c.loop-lane.lanes.items (omega (arith, c.in_default.ensures.cases.0, c.loop-lane.lanes.ok.0)) in
     λ xs count cut was lent. taking_ends _ g.B.Berth.meaning c.args.crew.now.fleet c.args.crew.now.tables count cut was xs _ c.loop-lane.lanes.items c.loop-lane.lines c.loop-lane.crew.holds _
     (c.loop-lane.invariant.taking xs count cut was lent) none

@@ -1,7 +1,8 @@
 use Rattle.std.proofs.Common.{◌≡◌, [], ◌∷◌, ◌++◌, refl, sym, ap, subst, ◌∙◌, append_assoc}
 use Rattle.std.specs.List.{AllByRecursion}
 use Rattle.script_text.specs.Fits.{IsCommand}
-use Rattle.transcript.specs.Pieces.{Fleet, leaf_count}
+use Rattle.script_text.specs.declared.fleet.Fleet.{Fleet}
+use Rattle.script_text.specs.Commands.{leaf_count}
 use Rattle.player.specs.Crew.{HasFor}
 use Rattle.bursts.specs.Played.{MayPlayOn}
 use Rattle.bursts.proofs.Held.{pass_none, pass_on, still_on, still_same}

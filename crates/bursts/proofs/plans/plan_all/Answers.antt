@@ -2,7 +2,7 @@ use Rattle.std.proofs.Common.{◌≡◌, List, [], ◌∷◌, ◌++◌, sym, ap,
 use Rattle.std.specs.List.{AllByRecursion}
 use Rattle.script_text.specs.declared.command.Command.{Command}
 use Rattle.script_text.specs.Fits.{IsCommand}
-use Rattle.transcript.specs.Pieces.{leaf_count}
+use Rattle.script_text.specs.Commands.{leaf_count}
 use Rattle.bursts.specs.declared.plan.Plan.{Plan}
 use Rattle.bursts.specs.Needs.{ArePlans}
 use Rattle.bursts.proofs.Needed.{plans_more}

@@ -3,7 +3,7 @@ use Rattle.std.specs.List.{AllByRecursion}
 use Rattle.std.specs.VecDeque.{deque_len}
 use Rattle.script_text.specs.declared.command.Command.{Command}
 use Rattle.script_text.specs.Fits.{IsCommand}
-use Rattle.transcript.specs.Pieces.{leaf_count}
+use Rattle.script_text.specs.Commands.{leaf_count}
 use Rattle.bursts.specs.Needs.{ArePlans}
 use Rattle.bursts.proofs.plans.plan_all.Given as goal
 

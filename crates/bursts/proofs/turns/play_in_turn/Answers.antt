@@ -1,7 +1,7 @@
 use Rattle.std.proofs.Common.{◌≡◌, ◌+◌, List, [], ◌∷◌, ◌++◌, length, map, refl, sym, ap, subst, ◌∙◌, append_assoc, arith}
 use Rattle.std.specs.List.{AllByRecursion}
 use Rattle.script_text.specs.declared.command.Command.{Command}
-use Rattle.transcript.specs.Pieces.{Fleet}
+use Rattle.script_text.specs.declared.fleet.Fleet.{Fleet}
 use Rattle.bursts.specs.declared.plan.Plan.{Plan}
 use Rattle.bursts.specs.Needs.{IsPlan, commands_in}
 use Rattle.bursts.specs.Played.{MayPlayOn}

@@ -2,11 +2,11 @@ use Rattle.std.proofs.Common.{◌≡◌, ◌≤◌, ◌*◌, ◌++◌, ◌∙◌
 use Rattle.std.specs.List.{AllByRecursion}
 use Rattle.region_layout.specs.Names.{AreNames}
 use Rattle.leaf_table.specs.Fleet.{IsNewFleet}
-use Rattle.transcript.specs.Pieces.{leaf_count}
+use Rattle.script_text.specs.Commands.{leaf_count}
 use Rattle.bursts.specs.Items.{MayPlayItem}
 use Rattle.player.specs.Crew.{new_holds}
 use Rattle.play.specs.Played.{LeavesBerths}
-use Rattle.play.specs.Runs.{IsRun, berths_in, fleet_with, table_bases}
+use Rattle.play.specs.Runs.{IsRun, berths_in, fleet_named, table_bases}
 use Rattle.play.proofs.Beginning.{alike_at, berths_of_holds, ready_at, run_begins}
 use Rattle.play.proofs.Ends.{crew_leaves, crew_written, room_again}
 use Rattle.play.proofs.Plays.{run_ends}
@@ -40,7 +40,7 @@ pub play_all-status-requires-clause-may_play : goal.play_all-status-requires-cla
 play_all-status-requires-clause-may_play g c κs within =
     let fleet = c.in-Ok-new.crew.fleet in
     let plan = c.args.plan.now in
-    let is : fleet ≡ fleet_with plan.machines plan.per_machine plan.names = c.in-Ok-new.ensures.fleet ∙ ap (fleet_with plan.machines plan.per_machine) c.in-Ok.ensures in
+    let is : fleet ≡ fleet_named plan.machines plan.per_machine plan.names = c.in-Ok-new.ensures.fleet ∙ ap (fleet_named plan.machines plan.per_machine) c.in-Ok.ensures in
     subst (AllByRecursion (MayPlayItem fleet)) (sym c.into_inner.ensures) (subst (λ f. AllByRecursion (MayPlayItem f) c.args.items) (sym is) c.requires.plan.may_play)
 
 pub play_all-status-requires-clause-begun : goal.play_all-status-requires-clause-begun
@@ -51,7 +51,7 @@ play_all-status-requires-clause-begun g c κs within =
     let berths = c.args.berths.now.items in
     let crew = c.in-Ok-new.crew in
     let new = c.in-Ok-new.ensures in
-    let is : crew.fleet ≡ fleet_with plan.machines plan.per_machine plan.names = new.fleet ∙ ap (fleet_with plan.machines plan.per_machine) c.in-Ok.ensures in
+    let is : crew.fleet ≡ fleet_named plan.machines plan.per_machine plan.names = new.fleet ∙ ap (fleet_named plan.machines plan.per_machine) c.in-Ok.ensures in
     let enough : leaves ≤ length berths = subst (λ n. n ≤ length berths) (ap leaf_count c.requires.plan.is) c.requires.enough in
     run_begins g.N.Bases.base g.B.Berth.meaning berths plan.names leaves made.tables made.stewards made.callers c.requires.bases enough c.requires.plan.are_names c.in-Ok-new_tables.ensures
     crew.fleet (g.K.Sink.written c.args.sink.now) _ crew.holds (ap leaf_count is) (ap (λ f. f.names) is)
@@ -83,7 +83,7 @@ returns-clause-done g c =
     let back = c.abandon.ensures.berths in
     let was = g.K.Sink.written c.args.sink.now in
     let now = g.K.Sink.written c.play_all-status.new.sink in
-    let is : crew.fleet ≡ fleet_with plan.machines plan.per_machine plan.names = new.fleet ∙ ap (fleet_with plan.machines plan.per_machine) c.in-Ok.ensures in
+    let is : crew.fleet ≡ fleet_named plan.machines plan.per_machine plan.names = new.fleet ∙ ap (fleet_named plan.machines plan.per_machine) c.in-Ok.ensures in
     let enough : leaves ≤ length berths = subst (λ n. n ≤ length berths) (ap leaf_count c.requires.plan.is) c.requires.enough in
     let had : berths_in crew.holds ≡ take leaves berths = ap berths_in new.holds ∙ berths_of_holds c.in-Ok.copy made.tables made.stewards made.callers 0 (take leaves berths) in
     λ e.

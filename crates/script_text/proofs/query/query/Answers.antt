@@ -5,5 +5,5 @@ use Rattle.script_text.proofs.query.query.Goals as goal
 
 pub returns-in-Some-clause-is_command : goal.returns-in-Some-clause-is_command
 returns-in-Some-clause-is_command c =
-    let found : place_of c.args.fleet.now.tables c.in_ok-query.query.table ≡ Some c.in-Some._place = search rules in
-    (place_contains c.args.fleet.now.tables c.in_ok-query.query.table c.in-Some._place found, search rules)
+    let found : place_of c.args.fleet.now.names c.in_ok-query.query.table ≡ Some c.in-Some._place = search rules in
+    (place_contains c.args.fleet.now.names c.in_ok-query.query.table c.in-Some._place found, search rules)

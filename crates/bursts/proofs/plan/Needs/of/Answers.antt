@@ -3,7 +3,7 @@ use Rattle.std.specs.List.{AllByRecursion}
 use Rattle.std.proofs.lemmas.List.{length-replicate}
 use Rattle.script_text.specs.declared.command.Command.{Command}
 use Rattle.script_text.specs.Fits.{IsCommand}
-use Rattle.transcript.specs.Pieces.{leaf_count}
+use Rattle.script_text.specs.Commands.{leaf_count}
 use Rattle.bursts.specs.Needs.{leaves_of, marked_by, table_of}
 use Rattle.bursts.proofs.Needed.{drop_next, marked_length}
 use Rattle.bursts.proofs.plan.Needs.of.Goals as goal

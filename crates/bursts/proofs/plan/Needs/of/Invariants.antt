@@ -1,7 +1,7 @@
 use Rattle.std.proofs.Common.{◌≡◌, length, drop}
 use Rattle.std.specs.List.{AllByRecursion}
 use Rattle.script_text.specs.Fits.{IsCommand}
-use Rattle.transcript.specs.Pieces.{leaf_count}
+use Rattle.script_text.specs.Commands.{leaf_count}
 use Rattle.bursts.specs.Needs.{HasPlaces, leaves_of, marked_by, needed, table_of}
 use Rattle.bursts.proofs.plan.Needs.of.Given as goal
 

@@ -1,6 +1,6 @@
 use Rattle.std.proofs.Common.{◌≡◌, ◌≤◌, ℕ, List, length, refl, ap, arith}
 use Rattle.leaf_table.specs.Lists.{lists_in}
-use Rattle.transcript.specs.Pieces.{Fleet}
+use Rattle.script_text.specs.declared.fleet.Fleet.{Fleet}
 use Rattle.player.specs.Crew.{is_set}
 use Rattle.player.proofs.Columns.{lists_count}
 use Rattle.player.proofs.CutInTwo.{cuts_off, may_split, off_members, rest_members}

@@ -1,6 +1,6 @@
 use Rattle.std.proofs.Common.{length, ap, arith}
 use Rattle.leaf_table.specs.Lists.{lists_in}
-use Rattle.transcript.specs.Pieces.{Fleet}
+use Rattle.script_text.specs.declared.fleet.Fleet.{Fleet}
 use Rattle.player.specs.Members.{holds_in}
 use Rattle.player.proofs.Columns.{lists_count}
 use Rattle.player.proofs.MemberSteps.{with_parts}
