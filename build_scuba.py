@@ -292,10 +292,12 @@ def side_by_side(crates, began):
                     continue
                 stale.add(it)
                 room = memory - sum(run.crate.needs(run.jobs) for run in running)
-                jobs = [jobs for jobs in range(min(at_once, 8), 0, -1) if it.needs(jobs) <= room]
+                rank = sum(behind[run.crate] > behind[it] for run in running)
+                # (each job reads again what the others have read: only what all wait for gets more than one)
+                most = 1 if rank else min(at_once, 8)
+                jobs = [jobs for jobs in range(most, 0, -1) if it.needs(jobs) <= room]
                 if len(running) < at_once and (jobs or not running):
                     left.remove(it)
-                    rank = sum(behind[run.crate] > behind[it] for run in running)
                     running.append(Run(it, jobs[0] if jobs else 1, rank, guard))
             time.sleep(0.05)
             for run in [it for it in running if it.ended()]:
