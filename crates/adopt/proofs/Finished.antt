@@ -20,6 +20,8 @@ use Rattle.region_directory.specs.Region.{IsTableIn, allows, block_in, column_in
 use Rattle.region_directory.specs.Drained.{images_of}
 use Rattle.region_directory.proofs.Ending.{table_columns}
 use Rattle.region_directory.proofs.Images.{table_in}
+use Rattle.std.proofs.Common.{inl}
+use Rattle.table_state.specs.Tables.{IsParts}
 use Rattle.adopt.specs.declared.found.AdoptFault.{AdoptFault}
 use Rattle.adopt.specs.declared.found.AdoptFault.TheVariants as fault
 use Rattle.adopt.specs.declared.found.AdoptStep.{AdoptStep}
@@ -110,6 +112,10 @@ each_made : (version : ℕ) (region : List ℕ) (ts : List TablePlaces) → AllB
 each_made version region [] each = tt
 each_made version region (t ∷ ts) each = (each.0.parts, each_made version region ts each.1)
 
+parts_made : (region : List ℕ) (ts : List TablePlaces) → AllByRecursion (λ (t : TablePlaces). IsParts (parts_in region t)) ts → AllByRecursion IsMade (map (drained region) ts)
+parts_made region [] each = tt
+parts_made region (t ∷ ts) each = (each.0, parts_made region ts each.1)
+
 images_are : (region : List ℕ) (ts : List TablePlaces) → images_of (map (drained region) ts) ≡ map (table_in region) ts
 images_are region [] = refl
 images_are region (t ∷ ts) = ap (λ (l : List TableImage). table_in region t ∷ l) (images_are region ts)
@@ -148,6 +154,7 @@ module _ (region now : List ℕ) (a : AdoptState) (adopting : Adopting region a 
         left,
       )
   finishes (Ok step.NoImage) refused = (
+    inl (none, λ parts. refused (subst (AllByRecursion IsMade) (sym made_is) (parts_made region a.directory.tables parts))),
     (λ images log_end is. refused (subst (AllByRecursion IsMade) (sym made_is) (each_made is.version region a.directory.tables (each_table a.version region a.directory images log_end adopting.has is)))),
     left,
   )

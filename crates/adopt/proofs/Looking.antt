@@ -12,7 +12,7 @@ use Rattle.region_directory.specs.Region.{HasDirectory, column_in, directory_fro
 use Rattle.adopt.specs.declared.spans.Span.{Span}
 use Rattle.adopt.specs.declared.looked.Looked.{Looked}
 use Rattle.adopt.specs.declared.found.Found.TheVariants as found
-use Rattle.adopt.specs.Adopting.{Adopting, Finds, IsInImage, IsLeftBehind, IsNoImage, stranger_of}
+use Rattle.adopt.specs.Adopting.{Adopting, Finds, IsInImage, HasNoDirectory, IsLeftBehind, stranger_of}
 use Rattle.adopt.specs.Finding.{LooksAt, closed_flag}
 use Rattle.adopt.specs.Taken.{AdoptState, IsRead, KeepsTrack, span_bytes, spans_of}
 use Rattle.adopt.proofs.Columns.{same_all, same_count}
@@ -28,18 +28,17 @@ one_version region v w e f = ap version (sym e ∙ f)
     version (head.Closed flag) = 0
     version (head.Version n) = n
 
--- without a directory of its version a region is no image
-pub no_directory : (region : List ℕ) (version : ℕ) → head_of region ≡ head.Version version → LooksAt version region None → IsNoImage region
-no_directory region version opened none images log_end is =
-    let has = is.is.has in
-    none is.is.directory (subst (λ (v : ℕ). HasDirectory v region is.is.directory) (one_version region is.version version has.head opened) has)
+-- without a directory of its version a region has none
+pub no_directory : (region : List ℕ) (version : ℕ) → head_of region ≡ head.Version version → LooksAt version region None → HasNoDirectory region
+no_directory region version opened none other d has =
+    none d (subst (λ (v : ℕ). HasDirectory v region d) (one_version region other version has.head opened) has)
 
 -- the region after its flag was closed is what a look leaves behind
 pub left_as : (region now : List ℕ) (version : ℕ) → head_of region ≡ head.Version version → now ≡ closed_flag region → IsLeftBehind region now
 left_as region now version opened closed = subst (IsLeftBehind region) (sym closed) (left_closed region version opened)
 
 pub none_found : (names : List (List ℕ)) (region now : List ℕ) (version : ℕ) → head_of region ≡ head.Version version → now ≡ closed_flag region → reads version ≡ true → LooksAt version region None → Finds names region now (Ok found.NoImage)
-none_found names region now version opened closed read none = ((version, opened, read, no_directory region version opened none), left_as region now version opened closed)
+none_found names region now version opened closed read none = ((version, opened, read), no_directory region version opened none, left_as region now version opened closed)
 
 -- an adoption of which nothing was taken
 abbrev pub begun : List (List ℕ) → ℕ → Looked → ℕ → AdoptState

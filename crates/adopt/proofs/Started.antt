@@ -1,5 +1,5 @@
 -- What an adoption of all columns takes, and what it leaves of a region.
-use Rattle.std.proofs.Common.{◌≡◌, ℕ, ◌<◌, ◌^◌, List, length, Some, None, Ok, Err, IsTrue, refl, sym, ap, subst, ◌∙◌}
+use Rattle.std.proofs.Common.{◌≡◌, ℕ, ◌<◌, ◌^◌, List, length, map, Option, Some, None, Ok, Err, IsTrue, refl, sym, ap, subst, ◌∙◌}
 use Rattle.std.specs.List.{AllByRecursion}
 use Rattle.berth_face.specs.Berth.{Meaning, Passes, Ended, SameDisk}
 use Rattle.berth_face.specs.Moments.{Throughout}
@@ -17,7 +17,11 @@ use Rattle.adopt.specs.declared.found.WhyDisk.TheVariants as why
 use Rattle.adopt.specs.declared.found.Drained.{Drained}
 use Rattle.adopt.specs.declared.found.Adopted.{Adopted}
 use Rattle.adopt.specs.declared.found.Adoption.TheVariants.{NoTables, Tables}
-use Rattle.adopt.specs.Adopting.{Adopting, AdoptsFrom, AdoptsOn, AreAdopted, ClosedFrom, KeepsOn, cut_at}
+use Rattle.adopt.specs.Adopting.{Adopting, AdoptsFrom, AdoptsOn, AreAdopted, ClosedFrom, Finds, HasNoStranger, KeepsOn, cut_at, stranger_of}
+use Rattle.adopt.specs.declared.found.Found.TheVariants as found
+use Rattle.region_directory.specs.declared.directory.Directory.{Directory}
+use Rattle.region_directory.specs.declared.directory.TablePlaces.{TablePlaces}
+use Rattle.region_directory.proofs.Images.{same_directory}
 use Rattle.adopt.specs.Finding.{closed_flag}
 use Rattle.adopt.specs.Starting.{Adopts, AreArranged, HasTables, IsDrained, TakesAll, TookSome}
 use Rattle.adopt.specs.Taken.{AdoptState}
@@ -77,7 +81,9 @@ module _ (first a : AdoptState) (old mid new : Meaning) (so_far : TookSome first
 
   pub none_made : (made : AdoptStep) → made ≡ step.NoImage → ((region : List ℕ) → IsTrue mid.tells → Adopting region a mid.held.region → AdoptsOn region a new.held.region (Ok made))
       → (region : List ℕ) → IsTrue old.tells → Adopting region first old.held.region → TakesAll region new.held.region (Ok None)
-  none_made made is told region t adopting = subst (λ (s : AdoptStep). AdoptsOn region a new.held.region (Ok s)) is (told region (told_mid t) (so_far.told region t adopting))
+  none_made made is told region t adopting =
+      let none = subst (λ (s : AdoptStep). AdoptsOn region a new.held.region (Ok s)) is (told region (told_mid t) (so_far.told region t adopting)) in
+      (none.1, none.2)
 
   pub all_made : (d : Drained) (made : AdoptStep) → made ≡ step.Finished d.tables d.log_end → ((region : List ℕ) → IsTrue mid.tells → Adopting region a mid.held.region → AdoptsOn region a new.held.region (Ok made))
       → (region : List ℕ) → IsTrue old.tells → Adopting region first old.held.region → TakesAll region new.held.region (Ok (Some d))
@@ -96,14 +102,32 @@ module _ (first a : AdoptState) (old mid new : Meaning) (so_far : TookSome first
 
 -- ---- the tables of a leaf
 
+none_some : {X : Type 0} (o : Option X) (x : X) → o ≡ None → o ≡ Some x → ⊥
+none_some o x a b = cc
+
 -- The region had an image, of whose columns these were left.
 module _ (names : List (List ℕ)) (region before new : List ℕ) (a : AdoptState) (adopting : Adopting region a before) where
   pub image_fails : (e : AdoptFault) → TakesAll region new (Err e) → Adopts names region new (Err e)
   image_fails fault.RegionFault is = closed_breaks region new a.version adopting.has.head is
   image_fails fault.NoMemory left = left
 
-  pub image_none : TakesAll region new (Ok None) → Adopts names region new (Ok (NoTables why.NoImage))
-  image_none none = ((a.version, adopting.has.head, adopting.reads_it, none.0), none.1)
+  pub image_none : a.names ≡ names → TakesAll region new (Ok None) → Adopts names region new (Ok (NoTables why.NoImage))
+  image_none same none = (((a.version, adopting.has.head, adopting.reads_it, none.0), no_stranger), none.1)
+    where
+      no_stranger : HasNoStranger names region
+      no_stranger name s =
+          let one : s.1 ≡ a.directory = same_directory region s.0 a.version s.1 a.directory s.3 adopting.has in
+          let known : stranger_of names (map (λ (t : TablePlaces). t.name) s.1.tables) ≡ None =
+          subst (λ (d : Directory). stranger_of names (map (λ (t : TablePlaces). t.name) d.tables) ≡ None) (sym one)
+          (subst (λ (ns : List (List ℕ)). stranger_of ns (map (λ (t : TablePlaces). t.name) a.directory.tables) ≡ None) same adopting.known) in
+          none_some (stranger_of names (map (λ (t : TablePlaces). t.name) s.1.tables)) name known s.4
+
+-- no directory was found
+pub none_adopted : (names : List (List ℕ)) (region new : List ℕ) → Finds names region new (Ok found.NoImage) → Adopts names region new (Ok (NoTables why.NoImage))
+none_adopted names region new none = (
+  ((none.0.0, none.0.1, none.0.2, λ images log_end is. none.1 is.version is.is.directory is.is.has), λ name s. none.1 s.0 s.1 s.3),
+  none.2,
+)
 
 pub image_adopted : (names : List (List ℕ)) (region new : List ℕ) (d : Drained) (got : Adopted) → IsDrained names d → AreArranged names d got → TakesAll region new (Ok (Some d)) → Adopts names region new (Ok (Tables got))
 image_adopted names region new d got drained arranged took = (

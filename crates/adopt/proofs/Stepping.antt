@@ -10,7 +10,8 @@ use Rattle.adopt.specs.Adopting.{Adopting, AdoptsOn, IsInImage, IsLeftBehind, Is
 use Rattle.adopt.specs.Finding.{TakesSpan}
 use Rattle.adopt.specs.Taken.{AdoptState, KeepsTrack, span_bytes, spans_of}
 use Rattle.adopt.proofs.Columns.{bytes_last}
-use Rattle.adopt.proofs.Taking.{count_last, cut_left, taken_closed, taken_inside, taken_left, taken_none, taken_on}
+use Rattle.adopt.specs.Adopting.{BreaksNow, NextMeansCells}
+use Rattle.adopt.proofs.Taking.{taken_breaks, taken_means, count_last, cut_left, taken_closed, taken_inside, taken_left, taken_none, taken_on}
 use Rattle.adopt.proofs.Tracking.{put_first}
 
 -- the sum of what is held and of a column fits
@@ -41,8 +42,9 @@ module _ (names : List (List ℕ)) (version image_len : ℕ) (d : Directory) (pl
     column_fails result NoMemory is takes =
         subst (AdoptsOn region state new) (sym is) (subst (IsLeftBehind region) (sym (takes closed)) (taken_left region old state adopting init s front left))
 
-    pub column_none : (IsClosed old → TakesSpan s old new (Ok None)) → IsNoImage region × IsLeftBehind region new
+    pub column_none : (IsClosed old → TakesSpan s old new (Ok None)) → BreaksNow region state × IsNoImage region × IsLeftBehind region new
     column_none takes = (
+      taken_breaks region old state adopting init s front left (takes closed).0,
       taken_none region old state adopting init s front left (takes closed).0,
       subst (IsLeftBehind region) (sym (takes closed).1) (taken_left region old state adopting init s front left),
     )
@@ -51,11 +53,12 @@ module _ (names : List (List ℕ)) (version image_len : ℕ) (d : Directory) (pl
     put_fails result bytes is takes = subst (AdoptsOn region state new) (sym is) (cut_left region old state adopting init s front left new (takes closed).1)
 
     pub column_taken : (bytes : List ℕ) (now : List (List ℕ)) (b : AdoptState) → (IsClosed old → TakesSpan s old new (Ok (Some bytes))) → now ≡ taken ++ bytes ∷ []
-        → b ≡ record { names = names; version = version; image_len = image_len; directory = d; left = length init; heap = reverse now } → Adopting region b new × (suc (length init) ≡ length all) × IsInImage b new
+        → b ≡ record { names = names; version = version; image_len = image_len; directory = d; left = length init; heap = reverse now } → Adopting region b new × (suc (length init) ≡ length all) × IsInImage b new × NextMeansCells region state
     column_taken bytes now b takes put later =
         let own = later ∙ ap (λ (h : List (List ℕ)). record { names = names; version = version; image_len = image_len; directory = d; left = length init; heap = h }) (put_first taken now bytes put) in
         let got = takes closed in (
           taken_on region old state adopting init s front left new bytes b got.0 got.1 own,
           sym (left ∙ count_last init s),
           taken_inside region old state adopting init s front left new bytes b got.0 got.1 own,
+          taken_means region old state adopting init s front left got.2,
         )

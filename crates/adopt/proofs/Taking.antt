@@ -7,6 +7,9 @@ use Rattle.region_layout.specs.Region.{IsClosed}
 use Rattle.region_directory.specs.declared.directory.Place.{Place}
 use Rattle.region_directory.specs.Directory.{columns_of}
 use Rattle.region_directory.specs.Region.{column_in, directory_from}
+use Rattle.std.specs.Prelude.{IfSome, slice_get}
+use Rattle.std.proofs.Common.{inr, length-append, Option, Some}
+use Rattle.adopt.specs.Adopting.{BreaksNow, NextMeansCells, next_span}
 use Rattle.adopt.specs.declared.spans.Span.{Span}
 use Rattle.adopt.specs.Adopting.{Adopting, IsInImage, IsLeftBehind, IsNoImage, cut_at}
 use Rattle.adopt.specs.Finding.{bytes_at, closed_flag}
@@ -42,6 +45,10 @@ begins_inside region now a adopting =
     let len = adopting.len in
     let inside = directory_inside a.version region a.directory adopting.has in
     omega (arith, cut_is, heap, both, cut, size, len, inside)
+
+span_there : (init : List Span) (s : Span) (rest : List Span) → slice_get (init ++ s ∷ rest) (length init) ≡ Some s
+span_there [] s rest = refl
+span_there (t ∷ init) s rest = span_there init s rest
 
 -- Of an image so much was taken that this column is the last one left.
 module _ (region now : List ℕ) (a : AdoptState) (adopting : Adopting region a now) (init : List Span) (s : Span)
@@ -112,6 +119,27 @@ module _ (region now : List ℕ) (a : AdoptState) (adopting : Adopting region a 
   pub taken_none : (MeanCells (bytes_at now s) s.rows → ⊥) → IsNoImage region
   taken_none fails =
       no_cells a.version region a.directory init s rest adopting.has split (λ means. fails (subst (λ (l : List ℕ). MeanCells l s.rows) (sym bytes_is) means))
+
+  next_is : next_span a ≡ Some s
+  next_is =
+      let last : a.left - 1 ≡ length init = omega (arith, left, length-append init (s ∷ [])) in
+      ap₂ (λ (l : List Span) (n : ℕ). slice_get l n) split last ∙ span_there init s rest
+
+  bytes_there : bytes_at now s ≡ bytes_at region s
+  bytes_there = let back : s.place + s.length - s.place ≡ s.length = omega arith in bytes_is ∙ ap (λ (n : ℕ). take n (drop s.place region)) back
+
+  means_there : MeanCells (bytes_at now s) s.rows → MeanCells (bytes_at region s) s.rows
+  means_there means = subst (λ (l : List ℕ). MeanCells l s.rows) bytes_there means
+
+  pub taken_means : MeanCells (bytes_at now s) s.rows → NextMeansCells region a
+  taken_means means = subst (λ (o : Option Span). IfSome o (λ t. MeanCells (bytes_at region t) t.rows)) (sym next_is) (means_there means)
+
+  pub taken_breaks : (MeanCells (bytes_at now s) s.rows → ⊥) → BreaksNow region a
+  taken_breaks fails =
+      inr (
+        omega (arith, left, length-append init (s ∷ [])),
+        λ means. fails (subst (λ (l : List ℕ). MeanCells l s.rows) (sym bytes_there) (subst (λ (o : Option Span). IfSome o (λ t. MeanCells (bytes_at region t) t.rows)) next_is means)),
+      )
 
   behind_is : a.heap ≡ map (span_in region) rest
   behind_is = adopting.heap ∙ ap₂ (λ (n : ℕ) (l : List (List ℕ)). drop n l) count bytes_are ∙ behind_split (span_in region) init s rest

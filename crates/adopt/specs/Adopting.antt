@@ -1,5 +1,5 @@
 -- What a look finds, and what is left in the region between the steps of an adoption.
-use Rattle.std.specs.Prelude.{◌≡◌, ◌⊎◌, ℕ, suc, ◌+◌, ◌<◌, ◌≤◌, ◌^◌, true, false, not, List, [], ◌∷◌, length, map, take, drop, get_or, Option, Some, None, Result, Ok, Err, ⊤, Contains, bytes_eq}
+use Rattle.std.specs.Prelude.{◌≡◌, ◌⊎◌, ℕ, suc, ◌+◌, ◌-◌, ◌<◌, ◌≤◌, ◌^◌, true, false, not, List, [], ◌∷◌, length, map, take, drop, get_or, slice_get, IfSome, Option, Some, None, Result, Ok, Err, ⊤, Contains, bytes_eq}
 use Rattle.std.specs.List.{AllByRecursion, find, list_any}
 use Rattle.berth_face.specs.Berth.{Pair, Meaning}
 use Rattle.column_bytes.specs.Coding.{joined}
@@ -23,6 +23,11 @@ use Rattle.table_state.specs.Tables.{IsParts}
 use Rattle.region_directory.specs.Directory.{columns_of}
 use Rattle.region_directory.specs.Region.{HasDirectory, IsAdoptable, column_in, directory_from, reads}
 use Rattle.region_directory.specs.Drained.{images_of}
+use Rattle.row_blocks.specs.Columns.{MeanCells}
+use Rattle.region_directory.specs.Region.{parts_in}
+use Rattle.adopt.specs.declared.spans.Span.{Span}
+use Rattle.adopt.specs.Finding.{bytes_at}
+use Rattle.adopt.specs.Taken.{spans_of}
 use Rattle.adopt.specs.Taken.{AdoptState}
 
 -- ---- why there are no tables
@@ -44,6 +49,19 @@ stranger_of names others = find (λ name. not (list_any (bytes_eq name) names)) 
 abbrev pub IsStranger : List (List ℕ) → List ℕ → List ℕ → Type 0
 IsStranger names region name = (version : ℕ) × (d : Directory) × (reads version ≡ true) × HasDirectory version region d
     × (stranger_of names (map (λ (t : TablePlaces). t.name) d.tables) ≡ Some name)
+
+-- the region's directory, where it has one that is read, names no stranger
+abbrev pub HasNoStranger : List (List ℕ) → List ℕ → Type 0
+HasNoStranger names region = (name : List ℕ) → IsStranger names region name → ⊥
+
+-- why a leaf with these names finds no tables: of a directory with a stranger it is told the stranger, whatever its columns are
+abbrev pub IsWhyFor : List (List ℕ) → List ℕ → WhyDisk → Type 0
+IsWhyFor names region why.NoImage = IsWhy region why.NoImage × HasNoStranger names region
+IsWhyFor names region w = IsWhy region w
+
+-- the letters, or the bytes behind the columns, make no directory
+abbrev pub HasNoDirectory : List ℕ → Type 0
+HasNoDirectory region = (version : ℕ) (d : Directory) → HasDirectory version region d → ⊥
 
 -- ---- what a look leaves of a region
 
@@ -103,7 +121,7 @@ abbrev pub Finds : List (List ℕ) → List ℕ → List ℕ → Result Found Ad
 Finds names old new (Ok found.NoHead) = IsWhy old why.NoHead × (new ≡ old)
 Finds names old new (Ok (found.Closed flag)) = IsWhy old (why.Closed flag) × (new ≡ old)
 Finds names old new (Ok (found.OtherVersion version)) = IsWhy old (why.OtherVersion version) × IsLeftBehind old new
-Finds names old new (Ok found.NoImage) = IsWhy old why.NoImage × IsLeftBehind old new
+Finds names old new (Ok found.NoImage) = ((version : ℕ) × (head_of old ≡ head.Version version) × (reads version ≡ true)) × HasNoDirectory old × IsLeftBehind old new
 Finds names old new (Ok (found.Stranger name)) = IsStranger names old name × IsLeftBehind old new
 Finds names old new (Ok (found.Ready a)) = Adopting old a new × (a.names ≡ names) × (a.heap ≡ []) × IsInImage a new
 Finds names old new (Err RegionFault) = IsBroken old new
@@ -126,10 +144,23 @@ pub record AreDrained (names : List (List ℕ)) (tables : List DrainTable) : Typ
   pub parts : AllByRecursion (λ (t : DrainTable). IsParts t.parts) tables
   pub writes : AllByRecursion (λ (t : DrainTable). t.parts.writes < 2 ^ 63) tables
 
+-- the column that the next step of an adoption takes: the last that is left
+abbrev pub next_span : AdoptState → Option Span
+next_span a = slice_get (spans_of a.directory) (a.left - 1)
+
+-- it has as many cells as its block has rows
+abbrev pub NextMeansCells : List ℕ → AdoptState → Type 0
+NextMeansCells region a = IfSome (next_span a) (λ s. MeanCells (bytes_at region s) s.rows)
+
+-- a step finds no image: none is left, and the blocks are no tables; or the next column means no such cells
+abbrev pub BreaksNow : List ℕ → AdoptState → Type 0
+BreaksNow region a = ((a.left ≡ 0) × (AllByRecursion (λ (t : TablePlaces). IsParts (parts_in region t)) a.directory.tables → ⊥))
+    ⊎ ((0 < a.left) × (NextMeansCells region a → ⊥))
+
 -- A step of the adoption of this image, by what it answers and the region that it leaves.
 abbrev pub AdoptsOn : List ℕ → AdoptState → List ℕ → Result AdoptStep AdoptFault → Type 0
-AdoptsOn region a new (Ok (More b)) = Adopting region b new × (suc b.left ≡ a.left) × IsInImage b new
-AdoptsOn region a new (Ok NoImage) = IsNoImage region × IsLeftBehind region new
+AdoptsOn region a new (Ok (More b)) = Adopting region b new × (suc b.left ≡ a.left) × IsInImage b new × NextMeansCells region a
+AdoptsOn region a new (Ok NoImage) = BreaksNow region a × IsNoImage region × IsLeftBehind region new
 AdoptsOn region a new (Ok (Finished tables log_end)) = IsAdoptable region (images_of tables) log_end × IsLeftBehind region new
 AdoptsOn region a new (Err RegionFault) = IsClosed new
 AdoptsOn region a new (Err NoMemory) = IsLeftBehind region new

@@ -54,6 +54,6 @@ bytes_at region s = take s.length (drop s.place region)
 -- The column was read, and the region is cut where it stood; or it has another number of cells than its block has rows.
 abbrev pub TakesSpan : Span → List ℕ → List ℕ → Result (Option (List ℕ)) AdoptFault → Type 0
 TakesSpan s old new (Ok None) = (MeanCells (bytes_at old s) s.rows → ⊥) × (new ≡ old)
-TakesSpan s old new (Ok (Some bytes)) = (bytes ≡ bytes_at old s) × (new ≡ take s.place old)
+TakesSpan s old new (Ok (Some bytes)) = (bytes ≡ bytes_at old s) × (new ≡ take s.place old) × MeanCells (bytes_at old s) s.rows
 TakesSpan s old new (Err RegionFault) = IsClosed new
 TakesSpan s old new (Err NoMemory) = new ≡ old

@@ -15,7 +15,7 @@ use Rattle.adopt.specs.declared.found.Drained.{Drained}
 use Rattle.adopt.specs.declared.found.Adopted.{Adopted}
 use Rattle.adopt.specs.declared.found.Adoption.{Adoption}
 use Rattle.adopt.specs.declared.found.Adoption.TheVariants.{NoTables, Stranger, Tables}
-use Rattle.adopt.specs.Adopting.{Adopting, AreDrained, ClosedFrom, IsBroken, IsLeftBehind, IsNoImage, IsStranger, IsWhy, stranger_of}
+use Rattle.adopt.specs.Adopting.{Adopting, AreDrained, ClosedFrom, IsBroken, IsLeftBehind, IsNoImage, IsStranger, IsWhyFor, stranger_of}
 use Rattle.adopt.specs.Taken.{AdoptState}
 
 -- ---- all columns of an image
@@ -50,7 +50,7 @@ pub record AreArranged (names : List (List ℕ)) (d : Drained) (a : Adopted) : T
 
 -- The tables of these names out of the region's image, none of whose tables has another name; or why there are none.
 abbrev pub IsAdoption : List (List ℕ) → List ℕ → Adoption → Type 0
-IsAdoption names region (NoTables why) = IsWhy region why
+IsAdoption names region (NoTables why) = IsWhyFor names region why
 IsAdoption names region (Stranger name) = IsStranger names region name
 IsAdoption names region (Tables a) = (images : List TableImage) × IsAdoptable region images a.log_end × (stranger_of names (image_names images) ≡ None) × (a.tables ≡ tables_of names images)
 

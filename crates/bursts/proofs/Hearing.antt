@@ -1,5 +1,5 @@
 -- What the watches hear of commands one after another, and which lane has the rollover.
-use Rattle.std.proofs.Common.{◌≡◌, ◌⊎◌, inl, inr, ℕ, ◌+◌, ◌≤◌, ◌||◌, Bool, true, false, cond, List, [], ◌∷◌, ◌++◌, length, refl, ap, subst, ◌∙◌, arith}
+use Rattle.std.proofs.Common.{◌≡◌, ◌⊎◌, inl, inr, ℕ, ◌+◌, ◌≤◌, ◌||◌, Bool, true, false, cond, List, [], ◌∷◌, ◌++◌, length, Option, refl, sym, ap, subst, ◌∙◌, arith}
 use Rattle.std.specs.List.{filter}
 use Rattle.berth_face.specs.Berth.{Meaning}
 use Rattle.script_text.specs.declared.command.Command.{Command}
@@ -12,7 +12,7 @@ use Rattle.script_text.specs.declared.fleet.Fleet.{Fleet}
 use Rattle.transcript.specs.Pieces.{Piece, Played, commands_in}
 use Rattle.transcript.specs.Holds.{Hold}
 use Rattle.transcript.specs.Watching.{Hears, HearsAll}
-use Rattle.bursts.specs.Played.{LanePlayed}
+use Rattle.bursts.specs.Went.{LaneWent}
 use Rattle.bursts.specs.Rolling.{has_rollover, is_rollover, one_if, rolling}
 use Rattle.bursts.proofs.Needed.{or_left, or_right}
 
@@ -48,16 +48,27 @@ quiet fleet (p ∷ ps) ws never =
     let both = or_false (is_rollover p.command) (has_rollover (commands_in ps)) never in
     (ws, quiet_one fleet p.command p.pieces ws both.0, quiet fleet ps ws both.1)
 
+or_none : (a b : Bool) → a ≡ false → b ≡ false → (a || b) ≡ false
+or_none a b p q = cc
+
+-- where a lane has no rollover, none of its first commands is one
+front_never : (front rest : List Command) → has_rollover (front ++ rest) ≡ false → has_rollover front ≡ false
+front_never [] rest never = refl
+front_never (c ∷ front) rest never =
+    let both = or_false (is_rollover c) (has_rollover (front ++ rest)) never in
+    or_none (is_rollover c) (has_rollover front) both.0 (front_never front rest both.1)
+
 -- a lane without a rollover leaves any watches as they are
-pub quiet_lane : {B : Type 0} (meaning : B → Meaning) (fleet : Fleet) (lane : List Command) (xs : List (Hold B)) (old : List Held) (lines : List Line) (ys : List (Hold B)) (new : List Held)
-    → LanePlayed meaning fleet lane xs old lines ys new → has_rollover lane ≡ false → (ws : List Held) → LanePlayed meaning fleet lane xs ws lines ys ws
+pub quiet_lane : {B : Type 0} (meaning : B → Meaning) (fleet : Fleet) (lane : List Command) (xs : List (Hold B)) (old : List Held) (lines : Option (List Line)) (ys : List (Hold B)) (new : List Held)
+    → LaneWent meaning fleet lane xs old lines ys new → has_rollover lane ≡ false → (ws : List Held) → LaneWent meaning fleet lane xs ws lines ys ws
 quiet_lane meaning fleet lane xs old lines ys new l never ws = record {
   played = l.played;
+  rest = l.rest;
   commands_are = l.commands_are;
   plays = l.plays;
   counted = l.counted;
   fit = l.fit;
-  heard = quiet fleet l.played ws (ap (λ (cs : List Command). has_rollover cs) l.commands_are ∙ never);
+  heard = quiet fleet l.played ws (front_never (commands_in l.played) l.rest (ap (λ (cs : List Command). has_rollover cs) (sym l.commands_are) ∙ never));
   lines_are = l.lines_are;
 }
 

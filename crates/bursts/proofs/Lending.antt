@@ -2,7 +2,7 @@
 use Rattle.std.proofs.Common.{◌≡◌, ℕ, zero, suc, ◌+◌, ◌<◌, Bool, true, List, [], ◌∷◌, ◌++◌, length, take, drop, refl, sym, ap, subst, ◌∙◌, arith}
 use Rattle.std.proofs.Math.Seq.{take-append_seam}
 use Rattle.std.specs.List.{AllByRecursion}
-use Rattle.std.specs.Prelude.{slice_index_or, IfSome, None}
+use Rattle.std.specs.Prelude.{slice_index_or, None}
 use Rattle.berth_face.specs.Berth.{Meaning}
 use Rattle.leaf_table.specs.Turns.{Shared}
 use Rattle.script_text.specs.declared.command.Command.{Command}
@@ -13,12 +13,14 @@ use Rattle.transcript.specs.Lanes.{CutsOff}
 use Rattle.player.specs.Crew.{AllPass, CrewState, StillHas, is_set}
 use Rattle.bursts.specs.declared.work.LaneWork.{LaneWork}
 use Rattle.bursts.specs.Lent.{IsDone, IsReady, IsWorked, Lent, MayWork}
-use Rattle.bursts.specs.Played.{LanePlayed, MayPlayOn}
+use Rattle.bursts.specs.Played.{MayPlayOn}
+use Rattle.bursts.specs.Went.{LaneWent, own_lines}
+use Rattle.bursts.proofs.Playing.{plays_none}
 use Rattle.bursts.specs.Rolling.{has_rollover}
 use Rattle.bursts.specs.declared.plan.Plan.{Plan}
 use Rattle.bursts.specs.Needs.{CanLend}
 use Rattle.bursts.proofs.Cutting.{lane_ready}
-use Rattle.bursts.proofs.Held.{pass_none, still_same}
+use Rattle.bursts.proofs.Held.{counted_none, pass_none, still_same}
 
 -- ---- lists
 
@@ -134,6 +136,19 @@ module _ {B X : Type 0} {Y : X → Type 0} (count : ℕ) (P Q : List Command →
       (lent_becomes xs earlier last.front later between lent last.pairs) cut (keeps lane off work last.last one last.is)
       (ap (λ (n : ℕ). n + suc (length later)) (numbers work last.last last.is) ∙ number) last.are are
 
+-- of a lane that has not begun nothing was played
+lane_idle : {B : Type 0} (meaning : B → Meaning) (fleet : Fleet) (lane : List Command) (xs : List (Hold B)) (ws : List Held) → LaneWent meaning fleet lane xs ws None xs ws
+lane_idle meaning fleet lane xs ws = record {
+  played = [];
+  rest = lane;
+  commands_are = refl;
+  plays = plays_none meaning fleet xs;
+  counted = counted_none meaning xs;
+  fit = tt;
+  heard = refl;
+  lines_are = tt;
+}
+
 -- ---- lanes that play
 
 module _ {B X : Type 0} {Y : X → Type 0} (hear : LaneWork B X Y → List Held) (was : List Held) (meaning : B → Meaning) (fleet : Fleet) (tables : List (List Shared)) where
@@ -146,9 +161,9 @@ module _ {B X : Type 0} {Y : X → Type 0} (hear : LaneWork B X Y → List Held)
     rolls = done.rolls ∙ ready.rolls;
     had = hear w;
     watches = ready.watches;
-    played = subst (λ (hs : List (Hold B)). IfSome w'.lines (λ lines. LanePlayed meaning fleet lane hs (hear w) lines.items w'.crew.holds (hear w'))) ready.off_is
-        (subst (λ (cs : List Command). IfSome w'.lines (λ lines. LanePlayed meaning fleet cs w.crew.holds (hear w) lines.items w'.crew.holds (hear w'))) ready.lane_is
-        (subst (λ (f : Fleet). IfSome w'.lines (λ lines. LanePlayed meaning f w.commands.items w.crew.holds (hear w) lines.items w'.crew.holds (hear w'))) ready.fleet_is done.played));
+    went = subst (λ (hs : List (Hold B)). LaneWent meaning fleet lane hs (hear w) (own_lines w'.lines) w'.crew.holds (hear w')) ready.off_is
+        (subst (λ (cs : List Command). LaneWent meaning fleet cs w.crew.holds (hear w) (own_lines w'.lines) w'.crew.holds (hear w')) ready.lane_is
+        (subst (λ (f : Fleet). LaneWent meaning f w.commands.items w.crew.holds (hear w) (own_lines w'.lines) w'.crew.holds (hear w')) ready.fleet_is done.went));
   }
 
   -- a lane that did not begin
@@ -159,9 +174,10 @@ module _ {B X : Type 0} {Y : X → Type 0} (hear : LaneWork B X Y → List Held)
     still = subst (λ (hs : List (Hold B)). StillHas off hs) (sym ready.off_is) (still_same off);
     time = subst (λ (hs : List (Hold B)). AllPass meaning off hs) (sym ready.off_is) (pass_none meaning off);
     rolls = ready.rolls;
-    had = was;
-    watches = λ rolls. refl;
-    played = subst (λ o. IfSome o (λ lines. LanePlayed meaning fleet lane off was lines.items w.crew.holds (hear w))) (sym ready.unplayed) tt;
+    had = hear w;
+    watches = ready.watches;
+    went = subst (λ o. LaneWent meaning fleet lane off (hear w) (own_lines o) w.crew.holds (hear w)) (sym ready.unplayed)
+        (subst (λ (hs : List (Hold B)). LaneWent meaning fleet lane off (hear w) None hs (hear w)) (sym ready.off_is) (lane_idle meaning fleet lane off (hear w)));
   }
 
   pub all_idle : (count : ℕ) (xs : List (Hold B)) (works : List (LaneWork B X Y)) (lanes : List (List Command)) (rest : List (Hold B))

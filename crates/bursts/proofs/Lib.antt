@@ -7,3 +7,4 @@ pub mod Cutting
 pub mod Lending
 pub mod Taking
 pub mod Items
+pub mod Idle

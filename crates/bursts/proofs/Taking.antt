@@ -13,7 +13,7 @@ use Rattle.printed_lines.specs.declared.line.Line.{Line}
 use Rattle.printed_lines.specs.declared.line.Line.TheVariants.{Lane}
 use Rattle.printed_lines.specs.Lines.{IsOf}
 use Rattle.script_text.specs.declared.fleet.Fleet.{Fleet}
-use Rattle.transcript.specs.Pieces.{Deed, Piece, pieces_in}
+use Rattle.transcript.specs.Pieces.{Deed, Piece, Played, commands_in, lane_lines, lines_in, pieces_in}
 use Rattle.transcript.specs.Counts.{deeds_in}
 use Rattle.transcript.specs.Holds.{Hold, caller_in}
 use Rattle.transcript.specs.Stage.{Leaf}
@@ -21,14 +21,19 @@ use Rattle.transcript.specs.Lanes.{ComesBack, CutsOff, CutsOffAt, Fans, TakesBac
 use Rattle.player.specs.Crew.{AllCounted, AllPass, CountedIf, CrewState, HasSeats, MayTakeBack, PassesIf, SameSeats, StillHas}
 use Rattle.bursts.specs.declared.work.LaneWork.{LaneWork}
 use Rattle.bursts.specs.Lent.{IsWorked, Lent, TakenBack, TakingBack}
-use Rattle.bursts.specs.Played.{FansPlayed, IsBehind, LanePlayed, all_of}
+use Rattle.bursts.specs.Played.{IsBehind, all_of}
+use Rattle.bursts.specs.Went.{AreBegun, FansWent, LaneWent, own_lines, told_lines}
+use Rattle.std.specs.Prelude.{map, ⊤}
+use Rattle.std.proofs.lemmas.List.{map-append}
+use Rattle.std.proofs.lemmas.Grind.{flat_map-append}
+use Rattle.bursts.proofs.Idle.{idle, idle_before, idle_snoc}
 use Rattle.bursts.specs.Rolling.{Between, has_rollover, one_if, rolling}
 use Rattle.transcript.specs.Watching.{HearsAll}
 use Rattle.bursts.proofs.Hearing.{one_if_false, one_if_true, quiet_lane, rolling_append, watched_join}
 use Rattle.bursts.proofs.Held.{counted_first, counted_none, counted_second, pass_none, still_same, there_too}
 use Rattle.bursts.proofs.Cutting.{rest_same}
 use Rattle.bursts.proofs.Lending.{Last, lent_last, lent_nothing}
-use Rattle.bursts.proofs.Playing.{all_append, all_snoc, lane_snoc, lanes_snoc, pieces_all_snoc, same_count}
+use Rattle.bursts.proofs.Playing.{all_append, all_done, all_snoc, begun_append, lane_snoc, lanes_snoc, pieces_all_snoc, same_count, unplayed, unplayed_all, unplayed_begin, unplayed_fit}
 
 no_some : {A : Type 0} (h : Option A) → is_some h ≡ false → h ≡ None
 no_some None e = refl
@@ -184,32 +189,80 @@ module _ {B : Type 0} (needs acts : ℕ → Bool) (xs off rest off' rest' : List
 
 -- ---- lanes
 
-module _ {B : Type 0} (meaning : B → Meaning) (fleet : Fleet) where
-  pub fans_begin : (xs : List (Hold B)) (ws : List Held) (lines : List Line) → lines ≡ [] → FansPlayed meaning fleet [] xs ws lines xs ws
+unplayed_idle : (lanes : List (List Command)) → unplayed lanes ≡ idle (length lanes)
+unplayed_idle [] = refl
+unplayed_idle (lane ∷ lanes) = ap (λ ps. [] ∷ ps) (unplayed_idle lanes) ∙ sym (idle_snoc (length lanes))
+
+-- ---- the lines of one lane more
+
+abbrev pub IsMore : ℕ → Option (List Line) → Option (List Line) → List Line → Type 0
+IsMore number lines own all = (ls : List Line) × (os : List Line) × (lines ≡ Some ls) × (own ≡ Some os) × (all ≡ ls ++ Lane number ∷ os)
+
+behind_told : {E : Type 0} (number : ℕ) (lines after : Result (Vec Line Global) E) (own : Option (Vec Line Global)) → IfOk after (λ all. IsBehind lines number own all.items)
+    → IfSome (told_lines after) (IsMore number (told_lines lines) (own_lines own))
+behind_told number lines (Err e) own b = tt
+behind_told {E} number lines (Ok all) own b =
+    (b.before.items, b.its.items, ap (λ (r : Result (Vec Line Global) E). told_lines r) b.lines_are, ap (λ (o : Option (Vec Line Global)). own_lines o) b.own_is, b.all_are)
+
+lines_more : (played : List (List Played)) (p : List Played) (back : List (List Command)) (lane : List Command) (number : ℕ) (lines own all : Option (List Line)) (rest : List Command)
+    → lane ≡ commands_in p ++ rest
+    → IfSome lines (λ ls. (map commands_in played ≡ back) × (ls ≡ lane_lines 0 played)) → IfSome own (λ ls. (rest ≡ []) × (ls ≡ lines_in (pieces_in p)))
+    → length back ≡ number → IfSome all (IsMore number lines own)
+    → IfSome all (λ ls. (map commands_in (played ++ p ∷ []) ≡ back ++ lane ∷ []) × (ls ≡ lane_lines 0 (played ++ p ∷ [])))
+lines_more played p back lane number lines own None rest commands a b count more = tt
+lines_more played p back lane number lines own (Some all) rest commands a b count more =
+    let firsts = subst (λ o. IfSome o (λ ls. (map commands_in played ≡ back) × (ls ≡ lane_lines 0 played))) more.2 a in
+    let its = subst (λ o. IfSome o (λ ls. (rest ≡ []) × (ls ≡ lines_in (pieces_in p)))) more.3 b in (
+      lanes_snoc played p ∙ ap₂ (λ (ls : List (List Command)) (l : List Command). ls ++ l ∷ []) firsts.0 (sym (all_done lane p rest commands its.0)),
+      more.4 ∙ (ap₂ (λ (ls ms : List Line). ls ++ Lane number ∷ ms) firsts.1 its.1 ∙ sym (lane_snoc 0 played p number (same_count played back number firsts.0 count))),
+    )
+
+module _ {B : Type 0} (meaning : B → Meaning) (fleet : Fleet) (whole : Type 0) where
+  pub fans_begin : (xs : List (Hold B)) (ws : List Held) (lines : Option (List Line)) → IfSome lines (λ ls. ls ≡ []) → FansWent meaning fleet whole [] xs ws lines xs ws
   fans_begin xs ws lines empty = record {
     played = [];
-    lanes_are = refl;
+    begun = tt;
     fans = Fans.none xs [] xs refl refl;
     counted = counted_none meaning xs;
-    fit = subst (AllByRecursion (IsOf fleet.names)) (sym empty) tt;
+    fit = tt;
     heard = refl;
-    lines_are = empty;
+    lines_are = λ w. by lines empty;
   }
+    where
+      by : (o : Option (List Line)) → IfSome o (λ ls. ls ≡ []) → IfSome o (λ ls. (map commands_in [] ≡ []) × (ls ≡ lane_lines 0 []))
+      by None e = tt
+      by (Some ls) e = (refl, e)
 
   pub fans_go_on : (needs acts : ℕ → Bool) (xs off rest off' rest' zs : List (Hold B)) → CutsOff needs acts xs off rest → TakesBack meaning rest' off' zs
-      → (back : List (List Command)) (lane : List Command) (us vs ws : List Held) (lines own all : List Line) (number : ℕ) → FansPlayed meaning fleet back rest us lines rest' vs
-      → LanePlayed meaning fleet lane off vs own off' ws → length back ≡ number → all ≡ lines ++ Lane number ∷ own → FansPlayed meaning fleet (back ++ lane ∷ []) xs us all zs ws
-  fans_go_on needs acts xs off rest off' rest' zs cut takes back lane us vs ws lines own all number a b count is = record {
+      → (back : List (List Command)) (lane : List Command) (us vs ws : List Held) (lines own all : Option (List Line)) (number : ℕ) → FansWent meaning fleet whole back rest us lines rest' vs
+      → LaneWent meaning fleet lane off vs own off' ws → (whole → length back ≡ number) → IfSome all (IsMore number lines own) → FansWent meaning fleet whole (back ++ lane ∷ []) xs us all zs ws
+  fans_go_on needs acts xs off rest off' rest' zs cut takes back lane us vs ws lines own all number a b count more = record {
     played = a.played ++ b.played ∷ [];
-    lanes_are = lanes_snoc a.played b.played ∙ ap₂ (λ (ls : List (List Command)) (l : List Command). ls ++ l ∷ []) a.lanes_are b.commands_are;
+    begun = subst (λ ls. AreBegun ls (back ++ lane ∷ [])) (sym (lanes_snoc a.played b.played)) (begun_append (map commands_in a.played) back (commands_in b.played ∷ []) (lane ∷ []) a.begun ((b.rest, b.commands_are), tt));
     fans = Fans.beside xs (a.played ++ b.played ∷ []) zs a.played b.played needs acts off rest rest' off' cut a.fans b.plays takes refl;
     counted = subst (λ ps. AllCounted meaning ps xs zs) (sym (pieces_all_snoc a.played b.played))
         (counts_back meaning needs acts xs off rest off' rest' zs cut takes (pieces_in (all_of a.played)) (pieces_in b.played) b.counted a.counted);
-    fit = subst (AllByRecursion (IsOf fleet.names)) (sym is) (all_append (IsOf fleet.names) lines (Lane number ∷ own) a.fit (tt, b.fit));
+    fit = all_append (λ (l : List Played). AllByRecursion (IsOf fleet.names) (lines_in (pieces_in l))) a.played (b.played ∷ []) a.fit (b.fit, tt);
     heard = subst (λ ps. HearsAll fleet ps us ws) (sym (all_snoc a.played b.played)) (watched_join fleet (all_of a.played) b.played us vs ws a.heard b.heard);
-    lines_are = is ∙ (ap₂ (λ (ls ms : List Line). ls ++ Lane number ∷ ms) a.lines_are b.lines_are
-        ∙ sym (lane_snoc 0 a.played b.played number (same_count a.played back number a.lanes_are count)));
+    lines_are = λ w. lines_more a.played b.played back lane number lines own all b.rest b.commands_are (a.lines_are w) b.lines_are (count w) more;
   }
+
+  -- before them others may stand of which nothing was played
+  pub fans_short : (front back : List (List Command)) (xs : List (Hold B)) (us : List Held) (lines : Option (List Line)) (ys : List (Hold B)) (vs : List Held) → FansWent meaning fleet whole back xs us lines ys vs
+      → FansWent meaning fleet ⊤ (front ++ back) xs us None ys vs
+  fans_short front back xs us lines ys vs a =
+      let same : all_of (unplayed front ++ a.played) ≡ all_of a.played =
+      flat_map-append (λ (q : List Played). q) (unplayed front) a.played ∙ ap (λ (qs : List Played). qs ++ all_of a.played) (unplayed_all front) in
+      record {
+        played = unplayed front ++ a.played;
+        begun = subst (λ ls. AreBegun ls (front ++ back)) (sym (map-append commands_in (unplayed front) a.played))
+            (begun_append (map commands_in (unplayed front)) front (map commands_in a.played) back (unplayed_begin front) a.begun);
+        fans = subst (λ ps. Fans meaning fleet xs (ps ++ a.played) ys) (sym (unplayed_idle front)) (idle_before meaning fleet (length front) xs a.played ys a.fans);
+        counted = subst (λ qs. AllCounted meaning (pieces_in qs) xs ys) (sym same) a.counted;
+        fit = all_append (λ (l : List Played). AllByRecursion (IsOf fleet.names) (lines_in (pieces_in l))) (unplayed front) a.played (unplayed_fit fleet.names front) a.fit;
+        heard = subst (λ qs. HearsAll fleet qs us vs) (sym same) a.heard;
+        lines_are = λ w. tt;
+      }
 
 module _ {B X E : Type 0} {Y : X → Type 0} (hear : LaneWork B X Y → List Held) (meaning : B → Meaning) (fleet : Fleet) (tables : List (List Shared)) (count : ℕ) (cut : List (List Command)) (was : List Held) (xs : List (Hold B)) (left : List Held) where
   pub taking_begins : (works : List (LaneWork B X Y)) (lines : Result (Vec Line Global) E) (ys : List (Hold B)) → Lent count (IsWorked hear was meaning fleet tables) xs works cut ys
@@ -224,12 +277,13 @@ module _ {B X E : Type 0} {Y : X → Type 0} (hear : LaneWork B X Y → List Hel
     time = pass_none meaning ys;
     seats = seats;
     kept = λ none. refl;
-    played = λ all few before after same. by before after same lines empty;
+    went = λ few before after same. subst (λ (ws : List Held). FansWent meaning fleet (length cut ≡ count) [] ys before (told_lines lines) ys ws) (sym same)
+        (fans_begin meaning fleet (length cut ≡ count) ys before (told_lines lines) (by lines empty));
   }
     where
-      by : (before after : List Held) → after ≡ before → (r : Result (Vec Line Global) E) → IfOk r (λ ls. ls.items ≡ []) → IfOk r (λ ls. FansPlayed meaning fleet [] ys before ls.items ys after)
-      by before after same (Ok ls) none = subst (λ (ws : List Held). FansPlayed meaning fleet [] ys before ls.items ys ws) (sym same) (fans_begin meaning fleet ys before ls.items none)
-      by before after same (Err e) none = tt
+      by : (r : Result (Vec Line Global) E) → IfOk r (λ ls. ls.items ≡ []) → IfSome (told_lines r) (λ ls. ls ≡ [])
+      by (Ok ls) none = none
+      by (Err e) none = tt
 
   module _ (earlier : List (LaneWork B X Y)) (work : LaneWork B X Y) (works : List (LaneWork B X Y)) (lines : Result (Vec Line Global) E) (ys : List (Hold B)) (now : List Held) (taking : TakingBack hear meaning fleet tables count cut was xs works left lines ys now)
       (is : works ≡ earlier ++ work ∷ []) where
@@ -266,43 +320,32 @@ module _ {B X E : Type 0} {Y : X → Type 0} (hear : LaneWork B X Y → List Hel
     -- one lane more is back
     module _ (after : Result (Vec Line Global) E) (zs : List (Hold B)) (takes : TakesBack meaning ys work.crew.holds zs) (same : SameSeats ys zs) (behind : IfOk after (λ all. IsBehind lines work.number work.lines all.items))
         (told : List Held) where
-      -- its lines are behind the others, where the watches go on so
-      one_more : length cut ≡ count → (us vs ws : List Held) → IfOk lines (λ ls. FansPlayed meaning fleet taking.back taking.rest us ls.items ys vs)
-          → IfSome work.lines (λ ls. LanePlayed meaning fleet last.lane last.off vs ls.items work.crew.holds ws) → IfOk after (λ ls. FansPlayed meaning fleet (taking.back ++ last.lane ∷ []) last.between us ls.items zs ws)
-      one_more all us vs ws fans lane = by after behind
-        where
-          by : (r : Result (Vec Line Global) E) → IfOk r (λ all. IsBehind lines work.number work.lines all.items) → IfOk r (λ ls. FansPlayed meaning fleet (taking.back ++ last.lane ∷ []) last.between us ls.items zs ws)
-          by (Err e) b = tt
-          by (Ok ls) b =
-              fans_go_on meaning fleet last.needs last.acts last.between last.off taking.rest work.crew.holds ys zs last.cut takes taking.back last.lane us vs ws b.before.items b.its.items ls.items work.number
-              (subst (λ (r : Result (Vec Line Global) E). IfOk r (λ ms. FansPlayed meaning fleet taking.back taking.rest us ms.items ys vs)) b.lines_are fans)
-              (subst (λ (o : Option (Vec Line Global)). IfSome o (λ ms. LanePlayed meaning fleet last.lane last.off vs ms.items work.crew.holds ws)) b.own_is lane)
-              (number_is all) b.all_are
+      -- where the watches go on so
+      one_more : (us vs ws : List Held) → FansWent meaning fleet (length cut ≡ count) taking.back taking.rest us (told_lines lines) ys vs
+          → LaneWent meaning fleet last.lane last.off vs (own_lines work.lines) work.crew.holds ws → FansWent meaning fleet (length cut ≡ count) (taking.back ++ last.lane ∷ []) last.between us (told_lines after) zs ws
+      one_more us vs ws fans lane =
+          fans_go_on meaning fleet (length cut ≡ count) last.needs last.acts last.between last.off taking.rest work.crew.holds ys zs last.cut takes taking.back last.lane us vs ws
+          (told_lines lines) (own_lines work.lines) (told_lines after) work.number fans lane number_is (behind_told work.number lines after work.lines behind)
 
       -- a lane without a rollover left the watches where they were
-      quiet_more : has_rollover last.lane ≡ false → told ≡ now → length cut ≡ count → rolling cut ≤ 1 → (us vs : List Held) → Between (rolling (taking.back ++ last.lane ∷ [])) was told us vs
-          → IfOk after (λ ls. FansPlayed meaning fleet (taking.back ++ last.lane ∷ []) last.between us ls.items zs vs)
-      quiet_more never stay all few us vs between =
+      quiet_more : has_rollover last.lane ≡ false → told ≡ now → rolling cut ≤ 1 → (us vs : List Held) → Between (rolling (taking.back ++ last.lane ∷ [])) was told us vs
+          → FansWent meaning fleet (length cut ≡ count) (taking.back ++ last.lane ∷ []) last.between us (told_lines after) zs vs
+      quiet_more never stay few us vs between =
           let as_many : rolling (taking.back ++ last.lane ∷ []) ≡ rolling taking.back = omega (arith, lane_rolls, one_if_false (has_rollover last.lane) never) in
           let before = subst (λ (ws : List Held). Between (rolling taking.back) was ws us vs) stay (subst (λ (n : ℕ). Between n was told us vs) as_many between) in
-          one_more all us vs vs (taking.played all few us vs before) (by work.lines last.is.played)
-        where
-          by : (o : Option (Vec Line Global)) → IfSome o (λ ls. LanePlayed meaning fleet last.lane last.off last.is.had ls.items work.crew.holds (hear work))
-              → IfSome o (λ ls. LanePlayed meaning fleet last.lane last.off vs ls.items work.crew.holds vs)
-          by None played = tt
-          by (Some ls) played = quiet_lane meaning fleet last.lane last.off last.is.had ls.items work.crew.holds (hear work) played never vs
+          one_more us vs vs (taking.went few us vs before) (quiet_lane meaning fleet last.lane last.off last.is.had (own_lines work.lines) work.crew.holds (hear work) last.is.went never vs)
 
       -- the lane with the rollover had the watches
-      rolls_more : has_rollover last.lane ≡ true → told ≡ hear work → length cut ≡ count → rolling cut ≤ 1 → (us vs : List Held) → Between (rolling (taking.back ++ last.lane ∷ [])) was told us vs
-          → IfOk after (λ ls. FansPlayed meaning fleet (taking.back ++ last.lane ∷ []) last.between us ls.items zs vs)
-      rolls_more sure comes all few us vs between =
+      rolls_more : has_rollover last.lane ≡ true → told ≡ hear work → rolling cut ≤ 1 → (us vs : List Held) → Between (rolling (taking.back ++ last.lane ∷ [])) was told us vs
+          → FansWent meaning fleet (length cut ≡ count) (taking.back ++ last.lane ∷ []) last.between us (told_lines after) zs vs
+      rolls_more sure comes few us vs between =
           let none : rolling taking.back ≡ 0 = omega (arith, all_roll, few, one_if_true (has_rollover last.lane) sure) in
           let one : rolling (taking.back ++ last.lane ∷ []) ≡ 1 = omega (arith, lane_rolls, none, one_if_true (has_rollover last.lane) sure) in
           let ends : (us ≡ was) × (vs ≡ told) = subst (λ (n : ℕ). Between n was told us vs) one between in
           let start : us ≡ last.is.had = ends.0 ∙ sym (last.is.watches sure) in
-          one_more all us us vs (taking.played all few us us (subst (λ (n : ℕ). Between n was now us us) (sym none) refl))
-          (subst (λ (ws : List Held). IfSome work.lines (λ ls. LanePlayed meaning fleet last.lane last.off us ls.items work.crew.holds ws)) (sym (ends.1 ∙ comes))
-          (subst (λ (ws : List Held). IfSome work.lines (λ ls. LanePlayed meaning fleet last.lane last.off ws ls.items work.crew.holds (hear work))) (sym start) last.is.played))
+          one_more us us vs (taking.went few us us (subst (λ (n : ℕ). Between n was now us us) (sym none) refl))
+          (subst (λ (ws : List Held). LaneWent meaning fleet last.lane last.off us (own_lines work.lines) work.crew.holds ws) (sym (ends.1 ∙ comes))
+          (subst (λ (ws : List Held). LaneWent meaning fleet last.lane last.off ws (own_lines work.lines) work.crew.holds (hear work)) (sym start) last.is.went))
 
       pub taking_goes_on : MatchBool work.rolls (told ≡ hear work) (told ≡ now) → TakingBack hear meaning fleet tables count cut was xs earlier left after zs told
       taking_goes_on over =
@@ -317,15 +360,15 @@ module _ {B X E : Type 0} {Y : X → Type 0} (hear : LaneWork B X Y → List Hel
             time = time_back meaning last.needs last.acts last.between last.off taking.rest work.crew.holds ys zs last.cut takes last.is.time taking.time;
             seats = seats_on zs same;
             kept = stay (has_rollover last.lane) refl come;
-            played = by (has_rollover last.lane) refl come;
+            went = by (has_rollover last.lane) refl come;
           }
         where
           stay : (b : Bool) → has_rollover last.lane ≡ b → MatchBool b (told ≡ hear work) (told ≡ now) → rolling (taking.back ++ last.lane ∷ []) ≡ 0 → told ≡ left
           stay true is comes none = absurd (omega (arith, lane_rolls, none, one_if_true (has_rollover last.lane) is))
           stay false is stays none = stays ∙ taking.kept (omega (arith, lane_rolls, none))
 
-          by : (b : Bool) → has_rollover last.lane ≡ b → MatchBool b (told ≡ hear work) (told ≡ now) → length cut ≡ count → rolling cut ≤ 1 → (us vs : List Held) → Between (rolling (taking.back ++ last.lane ∷ [])) was told us vs
-              → IfOk after (λ ls. FansPlayed meaning fleet (taking.back ++ last.lane ∷ []) last.between us ls.items zs vs)
+          by : (b : Bool) → has_rollover last.lane ≡ b → MatchBool b (told ≡ hear work) (told ≡ now) → rolling cut ≤ 1 → (us vs : List Held) → Between (rolling (taking.back ++ last.lane ∷ [])) was told us vs
+              → FansWent meaning fleet (length cut ≡ count) (taking.back ++ last.lane ∷ []) last.between us (told_lines after) zs vs
           by true is comes = rolls_more is comes
           by false is stays = quiet_more is stays
 
@@ -338,9 +381,9 @@ module _ {B X E : Type 0} {Y : X → Type 0} (hear : LaneWork B X Y → List Hel
       record {
         still = subst (λ (hs : List (Hold B)). StillHas hs ys) end.rest_is taking.still;
         time = subst (λ (hs : List (Hold B)). AllPass meaning hs ys) end.rest_is taking.time;
-        played = λ whole few given. subst (λ (ls : List (List Command)). IfOk lines (λ ms. FansPlayed meaning fleet ls xs was ms.items ys now)) all
-            (subst (λ (hs : List (Hold B)). IfOk lines (λ ms. FansPlayed meaning fleet taking.back hs was ms.items ys now)) end.rest_is
-            (taking.played whole few was now (between (rolling taking.back)
+        went = λ few given. subst (λ (ls : List (List Command)). FansWent meaning fleet (length cut ≡ count) ls xs was (told_lines lines) ys now) all
+            (subst (λ (hs : List (Hold B)). FansWent meaning fleet (length cut ≡ count) taking.back hs was (told_lines lines) ys now) end.rest_is
+            (taking.went few was now (between (rolling taking.back)
             (λ none. taking.kept none ∙ given (ap (λ (ls : List (List Command)). rolling ls) (sym all) ∙ none)))));
       }
     where

@@ -1,5 +1,5 @@
 -- What was cut off for lanes, and how it comes back.
-use Rattle.std.specs.Prelude.{◌≡◌, ℕ, suc, ◌+◌, ◌<◌, ◌≤◌, Bool, true, List, [], ◌∷◌, ◌++◌, length, None, IfOk, IfSome, Result, Vec}
+use Rattle.std.specs.Prelude.{◌≡◌, ℕ, suc, ◌+◌, ◌<◌, ◌≤◌, Bool, true, List, [], ◌∷◌, ◌++◌, length, None, Result, Vec}
 use Rattle.std.specs.Global.{Global}
 use Rattle.std.specs.List.{AllByRecursion}
 use Rattle.berth_face.specs.Berth.{Meaning}
@@ -11,7 +11,8 @@ use Rattle.script_text.specs.declared.fleet.Fleet.{Fleet}
 use Rattle.transcript.specs.Holds.{Hold}
 use Rattle.transcript.specs.Lanes.{CutsOff}
 use Rattle.player.specs.Crew.{AllPass, HasSeats, StillHas}
-use Rattle.bursts.specs.Played.{FansPlayed, LanePlayed, MayPlayOn}
+use Rattle.bursts.specs.Played.{MayPlayOn}
+use Rattle.bursts.specs.Went.{FansWent, LaneWent, own_lines, told_lines}
 use Rattle.bursts.specs.Rolling.{Between, has_rollover, rolling}
 use Rattle.bursts.specs.declared.work.LaneWork.{LaneWork}
 
@@ -27,7 +28,7 @@ pub record IsDone {B X : Type 0} {Y : X → Type 0} (hear : LaneWork B X Y → L
   pub tables : y.crew.tables ≡ x.crew.tables
   pub still : StillHas x.crew.holds y.crew.holds
   pub time : AllPass meaning x.crew.holds y.crew.holds
-  pub played : IfSome y.lines (λ lines. LanePlayed meaning x.crew.fleet x.commands.items x.crew.holds (hear x) lines.items y.crew.holds (hear y))
+  pub went : LaneWent meaning x.crew.fleet x.commands.items x.crew.holds (hear x) (own_lines y.lines) y.crew.holds (hear y)
 
 -- ---- lent
 
@@ -68,16 +69,16 @@ pub record IsWorked {B X : Type 0} {Y : X → Type 0} (hear : LaneWork B X Y →
   pub rolls : work.rolls ≡ has_rollover lane
   pub had : List Held
   pub watches : has_rollover lane ≡ true → had ≡ was
-  pub played : IfSome work.lines (λ lines. LanePlayed meaning fleet lane off had lines.items work.crew.holds (hear work))
+  pub went : LaneWent meaning fleet lane off had (own_lines work.lines) work.crew.holds (hear work)
 
 -- ---- taken back
 
--- All is back. Where all lanes were cut off, and the watches handed out just where one of them has a rollover, those that are there now heard what the lanes tell.
+-- All is back. Where the watches were handed out just where one of the lanes has a rollover, those that are there now heard what the lanes tell.
 pub record TakenBack {B E : Type 0} (meaning : B → Meaning) (fleet : Fleet) (count : ℕ) (cut : List (List Command)) (was : List Held) (xs : List (Hold B)) (left : List Held) (lines : Result (Vec Line Global) E)
     (ys : List (Hold B)) (now : List Held) : Type 0 where
   pub still : StillHas xs ys
   pub time : AllPass meaning xs ys
-  pub played : length cut ≡ count → rolling cut ≤ 1 → (rolling cut ≡ 0 → left ≡ was) → IfOk lines (λ ls. FansPlayed meaning fleet cut xs was ls.items ys now)
+  pub went : rolling cut ≤ 1 → (rolling cut ≡ 0 → left ≡ was) → FansWent meaning fleet (length cut ≡ count) cut xs was (told_lines lines) ys now
 
 -- The first of the lanes are back, and the watches where one of these has a rollover.
 pub record TakingBack {B X E : Type 0} {Y : X → Type 0} (hear : LaneWork B X Y → List Held) (meaning : B → Meaning) (fleet : Fleet) (tables : List (List Shared)) (count : ℕ) (cut : List (List Command)) (was : List Held)
@@ -91,4 +92,4 @@ pub record TakingBack {B X E : Type 0} {Y : X → Type 0} (hear : LaneWork B X Y
   pub time : AllPass meaning rest ys
   pub seats : (table : ℕ) → table < length fleet.names → HasSeats ys table
   pub kept : rolling back ≡ 0 → now ≡ left
-  pub played : length cut ≡ count → rolling cut ≤ 1 → (before after : List Held) → Between (rolling back) was now before after → IfOk lines (λ ls. FansPlayed meaning fleet back rest before ls.items ys after)
+  pub went : rolling cut ≤ 1 → (before after : List Held) → Between (rolling back) was now before after → FansWent meaning fleet (length cut ≡ count) back rest before (told_lines lines) ys after

@@ -8,7 +8,7 @@ ghost use Rattle.transcript.specs.Holds.{Hold};
 ghost use Rattle.player.specs.Crew.{AllPass, HasAll, HasSeats, StillHas};
 ghost use Rattle.bursts.specs.Needs.{AreAlone, AreSpare, CanLend, IsPlan, commands_in};
 ghost use Rattle.bursts.specs.Lent.{IsDone, IsReady, IsWorked, Lent, MayWork, TakenBack};
-ghost use Rattle.bursts.specs.Played.{BesidePlayed};
+ghost use Rattle.bursts.specs.Went.{BesideWent, OrNothing, told_lines};
 ghost use Rattle.bursts.specs.Rolling.{rolling};
 
 use crate::lane::play_lane;
@@ -42,7 +42,7 @@ pub fn play_beside<'t, R: Wait + Threads + Sync, B: Berth, G: Gate>(
     requires one { rolling (map commands_in plans.items) ≤ 1 }
     requires spare { AreSpare crew.old.fleet crew.old.holds plans.items }
     requires all { HasAll crew.old.fleet crew.old.holds }
-    ensures played { IfOk result (λ lines. BesidePlayed B.meaning crew.old.fleet (map commands_in plans.items) crew.old.holds (map (λ watch. held watch) watches.old.items) lines.items crew.new.holds (map (λ watch. held watch) watches.new.items)) }
+    ensures went { OrNothing (BesideWent B.meaning crew.old.fleet (map commands_in plans.items) crew.old.holds (map (λ watch. held watch) watches.old.items) (told_lines result) crew.new.holds (map (λ watch. held watch) watches.new.items)) crew.old.holds (map (λ watch. held watch) watches.old.items) (told_lines result) crew.new.holds (map (λ watch. held watch) watches.new.items) }
     ensures fleet { (crew.new.fleet ≡ crew.old.fleet) × (crew.new.tables ≡ crew.old.tables) }
     ensures still { StillHas crew.old.holds crew.new.holds }
     ensures time { AllPass B.meaning crew.old.holds crew.new.holds }
@@ -75,6 +75,7 @@ fn cut_all<'t, B: Berth>(
     requires none { lanes.old.items ≡ [] }
     requires room { vec_len lanes.old + vec_len plans ≤ vec_capacity lanes.old }
     ensures lent { (cut : List (List Command)) × Lent (length plans.items) (IsReady (λ work. map (λ watch. held watch) work.watches.items) (map (λ watch. held watch) watches.old.items) crew.old.fleet crew.old.tables) crew.old.holds lanes.new.items cut crew.new.holds × (IsOk result → cut ≡ map commands_in plans.items)
+        × ((front : List (List Command)) × (front ++ cut ≡ map commands_in plans.items))
         × (rolling cut ≡ 0 → map (λ watch. held watch) watches.new.items ≡ map (λ watch. held watch) watches.old.items) }
     ensures fleet { (crew.new.fleet ≡ crew.old.fleet) × (crew.new.tables ≡ crew.old.tables) }
     ensures seats { (table : ℕ) → table < length crew.old.fleet.names → HasSeats crew.new.holds table }

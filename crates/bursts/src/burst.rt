@@ -6,7 +6,7 @@ ghost use Rattle.script_text.specs.Fits.{IsBurst};
 ghost use Rattle.printed_lines.specs.Lines.{IsOf};
 ghost use Rattle.script_text.specs.Commands.{leaf_count};
 ghost use Rattle.player.specs.Crew.{AllPass, HasAll};
-ghost use Rattle.bursts.specs.Items.{ItemPlayed};
+ghost use Rattle.bursts.specs.Went.{ItemWent, OrNothing, told_lines};
 
 use crate::beside::play_beside;
 use crate::plans::{are_spare, plan_all};
@@ -31,7 +31,7 @@ pub fn play_burst<'t, R: Wait + Threads + Sync, B: Berth, G: Gate>(
 ) -> Result<Vec<Line>, AllocError>
     requires burst { IsBurst (leaf_count crew.old.fleet) crew.old.fleet.names lanes.items }
     requires all { HasAll crew.old.fleet crew.old.holds }
-    ensures played { IfOk result (λ lines. ItemPlayed B.meaning crew.old.fleet (Burst lanes.items) crew.old.holds (map (λ watch. held watch) watches.old.items) lines.items crew.new.holds (map (λ watch. held watch) watches.new.items)) }
+    ensures went { OrNothing (ItemWent B.meaning crew.old.fleet (Burst lanes.items) crew.old.holds (map (λ watch. held watch) watches.old.items) (told_lines result) crew.new.holds (map (λ watch. held watch) watches.new.items)) crew.old.holds (map (λ watch. held watch) watches.old.items) (told_lines result) crew.new.holds (map (λ watch. held watch) watches.new.items) }
     ensures fleet { (crew.new.fleet ≡ crew.old.fleet) × (crew.new.tables ≡ crew.old.tables) }
     ensures all { HasAll crew.new.fleet crew.new.holds }
     ensures time { AllPass B.meaning crew.old.holds crew.new.holds }

@@ -1,12 +1,11 @@
 // A command outside bursts.
-ghost use Rattle.std.specs.Prelude.{◌≡◌, IfOk, map};
+ghost use Rattle.std.specs.Prelude.{◌≡◌, ◌⊎◌, IfOk, IsErr, map};
 ghost use Rattle.std.specs.List.{AllByRecursion};
 ghost use Rattle.script_text.specs.declared.item.Item.TheVariants.{One};
 ghost use Rattle.printed_lines.specs.Lines.{IsOf};
 ghost use Rattle.transcript.specs.Plays.{MayPlay};
-ghost use Rattle.player.specs.Crew.{AllPass, HasAll, HasFor, StillHas};
-ghost use Rattle.bursts.specs.Items.{ItemPlayed};
-ghost use Rattle.bursts.specs.Played.{CommandPlayed};
+ghost use Rattle.player.specs.Crew.{AllPass, HasAll, HasFor, PlaysWith, StillHas};
+ghost use Rattle.bursts.specs.Went.{ItemWent, OrNothing, told_lines};
 
 use berth_face::{Berth, Gate};
 use player::Crew;
@@ -28,7 +27,7 @@ pub fn play_one<'t, R: Wait + Threads + Sync, B: Berth, G: Gate>(
 ) -> Result<Vec<Line>, AllocError>
     requires may { MayPlay crew.old.fleet command }
     requires all { HasAll crew.old.fleet crew.old.holds }
-    ensures played { IfOk result (λ lines. ItemPlayed B.meaning crew.old.fleet (One command) crew.old.holds (map (λ watch. held watch) watches.old.items) lines.items crew.new.holds (map (λ watch. held watch) watches.new.items)) }
+    ensures went { OrNothing (ItemWent B.meaning crew.old.fleet (One command) crew.old.holds (map (λ watch. held watch) watches.old.items) (told_lines result) crew.new.holds (map (λ watch. held watch) watches.new.items)) crew.old.holds (map (λ watch. held watch) watches.old.items) (told_lines result) crew.new.holds (map (λ watch. held watch) watches.new.items) }
     ensures fleet { (crew.new.fleet ≡ crew.old.fleet) × (crew.new.tables ≡ crew.old.tables) }
     ensures all { HasAll crew.new.fleet crew.new.holds }
     ensures time { AllPass B.meaning crew.old.holds crew.new.holds }
@@ -48,7 +47,7 @@ pub fn play_command<'t, R: Wait + Threads + Sync, B: Berth, G: Gate>(
 ) -> Result<Vec<Line>, AllocError>
     requires may { MayPlay crew.old.fleet command }
     requires has { HasFor crew.old.fleet crew.old.holds command }
-    ensures played { IfOk result (λ lines. CommandPlayed B.meaning crew.old.fleet command crew.old.holds (map (λ watch. held watch) watches.old.items) lines.items crew.new.holds (map (λ watch. held watch) watches.new.items)) }
+    ensures plays { PlaysWith B.meaning crew.old.fleet command crew.old.holds (map (λ watch. held watch) watches.old.items) result crew.new.holds (map (λ watch. held watch) watches.new.items) ⊎ (IsErr result × (crew.new.holds ≡ crew.old.holds) × (map (λ watch. held watch) watches.new.items ≡ map (λ watch. held watch) watches.old.items)) }
     ensures fleet { (crew.new.fleet ≡ crew.old.fleet) × (crew.new.tables ≡ crew.old.tables) }
     ensures still { StillHas crew.old.holds crew.new.holds }
     ensures time { AllPass B.meaning crew.old.holds crew.new.holds }

@@ -3,7 +3,8 @@ ghost use Rattle.std.specs.Prelude.{◌≡◌, IfOk, map};
 ghost use Rattle.std.specs.List.{AllByRecursion};
 ghost use Rattle.printed_lines.specs.Lines.{IsOf};
 ghost use Rattle.player.specs.Crew.{AllPass, HasAll};
-ghost use Rattle.bursts.specs.Items.{ItemPlayed, MayPlayItem};
+ghost use Rattle.bursts.specs.Items.{MayPlayItem};
+ghost use Rattle.bursts.specs.Went.{ItemWent, OrNothing, told_lines};
 
 use crate::burst::play_burst;
 use crate::command::play_one;
@@ -27,7 +28,7 @@ pub fn play_item<'t, R: Wait + Threads + Sync, B: Berth, G: Gate>(
 ) -> Result<Vec<Line>, AllocError>
     requires may { MayPlayItem crew.old.fleet item }
     requires all { HasAll crew.old.fleet crew.old.holds }
-    ensures played { IfOk result (λ lines. ItemPlayed B.meaning crew.old.fleet item crew.old.holds (map (λ watch. held watch) watches.old.items) lines.items crew.new.holds (map (λ watch. held watch) watches.new.items)) }
+    ensures went { OrNothing (ItemWent B.meaning crew.old.fleet item crew.old.holds (map (λ watch. held watch) watches.old.items) (told_lines result) crew.new.holds (map (λ watch. held watch) watches.new.items)) crew.old.holds (map (λ watch. held watch) watches.old.items) (told_lines result) crew.new.holds (map (λ watch. held watch) watches.new.items) }
     ensures fleet { (crew.new.fleet ≡ crew.old.fleet) × (crew.new.tables ≡ crew.old.tables) }
     ensures all { HasAll crew.new.fleet crew.new.holds }
     ensures time { AllPass B.meaning crew.old.holds crew.new.holds }

@@ -1,8 +1,9 @@
 // The commands of a lane.
-ghost use Rattle.std.specs.Prelude.{◌≡◌, IfOk, map};
+ghost use Rattle.std.specs.Prelude.{◌≡◌, map};
 ghost use Rattle.std.specs.List.{AllByRecursion};
 ghost use Rattle.player.specs.Crew.{AllPass, StillHas};
-ghost use Rattle.bursts.specs.Played.{LanePlayed, MayPlayOn};
+ghost use Rattle.bursts.specs.Played.{MayPlayOn};
+ghost use Rattle.bursts.specs.Went.{LaneWent, told_lines};
 
 use crate::command::play_command;
 use berth_face::{Berth, Gate};
@@ -26,7 +27,7 @@ pub fn play_lane<'t, R: Wait + Threads + Sync, B: Berth, G: Gate>(
     commands: Vec<Command>,
 ) -> Result<Vec<Line>, AllocError>
     requires { AllByRecursion (MayPlayOn crew.old.fleet crew.old.holds) commands.items }
-    ensures played { IfOk result (λ lines. LanePlayed B.meaning crew.old.fleet commands.items crew.old.holds (map (λ watch. held watch) watches.old.items) lines.items crew.new.holds (map (λ watch. held watch) watches.new.items)) }
+    ensures went { LaneWent B.meaning crew.old.fleet commands.items crew.old.holds (map (λ watch. held watch) watches.old.items) (told_lines result) crew.new.holds (map (λ watch. held watch) watches.new.items) }
     ensures fleet { (crew.new.fleet ≡ crew.old.fleet) × (crew.new.tables ≡ crew.old.tables) }
     ensures still { StillHas crew.old.holds crew.new.holds }
     ensures time { AllPass B.meaning crew.old.holds crew.new.holds }

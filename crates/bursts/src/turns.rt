@@ -1,9 +1,9 @@
 // Lanes that are played one after another, since ids are too few to cut off.
-ghost use Rattle.std.specs.Prelude.{◌≡◌, ◌≤◌, length, IfOk, map};
+ghost use Rattle.std.specs.Prelude.{◌≡◌, ◌≤◌, length, map};
 ghost use Rattle.std.specs.List.{AllByRecursion};
 ghost use Rattle.player.specs.Crew.{AllPass, HasAll, StillHas};
 ghost use Rattle.bursts.specs.Needs.{IsPlan, commands_in};
-ghost use Rattle.bursts.specs.Played.{TurnsPlayed};
+ghost use Rattle.bursts.specs.Went.{TurnsWent, told_lines};
 
 use crate::lane::play_lane;
 use crate::lines::put_lane;
@@ -29,7 +29,7 @@ pub fn play_in_turn<'t, R: Wait + Threads + Sync, B: Berth, G: Gate>(
     requires plans { AllByRecursion (IsPlan crew.old.fleet) plans.items }
     requires few { length plans.items ≤ 16 }
     requires all { HasAll crew.old.fleet crew.old.holds }
-    ensures played { IfOk result (λ lines. TurnsPlayed B.meaning crew.old.fleet (map commands_in plans.items) crew.old.holds (map (λ watch. held watch) watches.old.items) lines.items crew.new.holds (map (λ watch. held watch) watches.new.items)) }
+    ensures went { TurnsWent B.meaning crew.old.fleet (map commands_in plans.items) crew.old.holds (map (λ watch. held watch) watches.old.items) (told_lines result) crew.new.holds (map (λ watch. held watch) watches.new.items) }
     ensures fleet { (crew.new.fleet ≡ crew.old.fleet) × (crew.new.tables ≡ crew.old.tables) }
     ensures still { StillHas crew.old.holds crew.new.holds }
     ensures time { AllPass B.meaning crew.old.holds crew.new.holds }

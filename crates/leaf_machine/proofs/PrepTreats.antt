@@ -1,5 +1,5 @@
 -- What was owed is settled, then the next table is shut where none waits, and the last is sealed.
-use Rattle.std.proofs.Common.{◌≡◌, ℕ, ◌<◌, Bool, true, false, List, [], ◌∷◌, ◌++◌, length, Option, None, sym, ap, subst, ◌∙◌}
+use Rattle.std.proofs.Common.{◌≡◌, ℕ, ◌<◌, Bool, false, List, [], ◌∷◌, ◌++◌, length, Option, None, sym, ap, subst, ◌∙◌}
 use Rattle.std.specs.Prelude.{◌-◌, if◌then◌else◌, IfErr, IsErr, IsOk, OnErr, OnOk, Result, Ok, Err}
 use Rattle.std.proofs.lemmas.Bool.{false≢true}
 use Rattle.row_records.specs.Records.{LogRecord}

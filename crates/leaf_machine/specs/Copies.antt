@@ -1,7 +1,8 @@
 -- What a step of a leaf that copies its tables does.
-use Rattle.std.specs.Prelude.{◌≡◌, ℕ, suc, ◌+◌, ◌≤◌, List, [], length, Result, Ok, Err, ⊤}
+use Rattle.std.specs.Prelude.{◌≡◌, ◌⊎◌, ℕ, suc, ◌+◌, ◌≤◌, List, [], length, Result, Ok, Err, ⊤}
 use Rattle.leaf_model.specs.declared.writes.Write.{Write}
 use Rattle.berth_face.specs.Berth.{Meaning}
+use Rattle.region_layout.specs.Region.{IsClosed}
 use Rattle.drain_copy.specs.declared.step.Next.{Next}
 use Rattle.drain_copy.specs.declared.step.Next.TheVariants as next
 use Rattle.drain_copy.specs.declared.step.RegionFault.{RegionFault}
@@ -52,3 +53,9 @@ abbrev pub IsInImage : {B : Type 0} → (B → Meaning) → Copying → Result (
 IsInImage meaning c (Ok (copied.More leaf)) = length (meaning leaf.1).held.region + held leaf.0.drain ≤ length c.drain.image
 IsInImage meaning c (Ok (copied.Finished leaf)) = length (meaning leaf.1).held.region ≤ length c.drain.image
 IsInImage meaning c (Err x) = ⊤
+
+-- A copy that was finished leaves the image; one that failed a closed region, or just the image.
+abbrev pub LeavesRegion : {B : Type 0} → (B → Meaning) → Copying → Result (Copied B) ((Seated × B) × RegionFault) → Type 0
+LeavesRegion meaning c (Ok (copied.More leaf)) = ⊤
+LeavesRegion meaning c (Ok (copied.Finished leaf)) = (meaning leaf.1).held.region ≡ c.drain.image
+LeavesRegion meaning c (Err (leaf, fault)) = IsClosed (meaning leaf.1).held.region ⊎ ((meaning leaf.1).held.region ≡ c.drain.image)

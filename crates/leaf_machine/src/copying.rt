@@ -10,7 +10,7 @@ ghost use Rattle.crash_states.specs.Standing.{Copies};
 ghost use Rattle.leaf_steward.specs.Seated.{AreFounded, watched_by};
 ghost use Rattle.leaf_steward.specs.Making.{Makes};
 ghost use Rattle.leaf_machine.specs.States.{RestsOn};
-ghost use Rattle.leaf_machine.specs.Copies.{CopyGoesOn, IsCopyStep, IsInImage, berth_of_copy, seats_of_copy};
+ghost use Rattle.leaf_machine.specs.Copies.{CopyGoesOn, IsCopyStep, IsInImage, LeavesRegion, berth_of_copy, seats_of_copy};
 
 use crate::down::Down;
 use berth_face::{Berth, Gate};
@@ -59,6 +59,9 @@ impl<'t, B: Berth> Copying<'t, B> {
         ensures made { Makes (B.meaning self.entry.1).clock (B.meaning (berth_of_copy result)).clock self.entry.0.seated notes.new (seats_of_copy result) }
         // At every moment since the call began a crash leaves what belongs to the tables as they stood then.
         ensures crash { IsTrue (B.meaning self.entry.1).tells → AreFounded self.entry.0.seated → CopyGoesOn B.meaning self.entry.0 (B.meaning self.entry.1) result }
+        // What the region is, once the copy is over.
+        ensures region { IsTrue (B.meaning self.entry.1).tells → AreFounded self.entry.0.seated → (writes : List ℕ → List Write)
+            → Copies (watched_by self.entry.0.seated) self.entry.0.drain writes (B.meaning self.entry.1) → LeavesRegion B.meaning self.entry.0 result }
         // What is still held and the region together never are longer than the image, and while a column is written at most the longest column more.
         ensures room { IsTrue (B.meaning self.entry.1).tells → AreFounded self.entry.0.seated → IsInImage B.meaning self.entry.0 result }
         ensures inside { IsTrue (B.meaning self.entry.1).tells → AreFounded self.entry.0.seated → self.entry.0.drain.next ≢ next.Begin

@@ -3,3 +3,7 @@ pub mod Strangers
 pub mod Places
 pub mod Origins
 pub mod Starting
+pub mod InOrder
+pub mod LogAnswers
+pub mod OneAnswer
+pub mod Exact

@@ -1,3 +1,4 @@
 pub mod OpenedLeaf
 pub mod Faults
 pub mod Starts
+pub mod Answers

@@ -1,9 +1,11 @@
 //! How a leaf comes to its tables: from its region, or from its log.
 #![tactic(auto)]
 
+mod laws;
 mod opening;
 mod ways;
 
 pub use adopt::WhyDisk;
+pub use laws::answers_are_one;
 pub use opening::{Opened, open_tables};
 pub use ways::{OpenFault, Way};

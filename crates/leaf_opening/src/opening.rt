@@ -9,6 +9,7 @@ ghost use Rattle.disk_backup.specs.Scanning.{BeginsScan};
 ghost use Rattle.region_layout.specs.Names.{AreNames};
 ghost use Rattle.leaf_opening.specs.declared.ways.Way.TheVariants as way;
 ghost use Rattle.leaf_opening.specs.declared.ways.OpenFault.TheVariants as fault;
+ghost use Rattle.leaf_opening.specs.Answers.{IsExact, way_of};
 ghost use Rattle.leaf_opening.specs.Starts.{Started, IsOpeningRefusal, IsWayOf, AreFresh, OpensFrom, KeepsDisks, IsDurable, opened_leaf};
 
 use crate::ways::{OpenFault, Way};
@@ -43,6 +44,8 @@ pub fn open_tables<B: Berth>(
     ensures told { IsTrue (B.meaning berth.old).tells → IfOk result (λ o. Started names.now (B.meaning berth.old) (B.meaning berth.new) (opened_leaf names.now o) o.way) }
     ensures way { IsTrue (B.meaning berth.old).tells → IfOk result (λ o. IsWayOf (B.meaning berth.old).held.region o.way) }
     ensures refused { IsTrue (B.meaning berth.old).tells → IfErr result (IsOpeningRefusal names.now (B.meaning berth.old) (B.meaning berth.new)) }
+    // What it answers is what the bytes of region and disk decide, unless the berth fails or memory runs out.
+    ensures exact { IsTrue (B.meaning berth.old).tells → IsExact names.now (B.meaning berth.old).held.region (B.meaning berth.old).held.disk (way_of result) }
     // A log that is sound is never damaged.
     ensures sound { IsTrue (B.meaning berth.old).tells → IsSound (B.meaning berth.old).held.disk → result ≢ Err fault.DiskDamaged }
     // What a crash leaves at each moment, and behind the call.

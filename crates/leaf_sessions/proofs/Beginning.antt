@@ -78,6 +78,7 @@ module _ {B : Type 0} (meaning : B → Meaning) (number : ℕ) (names : List (Li
   held_first = record {
     life = first_life known names;
     lives = λ grounds histories told. refl;
+    moments = λ grounds histories told. omega arith;
     in_place = new.in_place;
     grounded = new.grounded;
     mode = first_mode known names new.seated;

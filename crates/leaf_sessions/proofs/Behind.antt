@@ -7,12 +7,14 @@ use Rattle.leaf_table.specs.Calls.{SeatView}
 use Rattle.leaf_steward.specs.Seated.{Seated}
 use Rattle.printed_lines.specs.declared.line.Ending.{Ending}
 use Rattle.printed_lines.specs.declared.line.Ending.TheVariants as ends
-use Rattle.transcript.specs.Pieces.{Acted, Called, Piece, Says, Worn}
+use Rattle.transcript.specs.Pieces.{Noted, Acted, Called, Piece, Says, Worn}
 use Rattle.transcript.specs.Strangers.{IsNamedBy, Strangers, until_up}
 use Rattle.transcript.specs.Life.{Life, Mode, Down, Up, Preparing}
 use Rattle.transcript.specs.Answers.{columns_handed}
 use Rattle.transcript.specs.Transcript.{Known, first_life}
 use Rattle.transcript.specs.Stage.{Leaf, IsDown, IsUp, IsPreparing, seated_of, seated_with, with_seats}
+use Rattle.leaf_sessions.specs.Moments.{MomentsRise}
+use Rattle.leaf_sessions.proofs.Rising.{notes_between}
 use Rattle.leaf_sessions.specs.Session.{AreGrounded, AreInPlace, FitsMode, FitsNext, HasNoDeed, IsDurable, KnownLeaf, LeafHeld}
 use Rattle.leaf_sessions.proofs.Lives.{lives_between}
 use Rattle.leaf_sessions.proofs.ToldOn.{told_met}
@@ -84,6 +86,7 @@ pub held_meets : (number : ℕ) (names : List (List ℕ)) (known : Option Known)
 held_meets number names known old pieces leaf leaf' m now met = record {
   life = now.life;
   lives = λ grounds histories told. now.lives grounds histories (told_met grounds histories names known leaf leaf' m now.in_place met told);
+  moments = λ grounds histories told. now.moments grounds histories (told_met grounds histories names known leaf leaf' m now.in_place met told);
   in_place = place_met names known leaf leaf' m now.in_place met;
   grounded = grounded_met names known leaf leaf' m now.in_place met now.grounded;
   mode = subst (λ (l : Leaf). FitsMode now.life.mode l) (sym met.leaf_is) (fits_seats now.life.mode leaf met.seats now.mode);
@@ -151,6 +154,8 @@ held_between number names known old before none more leaf m apart s = record {
   life = s.life;
   lives = λ grounds histories told.
       lives_between (is_some known) (length names) (columns_handed grounds histories) number (first_life known names) s.life before none more apart (s.lives grounds histories told);
+  moments = λ grounds histories told.
+      subst (λ (ns : List Noted). MomentsRise histories old.clock ns m.clock) (sym (notes_between number before none more apart)) (s.moments grounds histories told);
   in_place = s.in_place;
   grounded = s.grounded;
   mode = s.mode;

@@ -22,6 +22,7 @@ use Rattle.transcript.specs.Transcript.{Known, first_life, ground_of}
 use Rattle.transcript.specs.Leaving.{LeavesBerth}
 use Rattle.transcript.specs.Stage.{Leaf, seated_of}
 use Rattle.transcript.specs.Holds.{Hold, caller_in, ground_at, seen_by, seen_in, steward_in}
+use Rattle.leaf_sessions.specs.Moments.{MomentsRise, notes_told}
 use Rattle.leaf_sessions.specs.Session.{AreMet, IsStewards, IsWhole, LeafHeld, LeafSession, OneOf, OwnedBy, TableSession}
 use Rattle.leaf_sessions.proofs.Lists.{element_at, get_map, name_is, same_some}
 use Rattle.leaf_sessions.proofs.Merging.{tells_all, tells_nothing}
@@ -173,6 +174,19 @@ pub lives_all : {B : Type 0} (meaning : B → Meaning) (number : ℕ) (names : L
 lives_all {B} meaning number names known old items x now met l b held =
     let is = (now.held l b held).1 in
     is.lives (λ table. ground_of known (name_at names table)) (λ table. seen_in x table)
+    (told_at_end names known (seated_of l) (λ table. seen_in x table) is.in_place is.grounded (λ place v sat.
+    let steward_is : steward_in x.held place ≡ Some v = ap (λ (h : Option (Leaf × B)). steward_in h place) held ∙ sat in
+    let same = seen_alike v (caller_in x.callers place) (λ s e. (met place v s steward_is e).0) ∙ ap (λ (w : Option SeatView). seen_by w (caller_in x.callers place)) (sym steward_is) in
+    ([], sym same ∙ sym (append-nil (seen_of v)))))
+
+-- ---- the moments of its entries
+
+pub moments_all : {B : Type 0} (meaning : B → Meaning) (number : ℕ) (names : List (List ℕ)) (known : Option Known) (old : Meaning) (items : List PlayedItem) (x : Hold B)
+    → LeafSession meaning number names known old [] (λ place. []) items x → AreMet x → (l : Leaf) (b : B) → x.held ≡ Some (l, b)
+    → MomentsRise (λ table. seen_in x table) old.clock (notes_told number (all_pieces items)) (meaning b).clock
+moments_all {B} meaning number names known old items x now met l b held =
+    let is = (now.held l b held).1 in
+    is.moments (λ table. ground_of known (name_at names table)) (λ table. seen_in x table)
     (told_at_end names known (seated_of l) (λ table. seen_in x table) is.in_place is.grounded (λ place v sat.
     let steward_is : steward_in x.held place ≡ Some v = ap (λ (h : Option (Leaf × B)). steward_in h place) held ∙ sat in
     let same = seen_alike v (caller_in x.callers place) (λ s e. (met place v s steward_is e).0) ∙ ap (λ (w : Option SeatView). seen_by w (caller_in x.callers place)) (sym steward_is) in

@@ -1,10 +1,10 @@
 -- A leaf that is held goes on by a deed of its steward, behind a meeting of its seats.
-use Rattle.std.proofs.Common.{ℕ, List, [], ◌∷◌, ◌++◌, length, Option}
+use Rattle.std.proofs.Common.{ℕ, List, [], ◌∷◌, ◌++◌, length, Option, sym, subst}
 use Rattle.std.specs.Prelude.{IfSome, is_some}
 use Rattle.berth_face.specs.Berth.{Meaning}
 use Rattle.leaf_steward.specs.declared.notes.Note.{Note}
 use Rattle.printed_lines.specs.declared.line.Ending.{Ending}
-use Rattle.transcript.specs.Pieces.{Acted, Deed, Piece}
+use Rattle.transcript.specs.Pieces.{Acted, Deed, Noted, Piece}
 use Rattle.transcript.specs.Answers.{columns_handed}
 use Rattle.transcript.specs.Transcript.{Known, first_life}
 use Rattle.transcript.specs.Stage.{Leaf, Carries, seated_of}
@@ -14,6 +14,8 @@ use Rattle.leaf_sessions.specs.Acting.{Lived}
 use Rattle.leaf_sessions.proofs.CountingNotes.{AreStewards}
 use Rattle.leaf_sessions.proofs.Deeds.{deed_lives}
 use Rattle.leaf_sessions.proofs.Lives.{lives_act}
+use Rattle.leaf_sessions.specs.Moments.{MomentsRise, notes_told}
+use Rattle.leaf_sessions.proofs.Rising.{makes_rise, rise_on, told_act}
 use Rattle.leaf_sessions.proofs.ToldOn.{told_made}
 use Rattle.leaf_sessions.proofs.Behind.{some_weaken}
 use Rattle.leaf_sessions.proofs.Moved.{grounded_moved, known_moved, next_moved, opens, place_moved}
@@ -34,6 +36,11 @@ module _ (number : ℕ) (names : List (List ℕ)) (known : Option Known) (old : 
         lives_act (is_some known) (length names) (columns_handed grounds histories) number (first_life known names) s.life lived.next pieces deed (noted_all notes) ends
         (s.lives grounds histories (told_made grounds histories m.clock m'.clock (seated_of met) notes (seated_of moved) carries.made stewards told))
         (lived.does (columns_handed grounds histories) (lived.hands.told grounds histories told));
+    moments = λ grounds histories told.
+        subst (λ (ns : List Noted). MomentsRise histories old.clock ns m'.clock) (sym (told_act number pieces deed (noted_all notes) ends))
+        (rise_on histories old.clock m.clock m'.clock (notes_told number pieces) (noted_all notes)
+        (s.moments grounds histories (told_made grounds histories m.clock m'.clock (seated_of met) notes (seated_of moved) carries.made stewards told))
+        (makes_rise grounds histories m.clock m'.clock (seated_of met) notes (seated_of moved) carries.made stewards told));
     in_place = place_moved names met moved notes m m' s.in_place carries;
     grounded = grounded_moved names met moved notes m m' s.in_place carries known s.grounded;
     mode = lived.mode;

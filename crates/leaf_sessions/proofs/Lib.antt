@@ -50,3 +50,4 @@ pub mod Unheld
 pub mod Ways
 pub mod Wearing
 pub mod Whole
+pub mod Rising

@@ -23,6 +23,7 @@ use Rattle.transcript.specs.Pieces.{Piece, Called, Worn, Acted, Says, PlayedItem
 use Rattle.transcript.specs.Life.{Life, Mode, Down, Up, Preparing, Owed, Progress, Lives, first_open}
 use Rattle.transcript.specs.Histories.{Ground, InOrder, Shown, Shows, shown}
 use Rattle.transcript.specs.Strangers.{IsNamedBy, Strangers}
+use Rattle.leaf_sessions.specs.Moments.{MomentsRise, notes_told}
 use Rattle.transcript.specs.Answers.{columns_handed}
 use Rattle.transcript.specs.Transcript.{Known, first_life, ground_of}
 use Rattle.transcript.specs.Leaving.{IsKnown}
@@ -166,11 +167,12 @@ pub record AreToldOn (grounds : ℕ → Ground) (histories : ℕ → List Entry)
   pub grounded : AtEach (λ place t v. grounds place ≡ ground_of_table t) x
   pub on : (place : ℕ) (v : SeatView) → slice_get x.seats place ≡ Some v → (more : List Entry) × (histories place ≡ seen_of v ++ more)
 
--- What is known of a leaf by who holds it, behind these pieces of the run. Its berth meant `old` when the run began, and means `m` now. Its life is so however the histories go on.
+-- What is known of a leaf by who holds it, behind these pieces of the run. Its berth meant `old` when the run began, and means `m` now. Its life is so, and the moments of its steward's entries do not fall, however the histories go on.
 pub record LeafHeld (number : ℕ) (names : List (List ℕ)) (known : Option Known) (old : Meaning) (pieces : List Piece) (leaf : Leaf) (m : Meaning) : Type 0 where
   pub life : Life
   pub lives : (grounds : ℕ → Ground) (histories : ℕ → List Entry) → AreToldOn grounds histories (seated_of leaf)
       → Lives (is_some known) (length names) (columns_handed grounds histories) number (first_life known names) pieces life
+  pub moments : (grounds : ℕ → Ground) (histories : ℕ → List Entry) → AreToldOn grounds histories (seated_of leaf) → MomentsRise histories old.clock (notes_told number pieces) m.clock
   pub in_place : AreInPlace names (seated_of leaf)
   pub grounded : AreGrounded known (seated_of leaf)
   pub mode : FitsMode life.mode leaf

@@ -170,5 +170,5 @@ module _ (records : List LogRecord) (r : LogRecord) where
         (n, subst (λ (c : Contents). 2 ^ 40 < length c.rows) (sym split) many)
 
     pub applies_err : (fault : AddFault) (now : Table) (left : List Table) → ReplaysAll before r.writes (Err fault) now → Applies names records r (Err (told_of_add fault)) left
-    applies_err add.Full now left refused = too_long refused.0 refused.1
+    applies_err add.Full now left refused = (at.known, too_long refused.0 refused.1)
     applies_err add.NoMemory now left refused = tt

@@ -1,6 +1,6 @@
 -- How far a log was read, and why not further.
 use Rattle.std.proofs.Common.{◌≡◌, ℕ, zero, suc, ◌<◌, ◌≤◌, ◌^◌, inl, inr, Bool, List, [], ◌∷◌, ◌++◌, length, take, drop, min, None, refl, sym, ap, subst, ◌∙◌, length-append, arith}
-use Rattle.std.specs.Prelude.{IsTrue, Result, Err}
+use Rattle.std.specs.Prelude.{IfErr, IsTrue, Result, Ok, Err}
 use Rattle.std.specs.List.{AllByRecursion}
 use Rattle.std.proofs.lemmas.Bool.{cases_lt}
 use Rattle.std.proofs.lemmas.List.{take-append-le, take_all, take_min}
@@ -17,8 +17,8 @@ use Rattle.disk_backup.proofs.Logs.{end_snoc}
 use Rattle.disk_backup.proofs.Beginning.{begun_short, begun_long}
 use Rattle.disk_backup.proofs.Scanned.{never_damaged, scanned_is_front}
 use Rattle.log_recovery.specs.declared.fault.RecoveryFault.{RecoveryFault}
-use Rattle.log_recovery.specs.declared.fault.RecoveryFault.TheVariants.{DiskDamaged}
-use Rattle.log_recovery.specs.Recovery.{IsTooLong, IsRecoveryRefusal, tables_of}
+use Rattle.log_recovery.specs.declared.fault.RecoveryFault.TheVariants.{DiskDamaged, DiskFault, NoMemory, Stranger}
+use Rattle.log_recovery.specs.Recovery.{IfRead, IsTooLong, IsRecoveryRefusal, tables_of}
 use Rattle.log_recovery.specs.Applying.{HasApplied, Reached, count_of}
 use Rattle.disk_backup.proofs.SoundLogs.{writes_append}
 use Rattle.log_recovery.proofs.Applying.{few_writes, count_more}
@@ -88,7 +88,7 @@ never_too_long disk records r at sound s long =
 
 never_refused_long : (names : List (List ℕ)) (disk : List ℕ) → IsSound disk → 1 < length disk → IsRecoveryRefusal names disk DiskDamaged → ⊥
 never_refused_long names disk sound long (inl cut) = never_damaged disk cut.records sound.0 cut.at sound.1 long sound.2 cut.scanned cut.damaged
-never_refused_long names disk sound long (inr passed) = never_too_long disk passed.0 passed.1 passed.2.at sound passed.2.scanned passed.3
+never_refused_long names disk sound long (inr passed) = never_too_long disk passed.0 passed.1 passed.2.at sound passed.2.scanned passed.4
 
 never_refused_short : (names : List (List ℕ)) → IsRecoveryRefusal names (0 ∷ []) DiskDamaged → ⊥
 never_refused_short names (inl cut) = nothing_there cut.at cut.damaged.rest cut.damaged.opened
@@ -108,3 +108,13 @@ failed a = Err a
 
 pub err_is : {T : Type 0} (a b : RecoveryFault) → failed {T = T} a ≡ failed {T = T} b → a ≡ b
 err_is a b e = cc
+
+if_read : (e : RecoveryFault) (P : Type 0) → P → IfRead e P
+if_read (Stranger name) P p = p
+if_read DiskDamaged P p = p
+if_read DiskFault P p = tt
+if_read NoMemory P p = tt
+
+pub err_read : {T : Type 0} (result : Result T RecoveryFault) (P : Type 0) → P → IfErr result (λ e. IfRead e P)
+err_read (Ok x) P p = tt
+err_read (Err e) P p = if_read e P p

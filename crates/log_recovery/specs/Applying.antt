@@ -1,5 +1,5 @@
 -- The tables while a log is read.
-use Rattle.std.specs.Prelude.{◌≡◌, ℕ, ◌+◌, ◌<◌, ◌≤◌, ◌^◌, Bool, false, IsTrue, List, [], ◌∷◌, ◌++◌, length, take, None, Result, Ok, Err, ⊤, bytes_eq}
+use Rattle.std.specs.Prelude.{◌≡◌, ℕ, ◌+◌, ◌<◌, ◌≤◌, ◌^◌, Bool, true, false, IsTrue, List, [], ◌∷◌, ◌++◌, length, take, None, Result, Ok, Err, ⊤, bytes_eq}
 use Rattle.std.specs.List.{list_any}
 use Rattle.leaf_model.specs.declared.writes.Write.{Write}
 use Rattle.leaf_model.specs.Content.{content_from}
@@ -42,7 +42,7 @@ pub record MayApply (names : List (List ℕ)) (more : ℕ) (tables : List Table)
 abbrev pub Applies : List (List ℕ) → List LogRecord → LogRecord → Result (Unit {0}) RecoveryFault → List Table → Type 0
 Applies names records r (Ok done) now = HasApplied names (records ++ r ∷ []) now
 Applies names records r (Err (Stranger name)) now = (r.name ≡ name) × (list_any (bytes_eq name) names ≡ false)
-Applies names records r (Err DiskDamaged) now = IsTooLong records r
+Applies names records r (Err DiskDamaged) now = (list_any (bytes_eq r.name) names ≡ true) × IsTooLong records r
 Applies names records r (Err DiskFault) now = ⊥
 Applies names records r (Err NoMemory) now = ⊤
 

@@ -1,5 +1,5 @@
 -- The tables that a log gives back.
-use Rattle.std.specs.Prelude.{◌≡◌, ◌⊎◌, ℕ, ◌<◌, ◌^◌, Bool, false, not, List, [], ◌∷◌, ◌++◌, length, map, take, Option, None, option_map, ⊤, bytes_eq}
+use Rattle.std.specs.Prelude.{◌≡◌, ◌⊎◌, ℕ, ◌<◌, ◌^◌, Bool, true, false, not, List, [], ◌∷◌, ◌++◌, length, map, take, Option, None, option_map, ⊤, bytes_eq}
 use Rattle.std.specs.List.{find, list_any}
 use Rattle.leaf_model.specs.Content.{content}
 use Rattle.row_records.specs.Records.{LogRecord}
@@ -34,11 +34,12 @@ pub record IsRecovered (names : List (List ℕ)) (disk : List ℕ) (tables : Lis
   pub tables_are : tables ≡ tables_of names records
   pub log_is : log ≡ record { end = log.end; owed = None; laid = false }
 
--- up to the record r, which stands next, each record was of one of the tables
+-- up to the record r, which stands next, each record was of one of the tables, and none grew too long
 pub record ComesTo (names : List (List ℕ)) (disk : List ℕ) (records : List LogRecord) (r : LogRecord) : Type 0 where
   pub at : ℕ
   pub scanned : Scanned disk (records ++ r ∷ []) at
   pub known : stranger_in names records ≡ None
+  pub bounded : IsBounded records
 
 -- after some writes of the record its table has more than 2^40 rows
 abbrev pub IsTooLong : List LogRecord → LogRecord → Type 0
@@ -50,11 +51,19 @@ pub record IsDamagedLog (names : List (List ℕ)) (disk : List ℕ) : Type 0 whe
   pub at : ℕ
   pub scanned : Scanned disk records at
   pub known : stranger_in names records ≡ None
+  pub bounded : IsBounded records
   pub damaged : Damaged disk at
 
--- why a log that reads as this disk was not read to its end
+-- why a log that reads as this disk was not read to its end: the first record or gate at fault decides, and of one record a stranger's name comes first
 abbrev pub IsRecoveryRefusal : List (List ℕ) → List ℕ → RecoveryFault → Type 0
 IsRecoveryRefusal names disk (Stranger name) = (records : List LogRecord) × (r : LogRecord) × ComesTo names disk records r × (r.name ≡ name) × (list_any (bytes_eq name) names ≡ false)
-IsRecoveryRefusal names disk DiskDamaged = IsDamagedLog names disk ⊎ ((records : List LogRecord) × (r : LogRecord) × ComesTo names disk records r × IsTooLong records r)
+IsRecoveryRefusal names disk DiskDamaged = IsDamagedLog names disk ⊎ ((records : List LogRecord) × (r : LogRecord) × ComesTo names disk records r × (list_any (bytes_eq r.name) names ≡ true) × IsTooLong records r)
 IsRecoveryRefusal names disk DiskFault = ⊤
 IsRecoveryRefusal names disk NoMemory = ⊤
+
+-- of a refusal that the log's bytes decide
+abbrev pub IfRead : RecoveryFault → Type 0 → Type 0
+IfRead (Stranger name) P = P
+IfRead DiskDamaged P = P
+IfRead DiskFault P = Unit {0}
+IfRead NoMemory P = Unit {0}

@@ -9,7 +9,7 @@ ghost use Rattle.disk_backup.specs.Scanning.{StepsFrom, BeginsScan, begun};
 ghost use Rattle.log_recovery.specs.declared.fault.RecoveryFault.TheVariants as fault;
 ghost use Rattle.leaf_model.specs.Names.{AreDistinct};
 ghost use Rattle.table_state.specs.Tables.{bare};
-ghost use Rattle.log_recovery.specs.Recovery.{IsRecovered, IsRecoveryRefusal, tables_of};
+ghost use Rattle.log_recovery.specs.Recovery.{IfRead, IsRecovered, IsRecoveryRefusal, tables_of};
 
 use crate::apply::{apply, empty_tables};
 use crate::fault::RecoveryFault;
@@ -35,6 +35,7 @@ pub fn recover<B: Berth>(
     ensures sound { IsTrue (B.meaning berth.old).tells → IsSound (B.meaning berth.old).held.disk → result ≢ Err fault.DiskDamaged }
     // What is left of the berth, and what a crash leaves of it at each moment; after Ok a crash leaves the disk that was read.
     ensures disk { IsTrue (B.meaning berth.old).tells → OnOk result ((B.meaning berth.new).held.disk ≡ begun (B.meaning berth.old).held.disk) }
+    ensures begun { IsTrue (B.meaning berth.old).tells → IfErr result (λ e. IfRead e ((B.meaning berth.new).held.disk ≡ begun (B.meaning berth.old).held.disk)) }
     ensures held { IsTrue (B.meaning berth.old).tells → BeginsScan (length (B.meaning berth.old).held.disk) (B.meaning berth.old).held.disk (B.meaning berth.new).held.disk }
     ensures region { IsTrue (B.meaning berth.old).tells → (B.meaning berth.new).held.region ≡ (B.meaning berth.old).held.region }
     ensures durable { IsTrue (B.meaning berth.old).tells → OnOk result (EachNow (λ p. p.disk ≡ (B.meaning berth.new).held.disk) (B.meaning berth.new)) }

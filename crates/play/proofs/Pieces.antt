@@ -5,6 +5,7 @@ use Rattle.std.specs.Io.KnownBytes.{Appends}
 use Rattle.std.proofs.lemmas.List.{nil_from_length}
 use Rattle.std.proofs.lemmas.List.Concat.{flat_map-append}
 use Rattle.berth_face.proofs.Streams.{appends_none, appends_more}
+use Rattle.berth_face.specs.Streams.{WritesFront}
 use Rattle.printed_lines.specs.declared.line.Line.{Line}
 use Rattle.printed_lines.specs.Lines.{IsOf, line_text, lines_text}
 
@@ -52,3 +53,23 @@ pub pieces_end : {names : List (List ℕ)} {lines left : List Line} {before now 
 pieces_end {names} {lines} {left} {before} {now} written none =
     let whole = written.is ∙ ap (λ (ls : List Line). written.front ++ ls) (nil_from_length left none) ∙ append-nil written.front in
     subst (λ ls. Appends before now (lines_text names ls)) (sym whole) written.bytes
+
+-- a front of the next piece: a front of all
+pub pieces_cut : {names : List (List ℕ)} {lines left : List Line} {before now : Option (List ℕ)} (later : Option (List ℕ)) (piece rest : List Line)
+    → AreWritten names lines left before now → left ≡ piece ++ rest → WritesFront now later (lines_text names piece) → WritesFront before later (lines_text names lines)
+pieces_cut {names} {lines} {left} {before} {now} later piece rest written is front =
+    let text : lines_text names lines ≡ lines_text names written.front ++ (lines_text names piece ++ lines_text names rest) =
+    ap (λ (ls : List Line). lines_text names ls) (written.is ∙ ap (λ (ls : List Line). written.front ++ ls) is)
+    ∙ (flat_map-append (line_text names) written.front (piece ++ rest) ∙ ap (λ (l : List ℕ). lines_text names written.front ++ l) (flat_map-append (line_text names) piece rest)) in (
+      front.0 ++ lines_text names rest,
+      record {
+        front = lines_text names written.front ++ front.1.front;
+        is = text ∙ (ap (λ (l : List ℕ). lines_text names written.front ++ (l ++ lines_text names rest)) front.1.is
+            ∙ (ap (λ (l : List ℕ). lines_text names written.front ++ l) (append_assoc front.1.front front.0 (lines_text names rest)) ∙ sym (append_assoc (lines_text names written.front) front.1.front (front.0 ++ lines_text names rest))));
+        bytes = appends_more before now later (lines_text names written.front) front.1.front written.bytes front.1.bytes;
+      },
+    )
+
+-- all of a text is a front of it
+pub whole_front : (before later : Option (List ℕ)) (text : List ℕ) → Appends before later text → WritesFront before later text
+whole_front before later text all = ([], record { front = text; is = sym (append-nil text); bytes = all })

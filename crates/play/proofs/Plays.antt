@@ -1,6 +1,6 @@
 -- A play goes on by one item.
 use Rattle.std.proofs.Common.{◌≡◌, ℕ, ◌+◌, ◌==◌, ◌&&◌, Bool, List, [], ◌∷◌, ◌++◌, refl, sym, ap, ap₂, subst, ◌∙◌, arith, Option, Some, None}
-use Rattle.std.specs.Prelude.{if◌then◌else◌, slice_get, IfOk, IsOk, OnOk, Result, Ok, Err, Vec}
+use Rattle.std.specs.Prelude.{if◌then◌else◌, slice_get, IfOk, IsOk, OnErr, OnOk, Result, Ok, Err, Vec}
 use Rattle.std.specs.Global.{Global}
 use Rattle.std.specs.List.{AllByRecursion}
 use Rattle.std.specs.Io.KnownBytes.{Appends}
@@ -26,7 +26,8 @@ use Rattle.transcript.specs.Holds.{HasMet, Hold}
 use Rattle.transcript.specs.Plays.{MayPlay}
 use Rattle.transcript.specs.Watching.{HearsAll}
 use Rattle.player.specs.Crew.{AllPass, CountedIf, PassesIf}
-use Rattle.bursts.specs.Items.{ItemPlayed, MayPlayItem}
+use Rattle.bursts.specs.Items.{MayPlayItem}
+use Rattle.bursts.specs.Went.{ItemWent, OrNothing, told_lines}
 use Rattle.sessions.specs.Laws as sessions
 use Rattle.play.specs.Played.{KeepsCounts}
 use Rattle.play.specs.Runs.{Advances, HoldsKeep, IsRun, RunSoFar}
@@ -34,6 +35,16 @@ use Rattle.sessions.proofs.Ending.{ended}
 use Rattle.sessions.proofs.Sessions.{plays_on}
 use Rattle.sessions.proofs.Lists.{All-weaken}
 use Rattle.leaf_sessions.proofs.Lists.{element_at, within}
+use Rattle.std.specs.List.{AllZip}
+use Rattle.std.specs.Prelude.{◌≤◌, length, map}
+use Rattle.std.proofs.Common.{inl, inr, length-append}
+use Rattle.berth_face.specs.Streams.{Written, WritesFront}
+use Rattle.player.specs.Crew.{AllCounted}
+use Rattle.transcript.specs.Lanes.{PlaysItem}
+use Rattle.bursts.specs.Shortened.{Begins, BeginsItem}
+use Rattle.play.specs.Cut.{PlaysSome, last_lines}
+use Rattle.play.specs.Runs.{berths_in}
+use Rattle.play.specs.Shortened.{RunShort, StopsAt}
 
 -- ---- bytes
 
@@ -46,6 +57,10 @@ appends_on None b c xs ys g h = tt
 appends_on (Some front) None c xs ys g h = absurd g
 appends_on (Some front) (Some bs) None xs ys g h = absurd h
 appends_on (Some front) (Some bs) (Some cs) xs ys g h = h ∙ (ap (λ zs. zs ++ ys) g ∙ append_assoc front xs ys)
+
+-- nothing of a text
+pub none_written : (was : Option (List ℕ)) (text : List ℕ) → WritesFront was was text
+none_written was text = (text, record { front = []; is = refl; bytes = appends_nothing was })
 
 -- ---- counts
 
@@ -197,20 +212,38 @@ run_goes_on {B} base meaning fleet crew olds was written after watching between 
 
 -- what an item did, once its lines were written
 pub advances : {B E F : Type 0} (meaning : B → Meaning) (fleet : Fleet) (x : Item) (xs ys : List (Hold B)) (was now : Option (List ℕ)) (watching watched : List Held) (lines : Result (Vec Line Global) E) (written : Result (Unit {0}) F)
-    → IfOk lines (λ ls. ItemPlayed meaning fleet x xs watching ls.items ys watched)
+    → OrNothing (ItemWent meaning fleet x xs watching (told_lines lines) ys watched) xs watching (told_lines lines) ys watched
     → OnOk written (IsOk lines)
     → OnOk written (IfOk lines (λ ls. Appends was now (lines_text fleet.names ls.items)))
     → OnOk written (Advances meaning fleet xs ys was now watching watched x)
-advances meaning fleet x xs ys was now watching watched lines (Err e) played made text = tt
-advances meaning fleet x xs ys was now watching watched (Err e) (Ok u) played made text = absurd cc
-advances meaning fleet x xs ys was now watching watched (Ok ls) (Ok u) played made text = record {
-  played = played.played;
-  item_is = played.item_is;
-  plays = played.plays;
-  text = subst (λ ks. Appends was now (lines_text fleet.names ks)) played.lines_are text;
-  heard = played.heard;
-  counted = played.counted;
+advances meaning fleet x xs ys was now watching watched lines (Err e) went made text = tt
+advances meaning fleet x xs ys was now watching watched (Err e) (Ok u) went made text = absurd cc
+advances meaning fleet x xs ys was now watching watched (Ok ls) (Ok u) (inr none) made text = let wrong = none.refused in absurd cc
+advances meaning fleet x xs ys was now watching watched (Ok ls) (Ok u) (inl went) made text = record {
+  played = went.played;
+  item_is = went.lines_are.0;
+  plays = went.plays;
+  text = subst (λ ks. Appends was now (lines_text fleet.names ks)) went.lines_are.1 text;
+  heard = went.heard;
+  counted = went.counted;
 }
+
+-- what holds in any case holds of a refusal
+pub on_err : {T E P : Type 0} (result : Result T E) → P → OnErr result P
+on_err (Ok x) p = tt
+on_err (Err e) p = p
+
+-- an item whose lines were not all written, or that had none
+pub stops_one : {B E : Type 0} (meaning : B → Meaning) (fleet : Fleet) (x : Item) (xs ys : List (Hold B)) (was now : Option (List ℕ)) (watching watched : List Held) (lines : Result (Vec Line Global) E)
+    → OrNothing (ItemWent meaning fleet x xs watching (told_lines lines) ys watched) xs watching (told_lines lines) ys watched
+    → IfOk lines (λ ls. WritesFront was now (lines_text fleet.names ls.items)) → (told_lines lines ≡ None → now ≡ was)
+    → StopsAt meaning fleet xs ys was now watching watched x
+stops_one meaning fleet x xs ys was now watching watched lines (inr none) front still = StopsAt.unplayed none.holds (still none.refused) none.watches
+stops_one meaning fleet x xs ys was now watching watched (Ok ls) (inl went) front still =
+    StopsAt.short went.played went.begun went.plays went.counted went.heard (subst (λ ks. WritesFront was now (lines_text fleet.names ks)) went.lines_are.1 front)
+stops_one meaning fleet x xs ys was now watching watched (Err e) (inl went) front still =
+    StopsAt.short went.played went.begun went.plays went.counted went.heard
+    (subst (λ o. WritesFront was o (lines_text fleet.names (item_lines went.played))) (sym (still refl)) (none_written was (lines_text fleet.names (item_lines went.played))))
 
 -- once all seats have met again, the run is told
 pub run_ends : {B : Type 0} (base : ℕ → Option NamedStates) (meaning : B → Meaning) (fleet : Fleet) (olds : List B) (was now : Option (List ℕ)) (watching watched : List Held) (items : List Item) (xs : List (Hold B))
@@ -224,3 +257,130 @@ run_ends base meaning fleet olds was now watching watched items xs run met = rec
   counted = run.counted;
   told = λ known is. ended meaning olds fleet known run.played xs (run.session known is) met;
 }
+
+-- A play that stops within its items. (Goes on play/proofs/Plays.antt, whose private lemmas it uses.)
+
+-- ---- what was written
+
+-- all of it
+all_written : (a b : Option (List ℕ)) (xs : List ℕ) → Appends a b xs → Written a b xs []
+all_written a b xs g = record { front = xs; is = sym (append-nil xs); bytes = g }
+
+-- some of it, behind all of what was before
+front_behind : (a b c : Option (List ℕ)) (xs ys rest : List ℕ) → Appends a b xs → Written b c ys rest → Written a c (xs ++ ys) rest
+front_behind a b c xs ys rest g w = record {
+  front = xs ++ w.front;
+  is = ap (λ (l : List ℕ). xs ++ l) w.is ∙ sym (append_assoc xs w.front rest);
+  bytes = appends_on a b c xs w.front g w.bytes;
+}
+
+last_snoc : (ps : List PlayedItem) (p : PlayedItem) → last_lines (ps ++ p ∷ []) ≡ item_lines p
+last_snoc [] p = refl
+last_snoc (q ∷ []) p = refl
+last_snoc (q ∷ r ∷ ps) p = last_snoc (r ∷ ps) p
+
+rest_within : (piece front rest : List ℕ) → piece ≡ front ++ rest → length rest ≤ length piece
+rest_within piece front rest is = omega (arith, ap (λ (l : List ℕ). length l) is, length-append front rest)
+
+-- ---- which items may be played
+
+front_all : (P : Command → Type 0) (xs ys : List Command) → AllByRecursion P (xs ++ ys) → AllByRecursion P xs
+front_all P [] ys each = tt
+front_all P (x ∷ xs) ys each = (each.0, front_all P xs ys each.1)
+
+lanes_begun : (P : Command → Type 0) (lanes wholes : List (List Command)) → AllZip (λ (lane whole : List Command). Begins lane whole) lanes wholes
+    → AllByRecursion (λ (lane : List Command). AllByRecursion P lane) wholes → AllByRecursion (λ (lane : List Command). AllByRecursion P lane) lanes
+lanes_begun P [] [] begun each = tt
+lanes_begun P [] (w ∷ ws) begun each = absurd begun
+lanes_begun P (l ∷ ls) [] begun each = absurd begun
+lanes_begun P (l ∷ ls) (w ∷ ws) begun each =
+    (front_all P l begun.0.0 (subst (λ (cs : List Command). AllByRecursion P cs) begun.0.1 each.0), lanes_begun P ls ws begun.1 each.1)
+
+-- where an item may be played, so may one that begins it
+may_begun : (fleet : Fleet) (y x : Item) → BeginsItem y x → sessions.MayPlayItem fleet x → sessions.MayPlayItem fleet y
+may_begun fleet (item.One c) (item.One d) same may = subst (λ (e : Command). MayPlay fleet e) (sym same) may
+may_begun fleet (item.One c) (item.Burst wholes) none may = absurd none
+may_begun fleet (item.Burst lanes) (item.One d) none may = absurd none
+may_begun fleet (item.Burst lanes) (item.Burst wholes) begun may = lanes_begun (MayPlay fleet) lanes wholes begun may
+
+-- ---- a run that stops
+
+module _ {B : Type 0} (base : ℕ → Option NamedStates) (meaning : B → Meaning) (fleet : Fleet) (olds : List B) (was : Option (List ℕ)) (watching : List Held) where
+  -- before an item of which nothing was done
+  pub run_halts : (written : Option (List ℕ)) (watched : List Held) (items more : List Item) (xs : List (Hold B)) → RunSoFar base meaning fleet olds was written watching watched items xs
+      → (items ≡ [] → berths_in xs ≡ olds) → RunShort base meaning fleet olds was written watching watched (items ++ more) xs
+  run_halts written watched items more xs run first = record {
+    played = run.played;
+    some = PlaysSome.whole (more, ap (λ (is : List Item). is ++ more) (sym run.items_are));
+    rest = [];
+    text = all_written was written (lines_text fleet.names (all_lines run.played)) run.text;
+    last = omega arith;
+    heard = run.heard;
+    counted = run.counted;
+    keeps = run.keeps;
+    untouched = λ none. first (sym run.items_are ∙ ap (λ (ps : List PlayedItem). map item_of ps) none);
+    session = run.session;
+  }
+
+  -- behind one that was played, or begun, and of which a front was written
+  pub run_cut : (written after : Option (List ℕ)) (between watched : List Held) (items more : List Item) (x : Item) (xs ys : List (Hold B)) (p : PlayedItem)
+      → RunSoFar base meaning fleet olds was written watching between items xs → MayPlayItem fleet x → AllPass meaning xs ys
+      → BeginsItem (item_of p) x → PlaysItem meaning fleet xs p ys → AllCounted meaning (all_pieces (p ∷ [])) xs ys → HearsAll fleet (plays_of p) between watched
+      → WritesFront written after (lines_text fleet.names (item_lines p))
+      → RunShort base meaning fleet olds was after watching watched (items ++ x ∷ more) ys
+  run_cut written after between watched items more x xs ys p run may passes begins plays counts heard front =
+      let may_item : sessions.MayPlayItem fleet (item_of p) = may_begun fleet (item_of p) x begins (each_may fleet x may) in
+      let lines : lines_text fleet.names (all_lines (run.played ++ p ∷ [])) ≡ lines_text fleet.names (all_lines run.played) ++ lines_text fleet.names (item_lines p) =
+      ap (λ (ls : List Line). lines_text fleet.names ls) (lines_snoc run.played p) ∙ flat_map-append (line_text fleet.names) (all_lines run.played) (item_lines p) in
+      record {
+        played = run.played ++ p ∷ [];
+        some = PlaysSome.within items (item_of p) x more refl begins (map-append item_of run.played (p ∷ []) ∙ ap (λ (is : List Item). is ++ item_of p ∷ []) run.items_are);
+        rest = front.0;
+        text = subst (λ (t : List ℕ). Written was after t front.0) (sym lines)
+            (front_behind was written after (lines_text fleet.names (all_lines run.played)) (lines_text fleet.names (item_lines p)) front.0 run.text front.1);
+        last = subst (λ (ls : List Line). length front.0 ≤ length (lines_text fleet.names ls)) (sym (last_snoc run.played p))
+            (rest_within (lines_text fleet.names (item_lines p)) front.1.front front.0 front.1.is);
+        heard = subst (λ (qs : List Played). HearsAll fleet qs watching watched) (sym (plays_snoc run.played p))
+            (heard_on fleet (plays_in run.played) (plays_of p) watching between watched run.heard heard);
+        counted = λ leaf old y l new at now held.
+            let had = element_at xs leaf (omega (arith, within ys leaf y now, passes.count)) in
+            let before = counted_before meaning leaf (all_pieces (p ∷ [])) had.0 y l new (counts.each leaf had.0 y had.1 now) held in
+            subst (λ ps. CountsRose leaf ps (meaning old) (meaning new)) (sym (pieces_snoc run.played p))
+            (counted_on leaf (all_pieces run.played) (all_pieces (p ∷ [])) (meaning old) (meaning before.1) (meaning new)
+            (run.counted leaf old had.0 before.0 before.1 at had.1 before.2) before.3);
+        keeps = holds_keep meaning olds xs ys run.keeps passes;
+        untouched = λ none. absurd (some_there run.played p none);
+        session = λ known is. plays_on meaning olds fleet known run.played xs ys p may_item (run.session known is) plays;
+      }
+    where
+      some_there : (ps : List PlayedItem) (p : PlayedItem) → ps ++ p ∷ [] ≡ [] → ⊥
+      some_there [] p e = cc
+      some_there (q ∷ ps) p e = cc
+
+  -- where an item stops a run
+  pub run_stops : (written after : Option (List ℕ)) (between watched : List Held) (items more : List Item) (x : Item) (xs ys : List (Hold B))
+      → RunSoFar base meaning fleet olds was written watching between items xs → (items ≡ [] → berths_in xs ≡ olds) → MayPlayItem fleet x → AllPass meaning xs ys
+      → StopsAt meaning fleet xs ys written after between watched x
+      → RunShort base meaning fleet olds was after watching watched (items ++ x ∷ more) ys
+  run_stops written after between watched items more x xs ys run first may passes (StopsAt.unplayed holds text watches) =
+      subst (λ (hs : List (Hold B)). RunShort base meaning fleet olds was after watching watched (items ++ x ∷ more) hs) (sym holds)
+      (subst (λ (t : Option (List ℕ)). RunShort base meaning fleet olds was t watching watched (items ++ x ∷ more) xs) (sym text)
+      (subst (λ (ws : List Held). RunShort base meaning fleet olds was written watching ws (items ++ x ∷ more) xs) (sym watches)
+      (run_halts written between items (x ∷ more) xs run first)))
+  run_stops written after between watched items more x xs ys run first may passes (StopsAt.short p begins plays counts heard front) =
+      run_cut written after between watched items more x xs ys p run may passes begins plays counts heard front
+
+pub some_done : (done : List Item) (x : Item) → done ++ x ∷ [] ≡ [] → ⊥
+some_done [] x e = cc
+some_done (y ∷ done) x e = cc
+
+-- at an item of all of them
+pub run_short : {B : Type 0} (base : ℕ → Option NamedStates) (meaning : B → Meaning) (fleet crew : Fleet) (olds : List B) (was written after : Option (List ℕ)) (watching between watched : List Held) (done left more all : List Item) (x : Item) (xs ys : List (Hold B))
+    → RunSoFar base meaning fleet olds was written watching between done xs → (done ≡ [] → berths_in xs ≡ olds) → done ++ left ≡ all → left ≡ x ∷ more → AllByRecursion (MayPlayItem fleet) left → AllPass meaning xs ys → crew ≡ fleet
+    → StopsAt meaning crew xs ys written after between watched x
+    → RunShort base meaning fleet olds was after watching watched all ys
+run_short base meaning fleet crew olds was written after watching between watched done left more all x xs ys run first whole is may passes same stops =
+    let each : AllByRecursion (MayPlayItem fleet) (x ∷ more) = subst (AllByRecursion (MayPlayItem fleet)) is may in
+    subst (λ (its : List Item). RunShort base meaning fleet olds was after watching watched its ys) (ap (λ (r : List Item). done ++ r) (sym is) ∙ whole)
+    (run_stops base meaning fleet olds was watching written after between watched done more x xs ys run first each.0 passes
+    (subst (λ (f : Fleet). StopsAt meaning f xs ys written after between watched x) same stops))

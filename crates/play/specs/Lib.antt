@@ -5,3 +5,5 @@ pub mod Runs
 pub mod Outcome
 pub mod Keeping
 pub mod Complete
+pub mod Cut
+pub mod Shortened

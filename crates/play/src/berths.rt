@@ -1,5 +1,5 @@
 // A script's play over the berths.
-ghost use Rattle.std.specs.Prelude.{◌≡◌, ◌≤◌, [], length, map, OnOk, IfOk, IfSome, None, IsErrOf, IsOk};
+ghost use Rattle.std.specs.Prelude.{◌≡◌, ◌≤◌, [], length, map, OnOk, OnErr, IfOk, IfSome, None, IsErrOf, IsOk};
 ghost use Rattle.std.specs.List.{AllByRecursion};
 ghost use Rattle.std.specs.Io.KnownBytes.{Appends};
 ghost use Rattle.berth_face.specs.Causes.{Rose};
@@ -9,6 +9,9 @@ ghost use Rattle.transcript.specs.Leaving.{IsWritten};
 ghost use Rattle.player.specs.Crew.{AllPass, HasAll};
 ghost use Rattle.bursts.specs.Items.{MayPlayItem};
 ghost use Rattle.play.specs.Played.{AreBases, LeavesBerths, leaves_in};
+ghost use Rattle.berth_face.specs.Streams.{WritesFront};
+ghost use Rattle.bursts.specs.Went.{told_lines};
+ghost use Rattle.play.specs.Shortened.{IfShort, RunShort, StopsAt, StopsShort};
 ghost use Rattle.play.specs.Runs.{Advances, HoldsKeep, IsEnd, IsFleetOf, RunSoFar, berths_in};
 
 use crate::bases::Bases;
@@ -103,6 +106,8 @@ pub fn play_items<N: Bases, R: Wait + Threads + Sync, K: Sink, B: Berth, G: Gate
     requires bases { AreBases N.base B.meaning berths.old.items }
     ensures done { result ≡ Status.Done → IsWritten B.meaning berths.old.items berths.new.items N.base items (K.written sink.old) (K.written sink.new)
         (map (λ watch. held watch) watches.old.items) (map (λ watch. held watch) watches.new.items) }
+    ensures short { IfShort result (StopsShort B.meaning berths.old.items berths.new.items N.base items (K.written sink.old) (K.written sink.new)
+        (map (λ watch. held watch) watches.old.items) (map (λ watch. held watch) watches.new.items)) }
     ensures ends { IsEnd result }
     ensures write_fault { result ≡ Status.WriteFault → Rose (K.faults sink.old) (K.faults sink.new) }
     ensures berths { LeavesBerths B.meaning (leaves_in items) berths.old.items berths.new.items }
@@ -132,6 +137,8 @@ fn play_over<N: Bases, R: Wait + Threads + Sync, K: Sink, B: Berth, G: Gate>(
     requires bases { AreBases N.base B.meaning berths.old.items }
     ensures done { result ≡ Status.Done → IsWritten B.meaning berths.old.items berths.new.items N.base items (K.written sink.old) (K.written sink.new)
         (map (λ watch. held watch) watches.old.items) (map (λ watch. held watch) watches.new.items) }
+    ensures short { IfShort result (StopsShort B.meaning berths.old.items berths.new.items N.base items (K.written sink.old) (K.written sink.new)
+        (map (λ watch. held watch) watches.old.items) (map (λ watch. held watch) watches.new.items)) }
     ensures ends { IsEnd result }
     ensures write_fault { result ≡ Status.WriteFault → Rose (K.faults sink.old) (K.faults sink.new) }
     ensures berths { LeavesBerths B.meaning (leaves_in items) berths.old.items berths.new.items }
@@ -193,6 +200,8 @@ fn play_all<'t, N: Bases, R: Wait + Threads + Sync, K: Sink, B: Berth, G: Gate>(
         (map (λ watch. held watch) watches.old.items) (map (λ watch. held watch) watches.old.items) [] crew.old.holds }
     ensures done { result ≡ Status.Done → RunSoFar N.base B.meaning crew.old.fleet (berths_in crew.old.holds) (K.written sink.old) (K.written sink.new)
         (map (λ watch. held watch) watches.old.items) (map (λ watch. held watch) watches.new.items) items.items crew.new.holds }
+    ensures short { IfShort result (RunShort N.base B.meaning crew.old.fleet (berths_in crew.old.holds) (K.written sink.old) (K.written sink.new)
+        (map (λ watch. held watch) watches.old.items) (map (λ watch. held watch) watches.new.items) items.items crew.new.holds) }
     ensures ends { IsEnd result }
     ensures write_fault { result ≡ Status.WriteFault → Rose (K.faults sink.old) (K.faults sink.new) }
     ensures keeps { HoldsKeep B.meaning (berths_in crew.old.holds) crew.new.holds }
@@ -225,6 +234,8 @@ fn play_next<'t, R: Wait + Threads + Sync, K: Sink, B: Berth, G: Gate>(
     requires all { HasAll crew.old.fleet crew.old.holds }
     ensures played { OnOk result (Advances B.meaning crew.old.fleet crew.old.holds crew.new.holds (K.written sink.old) (K.written sink.new)
         (map (λ watch. held watch) watches.old.items) (map (λ watch. held watch) watches.new.items) item) }
+    ensures stops { OnErr result (StopsAt B.meaning crew.old.fleet crew.old.holds crew.new.holds (K.written sink.old) (K.written sink.new)
+        (map (λ watch. held watch) watches.old.items) (map (λ watch. held watch) watches.new.items) item) }
     ensures fleet { crew.new.fleet ≡ crew.old.fleet }
     ensures all { HasAll crew.new.fleet crew.new.holds }
     ensures time { AllPass B.meaning crew.old.holds crew.new.holds }
@@ -245,6 +256,8 @@ fn write_lines<K: Sink>(
     requires { IfOk lines (λ lines. AllByRecursion (IsOf names.now) lines.items) }
     ensures made { OnOk result (IsOk lines) }
     ensures written { OnOk result (IfOk lines (λ lines. Appends (K.written sink.old) (K.written sink.new) (lines_text names.now lines.items))) }
+    ensures front { IfOk lines (λ lines. WritesFront (K.written sink.old) (K.written sink.new) (lines_text names.now lines.items)) }
+    ensures none { told_lines lines ≡ None → K.written sink.new ≡ K.written sink.old }
     ensures failed { IsErrOf result WriteError.Failed → Rose (K.faults sink.old) (K.faults sink.new) }
     ensures later { K.faults sink.old ≤ K.faults sink.new }
 {
@@ -263,6 +276,7 @@ fn write_pieces<K: Sink>(
 ) -> Result<(), WriteError>
     requires { AllByRecursion (IsOf names.now) lines.now }
     ensures written { OnOk result (Appends (K.written sink.old) (K.written sink.new) (lines_text names.now lines.now)) }
+    ensures front { WritesFront (K.written sink.old) (K.written sink.new) (lines_text names.now lines.now) }
     ensures failed { IsErrOf result WriteError.Failed → Rose (K.faults sink.old) (K.faults sink.new) }
     ensures later { K.faults sink.old ≤ K.faults sink.new }
 {
@@ -282,6 +296,7 @@ fn write_piece<K: Sink>(
 ) -> Result<(), WriteError>
     requires { AllByRecursion (IsOf names.now) piece.now }
     ensures written { OnOk result (Appends (K.written sink.old) (K.written sink.new) (lines_text names.now piece.now)) }
+    ensures front { WritesFront (K.written sink.old) (K.written sink.new) (lines_text names.now piece.now) }
     ensures failed { IsErrOf result WriteError.Failed → Rose (K.faults sink.old) (K.faults sink.new) }
     ensures later { K.faults sink.old ≤ K.faults sink.new }
 {

@@ -7,6 +7,7 @@ ghost use Rattle.row_count.specs.Outcome.{IsCutShort, IfScript, UnlessCutOff, Un
 ghost use Rattle.row_count.specs.Source.{most_taken};
 ghost use Rattle.play.specs.Keeping.{ArePlayedTwice, IsKeptBase, Kept, LeavesKnown, bases_of, states_of};
 ghost use Rattle.play.specs.Outcome.{IsDone, IsTextRefused, IfCount, IfUnread, UnlessPlayed, verdict};
+ghost use Rattle.play.specs.Shortened.{IfShort, IsShort};
 ghost use Rattle.play.specs.Played.{AreBases, IsBase, IsPlayed, LeavesBerths, leaves_asked};
 ghost use Rattle.play.specs.Words.{request_of};
 ghost use Rattle.play.specs.declared.words.Request.TheVariants.{Play};
@@ -55,6 +56,9 @@ pub fn run_known<R: Wait + Threads + Sync, S: Source, K: Sink, B: Berth, G: Gate
     ensures done { result ≡ Status.Done → IsDone (bases_of known.now) B.meaning (request_of (map string_bytes words.now))
         (S.left source.old) (S.left source.new) (K.written sink.old) (K.written sink.new) berths.old.items berths.new.items
         (map (λ watch. held watch) watches.old.items) (map (λ watch. held watch) watches.new.items) }
+    ensures short { IfShort result (IsShort (bases_of known.now) B.meaning (request_of (map string_bytes words.now))
+        (S.left source.old) (S.left source.new) (K.written sink.old) (K.written sink.new) berths.old.items berths.new.items
+        (map (λ watch. held watch) watches.old.items) (map (λ watch. held watch) watches.new.items)) }
     ensures words { (result ≡ Status.Words) ↔ (request_of (map string_bytes words.now) ≡ None) }
     ensures script { IfScript result (IsTextRefused (length berths.old.items) (request_of (map string_bytes words.now)) (S.left source.old) (S.left source.new)) }
     ensures read_fault { result ≡ Status.ReadFault → Rose (S.faults source.old) (S.faults source.new) }
@@ -93,6 +97,9 @@ fn run_for<N: Bases, R: Wait + Threads + Sync, S: Source, K: Sink, B: Berth, G: 
     ensures done { result ≡ Status.Done → IsDone N.base B.meaning (request_of (map string_bytes words.now))
         (S.left source.old) (S.left source.new) (K.written sink.old) (K.written sink.new) berths.old.items berths.new.items
         (map (λ watch. held watch) watches.old.items) (map (λ watch. held watch) watches.new.items) }
+    ensures short { IfShort result (IsShort N.base B.meaning (request_of (map string_bytes words.now))
+        (S.left source.old) (S.left source.new) (K.written sink.old) (K.written sink.new) berths.old.items berths.new.items
+        (map (λ watch. held watch) watches.old.items) (map (λ watch. held watch) watches.new.items)) }
     ensures words { (result ≡ Status.Words) ↔ (request_of (map string_bytes words.now) ≡ None) }
     ensures script { IfScript result (IsTextRefused (length berths.old.items) (request_of (map string_bytes words.now)) (S.left source.old) (S.left source.new)) }
     ensures read_fault { result ≡ Status.ReadFault → Rose (S.faults source.old) (S.faults source.new) }

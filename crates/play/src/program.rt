@@ -5,6 +5,7 @@ ghost use Rattle.berth_face.specs.Streams.{TakesAtMost};
 ghost use Rattle.row_count.specs.Outcome.{IsCutShort, IfScript, UnlessCutOff, UnlessWritten, TakesText};
 ghost use Rattle.row_count.specs.Source.{most_taken};
 ghost use Rattle.play.specs.Outcome.{IsDone, IsTextRefused, IfCount, IfUnread, UnlessPlayed, verdict};
+ghost use Rattle.play.specs.Shortened.{IfShort, IsShort};
 ghost use Rattle.play.specs.Played.{AreBases, LeavesBerths, leaves_asked};
 ghost use Rattle.play.specs.Words.{request_of};
 
@@ -36,6 +37,11 @@ pub fn run<N: Bases, R: Wait + Threads + Sync, S: Source, K: Sink, B: Berth, G: 
     ensures done { result ≡ Status.Done → IsDone N.base B.meaning (request_of (map string_bytes words.now))
         (S.left source.old) (S.left source.new) (K.written sink.old) (K.written sink.new) berths.old.items berths.new.items
         (map (λ watch. held watch) watches.old.items) (map (λ watch. held watch) watches.new.items) }
+
+    // What was played and written where the sink failed or memory ran out: how a run begins, and what it leaves.
+    ensures short { IfShort result (IsShort N.base B.meaning (request_of (map string_bytes words.now))
+        (S.left source.old) (S.left source.new) (K.written sink.old) (K.written sink.new) berths.old.items berths.new.items
+        (map (λ watch. held watch) watches.old.items) (map (λ watch. held watch) watches.new.items)) }
 
     // Each other status has its cause, but for want of memory.
     ensures words { (result ≡ Status.Words) ↔ (request_of (map string_bytes words.now) ≡ None) }

@@ -5,6 +5,7 @@ ghost use Rattle.berth_face.specs.Streams.{TakesAtMost};
 ghost use Rattle.row_count.specs.Outcome.{IsRefused, IfScript, UnlessCutOff, TakesText};
 ghost use Rattle.row_count.specs.Source.{most_taken};
 ghost use Rattle.play.specs.Outcome.{UnlessPlayed, play_verdict, status_of_fault};
+ghost use Rattle.play.specs.Shortened.{EndsShort, IfShort};
 ghost use Rattle.play.specs.Played.{AreBases, IsPlayed, LeavesBerths, leaves_told};
 
 use crate::bases::Bases;
@@ -30,6 +31,8 @@ pub fn play_source<N: Bases, R: Wait + Threads + Sync, S: Source, K: Sink, B: Be
     requires { AreBases N.base B.meaning berths.old.items }
     ensures done { result ≡ Status.Done → IsPlayed N.base B.meaning (S.left source.old) (S.left source.new) (K.written sink.old) (K.written sink.new) berths.old.items berths.new.items
         (map (λ watch. held watch) watches.old.items) (map (λ watch. held watch) watches.new.items) }
+    ensures short { IfShort result (EndsShort N.base B.meaning (S.left source.old) (S.left source.new) (K.written sink.old) (K.written sink.new) berths.old.items berths.new.items
+        (map (λ watch. held watch) watches.old.items) (map (λ watch. held watch) watches.new.items)) }
     ensures known_words { result ≢ Status.Words }
     ensures script { IfScript result (IsRefused (play_verdict (length berths.old.items)) (S.left source.old) (S.left source.new)) }
     ensures read_fault { result ≡ Status.ReadFault → Rose (S.faults source.old) (S.faults source.new) }
@@ -57,6 +60,8 @@ pub fn play_source<N: Bases, R: Wait + Threads + Sync, S: Source, K: Sink, B: Be
         Ok(script) => script,
         Err(fault) => return status_of(fault),
     };
+    // (the script owns all that it needs)
+    drop(text);
     if berths.len() < leaf_count(&script.items) {
         return Status::Script {
             line: script.fleet_line,

@@ -3,6 +3,7 @@ ghost use Rattle.std.specs.Prelude.{◌≡◌, ◌≢◌, ◌≤◌, length, map
 ghost use Rattle.berth_face.specs.Causes.{Rose};
 ghost use Rattle.row_count.specs.Outcome.{IfScript, UnlessCutOff};
 ghost use Rattle.play.specs.Outcome.{UnlessPlayed, soak_verdict};
+ghost use Rattle.play.specs.Shortened.{IfShort, SoakEndsShort};
 ghost use Rattle.play.specs.Played.{AreBases, IsSoaked, LeavesBerths, soak_leaves};
 
 use crate::bases::Bases;
@@ -34,6 +35,8 @@ pub fn play_soak<N: Bases, R: Wait + Threads + Sync, K: Sink, B: Berth, G: Gate>
     requires bases { AreBases N.base B.meaning berths.old.items }
     ensures done { result ≡ Status.Done → IsSoaked N.base B.meaning seed rows (K.written sink.old) (K.written sink.new) berths.old.items berths.new.items
         (map (λ watch. held watch) watches.old.items) (map (λ watch. held watch) watches.new.items) }
+    ensures short { IfShort result (SoakEndsShort N.base B.meaning seed rows (K.written sink.old) (K.written sink.new) berths.old.items berths.new.items
+        (map (λ watch. held watch) watches.old.items) (map (λ watch. held watch) watches.new.items)) }
     ensures known_words { result ≢ Status.Words }
     ensures script { IfScript result (λ line why. soak_verdict (length berths.old.items) ≡ Status.Script line why) }
     ensures unread { result ≢ Status.ReadFault }

@@ -4,4 +4,4 @@ use Rattle.rollover_watch.specs.Watches.{Held}
 
 -- as another watch, but that it leaves at each event
 abbrev pub leaving : Held → Held
-leaving watch = record watch { wish = λ event. Leave }
+leaving watch = record watch { wish = λ more event. Leave }

@@ -4,8 +4,8 @@ use Rattle.rollover_watch.specs.Watches.{Held}
 
 -- as another watch, but that it leaves at each event
 abbrev pub leaving : Held → Held
-leaving watch = record watch { wish = λ event. Leave }
+leaving watch = record watch { wish = λ more event. Leave }
 
 -- as another watch, but that it asks for a halt at each event
 abbrev pub halting : Held → Held
-halting watch = record watch { wish = λ event. Halt }
+halting watch = record watch { wish = λ more event. Halt }

@@ -60,14 +60,14 @@ module _ (event : RollEvent) (all now : List Held) (place : ℕ) (halted : Bool)
     halts = ahead ∙ ap (λ ws. (halted || halts event w) || list_any (halts event) ws) (sym (drop-set-lt (place + 1) now place v (omega arith)));
   }
 
-  pub telling_stays : w.wish event ≡ Stay → HasHeard event w v → IsTelling event all (set now place v) (place + 1) halted
+  pub telling_stays : w.wish [] event ≡ Stay → HasHeard event w v → IsTelling event all (set now place v) (place + 1) halted
   telling_stays wish heard = subst (λ b. IsTelling event all (set now place v) (place + 1) b) (ap (λ x. halted || is_halting x) wish ∙ or_false halted) (told (ap is_staying wish) heard)
     where
       or_false : (b : Bool) → (b || false) ≡ b
       or_false true = refl
       or_false false = refl
 
-  pub telling_halts : w.wish event ≡ Halt → HasHeard event w v → IsTelling event all (set now place v) (place + 1) true
+  pub telling_halts : w.wish [] event ≡ Halt → HasHeard event w v → IsTelling event all (set now place v) (place + 1) true
   telling_halts wish heard = subst (λ b. IsTelling event all (set now place v) (place + 1) b) (ap (λ x. halted || is_halting x) wish ∙ or_true halted) (told (ap is_staying wish) heard)
     where
       or_true : (b : Bool) → (b || true) ≡ true
@@ -75,7 +75,7 @@ module _ (event : RollEvent) (all now : List Held) (place : ℕ) (halted : Bool)
       or_true false = refl
 
   -- a watch that was told and is taken out
-  pub telling_leaves : w.wish event ≡ Leave → (rest : List Held) → length rest + 1 ≡ length now → take place rest ≡ take place now → drop place rest ≡ drop (place + 1) now
+  pub telling_leaves : w.wish [] event ≡ Leave → (rest : List Held) → length rest + 1 ≡ length now → take place rest ≡ take place now → drop place rest ≡ drop (place + 1) now
       → IsTelling event all rest place halted
   telling_leaves wish rest fewer before behind = record {
     within = omega arith;
@@ -101,15 +101,15 @@ module _ {X : Type 0} (means : X → Held) (event : RollEvent) (all : List Held)
   first : drop place (map means xs) ≡ means x ∷ drop (place + 1) (map means xs)
   first = drop-map means place xs ∙ ap (map means) (drop_more xs place x inside ∙ ap (λ z. z ∷ drop (place + 1) xs) (sym read)) ∙ ap (λ ws. means x ∷ ws) (sym (drop-map means (place + 1) xs))
 
-  pub stays_here : Stay ≡ (means x).wish event → HasHeard event (means x) (means y) → IsTelling event all (map means (set xs place y)) (place + 1) halted
+  pub stays_here : Stay ≡ (means x).wish [] event → HasHeard event (means x) (means y) → IsTelling event all (map means (set xs place y)) (place + 1) halted
   stays_here wish heard = subst (λ ws. IsTelling event all ws (place + 1) halted) (sym (map-set means xs place y))
       (telling_stays event all (map means xs) place halted (means x) (means y) t within first (sym wish) heard)
 
-  pub halts_here : Halt ≡ (means x).wish event → HasHeard event (means x) (means y) → IsTelling event all (map means (set xs place y)) (place + 1) true
+  pub halts_here : Halt ≡ (means x).wish [] event → HasHeard event (means x) (means y) → IsTelling event all (map means (set xs place y)) (place + 1) true
   halts_here wish heard = subst (λ ws. IsTelling event all ws (place + 1) true) (sym (map-set means xs place y))
       (telling_halts event all (map means xs) place halted (means x) (means y) t within first (sym wish) heard)
 
-  pub leaves_here : Leave ≡ (means x).wish event → (ys : List X) → ys ≡ remove (set xs place y) place → IsTelling event all (map means ys) place halted
+  pub leaves_here : Leave ≡ (means x).wish [] event → (ys : List X) → ys ≡ remove (set xs place y) place → IsTelling event all (map means ys) place halted
   leaves_here wish ys taken =
       let set_is : remove (set xs place y) place ≡ take place xs ++ drop (suc place) xs = ap (λ zs. zs ++ drop (suc place) (set xs place y)) (take-set xs place y) ∙ ap (λ zs. take place xs ++ zs) (drop-set-lt (suc place) xs place y (omega arith)) in
       let ys_is : ys ≡ take place xs ++ drop (suc place) xs = taken ∙ set_is in

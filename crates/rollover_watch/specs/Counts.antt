@@ -1,14 +1,20 @@
 -- A watch that counts.
-use Rattle.std.specs.Prelude.{ℕ, ◌++◌, None, codes, decimal}
+use Rattle.std.specs.Prelude.{ℕ, Bool, List, [], ◌∷◌, ◌++◌, None, codes, decimal}
+use Rattle.rollover_watch.specs.declared.event.RollEvent.{RollEvent}
 use Rattle.rollover_watch.specs.declared.event.Wish.TheVariants.{Stay}
-use Rattle.rollover_watch.specs.Watches.{Held}
+use Rattle.rollover_watch.specs.Watches.{Held, is_adopted, is_drained, raised}
+
+-- a count behind these events
+abbrev pub raised_by : (RollEvent → Bool) → ℕ → List RollEvent → ℕ
+raised_by counts count [] = count
+raised_by counts count (e ∷ es) = raised_by counts (raised (counts e) count) es
 
 -- it stays, keeps no events, and shows both counts
 abbrev pub counted : ℕ → ℕ → Held
 counted drained adopted = record {
-  line = codes "drained " ++ (decimal drained ++ (codes " adopted " ++ decimal adopted));
+  line = λ more. codes "drained " ++ (decimal (raised_by is_drained drained more) ++ (codes " adopted " ++ decimal (raised_by is_adopted adopted more)));
   drained = drained;
   adopted = adopted;
   events = None;
-  wish = λ event. Stay;
+  wish = λ more event. Stay;
 }

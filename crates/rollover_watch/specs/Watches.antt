@@ -11,11 +11,11 @@ use Rattle.rollover_watch.specs.declared.event.Wish.TheVariants.{Leave, Halt}
 -- what a watch means: its line; how many drains it was told that were done, and starts that found the tables in memory;
 -- the events that it was told, where it keeps them; and what it wishes at an event
 pub record Held : Type 0 where
-  pub line : List ℕ
+  pub line : List RollEvent → List ℕ
   pub drained : ℕ
   pub adopted : ℕ
   pub events : Option (List RollEvent)
-  pub wish : RollEvent → Wish
+  pub wish : List RollEvent → RollEvent → Wish
 
 -- a drain that was done
 abbrev pub is_drained : RollEvent → Bool
@@ -37,6 +37,8 @@ pub record HasHeard (event : RollEvent) (old new : Held) : Type 0 where
   pub drained : new.drained ≡ raised (is_drained event) old.drained
   pub adopted : new.adopted ≡ raised (is_adopted event) old.adopted
   pub events : new.events ≡ option_map (λ events. events ++ event ∷ []) old.events
+  pub line : (more : List RollEvent) → new.line more ≡ old.line (event ∷ more)
+  pub wish : (more : List RollEvent) (next : RollEvent) → new.wish more next ≡ old.wish (event ∷ more) next
 
 -- whether a wish is to be told more
 abbrev pub is_staying : Wish → Bool
@@ -45,7 +47,7 @@ is_staying _ = true
 
 -- whether a watch stays at an event
 abbrev pub stays : RollEvent → Held → Bool
-stays event watch = is_staying (watch.wish event)
+stays event watch = is_staying (watch.wish [] event)
 
 -- whether a wish is that no further wave begins
 abbrev pub is_halting : Wish → Bool
@@ -54,7 +56,7 @@ is_halting _ = false
 
 -- whether a watch asks for a halt at an event
 abbrev pub halts : RollEvent → Held → Bool
-halts event watch = is_halting (watch.wish event)
+halts event watch = is_halting (watch.wish [] event)
 
 -- each watch of a list was told an event; those that wished to leave are gone, and the others are in their order as they have heard it
 abbrev pub AreTold : RollEvent → List Held → List Held → Type 0

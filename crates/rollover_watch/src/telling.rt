@@ -1,5 +1,5 @@
 // One event, told to a list of watches.
-ghost use Rattle.std.specs.Prelude.{◌≡◌, map};
+ghost use Rattle.std.specs.Prelude.{◌≡◌, [], map};
 ghost use Rattle.rollover_watch.specs.Watches.{HasHeard, AreTold, is_halt_asked};
 
 use crate::event::{RollEvent, Wish};
@@ -7,7 +7,7 @@ use crate::watch::Watch;
 
 /// Tells one watch.
 fn tell(watch: &mut Box<dyn Watch>, event: &RollEvent) -> Wish
-    ensures wish { result ≡ (held watch.old).wish event.now }
+    ensures wish { result ≡ (held watch.old).wish [] event.now }
     ensures heard { HasHeard event.now (held watch.old) (held watch.new) }
 {
     watch.told(event)

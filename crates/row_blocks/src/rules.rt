@@ -1,5 +1,5 @@
 // The rules of a block, as tests of its columns.
-ghost use Rattle.std.specs.Prelude.{◌≡◌, ◌↔◌, ℕ, ◌<◌, ◌≤◌, List, length, map, ℤ, Some, IfOk, IsTrue, MatchOption, option_map};
+ghost use Rattle.std.specs.Prelude.{◌≡◌, ◌↔◌, ℕ, ◌<◌, ◌≤◌, List, length, map, ℤ, pos, false, Some, None, IfOk, IsTrue, MatchOption, option_map, slice_index_or, if◌then◌else◌};
 ghost use Rattle.std.specs.List.{AllByRecursion};
 ghost use Rattle.std.specs.List.Sorted.{IsStrictlySortedBy};
 ghost use Rattle.std.specs.Ordering.{nat_cmp};
@@ -8,7 +8,7 @@ ghost use Rattle.leaf_model.specs.declared.rows.Value.TheVariants.{Int};
 ghost use Rattle.leaf_model.specs.Values.{IsCellName, time_name};
 ghost use Rattle.column_bytes.specs.declared.kind.Kind.TheVariants.{Ints};
 ghost use Rattle.column_bytes.specs.Column.{kind_in};
-ghost use Rattle.column_bytes.specs.Cells.{Coded, cell_at};
+ghost use Rattle.column_bytes.specs.Cells.{Coded, cell_at, kind_of};
 ghost use Rattle.row_blocks.specs.declared.column.BlockColumn.{BlockColumn};
 ghost use Rattle.row_blocks.specs.Blocks.{AreTimes, IsOther, IsTimeCell};
 ghost use Rattle.row_blocks.specs.Columns.{IsSeen, MeanCells, cells_in};
@@ -19,7 +19,7 @@ ghost use Rattle.row_blocks.specs.Times.{AreFound, TellTimes, TellOthers};
 use crate::column::BlockColumn;
 use crate::headings::compare_columns;
 use crate::reading::view_of;
-use column_bytes::{ColumnView, Kind, ValueRef};
+use column_bytes::{ColumnView, Kind};
 use leaf_model::Text;
 use std::alloc::{AllocError, Global};
 
@@ -66,29 +66,55 @@ pub(crate) fn views_of_others(
     Ok(Some(views))
 }
 
-/// The time at a place, where there is one.
-fn time_at(view: &ColumnView, i: u32) -> Option<i64>
-    requires { i < length view.now.codes }
-    ensures { MatchOption result (IsTimeCell (cell_at view.now i) → ⊥) (λ t. (cell_at view.now i ≡ Some (Int t)) × IsTimeCell (Some (Int t))) }
+fn fill_times(view: &ColumnView, codes: &mut [u64], present: &mut [bool], times: &mut [i64])
+    requires kind { kind_of view.now.book ≡ Ints }
+    requires codes { length codes.old ≡ length view.now.codes }
+    requires present { length present.old ≡ length view.now.codes }
+    requires times { length times.old ≡ length view.now.codes }
+    ensures { (i : ℕ) → i < length view.now.codes → cell_at view.now i ≡ (if slice_index_or present.new i false then Some (Int (slice_index_or times.new i (pos 0))) else None) }
 {
-    match view.cell(i) {
-        Some(ValueRef::Int(time)) => { if time >= 0 { Some(time) } else { None } }
-        Some(ValueRef::Text(_)) | None => None,
-    }
+    view.integers(codes, present, times);
 }
 
-/// The times of a column, where each cell is one.
-fn times_in(alloc: Global, view: &ColumnView) -> Result<Option<Vec<i64>>, AllocError>
-    ensures { IfOk result (λ found. MatchOption found (((i : ℕ) → i < length view.now.codes → IsTimeCell (cell_at view.now i)) → ⊥) (λ times. AreFound view.now (length view.now.codes) times.items)) }
+/// Whether the cell at each place is there and a time.
+fn are_times(present: &[bool], times: &[i64]) -> bool
+    requires { length present.now ≡ length times.now }
+    ensures { IsTrue result ↔ ((i : ℕ) → i < length times.now → IsTimeCell (if slice_index_or present.now i false then Some (Int (slice_index_or times.now i (pos 0))) else None)) }
 {
-    let mut times = Vec::with_capacity(alloc, view.len() as usize)?;
-    for i in 0..view.len() {
-        match time_at(view, i) {
-            Some(time) => times.push(time)?,
-            None => return Ok(None),
+    for i in 0..times.len() {
+        if !is_time(present[i], times[i]) {
+            return false;
         }
     }
-    Ok(Some(times))
+    true
+}
+
+fn is_time(present: bool, time: i64) -> bool
+    ensures { IsTrue result ↔ IsTimeCell (if present then Some (Int time) else None) }
+{
+    present && time >= 0
+}
+
+/// The times of a column, where each cell is one. All are decoded in order, so that each difference is added once.
+fn times_in(alloc: Global, view: &ColumnView) -> Result<Option<Vec<i64>>, AllocError>
+    requires { kind_of view.now.book ≡ Ints }
+    ensures { IfOk result (λ found. MatchOption found (((i : ℕ) → i < length view.now.codes → IsTimeCell (cell_at view.now i)) → ⊥) (λ times. AreFound view.now (length view.now.codes) times.items)) }
+{
+    let count = view.len() as usize;
+    let mut codes = vec![in alloc; 0u64; count]?;
+    let mut present = vec![in alloc; false; count]?;
+    let mut times = vec![in alloc; 0i64; count]?;
+    fill_times(
+        view,
+        codes.as_mut_slice(),
+        present.as_mut_slice(),
+        times.as_mut_slice(),
+    );
+    if are_times(present.as_slice(), times.as_slice()) {
+        Ok(Some(times))
+    } else {
+        Ok(None)
+    }
 }
 
 /// The times of a column of integers under the name of times, where each cell is one.

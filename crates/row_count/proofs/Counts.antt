@@ -33,6 +33,18 @@ counted range n row (Err found) = refl
 pub count_fault : (range : Range) (n : ℕ) (text piece rest : List ℕ) (fault : RowFault) → lines text ≡ piece ∷ lines rest → is_blank (without_return piece) ≡ false → row_of (without_return piece) ≡ Err fault → count_after range n text ≡ Err (record { line = n + 1; fault = fault })
 count_fault range n text piece rest fault cut blank is = rw (cut, blank, is)
 
+more_more_first : (d k : ℕ) (more : Result ℕ LineFault) → more_by d (more_by k more) ≡ more_by (d + k) more
+more_more_first d k (Ok n) = ap Ok (sym (add_assoc d k n))
+more_more_first d k (Err found) = refl
+
+-- a line that is a row, in the range or not
+pub count_row : (range : Range) (d n : ℕ) (text piece rest : List ℕ) (row : Row) (is : Bool) → lines text ≡ piece ∷ lines rest → is_blank (without_return piece) ≡ false → row_of (without_return piece) ≡ Ok row → is_in range row ≡ is
+    → more_by d (count_after range n text) ≡ more_by (d + cond is 1 0) (count_after range (n + 1) rest)
+count_row range d n text piece rest row is cut blank found held =
+    ap (more_by d) (rw (cut, blank, found) (counted range (n + 1) row (rows_of_lines (n + 1 + 1) (map without_return (lines rest)))))
+    ∙ more_more_first d (cond (is_in range row) 1 0) (count_after range (n + 1) rest)
+    ∙ ap (λ b. more_by (d + cond b 1 0) (count_after range (n + 1) rest)) held
+
 from_none : (r : Result ℕ LineFault) → r ≡ more_by 0 r
 from_none (Ok k) = ap Ok (sym (zero-add k))
 from_none (Err found) = refl

@@ -3,6 +3,7 @@ ghost use Rattle.std.specs.Prelude.{◌≡◌, ◌≢◌, ◌+◌, ◌<◌, ◌^
 ghost use Rattle.std.specs.Borrow.{Bor};
 ghost use Rattle.std.specs.List.{AllZip};
 ghost use Rattle.row_json.specs.Row.{row_of};
+ghost use Rattle.leaf_model.specs.declared.rows.Cell.{Cell};
 ghost use Rattle.berth_face.specs.Causes.{Rose};
 ghost use Rattle.berth_face.specs.Streams.{TakesAtMost};
 ghost use Rattle.script_text.specs.Lines.{lines_of};
@@ -16,7 +17,7 @@ use crate::stream::{ReadError, read_all, write_all};
 use berth_face::{Sink, Source};
 use leaf_model::Row;
 use rayon::prelude::*;
-use row_json::RowFault;
+use row_json::{RowFault, RowRoom, quick_time};
 use script_text::{Why, cut_line, is_blank, parts_of, without_return};
 use std::alloc::{AllocError, Global};
 use std::collections::VecDeque;
@@ -166,6 +167,7 @@ fn count_part(alloc: Global, range: Range, part: &[u8]) -> Result<PartCount, Cou
     ensures rows { IfOk result (λ count. count_of range part.now ≡ Ok count.rows) }
     ensures refused { IfErr result (λ e. IfFault e (λ f. count_of range part.now ≡ Err f)) }
 {
+    let mut room = RowRoom::new(alloc);
     let mut rest = part;
     let mut line_number = 0u64;
     let mut count = 0u64;
@@ -175,11 +177,11 @@ fn count_part(alloc: Global, range: Range, part: &[u8]) -> Result<PartCount, Cou
         line_number += 1;
         let line = without_return(piece);
         if !is_blank(line) {
-            let row = match read_row(alloc, line, line_number) {
-                Ok(row) => row,
+            let time = match read_time(alloc, &mut room, line, line_number) {
+                Ok(time) => time,
                 Err(error) => return Err(error),
             };
-            if is_in(&range, &row) {
+            if is_in(&range, time) {
                 count += 1;
             }
         }
@@ -204,6 +206,26 @@ fn error_behind(lines: u64, error: CountError) -> CountError
     }
 }
 
+/// The time of the row that the line of this number is. Most rows are seen to be rows without being built.
+fn read_time(
+    alloc: Global,
+    room: &mut RowRoom,
+    line: &[u8],
+    line_number: u64,
+) -> Result<i64, CountError>
+    ensures read { IfOk result (λ time. (cells : List Cell) × (row_of line.now ≡ Ok (record { time = time; cells = cells }))) }
+    ensures refused { IfErr result (λ e. IfFault e (λ f. row_of line.now ≡ Err f.fault)) }
+    ensures place { IfErr result (λ e. IfFault e (λ f. f.line ≡ line_number)) }
+{
+    if let Some(time) = quick_time(room, line) {
+        return Ok(time);
+    }
+    match read_row(alloc, line, line_number) {
+        Ok(row) => Ok(row.time),
+        Err(error) => Err(error),
+    }
+}
+
 /// The row that the line of this number is.
 fn read_row(alloc: Global, line: &[u8], line_number: u64) -> Result<Row, CountError>
     ensures read { IfOk result (λ row. row_of line.now ≡ Ok row) }
@@ -222,8 +244,8 @@ fn read_row(alloc: Global, line: &[u8], line_number: u64) -> Result<Row, CountEr
     }
 }
 
-fn is_in(range: &Range, row: &Row) -> bool
-    ensures { result ≡ is_in range.now row.now }
+fn is_in(range: &Range, time: i64) -> bool
+    ensures { (cells : List Cell) → result ≡ is_in range.now (record { time = time; cells = cells }) }
 {
-    range.from <= row.time && row.time <= range.to
+    range.from <= time && time <= range.to
 }

@@ -2,5 +2,7 @@
 #![tactic(auto)]
 
 mod object;
+mod quick;
 
 pub use object::{RowFault, row, row_meaning};
+pub use quick::{RowRoom, quick_time};

@@ -170,7 +170,7 @@ fn last_name(cells: &[Cell]) -> &[u8]
 fn cells_of(alloc: Global, count: u16, bytes: &[u8]) -> Result<(Vec<Cell>, &[u8]), ReadError>
     ensures { ReadsAs (λ x. (x.0.items, x.1.now)) result (cells_at count [] bytes.now) }
 {
-    let mut cells = Vec::new(alloc);
+    let mut cells = Vec::with_capacity(alloc, (count as usize).min(bytes.len()))?;
     let mut rest = bytes;
     for _ in 0..count {
         let (cell, after) = cell_of(alloc, last_name(&cells), rest)?;
@@ -202,7 +202,7 @@ pub(crate) fn rows_of(
     ensures given { ReadsAs (λ x. (x.0.items, x.1.now)) result (rows_at count bytes.now) }
     ensures count { IfOk result (λ x. length x.0.items ≡ count) }
 {
-    let mut rows = Vec::new(alloc);
+    let mut rows = Vec::with_capacity(alloc, (count as usize).min(bytes.len() / 10))?;
     let mut rest = bytes;
     for _ in 0..count {
         let (row, after) = row_of(alloc, rest)?;

@@ -57,7 +57,7 @@ calls_in pieces = flat_map piece_calls pieces
 
 -- the line of a watch, as it is printed: at most 80 bytes
 abbrev pub watch_line : Held → List ℕ
-watch_line watch = take 80 watch.line
+watch_line watch = take 80 (watch.line [])
 
 -- The watches were told the events of a rollover in their order, with what the leaves answered by its lines; those that are left show their lines.
 pub record HearsRoll (fleet : Fleet) (percent : ℕ) (pieces : List Piece) (old new : List Held) : Type 0 where

@@ -23,7 +23,7 @@ returns-in-None-clause-told g c =
     λ region told adopting.
     let old = (g.B.Berth.meaning c.args.berth.now).held.region in
     let new = (g.B.Berth.meaning c.take_all.new.berth).held.region in
-    image_none c.args.names.now region old new c.args.image adopting (subst (λ (o : Option Drained). TakesAll region new (Ok o)) c.in-None.is (c.in_ok-drained.ensures.told region told adopting))
+    image_none c.args.names.now region old new c.args.image adopting c.requires.same (subst (λ (o : Option Drained). TakesAll region new (Ok o)) c.in-None.is (c.in_ok-drained.ensures.told region told adopting))
 
 pub returns-in_err-adopted-in-Some-clause-told : goal.returns-in_err-adopted-in-Some-clause-told
 returns-in_err-adopted-in-Some-clause-told g c =

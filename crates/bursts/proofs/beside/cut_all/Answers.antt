@@ -1,12 +1,11 @@
-use Rattle.std.proofs.Common.{◌≡◌, suc, Bool, true, List, [], ◌∷◌, ◌++◌, length, map, refl, sym, ap, subst, ◌∙◌, append_assoc, arith, rules}
-use Rattle.std.proofs.lemmas.List.{append-nil, map-append, nil_from_length}
+use Rattle.std.proofs.Common.{◌≡◌, suc, Bool, true, List, [], ◌∷◌, ◌++◌, length, map, refl, sym, ap, subst, ◌∙◌, arith, rules}
+use Rattle.std.proofs.lemmas.List.{append-nil, nil_from_length}
 use Rattle.script_text.specs.declared.fleet.Fleet.{Fleet}
 use Rattle.script_text.specs.Commands.{leaf_count}
 use Rattle.script_text.specs.declared.command.Command.{Command}
 use Rattle.transcript.specs.Lanes.{CutsOff}
 use Rattle.player.specs.Crew.{is_set}
 use Rattle.bursts.specs.declared.plan.Plan.{Plan}
-use Rattle.bursts.specs.Lent.{IsReady, Lent}
 use Rattle.bursts.specs.Needs.{CanLend, commands_in}
 use Rattle.bursts.proofs.Cutting.{lends_leaf, lends_on, lends_seats, length_snoc, marks_leaves, marks_tables}
 use Rattle.bursts.specs.Rolling.{has_rollover}
@@ -100,6 +99,7 @@ returns-in_err-off-clause-lent g c =
       inv.cut,
       lent_left (length c.args.plans.items) _ c.args.crew.now.holds _ inv.cut c.loop-plan.crew.holds c.cut_off.new.self.holds (c.in_err-off.ensures.refused refl) inv.lent,
       search rules,
+      (map commands_in c.loop-plan.plans.items, inv.all),
       inv.left,
     )
 
@@ -110,5 +110,6 @@ returns-clause-lent g c =
       inv.cut,
       inv.lent,
       λ ok. ap (λ (ps : List Plan). map commands_in ps ++ inv.cut) (sym none) ∙ inv.all,
+      (map commands_in c.loop-plan.plans.items, inv.all),
       inv.left,
     )

@@ -7,7 +7,10 @@ use Rattle.bursts.specs.Needs.{commands_in}
 use Rattle.bursts.specs.Rolling.{rolling}
 use Rattle.bursts.proofs.Cutting.{can_lend}
 use Rattle.bursts.proofs.Held.{pass_on, still_on}
-use Rattle.bursts.proofs.Items.{beside_from}
+use Rattle.bursts.proofs.Items.{beside_from, beside_short}
+use Rattle.bursts.specs.Went.{told_lines}
+use Rattle.std.proofs.Common.{inl, ◌+◌}
+use Rattle.bursts.proofs.Hearing.{rolling_append}
 use Rattle.bursts.proofs.Lending.{all_may_work, all_played, none_played}
 use Rattle.bursts.proofs.beside.play_beside.Goals as goal
 
@@ -47,8 +50,8 @@ take_all_back-requires-in-Err-clause-lent g c κs within =
       none_played _ _ g.B.Berth.meaning crew.fleet now.fleet crew.tables now.tables (length c.args.plans.items) crew.holds now.holds c.cut_all.new.lanes.items lent.0 c.cut_all.ensures.fleet.0 c.cut_all.ensures.fleet.1 lent.1,
     )
 
-pub returns-in-Ok-clause-played : goal.returns-in-Ok-clause-played
-returns-in-Ok-clause-played g c =
+pub returns-in-Ok-clause-went : goal.returns-in-Ok-clause-went
+returns-in-Ok-clause-went g c =
     let crew = c.meet_all.new.self in
     let now = c.cut_all.new.crew in
     let lent = c.in-Ok.ensures.lent in
@@ -57,8 +60,8 @@ returns-in-Ok-clause-played g c =
     let back = c.take_all_back.ensures.back crew.holds (length c.args.plans.items) lent.0 _
     (all_played _ _ g.B.Berth.meaning crew.fleet now.fleet crew.tables now.tables (length c.args.plans.items) crew.holds now.holds c.cut_all.new.lanes.items lent.0 c.cut_all.ensures.fleet.0 c.cut_all.ensures.fleet.1 lent.1
     c.as_mut_slice.result.now c.work_all.new.lanes c.cut_all.new.lanes.len c.as_mut_slice.ensures.value c.work_all.ensures.same (omega (arith, c.cut_all.new.lanes.ok.0)) c.work_all.ensures.each) in
-    beside_from g.B.Berth.meaning c.args.crew.now.fleet now.fleet c.args.crew.now.holds crew.holds c.take_all_back.new.crew.holds _ _ lent.0 (map commands_in c.args.plans.items) c.take_all_back.result
-    (c.cut_all.ensures.fleet.0 ∙ c.meet_all.ensures.fleet.0) all c.meet_all.ensures.met (back.played whole (subst (λ (ls : List (List Command)). rolling ls ≤ 1) (sym all) c.requires.one) lent.3)
+    inl (beside_from g.B.Berth.meaning c.args.crew.now.fleet now.fleet (length lent.0 ≡ length c.args.plans.items) c.args.crew.now.holds crew.holds c.take_all_back.new.crew.holds _ _ lent.0 (map commands_in c.args.plans.items) (told_lines c.take_all_back.result)
+    (c.cut_all.ensures.fleet.0 ∙ c.meet_all.ensures.fleet.0) all c.meet_all.ensures.met whole (back.went (subst (λ (ls : List (List Command)). rolling ls ≤ 1) (sym all) c.requires.one) lent.4))
 
 pub returns-in-Ok-clause-still : goal.returns-in-Ok-clause-still
 returns-in-Ok-clause-still g c =
@@ -97,3 +100,15 @@ returns-in-Err-clause-time g c =
     let back = c.take_all_back-in-Err.ensures.back crew.holds (length c.args.plans.items) lent.0 _
     (none_played _ _ g.B.Berth.meaning crew.fleet now.fleet crew.tables now.tables (length c.args.plans.items) crew.holds now.holds c.cut_all.new.lanes.items lent.0 c.cut_all.ensures.fleet.0 c.cut_all.ensures.fleet.1 lent.1) in
     pass_on g.B.Berth.meaning c.args.crew.now.holds crew.holds c.take_all_back-in-Err.new.crew.holds c.meet_all.ensures.time back.time
+
+pub returns-in-Err-clause-went : goal.returns-in-Err-clause-went
+returns-in-Err-clause-went g c =
+    let crew = c.meet_all.new.self in
+    let now = c.cut_all.new.crew in
+    let lent = c.in-Err.ensures.lent in
+    let back = c.take_all_back-in-Err.ensures.back crew.holds (length c.args.plans.items) lent.0 _
+    (none_played _ _ g.B.Berth.meaning crew.fleet now.fleet crew.tables now.tables (length c.args.plans.items) crew.holds now.holds c.cut_all.new.lanes.items lent.0 c.cut_all.ensures.fleet.0 c.cut_all.ensures.fleet.1 lent.1) in
+    let roll : rolling (map commands_in c.args.plans.items) ≡ rolling lent.3.0 + rolling lent.0 = ap (λ (ls : List (List Command)). rolling ls) (sym lent.3.1) ∙ rolling_append lent.3.0 lent.0 in
+    let few : rolling lent.0 ≤ 1 = omega (arith, roll, c.requires.one) in
+    inl (beside_short g.B.Berth.meaning c.args.crew.now.fleet now.fleet (length lent.0 ≡ length c.args.plans.items) c.args.crew.now.holds crew.holds c.take_all_back-in-Err.new.crew.holds _ _ lent.3.0 lent.0 (map commands_in c.args.plans.items) (told_lines c.take_all_back-in-Err.result)
+    (c.cut_all.ensures.fleet.0 ∙ c.meet_all.ensures.fleet.0) lent.3.1 c.meet_all.ensures.met (back.went few lent.4))

@@ -7,14 +7,16 @@ use Rattle.player.specs.Crew.{HasFor}
 use Rattle.bursts.specs.Played.{MayPlayOn}
 use Rattle.bursts.proofs.Held.{pass_none, pass_on, still_on, still_same}
 use Rattle.bursts.proofs.Needed.{may_play, still_may}
-use Rattle.bursts.proofs.Playing.{command_over, lane_begins, lane_goes_on}
+use Rattle.bursts.proofs.Playing.{command_over, has_lines, lane_begins, lane_goes_on, lane_stops, no_lines}
+use Rattle.std.proofs.lemmas.Result.{err_from_is_err_and}
+use Rattle.std.specs.Prelude.{Ok}
 use Rattle.bursts.proofs.lane.play_lane.Goals as goal
 
 pub loop-command-init : goal.loop-command-init
 loop-command-init g c = record {
   done = [];
   all = c.from_vec-rest.ensures.items;
-  played = lane_begins g.B.Berth.meaning c.args.crew.now.fleet c.args.crew.now.holds _ c.new-lines.result.items c.new-lines.ensures.items;
+  went = lane_begins g.B.Berth.meaning c.args.crew.now.fleet c.args.crew.now.holds _ c.new-lines.result.items c.new-lines.ensures.items;
   may = subst (AllByRecursion (MayPlayOn c.args.crew.now.fleet c.args.crew.now.holds)) (sym c.from_vec-rest.ensures.items) c.requires;
   fleet = refl;
   tables = refl;
@@ -43,12 +45,13 @@ loop-command-preserved g c =
     let rest = c.pop_front.new.self.items in
     let items : c.loop-command.rest.items ≡ c.in-Some.command ∷ rest = c.in-Some.ensures.items in
     let may = subst (AllByRecursion (MayPlayOn fleet c.loop-command.crew.holds)) items inv.may in
-    let one = command_over g.B.Berth.meaning fleet c.loop-command.crew.fleet inv.fleet c.loop-command.crew.holds c.play_command.new.crew.holds _ _ c.in_ok-more.more.items c.in-Some.command c.in_ok-more.ensures.played in
+    let one = command_over g.B.Berth.meaning fleet c.loop-command.crew.fleet inv.fleet c.loop-command.crew.holds c.play_command.new.crew.holds _ _ c.in-Some.command (Ok c.in_ok-more.more) c.in_ok-more.ensures.plays in
+    let two = has_lines g.B.Berth.meaning fleet c.in-Some.command c.loop-command.crew.holds c.play_command.new.crew.holds _ _ c.in_ok-more.more one in
     record {
       done = inv.done ++ c.in-Some.command ∷ [];
       all = append_assoc inv.done (c.in-Some.command ∷ []) rest ∙ (ap (λ r. inv.done ++ r) (sym items) ∙ inv.all);
-      played = lane_goes_on g.B.Berth.meaning fleet c.args.crew.now.holds c.loop-command.crew.holds c.play_command.new.crew.holds _ _ _ inv.done c.in-Some.command
-          c.loop-command.lines.items c.in_ok-more.more.items c.append.new.self.items inv.played one c.in_ok-append.ensures.items;
+      went = lane_goes_on g.B.Berth.meaning fleet c.args.crew.now.holds c.loop-command.crew.holds c.play_command.new.crew.holds _ _ _ inv.done c.in-Some.command
+          c.loop-command.lines.items c.in_ok-more.more.items c.append.new.self.items inv.went two.0 two.1 c.in_ok-append.ensures.items;
       may = still_may fleet c.loop-command.crew.holds c.play_command.new.crew.holds c.play_command.ensures.still rest may.1;
       fleet = c.play_command.ensures.fleet.0 ∙ inv.fleet;
       tables = c.play_command.ensures.fleet.1 ∙ inv.tables;
@@ -67,3 +70,21 @@ play_command-requires-clause-has g c κs within =
     let inv = c.loop-command.invariant in
     let may = subst (AllByRecursion (MayPlayOn c.args.crew.now.fleet c.loop-command.crew.holds)) c.in-Some.ensures.items inv.may in
     subst (λ (f : Fleet). HasFor f c.loop-command.crew.holds c.in-Some.command) (sym inv.fleet) may.0.1
+
+pub returns-in_err-more-clause-went : goal.returns-in_err-more-clause-went
+returns-in_err-more-clause-went g c =
+    let inv = c.loop-command.invariant in
+    let fleet = c.args.crew.now.fleet in
+    let e = err_from_is_err_and c.from_residual.result c.from_residual.ensures.1 in
+    let one = command_over g.B.Berth.meaning fleet c.loop-command.crew.fleet inv.fleet c.loop-command.crew.holds c.play_command.new.crew.holds _ _ c.in-Some.command _ c.play_command.ensures.plays in
+    lane_stops g.B.Berth.meaning fleet c.args.crew.now.holds c.loop-command.crew.holds c.play_command.new.crew.holds _ _ _ inv.done c.in-Some.command c.pop_front.new.self.items c.args.commands.items c.loop-command.lines.items _
+    inv.went one (sym inv.all ∙ ap (λ r. inv.done ++ r) c.in-Some.ensures.items) _ (no_lines _ e.0 e.1)
+
+pub returns-in_err-append-clause-went : goal.returns-in_err-append-clause-went
+returns-in_err-append-clause-went g c =
+    let inv = c.loop-command.invariant in
+    let fleet = c.args.crew.now.fleet in
+    let e = err_from_is_err_and c.from_residual-in_err-append.result c.from_residual-in_err-append.ensures.1 in
+    let one = command_over g.B.Berth.meaning fleet c.loop-command.crew.fleet inv.fleet c.loop-command.crew.holds c.play_command.new.crew.holds _ _ c.in-Some.command _ c.play_command.ensures.plays in
+    lane_stops g.B.Berth.meaning fleet c.args.crew.now.holds c.loop-command.crew.holds c.play_command.new.crew.holds _ _ _ inv.done c.in-Some.command c.pop_front.new.self.items c.args.commands.items c.loop-command.lines.items _
+    inv.went one (sym inv.all ∙ ap (λ r. inv.done ++ r) c.in-Some.ensures.items) _ (no_lines _ e.0 e.1)

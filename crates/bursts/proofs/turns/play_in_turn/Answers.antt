@@ -1,4 +1,4 @@
-use Rattle.std.proofs.Common.{◌≡◌, ◌+◌, List, [], ◌∷◌, ◌++◌, length, map, refl, sym, ap, subst, ◌∙◌, append_assoc, arith}
+use Rattle.std.proofs.Common.{◌≡◌, List, [], ◌∷◌, ◌++◌, length, map, refl, sym, ap, subst, ◌∙◌, append_assoc, arith}
 use Rattle.std.specs.List.{AllByRecursion}
 use Rattle.script_text.specs.declared.command.Command.{Command}
 use Rattle.script_text.specs.declared.fleet.Fleet.{Fleet}
@@ -9,7 +9,9 @@ use Rattle.bursts.proofs.Cutting.{length_snoc}
 use Rattle.bursts.proofs.Held.{pass_none, pass_on, still_on, still_same}
 use Rattle.bursts.proofs.Items.{all_on}
 use Rattle.bursts.proofs.Needed.{all_may}
-use Rattle.bursts.proofs.Playing.{lane_over, turns_begin, turns_go_on}
+use Rattle.bursts.proofs.Playing.{lane_over, turns_begin, turns_go_on, turns_stop, no_lines}
+use Rattle.std.proofs.lemmas.Result.{err_from_is_err_and}
+use Rattle.std.specs.Prelude.{Some}
 use Rattle.bursts.proofs.turns.play_in_turn.Goals as goal
 
 pub loop-plan-init : goal.loop-plan-init
@@ -21,7 +23,7 @@ loop-plan-init g c =
       all = ap (λ (ps : List Plan). map commands_in ps) items;
       number = refl;
       few = let sizes : length c.from_vec-rest.result.items ≡ length c.args.plans.items = ap (λ (ps : List Plan). length ps) items in omega (arith, sizes, c.requires.few);
-      played = turns_begin g.B.Berth.meaning crew.fleet crew.holds _ c.new-lines.result.items c.new-lines.ensures.items;
+      went = turns_begin g.B.Berth.meaning crew.fleet crew.holds _ c.new-lines.result.items c.new-lines.ensures.items;
       plans = subst (AllByRecursion (IsPlan crew.fleet)) (sym items) c.requires.plans;
       has = c.requires.all;
       fleet = refl;
@@ -58,15 +60,15 @@ loop-plan-preserved g c =
     let rest = c.pop_front.new.self.items in
     let items : c.loop-plan.rest.items ≡ plan ∷ rest = c.in-Some.ensures.items in
     let plans = subst (AllByRecursion (IsPlan fleet)) items inv.plans in
-    let one = lane_over g.B.Berth.meaning fleet c.loop-plan.crew.fleet inv.fleet c.loop-plan.crew.holds c.play_lane.new.crew.holds _ _ c.in_ok-own.own.items plan.commands.items c.in_ok-own.ensures.played in
+    let one = lane_over g.B.Berth.meaning fleet c.loop-plan.crew.fleet inv.fleet c.loop-plan.crew.holds c.play_lane.new.crew.holds _ _ plan.commands.items (Some c.in_ok-own.own.items) c.in_ok-own.ensures.went in
     let sizes : length c.loop-plan.rest.items ≡ length (plan ∷ rest) = ap (λ (ps : List Plan). length ps) items in
     record {
       done = inv.done ++ commands_in plan ∷ [];
       all = append_assoc inv.done (commands_in plan ∷ []) (map commands_in rest) ∙ (ap (λ (ls : List (List Command)). inv.done ++ ls) (sym (ap (λ (ps : List Plan). map commands_in ps) items)) ∙ inv.all);
       number = omega (arith, length_snoc inv.done (commands_in plan), inv.number);
       few = omega (arith, inv.few, sizes);
-      played = turns_go_on g.B.Berth.meaning fleet c.args.crew.now.holds c.loop-plan.crew.holds c.play_lane.new.crew.holds _ _ _ inv.done (commands_in plan) c.loop-plan.lines.items c.in_ok-own.own.items
-          c.put_lane.new.lines.items c.loop-plan.number inv.played one inv.number c.in_ok-put_lane.ensures;
+      went = turns_go_on g.B.Berth.meaning fleet c.args.crew.now.holds c.loop-plan.crew.holds c.play_lane.new.crew.holds _ _ _ inv.done (commands_in plan) c.loop-plan.lines.items c.in_ok-own.own.items
+          c.put_lane.new.lines.items c.loop-plan.number inv.went one inv.number c.in_ok-put_lane.ensures;
       plans = plans.1;
       has = all_on fleet fleet c.loop-plan.crew.holds c.play_lane.new.crew.holds refl c.play_lane.ensures.still inv.has;
       fleet = c.play_lane.ensures.fleet.0 ∙ inv.fleet;
@@ -74,3 +76,21 @@ loop-plan-preserved g c =
       still = still_on c.args.crew.now.holds c.loop-plan.crew.holds c.play_lane.new.crew.holds inv.still c.play_lane.ensures.still;
       time = pass_on g.B.Berth.meaning c.args.crew.now.holds c.loop-plan.crew.holds c.play_lane.new.crew.holds inv.time c.play_lane.ensures.time;
     }
+
+pub returns-in_err-own-clause-went : goal.returns-in_err-own-clause-went
+returns-in_err-own-clause-went g c =
+    let inv = c.loop-plan.invariant in
+    let fleet = c.args.crew.now.fleet in
+    let e = err_from_is_err_and c.from_residual.result c.from_residual.ensures.1 in
+    let one = lane_over g.B.Berth.meaning fleet c.loop-plan.crew.fleet inv.fleet c.loop-plan.crew.holds c.play_lane.new.crew.holds _ _ c.in-Some.plan.commands.items _ c.play_lane.ensures.went in
+    turns_stop g.B.Berth.meaning fleet c.args.crew.now.holds c.loop-plan.crew.holds c.play_lane.new.crew.holds _ _ _ inv.done (commands_in c.in-Some.plan) (map commands_in c.pop_front.new.self.items) (map commands_in c.args.plans.items) _ _
+    inv.went one (sym inv.all ∙ ap (λ (ps : List Plan). inv.done ++ map commands_in ps) c.in-Some.ensures.items) _ (no_lines _ e.0 e.1)
+
+pub returns-in_err-put_lane-clause-went : goal.returns-in_err-put_lane-clause-went
+returns-in_err-put_lane-clause-went g c =
+    let inv = c.loop-plan.invariant in
+    let fleet = c.args.crew.now.fleet in
+    let e = err_from_is_err_and c.from_residual-in_err-put_lane.result c.from_residual-in_err-put_lane.ensures.1 in
+    let one = lane_over g.B.Berth.meaning fleet c.loop-plan.crew.fleet inv.fleet c.loop-plan.crew.holds c.play_lane.new.crew.holds _ _ c.in-Some.plan.commands.items _ c.play_lane.ensures.went in
+    turns_stop g.B.Berth.meaning fleet c.args.crew.now.holds c.loop-plan.crew.holds c.play_lane.new.crew.holds _ _ _ inv.done (commands_in c.in-Some.plan) (map commands_in c.pop_front.new.self.items) (map commands_in c.args.plans.items) _ _
+    inv.went one (sym inv.all ∙ ap (λ (ps : List Plan). inv.done ++ map commands_in ps) c.in-Some.ensures.items) _ (no_lines _ e.0 e.1)

@@ -1,10 +1,10 @@
-use Rattle.std.proofs.Common.{◌≡◌, ◌+◌, ◌≤◌, ◌++◌, List, length, map}
+use Rattle.std.proofs.Common.{◌≡◌, ◌+◌, ◌≤◌, ◌++◌, List, length, map, Some}
 use Rattle.std.specs.List.{AllByRecursion}
 use Rattle.std.specs.VecDeque.{deque_len}
 use Rattle.script_text.specs.declared.command.Command.{Command}
 use Rattle.player.specs.Crew.{AllPass, HasAll, StillHas}
 use Rattle.bursts.specs.Needs.{IsPlan, commands_in}
-use Rattle.bursts.specs.Played.{TurnsPlayed}
+use Rattle.bursts.specs.Went.{TurnsWent}
 use Rattle.bursts.proofs.turns.play_in_turn.Given as goal
 
 -- some lanes were played, and the others are left
@@ -14,7 +14,7 @@ invariant-loop-plan g l = record {
   all : done ++ map commands_in l.rest.items ≡ map commands_in l.fn.plans.items;
   number : length done ≡ l.number;
   few : l.number + length l.rest.items ≤ 16;
-  played : TurnsPlayed g.B.Berth.meaning l.initial.crew.fleet done l.initial.crew.holds (map (λ b. (goal.Watch-dyn g (b.vtable, b.value)).held b.value) l.initial.watches.items) l.lines.items l.crew.holds
+  went : TurnsWent g.B.Berth.meaning l.initial.crew.fleet done l.initial.crew.holds (map (λ b. (goal.Watch-dyn g (b.vtable, b.value)).held b.value) l.initial.watches.items) (Some l.lines.items) l.crew.holds
       (map (λ b. (goal.Watch-dyn g (b.vtable, b.value)).held b.value) l.watches.items);
   plans : AllByRecursion (IsPlan l.initial.crew.fleet) l.rest.items;
   has : HasAll l.initial.crew.fleet l.crew.holds;

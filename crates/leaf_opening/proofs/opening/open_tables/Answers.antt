@@ -12,6 +12,7 @@ use Rattle.leaf_opening.specs.Faults.{told_of_adopt, told_of_recovery}
 use Rattle.leaf_opening.specs.Starts.{IsWayOf}
 use Rattle.leaf_opening.proofs.Places.{AreSettled, are_fresh, have_room}
 use Rattle.leaf_opening.proofs.Origins.{started_by_memory, started_by_disk, recovered_as, not_by_memory}
+use Rattle.leaf_opening.proofs.Exact.{exact_adopt, exact_err, exact_log, exact_ok, recovered_exact, why_alone}
 use Rattle.leaf_opening.proofs.Regions.{left_closed}
 use Rattle.leaf_opening.proofs.Starting.{opens_adopting, opens_reading, held_on, never_told, never_adopting, never_damaged, kept_as, kept_adopting, kept_reading}
 use Rattle.leaf_opening.proofs.opening.open_tables.Goals as goal
@@ -172,14 +173,14 @@ returns-in_ok-recovered-in-NoTables-clause-told g c =
     let read = recovered_as names new.held.disk (sym c.from_log.ensures.tables) (sym c.from_log.ensures.log) (said.told told_mid) in
     let disk : new.held.disk ≡ begun old.held.disk = said.disk told_mid ∙ ap begun (c.adopt.ensures.disk told) in
     let region = subst (IsLeftBehind old.held.region) (sym (c.recover.ensures.region told_mid)) answer.1 in
-    started_by_disk names opened.tables opened.log opened.way old new region c.in-NoTables.why why read c.from_log.ensures.way disk
+    started_by_disk names opened.tables opened.log opened.way old new region c.in-NoTables.why (why_alone names old.held.region c.in-NoTables.why why) read c.from_log.ensures.way disk
 
 pub returns-in_ok-recovered-in-NoTables-clause-way :
     goal.returns-in_ok-recovered-in-NoTables-clause-way
 returns-in_ok-recovered-in-NoTables-clause-way g c =
     λ told.
     let region = (g.B.Berth.meaning c.args.berth.now).held.region in
-    subst (IsWayOf region) (sym c.from_log.ensures.way) (subst (IsAdoption c.args.names.now region) c.in-NoTables.is (c.in_ok-found.ensures.told told).0)
+    subst (IsWayOf region) (sym c.from_log.ensures.way) (why_alone c.args.names.now region c.in-NoTables.why (subst (IsAdoption c.args.names.now region) c.in-NoTables.is (c.in_ok-found.ensures.told told).0))
 
 pub returns-in_ok-recovered-in-NoTables-clause-reads :
     goal.returns-in_ok-recovered-in-NoTables-clause-reads
@@ -222,3 +223,52 @@ pub returns-in_ok-recovered-in-NoTables-clause-log_room :
     goal.returns-in_ok-recovered-in-NoTables-clause-log_room
 returns-in_ok-recovered-in-NoTables-clause-log_room g c =
     subst (λ (l : LogState). l.end < 2 ^ 63) (sym c.from_log.ensures.log) c.in_ok-recovered-in-NoTables.ensures.none_owed.1
+
+-- ---- what the bytes decide
+
+pub returns-in_err-found-clause-exact : goal.returns-in_err-found-clause-exact
+returns-in_err-found-clause-exact g c =
+    λ told.
+    let old = (g.B.Berth.meaning c.args.berth.now).held in
+    let p = err_from_is_err_and c.from_residual.result c.from_residual.ensures.1 in
+    exact_err c.args.names.now old.region old.disk c.from_residual.result p.0 (told_of_adopt c.in_err-found.field-0.0) p.1 p.2 (exact_adopt c.args.names.now old.region old.disk c.in_err-found.field-0.0)
+
+pub returns-in_err-recovered-in-NoTables-clause-exact : goal.returns-in_err-recovered-in-NoTables-clause-exact
+returns-in_err-recovered-in-NoTables-clause-exact g c =
+    λ told.
+    let names = c.args.names.now in
+    let old = (g.B.Berth.meaning c.args.berth.now).held in
+    let mid = g.B.Berth.meaning c.adopt.new.berth in
+    let new = g.B.Berth.meaning c.recover.new.berth in
+    let told_mid : IsTrue mid.tells = subst IsTrue (sym c.adopt.ensures.time.tells) told in
+    let fault = c.in_err-recovered-in-NoTables.field-0.0 in
+    let result = c.from_residual-in_err-recovered-in-NoTables.result in
+    let p = err_from_is_err_and result c.from_residual-in_err-recovered-in-NoTables.ensures.1 in
+    let why = subst (IsAdoption names old.region) c.in-NoTables.is (c.in_ok-found.ensures.told told).0 in
+    exact_err names old.region old.disk result p.0 (told_of_recovery fault) p.1 p.2
+    (exact_log names old.region old.disk c.in-NoTables.why new.held.disk mid.held.disk fault why (c.in_err-recovered-in-NoTables.ensures.refused told_mid) (c.in_err-recovered-in-NoTables.ensures.begun told_mid) (c.adopt.ensures.disk told))
+
+pub returns-in-Tables-clause-exact : goal.returns-in-Tables-clause-exact
+returns-in-Tables-clause-exact g c =
+    λ told.
+    let names = c.args.names.now in
+    let old = (g.B.Berth.meaning c.args.berth.now).held in
+    let found = subst (IsAdoption names old.region) c.in-Tables.is (c.in_ok-found.ensures.told told).0 in
+    exact_ok names old.region old.disk c.from_image.result.way _ c.from_image.ensures.way (found.0, c.in-Tables.adopted.log_end, found.1, found.2)
+
+pub returns-in-Stranger-clause-exact : goal.returns-in-Stranger-clause-exact
+returns-in-Stranger-clause-exact g c =
+    λ told. inl (subst (IsAdoption c.args.names.now (g.B.Berth.meaning c.args.berth.now).held.region) c.in-Stranger.is (c.in_ok-found.ensures.told told).0)
+
+pub returns-in_ok-recovered-in-NoTables-clause-exact : goal.returns-in_ok-recovered-in-NoTables-clause-exact
+returns-in_ok-recovered-in-NoTables-clause-exact g c =
+    λ told.
+    let names = c.args.names.now in
+    let old = (g.B.Berth.meaning c.args.berth.now).held in
+    let mid = g.B.Berth.meaning c.adopt.new.berth in
+    let new = g.B.Berth.meaning c.recover.new.berth in
+    let told_mid : IsTrue mid.tells = subst IsTrue (sym c.adopt.ensures.time.tells) told in
+    let said = c.in_ok-recovered-in-NoTables.ensures in
+    let why = subst (IsAdoption names old.region) c.in-NoTables.is (c.in_ok-found.ensures.told told).0 in
+    exact_ok names old.region old.disk c.from_log.result.way _ c.from_log.ensures.way
+    (recovered_exact names old.region old.disk c.in-NoTables.why new.held.disk _ _ why (said.told told_mid) (said.disk told_mid ∙ ap begun (c.adopt.ensures.disk told)))

@@ -1,13 +1,13 @@
 use Rattle.std.proofs.Common.{◌≡◌, ◌∙◌, List, ℕ, [], length, map, IsTrue, sym, ap, subst}
 use Rattle.std.proofs.lemmas.Result.{err_from_is_err_and}
 use Rattle.berth_face.specs.Berth.{Pair}
-use Rattle.disk_backup.specs.Scanning.{StepsFrom, BeginsScan}
+use Rattle.disk_backup.specs.Scanning.{StepsFrom, BeginsScan, begun}
 use Rattle.disk_backup.proofs.Staying.{through_stay}
 use Rattle.log_recovery.specs.declared.fault.RecoveryFault.TheVariants as fault
 use Rattle.log_recovery.specs.Recovery.{IsRecoveryRefusal}
 use Rattle.table_state.specs.Tables.{bare}
 use Rattle.log_recovery.proofs.Applying.{bare_tables}
-use Rattle.log_recovery.proofs.Reading.{err_is, never_refused}
+use Rattle.log_recovery.proofs.Reading.{err_is, err_read, never_refused}
 use Rattle.log_recovery.proofs.recovery.recover.Goals as goal
 
 pub read_on-requires-clause-empty : goal.read_on-requires-clause-empty
@@ -56,3 +56,12 @@ returns-clause-held g c =
     let mid = g.B.Berth.meaning c.begin.new.berth in
     let told_mid : IsTrue mid.tells = subst IsTrue (sym c.begin.ensures.time.tells) told in
     subst (λ (p : Pair). BeginsScan (length old.held.disk) old.held.disk p.disk) (sym (c.read_on.ensures.stays told_mid).held) (c.begin.ensures.held told)
+
+pub returns-in_err-log-clause-begun : goal.returns-in_err-log-clause-begun
+returns-in_err-log-clause-begun g c =
+    λ told.
+    let old = g.B.Berth.meaning c.args.berth.now in
+    let mid = g.B.Berth.meaning c.begin.new.berth in
+    let new = g.B.Berth.meaning c.read_on.new.berth in
+    let told_mid : IsTrue mid.tells = subst IsTrue (sym c.begin.ensures.time.tells) told in
+    err_read c.from_residual-in_err-log.result (new.held.disk ≡ begun old.held.disk) (ap (λ (p : Pair). p.disk) (c.read_on.ensures.stays told_mid).held ∙ c.in_ok-scan.ensures.disk told)

@@ -2,7 +2,7 @@ use Rattle.std.proofs.Common.{◌≡◌, ◌++◌, ◌∷◌, [], sym, ap, subst
 use Rattle.std.specs.List.{AllByRecursion}
 use Rattle.bursts.specs.Items.{MayPlayItem}
 use Rattle.play.specs.Runs.{berths_in}
-use Rattle.play.proofs.Plays.{holds_keep, run_goes_on}
+use Rattle.play.proofs.Plays.{holds_keep, run_goes_on, run_short, some_done}
 use Rattle.play.proofs.berths.play_all.Goals as goal
 
 pub loop-item-preserved : goal.loop-item-preserved
@@ -24,6 +24,7 @@ loop-item-preserved g c =
       may.1,
       omega (arith, inv.5, c.play_next.ensures.later),
       c.play_next.ensures.all,
+      λ none. absurd (some_done inv.0 c.in-Some.item none),
     )
 
 pub returns-in-Err-Failed-clause-keeps : goal.returns-in-Err-Failed-clause-keeps
@@ -33,3 +34,17 @@ returns-in-Err-Failed-clause-keeps g c =
 pub returns-in-Err-NoMemory-clause-keeps : goal.returns-in-Err-NoMemory-clause-keeps
 returns-in-Err-NoMemory-clause-keeps g c =
     holds_keep g.B.Berth.meaning (berths_in c.args.crew.now.holds) c.loop-item.crew.holds c.play_next.new.crew.holds c.loop-item.invariant.2.keeps c.play_next.ensures.time
+
+pub returns-in-Err-Failed-clause-short : goal.returns-in-Err-Failed-clause-short
+returns-in-Err-Failed-clause-short g c =
+    let inv = c.loop-item.invariant in
+    run_short g.N.Bases.base g.B.Berth.meaning c.args.crew.now.fleet c.loop-item.crew.fleet (berths_in c.args.crew.now.holds) (g.K.Sink.written c.args.sink.now) (g.K.Sink.written c.loop-item.sink) (g.K.Sink.written c.play_next.new.sink)
+    _ _ _ inv.0 c.loop-item.rest.items c.pop_front.new.self.items c.args.items.items c.in-Some.item c.loop-item.crew.holds c.play_next.new.crew.holds
+    inv.2 inv.7 inv.1 c.in-Some.ensures.items inv.4 c.play_next.ensures.time inv.3 c.in-Err-Failed.ensures.stops
+
+pub returns-in-Err-NoMemory-clause-short : goal.returns-in-Err-NoMemory-clause-short
+returns-in-Err-NoMemory-clause-short g c =
+    let inv = c.loop-item.invariant in
+    run_short g.N.Bases.base g.B.Berth.meaning c.args.crew.now.fleet c.loop-item.crew.fleet (berths_in c.args.crew.now.holds) (g.K.Sink.written c.args.sink.now) (g.K.Sink.written c.loop-item.sink) (g.K.Sink.written c.play_next.new.sink)
+    _ _ _ inv.0 c.loop-item.rest.items c.pop_front.new.self.items c.args.items.items c.in-Some.item c.loop-item.crew.holds c.play_next.new.crew.holds
+    inv.2 inv.7 inv.1 c.in-Some.ensures.items inv.4 c.play_next.ensures.time inv.3 c.in-Err-NoMemory.ensures.stops

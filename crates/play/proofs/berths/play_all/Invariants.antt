@@ -1,4 +1,4 @@
-use Rattle.std.proofs.Common.{◌≡◌, ◌++◌, ◌≤◌, List, map}
+use Rattle.std.proofs.Common.{◌≡◌, ◌++◌, ◌≤◌, List, [], map}
 use Rattle.std.specs.List.{AllByRecursion}
 use Rattle.std.specs.VecDeque.{deque_len}
 use Rattle.script_text.specs.declared.item.Item.{Item}
@@ -20,6 +20,7 @@ invariant-loop-item g l =
     × AllByRecursion (MayPlayItem l.initial.crew.fleet) l.rest.items
     × (g.K.Sink.faults l.initial.sink ≤ g.K.Sink.faults l.sink)
     × HasAll l.crew.fleet l.crew.holds
+    × (done ≡ [] → berths_in l.crew.holds ≡ berths_in l.initial.crew.holds)
 
 abbrev pub decreases-loop-item : goal.decreases-loop-item
 decreases-loop-item g l = deque_len l.rest

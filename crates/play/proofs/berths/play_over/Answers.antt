@@ -8,7 +8,7 @@ use Rattle.player.specs.Crew.{new_holds}
 use Rattle.play.specs.Played.{LeavesBerths}
 use Rattle.play.specs.Runs.{IsRun, berths_in, fleet_named, table_bases}
 use Rattle.play.proofs.Beginning.{alike_at, berths_of_holds, ready_at, run_begins}
-use Rattle.play.proofs.Ends.{crew_leaves, crew_written, room_again}
+use Rattle.play.proofs.Ends.{crew_leaves, crew_short, crew_written, room_again}
 use Rattle.play.proofs.Plays.{run_ends}
 use Rattle.play.proofs.berths.play_over.Goals as goal
 
@@ -108,3 +108,21 @@ returns-clause-berths g c =
     subst (λ n. LeavesBerths g.B.Berth.meaning n berths c.abandon.new.berths.items) (sym (ap leaf_count c.requires.plan.is))
     (crew_leaves g.B.Berth.meaning berths c.abandon.new.berths.items back.0 crew.holds after leaves enough had back.1 (back.2 ∙ ap (λ bs. back.0 ++ bs) new.berths) c.play_all-status.ensures.keeps.as_many
     c.play_all-status.ensures.keeps)
+
+pub returns-clause-short : goal.returns-clause-short
+returns-clause-short g c =
+    let plan = c.args.plan.now in
+    let leaves = plan.machines * plan.per_machine in
+    let made = c.in-Ok-new_tables.made in
+    let berths = c.args.berths.now.items in
+    let crew = c.in-Ok-new.crew in
+    let new = c.in-Ok-new.ensures in
+    let after = c.play_all-status.new.crew.holds in
+    let back = c.abandon.ensures.berths in
+    let was = g.K.Sink.written c.args.sink.now in
+    let now = g.K.Sink.written c.play_all-status.new.sink in
+    let is : crew.fleet ≡ fleet_named plan.machines plan.per_machine plan.names = new.fleet ∙ ap (fleet_named plan.machines plan.per_machine) c.in-Ok.ensures in
+    let enough : leaves ≤ length berths = subst (λ n. n ≤ length berths) (ap leaf_count c.requires.plan.is) c.requires.enough in
+    let had : berths_in crew.holds ≡ take leaves berths = ap berths_in new.holds ∙ berths_of_holds c.in-Ok.copy made.tables made.stewards made.callers 0 (take leaves berths) in
+    crew_short g.B.Berth.meaning berths c.abandon.new.berths.items back.0 crew.holds after leaves enough had back.1 (back.2 ∙ ap (λ bs. back.0 ++ bs) new.berths) c.play_all-status.ensures.keeps.as_many
+    g.N.Bases.base c.args.items c.into_inner.result.items crew.fleet was now _ _ (c.requires.plan.is ∙ sym is) (ap leaf_count is) c.into_inner.ensures c.abandon.ensures.met _ c.play_all-status.ensures.short

@@ -1,6 +1,6 @@
 use Rattle.std.proofs.Common.{ap, ◌∙◌, arith}
 use Rattle.std.specs.Slice.Iter.{chunks_rest, chunks_size}
-use Rattle.play.proofs.Pieces.{pieces_begin, piece_fits, pieces_go_on, pieces_end}
+use Rattle.play.proofs.Pieces.{pieces_begin, piece_fits, pieces_go_on, pieces_end, pieces_cut, whole_front}
 use Rattle.play.proofs.berths.write_pieces.Goals as goal
 
 pub loop-piece-init : goal.loop-piece-init
@@ -29,3 +29,9 @@ loop-piece-preserved g c =
 
 pub returns-clause-written : goal.returns-clause-written
 returns-clause-written g c = pieces_end c.loop-piece.invariant.written c.in-None.ensures.steps.1.0
+
+pub returns-clause-front : goal.returns-clause-front
+returns-clause-front g c = whole_front _ _ _ (pieces_end c.loop-piece.invariant.written c.in-None.ensures.steps.1.0)
+
+pub returns-in_err-write_piece-clause-front : goal.returns-in_err-write_piece-clause-front
+returns-in_err-write_piece-clause-front g c = pieces_cut _ c.in-Some.piece.now (chunks_rest c.next.new.self) c.loop-piece.invariant.written c.in-Some.ensures.steps.1.0 c.write_piece.ensures.front

@@ -5,7 +5,8 @@ use Rattle.row_count.specs.Source.{longest_text}
 use Rattle.play.specs.Outcome.{play_verdict}
 use Rattle.script_text.specs.Fits.{IsScript}
 use Rattle.script_text.specs.Script.{script_of}
-use Rattle.play.proofs.Ends.{leaves_as_told}
+use Rattle.play.proofs.Ends.{ends_short, leaves_as_told}
+use Rattle.play.specs.Played.{leaves_in}
 use Rattle.play.proofs.Own.{no_play_fault, no_more_fault, Found}
 use Rattle.play.proofs.script.play_source.Goals as goal
 
@@ -33,3 +34,13 @@ returns-clause-berths g c =
     let is : script_of c.in-Ok.text.items ≡ Ok script = search rules in
     let fits : IsScript script = search rules in
     leaves_as_told g.B.Berth.meaning before after c.in-Ok.text.items script c.args.berths.now.items c.play_items.new.berths.items read is fits.items c.play_items.ensures.berths
+
+pub returns-clause-short : goal.returns-clause-short
+returns-clause-short g c =
+    let before = g.S.Source.left c.args.source.now in
+    let after = g.S.Source.left c.read_all.new.source in
+    let script = c.in-Ok-parse.script in
+    let read : ReadsAll before after c.in-Ok.text.items = search rules in
+    let is : script_of c.in-Ok.text.items ≡ Ok script = search rules in
+    let enough : leaves_in script.items ≤ length c.args.berths.now.items = search rules in
+    ends_short g.N.Bases.base g.B.Berth.meaning before after _ _ c.args.berths.now.items c.play_items.new.berths.items _ _ c.in-Ok.text.items script c.play_items.result read is enough c.play_items.ensures.short

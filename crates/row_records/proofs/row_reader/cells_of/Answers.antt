@@ -6,7 +6,7 @@ use Rattle.row_records.proofs.row_reader.cells_of.Goals as goal
 
 pub returns-in_err-cell : goal.returns-in_err-cell
 returns-in_err-cell c =
-    let p = err_from_is_err_and c.from_residual.result c.from_residual.ensures.1 in
+    let p = err_from_is_err_and c.from_residual-in_err-cell.result c.from_residual-in_err-cell.ensures.1 in
     let front = c.loop.cells.items in
     let left = cells_at (c.args.count - c.loop.counter) (last_name front) c.loop.rest.now in
     let fails = cell_fails c.in_err-cell.field-0.0 c.args.count c.loop.counter (last_name front) c.loop.rest.now c.loop-test.true (subst (λ (n : List ℕ). ReadFails c.in_err-cell.field-0.0 (cell_at n c.loop.rest.now)) (c.last_name.ensures ∙ ap last_name c.deref.ensures.value) c.in_err-cell.ensures) in

@@ -6,7 +6,7 @@ use Rattle.row_records.proofs.row_reader.rows_of.Goals as goal
 
 pub returns-in_err-row-clause-given : goal.returns-in_err-row-clause-given
 returns-in_err-row-clause-given c =
-    let p = err_from_is_err_and c.from_residual.result c.from_residual.ensures.1 in
+    let p = err_from_is_err_and c.from_residual-in_err-row.result c.from_residual-in_err-row.ensures.1 in
     let front = c.loop.rows.items in
     let fails = row_fails c.in_err-row.field-0.0 c.args.count c.loop.counter c.loop.rest.now c.loop-test.true c.in_err-row.ensures in
     rw (p.1, p.2) (ends c.in_err-row.field-0.0 front (rows_at (c.args.count - c.loop.counter) c.loop.rest.now) (rows_at c.args.count c.args.bytes.now) fails c.loop.invariant.0)

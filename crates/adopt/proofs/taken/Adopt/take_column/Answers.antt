@@ -1,7 +1,7 @@
 use Rattle.std.proofs.Common.{◌≡◌, ◌≤◌, ◌++◌, ◌∷◌, [], ℕ, List, Option, None, IsTrue, Ok, Err, rules, refl, sym, ap, subst, ◌∙◌, arith}
 use Rattle.std.specs.Prelude.{length, IfSome}
 use Rattle.std.proofs.lemmas.Result.{err_from_is_err_and}
-use Rattle.adopt.specs.Adopting.{Adopting, AdoptsOn, IsLeftBehind, IsNoImage}
+use Rattle.adopt.specs.Adopting.{Adopting, AdoptsOn, BreaksNow, IsLeftBehind, IsNoImage, NextMeansCells}
 use Rattle.adopt.specs.Finding.{TakesSpan}
 use Rattle.adopt.specs.Taken.{AdoptState}
 use Rattle.adopt.proofs.Moments.{in_room}
@@ -32,7 +32,7 @@ returns-in_default-2-clause-told g c =
     let old = (g.B.Berth.meaning c.args.berth.now).held.region in
     let new = (g.B.Berth.meaning c.take_span.new.berth).held.region in
     let none : c.in_ok-column.field-0 ≡ None = search rules in
-    subst (λ (a : AdoptState). (region : List ℕ) → IsTrue (g.B.Berth.meaning c.args.berth.now).tells → Adopting region a old → IsNoImage region × IsLeftBehind region new) c.self.view_is
+    subst (λ (a : AdoptState). (region : List ℕ) → IsTrue (g.B.Berth.meaning c.args.berth.now).tells → Adopting region a old → BreaksNow region a × IsNoImage region × IsLeftBehind region new) c.self.view_is
     (λ region told adopting. column_none i.names.value i.version i.image_len i.directory i.place i.held i.left.items init s i.taken.items c.self.invariant split region old new adopting
     (λ closed. subst (λ (o : Option (List ℕ)). TakesSpan s old new (Ok o)) none (c.in_ok-column.ensures.told told closed)))
 
@@ -84,7 +84,7 @@ returns-clause-told g c =
     let before = subst (λ (a : AdoptState). Adopting region a old) (sym c.self.view_is) adopting in
     let count = ap (λ (a : AdoptState). a.left) c.self.view_is in
     let got = column_taken i.names.value i.version i.image_len i.directory i.place i.held i.left.items init s i.taken.items c.self.invariant split region old new before c.in-Some-2.column c.put.new.list.items _ (λ closed. subst (λ (o : Option (List ℕ)). TakesSpan s old new (Ok o)) c.in-Some-2.is (c.in_ok-column.ensures.told told closed)) c.in_ok-put.ensures refl in
-    (got.0, got.1 ∙ count, got.2)
+    (got.0, got.1 ∙ count, got.2, subst (NextMeansCells region) c.self.view_is got.3)
 
 pub returns-clause-kept : goal.returns-clause-kept
 returns-clause-kept g c =

@@ -1,3 +1,5 @@
+use Rattle.std.specs.Prelude.{◌⊎◌}
+use Rattle.region_layout.specs.Region.{IsClosed}
 use Rattle.std.proofs.Common.{rules, ◌≡◌, ◌∙◌, suc, [], refl, sym, ap, subst}
 use Rattle.std.specs.Prelude.{◌≢◌, IsTrue}
 use Rattle.drain_copy.specs.declared.step.DrainStep.{DrainStep}
@@ -217,3 +219,30 @@ returns-clause-inside g c =
     let before : inside.drain.next ≢ next.Begin = subst (λ v. v.0.drain.next ≢ next.Begin) (sym c.self.view_is) before_now in
     subst (λ v. Throughout (IsInRoom v.0.drain) (g.B.Berth.meaning v.1) n) c.self.view_is
     (c.in-Err.ensures.inside told (c.self.invariant.stands founded).1.1.draining before)
+
+-- ---- what the region is
+
+pub returns-in-Ok-Finished-clause-region : goal.returns-in-Ok-Finished-clause-region
+returns-in-Ok-Finished-clause-region g c =
+    λ told_now founded_now writes copies_now.
+    let inside = c.self.inside in
+    let x = inside.seats in
+    let m = g.B.Berth.meaning inside.berth in
+    let n = g.B.Berth.meaning c.step.new.berth in
+    let step = c.in-Ok-Finished.ensures in
+    let last : IsStep inside.drain Finished c.step.new.self = subst (λ (s : DrainStep). IsStep inside.drain s c.step.new.self) c.in-Ok-Finished.field-0-is step.step in
+    let told : IsTrue m.tells = subst (λ v. IsTrue (g.B.Berth.meaning v.1).tells) (sym c.self.view_is) told_now in
+    let copies : Copies (watched_by x) inside.drain writes m = subst (λ v. Copies (watched_by v.0.seated) v.0.drain writes (g.B.Berth.meaning v.1)) (sym c.self.view_is) copies_now in
+    subst (λ v. n.held.region ≡ v.0.drain.image) c.self.view_is (last_region inside.drain c.step.new.self n.held.region last (step.told told copies.draining) step.image)
+
+pub returns-clause-region : goal.returns-clause-region
+returns-clause-region g c =
+    λ told_now founded_now writes copies_now.
+    let inside = c.self.inside in
+    let x = inside.seats in
+    let m = g.B.Berth.meaning inside.berth in
+    let n = g.B.Berth.meaning c.step.new.berth in
+    let step = c.in-Err.ensures in
+    let told : IsTrue m.tells = subst (λ v. IsTrue (g.B.Berth.meaning v.1).tells) (sym c.self.view_is) told_now in
+    let copies : Copies (watched_by x) inside.drain writes m = subst (λ v. Copies (watched_by v.0.seated) v.0.drain writes (g.B.Berth.meaning v.1)) (sym c.self.view_is) copies_now in
+    subst (λ v. IsClosed n.held.region ⊎ (n.held.region ≡ v.0.drain.image)) c.self.view_is (step.failed told copies.draining (copies.closed m.held copies.stands.reads))

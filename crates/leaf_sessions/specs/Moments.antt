@@ -1,0 +1,23 @@
+-- The moments of a leaf's entries: one list for all its tables, in the order of their making.
+use Rattle.std.specs.Prelude.{◌≡◌, ℕ, ◌-◌, ◌==◌, ◌≤◌, List, [], ◌∷◌, Option, Some, option_map, slice_get, if◌then◌else◌}
+use Rattle.std.specs.List.{flat_map}
+use Rattle.leaf_history.specs.History.{Entry}
+use Rattle.transcript.specs.Pieces.{Piece, Acted, Noted}
+
+-- the entries of the steward of the leaf with this number that a piece tells
+abbrev pub notes_in : ℕ → Piece → List Noted
+notes_in leaf (Acted l deed notes ending) = if l == leaf then notes else []
+notes_in leaf _ = []
+
+-- all that pieces tell, in the order of their making
+abbrev pub notes_told : ℕ → List Piece → List Noted
+notes_told leaf pieces = flat_map (notes_in leaf) pieces
+
+-- the clock that an entry carries, by its table and its number
+abbrev pub moment_of : (ℕ → List Entry) → Noted → Option ℕ
+moment_of histories n = option_map (λ (e : Entry). e.clock) (slice_get (histories n.table) (n.number - 1))
+
+-- from one moment to another they do not fall
+abbrev pub MomentsRise : (ℕ → List Entry) → ℕ → List Noted → ℕ → Type 0
+MomentsRise histories from [] to = from ≤ to
+MomentsRise histories from (n ∷ ns) to = (t : ℕ) × (moment_of histories n ≡ Some t) × (from ≤ t) × MomentsRise histories t ns to

@@ -1,0 +1,90 @@
+-- A play that ends before all was played and written.
+use Rattle.std.specs.Prelude.{◌≡◌, ◌⊎◌, ℕ, ◌≤◌, List, [], ◌∷◌, length, map, Option, Some, Ok}
+use Rattle.berth_face.specs.Berth.{Meaning}
+use Rattle.berth_face.specs.Streams.{ReadsAll, Written, WritesFront}
+use Rattle.crash_moments.specs.Left.{NamedStates}
+use Rattle.rollover_watch.specs.Watches.{Held}
+use Rattle.script_text.specs.declared.item.Item.{Item}
+use Rattle.script_text.specs.declared.script.Script.{Script}
+use Rattle.script_text.specs.Script.{script_of}
+use Rattle.soak.specs.Soak.{soak_script}
+use Rattle.printed_lines.specs.Lines.{lines_text}
+use Rattle.script_text.specs.declared.fleet.Fleet.{Fleet}
+use Rattle.row_count.specs.declared.status.Status.{Status}
+use Rattle.transcript.specs.Pieces.{PlayedItem, all_lines, all_pieces, item_lines, item_of, plays_in, plays_of}
+use Rattle.transcript.specs.Transcript.{Known}
+use Rattle.transcript.specs.Leaving.{AreKnown}
+use Rattle.transcript.specs.Holds.{Hold}
+use Rattle.transcript.specs.Lanes.{PlaysItem}
+use Rattle.transcript.specs.Watching.{HearsAll}
+use Rattle.bursts.specs.Shortened.{BeginsItem}
+use Rattle.play.specs.Cut.{IsShortened, PlaysSome, last_lines}
+use Rattle.player.specs.Crew.{AllCounted}
+use Rattle.sessions.specs.Session.{Session}
+use Rattle.play.specs.Played.{leaves_in, soak_leaves}
+use Rattle.play.specs.Runs.{AreCounted, HoldsKeep, berths_in}
+use Rattle.play.specs.declared.words.Request.{Request}
+use Rattle.play.specs.declared.words.Request.TheVariants.{Play, Soak}
+
+-- ---- in the middle
+
+-- What holds where a play ends after some of these items, of whose text a front was written. Before the first item the leaves are as they were.
+pub record RunShort {B : Type 0} (base : ℕ → Option NamedStates) (meaning : B → Meaning) (fleet : Fleet) (olds : List B) (was written : Option (List ℕ)) (watching watched : List Held) (items : List Item) (xs : List (Hold B)) : Type 0 where
+  pub played : List PlayedItem
+  pub some : PlaysSome items (map item_of played)
+  pub rest : List ℕ
+  pub text : Written was written (lines_text fleet.names (all_lines played)) rest
+  pub last : length rest ≤ length (lines_text fleet.names (last_lines played))
+  pub heard : HearsAll fleet (plays_in played) watching watched
+  pub counted : AreCounted meaning olds xs (all_pieces played)
+  pub keeps : HoldsKeep meaning olds xs
+  pub untouched : played ≡ [] → berths_in xs ≡ olds
+  pub session : (known : ℕ → Option Known) → AreKnown meaning olds olds base known → Session meaning fleet known olds played xs
+
+-- ---- at the end
+
+-- of these items nothing was played and nothing written, or some were played
+abbrev pub StopsShort : {B : Type 0} → (B → Meaning) → List B → List B → (ℕ → Option NamedStates) → List Item → Option (List ℕ) → Option (List ℕ) → List Held → List Held → Type 0
+StopsShort meaning olds news base items was now watching watched = ((now ≡ was) × (news ≡ olds) × (watched ≡ watching)) ⊎ IsShortened meaning olds news base items was now watching watched
+
+-- nothing was played and nothing written, or some of a script whose text was read to its end
+pub data EndsShort {B : Type 0} (base : ℕ → Option NamedStates) (meaning : B → Meaning) (before after was now : Option (List ℕ)) (olds news : List B) (watching watched : List Held) : Type 0 where
+  nothing : now ≡ was → news ≡ olds → watched ≡ watching → EndsShort base meaning before after was now olds news watching watched
+  some : (text : List ℕ) (script : Script)
+      → ReadsAll before after text
+      → script_of text ≡ Ok script
+      → leaves_in script.items ≤ length olds
+      → IsShortened meaning olds news base script.items was now watching watched
+      → EndsShort base meaning before after was now olds news watching watched
+
+-- the same of a soak, which reads nothing
+pub data SoakEndsShort {B : Type 0} (base : ℕ → Option NamedStates) (meaning : B → Meaning) (seed rows : ℕ) (was now : Option (List ℕ)) (olds news : List B) (watching watched : List Held) : Type 0 where
+  nothing : now ≡ was → news ≡ olds → watched ≡ watching → SoakEndsShort base meaning seed rows was now olds news watching watched
+  some : soak_leaves ≤ length olds
+      → IsShortened meaning olds news base (soak_script seed rows).items was now watching watched
+      → SoakEndsShort base meaning seed rows was now olds news watching watched
+
+-- what was played and written of what the words ask for, at a status behind which something may have been; of a count its own clauses tell
+abbrev pub IsShort : {B : Type 0} → (ℕ → Option NamedStates) → (B → Meaning) → Option Request → Option (List ℕ) → Option (List ℕ) → Option (List ℕ) → Option (List ℕ) → List B → List B → List Held → List Held → Type 0
+IsShort base meaning (Some Play) before after was now olds news watching watched = EndsShort base meaning before after was now olds news watching watched
+IsShort base meaning (Some (Soak seed rows)) before after was now olds news watching watched = SoakEndsShort base meaning seed rows was now olds news watching watched
+IsShort base meaning request before after was now olds news watching watched = Unit {0}
+
+-- where the sink failed, or memory ran out
+abbrev pub IfShort : Status → Type 0 → Type 0
+IfShort Status.WriteFault P = P
+IfShort Status.NoMemory P = P
+IfShort _ P = Unit {0}
+
+-- ---- one item
+
+-- An item that was not played, or of whose text not all was written.
+pub data StopsAt {B : Type 0} (meaning : B → Meaning) (fleet : Fleet) (xs ys : List (Hold B)) (was written : Option (List ℕ)) (watching watched : List Held) (item : Item) : Type 0 where
+  unplayed : ys ≡ xs → written ≡ was → watched ≡ watching → StopsAt meaning fleet xs ys was written watching watched item
+  short : (played : PlayedItem)
+      → BeginsItem (item_of played) item
+      → PlaysItem meaning fleet xs played ys
+      → AllCounted meaning (all_pieces (played ∷ [])) xs ys
+      → HearsAll fleet (plays_of played) watching watched
+      → WritesFront was written (lines_text fleet.names (item_lines played))
+      → StopsAt meaning fleet xs ys was written watching watched item

@@ -1,0 +1,16 @@
+use Rattle.std.proofs.Common.{◌≡◌, ℕ, ◌+◌, ◌-◌, ◌≤◌, length}
+use Rattle.json.specs.Json.{members, value}
+use Rattle.serde_json.specs.Data.{Members, no_members}
+use Rattle.serde_json.specs.Read.{of_members, converted}
+use Rattle.row_json.specs.Row.{cell_count}
+use Rattle.row_json.specs.Quick.{AreFine, Knows}
+use Rattle.row_json.proofs.quick.members_time.Given as goal
+
+abbrev pub invariant-members : goal.invariant-members
+invariant-members l =
+    (n : ℕ) × (old : Members) × (length l.reader ≤ n)
+    × (converted (λ ms. of_members ms no_members) (members (value 126) (length l.initial.reader) l.initial.reader) ≡ converted (λ ms. of_members ms old) (members (value 126) n l.reader))
+    × AreFine old × Knows l.time old × (cell_count old ≤ l.count) × (l.count ≤ 1024)
+
+abbrev pub decreases-members : goal.decreases-members
+decreases-members l = 1024 - l.count
