@@ -10,9 +10,9 @@ use Rattle.script_text.specs.declared.command.Command.{Command}
 use Rattle.script_text.specs.Fits.{IsCommand}
 use Rattle.script_text.specs.declared.fleet.Fleet.{Fleet}
 use Rattle.script_text.specs.Commands.{leaf_count}
-use Rattle.transcript.specs.Holds.{Hold, caller_in}
-use Rattle.transcript.specs.Stage.{Leaf}
-use Rattle.transcript.specs.Lanes.{CutsOff, CutsOffAt, SplitsIf}
+use Rattle.leaf_moves.specs.Holds.{Hold, caller_in}
+use Rattle.leaf_moves.specs.Stage.{Leaf}
+use Rattle.leaf_moves.specs.Lanes.{CutsOff, CutsOffAt, SplitsIf}
 use Rattle.player.specs.Crew.{HasAll, HasLeaf, HasSeats, Spares, StillHas, is_set}
 use Rattle.bursts.specs.declared.plan.Plan.{Plan}
 use Rattle.bursts.specs.Needs.{AreAlone, AreSpare, CanLend, IsAmong, IsPlan, acts_on, leaves_of, needed, needs_at, table_of}

@@ -10,7 +10,7 @@ use Rattle.rollover_watch.specs.Watches.{Held}
 use Rattle.printed_lines.specs.declared.line.Line.{Line}
 use Rattle.script_text.specs.declared.fleet.Fleet.{Fleet}
 use Rattle.transcript.specs.Pieces.{Piece, Played, commands_in}
-use Rattle.transcript.specs.Holds.{Hold}
+use Rattle.leaf_moves.specs.Holds.{Hold}
 use Rattle.transcript.specs.Watching.{Hears, HearsAll}
 use Rattle.bursts.specs.Went.{LaneWent}
 use Rattle.bursts.specs.Rolling.{has_rollover, is_rollover, one_if, rolling}

@@ -7,8 +7,8 @@ use Rattle.berth_face.proofs.Moments.{passes_none, passes_on}
 use Rattle.printed_lines.specs.declared.line.Ending.{Ending}
 use Rattle.transcript.specs.Pieces.{Deed, Piece, Called, Worn, Acted, Says}
 use Rattle.transcript.specs.Counts.{Counted, CountsRose, deeds_in, disk_faults_in, disk_reads_in, is_disk_fault, is_region_fault, reads_disk, region_faults_in}
-use Rattle.transcript.specs.Holds.{AllMeet, Hold, caller_in}
-use Rattle.transcript.specs.Stage.{Leaf}
+use Rattle.leaf_moves.specs.Holds.{AllMeet, Hold, caller_in}
+use Rattle.leaf_moves.specs.Stage.{Leaf}
 use Rattle.player.specs.Crew.{AllCounted, AllPass, CountedIf, HasLeaf, HasSeats, PassesIf, StillHas}
 
 -- ---- lists

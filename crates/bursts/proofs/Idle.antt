@@ -6,8 +6,8 @@ use Rattle.berth_face.specs.Berth.{Meaning}
 use Rattle.leaf_table.specs.Calls.{SeatView}
 use Rattle.script_text.specs.declared.fleet.Fleet.{Fleet}
 use Rattle.transcript.specs.Pieces.{Played}
-use Rattle.transcript.specs.Holds.{Hold, caller_in}
-use Rattle.transcript.specs.Lanes.{CutsOff, CutsOffAt, Fans, PlaysOn, SplitsIf, TakesBack, TakesBackAt, JoinsIf}
+use Rattle.leaf_moves.specs.Holds.{Hold, caller_in}
+use Rattle.leaf_moves.specs.Lanes.{CutsOff, CutsOffAt, Fans, PlaysOn, SplitsIf, TakesBack, TakesBackAt, JoinsIf}
 
 -- ---- lists
 

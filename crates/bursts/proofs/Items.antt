@@ -9,8 +9,8 @@ use Rattle.rollover_watch.specs.Watches.{Held}
 use Rattle.printed_lines.specs.declared.line.Line.{Line}
 use Rattle.script_text.specs.declared.fleet.Fleet.{Fleet}
 use Rattle.transcript.specs.Pieces.{One, Burst, Piece, Played, lane_lines, lines_in, pieces_in}
-use Rattle.transcript.specs.Holds.{Hold, AllMeet}
-use Rattle.transcript.specs.Lanes.{PlaysItem}
+use Rattle.leaf_moves.specs.Holds.{Hold, AllMeet}
+use Rattle.leaf_moves.specs.Lanes.{PlaysItem}
 use Rattle.player.specs.Crew.{AllCounted, HasAll, PlaysWith, StillHas}
 use Rattle.bursts.specs.declared.plan.Plan.{Plan}
 use Rattle.bursts.specs.Needs.{ArePlans, commands_in}

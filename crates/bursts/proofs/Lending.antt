@@ -8,8 +8,8 @@ use Rattle.leaf_table.specs.Turns.{Shared}
 use Rattle.script_text.specs.declared.command.Command.{Command}
 use Rattle.rollover_watch.specs.Watches.{Held}
 use Rattle.script_text.specs.declared.fleet.Fleet.{Fleet}
-use Rattle.transcript.specs.Holds.{Hold}
-use Rattle.transcript.specs.Lanes.{CutsOff}
+use Rattle.leaf_moves.specs.Holds.{Hold}
+use Rattle.leaf_moves.specs.Lanes.{CutsOff}
 use Rattle.player.specs.Crew.{AllPass, CrewState, StillHas, is_set}
 use Rattle.bursts.specs.declared.work.LaneWork.{LaneWork}
 use Rattle.bursts.specs.Lent.{IsDone, IsReady, IsWorked, Lent, MayWork}

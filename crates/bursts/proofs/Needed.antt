@@ -13,8 +13,8 @@ use Rattle.script_text.specs.Stewards.{has_steward, is_stewards}
 use Rattle.script_text.specs.declared.fleet.Fleet.{Fleet}
 use Rattle.script_text.specs.Commands.{leaf_count}
 use Rattle.transcript.specs.Pieces.{place_among}
-use Rattle.transcript.specs.Holds.{Hold}
-use Rattle.transcript.specs.Plays.{MayPlay}
+use Rattle.leaf_moves.specs.Holds.{Hold}
+use Rattle.leaf_moves.specs.Plays.{MayPlay}
 use Rattle.player.specs.Crew.{HasAll, HasFor, HasLeaf, HasSeats, StillHas, is_set}
 use Rattle.bursts.specs.declared.plan.Plan.{Plan}
 use Rattle.bursts.specs.Needs.{AreAlone, ArePlans, Everywhere, IsAmong, IsPlan, IsPlanOf, Nowhere, OnlyAt, Places, acts_on, leaves_of, marked, marked_by, needed, table_of}

@@ -12,13 +12,13 @@ use Rattle.printed_lines.specs.declared.line.Line.TheVariants.{Lane}
 use Rattle.printed_lines.specs.Lines.{IsOf}
 use Rattle.script_text.specs.declared.fleet.Fleet.{Fleet}
 use Rattle.transcript.specs.Pieces.{Piece, Played, commands_in, lane_lines, lines_in, piece_lines, pieces_in}
-use Rattle.transcript.specs.Holds.{Hold}
-use Rattle.transcript.specs.Lanes.{PlaysOn}
+use Rattle.leaf_moves.specs.Holds.{Hold}
+use Rattle.leaf_moves.specs.Lanes.{PlaysOn}
 use Rattle.player.specs.Crew.{AllCounted, PlaysWith}
 use Rattle.bursts.specs.Played.{all_of}
 use Rattle.bursts.specs.Went.{AreBegun, LaneWent, LanesFit, TurnsWent, told_lines}
 use Rattle.transcript.specs.Watching.{Hears, HearsAll}
-use Rattle.transcript.specs.Plays.{Plays}
+use Rattle.leaf_moves.specs.Plays.{Plays}
 use Rattle.bursts.proofs.Held.{all_counted_on, counted_none}
 use Rattle.bursts.proofs.Hearing.{watched_join, watched_one}
 

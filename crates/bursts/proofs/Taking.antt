@@ -1,8 +1,8 @@
 -- What was cut off comes back.
 use Rattle.std.proofs.Common.{◌≡◌, ◌⊎◌, inl, inr, ℕ, zero, suc, ◌+◌, ◌<◌, ◌≤◌, Bool, true, false, List, [], ◌∷◌, ◌++◌, length, Option, Some, None, Result, Vec, Global, refl, sym, ap, ap₂, subst, ◌∙◌, arith, append_assoc, length-append}
-use Rattle.std.specs.Prelude.{slice_get, is_some, Ok, Err, IfOk, IfSome, MatchBool}
+use Rattle.std.specs.Prelude.{slice_get, is_some, Ok, Err, IfOk, IfSome, MatchBool, map, ⊤}
 use Rattle.std.specs.List.{AllByRecursion}
-use Rattle.std.proofs.lemmas.List.{append-nil}
+use Rattle.std.proofs.lemmas.List.{append-nil, map-append}
 use Rattle.berth_face.specs.Berth.{Meaning}
 use Rattle.leaf_table.specs.Turns.{Shared}
 use Rattle.leaf_table.specs.Calls.{SeatView}
@@ -15,16 +15,14 @@ use Rattle.printed_lines.specs.Lines.{IsOf}
 use Rattle.script_text.specs.declared.fleet.Fleet.{Fleet}
 use Rattle.transcript.specs.Pieces.{Deed, Piece, Played, commands_in, lane_lines, lines_in, pieces_in}
 use Rattle.transcript.specs.Counts.{deeds_in}
-use Rattle.transcript.specs.Holds.{Hold, caller_in}
-use Rattle.transcript.specs.Stage.{Leaf}
-use Rattle.transcript.specs.Lanes.{ComesBack, CutsOff, CutsOffAt, Fans, TakesBack, TakesBackAt}
+use Rattle.leaf_moves.specs.Holds.{Hold, caller_in}
+use Rattle.leaf_moves.specs.Stage.{Leaf}
+use Rattle.leaf_moves.specs.Lanes.{ComesBack, CutsOff, CutsOffAt, Fans, TakesBack, TakesBackAt}
 use Rattle.player.specs.Crew.{AllCounted, AllPass, CountedIf, CrewState, HasSeats, MayTakeBack, PassesIf, SameSeats, StillHas}
 use Rattle.bursts.specs.declared.work.LaneWork.{LaneWork}
 use Rattle.bursts.specs.Lent.{IsWorked, Lent, TakenBack, TakingBack}
 use Rattle.bursts.specs.Played.{IsBehind, all_of}
 use Rattle.bursts.specs.Went.{AreBegun, FansWent, LaneWent, own_lines, told_lines}
-use Rattle.std.specs.Prelude.{map, ⊤}
-use Rattle.std.proofs.lemmas.List.{map-append}
 use Rattle.std.proofs.lemmas.Grind.{flat_map-append}
 use Rattle.bursts.proofs.Idle.{idle, idle_before, idle_snoc}
 use Rattle.bursts.specs.Rolling.{Between, has_rollover, one_if, rolling}

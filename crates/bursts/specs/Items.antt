@@ -4,7 +4,7 @@ use Rattle.script_text.specs.declared.item.Item.TheVariants.{One, Burst}
 use Rattle.script_text.specs.Fits.{IsBurst}
 use Rattle.script_text.specs.declared.fleet.Fleet.{Fleet}
 use Rattle.script_text.specs.Commands.{leaf_count}
-use Rattle.transcript.specs.Plays.{MayPlay}
+use Rattle.leaf_moves.specs.Plays.{MayPlay}
 
 -- an item that such a fleet may play
 abbrev pub MayPlayItem : Fleet → Item → Type 0

@@ -8,8 +8,8 @@ use Rattle.script_text.specs.declared.command.Command.{Command}
 use Rattle.rollover_watch.specs.Watches.{Held}
 use Rattle.printed_lines.specs.declared.line.Line.{Line}
 use Rattle.script_text.specs.declared.fleet.Fleet.{Fleet}
-use Rattle.transcript.specs.Holds.{Hold}
-use Rattle.transcript.specs.Lanes.{CutsOff}
+use Rattle.leaf_moves.specs.Holds.{Hold}
+use Rattle.leaf_moves.specs.Lanes.{CutsOff}
 use Rattle.player.specs.Crew.{AllPass, HasSeats, StillHas}
 use Rattle.bursts.specs.Played.{MayPlayOn}
 use Rattle.bursts.specs.Went.{FansWent, LaneWent, own_lines, told_lines}

@@ -7,7 +7,7 @@ use Rattle.script_text.specs.Fits.{IsCommand}
 use Rattle.script_text.specs.declared.fleet.Fleet.{Fleet}
 use Rattle.script_text.specs.Commands.{leaf_count}
 use Rattle.transcript.specs.Pieces.{place_among}
-use Rattle.transcript.specs.Holds.{Hold}
+use Rattle.leaf_moves.specs.Holds.{Hold}
 use Rattle.player.specs.Crew.{HasLeaf, HasSeats, Spares, is_set}
 use Rattle.bursts.specs.declared.plan.Needs.{Needs}
 use Rattle.bursts.specs.declared.plan.Plan.{Plan}

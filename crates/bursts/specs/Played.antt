@@ -9,7 +9,7 @@ use Rattle.printed_lines.specs.declared.line.Line.TheVariants.{Lane}
 use Rattle.script_text.specs.declared.fleet.Fleet.{Fleet}
 use Rattle.script_text.specs.Commands.{leaf_count}
 use Rattle.transcript.specs.Pieces.{Played}
-use Rattle.transcript.specs.Holds.{Hold}
+use Rattle.leaf_moves.specs.Holds.{Hold}
 use Rattle.player.specs.Crew.{HasFor}
 
 -- a command of a lane, for which all that it needs is held

@@ -10,8 +10,8 @@ use Rattle.printed_lines.specs.declared.line.Line.{Line}
 use Rattle.printed_lines.specs.Lines.{IsOf}
 use Rattle.script_text.specs.declared.fleet.Fleet.{Fleet}
 use Rattle.transcript.specs.Pieces.{Played, PlayedItem, all_pieces, commands_in, item_lines, item_of, lane_lines, lines_in, pieces_in, plays_of}
-use Rattle.transcript.specs.Holds.{Hold, AllMeet}
-use Rattle.transcript.specs.Lanes.{Fans, PlaysItem, PlaysOn}
+use Rattle.leaf_moves.specs.Holds.{Hold, AllMeet}
+use Rattle.leaf_moves.specs.Lanes.{Fans, PlaysItem, PlaysOn}
 use Rattle.transcript.specs.Watching.{HearsAll}
 use Rattle.bursts.specs.Shortened.{Begins, BeginsItem}
 use Rattle.player.specs.Crew.{AllCounted}

@@ -4,7 +4,7 @@ ghost use Rattle.std.specs.List.{AllByRecursion};
 ghost use Rattle.std.specs.Thread.{IsSend, IsSync};
 ghost use Rattle.script_text.specs.declared.command.Command.{Command};
 ghost use Rattle.rollover_watch.specs.Watches.{Held};
-ghost use Rattle.transcript.specs.Holds.{Hold};
+ghost use Rattle.leaf_moves.specs.Holds.{Hold};
 ghost use Rattle.player.specs.Crew.{AllPass, HasAll, HasSeats, StillHas};
 ghost use Rattle.bursts.specs.Needs.{AreAlone, AreSpare, CanLend, IsPlan, commands_in};
 ghost use Rattle.bursts.specs.Lent.{IsDone, IsReady, IsWorked, Lent, MayWork, TakenBack};

@@ -3,7 +3,7 @@ ghost use Rattle.std.specs.Prelude.{◌≡◌, ◌⊎◌, IfOk, IsErr, map};
 ghost use Rattle.std.specs.List.{AllByRecursion};
 ghost use Rattle.script_text.specs.declared.item.Item.TheVariants.{One};
 ghost use Rattle.printed_lines.specs.Lines.{IsOf};
-ghost use Rattle.transcript.specs.Plays.{MayPlay};
+ghost use Rattle.leaf_moves.specs.Plays.{MayPlay};
 ghost use Rattle.player.specs.Crew.{AllPass, HasAll, HasFor, PlaysWith, StillHas};
 ghost use Rattle.bursts.specs.Went.{ItemWent, OrNothing, told_lines};
 

@@ -1,3 +1,4 @@
 pub mod Standing
+pub mod Beginning
 pub mod Entries
 pub mod Laws

@@ -7,4 +7,5 @@ pub mod Kept
 pub mod Staying
 pub mod Beginning
 pub mod Scanned
+pub mod InOrder
 pub mod SoundLogs

@@ -15,7 +15,7 @@ use Rattle.crash_moments.specs.Watched.{Watched, AreApart, is_watched}
 use Rattle.crash_states.specs.Standing.{Rests}
 use Rattle.leaf_steward.specs.Seated.{Seated, AtEach, AreSeated, IsUnused, watched_by}
 use Rattle.leaf_steward.proofs.Watching.{watch_at, watch_names}
-use Rattle.leaf_machine.specs.States.{MayBegin}
+use Rattle.crash_states.specs.Beginning.{MayBegin}
 use Rattle.leaf_machine.proofs.DownBegins.{begun_rests}
 
 -- ---- distinct names are apart

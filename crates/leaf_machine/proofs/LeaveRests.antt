@@ -18,7 +18,7 @@ use Rattle.crash_states.specs.Standing.{IsKept, RegionRests, Rests, tables_of}
 use Rattle.crash_states.proofs.Names.{IsOwn, IsForeign, find_name, each_at, others_at}
 use Rattle.crash_states.proofs.States.{front_short, kept_most, now_sound, with_owed, without_owed}
 use Rattle.crash_states.proofs.Disks.{same_log}
-use Rattle.leaf_machine.specs.Leaving.{BeginsAgain}
+use Rattle.crash_states.specs.Beginning.{BeginsAgain}
 use Rattle.leaf_machine.proofs.CopyWatching.{nothing_sound}
 
 -- names that the leaf does not have are sound, whether it has opened a table or not

@@ -16,7 +16,7 @@ use Rattle.crash_states.specs.Standing.{Runs, tables_of}
 use Rattle.crash_states.specs.Entries.{Enters, ShutsAll, stewards}
 use Rattle.crash_serving.specs.Laws.{IsKilled}
 use Rattle.crash_serving.proofs.Running.{kills}
-use Rattle.leaf_machine.specs.Leaving.{IsFrontOf, BeginsAgain}
+use Rattle.crash_states.specs.Beginning.{IsFrontOf, BeginsAgain}
 use Rattle.leaf_machine.proofs.LeaveRests.{rests_begin}
 
 -- ---- one table

@@ -1,11 +1,10 @@
 -- What holds of a leaf in each of its states.
 use Rattle.std.specs.Prelude.{◌≡◌, ◌≢◌, ◌⊎◌, ℕ, suc, ◌+◌, ◌-◌, ◌<◌, ◌≤◌, Bool, false, List, [], ◌∷◌, length, slice_get, Option, Some, IfSome, IsSome, IsTrue, if◌then◌else◌}
-use Rattle.leaf_model.specs.declared.rows.Row.{Row}
 use Rattle.leaf_model.specs.declared.writes.Write.{Write}
 use Rattle.row_records.specs.Records.{LogRecord}
 use Rattle.berth_face.specs.Berth.{Meaning}
 use Rattle.leaf_history.specs.History.{HistoryState, held, write_count}
-use Rattle.table_state.specs.Tables.{Table}
+use Rattle.table_state.specs.Tables.{Table, least_columns}
 use Rattle.drain_copy.specs.declared.step.Next.TheVariants.{Nothing}
 use Rattle.drain_copy.specs.Draining.{DrainState}
 use Rattle.leaf_table.specs.Turns.{Shared}
@@ -40,11 +39,6 @@ treated x = if x.shut then length x.closed - 1 else length x.closed
 
 -- ---- how many columns tables have at least
 
--- rows have one
-abbrev pub least_columns : List Row → ℕ
-least_columns [] = 0
-least_columns (row ∷ rows) = 1
-
 -- of tables as their seats have seen them last
 abbrev pub columns_seen : List Shared → List SeatView → ℕ
 columns_seen [] vs = 0
@@ -61,10 +55,6 @@ UpStands x m = AreFounded x.seated → IsTrue m.tells × ((writes : List ℕ →
 
 abbrev pub CopyStands : Copying → Meaning → Type 0
 CopyStands x m = AreFounded x.seated → IsTrue m.tells × ((writes : List ℕ → List Write) × Copies (watched_by x.seated) x.drain writes m)
-
--- A leaf with this base may begin over the berth: each log that a crash may leave has the least writes of each name, or those of one record more, and the base has the longest.
-abbrev pub MayBegin : NamedStates → Meaning → Type 0
-MayBegin base m = IsTrue m.tells × ((least : List ℕ → List Write) × (next : Option LogRecord) × Rests [] base least next m)
 
 -- ---- what every leaf is
 

@@ -10,7 +10,7 @@ ghost use Rattle.leaf_table.specs.Calls.{base_seen, name_of, seen_of};
 ghost use Rattle.crash_moments.specs.Left.{NamedStates};
 ghost use Rattle.crash_states.specs.Standing.{Rests};
 ghost use Rattle.leaf_steward.specs.Seated.{AreAlike, AreFounded, AtEach, AtPlace, IsUnused, watched_by, with_seat};
-ghost use Rattle.leaf_machine.specs.States.{MayBegin};
+ghost use Rattle.crash_states.specs.Beginning.{MayBegin};
 
 use berth_face::Berth;
 use leaf_model::Names;

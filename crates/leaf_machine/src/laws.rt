@@ -2,7 +2,7 @@
 ghost use Rattle.crash_moments.specs.Base.{IsReady};
 ghost use Rattle.region_directory.specs.Region.{reads};
 ghost use Rattle.crash_moments.specs.Left.{NamedStates};
-ghost use Rattle.leaf_machine.specs.States.{MayBegin};
+ghost use Rattle.crash_states.specs.Beginning.{MayBegin};
 ghost use Rattle.leaf_machine.specs.Leaving.{LeavesBegin};
 
 use berth_face::Berth;

@@ -3,7 +3,5 @@ pub mod Strangers
 pub mod Places
 pub mod Origins
 pub mod Starting
-pub mod InOrder
-pub mod LogAnswers
 pub mod OneAnswer
 pub mod Exact

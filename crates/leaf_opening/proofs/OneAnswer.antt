@@ -1,4 +1,4 @@
--- Bytes decide one answer of a start. (leaf_opening/proofs)
+-- Bytes decide one answer of a start.
 use Rattle.std.proofs.Common.{◌≡◌, inl, inr, ℕ, Bool, true, false, List, [], ◌∷◌, map, Option, Some, None, Result, Ok, Err, refl, sym, ap, subst, ◌∙◌}
 use Rattle.region_layout.specs.declared.head.Head.{Head}
 use Rattle.region_layout.specs.declared.head.Head.TheVariants as head
@@ -11,7 +11,7 @@ use Rattle.adopt.specs.declared.found.WhyDisk.{WhyDisk}
 use Rattle.adopt.specs.declared.found.WhyDisk.TheVariants as why
 use Rattle.adopt.specs.Adopting.{IsStranger, IsWhy, IsWhyFor, stranger_of}
 use Rattle.disk_backup.specs.Scanning.{begun}
-use Rattle.leaf_opening.proofs.LogAnswers.{one_stranger, recovered_no_stranger, recovered_not_damaged, stranger_not_damaged}
+use Rattle.log_recovery.proofs.LogAnswers.{one_stranger, recovered_no_stranger, recovered_not_damaged, stranger_not_damaged}
 use Rattle.leaf_opening.specs.declared.ways.Way.{Way}
 use Rattle.leaf_opening.specs.declared.ways.Way.TheVariants.{Memory, Disk}
 use Rattle.leaf_opening.specs.declared.ways.OpenFault.{OpenFault}

@@ -2,3 +2,4 @@ pub mod Replaying
 pub mod Places
 pub mod Applying
 pub mod Reading
+pub mod LogAnswers

@@ -13,24 +13,24 @@ use Rattle.leaf_table.specs.Calls.{SeatView, base_seen, name_of}
 use Rattle.leaf_table.specs.Fleet.{IsNewFleet}
 use Rattle.leaf_table.specs.Lists.{row}
 use Rattle.leaf_steward.specs.Seated.{AreAlike, AreFounded, AtEach, Seated}
-use Rattle.leaf_machine.specs.States.{MayBegin}
+use Rattle.crash_states.specs.Beginning.{MayBegin}
 use Rattle.rollover_watch.specs.Watches.{Held}
 use Rattle.script_text.specs.declared.fleet.Fleet.{Fleet}
 use Rattle.script_text.specs.Commands.{leaf_count}
 use Rattle.transcript.specs.Counts.{CountsRose}
-use Rattle.transcript.specs.Holds.{Hold}
-use Rattle.transcript.specs.Stage.{IsDown, Leaf, Stands, seated_of}
+use Rattle.leaf_moves.specs.Holds.{Hold}
+use Rattle.leaf_moves.specs.Stage.{IsDown, Leaf, Stands, seated_of}
 use Rattle.transcript.specs.Transcript.{Known}
 use Rattle.transcript.specs.Leaving.{AreKnown, IsKnown}
-use Rattle.leaf_sessions.specs.Session.{AreGrounded, AreInPlace, IsNewHold, StandsFirst}
-use Rattle.sessions.specs.Laws as sessions
+use Rattle.transcript_leaf.specs.Session.{AreGrounded, AreInPlace, IsNewHold, StandsFirst}
+use Rattle.transcript_fleet.specs.Laws as sessions
 use Rattle.player.specs.Crew.{berth_in, column, new_holds, seated_at}
 use Rattle.play.specs.Played.{AreBases, IsBase, KeepsCounts}
 use Rattle.play.specs.Runs.{RunSoFar, berths_in, table_bases}
 use Rattle.play.proofs.Fleets.{AreNewTables, leaf_tables}
-use Rattle.sessions.proofs.Sessions.{begins}
-use Rattle.sessions.proofs.Lists.{All-weaken}
-use Rattle.leaf_sessions.proofs.Lists.{clash_bool, same_some, within}
+use Rattle.transcript_fleet.proofs.Sessions.{begins}
+use Rattle.transcript_fleet.proofs.Lists.{All-weaken}
+use Rattle.transcript_leaf.proofs.Lists.{clash_bool, same_some, within}
 use Rattle.play.proofs.Lists.{each_at, get_take}
 use Rattle.play.proofs.Holding.{berth_at, berth_there}
 use Rattle.play.proofs.Plays.{appends_nothing, counted_nothing, keeps_same}

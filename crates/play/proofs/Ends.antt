@@ -11,40 +11,32 @@ use Rattle.script_text.specs.declared.command.Command.TheVariants as command
 use Rattle.script_text.specs.declared.item.Item.{Item}
 use Rattle.script_text.specs.declared.item.Item.TheVariants as item
 use Rattle.script_text.specs.declared.script.Script.{Script}
-use Rattle.script_text.specs.Commands.{Fault}
+use Rattle.script_text.specs.Commands.{Fault, leaf_count}
 use Rattle.script_text.specs.Script.{script_of}
 use Rattle.script_text.specs.Fits.{AreItems, AreTables, IsItem, IsTableName}
 use Rattle.printed_lines.specs.declared.line.Line.{Line}
 use Rattle.printed_lines.specs.Lines.{lines_text}
 use Rattle.script_text.specs.declared.fleet.Fleet.{Fleet}
-use Rattle.script_text.specs.Commands.{leaf_count}
 use Rattle.transcript.specs.Pieces.{PlayedItem, all_lines, all_pieces, script_fleet, item_of, plays_in}
 use Rattle.transcript.specs.Counts.{CountsRose}
 use Rattle.transcript.specs.Strangers.{IsNamedBy, Strangers}
 use Rattle.transcript.specs.Transcript.{Known, Transcript, first_life}
-use Rattle.transcript.specs.Holds.{Hold}
+use Rattle.leaf_moves.specs.Holds.{Hold}
 use Rattle.transcript.specs.Leaving.{AtBerth, IsToldRun, IsWritten, LeavesBerth}
-use Rattle.transcript.specs.Stage.{Leaf}
+use Rattle.leaf_moves.specs.Stage.{Leaf}
 use Rattle.transcript.specs.Watching.{HearsAll}
-use Rattle.sessions.specs.Laws.{IsToldFleet}
+use Rattle.transcript.specs.Moments.{MomentsRise, notes_told}
+use Rattle.transcript_fleet.specs.Laws.{IsToldFleet}
 use Rattle.player.specs.Crew.{berth_in}
 use Rattle.bursts.specs.Items.{MayPlayItem}
-use Rattle.play.specs.Played.{KeepsCounts, soak_leaves, LeavesBerths, leaves_in, leaves_of, leaves_told}
+use Rattle.play.specs.Played.{KeepsCounts, LeavesBerths, leaves_in, leaves_of, leaves_told}
 use Rattle.play.specs.Runs.{AreCounted, HoldsKeep, IsFleetOf, IsRun, berths_in, fleet_named}
-use Rattle.sessions.proofs.Lists.{All-weaken}
-use Rattle.sessions.proofs.Sessions.{berth_held}
-use Rattle.leaf_sessions.proofs.Lists.{element_at, length_mapped, same_some, within}
+use Rattle.transcript_fleet.proofs.Lists.{All-weaken}
+use Rattle.transcript_fleet.proofs.Sessions.{berth_held}
+use Rattle.transcript_leaf.proofs.Lists.{element_at, length_mapped, same_some, within}
 use Rattle.play.proofs.Holding.{berth_at, held_there}
 use Rattle.play.proofs.Lists.{behind_at, below_or_not, drop_front, drop_later, front_at}
 use Rattle.play.proofs.Plays.{appends_nothing, keeps_same, may_later}
-use Rattle.std.specs.List.{cons_option}
-use Rattle.transcript.specs.Holds.{HasMet}
-use Rattle.bursts.specs.Shortened.{BeginsItem}
-use Rattle.play.specs.Cut.{IsShortened, PlaysSome}
-use Rattle.play.specs.Shortened.{EndsShort, IfShort, RunShort, SoakEndsShort, StopsShort}
-use Rattle.soak.specs.Soak.{soak_script}
-use Rattle.row_count.specs.declared.status.Status.{Status}
-use Rattle.sessions.proofs.Ending.{ended}
 
 -- ---- the fleet of some items
 
@@ -92,32 +84,36 @@ none_below : (leaf : ℕ) → leaf < 0 → ⊥
 none_below leaf below = omega (arith, below)
 
 -- nothing was done to any berth
+pub nothing_told : {B : Type 0} (meaning : B → Meaning) (berths : List B) (known : ℕ → Option Known) (watches : List Held) → IsToldRun meaning berths berths [] known [] watches watches
+nothing_told meaning berths known watches = record {
+  transcript = record {
+    played = [];
+    histories = λ leaf table. [];
+    lives = λ leaf. first_life None [];
+    items_are = refl;
+    text = refl;
+    prints = tt;
+    each_lives = λ leaf below. absurd (none_below leaf below);
+    one_history = λ leaf table below t. absurd (none_below leaf below);
+    in_order = λ leaf table below t. absurd (none_below leaf below);
+    answers = tt;
+    worn = tt;
+  };
+  lines_are = refl;
+  watched = refl;
+  counts = λ leaf below. absurd (none_below leaf below);
+  strangers = λ leaf k below is. absurd (none_below leaf below);
+  leaves = λ leaf k below is. absurd (none_below leaf below);
+  moments = λ leaf below. absurd (none_below leaf below);
+  others = refl;
+}
+
 pub nothing_written : {B : Type 0} (base : ℕ → Option NamedStates) (meaning : B → Meaning) (items : List Item) (was : Option (List ℕ)) (berths : List B) (watches : List Held) → items ≡ []
     → IsWritten meaning berths berths base items was was watches watches
 nothing_written base meaning items was berths watches e = rw e (record {
   lines = [];
   written = appends_nothing was;
-  told = λ known are. record {
-    transcript = record {
-      played = [];
-      histories = λ leaf table. [];
-      lives = λ leaf. first_life None [];
-      items_are = refl;
-      text = refl;
-      prints = tt;
-      each_lives = λ leaf below. absurd (none_below leaf below);
-      one_history = λ leaf table below t. absurd (none_below leaf below);
-      in_order = λ leaf table below t. absurd (none_below leaf below);
-      answers = tt;
-      worn = tt;
-    };
-    lines_are = refl;
-    watched = refl;
-    counts = λ leaf below. absurd (none_below leaf below);
-    strangers = λ leaf k below is. absurd (none_below leaf below);
-    leaves = λ leaf k below is. absurd (none_below leaf below);
-    others = refl;
-  };
+  told = λ known are. nothing_told meaning berths known watches;
 })
 
 -- ---- a run over the first berths
@@ -183,17 +179,18 @@ module _ {B : Type 0} (meaning : B → Meaning) (front rest own : List B) (xs : 
 
   module _ (known : ℕ → Option Known) (watching watched : List Held) where
     -- what these lines are, of a fleet
-    record ToldBy (lines : List Line) (fleet : Fleet) (items : List Item) : Type 0 where
-      transcript : Transcript fleet known items (lines_text fleet.names lines)
-      lines_are : all_lines transcript.played ≡ lines
-      heard : HearsAll fleet (plays_in transcript.played) watching watched
-      counts : (leaf : ℕ) → leaf < (leaf_count fleet) → AtBerth meaning olds news leaf (CountsRose leaf (all_pieces transcript.played))
-      strangers : (leaf : ℕ) (k : Known) → leaf < (leaf_count fleet) → known leaf ≡ Some k → Strangers (IsNamedBy fleet.names k.held) leaf (all_pieces transcript.played)
-      leaves : (leaf : ℕ) (k : Known) → leaf < (leaf_count fleet) → known leaf ≡ Some k →
+    pub record ToldBy (lines : List Line) (fleet : Fleet) (items : List Item) : Type 0 where
+      pub transcript : Transcript fleet known items (lines_text fleet.names lines)
+      pub lines_are : all_lines transcript.played ≡ lines
+      pub heard : HearsAll fleet (plays_in transcript.played) watching watched
+      pub counts : (leaf : ℕ) → leaf < (leaf_count fleet) → AtBerth meaning olds news leaf (CountsRose leaf (all_pieces transcript.played))
+      pub strangers : (leaf : ℕ) (k : Known) → leaf < (leaf_count fleet) → known leaf ≡ Some k → Strangers (IsNamedBy fleet.names k.held) leaf (all_pieces transcript.played)
+      pub leaves : (leaf : ℕ) (k : Known) → leaf < (leaf_count fleet) → known leaf ≡ Some k →
           AtBerth meaning olds news leaf (LeavesBerth fleet.names k.base (transcript.lives leaf) (transcript.histories leaf))
-      others : drop (leaf_count fleet) news ≡ drop (leaf_count fleet) olds
+      pub moments : (leaf : ℕ) → leaf < (leaf_count fleet) → AtBerth meaning olds news leaf (λ old new. MomentsRise (transcript.histories leaf) old.clock (notes_told leaf (all_pieces transcript.played)) new.clock)
+      pub others : drop (leaf_count fleet) news ≡ drop (leaf_count fleet) olds
 
-    fleet_told : (fleet : Fleet) (played : List PlayedItem) → leaf_count fleet ≡ length front → AreCounted meaning front xs (all_pieces played) → HearsAll fleet (plays_in played) watching watched → IsToldFleet meaning fleet known played front xs
+    pub fleet_told : (fleet : Fleet) (played : List PlayedItem) → leaf_count fleet ≡ length front → AreCounted meaning front xs (all_pieces played) → HearsAll fleet (plays_in played) watching watched → IsToldFleet meaning fleet known played front xs
         → ToldBy (all_lines played) fleet (map item_of played)
     fleet_told fleet played size counted heard told =
         let t : Transcript fleet known (map item_of played) (lines_text fleet.names (all_lines played)) = told.transcript in
@@ -207,11 +204,14 @@ module _ {B : Type 0} (meaning : B → Meaning) (front rest own : List B) (xs : 
           strangers = λ leaf k below is. subst (λ (ps : List PlayedItem). Strangers (IsNamedBy fleet.names k.held) leaf (all_pieces ps)) (sym same) (told.strangers leaf k below is);
           leaves = λ leaf k below is. at_berth (LeavesBerth fleet.names k.base (t.lives leaf) (t.histories leaf)) leaf (omega (arith, below, size))
               (λ old x l new at now held. told.leaves leaf k old new x is at now (berth_held x l new held));
+          moments = λ leaf below. at_berth (λ old new. MomentsRise (t.histories leaf) old.clock (notes_told leaf (all_pieces t.played)) new.clock) leaf (omega (arith, below, size))
+              (λ old x l new at now held. subst (λ (ps : List PlayedItem). MomentsRise (t.histories leaf) (meaning old).clock (notes_told leaf (all_pieces ps)) (meaning new).clock) (sym same)
+              (told.moments leaf old new x at now (berth_held x l new held)));
           others = subst (λ n. drop n news ≡ drop n olds) (sym size) same_behind;
         }
 
-    run_told : (lines : List Line) (items : List Item) → ToldBy lines (script_fleet items) items → IsToldRun meaning olds news items known lines watching watched
-    run_told lines items t = record { transcript = t.transcript; lines_are = t.lines_are; watched = t.heard; counts = t.counts; strangers = t.strangers; leaves = t.leaves; others = t.others }
+    pub run_told : (lines : List Line) (items : List Item) → ToldBy lines (script_fleet items) items → IsToldRun meaning olds news items known lines watching watched
+    run_told lines items t = record { transcript = t.transcript; lines_are = t.lines_are; watched = t.heard; counts = t.counts; strangers = t.strangers; leaves = t.leaves; moments = t.moments; others = t.others }
 
   run_written : (base : ℕ → Option NamedStates) (items : List Item) (was now : Option (List ℕ)) (watching watched : List Held) → leaf_count (script_fleet items) ≡ length front
       → IsRun base meaning (script_fleet items) front was now watching watched items xs → IsWritten meaning olds news base items was now watching watched
@@ -302,188 +302,3 @@ leaves_as_told meaning (Some xs) None text script had has read is are leaves = a
 leaves_as_told meaning (Some xs) (Some ys) text script had has read is are leaves =
     let whole : text ≡ xs = all_read xs text ys read.0 read.1 in
     subst (λ n. LeavesBerths meaning n had has) (ap (λ (r : Result Script Fault). leaves_of r) (sym is) ∙ ap (λ (t : List ℕ). leaves_of (script_of t)) whole) leaves
-
--- What a play that stops has played and written. (Goes on play/proofs/Ends.antt, whose private lemmas it uses.)
-
--- ---- the fleet
-
-head_fleet : (x : Item) (xs ys : List Item) → script_fleet (x ∷ xs) ≡ script_fleet (x ∷ ys)
-head_fleet (item.One c) xs ys = refl
-head_fleet (item.Burst lanes) xs ys = refl
-
-begun_fleet : (y x : Item) (ys xs : List Item) → BeginsItem y x → script_fleet (y ∷ ys) ≡ script_fleet (x ∷ xs)
-begun_fleet (item.One c) (item.One d) ys xs same = ap (λ e. script_fleet (item.One e ∷ [])) same
-begun_fleet (item.One c) (item.Burst wholes) ys xs none = absurd none
-begun_fleet (item.Burst lanes) (item.One d) ys xs none = absurd none
-begun_fleet (item.Burst lanes) (item.Burst wholes) ys xs begun = refl
-
--- what was played, if anything was, has the fleet of all items
-fleet_begins : (items played : List Item) → PlaysSome items played → (played ≡ []) ⊎ (script_fleet played ≡ script_fleet items)
-fleet_begins items played (PlaysSome.whole (rest, is)) = subst (λ (all : List Item). (played ≡ []) ⊎ (script_fleet played ≡ script_fleet all)) (sym is) (by played)
-  where
-    by : (front : List Item) → (front ≡ []) ⊎ (script_fleet front ≡ script_fleet (front ++ rest))
-    by [] = inl refl
-    by (x ∷ xs) = inr (head_fleet x xs (xs ++ rest))
-fleet_begins items played (PlaysSome.within before last of behind is begins all) =
-    inr (ap (λ (ps : List Item). script_fleet ps) all ∙ (by before ∙ ap (λ (ps : List Item). script_fleet ps) (sym is)))
-  where
-    by : (front : List Item) → script_fleet (front ++ last ∷ []) ≡ script_fleet (front ++ of ∷ behind)
-    by [] = begun_fleet last of [] behind begins
-    by (x ∷ xs) = head_fleet x (xs ++ last ∷ []) (xs ++ of ∷ behind)
-
--- ---- the berths
-
-none_taken : {B : Type 0} (own : List B) → map Some own ≡ [] → own ≡ []
-none_taken [] e = refl
-none_taken (b ∷ own) e = absurd cc
-
--- the berths that are given back are those of the leaves
-own_berths : {B : Type 0} (own : List B) (xs : List (Hold B)) → map Some own ≡ map (λ (x : Hold B). berth_in x) xs → berths_in xs ≡ own
-own_berths own [] are = sym (none_taken own are)
-own_berths [] (x ∷ xs) are = absurd cc
-own_berths {B} (b ∷ own) (x ∷ xs) are =
-    ap (λ (o : Option B). cons_option o (berths_in xs)) (first_is (Some b) (berth_in x) (map Some own) (map (λ (y : Hold B). berth_in y) xs) are)
-    ∙ ap (λ (bs : List B). b ∷ bs) (own_berths own xs (rest_is (Some b) (berth_in x) (map Some own) (map (λ (y : Hold B). berth_in y) xs) are))
-  where
-    first_is : (o p : Option B) (os ps : List (Option B)) → o ∷ os ≡ p ∷ ps → p ≡ o
-    first_is o p os ps e = cc
-
-    rest_is : (o p : Option B) (os ps : List (Option B)) → o ∷ os ≡ p ∷ ps → os ≡ ps
-    rest_is o p os ps e = cc
-
--- ---- no item
-
-nothing_told : {B : Type 0} (meaning : B → Meaning) (berths : List B) (known : ℕ → Option Known) (watches : List Held) → IsToldRun meaning berths berths [] known [] watches watches
-nothing_told meaning berths known watches = record {
-  transcript = record {
-    played = [];
-    histories = λ leaf table. [];
-    lives = λ leaf. first_life None [];
-    items_are = refl;
-    text = refl;
-    prints = tt;
-    each_lives = λ leaf below. absurd (none_below leaf below);
-    one_history = λ leaf table below t. absurd (none_below leaf below);
-    in_order = λ leaf table below t. absurd (none_below leaf below);
-    answers = tt;
-    worn = tt;
-  };
-  lines_are = refl;
-  watched = refl;
-  counts = λ leaf below. absurd (none_below leaf below);
-  strangers = λ leaf k below is. absurd (none_below leaf below);
-  leaves = λ leaf k below is. absurd (none_below leaf below);
-  others = refl;
-}
-
-none_played : (ps : List PlayedItem) → map item_of ps ≡ [] → ps ≡ []
-none_played [] e = refl
-none_played (p ∷ ps) e = absurd cc
-
--- ---- a run over the first berths
-
-module _ {B : Type 0} (meaning : B → Meaning) (first rest own : List B) (xs : List (Hold B)) (are : map Some own ≡ map (λ (x : Hold B). berth_in x) xs) (count : length xs ≡ length first) where
-  abbrev befores : List B
-  befores = first ++ rest
-
-  abbrev afters : List B
-  afters = own ++ rest
-
-  -- once all seats have met, what a play did that stopped is told
-  pub run_shortened : (base : ℕ → Option NamedStates) (items : List Item) (was now : Option (List ℕ)) (watching watched : List Held) → leaf_count (script_fleet items) ≡ length first
-      → RunShort base meaning (script_fleet items) first was now watching watched items xs → ((leaf : ℕ) (x : Hold B) → slice_get xs leaf ≡ Some x → HasMet meaning x)
-      → IsShortened meaning befores afters base items was now watching watched
-  run_shortened base items was now watching watched size run met = record {
-    played = run.played;
-    some = run.some;
-    rest = run.rest;
-    written = run.text;
-    last = run.last;
-    told = λ known bases. elim (fleet_begins items (map item_of run.played) run.some) [
-      | inl none ↦ of_none known (none_played run.played none)
-      | inr same ↦
-          run_told meaning first rest own xs are count known watching watched (all_lines run.played) (map item_of run.played)
-          (subst (λ (f : Fleet). ToldBy meaning first rest own xs are count known watching watched (all_lines run.played) f (map item_of run.played)) (sym same)
-          (fleet_told meaning first rest own xs are count known watching watched (script_fleet items) run.played size run.counted run.heard
-          (ended meaning first (script_fleet items) known run.played xs
-          (run.session known (λ leaf old at. bases leaf old (front_at first rest leaf (within first leaf old at) ∙ at))) met)))
-    ];
-  }
-    where
-      of_none : (known : ℕ → Option Known) → run.played ≡ [] → IsToldRun meaning befores afters (map item_of run.played) known (all_lines run.played) watching watched
-      of_none known none =
-          let still : own ≡ first = sym (own_berths own xs are) ∙ run.untouched none in
-          let heard : watched ≡ watching = subst (λ (ps : List PlayedItem). HearsAll (script_fleet items) (plays_in ps) watching watched) none run.heard in
-          subst (λ (ps : List PlayedItem). IsToldRun meaning befores afters (map item_of ps) known (all_lines ps) watching watched) (sym none)
-          (subst (λ (ws : List Held). IsToldRun meaning befores afters [] known [] watching ws) (sym heard)
-          (subst (λ (bs : List B). IsToldRun meaning befores (bs ++ rest) [] known [] watching watching) (sym still)
-          (nothing_told meaning befores known watching)))
-
--- ---- over all berths
-
-pub crew_shortened : {B : Type 0} (meaning : B → Meaning) (olds news own : List B) (old_xs xs : List (Hold B)) (leaves : ℕ) → leaves ≤ length olds → berths_in old_xs ≡ take leaves olds
-    → map Some own ≡ map (λ (x : Hold B). berth_in x) xs → news ≡ own ++ drop leaves olds → length xs ≡ length (berths_in old_xs)
-    → (base : ℕ → Option NamedStates) (items : List Item) (fleet : Fleet) (was now : Option (List ℕ)) (watching watched : List Held) → script_fleet items ≡ fleet → leaf_count fleet ≡ leaves
-    → RunShort base meaning fleet (berths_in old_xs) was now watching watched items xs → ((leaf : ℕ) (x : Hold B) → slice_get xs leaf ≡ Some x → HasMet meaning x)
-    → IsShortened meaning olds news base items was now watching watched
-crew_shortened {B} meaning olds news own old_xs xs leaves enough had are has count base items fleet was now watching watched is size run met =
-    let sized : length (take leaves olds) ≡ leaves = length-take leaves olds ∙ omega (arith, enough) in
-    let counted : length xs ≡ length (take leaves olds) = count ∙ ap (λ (bs : List B). length bs) had in
-    let here : RunShort base meaning (script_fleet items) (take leaves olds) was now watching watched items xs =
-    subst (λ (f : Fleet). RunShort base meaning f (take leaves olds) was now watching watched items xs) (sym is)
-    (subst (λ (bs : List B). RunShort base meaning fleet bs was now watching watched items xs) had run) in
-    subst (λ (bs : List B). IsShortened meaning bs news base items was now watching watched) (take-append-drop leaves olds)
-    (subst (λ (bs : List B). IsShortened meaning (take leaves olds ++ drop leaves olds) bs base items was now watching watched) (sym has)
-    (run_shortened meaning (take leaves olds) (drop leaves olds) own xs are counted base items was now watching watched
-    (ap (λ (f : Fleet). leaf_count f) is ∙ (size ∙ sym sized)) here met))
-
--- what follows at a status that is short
-pub if_short : (status : Status) (P Q : Type 0) → (P → Q) → IfShort status P → IfShort status Q
-if_short Status.WriteFault P Q f p = f p
-if_short Status.NoMemory P Q f p = f p
-if_short Status.Done P Q f p = tt
-if_short Status.Words P Q f p = tt
-if_short (Status.Script line why) P Q f p = tt
-if_short Status.ReadFault P Q f p = tt
-
-pub crew_short : {B : Type 0} (meaning : B → Meaning) (olds news own : List B) (old_xs xs : List (Hold B)) (leaves : ℕ) → leaves ≤ length olds → berths_in old_xs ≡ take leaves olds
-    → map Some own ≡ map (λ (x : Hold B). berth_in x) xs → news ≡ own ++ drop leaves olds → length xs ≡ length (berths_in old_xs)
-    → (base : ℕ → Option NamedStates) (items played : List Item) (fleet : Fleet) (was now : Option (List ℕ)) (watching watched : List Held) → script_fleet items ≡ fleet → leaf_count fleet ≡ leaves → played ≡ items
-    → ((leaf : ℕ) (x : Hold B) → slice_get xs leaf ≡ Some x → HasMet meaning x) → (status : Status)
-    → IfShort status (RunShort base meaning fleet (berths_in old_xs) was now watching watched played xs)
-    → IfShort status (StopsShort meaning olds news base items was now watching watched)
-crew_short {B} meaning olds news own old_xs xs leaves enough had are has count base items played fleet was now watching watched is size all met status run =
-    if_short status (RunShort base meaning fleet (berths_in old_xs) was now watching watched played xs) (StopsShort meaning olds news base items was now watching watched)
-    (λ r. inr (crew_shortened meaning olds news own old_xs xs leaves enough had are has count base items fleet was now watching watched is size
-    (subst (λ (its : List Item). RunShort base meaning fleet (berths_in old_xs) was now watching watched its xs) all r) met)) run
-
-pub short_any : (status : Status) (P : Type 0) → P → IfShort status P
-short_any status P p = if_short status P P (λ q. q) (by status)
-  where
-    by : (s : Status) → IfShort s P
-    by Status.WriteFault = p
-    by Status.NoMemory = p
-    by Status.Done = tt
-    by Status.Words = tt
-    by (Status.Script line why) = tt
-    by Status.ReadFault = tt
-
-pub ends_short : {B : Type 0} (base : ℕ → Option NamedStates) (meaning : B → Meaning) (before after was now : Option (List ℕ)) (olds news : List B) (watching watched : List Held) (text : List ℕ) (script : Script) (status : Status)
-    → ReadsAll before after text → script_of text ≡ Ok script → leaves_in script.items ≤ length olds → IfShort status (StopsShort meaning olds news base script.items was now watching watched)
-    → IfShort status (EndsShort base meaning before after was now olds news watching watched)
-ends_short {B} base meaning before after was now olds news watching watched text script status read is enough short =
-    if_short status (StopsShort meaning olds news base script.items was now watching watched) (EndsShort base meaning before after was now olds news watching watched) by short
-  where
-    by : StopsShort meaning olds news base script.items was now watching watched → EndsShort base meaning before after was now olds news watching watched
-    by (inl none) = EndsShort.nothing none.0 none.1 none.2
-    by (inr some) = EndsShort.some text script read is enough some
-
-pub soak_ends_short : {B : Type 0} (base : ℕ → Option NamedStates) (meaning : B → Meaning) (seed rows : ℕ) (was now : Option (List ℕ)) (olds news : List B) (watching watched : List Held) (script : Script) (status : Status)
-    → script ≡ soak_script seed rows → soak_leaves ≤ length olds → IfShort status (StopsShort meaning olds news base script.items was now watching watched)
-    → IfShort status (SoakEndsShort base meaning seed rows was now olds news watching watched)
-soak_ends_short {B} base meaning seed rows was now olds news watching watched script status is enough short =
-    if_short status (StopsShort meaning olds news base script.items was now watching watched) (SoakEndsShort base meaning seed rows was now olds news watching watched) by short
-  where
-    by : StopsShort meaning olds news base script.items was now watching watched → SoakEndsShort base meaning seed rows was now olds news watching watched
-    by (inl none) = SoakEndsShort.nothing none.0 none.1 none.2
-    by (inr some) = SoakEndsShort.some enough (subst (λ (s : Script). IsShortened meaning olds news base s.items was now watching watched) is some)

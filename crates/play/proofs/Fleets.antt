@@ -14,8 +14,8 @@ use Rattle.printed_lines.specs.Lines.{name_at}
 use Rattle.player.specs.Crew.{column}
 use Rattle.play.specs.Played.{AreBases, AreShut, IsBase}
 use Rattle.play.specs.Runs.{table_base, table_bases}
-use Rattle.sessions.proofs.Lists.{All-weaken}
-use Rattle.leaf_sessions.proofs.Lists.{element_at, length_mapped, name_is, same_some, within}
+use Rattle.transcript_fleet.proofs.Lists.{All-weaken}
+use Rattle.transcript_leaf.proofs.Lists.{element_at, length_mapped, name_is, same_some, within}
 use Rattle.play.proofs.Lists.{all_each}
 
 -- New tables of these names, with the steward's seat and the callers' at each, none of which was used. They are founded with the base where one is named, and else they are not founded.

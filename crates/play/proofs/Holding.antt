@@ -1,10 +1,10 @@
 -- The berths of leaves that are held.
 use Rattle.std.proofs.Common.{◌≡◌, ℕ, List, Option, Some, None, sym, ap, ◌∙◌}
 use Rattle.std.specs.Prelude.{map, slice_get}
-use Rattle.transcript.specs.Stage.{Leaf}
-use Rattle.transcript.specs.Holds.{Hold}
+use Rattle.leaf_moves.specs.Stage.{Leaf}
+use Rattle.leaf_moves.specs.Holds.{Hold}
 use Rattle.player.specs.Crew.{berth_in}
-use Rattle.leaf_sessions.proofs.Lists.{get_map, same_some}
+use Rattle.transcript_leaf.proofs.Lists.{get_map, same_some}
 
 -- a leaf that is held, with its berth
 pub berth_there : {B : Type 0} (x : Hold B) (l : Leaf) (b : B) → x.held ≡ Some (l, b) → berth_in x ≡ Some b

@@ -21,7 +21,7 @@ use Rattle.leaf_opening.specs.declared.ways.Way.TheVariants.{Memory, Disk}
 use Rattle.leaf_opening.specs.Starts.{IsWayOf}
 use Rattle.crash_moments.specs.Left.{NamedStates, RegionLeft, closed, other_version, image}
 use Rattle.crash_states.specs.Standing.{Rests, tables_of}
-use Rattle.leaf_machine.specs.Leaving.{BeginsAgain}
+use Rattle.crash_states.specs.Beginning.{BeginsAgain}
 use Rattle.rollover_watch.specs.Watches.{Held}
 use Rattle.script_text.specs.declared.item.Item.{Item}
 use Rattle.printed_lines.specs.declared.line.Line.{Line}
@@ -31,7 +31,7 @@ use Rattle.script_text.specs.Commands.{leaf_count}
 use Rattle.transcript.specs.Pieces.{script_fleet}
 use Rattle.transcript.specs.Leaving.{AreKnown, IsKnown, IsToldRun}
 use Rattle.transcript.specs.Transcript.{Known}
-use Rattle.leaf_sessions.proofs.Lists.{element_at, same_some, within}
+use Rattle.transcript_leaf.proofs.Lists.{element_at, same_some, within}
 use Rattle.play.proofs.Lists.{choose_each}
 use Rattle.play.proofs.Listing.{front_same, list_kept}
 use Rattle.play.specs.Played.{AreBases, IsBase, IsPlayed}

@@ -5,6 +5,7 @@ pub mod Fleets
 pub mod Beginning
 pub mod Own
 pub mod Ends
+pub mod Short
 pub mod Listing
 pub mod KeepsBase
 pub mod Statuses

@@ -18,7 +18,7 @@ use Rattle.crash_moments.proofs.Alike.{region_alike}
 use Rattle.crash_states.specs.Standing.{IsKept, RegionRests, Rests, tables_of}
 use Rattle.crash_states.proofs.Disks.{writes_more}
 use Rattle.crash_states.proofs.States.{no_front, with_owed}
-use Rattle.leaf_machine.specs.Leaving.{IsFrontOf}
+use Rattle.crash_states.specs.Beginning.{IsFrontOf}
 use Rattle.leaf_machine.proofs.CopyWatching.{nothing_sound}
 use Rattle.leaf_machine.proofs.LeaveRests.{whole_most}
 use Rattle.play.specs.Played.{AreShut, IsBase}

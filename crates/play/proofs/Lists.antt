@@ -2,7 +2,7 @@
 use Rattle.std.proofs.Common.{◌≡◌, ◌⊎◌, inl, inr, ℕ, zero, suc, ◌<◌, ◌≤◌, List, [], ◌∷◌, ◌++◌, length, refl, ap, subst, arith, Some}
 use Rattle.std.specs.Prelude.{drop, slice_get, take}
 use Rattle.std.specs.List.{AllByRecursion}
-use Rattle.leaf_sessions.proofs.Lists.{same_some}
+use Rattle.transcript_leaf.proofs.Lists.{same_some}
 
 -- what holds in each place holds of each element
 pub all_each : {X : Type 0} (P : X → Type 0) (xs : List X) → ((place : ℕ) (x : X) → slice_get xs place ≡ Some x → P x) → AllByRecursion P xs

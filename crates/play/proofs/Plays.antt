@@ -1,8 +1,8 @@
 -- A play goes on by one item.
-use Rattle.std.proofs.Common.{◌≡◌, ℕ, ◌+◌, ◌==◌, ◌&&◌, Bool, List, [], ◌∷◌, ◌++◌, refl, sym, ap, ap₂, subst, ◌∙◌, arith, Option, Some, None}
-use Rattle.std.specs.Prelude.{if◌then◌else◌, slice_get, IfOk, IsOk, OnErr, OnOk, Result, Ok, Err, Vec}
+use Rattle.std.proofs.Common.{◌≡◌, ℕ, ◌+◌, ◌==◌, ◌&&◌, Bool, List, [], ◌∷◌, ◌++◌, refl, sym, ap, ap₂, subst, ◌∙◌, arith, Option, Some, None, inl, inr, length-append}
+use Rattle.std.specs.Prelude.{if◌then◌else◌, slice_get, IfOk, IsOk, OnErr, OnOk, Result, Ok, Err, Vec, ◌≤◌, length, map}
 use Rattle.std.specs.Global.{Global}
-use Rattle.std.specs.List.{AllByRecursion}
+use Rattle.std.specs.List.{AllByRecursion, AllZip}
 use Rattle.std.specs.Io.KnownBytes.{Appends}
 use Rattle.std.proofs.lemmas.Grind.{flat_map-append}
 use Rattle.std.proofs.lemmas.List.{append-nil, append_assoc, map-append}
@@ -21,29 +21,24 @@ use Rattle.script_text.specs.declared.fleet.Fleet.{Fleet}
 use Rattle.script_text.specs.Commands.{leaf_count}
 use Rattle.transcript.specs.Pieces.{Deed, Piece, Called, Worn, Acted, Says, Played, PlayedItem, all_lines, all_pieces, item_lines, item_of, pieces_in, plays_in, plays_of}
 use Rattle.transcript.specs.Counts.{Counted, CountsRose, deeds_in, disk_faults_in, disk_reads_in, is_disk_fault, is_region_fault, reads_disk, region_faults_in}
-use Rattle.transcript.specs.Stage.{Leaf}
-use Rattle.transcript.specs.Holds.{HasMet, Hold}
-use Rattle.transcript.specs.Plays.{MayPlay}
+use Rattle.leaf_moves.specs.Stage.{Leaf}
+use Rattle.leaf_moves.specs.Holds.{HasMet, Hold}
+use Rattle.leaf_moves.specs.Plays.{MayPlay}
 use Rattle.transcript.specs.Watching.{HearsAll}
-use Rattle.player.specs.Crew.{AllPass, CountedIf, PassesIf}
+use Rattle.player.specs.Crew.{AllPass, CountedIf, PassesIf, AllCounted}
 use Rattle.bursts.specs.Items.{MayPlayItem}
 use Rattle.bursts.specs.Went.{ItemWent, OrNothing, told_lines}
-use Rattle.sessions.specs.Laws as sessions
+use Rattle.transcript_fleet.specs.Laws as sessions
 use Rattle.play.specs.Played.{KeepsCounts}
-use Rattle.play.specs.Runs.{Advances, HoldsKeep, IsRun, RunSoFar}
-use Rattle.sessions.proofs.Ending.{ended}
-use Rattle.sessions.proofs.Sessions.{plays_on}
-use Rattle.sessions.proofs.Lists.{All-weaken}
-use Rattle.leaf_sessions.proofs.Lists.{element_at, within}
-use Rattle.std.specs.List.{AllZip}
-use Rattle.std.specs.Prelude.{◌≤◌, length, map}
-use Rattle.std.proofs.Common.{inl, inr, length-append}
+use Rattle.play.specs.Runs.{Advances, HoldsKeep, IsRun, RunSoFar, berths_in}
+use Rattle.transcript_fleet.proofs.Ending.{ended}
+use Rattle.transcript_fleet.proofs.Sessions.{plays_on}
+use Rattle.transcript_fleet.proofs.Lists.{All-weaken}
+use Rattle.transcript_leaf.proofs.Lists.{element_at, within}
 use Rattle.berth_face.specs.Streams.{Written, WritesFront}
-use Rattle.player.specs.Crew.{AllCounted}
-use Rattle.transcript.specs.Lanes.{PlaysItem}
+use Rattle.leaf_moves.specs.Lanes.{PlaysItem}
 use Rattle.bursts.specs.Shortened.{Begins, BeginsItem}
 use Rattle.play.specs.Cut.{PlaysSome, last_lines}
-use Rattle.play.specs.Runs.{berths_in}
 use Rattle.play.specs.Shortened.{RunShort, StopsAt}
 
 -- ---- bytes
@@ -257,8 +252,6 @@ run_ends base meaning fleet olds was now watching watched items xs run met = rec
   counted = run.counted;
   told = λ known is. ended meaning olds fleet known run.played xs (run.session known is) met;
 }
-
--- A play that stops within its items. (Goes on play/proofs/Plays.antt, whose private lemmas it uses.)
 
 -- ---- what was written
 

@@ -5,7 +5,7 @@ use Rattle.berth_face.specs.Berth.{Meaning}
 use Rattle.leaf_history.specs.History.{Entry, base_of, no_base}
 use Rattle.crash_moments.specs.Left.{NamedStates}
 use Rattle.crash_states.specs.Standing.{tables_of}
-use Rattle.leaf_machine.specs.Leaving.{IsFrontOf}
+use Rattle.crash_states.specs.Beginning.{IsFrontOf}
 use Rattle.rollover_watch.specs.Watches.{Held}
 use Rattle.transcript.specs.Base.{watched_with}
 use Rattle.script_text.specs.declared.fleet.Fleet.{Fleet}

@@ -4,14 +4,13 @@ use Rattle.berth_face.specs.Berth.{Meaning}
 use Rattle.berth_face.specs.Streams.{ReadsAll}
 use Rattle.crash_moments.specs.Left.{NamedStates}
 use Rattle.leaf_history.specs.History.{base_of}
-use Rattle.leaf_machine.specs.States.{MayBegin}
+use Rattle.crash_states.specs.Beginning.{MayBegin}
 use Rattle.rollover_watch.specs.Watches.{Held}
 use Rattle.script_text.specs.declared.item.Item.{Item}
 use Rattle.script_text.specs.declared.script.Script.{Script}
-use Rattle.script_text.specs.Commands.{Fault}
+use Rattle.script_text.specs.Commands.{Fault, leaf_count}
 use Rattle.script_text.specs.Script.{script_of}
 use Rattle.soak.specs.Soak.{soak_script}
-use Rattle.script_text.specs.Commands.{leaf_count}
 use Rattle.transcript.specs.Pieces.{script_fleet}
 use Rattle.transcript.specs.Leaving.{IsWritten}
 use Rattle.play.specs.declared.words.Request.{Request}

@@ -15,12 +15,12 @@ use Rattle.transcript.specs.Pieces.{Piece, PlayedItem, all_lines, all_pieces, sc
 use Rattle.transcript.specs.Counts.{CountsRose}
 use Rattle.transcript.specs.Transcript.{Known}
 use Rattle.transcript.specs.Leaving.{AreKnown}
-use Rattle.transcript.specs.Stage.{Leaf}
-use Rattle.transcript.specs.Holds.{Hold}
-use Rattle.transcript.specs.Lanes.{PlaysItem}
+use Rattle.leaf_moves.specs.Stage.{Leaf}
+use Rattle.leaf_moves.specs.Holds.{Hold}
+use Rattle.leaf_moves.specs.Lanes.{PlaysItem}
 use Rattle.transcript.specs.Watching.{HearsAll}
-use Rattle.sessions.specs.Session.{Session}
-use Rattle.sessions.specs.Laws.{IsToldFleet}
+use Rattle.transcript_fleet.specs.Session.{Session}
+use Rattle.transcript_fleet.specs.Laws.{IsToldFleet}
 use Rattle.player.specs.Crew.{AllCounted, berth_in}
 use Rattle.bursts.specs.Items.{MayPlayItem}
 use Rattle.row_count.specs.declared.status.Status.{Status}

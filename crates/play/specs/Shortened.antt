@@ -14,13 +14,13 @@ use Rattle.row_count.specs.declared.status.Status.{Status}
 use Rattle.transcript.specs.Pieces.{PlayedItem, all_lines, all_pieces, item_lines, item_of, plays_in, plays_of}
 use Rattle.transcript.specs.Transcript.{Known}
 use Rattle.transcript.specs.Leaving.{AreKnown}
-use Rattle.transcript.specs.Holds.{Hold}
-use Rattle.transcript.specs.Lanes.{PlaysItem}
+use Rattle.leaf_moves.specs.Holds.{Hold}
+use Rattle.leaf_moves.specs.Lanes.{PlaysItem}
 use Rattle.transcript.specs.Watching.{HearsAll}
 use Rattle.bursts.specs.Shortened.{BeginsItem}
 use Rattle.play.specs.Cut.{IsShortened, PlaysSome, last_lines}
 use Rattle.player.specs.Crew.{AllCounted}
-use Rattle.sessions.specs.Session.{Session}
+use Rattle.transcript_fleet.specs.Session.{Session}
 use Rattle.play.specs.Played.{leaves_in, soak_leaves}
 use Rattle.play.specs.Runs.{AreCounted, HoldsKeep, berths_in}
 use Rattle.play.specs.declared.words.Request.{Request}

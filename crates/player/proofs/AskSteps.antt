@@ -20,10 +20,10 @@ use Rattle.transcript.specs.Pieces.{Deed, Piece, lines_in}
 use Rattle.transcript.specs.Shapes.{CallPiece, named, named_in}
 use Rattle.transcript.specs.Counts.{deeds_in}
 use Rattle.transcript.specs.Answers.{AnswerIs}
-use Rattle.transcript.specs.Holds.{Hold, with_callers}
-use Rattle.transcript.specs.Plays as going
-use Rattle.transcript.specs.Steps.{CallStep, IsReplyPiece}
-use Rattle.transcript.specs.Plays.{Goes}
+use Rattle.leaf_moves.specs.Holds.{Hold, with_callers}
+use Rattle.leaf_moves.specs.Plays as going
+use Rattle.leaf_moves.specs.Steps.{CallStep, IsReplyPiece}
+use Rattle.leaf_moves.specs.Plays.{Goes}
 use Rattle.player.proofs.AskLines.{number_named, reply_lines}
 use Rattle.player.proofs.CallPieces.{call_prints, reply_piece}
 

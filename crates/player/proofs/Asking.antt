@@ -39,10 +39,10 @@ use Rattle.transcript.specs.Pieces.{Deed, Piece, Says, lines_in, place_among}
 use Rattle.transcript.specs.Shapes.{named, named_in}
 use Rattle.transcript.specs.Counts.{deeds_in}
 use Rattle.transcript.specs.Answers.{AnswerIs, partial, rows_before}
-use Rattle.transcript.specs.Holds.{GoOn, Hold, caller_in, grounds_in, histories_of}
-use Rattle.transcript.specs.Stage.{Leaf}
-use Rattle.transcript.specs.Plays as going
-use Rattle.transcript.specs.Plays.{Goes}
+use Rattle.leaf_moves.specs.Holds.{GoOn, Hold, caller_in, grounds_in, histories_of}
+use Rattle.leaf_moves.specs.Stage.{Leaf}
+use Rattle.leaf_moves.specs.Plays as going
+use Rattle.leaf_moves.specs.Plays.{Goes}
 use Rattle.player.specs.declared.leaf.OneLeaf.{OneLeaf}
 use Rattle.player.specs.declared.members.Members.{Members}
 use Rattle.player.specs.Crew.{CountedIf, HasSeats, PassesIf, column}

@@ -15,10 +15,10 @@ use Rattle.leaf_table.specs.Lists.{lists_in, place, row}
 use Rattle.script_text.specs.Fits.{AreLeaves}
 use Rattle.leaf_steward.specs.Seated.{Seated, AreAlike, AreFounded, AtEach, IsUnused}
 use Rattle.leaf_steward.proofs.Seating.{same_at}
-use Rattle.leaf_machine.specs.States.{MayBegin}
+use Rattle.crash_states.specs.Beginning.{MayBegin}
 use Rattle.script_text.specs.Commands.{leaf_count}
-use Rattle.transcript.specs.Stage.{Leaf, IsDown, Stands, seated_of}
-use Rattle.transcript.specs.Holds.{Hold, caller_in}
+use Rattle.leaf_moves.specs.Stage.{Leaf, IsDown, Stands, seated_of}
+use Rattle.leaf_moves.specs.Holds.{Hold, caller_in}
 use Rattle.player.specs.declared.leaf.OneLeaf.{OneLeaf}
 use Rattle.player.specs.declared.members.Members.{Members}
 use Rattle.player.specs.Crew.{HasLeaf, HasSeats, column, new_holds, seated_at}

@@ -16,7 +16,7 @@ use Rattle.transcript.specs.Pieces as printed
 use Rattle.transcript.specs.Pieces.{Piece, Deed, lines_in, piece_lines}
 use Rattle.transcript.specs.Shapes.{CallPiece}
 use Rattle.transcript.specs.Counts.{deeds_in}
-use Rattle.transcript.specs.Steps.{CallStep, IsReplyPiece}
+use Rattle.leaf_moves.specs.Steps.{CallStep, IsReplyPiece}
 use Rattle.player.specs.Rows.{Called, Calls}
 use Rattle.player.specs.Lines.{CallsWith, reply_line}
 use Rattle.player.proofs.CommandLines.{one_piece}

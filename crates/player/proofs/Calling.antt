@@ -11,7 +11,7 @@ use Rattle.leaf_table.specs.Turns.{Shared, is_founded, start_of}
 use Rattle.leaf_table.specs.Calls.{SeatView, Answered, SameSeat, base_seen, seen_of}
 use Rattle.leaf_steward.specs.Seated.{Seated, AtPlace}
 use Rattle.leaf_steward.proofs.Seating.{same_at, set_either, some_same}
-use Rattle.transcript.specs.Stage.{Leaf, seated_of, with_seats}
+use Rattle.leaf_moves.specs.Stage.{Leaf, seated_of, with_seats}
 use Rattle.player.specs.Rows.{Called, AreCalled, Calls, IsCallersAt}
 use Rattle.player.specs.Moves.{MeetsAt}
 use Rattle.player.proofs.Meetings.{IsMetSeat, IsThere, is_there}

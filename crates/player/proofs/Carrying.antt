@@ -14,7 +14,7 @@ use Rattle.leaf_steward.specs.Seated.{Seated, AreFounded, watched_by}
 use Rattle.leaf_steward.specs.Making.{Makes, OneEntry}
 use Rattle.leaf_steward.proofs.WatchMakes.{makes_tables}
 use Rattle.leaf_machine.proofs.UpMaking.{makes_join}
-use Rattle.transcript.specs.Stage.{Leaf, IsDown, IsUp, IsPreparing, Stands, StandsOn, Carries, seated_of}
+use Rattle.leaf_moves.specs.Stage.{Leaf, IsDown, IsUp, IsPreparing, Stands, StandsOn, Carries, seated_of}
 use Rattle.player.specs.Stage.{KeepsSeats}
 
 -- at the same tables, founded ones stay founded

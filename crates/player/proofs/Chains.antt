@@ -13,12 +13,12 @@ use Rattle.printed_lines.specs.declared.line.Line.{Line}
 use Rattle.printed_lines.specs.Lines.{IsOf}
 use Rattle.transcript.specs.Pieces.{Acted, Called, Deed, Piece, Says, Worn, lines_in, piece_lines}
 use Rattle.transcript.specs.Counts.{Counted, CountsRose, deeds_in, is_disk_fault, is_region_fault, reads_disk}
-use Rattle.transcript.specs.Holds.{Hold, caller_in, with_callers, with_leaf}
-use Rattle.transcript.specs.Steps as step
-use Rattle.transcript.specs.Plays as going
-use Rattle.transcript.specs.Steps.{noted_all}
-use Rattle.transcript.specs.Plays.{Goes}
-use Rattle.transcript.specs.Stage.{Leaf}
+use Rattle.leaf_moves.specs.Holds.{Hold, caller_in, with_callers, with_leaf}
+use Rattle.leaf_moves.specs.Steps as step
+use Rattle.leaf_moves.specs.Plays as going
+use Rattle.leaf_moves.specs.Steps.{noted_all}
+use Rattle.leaf_moves.specs.Plays.{Goes}
+use Rattle.leaf_moves.specs.Stage.{Leaf}
 use Rattle.player.specs.declared.answer.Answer.{Answer}
 use Rattle.player.specs.Crew.{AllPass, CountedIf, PassesIf, StillHas}
 use Rattle.player.specs.Lines.{AreJoined, CallsWith}

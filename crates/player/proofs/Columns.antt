@@ -5,7 +5,7 @@ use Rattle.std.proofs.lemmas.List.{map-set, get_or-map, length-map, nil_from_len
 use Rattle.leaf_table.specs.Calls.{SeatView}
 use Rattle.leaf_table.specs.Lists.{lists_in, place, row}
 use Rattle.leaf_steward.proofs.Seating.{set_other}
-use Rattle.transcript.specs.Holds.{caller_in}
+use Rattle.leaf_moves.specs.Holds.{caller_in}
 use Rattle.player.specs.Crew.{column}
 use Rattle.player.specs.Rows.{AreRows, HasSeat, OnlyColumn, with_place}
 

@@ -14,7 +14,7 @@ use Rattle.printed_lines.specs.declared.line.Line.TheVariants as line
 use Rattle.printed_lines.specs.Lines.{EndsOf, IsOf}
 use Rattle.transcript.specs.Pieces.{Piece, Acted, Deed, Noted, lines_in, piece_lines, deed_verb}
 use Rattle.transcript.specs.Counts.{Counted, CountsRose, deeds_in, is_disk_fault, is_region_fault, reads_disk}
-use Rattle.transcript.specs.Steps.{noted_all}
+use Rattle.leaf_moves.specs.Steps.{noted_all}
 use Rattle.player.specs.Lines.{AreEnded, AreTold, note_lines}
 use Rattle.player.specs.Moves.{ArePlaces, FaultRose}
 

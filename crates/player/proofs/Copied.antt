@@ -31,8 +31,8 @@ use Rattle.leaf_machine.specs.Copies.{CopyGoesOn, IsCopyStep, berth_of_copy, sea
 use Rattle.leaf_machine.proofs.UpMaking.{makes_since}
 use Rattle.printed_lines.specs.declared.line.Ending.TheVariants as ending
 use Rattle.transcript.specs.Life.{MayMake}
-use Rattle.transcript.specs.Steps as step
-use Rattle.transcript.specs.Steps.{IsLongCopy, MakesStep, RegionStopped}
+use Rattle.leaf_moves.specs.Steps as step
+use Rattle.leaf_moves.specs.Steps.{IsLongCopy, MakesStep, RegionStopped}
 use Rattle.player.specs.Steps.{AreLeft, Spends, copy_left}
 use Rattle.player.specs.Moves as move
 use Rattle.player.specs.Moves.{CopyEnds, CopyRests, CopyStands, MakesCopies}

@@ -3,7 +3,7 @@ use Rattle.std.proofs.Common.{◌≡◌, ℕ, suc, ◌+◌, ◌≤◌, ◌∙◌
 use Rattle.leaf_steward.specs.declared.notes.Note.{Note}
 use Rattle.leaf_machine.specs.States.{Shutting}
 use Rattle.transcript.specs.Life.{MayMake}
-use Rattle.transcript.specs.Steps.{At, Copies, MakesStep, MakesSteps}
+use Rattle.leaf_moves.specs.Steps.{At, Copies, MakesStep, MakesSteps}
 use Rattle.player.specs.Moves.{MakesCopies}
 use Rattle.player.specs.Steps.{AreLeft, Spends}
 

@@ -10,8 +10,8 @@ use Rattle.leaf_table.specs.Calls.{SeatView, name_of}
 use Rattle.leaf_table.specs.Lists.{lists_in, place, row}
 use Rattle.leaf_steward.proofs.Seating.{same_at}
 use Rattle.script_text.specs.Commands.{leaf_count}
-use Rattle.transcript.specs.Holds.{Hold}
-use Rattle.transcript.specs.Lanes.{CutsOff, CutsOffAt}
+use Rattle.leaf_moves.specs.Holds.{Hold}
+use Rattle.leaf_moves.specs.Lanes.{CutsOff, CutsOffAt}
 use Rattle.player.specs.declared.leaf.OneLeaf.{OneLeaf}
 use Rattle.player.specs.declared.members.Members.{Members}
 use Rattle.player.specs.Crew.{Spares}

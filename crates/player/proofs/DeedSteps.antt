@@ -16,9 +16,9 @@ use Rattle.printed_lines.specs.declared.line.Line.{Line}
 use Rattle.printed_lines.specs.Lines.{EndsOf}
 use Rattle.transcript.specs.Pieces.{Acted, Deed, Starts, Flushes, Drains, Kills, lines_in, deed_verb}
 use Rattle.transcript.specs.Counts.{reads_disk}
-use Rattle.transcript.specs.Stage.{Leaf, seated_of, Carries, MeetAll}
-use Rattle.transcript.specs.Steps as step
-use Rattle.transcript.specs.Steps.{Moves, StartMoves, FlushMoves, KillMoves, DrainMoves, IsWornFor, ending_of, ending_of_flush, noted_all}
+use Rattle.leaf_moves.specs.Stage.{Leaf, seated_of, Carries, MeetAll}
+use Rattle.leaf_moves.specs.Steps as step
+use Rattle.leaf_moves.specs.Steps.{Moves, StartMoves, FlushMoves, KillMoves, DrainMoves, IsWornFor, ending_of, ending_of_flush, noted_all}
 use Rattle.player.specs.Stage.{IsMember, KeepsSeats}
 use Rattle.player.specs.Lines.{AreEnded}
 use Rattle.player.specs.declared.answer.Answer.{Answer}

@@ -17,9 +17,9 @@ use Rattle.leaf_machine.specs.States.{Shutting, Copying, GoesOnCopying, RestsOn,
 use Rattle.leaf_machine.specs.Prepares.{AllTreated, IsTreatingStep, StepGoesOn, berth_of_step, seats_of_step}
 use Rattle.leaf_machine.proofs.UpMaking.{makes_join}
 use Rattle.printed_lines.specs.declared.line.Line.{Line}
-use Rattle.transcript.specs.Stage.{IsPreparing, Carries}
-use Rattle.transcript.specs.Steps as step
-use Rattle.transcript.specs.Steps.{MakesStep, MakesSteps}
+use Rattle.leaf_moves.specs.Stage.{IsPreparing, Carries}
+use Rattle.leaf_moves.specs.Steps as step
+use Rattle.leaf_moves.specs.Steps.{MakesStep, MakesSteps}
 use Rattle.player.specs.declared.drain.Shut.TheVariants as how
 use Rattle.player.specs.Steps.{AreLeft, Spends, copy_left}
 use Rattle.player.specs.Lines.{AreTold, AreAdded, note_lines}

@@ -9,8 +9,8 @@ use Rattle.leaf_table.specs.Turns.{Shared}
 use Rattle.leaf_table.specs.Lists.{row}
 use Rattle.leaf_steward.specs.Seated.{Seated}
 use Rattle.leaf_steward.proofs.Seating.{same_at}
-use Rattle.transcript.specs.Holds.{HasMet, Hold}
-use Rattle.transcript.specs.Stage.{Leaf, MeetAll}
+use Rattle.leaf_moves.specs.Holds.{HasMet, Hold}
+use Rattle.leaf_moves.specs.Stage.{Leaf, MeetAll}
 use Rattle.player.specs.declared.leaf.OneLeaf.{OneLeaf}
 use Rattle.player.specs.Crew.{berth_in, column}
 use Rattle.player.specs.Rows.{AreCalled, AreRows, MayMeet, OnlyColumn}

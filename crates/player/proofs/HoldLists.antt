@@ -4,7 +4,7 @@ use Rattle.std.specs.Prelude.{slice_get, slice_set, is_some}
 use Rattle.leaf_table.specs.Turns.{Shared}
 use Rattle.leaf_table.specs.Calls.{SeatView}
 use Rattle.leaf_table.specs.Lists.{place}
-use Rattle.transcript.specs.Holds.{Hold}
+use Rattle.leaf_moves.specs.Holds.{Hold}
 use Rattle.player.specs.declared.leaf.OneLeaf.{OneLeaf}
 use Rattle.player.specs.Crew.{HasLeaf, HasSeats, StillHas, column}
 use Rattle.player.specs.Rows.{HasSeat}

@@ -14,10 +14,10 @@ use Rattle.leaf_machine.proofs.UpMaking.{makes_join}
 use Rattle.printed_lines.specs.declared.line.Ending.{Ending}
 use Rattle.printed_lines.specs.declared.line.Ending.TheVariants as ending
 use Rattle.printed_lines.specs.declared.line.Line.{Line}
-use Rattle.transcript.specs.Stage.{Leaf, IsDown, IsUp, IsPreparing, Stands, Carries, seated_of}
-use Rattle.transcript.specs.Steps as step
+use Rattle.leaf_moves.specs.Stage.{Leaf, IsDown, IsUp, IsPreparing, Stands, Carries, seated_of}
+use Rattle.leaf_moves.specs.Steps as step
 use Rattle.transcript.specs.Life.{MayMake}
-use Rattle.transcript.specs.Steps.{BeginsShutting, MakesSteps, DrainMoves, RegionStopped}
+use Rattle.leaf_moves.specs.Steps.{BeginsShutting, MakesSteps, DrainMoves, RegionStopped}
 use Rattle.player.specs.declared.drain.Shut.TheVariants as how
 use Rattle.player.specs.Stage.{KeepsSeats}
 use Rattle.player.specs.Steps.{copy_left}

@@ -8,8 +8,8 @@ use Rattle.leaf_table.specs.Turns.{Shared}
 use Rattle.leaf_table.specs.Calls.{SeatView}
 use Rattle.leaf_table.specs.Lists.{lists_in, place, row}
 use Rattle.leaf_steward.proofs.Seating.{same_at, set_get, set_other}
-use Rattle.transcript.specs.Holds.{caller_in}
-use Rattle.transcript.specs.Lanes.{SplitsIf}
+use Rattle.leaf_moves.specs.Holds.{caller_in}
+use Rattle.leaf_moves.specs.Lanes.{SplitsIf}
 use Rattle.player.specs.Crew.{column}
 use Rattle.player.specs.Rows.{AreRows, IsCallersAt, IsColumn}
 use Rattle.player.specs.Lending.{AreRoomy, RowSplits, RowsSplit, SlotSplits, SlotsSplit, SplitsFirst}

@@ -8,8 +8,8 @@ use Rattle.berth_face.proofs.Moments.{passes_none}
 use Rattle.leaf_table.specs.Calls.{SeatView}
 use Rattle.leaf_table.specs.Lists.{lists_in, row}
 use Rattle.leaf_steward.proofs.Seating.{same_at, set_either}
-use Rattle.transcript.specs.Stage.{Leaf, MeetAll, MeetsIf, seated_of}
-use Rattle.transcript.specs.Holds.{AllMeet, Hold, HoldMeets, caller_in, with_leaf}
+use Rattle.leaf_moves.specs.Stage.{Leaf, MeetAll, MeetsIf, seated_of}
+use Rattle.leaf_moves.specs.Holds.{AllMeet, Hold, HoldMeets, caller_in, with_leaf}
 use Rattle.player.specs.declared.leaf.OneLeaf.{OneLeaf}
 use Rattle.player.specs.declared.members.Members.{Members}
 use Rattle.player.specs.Crew.{AllPass, PassesIf, Spares, StillHas, column}

@@ -12,7 +12,7 @@ use Rattle.crash_moments.specs.Left.{NamedStates}
 use Rattle.crash_states.specs.Standing.{Rests, Runs}
 use Rattle.leaf_steward.specs.Seated.{Seated, AreFounded, AtPlace, watched_by, with_seat}
 use Rattle.leaf_machine.specs.States.{Serving, Shutting}
-use Rattle.transcript.specs.Stage.{IsDown, IsUp, IsPreparing, Stands, with_seats}
+use Rattle.leaf_moves.specs.Stage.{IsDown, IsUp, IsPreparing, Stands, with_seats}
 use Rattle.player.specs.declared.leaf.OneLeaf.{OneLeaf}
 use Rattle.player.specs.declared.leaf.OneLeaf.TheVariants as one
 use Rattle.player.specs.Stage.{state_of, berth_of, seats_of}

@@ -10,8 +10,8 @@ use Rattle.leaf_steward.proofs.Seating.{same_at, set_either, set_same, some_same
 use Rattle.printed_lines.specs.declared.line.Line.{Line}
 use Rattle.script_text.specs.Commands.{leaf_count}
 use Rattle.transcript.specs.Pieces.{Deed}
-use Rattle.transcript.specs.Holds.{Hold, caller_in, with_callers, with_leaf}
-use Rattle.transcript.specs.Steps.{noted_all}
+use Rattle.leaf_moves.specs.Holds.{Hold, caller_in, with_callers, with_leaf}
+use Rattle.leaf_moves.specs.Steps.{noted_all}
 use Rattle.player.specs.declared.leaf.OneLeaf.{OneLeaf}
 use Rattle.player.specs.declared.members.Members.{Members}
 use Rattle.player.specs.declared.answer.Answer.{Answer}

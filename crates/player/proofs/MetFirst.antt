@@ -8,7 +8,7 @@ use Rattle.crash_moments.specs.Left.{NamedStates}
 use Rattle.leaf_table.specs.Calls.{SeatView}
 use Rattle.leaf_steward.specs.Seated.{Seated, AreFounded}
 use Rattle.leaf_steward.proofs.Seating.{same_at, set_either, set_other, set_same}
-use Rattle.transcript.specs.Stage.{Leaf, IsDown, IsUp, IsPreparing, Stands, MeetsIf, MeetAll, seated_of, seated_with, with_seats}
+use Rattle.leaf_moves.specs.Stage.{Leaf, IsDown, IsUp, IsPreparing, Stands, MeetsIf, MeetAll, seated_of, seated_with, with_seats}
 use Rattle.player.specs.Stage.{KeepsSeats}
 use Rattle.player.specs.Moves.{MeetFirst, MeetsAt}
 use Rattle.player.proofs.Carrying.{founded_on}

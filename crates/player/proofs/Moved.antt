@@ -26,8 +26,8 @@ use Rattle.printed_lines.specs.declared.line.Ending.TheVariants as ending
 use Rattle.printed_lines.specs.declared.line.Line.{Line}
 use Rattle.transcript.specs.Pieces.{Starts}
 use Rattle.transcript.specs.Counts.{reads_disk}
-use Rattle.transcript.specs.Stage.{Leaf, IsDown, IsUp, IsPreparing, Stands, Carries, seated_of}
-use Rattle.transcript.specs.Steps.{StartMoves, FlushMoves, KillMoves, DrainMoves, IsWornFor, RegionRefused, ending_of, ending_of_flush}
+use Rattle.leaf_moves.specs.Stage.{Leaf, IsDown, IsUp, IsPreparing, Stands, Carries, seated_of}
+use Rattle.leaf_moves.specs.Steps.{StartMoves, FlushMoves, KillMoves, DrainMoves, IsWornFor, RegionRefused, ending_of, ending_of_flush}
 use Rattle.player.specs.declared.leaf.OneLeaf.{OneLeaf}
 use Rattle.player.specs.declared.leaf.OneLeaf.TheVariants as one
 use Rattle.player.specs.Stage.{KeepsSeats, state_of, berth_of, seats_of}

@@ -12,7 +12,7 @@ use Rattle.printed_lines.specs.declared.line.Line.{Line}
 use Rattle.printed_lines.specs.Lines.{IsOf}
 use Rattle.script_text.specs.declared.fleet.Fleet.{Fleet}
 use Rattle.transcript.specs.Pieces.{lines_in}
-use Rattle.transcript.specs.Holds.{Hold}
+use Rattle.leaf_moves.specs.Holds.{Hold}
 use Rattle.player.specs.declared.call.Request.TheVariants as request
 use Rattle.player.specs.declared.members.Members.{Members}
 use Rattle.player.specs.Crew.{PlaysWith, StillHas}

@@ -12,7 +12,7 @@ use Rattle.printed_lines.specs.declared.line.Line.{Line}
 use Rattle.script_text.specs.declared.fleet.Fleet.{Fleet}
 use Rattle.script_text.specs.Commands.{leaf_count}
 use Rattle.transcript.specs.Pieces.{Piece, lines_in, piece_lines}
-use Rattle.transcript.specs.Holds.{Hold}
+use Rattle.leaf_moves.specs.Holds.{Hold}
 use Rattle.player.specs.declared.answer.Answer.{Answer}
 use Rattle.player.specs.declared.act.Task.{Task}
 use Rattle.player.specs.declared.act.Task.TheVariants as task

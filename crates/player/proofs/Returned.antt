@@ -8,9 +8,9 @@ use Rattle.leaf_table.specs.Turns.{Shared}
 use Rattle.leaf_table.specs.Calls.{SeatView}
 use Rattle.leaf_table.specs.Lists.{row}
 use Rattle.leaf_steward.proofs.Seating.{same_at, set_either, set_other}
-use Rattle.transcript.specs.Stage.{Leaf, MeetAll}
-use Rattle.transcript.specs.Holds.{Hold, HoldMeets, caller_in}
-use Rattle.transcript.specs.Lanes.{ComesBack}
+use Rattle.leaf_moves.specs.Stage.{Leaf, MeetAll}
+use Rattle.leaf_moves.specs.Holds.{Hold, HoldMeets, caller_in}
+use Rattle.leaf_moves.specs.Lanes.{ComesBack}
 use Rattle.player.specs.declared.leaf.OneLeaf.{OneLeaf}
 use Rattle.player.specs.Crew.{SameSeats, StillHas}
 use Rattle.player.specs.Stage.{held_of}

@@ -10,8 +10,8 @@ use Rattle.leaf_table.specs.Lists.{lists_in, place, row}
 use Rattle.leaf_steward.proofs.Seating.{same_at, set_either, set_get, some_same, told_legal}
 use Rattle.script_text.specs.declared.fleet.Fleet.{Fleet}
 use Rattle.script_text.specs.Commands.{leaf_count}
-use Rattle.transcript.specs.Holds.{Hold, HoldMeets, caller_in}
-use Rattle.transcript.specs.Lanes.{JoinsIf, JoinsTo, TakesBack, TakesBackAt}
+use Rattle.leaf_moves.specs.Holds.{Hold, HoldMeets, caller_in}
+use Rattle.leaf_moves.specs.Lanes.{JoinsIf, JoinsTo, TakesBack, TakesBackAt}
 use Rattle.player.specs.declared.leaf.OneLeaf.{OneLeaf}
 use Rattle.player.specs.declared.members.Members.{Members}
 use Rattle.player.specs.Crew.{HasLeaf, HasSeats, SameSeats, column}

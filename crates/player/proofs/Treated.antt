@@ -15,7 +15,7 @@ use Rattle.leaf_machine.specs.Prepares as prepare
 use Rattle.leaf_machine.specs.Prepares.{Treats}
 use Rattle.leaf_machine.proofs.UpMaking.{makes_join}
 use Rattle.leaf_machine.proofs.PrepCopies.{goes_none}
-use Rattle.transcript.specs.Stage.{IsPreparing, Carries}
+use Rattle.leaf_moves.specs.Stage.{IsPreparing, Carries}
 use Rattle.player.specs.Moves.{SameRegion}
 use Rattle.player.proofs.Carrying.{founded_on}
 

@@ -8,10 +8,10 @@ use Rattle.printed_lines.specs.declared.line.Line.{Line}
 use Rattle.printed_lines.specs.Lines.{IsOf}
 use Rattle.transcript.specs.Pieces.{Acted, Called, Deed, Piece, Says, Worn, lines_in, piece_lines}
 use Rattle.transcript.specs.Counts.{Counted, CountsRose, deeds_in, is_disk_fault, is_region_fault, reads_disk}
-use Rattle.transcript.specs.Stage.{Leaf}
-use Rattle.transcript.specs.Holds.{Hold, with_callers, with_leaf}
-use Rattle.transcript.specs.Plays as going
-use Rattle.transcript.specs.Plays.{Goes}
+use Rattle.leaf_moves.specs.Stage.{Leaf}
+use Rattle.leaf_moves.specs.Holds.{Hold, with_callers, with_leaf}
+use Rattle.leaf_moves.specs.Plays as going
+use Rattle.leaf_moves.specs.Plays.{Goes}
 use Rattle.player.specs.Crew.{CountedIf}
 use Rattle.player.specs.Members.{GoesWith}
 use Rattle.player.proofs.Chains.{all_more}

@@ -7,8 +7,8 @@ use Rattle.leaf_table.specs.Turns.{Shared, start_of}
 use Rattle.leaf_table.specs.Calls.{SeatView, base_seen, name_of}
 use Rattle.leaf_table.specs.Lists.{row}
 use Rattle.leaf_steward.specs.Seated.{Seated, AreAlike, AreFounded, AtEach, IsUnused}
-use Rattle.leaf_machine.specs.States.{MayBegin}
-use Rattle.transcript.specs.Stage.{IsDown, Stands}
+use Rattle.crash_states.specs.Beginning.{MayBegin}
+use Rattle.leaf_moves.specs.Stage.{IsDown, Stands}
 use Rattle.player.specs.declared.leaf.OneLeaf.{OneLeaf}
 use Rattle.player.specs.declared.leaf.OneLeaf.TheVariants as one
 use Rattle.player.specs.Crew.{seated_at}

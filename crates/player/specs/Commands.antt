@@ -26,9 +26,9 @@ use Rattle.transcript.specs.Pieces.{Deed, Drains, Flushes, Kills, Piece, Starts,
 use Rattle.transcript.specs.Shapes.{ActPiece, CallPiece, EachActs, QueryPieces}
 use Rattle.transcript.specs.Counts.{CountsRose, reads_disk}
 use Rattle.transcript.specs.Answers.{Answers}
-use Rattle.transcript.specs.Holds.{GoOn, grounds_in}
-use Rattle.transcript.specs.Stage.{Leaf, Carries}
-use Rattle.transcript.specs.Steps.{DeedStep, Moves}
+use Rattle.leaf_moves.specs.Holds.{GoOn, grounds_in}
+use Rattle.leaf_moves.specs.Stage.{Leaf, Carries}
+use Rattle.leaf_moves.specs.Steps.{DeedStep, Moves}
 use Rattle.transcript.specs.Watching.{drained_by, started_by}
 use Rattle.player.specs.declared.answer.Answer.{Answer}
 use Rattle.player.specs.declared.act.Task.{Task}

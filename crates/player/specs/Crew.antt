@@ -17,9 +17,9 @@ use Rattle.script_text.specs.declared.fleet.Fleet.{Fleet}
 use Rattle.script_text.specs.Commands.{leaf_count}
 use Rattle.transcript.specs.Pieces.{Deed, Piece, lines_in, place_among}
 use Rattle.transcript.specs.Counts.{CountsRose, deeds_in}
-use Rattle.transcript.specs.Holds.{Hold, caller_in}
-use Rattle.transcript.specs.Stage.{Leaf, IsDown}
-use Rattle.transcript.specs.Plays.{Plays}
+use Rattle.leaf_moves.specs.Holds.{Hold, caller_in}
+use Rattle.leaf_moves.specs.Stage.{Leaf, IsDown}
+use Rattle.leaf_moves.specs.Plays.{Plays}
 use Rattle.transcript.specs.Watching.{Hears}
 
 -- the fleet, the tables of each leaf, and what is held of each leaf

@@ -6,7 +6,7 @@ use Rattle.turnstile.specs.Seats.{IsSeatOf, given, keeps_all_but}
 use Rattle.leaf_table.specs.Turns.{Shared}
 use Rattle.leaf_table.specs.Calls.{SeatView}
 use Rattle.leaf_table.specs.Lists.{place, row}
-use Rattle.transcript.specs.Holds.{Hold, HoldMeets}
+use Rattle.leaf_moves.specs.Holds.{Hold, HoldMeets}
 
 -- ---- meetings
 

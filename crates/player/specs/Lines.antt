@@ -16,7 +16,7 @@ use Rattle.printed_lines.specs.declared.line.Line.TheVariants as line
 use Rattle.printed_lines.specs.Lines.{IsOf}
 use Rattle.transcript.specs.Pieces.{Piece, Deed, lines_in, noted_line}
 use Rattle.transcript.specs.Counts.{deeds_in}
-use Rattle.transcript.specs.Steps.{CallStep, noted, noted_all}
+use Rattle.leaf_moves.specs.Steps.{CallStep, noted, noted_all}
 
 -- ---- calls
 

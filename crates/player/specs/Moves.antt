@@ -20,10 +20,10 @@ use Rattle.printed_lines.specs.declared.line.Ending.{Ending}
 use Rattle.printed_lines.specs.declared.line.Ending.TheVariants as ending
 use Rattle.printed_lines.specs.declared.line.Line.{Line}
 use Rattle.transcript.specs.Life.{MayMake}
-use Rattle.transcript.specs.Stage as stage
-use Rattle.transcript.specs.Stage.{Leaf, IsDown, IsPreparing, Stands, Carries, MeetsIf, seated_of, with_seats}
-use Rattle.transcript.specs.Steps as step
-use Rattle.transcript.specs.Steps.{Part, MakesSteps, DrainMoves, RegionStopped}
+use Rattle.leaf_moves.specs.Stage as stage
+use Rattle.leaf_moves.specs.Stage.{Leaf, IsDown, IsPreparing, Stands, Carries, MeetsIf, seated_of, with_seats}
+use Rattle.leaf_moves.specs.Steps as step
+use Rattle.leaf_moves.specs.Steps.{Part, MakesSteps, DrainMoves, RegionStopped}
 use Rattle.player.specs.declared.drain.Shut.{Shut}
 use Rattle.player.specs.declared.drain.Shut.TheVariants as shut
 use Rattle.player.specs.Lines.{AreTold}

@@ -9,7 +9,7 @@ ghost use Rattle.leaf_table.specs.Calls.{base_seen, name_of};
 ghost use Rattle.leaf_table.specs.Fleet.{IsNewFleet};
 ghost use Rattle.leaf_table.specs.Lists.{lists_in};
 ghost use Rattle.leaf_steward.specs.Seated.{AreAlike, AreFounded, AtEach, IsUnused};
-ghost use Rattle.leaf_machine.specs.States.{MayBegin};
+ghost use Rattle.crash_states.specs.Beginning.{MayBegin};
 ghost use Rattle.player.specs.Crew.{seated_at};
 ghost use Rattle.player.specs.Beginning.{AreBegun, IsBegun, IsReady};
 

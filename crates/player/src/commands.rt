@@ -1,6 +1,6 @@
 // Each command of a script.
 ghost use Rattle.std.specs.Prelude.{◌≡◌, ◌⊎◌, map, IsErr};
-ghost use Rattle.transcript.specs.Plays.{MayPlay};
+ghost use Rattle.leaf_moves.specs.Plays.{MayPlay};
 ghost use Rattle.player.specs.Crew.{AllPass, HasFor, PlaysWith, StillHas};
 ghost use Rattle.player.specs.Members.{AreMembers, SameFleet, fleet_in, holds_in};
 

@@ -2,8 +2,8 @@
 ghost use Rattle.std.specs.Prelude.{◌≡◌, ◌+◌, ◌<◌, ◌≤◌, ◌++◌, ◌∷◌, ℕ, List, Option, Some, true, is_some, length, map, slice_get, vec_len, vec_capacity};
 ghost use Rattle.leaf_table.specs.Turns.{Shared};
 ghost use Rattle.leaf_table.specs.Lists.{lists_in};
-ghost use Rattle.transcript.specs.Holds.{Hold, HasMet};
-ghost use Rattle.transcript.specs.Stage.{Leaf, MeetAll};
+ghost use Rattle.leaf_moves.specs.Holds.{Hold, HasMet};
+ghost use Rattle.leaf_moves.specs.Stage.{Leaf, MeetAll};
 ghost use Rattle.player.specs.declared.leaf.OneLeaf.{OneLeaf};
 ghost use Rattle.player.specs.Crew.{HasLeaf, berth_in, column};
 ghost use Rattle.player.specs.Rows.{MayMeet, OnlyColumn};

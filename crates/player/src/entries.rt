@@ -1,7 +1,7 @@
 // The lines of calls and of what a steward's command did.
 ghost use Rattle.std.specs.Prelude.{◌≡◌, ◌∷◌, ◌++◌, [], IfOk, OnOk, MatchResult};
 ghost use Rattle.printed_lines.specs.declared.line.Line.TheVariants.{Ended, Entry};
-ghost use Rattle.transcript.specs.Steps.{said_of_note};
+ghost use Rattle.leaf_moves.specs.Steps.{said_of_note};
 ghost use Rattle.player.specs.Lines.{AreAdded, AreEnded, AreJoined, note_line, note_lines, reply_line};
 
 use leaf_machine::{Note, Notes, What};

@@ -10,8 +10,8 @@ ghost use Rattle.leaf_steward.specs.Seated.{AreFounded, AtPlace};
 ghost use Rattle.printed_lines.specs.declared.line.Ending.TheVariants as ending;
 ghost use Rattle.transcript.specs.Pieces.{Starts};
 ghost use Rattle.transcript.specs.Counts.{reads_disk};
-ghost use Rattle.transcript.specs.Stage.{Carries, Stands, with_seats};
-ghost use Rattle.transcript.specs.Steps.{FlushMoves, KillMoves, StartMoves, IsDownLeaf, ending_of, ending_of_flush};
+ghost use Rattle.leaf_moves.specs.Stage.{Carries, Stands, with_seats};
+ghost use Rattle.leaf_moves.specs.Steps.{FlushMoves, KillMoves, StartMoves, IsDownLeaf, ending_of, ending_of_flush};
 ghost use Rattle.player.specs.Stage.{KeepsSeats, state_of, berth_of, seats_of};
 ghost use Rattle.player.specs.Moves.{DrainsWithLines, FaultRose};
 

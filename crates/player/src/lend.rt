@@ -3,7 +3,7 @@ ghost use Rattle.std.specs.Prelude.{◌≡◌, ◌<◌, ◌≤◌, ◌++◌, ◌
 ghost use Rattle.turnstile.specs.Seats.{IsSeatOf, given, keeps_all_but};
 ghost use Rattle.leaf_table.specs.Lists.{lists_in, row};
 ghost use Rattle.script_text.specs.Commands.{leaf_count};
-ghost use Rattle.transcript.specs.Lanes.{CutsOff};
+ghost use Rattle.leaf_moves.specs.Lanes.{CutsOff};
 ghost use Rattle.player.specs.Crew.{Spares, is_set};
 ghost use Rattle.player.specs.Members.{AreMembers, SameFleet, fleet_in, holds_in};
 ghost use Rattle.player.specs.Lending.{AreRoomy, MaySplit, RowSplits, RowsSplit, SlotSplits, SlotsSplit, SplitsFirst};

@@ -3,7 +3,7 @@ ghost use Rattle.std.specs.Prelude.{◌≡◌, ◌<◌, length};
 ghost use Rattle.crash_moments.specs.Left.{NamedStates};
 ghost use Rattle.leaf_table.specs.Lists.{lists_in};
 ghost use Rattle.leaf_steward.specs.Seated.{AreFounded};
-ghost use Rattle.transcript.specs.Stage.{MeetAll, Stands};
+ghost use Rattle.leaf_moves.specs.Stage.{MeetAll, Stands};
 ghost use Rattle.player.specs.Crew.{column};
 ghost use Rattle.player.specs.Rows.{HasSeat, MayMeet, OnlyColumn};
 ghost use Rattle.player.specs.Stage.{KeepsSeats, berth_of, seats_of, state_of};

@@ -2,7 +2,7 @@
 ghost use Rattle.std.specs.Prelude.{◌≡◌, ◌<◌, ◌≤◌, ℕ, Some, length, slice_get};
 ghost use Rattle.leaf_table.specs.Calls.{SeatView};
 ghost use Rattle.script_text.specs.Commands.{leaf_count};
-ghost use Rattle.transcript.specs.Holds.{AllMeet};
+ghost use Rattle.leaf_moves.specs.Holds.{AllMeet};
 ghost use Rattle.player.specs.Crew.{AllPass, HasLeaf, Spares, StillHas};
 ghost use Rattle.player.specs.Members.{AreMembers, SameFleet, fleet_in, holds_in};
 ghost use Rattle.player.specs.Lending.{MeetsLeaf};

@@ -3,8 +3,8 @@ ghost use Rattle.std.specs.Prelude.{◌≡◌, ◌⊎◌, ◌<◌, ◌≤◌, �
 ghost use Rattle.turnstile.specs.Seats.{IsSeatOf};
 ghost use Rattle.leaf_table.specs.Lists.{lists_in, row};
 ghost use Rattle.script_text.specs.Commands.{leaf_count};
-ghost use Rattle.transcript.specs.Holds.{Hold};
-ghost use Rattle.transcript.specs.Lanes.{JoinsTo, TakesBack};
+ghost use Rattle.leaf_moves.specs.Holds.{Hold};
+ghost use Rattle.leaf_moves.specs.Lanes.{JoinsTo, TakesBack};
 ghost use Rattle.player.specs.declared.leaf.OneLeaf.{OneLeaf};
 ghost use Rattle.player.specs.Crew.{HasSeats, SameSeats};
 ghost use Rattle.player.specs.Stage.{berth_of, held_of, state_of};

@@ -7,9 +7,8 @@ use Rattle.rollover_watch.specs.declared.event.RollEvent.{RollEvent}
 use Rattle.rollover_watch.specs.declared.event.RollEvent.TheVariants as event
 use Rattle.rollover_watch.specs.declared.event.Wish.{Wish}
 use Rattle.rollover_watch.specs.declared.event.Wish.TheVariants.{Leave, Halt}
-
--- what a watch means: its line; how many drains it was told that were done, and starts that found the tables in memory;
--- the events that it was told, where it keeps them; and what it wishes at an event
+-- What a watch means: what its line will show, and what it will wish at an event, each by the events that it is told from now on; how many drains it was told that were done, and starts
+-- that found the tables in memory; and the events that it was told, where it keeps them.
 pub record Held : Type 0 where
   pub line : List RollEvent → List ℕ
   pub drained : ℕ
@@ -32,7 +31,8 @@ abbrev pub raised : Bool → ℕ → ℕ
 raised false count = count
 raised true count = min (count + 1) (2 ^ 64 - 1)
 
--- a watch was told an event: each count goes up where the event counts for it, and the events that it keeps end with this one
+-- A watch was told an event: each count goes up where the event counts for it, the events that it keeps end with this one, and what it shows and wishes from now on is what it would have
+-- behind this event.
 pub record HasHeard (event : RollEvent) (old new : Held) : Type 0 where
   pub drained : new.drained ≡ raised (is_drained event) old.drained
   pub adopted : new.adopted ≡ raised (is_adopted event) old.adopted

@@ -1,5 +1,5 @@
 -- What a table means, and what its calls do.
-use Rattle.std.specs.Prelude.{◌≡◌, ℕ, ◌+◌, ◌-◌, ◌<◌, ◌≤◌, ◌^◌, true, List, [], length, Option, Some, None, IfSome, Result, Ok, Err, ℤ, int_le}
+use Rattle.std.specs.Prelude.{◌≡◌, ℕ, ◌+◌, ◌-◌, ◌<◌, ◌≤◌, ◌^◌, true, List, [], ◌∷◌, length, Option, Some, None, IfSome, Result, Ok, Err, ℤ, int_le}
 use Rattle.std.specs.List.{AllByRecursion}
 use Rattle.leaf_model.specs.declared.rows.Row.{Row}
 use Rattle.leaf_model.specs.declared.writes.Write.{Write}
@@ -121,3 +121,8 @@ pub record IsPartsOf (parts : Parts) (t : Table) : Type 0 where
   pub skip : parts.skip ≡ t.store.skip
   pub blocks : parts.blocks ≡ t.store.blocks
   pub tail : t.store.tail ≡ []
+
+-- how many columns a table with these rows has at least
+abbrev pub least_columns : List Row → ℕ
+least_columns [] = 0
+least_columns (row ∷ rows) = 1

@@ -6,7 +6,7 @@ use Rattle.leaf_model.specs.declared.queries.Query.{Query}
 use Rattle.leaf_model.specs.Groups.{groups}
 use Rattle.answer_text.specs.Answer.{answer_lines}
 use Rattle.leaf_history.specs.History.{Entry, after, held}
-use Rattle.leaf_machine.specs.States.{least_columns}
+use Rattle.table_state.specs.Tables.{least_columns}
 use Rattle.script_text.specs.declared.command.Command.{Command}
 use Rattle.script_text.specs.declared.command.Command.TheVariants as command
 use Rattle.printed_lines.specs.declared.line.Ending.{Ending}

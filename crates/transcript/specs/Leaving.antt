@@ -9,7 +9,7 @@ use Rattle.leaf_opening.specs.Starts.{IsWayOf}
 use Rattle.crash_moments.specs.Left.{NamedStates, Left}
 use Rattle.crash_moments.specs.Told as moments
 use Rattle.crash_states.specs.Standing.{tables_of}
-use Rattle.leaf_machine.specs.Leaving.{BeginsAgain}
+use Rattle.crash_states.specs.Beginning.{BeginsAgain}
 use Rattle.rollover_watch.specs.Watches.{Held}
 use Rattle.script_text.specs.declared.item.Item.{Item}
 use Rattle.printed_lines.specs.declared.line.Line.{Line}
@@ -22,6 +22,7 @@ use Rattle.transcript.specs.Counts.{CountsRose}
 use Rattle.transcript.specs.Strangers.{IsNamedBy, Strangers}
 use Rattle.transcript.specs.Transcript.{Known, Transcript}
 use Rattle.transcript.specs.Watching.{HearsAll}
+use Rattle.transcript.specs.Moments.{MomentsRise, notes_told}
 
 -- ---- one leaf's berth with a base
 
@@ -49,8 +50,8 @@ module _ {B : Type 0} (meaning : B → Meaning) (olds news : List B) where
   abbrev pub AreKnown : (ℕ → Option NamedStates) → (ℕ → Option Known) → Type 0
   AreKnown base known = (leaf : ℕ) (old : B) → slice_get olds leaf ≡ Some old → IsKnown (base leaf) (meaning old) (known leaf)
 
-  -- These lines are a transcript of the items, faults and strangers have their cause, the watches heard what the lines tell, and the berths are left so; those that no leaf uses are
-  -- untouched.
+  -- These lines are a transcript of the items, faults and strangers have their cause, the watches heard what the lines tell, the berths are left so, and the clocks of a leaf's entries do
+  -- not fall; berths that no leaf uses are untouched.
   pub record IsToldRun (items : List Item) (known : ℕ → Option Known) (lines : List Line) (before after : List Held) : Type 0 where
     pub transcript : Transcript (script_fleet items) known items (lines_text (script_fleet items).names lines)
     pub lines_are : all_lines transcript.played ≡ lines
@@ -60,6 +61,8 @@ module _ {B : Type 0} (meaning : B → Meaning) (olds news : List B) where
         Strangers (IsNamedBy (script_fleet items).names k.held) leaf (all_pieces transcript.played)
     pub leaves : (leaf : ℕ) (k : Known) → leaf < (leaf_count (script_fleet items)) → known leaf ≡ Some k →
         AtBerth leaf (LeavesBerth (script_fleet items).names k.base (transcript.lives leaf) (transcript.histories leaf))
+    pub moments : (leaf : ℕ) → leaf < (leaf_count (script_fleet items)) →
+        AtBerth leaf (λ old new. MomentsRise (transcript.histories leaf) old.clock (notes_told leaf (all_pieces transcript.played)) new.clock)
     pub others : drop (leaf_count (script_fleet items)) news ≡ drop (leaf_count (script_fleet items)) olds
 
   -- The text of these lines was written, whatever is known of the berths' beginnings.

@@ -7,10 +7,6 @@ pub mod Answers
 pub mod Counts
 pub mod Strangers
 pub mod Transcript
+pub mod Moments
 pub mod Leaving
-pub mod Stage
-pub mod Holds
-pub mod Steps
-pub mod Plays
-pub mod Lanes
 pub mod Watching

@@ -1,4 +1,4 @@
-use Rattle.std.proofs.Common.{◌≡◌, ℕ, ◌<◌, ◌≤◌, List, length, map, refl, sym, ap, subst, ◌∙◌, arith}
+use Rattle.std.proofs.Common.{◌≡◌, ℕ, ◌<◌, ◌≤◌, List, length, map, refl, sym, ap, subst, ◌∙◌, arith, inl, ◌+◌}
 use Rattle.std.specs.Prelude.{slice_index_or}
 use Rattle.std.proofs.lemmas.List.{length-map}
 use Rattle.script_text.specs.declared.command.Command.{Command}
@@ -9,7 +9,6 @@ use Rattle.bursts.proofs.Cutting.{can_lend}
 use Rattle.bursts.proofs.Held.{pass_on, still_on}
 use Rattle.bursts.proofs.Items.{beside_from, beside_short}
 use Rattle.bursts.specs.Went.{told_lines}
-use Rattle.std.proofs.Common.{inl, ◌+◌}
 use Rattle.bursts.proofs.Hearing.{rolling_append}
 use Rattle.bursts.proofs.Lending.{all_may_work, all_played, none_played}
 use Rattle.bursts.proofs.beside.play_beside.Goals as goal

@@ -2,7 +2,7 @@ use Rattle.std.proofs.Common.{◌≡◌, ℕ, List, map}
 use Rattle.std.specs.Prelude.{vec_len}
 use Rattle.script_text.specs.declared.command.Command.{Command}
 use Rattle.rollover_watch.specs.Watches.{Held}
-use Rattle.transcript.specs.Holds.{Hold}
+use Rattle.leaf_moves.specs.Holds.{Hold}
 use Rattle.bursts.specs.Lent.{IsWorked, Lent, TakingBack}
 use Rattle.bursts.proofs.beside.take_all_back.Given as goal
 

@@ -8,7 +8,8 @@ use Rattle.player.specs.Crew.{new_holds}
 use Rattle.play.specs.Played.{LeavesBerths}
 use Rattle.play.specs.Runs.{IsRun, berths_in, fleet_named, table_bases}
 use Rattle.play.proofs.Beginning.{alike_at, berths_of_holds, ready_at, run_begins}
-use Rattle.play.proofs.Ends.{crew_leaves, crew_short, crew_written, room_again}
+use Rattle.play.proofs.Ends.{crew_leaves, crew_written, room_again}
+use Rattle.play.proofs.Short.{crew_short}
 use Rattle.play.proofs.Plays.{run_ends}
 use Rattle.play.proofs.berths.play_over.Goals as goal
 

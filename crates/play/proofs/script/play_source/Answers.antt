@@ -5,7 +5,8 @@ use Rattle.row_count.specs.Source.{longest_text}
 use Rattle.play.specs.Outcome.{play_verdict}
 use Rattle.script_text.specs.Fits.{IsScript}
 use Rattle.script_text.specs.Script.{script_of}
-use Rattle.play.proofs.Ends.{ends_short, leaves_as_told}
+use Rattle.play.proofs.Ends.{leaves_as_told}
+use Rattle.play.proofs.Short.{ends_short}
 use Rattle.play.specs.Played.{leaves_in}
 use Rattle.play.proofs.Own.{no_play_fault, no_more_fault, Found}
 use Rattle.play.proofs.script.play_source.Goals as goal

@@ -1,6 +1,6 @@
 use Rattle.std.proofs.Common.{◌≤◌, length, arith}
 use Rattle.std.proofs.lemmas.Bool.Decides.{nat_tests}
-use Rattle.play.proofs.Ends.{soak_ends_short}
+use Rattle.play.proofs.Short.{soak_ends_short}
 use Rattle.play.proofs.Soaked.{soak_enough}
 use Rattle.play.proofs.soaking.play_soak.Goals as goal
 

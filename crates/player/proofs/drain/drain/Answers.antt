@@ -1,7 +1,7 @@
 use Rattle.std.proofs.Common.{refl, sym, subst}
 use Rattle.berth_face.specs.Berth.{Passes}
 use Rattle.printed_lines.specs.declared.line.Ending.TheVariants.{Stopped}
-use Rattle.transcript.specs.Stage.{IsDown, IsPreparing}
+use Rattle.leaf_moves.specs.Stage.{IsDown, IsPreparing}
 use Rattle.player.specs.Moves as move
 use Rattle.player.specs.Moves.{DrainsWithLines, berth_left}
 use Rattle.player.proofs.Joined.{drain_copied, drain_stopped, drain_halted, drain_starved, drain_roomless, drain_keeps}

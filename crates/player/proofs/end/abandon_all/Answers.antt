@@ -1,7 +1,7 @@
 use Rattle.std.proofs.Common.{◌≡◌, ◌++◌, ◌∷◌, [], ℕ, Some, length, sym, ap, subst, ◌∙◌, arith}
 use Rattle.std.specs.Prelude.{option_to_list}
 use Rattle.leaf_table.specs.Lists.{lists_in}
-use Rattle.transcript.specs.Stage.{MeetAll}
+use Rattle.leaf_moves.specs.Stage.{MeetAll}
 use Rattle.player.specs.Crew.{column}
 use Rattle.player.specs.Rows.{MayMeet, OnlyColumn}
 use Rattle.player.specs.Stage.{berth_of, seats_of, state_of}

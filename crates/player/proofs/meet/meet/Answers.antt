@@ -2,7 +2,7 @@ use Rattle.std.proofs.Common.{refl, subst, ap, length, ◌∙◌, arith}
 use Rattle.crash_moments.specs.Left.{NamedStates}
 use Rattle.leaf_table.specs.Lists.{lists_in}
 use Rattle.leaf_steward.specs.Seated.{AreFounded}
-use Rattle.transcript.specs.Stage.{Stands}
+use Rattle.leaf_moves.specs.Stage.{Stands}
 use Rattle.player.specs.Crew.{column}
 use Rattle.player.specs.Stage.{berth_of, seats_of, state_of}
 use Rattle.player.proofs.Carrying.{keeps_on}

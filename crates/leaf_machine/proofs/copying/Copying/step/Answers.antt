@@ -1,7 +1,6 @@
-use Rattle.std.specs.Prelude.{◌⊎◌}
+use Rattle.std.specs.Prelude.{◌⊎◌, ◌≢◌, IsTrue}
 use Rattle.region_layout.specs.Region.{IsClosed}
 use Rattle.std.proofs.Common.{rules, ◌≡◌, ◌∙◌, suc, [], refl, sym, ap, subst}
-use Rattle.std.specs.Prelude.{◌≢◌, IsTrue}
 use Rattle.drain_copy.specs.declared.step.DrainStep.{DrainStep}
 use Rattle.drain_copy.specs.declared.step.DrainStep.TheVariants.{Finished}
 use Rattle.drain_copy.specs.declared.step.Next.TheVariants as next

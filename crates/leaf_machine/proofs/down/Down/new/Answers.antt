@@ -3,7 +3,7 @@ use Rattle.crash_moments.specs.Left.{NamedStates}
 use Rattle.leaf_table.specs.Turns.{start_of}
 use Rattle.leaf_table.specs.Calls.{base_seen, name_of}
 use Rattle.leaf_steward.specs.Seated.{Seated, AreFounded, AtEach, IsUnused}
-use Rattle.leaf_machine.specs.States.{MayBegin}
+use Rattle.crash_states.specs.Beginning.{MayBegin}
 use Rattle.leaf_machine.proofs.DownMaking.{new_rests}
 use Rattle.leaf_machine.proofs.down.Down.new.Goals as goal
 

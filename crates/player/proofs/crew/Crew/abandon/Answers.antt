@@ -1,6 +1,6 @@
 use Rattle.std.proofs.Common.{◌≡◌, ℕ, Some, subst}
 use Rattle.std.specs.Prelude.{slice_get}
-use Rattle.transcript.specs.Holds.{HasMet, Hold}
+use Rattle.leaf_moves.specs.Holds.{HasMet, Hold}
 use Rattle.player.specs.Crew.{CrewState}
 use Rattle.player.proofs.crew.Crew.abandon.Goals as goal
 

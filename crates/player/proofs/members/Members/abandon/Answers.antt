@@ -3,7 +3,7 @@ use Rattle.std.specs.Prelude.{is_some}
 use Rattle.std.proofs.lemmas.Option.{slice_get_within}
 use Rattle.leaf_table.specs.Lists.{lists_in}
 use Rattle.leaf_steward.proofs.Seating.{same_at}
-use Rattle.transcript.specs.Holds.{HasMet}
+use Rattle.leaf_moves.specs.Holds.{HasMet}
 use Rattle.player.specs.Stage.{hold_at}
 use Rattle.player.proofs.Ending.{holds_berths}
 use Rattle.player.proofs.HoldLists.{holds_back, holds_count, leaf_held}

@@ -1,6 +1,6 @@
 use Rattle.std.proofs.Common.{ℤ, inl, w64, subst}
 use Rattle.std.proofs.lemmas.Int.{to_z-of_z}
-use Rattle.transcript.specs.Plays.{MayPlay}
+use Rattle.leaf_moves.specs.Plays.{MayPlay}
 use Rattle.player.specs.declared.call.Request.TheVariants as request
 use Rattle.player.specs.Crew.{HasFor}
 use Rattle.player.specs.Members.{fleet_in, holds_in}

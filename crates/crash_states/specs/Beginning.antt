@@ -1,0 +1,24 @@
+-- Over which berths a leaf may begin, and that a berth that was left is one.
+use Rattle.std.specs.Prelude.{◌≡◌, ℕ, ◌≤◌, List, [], length, take, Option, IsTrue}
+use Rattle.leaf_model.specs.declared.writes.Write.{Write}
+use Rattle.row_records.specs.Records.{LogRecord}
+use Rattle.berth_face.specs.Berth.{Meaning}
+use Rattle.leaf_history.specs.History.{HistoryState, base_of}
+use Rattle.crash_moments.specs.Left.{NamedStates}
+use Rattle.crash_states.specs.Standing.{Rests}
+
+-- A leaf with this base may begin over the berth: each log that a crash may leave has the least writes of each name, or those of one record more, and the base has the longest.
+abbrev pub MayBegin : NamedStates → Meaning → Type 0
+MayBegin base m = IsTrue m.tells × ((least : List ℕ → List Write) × (next : Option LogRecord) × Rests [] base least next m)
+
+-- the base has a front of the table's writes, and no flushed one is missing from any log
+pub record IsFrontOf (s b : HistoryState) : Type 0 where
+  pub front : b.writes ≡ take (length b.writes) s.writes
+  pub flushed : s.flushed ≤ b.flushed
+
+-- a leaf may begin over the berth, with a base that has a front of the writes of each table
+pub record BeginsAgain (tables : NamedStates) (m : Meaning) : Type 0 where
+  pub base : NamedStates
+  pub is : (name : List ℕ) → base name ≡ base_of (base name).writes (base name).flushed
+  pub begins : MayBegin base m
+  pub front : (name : List ℕ) → IsFrontOf (tables name) (base name)

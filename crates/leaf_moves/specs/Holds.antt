@@ -1,0 +1,90 @@
+-- What somebody holds of the leaves of a fleet, who plays with them: the run, or a lane of a burst.
+use Rattle.std.specs.Prelude.{◌≡◌, ℕ, zero, suc, false, List, [], ◌∷◌, ◌++◌, length, Option, Some, None, slice_get}
+use Rattle.berth_face.specs.Berth.{Meaning}
+use Rattle.leaf_history.specs.History.{Entry, no_base}
+use Rattle.leaf_table.specs.Turns.{Shared, is_founded, start_of}
+use Rattle.leaf_table.specs.Calls.{SeatView, base_seen, seen_of}
+use Rattle.transcript.specs.Histories.{Ground}
+use Rattle.leaf_moves.specs.Stage.{Leaf, MeetAll, seated_of}
+
+-- Of one leaf: its tables, the callers' seat at each, where there is one, and the leaf with its berth, where it is held.
+pub record Hold (B : Type 0) : Type 0 where
+  pub tables : List Shared
+  pub callers : List (Option SeatView)
+  pub held : Option (Leaf × B)
+
+-- the same with these seats of callers
+abbrev pub with_callers : {B : Type 0} → Hold B → List (Option SeatView) → Hold B
+with_callers x callers = record { tables = x.tables; callers = callers; held = x.held }
+
+-- the same with this leaf, berth and seats
+abbrev pub with_leaf : {B : Type 0} → Hold B → Leaf → B → List (Option SeatView) → Hold B
+with_leaf x leaf b callers = record { tables = x.tables; callers = callers; held = Some (leaf, b) }
+
+-- the steward's seat at the table in that place, where the leaf is held
+abbrev pub steward_in : {B : Type 0} → Option (Leaf × B) → ℕ → Option SeatView
+steward_in None table = None
+steward_in (Some l) table = slice_get (seated_of l.0).seats table
+
+-- the callers' seat there, where there is one
+abbrev pub caller_in : List (Option SeatView) → ℕ → Option SeatView
+caller_in [] table = None
+caller_in (c ∷ cs) zero = c
+caller_in (c ∷ cs) (suc table) = caller_in cs table
+
+-- ---- meetings
+
+-- all seats of a leaf that is held meet
+pub record HoldMeets {B : Type 0} (meaning : B → Meaning) (x y : Hold B) : Type 0 where
+  pub leaf : Leaf
+  pub berth : B
+  pub leaf_then : Leaf
+  pub callers_then : List (Option SeatView)
+  pub held : x.held ≡ Some (leaf, berth)
+  pub met : MeetAll leaf x.callers leaf_then callers_then (meaning berth)
+  pub now : y ≡ with_leaf x leaf_then berth callers_then
+
+-- they have met a last time
+abbrev pub HasMet : {B : Type 0} → (B → Meaning) → Hold B → Type 0
+HasMet {B} meaning x = (y : Hold B) × HoldMeets meaning x y
+
+-- those of each leaf meet
+pub record AllMeet {B : Type 0} (meaning : B → Meaning) (xs ys : List (Hold B)) : Type 0 where
+  pub count : length ys ≡ length xs
+  pub each : (leaf : ℕ) (x y : Hold B) → slice_get xs leaf ≡ Some x → slice_get ys leaf ≡ Some y → HoldMeets meaning x y
+
+-- ---- histories, as the seats have seen them
+
+-- a caller's seat has seen no less than the steward's that is held with it
+abbrev pub seen_by : Option SeatView → Option SeatView → List Entry
+seen_by v (Some c) = seen_of c
+seen_by (Some v) None = seen_of v
+seen_by None None = []
+
+abbrev pub seen_in : {B : Type 0} → Hold B → ℕ → List Entry
+seen_in x table = seen_by (steward_in x.held table) (caller_in x.callers table)
+
+-- of the leaf with that number
+abbrev pub histories_of : {B : Type 0} → List (Hold B) → ℕ → ℕ → List Entry
+histories_of [] leaf table = []
+histories_of (x ∷ xs) zero table = seen_in x table
+histories_of (x ∷ xs) (suc leaf) table = histories_of xs leaf table
+
+-- histories that begin with these
+abbrev pub GoOn : {B : Type 0} → List (Hold B) → (ℕ → ℕ → List Entry) → Type 0
+GoOn xs histories = (leaf table : ℕ) → (more : List Entry) × (histories leaf table ≡ histories_of xs leaf table ++ more)
+
+-- ---- what the tables were made with
+
+abbrev pub no_ground : Ground
+no_ground = record { founded = false; base = no_base }
+
+abbrev pub ground_at : List Shared → ℕ → Ground
+ground_at [] table = no_ground
+ground_at (t ∷ ts) zero = record { founded = is_founded (base_seen t); base = start_of (base_seen t) }
+ground_at (t ∷ ts) (suc table) = ground_at ts table
+
+abbrev pub grounds_in : {B : Type 0} → List (Hold B) → ℕ → ℕ → Ground
+grounds_in [] leaf table = no_ground
+grounds_in (x ∷ xs) zero table = ground_at x.tables table
+grounds_in (x ∷ xs) (suc leaf) table = grounds_in xs leaf table

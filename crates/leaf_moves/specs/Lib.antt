@@ -1,0 +1,5 @@
+pub mod Stage
+pub mod Holds
+pub mod Steps
+pub mod Plays
+pub mod Lanes

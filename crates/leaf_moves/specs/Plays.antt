@@ -1,0 +1,65 @@
+-- What whole commands do to the leaves of a fleet and their callers' seats: their steps in a chain, the pieces that they print, and what their answers are of.
+use Rattle.std.specs.Prelude.{◌≡◌, ℕ, List, [], ◌∷◌, Option, Some, slice_get, slice_set, ⊤}
+use Rattle.berth_face.specs.Berth.{Meaning}
+use Rattle.leaf_history.specs.Calls.{Call}
+use Rattle.leaf_history.specs.History.{Entry}
+use Rattle.leaf_table.specs.Calls.{SeatView}
+use Rattle.printed_lines.specs.declared.line.Line.{Line}
+use Rattle.script_text.specs.declared.command.Command.{Command}
+use Rattle.script_text.specs.declared.command.Command.TheVariants as command
+use Rattle.script_text.specs.Fits.{IsCommand}
+use Rattle.script_text.specs.declared.fleet.Fleet.{Fleet}
+use Rattle.script_text.specs.Commands.{leaf_count}
+use Rattle.transcript.specs.Pieces.{Piece, Says, Deed}
+use Rattle.transcript.specs.Shapes.{Prints}
+use Rattle.transcript.specs.Answers.{Answers}
+use Rattle.leaf_moves.specs.Holds.{Hold, GoOn, grounds_in, with_callers, with_leaf}
+use Rattle.leaf_moves.specs.Stage.{Leaf}
+use Rattle.leaf_moves.specs.Steps.{CallStep, DeedStep}
+
+-- ---- several of them
+
+-- What callers and stewards of the leaves do, piece by piece. Each touches one leaf: a call its callers' seat, a deed the leaf, all its seats and its berth; a line touches none.
+pub data Goes {B : Type 0} (meaning : B → Meaning) : List (Hold B) → List Piece → List (Hold B) → Type 0 where
+  none : (xs : List (Hold B)) (pieces : List Piece) (ys : List (Hold B))
+      → pieces ≡ []
+      → ys ≡ xs
+      → Goes meaning xs pieces ys
+  call : (xs : List (Hold B)) (pieces : List Piece) (ys : List (Hold B)) (leaf table : ℕ) (c : Call) (x : Hold B) (callers : List (Option SeatView)) (p : Piece) (others : List Piece)
+      → slice_get xs leaf ≡ Some x
+      → CallStep leaf table c x.tables x.callers p callers
+      → Goes meaning (slice_set xs leaf (with_callers x callers)) others ys
+      → pieces ≡ p ∷ others
+      → Goes meaning xs pieces ys
+  act : (xs : List (Hold B)) (pieces : List Piece) (ys : List (Hold B)) (leaf : ℕ) (deed : Deed) (x : Hold B) (l l' : Leaf) (b b' : B) (callers : List (Option SeatView)) (p : Piece) (others : List Piece)
+      → slice_get xs leaf ≡ Some x
+      → x.held ≡ Some (l, b)
+      → DeedStep leaf deed (meaning b) (meaning b') l x.callers p l' callers
+      → Goes meaning (slice_set xs leaf (with_leaf x l' b' callers)) others ys
+      → pieces ≡ p ∷ others
+      → Goes meaning xs pieces ys
+  say : (xs : List (Hold B)) (pieces : List Piece) (ys : List (Hold B)) (l : Line) (others : List Piece)
+      → Goes meaning xs others ys
+      → pieces ≡ Says l ∷ others
+      → Goes meaning xs pieces ys
+
+-- ---- whole commands
+
+-- a command that such a fleet may play
+abbrev pub MayPlay : Fleet → Command → Type 0
+MayPlay fleet (command.Fleet machines per_machine tables) = ⊤
+MayPlay fleet (command.Add leaf table rows) = IsCommand (leaf_count fleet) fleet.names (command.Add leaf table rows)
+MayPlay fleet (command.Expire leaf table horizon) = IsCommand (leaf_count fleet) fleet.names (command.Expire leaf table horizon)
+MayPlay fleet (command.Keep leaf table n) = IsCommand (leaf_count fleet) fleet.names (command.Keep leaf table n)
+MayPlay fleet (command.Query q) = IsCommand (leaf_count fleet) fleet.names (command.Query q)
+MayPlay fleet (command.Flush leaf table) = IsCommand (leaf_count fleet) fleet.names (command.Flush leaf table)
+MayPlay fleet (command.Drain leaf stop) = IsCommand (leaf_count fleet) fleet.names (command.Drain leaf stop)
+MayPlay fleet (command.Kill leaf) = IsCommand (leaf_count fleet) fleet.names (command.Kill leaf)
+MayPlay fleet (command.Start leaf) = IsCommand (leaf_count fleet) fleet.names (command.Start leaf)
+MayPlay fleet (command.Rollover percent) = IsCommand (leaf_count fleet) fleet.names (command.Rollover percent)
+
+-- What a command does. Its answer is over what the leaves hold then, however their histories go on.
+pub record Plays {B : Type 0} (meaning : B → Meaning) (fleet : Fleet) (c : Command) (xs : List (Hold B)) (pieces : List Piece) (ys : List (Hold B)) : Type 0 where
+  pub goes : Goes meaning xs pieces ys
+  pub prints : Prints fleet c pieces
+  pub answers : (histories : ℕ → ℕ → List Entry) → GoOn ys histories → Answers fleet (grounds_in ys) histories (record { command = c; pieces = pieces })

@@ -1,0 +1,361 @@
+-- What each command does to the leaves of a fleet and their callers' seats as the program holds them: the pieces that it prints, and what stands behind it.
+use Rattle.std.specs.Prelude.{◌≡◌, ◌≢◌, ℕ, zero, suc, ◌+◌, ◌<◌, ◌≤◌, List, [], ◌++◌, length, map, Option, Some, None, slice_get, slice_set, IsTrue, ⊤}
+use Rattle.berth_face.specs.Berth.{Meaning}
+use Rattle.leaf_history.specs.Calls.{Call}
+use Rattle.adopt.specs.declared.found.WhyDisk.TheVariants as why
+use Rattle.adopt.specs.Adopting.{IsBroken, IsLeftBehind}
+use Rattle.disk_backup.specs.Scanning.{BeginsScan}
+use Rattle.leaf_opening.specs.declared.ways.Way.{Way}
+use Rattle.leaf_opening.specs.declared.ways.Way.TheVariants.{Memory, Disk}
+use Rattle.leaf_opening.specs.Starts.{IsWayOf}
+use Rattle.crash_moments.specs.Left.{NamedStates}
+use Rattle.leaf_table.specs.declared.replies.Reply.{Reply}
+use Rattle.leaf_table.specs.declared.replies.Reply.TheVariants as told
+use Rattle.leaf_table.specs.Turns.{Shared}
+use Rattle.leaf_table.specs.Calls.{SeatView, base_seen, Answered}
+use Rattle.leaf_steward.specs.declared.notes.Note.{Note}
+use Rattle.leaf_steward.specs.declared.notes.What.{What}
+use Rattle.leaf_steward.specs.declared.notes.What.TheVariants as what
+use Rattle.leaf_steward.specs.Seated.{Seated, AreFounded}
+use Rattle.leaf_steward.specs.Making.{Makes, EachNoted, IsClosedNote, IsHandedNote, WornAt}
+use Rattle.leaf_machine.specs.declared.faults.StartFault.{StartFault}
+use Rattle.leaf_machine.specs.declared.faults.StartFault.TheVariants as fault
+use Rattle.leaf_machine.specs.declared.up.FlushReply.{FlushReply}
+use Rattle.leaf_machine.specs.declared.up.FlushReply.TheVariants as reply
+use Rattle.leaf_machine.specs.States.{Serving, Shutting, columns_seen, treated}
+use Rattle.leaf_machine.specs.Starts.{CameUp, IsOpenedNote, IsStartRefused}
+use Rattle.leaf_machine.specs.Flushes as flushing
+use Rattle.leaf_machine.specs.Prepares.{Treats, Halts, Starves, AllTreated, begins}
+use Rattle.printed_lines.specs.declared.line.Said.{Said}
+use Rattle.printed_lines.specs.declared.line.Said.TheVariants as said
+use Rattle.printed_lines.specs.declared.line.Ending.{Ending}
+use Rattle.printed_lines.specs.declared.line.Ending.TheVariants as ending
+use Rattle.transcript.specs.Pieces.{Piece, Called, Worn, Acted, Deed, Starts, Flushes, Drains, Kills, Noted}
+use Rattle.transcript.specs.Life.{MayMake}
+use Rattle.leaf_moves.specs.Stage.{Leaf, IsDown, IsUp, IsPreparing, seated_of, Stands, ServingStands, AreHandedNothing, Carries, MeetAll}
+
+-- ---- the calls of callers
+
+-- the piece of a call that had this reply
+abbrev pub IsReplyPiece : ℕ → ℕ → Call → Reply → Piece → Type 0
+IsReplyPiece leaf table c (told.Added number kept late) p = p ≡ Called leaf table c number (said.Added kept late)
+IsReplyPiece leaf table c (told.Removed number rows) p = p ≡ Called leaf table c number (said.Removed rows)
+IsReplyPiece leaf table c (told.Groups number gs) p = p ≡ Called leaf table c number said.Asked
+IsReplyPiece leaf table c (told.Shut number) p = p ≡ Called leaf table c number said.RefusedShut
+IsReplyPiece leaf table c (told.Full number) p = p ≡ Called leaf table c number said.RefusedFull
+IsReplyPiece leaf table c (told.NoMemory number) p = p ≡ Called leaf table c number said.RefusedMemory
+IsReplyPiece leaf table c told.Worn p = p ≡ Worn leaf table
+
+-- a caller's call of a leaf's table in that place, and its piece
+pub record CallStep (leaf table : ℕ) (c : Call) (tables : List Shared) (callers : List (Option SeatView)) (p : Piece) (callers' : List (Option SeatView)) : Type 0 where
+  pub shared : Shared
+  pub before : SeatView
+  pub after : SeatView
+  pub reply : Reply
+  pub at : slice_get tables table ≡ Some shared
+  pub was : slice_get callers table ≡ Some (Some before)
+  pub answered : Answered (base_seen shared) before c reply after
+  pub now : callers' ≡ slice_set callers table (Some after)
+  pub says : IsReplyPiece leaf table c reply p
+
+-- ---- notes, as they are told
+
+-- what a note's line says
+abbrev pub said_of_note : What → Said
+said_of_note (what.Opened writes) = said.Opened writes
+said_of_note (what.Took writes) = said.Took writes
+said_of_note (what.Flushed writes) = said.Flushed writes
+said_of_note (what.Closed writes) = said.Closed writes
+said_of_note what.Handed = said.Handed
+
+abbrev pub noted : Note → Noted
+noted n = record { table = n.table; number = n.number; said = said_of_note n.what }
+
+abbrev pub noted_all : List Note → List Noted
+noted_all notes = map noted notes
+
+-- ---- the steward's part of a command, by its notes and its ending
+
+-- the steward makes entries one after another, with these notes
+pub record Part (x : Seated) (notes : List Note) (y : Seated) : Type 0 where
+  pub from : ℕ
+  pub to : ℕ
+  pub made : Makes from to x notes y
+
+abbrev pub IsDownLeaf : Leaf → Type 0
+IsDownLeaf (IsDown x) = ⊤
+IsDownLeaf (IsUp x) = ⊥
+IsDownLeaf (IsPreparing x) = ⊥
+
+abbrev pub IsUpLeaf : Leaf → Type 0
+IsUpLeaf (IsDown x) = ⊥
+IsUpLeaf (IsUp x) = ⊤
+IsUpLeaf (IsPreparing x) = ⊥
+
+-- how a refused start is told
+abbrev pub ending_of : StartFault → Ending
+ending_of fault.RegionFault = ending.FaultRegion
+ending_of fault.DiskFault = ending.FaultDisk
+ending_of fault.DiskDamaged = ending.FaultDamaged
+ending_of (fault.Stranger name) = ending.FaultStranger name
+ending_of fault.NoMemory = ending.FaultMemory
+ending_of (fault.Worn table) = ending.FaultWorn table
+
+-- a start is refused for a worn seat only where that seat is worn
+abbrev pub IsWornFor : Seated → StartFault → Type 0
+IsWornFor x (fault.Worn table) = WornAt x table
+IsWornFor x fault.RegionFault = ⊤
+IsWornFor x fault.DiskFault = ⊤
+IsWornFor x fault.DiskDamaged = ⊤
+IsWornFor x (fault.Stranger name) = ⊤
+IsWornFor x fault.NoMemory = ⊤
+
+-- what a refused start leaves of the region: what it was for a worn seat, and else, unless the region failed, an open flag closed
+abbrev pub RegionRefused : StartFault → Meaning → Meaning → Type 0
+RegionRefused fault.RegionFault m m' = IsBroken m.held.region m'.held.region
+RegionRefused (fault.Worn table) m m' = m'.held.region ≡ m.held.region
+RegionRefused _ m m' = IsLeftBehind m.held.region m'.held.region
+
+-- a refused start, over a berth that tells its contents
+pub record RefusalTold (x : Seated) (m m' : Meaning) (f : StartFault) : Type 0 where
+  pub why : IsStartRefused x.names m m' f
+  pub region : RegionRefused f m m'
+  pub disk : BeginsScan (length m.held.disk) m.held.disk m'.held.disk
+
+-- a start that is not refused, over a berth that tells its contents
+pub record StartsTold (x : Seated) (m m' : Meaning) (s : Serving) (notes : List Note) (way : Way) : Type 0 where
+  pub came : CameUp x.names m m' notes s way
+  pub way_is : IsWayOf m.held.region way
+
+-- a start: each table is opened, or it is refused, or the leaf is not down
+pub data StartMoves (m m' : Meaning) (leaf : Leaf) (notes : List Note) (ends : Ending) (leaf' : Leaf) : Type 0 where
+  opened : (x : Seated) (s : Serving) (way : Way)
+      → leaf ≡ IsDown x
+      → s.owing.log.owed ≡ None
+      → EachNoted IsOpenedNote 0 (length x.tables) notes
+      → (IsTrue m.tells → StartsTold x m m' s notes way)
+      → ends ≡ ending.Started way
+      → leaf' ≡ IsUp s
+      → StartMoves m m' leaf notes ends leaf'
+  refused : (x : Seated) (f : StartFault)
+      → leaf ≡ IsDown x
+      → IsWornFor x f
+      → ((base : NamedStates) → IsTrue m.tells → AreFounded x → Stands base leaf m → f ≢ fault.DiskDamaged)
+      → (IsTrue m.tells → RefusalTold x m m' f)
+      → notes ≡ []
+      → ends ≡ ending_of f
+      → leaf' ≡ leaf
+      → StartMoves m m' leaf notes ends leaf'
+  not_down : (IsDownLeaf leaf → ⊥)
+      → notes ≡ []
+      → m'.held ≡ m.held
+      → ends ≡ ending.NotDown
+      → leaf' ≡ leaf
+      → StartMoves m m' leaf notes ends leaf'
+
+abbrev pub ending_of_flush : FlushReply → Ending
+ending_of_flush reply.Flushed = ending.Done
+ending_of_flush reply.DiskFault = ending.FaultDisk
+ending_of_flush reply.Worn = ending.Worn
+
+-- a flush of a leaf that is up, or of another
+pub data FlushMoves (table : ℕ) (m m' : Meaning) (leaf : Leaf) (notes : List Note) (ends : Ending) (leaf' : Leaf) : Type 0 where
+  flushed : (s s' : Serving) (r : FlushReply)
+      → leaf ≡ IsUp s
+      → flushing.Flushes table s s' notes r
+      → (IsTrue m.tells → m'.held.region ≡ m.held.region)
+      → ends ≡ ending_of_flush r
+      → leaf' ≡ IsUp s'
+      → FlushMoves table m m' leaf notes ends leaf'
+  not_up : (IsUpLeaf leaf → ⊥)
+      → notes ≡ []
+      → m'.held ≡ m.held
+      → ends ≡ ending.NotUp
+      → leaf' ≡ leaf
+      → FlushMoves table m m' leaf notes ends leaf'
+
+-- a kill closes each open table
+pub data KillMoves (m m' : Meaning) (leaf : Leaf) (notes : List Note) (ends : Ending) (leaf' : Leaf) : Type 0 where
+  up : (s : Serving) (y : Seated)
+      → leaf ≡ IsUp s
+      → EachNoted IsClosedNote 0 (length s.seated.tables) notes
+      → m'.held ≡ m.held
+      → ends ≡ ending.Done
+      → leaf' ≡ IsDown y
+      → KillMoves m m' leaf notes ends leaf'
+  preparing : (x : Shutting) (y : Seated) (count : ℕ)
+      → leaf ≡ IsPreparing x
+      → length x.closed + count ≡ length x.serving.seated.tables
+      → EachNoted IsClosedNote (length x.closed) count notes
+      → m'.held ≡ m.held
+      → ends ≡ ending.Done
+      → leaf' ≡ IsDown y
+      → KillMoves m m' leaf notes ends leaf'
+  not_up : IsDownLeaf leaf
+      → notes ≡ []
+      → m'.held ≡ m.held
+      → ends ≡ ending.NotUp
+      → leaf' ≡ leaf
+      → KillMoves m m' leaf notes ends leaf'
+
+-- ---- drains
+
+-- a leaf that begins to shut its tables, or goes on
+abbrev pub BeginsShutting : Leaf → Shutting → Type 0
+BeginsShutting (IsDown x) y = ⊥
+BeginsShutting (IsUp s) y = y ≡ begins s
+BeginsShutting (IsPreparing x) y = y ≡ x
+
+-- how far a drain has come: it shuts the tables, or all are treated and it has made so many of the steps that their copy takes
+pub data At : Type 0 where
+  Shuts : (x : Shutting) → At
+  Copies : (x : Shutting) (copy made : ℕ) → At
+
+-- the copy of its tables takes that many steps: the begin, a column at least for each that has rows, the directory, and the flag
+abbrev pub IsLongCopy : Shutting → ℕ → Type 0
+IsLongCopy x copy = 3 + columns_seen x.serving.seated.tables x.serving.seated.seats ≤ copy
+
+-- One step that neither ends the drain nor fails: one table more is treated; or all are, and their copy is planned; or a step of the copy is made.
+pub data MakesStep (s : At) (notes : List Note) (t : At) : Type 0 where
+  treats : (x y : Shutting)
+      → s ≡ Shuts x
+      → treated x < length x.serving.seated.tables
+      → Treats x y notes
+      → Part x.serving.seated notes y.serving.seated
+      → t ≡ Shuts y
+      → MakesStep s notes t
+  plans : (x : Shutting) (copy : ℕ)
+      → s ≡ Shuts x
+      → AllTreated x
+      → IsLongCopy x copy
+      → notes ≡ []
+      → t ≡ Copies x copy 0
+      → MakesStep s notes t
+  copies : (x : Shutting) (copy made : ℕ)
+      → s ≡ Copies x copy made
+      → suc made < copy
+      → notes ≡ []
+      → t ≡ Copies x copy (suc made)
+      → MakesStep s notes t
+
+-- so many of them
+pub data MakesSteps : ℕ → At → List Note → At → Type 0 where
+  none : (n : ℕ) (s : At) (notes : List Note) (t : At)
+      → n ≡ 0
+      → notes ≡ []
+      → t ≡ s
+      → MakesSteps n s notes t
+  more : (n : ℕ) (s : At) (notes : List Note) (t : At) (fewer : ℕ) (first others : List Note) (between : At)
+      → n ≡ suc fewer
+      → MakesStep s first between
+      → MakesSteps fewer between others t
+      → notes ≡ first ++ others
+      → MakesSteps n s notes t
+
+-- what the region is of a leaf that was killed behind so many steps of the copy: untouched, or begun and closed
+abbrev pub RegionStopped : ℕ → Meaning → Meaning → Type 0
+RegionStopped zero m m' = m'.held.region ≡ m.held.region
+RegionStopped (suc made) m m' = IsWayOf m'.held.region (Disk (why.Closed 0))
+
+-- A drain makes its steps until one is the last and each table is handed over; or the region fails, and the leaf is down; or the copy has no room; or there is no memory; or the disk
+-- fails; or it has made as many steps as it was to make, and the leaf is killed; or the leaf is down.
+pub data DrainMoves (m m' : Meaning) (leaf : Leaf) (stop : Option ℕ) (notes : List Note) (ends : Ending) (leaf' : Leaf) : Type 0 where
+  done : (x y : Shutting) (z : Seated) (treating handing : List Note) (n copy made : ℕ)
+      → BeginsShutting leaf x
+      → MakesSteps n (Shuts x) treating (Copies y copy made)
+      → suc made ≡ copy
+      → MayMake stop (suc n)
+      → Part y.serving.seated handing z
+      → EachNoted IsHandedNote 0 (length x.serving.seated.tables) handing
+      → notes ≡ treating ++ handing
+      → ((base : NamedStates) → IsTrue m.tells → AreFounded (seated_of leaf) → Stands base leaf m → IsWayOf m'.held.region Memory)
+      → ends ≡ ending.Done
+      → leaf' ≡ IsDown z
+      → DrainMoves m m' leaf stop notes ends leaf'
+  failed : (x y : Shutting) (n copy made : ℕ)
+      → BeginsShutting leaf x
+      → MakesSteps n (Shuts x) notes (Copies y copy made)
+      → MayMake stop (suc n)
+      → ends ≡ ending.FaultRegion
+      → leaf' ≡ IsDown y.serving.seated
+      → DrainMoves m m' leaf stop notes ends leaf'
+  roomless : (x y : Shutting) (n : ℕ)
+      → BeginsShutting leaf x
+      → MakesSteps n (Shuts x) notes (Shuts y)
+      → AllTreated y
+      → MayMake stop (suc n)
+      → (IsTrue m.tells → m'.held.region ≡ m.held.region)
+      → ends ≡ ending.FaultRoom
+      → leaf' ≡ IsPreparing y
+      → DrainMoves m m' leaf stop notes ends leaf'
+  starved : (x y z : Shutting) (treating starving : List Note) (n : ℕ)
+      → BeginsShutting leaf x
+      → MakesSteps n (Shuts x) treating (Shuts y)
+      → MayMake stop (suc n)
+      → Starves y z starving
+      → Part y.serving.seated starving z.serving.seated
+      → notes ≡ treating ++ starving
+      → (IsTrue m.tells → m'.held.region ≡ m.held.region)
+      → ends ≡ ending.FaultMemory
+      → leaf' ≡ IsPreparing z
+      → DrainMoves m m' leaf stop notes ends leaf'
+  halted : (x y z : Shutting) (treating halting : List Note) (n : ℕ)
+      → BeginsShutting leaf x
+      → MakesSteps n (Shuts x) treating (Shuts y)
+      → MayMake stop (suc n)
+      → treated y < length y.serving.seated.tables
+      → Halts y z halting
+      → notes ≡ treating ++ halting
+      → (IsTrue m.tells → m'.held.region ≡ m.held.region)
+      → ends ≡ ending.FaultDisk
+      → leaf' ≡ IsPreparing z
+      → DrainMoves m m' leaf stop notes ends leaf'
+  stopped : (x y : Shutting) (z : Seated) (treating closing : List Note) (n count : ℕ)
+      → BeginsShutting leaf x
+      → stop ≡ Some n
+      → MakesSteps n (Shuts x) treating (Shuts y)
+      → length y.closed + count ≡ length y.serving.seated.tables
+      → EachNoted IsClosedNote (length y.closed) count closing
+      → Part y.serving.seated closing z
+      → notes ≡ treating ++ closing
+      → (IsTrue m.tells → m'.held.region ≡ m.held.region)
+      → ((base : NamedStates) → IsTrue m.tells → AreFounded (seated_of leaf) → AreHandedNothing base → Stands base leaf m → ServingStands y.serving m')
+      → ends ≡ ending.Stopped
+      → leaf' ≡ IsDown z
+      → DrainMoves m m' leaf stop notes ends leaf'
+  stopped_copying : (x y : Shutting) (n copy made : ℕ)
+      → BeginsShutting leaf x
+      → stop ≡ Some n
+      → MakesSteps n (Shuts x) notes (Copies y copy made)
+      → ((base : NamedStates) → IsTrue m.tells → AreFounded (seated_of leaf) → Stands base leaf m → RegionStopped made m m')
+      → ends ≡ ending.Stopped
+      → leaf' ≡ IsDown y.serving.seated
+      → DrainMoves m m' leaf stop notes ends leaf'
+  not_up : IsDownLeaf leaf
+      → notes ≡ []
+      → m'.held ≡ m.held
+      → ends ≡ ending.NotUp
+      → leaf' ≡ leaf
+      → DrainMoves m m' leaf stop notes ends leaf'
+
+-- ---- deeds
+
+-- what a deed does to a leaf, with its notes and how it ended
+abbrev pub Moves : Deed → Meaning → Meaning → Leaf → List Note → Ending → Leaf → Type 0
+Moves Starts m m' leaf notes ends leaf' = StartMoves m m' leaf notes ends leaf'
+Moves (Flushes table) m m' leaf notes ends leaf' = FlushMoves table m m' leaf notes ends leaf'
+Moves (Drains stop) m m' leaf notes ends leaf' = DrainMoves m m' leaf stop notes ends leaf'
+Moves Kills m m' leaf notes ends leaf' = KillMoves m m' leaf notes ends leaf'
+
+-- a deed of the steward of the leaf with this number, between two meetings of all seats
+pub record DeedStep (number : ℕ) (deed : Deed) (m m' : Meaning) (leaf : Leaf) (callers : List (Option SeatView)) (p : Piece) (leaf' : Leaf) (callers' : List (Option SeatView)) : Type 0 where
+  pub met : Leaf
+  pub met_callers : List (Option SeatView)
+  pub moved : Leaf
+  pub notes : List Note
+  pub ends : Ending
+  pub first : MeetAll leaf callers met met_callers m
+  pub moves : Moves deed m m' met notes ends moved
+  pub carries : Carries met moved notes m m'
+  pub second : MeetAll moved met_callers leaf' callers' m'
+  pub piece_is : p ≡ Acted number deed (noted_all notes) ends

@@ -1,0 +1,120 @@
+-- Answers: they name leaves of the fleet and one of its tables, so they are over what is known of those.
+use Rattle.std.proofs.Common.{◌≡◌, ℕ, zero, suc, ◌+◌, ◌<◌, List, [], ◌∷◌, ◌++◌, length, inl, inr, refl, sym, ap, ap₂, subst, ◌∙◌, arith, Option}
+use Rattle.std.specs.List.{AllByRecursion, AllZip, range_with_len}
+use Rattle.std.proofs.lemmas.Grind.{flat_map-append}
+use Rattle.leaf_model.specs.declared.rows.Row.{Row}
+use Rattle.leaf_model.specs.declared.queries.Query.{Query}
+use Rattle.berth_face.specs.Berth.{Meaning}
+use Rattle.leaf_history.specs.Calls.{Call}
+use Rattle.leaf_history.specs.Calls as call
+use Rattle.leaf_history.specs.History.{Entry}
+use Rattle.script_text.specs.declared.command.Command.{Command}
+use Rattle.script_text.specs.declared.command.Command.TheVariants as command
+use Rattle.printed_lines.specs.declared.line.Said.{Said}
+use Rattle.printed_lines.specs.declared.line.Said.TheVariants.{Added, Removed, Asked, RefusedShut, RefusedFull, RefusedMemory, Opened, Took, Flushed, Closed, Handed}
+use Rattle.printed_lines.specs.declared.line.Line.TheVariants as line
+use Rattle.script_text.specs.declared.fleet.Fleet.{Fleet}
+use Rattle.script_text.specs.Commands.{leaf_count}
+use Rattle.transcript.specs.Pieces.{Piece, PlayedItem, Says, place_among}
+use Rattle.transcript.specs.Shapes.{CallPiece, Prints, QueryPieces, named, named_by, named_in}
+use Rattle.transcript.specs.Histories.{Ground}
+use Rattle.transcript.specs.Answers.{AnswerIs, Answers, partial, rows_before}
+use Rattle.transcript.specs.Transcript.{Known, grounds_of}
+use Rattle.leaf_moves.specs.Holds.{Hold, grounds_in}
+use Rattle.transcript_leaf.proofs.Leaf.{leaf_ground}
+use Rattle.transcript_leaf.proofs.Lists.{element_at}
+use Rattle.transcript_fleet.proofs.Lists.{All-append, All-weaken}
+use Rattle.transcript_fleet.proofs.Growing.{grounds_here}
+use Rattle.transcript_fleet.proofs.Going.{IsWithin, Leaves}
+
+-- ---- which leaves are named
+
+-- a leaf below so many, at a table below so many
+abbrev IsBelow : ℕ → ℕ → ℕ → ℕ × ℕ → Type 0
+IsBelow leaves table tables l = (l.0 < leaves) × (table < tables)
+
+said_named : (leaves leaf table tables number : ℕ) (said : Said) → leaf < leaves → table < tables → AllByRecursion (IsBelow leaves table tables) (named_by leaf number said)
+said_named leaves leaf table tables number Asked below within = ((below, within), tt)
+said_named leaves leaf table tables number (Added kept late) below within = tt
+said_named leaves leaf table tables number (Removed rows) below within = tt
+said_named leaves leaf table tables number RefusedShut below within = tt
+said_named leaves leaf table tables number RefusedFull below within = tt
+said_named leaves leaf table tables number RefusedMemory below within = tt
+said_named leaves leaf table tables number (Opened n) below within = tt
+said_named leaves leaf table tables number (Took n) below within = tt
+said_named leaves leaf table tables number (Flushed n) below within = tt
+said_named leaves leaf table tables number (Closed n) below within = tt
+said_named leaves leaf table tables number Handed below within = tt
+
+ask_named : (leaves leaf table tables : ℕ) (c : Call) (p : Piece) → leaf < leaves → CallPiece leaf table c p → IsWithin tables p
+    → AllByRecursion (IsBelow leaves table tables) (named_in p)
+ask_named leaves leaf table tables c p below (inl k) within =
+    subst (λ (q : Piece). AllByRecursion (IsBelow leaves table tables) (named_in q)) (sym k.2)
+    (said_named leaves leaf table tables k.0 k.1 below (subst (λ (q : Piece). IsWithin tables q) k.2 within))
+ask_named leaves leaf table tables c p below (inr is) within = subst (λ (q : Piece). AllByRecursion (IsBelow leaves table tables) (named_in q)) (sym is) tt
+
+asks_named : (leaves leaf count table tables : ℕ) (c : Call) (asks : List Piece) → leaf + count ≡ leaves
+    → AllZip (λ l piece. CallPiece l table c piece) (range_with_len leaf count) asks → AllByRecursion (IsWithin tables) asks
+    → AllByRecursion (IsBelow leaves table tables) (named asks)
+asks_named leaves leaf zero table tables c [] all is within = tt
+asks_named leaves leaf zero table tables c (p ∷ ps) all is within = absurd is
+asks_named leaves leaf (suc count) table tables c [] all is within = absurd is
+asks_named leaves leaf (suc count) table tables c (p ∷ ps) all is within =
+    All-append (IsBelow leaves table tables) (named_in p) (named ps)
+    (ask_named leaves leaf table tables c p (omega (arith, all)) is.0 within.0)
+    (asks_named leaves (leaf + 1) count table tables c ps (omega (arith, all)) is.1 within.1)
+
+All-front : {X : Type 0} (P : X → Type 0) (xs ys : List X) → AllByRecursion P (xs ++ ys) → AllByRecursion P xs
+All-front P [] ys h = tt
+All-front P (x ∷ xs) ys h = (h.0, All-front P xs ys h.1)
+
+from_none : (n : ℕ) → 0 + n ≡ n
+from_none n = omega arith
+
+query_named : (fleet : Fleet) (q : Query) (pieces : List Piece) → QueryPieces fleet q pieces → AllByRecursion (IsWithin (length fleet.names)) pieces
+    → AllByRecursion (IsBelow (leaf_count fleet) (place_among q.table fleet.names) (length fleet.names)) (named pieces)
+query_named fleet q pieces asked within =
+    let table : ℕ = place_among q.table fleet.names in
+    let tables : ℕ = length fleet.names in
+    let leaves : ℕ = leaf_count fleet in
+    let answer : List Piece = Says (line.Answer (length (named asked.asks)) (leaf_count fleet) asked.rows) ∷ [] in
+    let here : AllByRecursion (IsWithin tables) (asked.asks ++ answer) = subst (λ (ps : List Piece). AllByRecursion (IsWithin tables) ps) asked.are within in
+    let asks = asks_named leaves 0 leaves table tables (call.Ask q) asked.asks (from_none leaves) asked.each (All-front (IsWithin tables) asked.asks answer here) in
+    subst (λ (ps : List Piece). AllByRecursion (IsBelow leaves table tables) (named ps)) (sym asked.are)
+    (subst (λ (ls : List (ℕ × ℕ)). AllByRecursion (IsBelow leaves table tables) ls) (sym (flat_map-append named_in asked.asks answer))
+    (All-append (IsBelow leaves table tables) (named asked.asks) [] asks tt))
+
+-- ---- what they are over
+
+partial_same : (f g : ℕ → Ground) (histories : ℕ → List Entry) (leaves : List (ℕ × ℕ)) → AllByRecursion (λ (l : ℕ × ℕ). f l.0 ≡ g l.0) leaves → partial f histories leaves ≡ partial g histories leaves
+partial_same f g histories [] same = refl
+partial_same f g histories (l ∷ ls) same =
+    ap₂ (λ (xs ys : List Row). xs ++ ys) (ap (λ (x : Ground). rows_before x (histories l.0) l.1) same.0) (partial_same f g histories ls same.1)
+
+module _ {B : Type 0} (meaning : B → Meaning) (fleet : Fleet) (known : ℕ → Option Known) (olds : List B) (before : List Piece) (start : ℕ → ℕ → List Entry)
+    (items : List PlayedItem) (pieces : List Piece) (ys : List (Hold B)) (now : Leaves meaning fleet known olds before start items ys) where
+  -- the leaves' tables began from what is known of them
+  ground_is : (leaf table : ℕ) → leaf < leaf_count fleet → table < length fleet.names → grounds_in ys leaf table ≡ grounds_of fleet known leaf table
+  ground_is leaf table below within =
+      let old = element_at olds leaf (subst (λ (n : ℕ). leaf < n) (sym now.counts.0) below) in
+      let y = element_at ys leaf (subst (λ (n : ℕ). leaf < n) (sym now.counts.1) below) in
+      grounds_here ys leaf y.0 table y.1
+      ∙ leaf_ground meaning leaf fleet.names (known leaf) (meaning old.0) before (start leaf) items y.0 (now.each leaf old.0 y.0 old.1 y.1) table within
+
+  pub answers_known : (c : Command) (histories : ℕ → ℕ → List Entry) → Prints fleet c pieces → AllByRecursion (IsWithin (length fleet.names)) pieces
+      → Answers fleet (grounds_in ys) histories (record { command = c; pieces = pieces }) → Answers fleet (grounds_of fleet known) histories (record { command = c; pieces = pieces })
+  answers_known (command.Query q) histories prints within answers =
+      let table : ℕ = place_among q.table fleet.names in
+      let same = partial_same (λ leaf. grounds_in ys leaf table) (λ leaf. grounds_of fleet known leaf table) (λ leaf. histories leaf table) (named pieces)
+      (All-weaken (IsBelow (leaf_count fleet) table (length fleet.names)) (λ (l : ℕ × ℕ). grounds_in ys l.0 table ≡ grounds_of fleet known l.0 table)
+      (λ l is. ground_is l.0 table is.0 is.1) (named pieces) (query_named fleet q pieces prints within)) in
+      subst (λ (rows : List Row). AllByRecursion (AnswerIs q rows) pieces) same answers
+  answers_known (command.Fleet machines per_machine tables) histories prints within answers = tt
+  answers_known (command.Add leaf table rows) histories prints within answers = tt
+  answers_known (command.Expire leaf table horizon) histories prints within answers = tt
+  answers_known (command.Keep leaf table n) histories prints within answers = tt
+  answers_known (command.Flush leaf table) histories prints within answers = tt
+  answers_known (command.Drain leaf stop) histories prints within answers = tt
+  answers_known (command.Kill leaf) histories prints within answers = tt
+  answers_known (command.Start leaf) histories prints within answers = tt
+  answers_known (command.Rollover percent) histories prints within answers = tt

@@ -1,0 +1,65 @@
+-- Laws of runs, as statements.
+use Rattle.std.specs.Prelude.{◌≡◌, ℕ, ◌<◌, List, [], ◌∷◌, ◌++◌, length, map, Option, Some, None, slice_get}
+use Rattle.berth_face.specs.Berth.{Meaning}
+use Rattle.region_layout.specs.Names.{AreNames}
+use Rattle.crash_moments.specs.Left.{NamedStates}
+use Rattle.script_text.specs.declared.item.Item.{Item}
+use Rattle.script_text.specs.declared.item.Item.TheVariants as item
+use Rattle.script_text.specs.declared.command.Command.{Command}
+use Rattle.printed_lines.specs.Lines.{lines_text}
+use Rattle.script_text.specs.declared.fleet.Fleet.{Fleet}
+use Rattle.script_text.specs.Commands.{leaf_count}
+use Rattle.transcript.specs.Pieces.{PlayedItem, all_lines, all_pieces, item_of}
+use Rattle.transcript.specs.Strangers.{IsNamedBy, Strangers}
+use Rattle.transcript.specs.Transcript.{Known, Transcript}
+use Rattle.transcript.specs.Moments.{MomentsRise, notes_told}
+use Rattle.transcript.specs.Leaving.{LeavesBerth}
+use Rattle.leaf_moves.specs.Stage.{Leaf}
+use Rattle.leaf_moves.specs.Holds.{Hold, HasMet}
+use Rattle.leaf_moves.specs.Plays.{MayPlay}
+use Rattle.leaf_moves.specs.Lanes.{PlaysItem}
+use Rattle.std.specs.List.{AllByRecursion}
+use Rattle.transcript_leaf.specs.Session.{IsNewHold}
+use Rattle.transcript_fleet.specs.Session.{Session}
+
+-- what is held of a leaf with its berth
+abbrev pub berth_in : {B : Type 0} → Hold B → Option B
+berth_in {B} x = by x.held
+  where
+    by : Option (Leaf × B) → Option B
+    by None = None
+    by (Some l) = Some l.1
+
+-- a run begins over any berths
+abbrev pub SessionsBegin : {B : Type 0} → (B → Meaning) → List B → Type 0
+SessionsBegin {B} meaning berths = (fleet : Fleet) (base : ℕ → Option NamedStates) (known : ℕ → Option Known) (xs : List (Hold B))
+    → AreNames fleet.names → length xs ≡ leaf_count fleet → map Some berths ≡ map (λ (x : Hold B). berth_in x) xs
+    → ((leaf : ℕ) (x : Hold B) → slice_get xs leaf ≡ Some x → IsNewHold meaning fleet.names (base leaf) (known leaf) x)
+    → Session meaning fleet known berths [] xs
+
+-- the commands of an item may be played
+abbrev pub MayPlayItem : Fleet → Item → Type 0
+MayPlayItem fleet (item.One c) = MayPlay fleet c
+MayPlayItem fleet (item.Burst lanes) = AllByRecursion (λ (lane : List Command). AllByRecursion (MayPlay fleet) lane) lanes
+
+-- it goes on by what one item does
+abbrev pub SessionsGoOn : {B : Type 0} → (B → Meaning) → List B → Type 0
+SessionsGoOn {B} meaning olds = (fleet : Fleet) (known : ℕ → Option Known) (items : List PlayedItem) (xs ys : List (Hold B)) (x : PlayedItem)
+    → MayPlayItem fleet (item_of x) → Session meaning fleet known olds items xs → PlaysItem meaning fleet xs x ys
+    → Session meaning fleet known olds (items ++ x ∷ []) ys
+
+-- what these items are, over leaves whose berths were and are these
+pub record IsToldFleet {B : Type 0} (meaning : B → Meaning) (fleet : Fleet) (known : ℕ → Option Known) (items : List PlayedItem) (olds : List B) (xs : List (Hold B)) : Type 0 where
+  pub transcript : Transcript fleet known (map item_of items) (lines_text fleet.names (all_lines items))
+  pub played_is : transcript.played ≡ items
+  pub strangers : (leaf : ℕ) (k : Known) → leaf < leaf_count fleet → known leaf ≡ Some k → Strangers (IsNamedBy fleet.names k.held) leaf (all_pieces items)
+  pub leaves : (leaf : ℕ) (k : Known) (old new : B) (x : Hold B) → known leaf ≡ Some k → slice_get olds leaf ≡ Some old → slice_get xs leaf ≡ Some x → berth_in x ≡ Some new
+      → LeavesBerth fleet.names k.base (transcript.lives leaf) (transcript.histories leaf) (meaning old) (meaning new)
+  pub moments : (leaf : ℕ) (old new : B) (x : Hold B) → slice_get olds leaf ≡ Some old → slice_get xs leaf ≡ Some x → berth_in x ≡ Some new
+      → MomentsRise (transcript.histories leaf) (meaning old).clock (notes_told leaf (all_pieces items)) (meaning new).clock
+
+-- once all seats have met again, a run is a transcript
+abbrev pub SessionsEnd : {B : Type 0} → (B → Meaning) → List B → Type 0
+SessionsEnd {B} meaning olds = (fleet : Fleet) (known : ℕ → Option Known) (items : List PlayedItem) (xs : List (Hold B))
+    → Session meaning fleet known olds items xs → ((leaf : ℕ) (x : Hold B) → slice_get xs leaf ≡ Some x → HasMet meaning x)
+    → IsToldFleet meaning fleet known items olds xs

@@ -1,0 +1,350 @@
+-- The life behind a deed, by what it does to a leaf: starts, flushes and kills.
+use Rattle.std.proofs.Common.{◌≡◌, ℕ, suc, ◌+◌, Bool, true, false, List, [], ◌∷◌, length, map, refl, sym, ap, subst, ◌∙◌, arith, Option, Some, None}
+use Rattle.std.specs.Prelude.{◌≢◌, IfSome, IsSome, IsTrue, is_some, option_map, ⊤}
+use Rattle.row_records.specs.Records.{LogRecord}
+use Rattle.berth_face.specs.Berth.{Meaning}
+use Rattle.adopt.specs.Adopting.{IsLeftBehind}
+use Rattle.leaf_opening.specs.declared.ways.Way.{Way}
+use Rattle.leaf_opening.specs.Starts.{IsWayOf, way_after}
+use Rattle.printed_lines.specs.declared.line.Said.TheVariants as said
+use Rattle.printed_lines.specs.declared.line.Ending.{Ending}
+use Rattle.printed_lines.specs.declared.line.Ending.TheVariants as ending
+use Rattle.crash_moments.specs.Left.{NamedStates}
+use Rattle.leaf_steward.specs.declared.notes.Note.{Note}
+use Rattle.leaf_steward.specs.declared.notes.What.{What}
+use Rattle.leaf_steward.specs.declared.notes.What.TheVariants as what
+use Rattle.leaf_steward.specs.Seated.{Seated, AreFounded}
+use Rattle.leaf_steward.specs.Making.{EachNoted, IsClosedNote}
+use Rattle.leaf_machine.specs.declared.faults.StartFault.{StartFault}
+use Rattle.leaf_machine.specs.declared.faults.StartFault.TheVariants as fault
+use Rattle.leaf_machine.specs.declared.up.FlushReply.{FlushReply}
+use Rattle.leaf_machine.specs.States.{Serving}
+use Rattle.leaf_machine.specs.Starts.{IsOpenedNote}
+use Rattle.leaf_machine.specs.Flushes.{OwedNotes}
+use Rattle.leaf_machine.specs.Flushes as flushing
+use Rattle.transcript.specs.Pieces.{Deed, Starts, Flushes, Drains, Kills}
+use Rattle.transcript.specs.Life.{Life, Mode, Down, Up, Notes, Owed, Progress, BeginsAt, IsStartRefusal, claimed, durable_after, durable_by, durable_with, failed, first_open, on, way_refused}
+use Rattle.transcript.specs.Life as lives
+use Rattle.transcript.specs.Counts.{is_disk_fault}
+use Rattle.transcript.specs.Transcript.{Known}
+use Rattle.leaf_moves.specs.Stage.{Leaf, IsDown, IsUp, Stands, seated_of}
+use Rattle.leaf_moves.specs.Steps.{FlushMoves, KillMoves, Moves, RefusalTold, RegionRefused, StartMoves, StartsTold, ending_of, ending_of_flush, noted_all, said_of_note}
+use Rattle.leaf_moves.specs.Steps as steps
+use Rattle.transcript_leaf.specs.Session.{AreGrounded, AreInPlace, FitsMode, FitsNext, IsOwedAs, StandsKnown}
+use Rattle.transcript_leaf.specs.Acting.{FitsWay, Lived}
+use Rattle.transcript_leaf.specs.Acting as acting
+use Rattle.transcript_leaf.proofs.Lists.{clash_bool}
+use Rattle.transcript_leaf.proofs.Ways.{same_way, way_left}
+use Rattle.transcript_leaf.proofs.Modes.{as_many, counts_stay, down_mode, founded_known, not_resting, not_serving, preparing_mode, resting_mode, same_held, up_mode, way_stays, where_known}
+use Rattle.transcript_leaf.proofs.NoteLines.{closed_noted, noted_none, noted_split, opened_noted, owed_noted}
+use Rattle.transcript_leaf.proofs.CountingNotes.{AreStewards}
+use Rattle.transcript_leaf.proofs.Handing.{hands_nothing}
+use Rattle.transcript_leaf.proofs.Drains.{drain_lives}
+
+-- what a life's counts say of a start that opens
+abbrev pub OpensCounts : Option Known → Life → Meaning → Meaning → Leaf → List Note → Type 0
+OpensCounts None life m m' leaf notes = ⊤
+OpensCounts (Some k) life m m' leaf notes = IfSome life.durable (λ (counts : List ℕ). (x : Seated) (s : Serving) (way : Way) → leaf ≡ IsDown x → StartsTold x m m' s notes way
+    → (length counts ≡ length x.tables) × Notes 0 (map said.Opened counts) (noted_all notes))
+
+-- ---- a start that opens
+
+abbrev opened_life : Bool → Way → List ℕ → Life
+opened_life told way counts = record { mode = Up None; way = claimed told (way_after way); durable = claimed told counts; begun = true }
+
+-- the counts that it opens with: those that are claimed, where any are
+record Opening (known : Option (List ℕ)) (tables : ℕ) (notes : List Note) : Type 0 where
+  counts : List ℕ
+  claimed_are : IfSome known (λ (cs : List ℕ). counts ≡ cs)
+  size : length counts ≡ tables
+  told : Notes 0 (map said.Opened counts) (noted_all notes)
+
+opening : (known : Option (List ℕ)) (tables : ℕ) (notes : List Note) → IfSome known (λ (cs : List ℕ). (length cs ≡ tables) × Notes 0 (map said.Opened cs) (noted_all notes))
+    → EachNoted IsOpenedNote 0 tables notes → Opening known tables notes
+opening None tables notes is each =
+    let c = opened_noted 0 tables notes each in
+    record { counts = c.0; claimed_are = tt; size = c.1; told = c.2 }
+opening (Some cs) tables notes is each = record { counts = cs; claimed_are = refl; size = is.0; told = is.1 }
+
+counts_opened : (known : Option Known) (life : Life) (m m' : Meaning) (leaf : Leaf) (x : Seated) (s : Serving) (notes : List Note) (way : Way)
+    → FitsNext known life leaf m → OpensCounts known life m m' leaf notes → leaf ≡ IsDown x → IfSome known (λ (k : Known). StartsTold x m m' s notes way)
+    → IfSome life.durable (λ (cs : List ℕ). (length cs ≡ length x.tables) × Notes 0 (map said.Opened cs) (noted_all notes))
+counts_opened None life m m' leaf x s notes way fits opens is told =
+    subst (λ (d : Option (List ℕ)). IfSome d (λ (cs : List ℕ). (length cs ≡ length x.tables) × Notes 0 (map said.Opened cs) (noted_all notes))) (sym fits.1) tt
+counts_opened (Some k) life m m' leaf x s notes way fits opens is told = by life.durable opens
+  where
+    by : (d : Option (List ℕ)) → IfSome d (λ (counts : List ℕ). (y : Seated) (t : Serving) (v : Way) → leaf ≡ IsDown y → StartsTold y m m' t notes v
+        → (length counts ≡ length y.tables) × Notes 0 (map said.Opened counts) (noted_all notes))
+        → IfSome d (λ (cs : List ℕ). (length cs ≡ length x.tables) × Notes 0 (map said.Opened cs) (noted_all notes))
+    by None h = tt
+    by (Some cs) h = h x s way is told
+
+way_claimed : (claim : Option Way) (region : List ℕ) (way : Way) → IsWayOf region way → IfSome claim (IsWayOf region) → IfSome claim (λ (v : Way). way ≡ v)
+way_claimed None region way is h = tt
+way_claimed (Some v) region way is h = same_way region way v is h
+
+way_opens : (known : Option Known) (life : Life) (m m' : Meaning) (leaf : Leaf) (x : Seated) (s : Serving) (notes : List Note) (way : Way)
+    → FitsNext known life leaf m → IfSome known (λ (k : Known). StartsTold x m m' s notes way) → IfSome life.way (λ (v : Way). way ≡ v)
+way_opens None life m m' leaf x s notes way fits told = subst (λ (w : Option Way). IfSome w (λ (v : Way). way ≡ v)) (sym fits.0) tt
+way_opens (Some k) life m m' leaf x s notes way fits told = way_claimed life.way m.held.region way told.way_is fits.0
+
+-- the way of the next start
+way_opened : (known : Option Known) (m m' : Meaning) (x : Seated) (s : Serving) (notes : List Note) (way : Way) (counts : List ℕ)
+    → IfSome known (λ (k : Known). StartsTold x m m' s notes way) → FitsWay known (opened_life (is_some known) way counts) m'
+way_opened None m m' x s notes way counts told = refl
+way_opened (Some k) m m' x s notes way counts told = way_left m.held.region m'.held.region way told.came.started.region told.way_is
+
+start_opened : (known : Option Known) (tables : ℕ) (life : Life) (m m' : Meaning) (leaf : Leaf) (x : Seated) (s : Serving) (notes : List Note) (way : Way) (ends : Ending) (leaf' : Leaf)
+    → length x.tables ≡ tables → FitsMode life.mode (IsDown x) → FitsNext known life leaf m → OpensCounts known life m m' leaf notes → leaf ≡ IsDown x
+    → s.owing.log.owed ≡ None → EachNoted IsOpenedNote 0 (length x.tables) notes → IfSome known (λ (k : Known). StartsTold x m m' s notes way)
+    → ends ≡ ending.Started way → leaf' ≡ IsUp s
+    → Lived known tables Starts life (noted_all notes) ends leaf' m'
+start_opened known tables life m m' leaf x s notes way ends leaf' size mode fits opens is none each told ends_are now =
+    let o = opening life.durable (length x.tables) notes (counts_opened known life m m' leaf x s notes way fits opens is told) each in record {
+      next = opened_life (is_some known) way o.counts;
+      hands = hands_nothing leaf';
+      does = λ least few. lives.opens way o.counts (down_mode life.mode x mode) (way_opens known life m m' leaf x s notes way fits told) o.claimed_are (o.size ∙ size) o.told ends_are refl;
+      counts = acting.opened way o.counts ends_are o.told refl;
+      mode = subst (λ (l : Leaf). FitsMode (Up None) l) (sym now) none;
+      way = way_opened known m m' x s notes way o.counts told;
+    }
+
+-- ---- a start that is refused
+
+refusal : (told : Bool) (f : StartFault) → (told ≡ true → f ≢ fault.DiskDamaged) → IsStartRefusal told (ending_of f)
+refusal told fault.RegionFault not = tt
+refusal told fault.DiskFault not = tt
+refusal told fault.DiskDamaged not = by told not
+  where
+    by : (b : Bool) → (b ≡ true → fault.DiskDamaged ≢ fault.DiskDamaged) → b ≡ false
+    by true h = absurd (h refl refl)
+    by false h = refl
+refusal told (fault.Stranger name) not = tt
+refusal told fault.NoMemory not = tt
+refusal told (fault.Worn table) not = tt
+
+undamaged : (names : List (List ℕ)) (known : Option Known) (m : Meaning) (leaf : Leaf) (x : Seated) (f : StartFault)
+    → AreInPlace names (seated_of leaf) → AreGrounded known (seated_of leaf) → IfSome known (λ (k : Known). StandsKnown k leaf m) → leaf ≡ IsDown x
+    → ((base : NamedStates) → IsTrue m.tells → AreFounded x → Stands base leaf m → f ≢ fault.DiskDamaged)
+    → is_some known ≡ true → f ≢ fault.DiskDamaged
+undamaged names None m leaf x f in_place grounded stands is sound e = absurd (clash_bool false e refl)
+undamaged names (Some k) m leaf x f in_place grounded stands is sound e =
+    sound k.base stands.tells (subst (λ (l : Leaf). AreFounded (seated_of l)) is (founded_known names k (seated_of leaf) in_place grounded)) stands.stands
+
+left_way : (way : Option Way) (m m' : Meaning) → IsLeftBehind m.held.region m'.held.region → IfSome way (IsWayOf m.held.region)
+    → IfSome (option_map way_after way) (IsWayOf m'.held.region)
+left_way None m m' e h = tt
+left_way (Some w) m m' e h = way_left m.held.region m'.held.region w e h
+
+refused_way : (f : StartFault) (way : Option Way) (m m' : Meaning) → RegionRefused f m m' → IfSome way (IsWayOf m.held.region)
+    → IfSome (way_refused (ending_of f) way) (IsWayOf m'.held.region)
+refused_way fault.RegionFault way m m' e h = tt
+refused_way fault.DiskFault way m m' e h = left_way way m m' e h
+refused_way fault.DiskDamaged way m m' e h = left_way way m m' e h
+refused_way (fault.Stranger name) way m m' e h = left_way way m m' e h
+refused_way fault.NoMemory way m m' e h = left_way way m m' e h
+refused_way (fault.Worn table) way m m' e h = subst (λ (region : List ℕ). IfSome way (IsWayOf region)) (sym e) h
+
+-- where nothing is claimed of it, nothing is
+refused_unknown : (f : StartFault) → way_refused (ending_of f) None ≡ None
+refused_unknown fault.RegionFault = refl
+refused_unknown fault.DiskFault = refl
+refused_unknown fault.DiskDamaged = refl
+refused_unknown (fault.Stranger name) = refl
+refused_unknown fault.NoMemory = refl
+refused_unknown (fault.Worn table) = refl
+
+abbrev refused_life : Life → StartFault → Life
+refused_life life f = on life Down (way_refused (ending_of f) life.way) []
+
+way_refuses : (known : Option Known) (life : Life) (m m' : Meaning) (leaf : Leaf) (x : Seated) (f : StartFault)
+    → FitsNext known life leaf m → IfSome known (λ (k : Known). RefusalTold x m m' f) → FitsWay known (refused_life life f) m'
+way_refuses None life m m' leaf x f fits told = ap (λ (w : Option Way). way_refused (ending_of f) w) fits.0 ∙ refused_unknown f
+way_refuses (Some k) life m m' leaf x f fits told = refused_way f life.way m m' told.region fits.0
+
+-- ---- starts
+
+pub start_lives : (names : List (List ℕ)) (known : Option Known) (life : Life) (m m' : Meaning) (leaf : Leaf) (notes : List Note) (ends : Ending) (leaf' : Leaf)
+    → AreInPlace names (seated_of leaf) → AreGrounded known (seated_of leaf) → IfSome known (λ (k : Known). StandsKnown k leaf m)
+    → FitsMode life.mode leaf → FitsNext known life leaf m → OpensCounts known life m m' leaf notes
+    → StartMoves m m' leaf notes ends leaf' → Lived known (length names) Starts life (noted_all notes) ends leaf' m'
+start_lives names known life m m' leaf notes ends leaf' in_place grounded stands mode fits opens (steps.opened x s way is none each told ends_are now) =
+    start_opened known (length names) life m m' leaf x s notes way ends leaf'
+    (ap (λ (l : Leaf). length (seated_of l).tables) (sym is) ∙ as_many names (seated_of leaf) in_place)
+    (subst (λ (l : Leaf). FitsMode life.mode l) is mode) fits opens is none each (where_known known leaf m (StartsTold x m m' s notes way) stands told) ends_are now
+start_lives names known life m m' leaf notes ends leaf' in_place grounded stands mode fits opens (steps.refused x f is worn sound told notes_are ends_are same) = record {
+  next = refused_life life f;
+  hands = hands_nothing leaf';
+  does = λ least few. lives.refuses (down_mode life.mode x (subst (λ (l : Leaf). FitsMode life.mode l) is mode))
+      (subst (λ (e : Ending). IsStartRefusal (is_some known) e) (sym ends_are) (refusal (is_some known) f (undamaged names known m leaf x f in_place grounded stands is sound)))
+      (noted_none notes notes_are)
+      (ap (λ (e : Ending). on life Down (way_refused e life.way) []) (sym ends_are));
+  counts = acting.keeps refl (ap (λ (ns : List Note). durable_with life.durable (noted_all ns)) (sym notes_are));
+  mode = subst (λ (l : Leaf). FitsMode Down l) (sym (same ∙ is)) tt;
+  way = way_refuses known life m m' leaf x f fits (where_known known leaf m (RefusalTold x m m' f) stands told);
+}
+start_lives names known life m m' leaf notes ends leaf' in_place grounded stands mode fits opens (steps.not_down not notes_are same ends_are now) = record {
+  next = life;
+  hands = hands_nothing leaf';
+  does = λ least few. lives.not_down (not_resting leaf life.mode mode not) (noted_none notes notes_are) ends_are refl;
+  counts = acting.keeps refl (counts_stay life.durable notes notes_are);
+  mode = subst (λ (l : Leaf). FitsMode life.mode l) (sym now) mode;
+  way = way_stays known life life leaf m m' refl fits (same_held known leaf m m' stands same);
+}
+
+-- ---- flushes
+
+-- the notes of one that takes its table
+abbrev taken : ℕ → ℕ → ℕ → List Note
+taken table number n = record { table = table; number = number; what = what.Took n } ∷ []
+
+abbrev taken_and_flushed : ℕ → ℕ → ℕ → ℕ → List Note
+taken_and_flushed table number later n = record { table = table; number = number; what = what.Took n } ∷ record { table = table; number = later; what = what.Flushed n } ∷ []
+
+record_there : (o : Option LogRecord) → IsSome o → (r : LogRecord) × (o ≡ Some r)
+record_there None h = absurd (clash_bool false h refl)
+record_there (Some r) h = (r, refl)
+
+-- where a record is owed, so it is told
+owed_told : (owed : Option Owed) (s : Serving) → IsOwedAs owed s.owing → IsSome s.owing.log.owed → (o : Owed) × (owed ≡ Some o)
+owed_told None s owes some =
+    let there = record_there s.owing.log.owed some in
+    absurd (clash there.0 s.owing.log.owed there.1 owes)
+  where
+    clash : (r : LogRecord) (o : Option LogRecord) → o ≡ Some r → o ≡ None → ⊥
+    clash r o e g = cc
+owed_told (Some o) s owes some = (o, refl)
+
+up_flushed : (known : Option Known) (tables table : ℕ) (life : Life) (m m' : Meaning) (leaf : Leaf) (owed : Option Owed) (s s' : Serving) (notes : List Note) (r : FlushReply) (ends : Ending) (leaf' : Leaf)
+    → life.mode ≡ Up owed → IsOwedAs owed s.owing → FitsNext known life leaf m → IfSome known (λ (k : Known). m'.held.region ≡ m.held.region)
+    → ends ≡ ending_of_flush r → leaf' ≡ IsUp s' → flushing.Flushes table s s' notes r
+    → Lived known tables (Flushes table) life (noted_all notes) ends leaf' m'
+up_flushed known tables table life m m' leaf owed s s' notes r ends leaf' mode owes fits same ends_are now (flushing.done first taking flushed n noted notes_are reply_is none) =
+    let is : ends ≡ ending.Done = ends_are ∙ ap (λ (q : FlushReply). ending_of_flush q) reply_is in record {
+      next = on life (Up None) life.way (noted_all notes);
+      hands = hands_nothing leaf';
+      does = λ least few. lives.done owed (noted_all first) (noted_all (taken_and_flushed table taking flushed n)) n mode (owed_noted owed s.owing first owes noted) (taking, flushed, refl)
+          (noted_split notes first (taken_and_flushed table taking flushed n) notes_are) is refl;
+      counts = acting.keeps (ap (λ (e : Ending). is_disk_fault e) is) refl;
+      mode = subst (λ (l : Leaf). FitsMode (Up None) l) (sym now) none;
+      way = way_stays known life (on life (Up None) life.way (noted_all notes)) leaf m m' refl fits same;
+    }
+up_flushed known tables table life m m' leaf owed s s' notes r ends leaf' mode owes fits same ends_are now (flushing.half first taking n noted notes_are reply_is some owner_is count_is) =
+    let there = record_there s'.owing.log.owed some in
+    let left : Mode = Up (Some (record { table = table; count = n })) in record {
+      next = failed life left;
+      hands = hands_nothing leaf';
+      does = λ least few. lives.half owed (noted_all first) (noted_all (taken table taking n)) n mode (owed_noted owed s.owing first owes noted) (taking, refl)
+          (noted_split notes first (taken table taking n) notes_are) (ends_are ∙ ap (λ (q : FlushReply). ending_of_flush q) reply_is) refl;
+      counts = acting.lost refl;
+      mode = subst (λ (l : Leaf). FitsMode left l) (sym now) (there.0, there.1, owner_is, count_is);
+      way = way_stays known life (failed life left) leaf m m' refl fits same;
+    }
+up_flushed known tables table life m m' leaf owed s s' notes r ends leaf' mode owes fits same ends_are now (flushing.worn first noted notes_are reply_is worn none) =
+    let is : ends ≡ ending.Worn = ends_are ∙ ap (λ (q : FlushReply). ending_of_flush q) reply_is in record {
+      next = on life (Up None) life.way (noted_all notes);
+      hands = hands_nothing leaf';
+      does = λ least few. lives.worn owed mode (owed_noted owed s.owing notes owes (subst (λ (ns : List Note). OwedNotes s.owing.log.owed s.owing ns) (sym notes_are) noted)) is refl;
+      counts = acting.keeps (ap (λ (e : Ending). is_disk_fault e) is) refl;
+      mode = subst (λ (l : Leaf). FitsMode (Up None) l) (sym now) none;
+      way = way_stays known life (on life (Up None) life.way (noted_all notes)) leaf m m' refl fits same;
+    }
+up_flushed known tables table life m m' leaf owed s s' notes r ends leaf' mode owes fits same ends_are now (flushing.stuck notes_are reply_is some seated owed_is owner_is count_is) =
+    let told = owed_told owed s owes some in
+    let still : IsOwedAs (Some told.0) s.owing = subst (λ (o : Option Owed). IsOwedAs o s.owing) told.1 owes in record {
+      next = failed life (Up (Some told.0));
+      hands = hands_nothing leaf';
+      does = λ least few. lives.stuck told.0 (mode ∙ ap (λ (o : Option Owed). Up o) told.1) (noted_none notes notes_are) (ends_are ∙ ap (λ (q : FlushReply). ending_of_flush q) reply_is) refl;
+      counts = acting.lost refl;
+      mode = subst (λ (l : Leaf). FitsMode (Up (Some told.0)) l) (sym now) (still.0, owed_is ∙ still.1, owner_is ∙ still.2, count_is ∙ still.3);
+      way = way_stays known life (failed life (Up (Some told.0))) leaf m m' refl fits same;
+    }
+
+pub flush_lives : (known : Option Known) (tables table : ℕ) (life : Life) (m m' : Meaning) (leaf : Leaf) (notes : List Note) (ends : Ending) (leaf' : Leaf)
+    → IfSome known (λ (k : Known). StandsKnown k leaf m) → FitsMode life.mode leaf → FitsNext known life leaf m
+    → FlushMoves table m m' leaf notes ends leaf' → Lived known tables (Flushes table) life (noted_all notes) ends leaf' m'
+flush_lives known tables table life m m' leaf notes ends leaf' stands mode fits (steps.flushed s s' r is flushes region ends_are now) =
+    let u = up_mode life.mode s (subst (λ (l : Leaf). FitsMode life.mode l) is mode) in
+    up_flushed known tables table life m m' leaf u.0 s s' notes r ends leaf' u.1 u.2 fits (where_known known leaf m (m'.held.region ≡ m.held.region) stands region) ends_are now flushes
+flush_lives known tables table life m m' leaf notes ends leaf' stands mode fits (steps.not_up not notes_are same ends_are now) = record {
+  next = life;
+  hands = hands_nothing leaf';
+  does = λ least few. lives.not_up (not_serving leaf life.mode mode not) (noted_none notes notes_are) ends_are refl;
+  counts = acting.keeps (ap (λ (e : Ending). is_disk_fault e) ends_are) (counts_stay life.durable notes notes_are);
+  mode = subst (λ (l : Leaf). FitsMode life.mode l) (sym now) mode;
+  way = way_stays known life life leaf m m' refl fits (same_held known leaf m m' stands same);
+}
+
+-- ---- kills
+
+one_closed : (counts : List ℕ) (table : ℕ) (w : What) → IsClosedNote w → durable_by counts table (said_of_note w) ≡ counts
+one_closed counts table (what.Opened n) h = absurd h
+one_closed counts table (what.Took n) h = absurd h
+one_closed counts table (what.Flushed n) h = absurd h
+one_closed counts table (what.Closed n) h = refl
+one_closed counts table what.Handed h = absurd h
+
+all_closed : (counts : List ℕ) (place count : ℕ) (notes : List Note) → EachNoted IsClosedNote place count notes → durable_after counts (noted_all notes) ≡ counts
+all_closed counts place count [] h = refl
+all_closed counts place count (n ∷ ns) h =
+    ap (λ (cs : List ℕ). durable_after cs (noted_all ns)) (one_closed counts n.table n.what h.3) ∙ all_closed counts (suc place) h.0 ns h.4
+
+-- closing a table changes none of the counts
+counts_closed : (counts : Option (List ℕ)) (place count : ℕ) (notes : List Note) → EachNoted IsClosedNote place count notes → durable_with counts [] ≡ durable_with counts (noted_all notes)
+counts_closed None place count notes h = refl
+counts_closed (Some cs) place count notes h = ap (λ (ds : List ℕ). Some ds) (sym (all_closed cs place count notes h))
+
+-- each table that is open is closed
+killed : (known : Option Known) (tables : ℕ) (life : Life) (m m' : Meaning) (leaf : Leaf) (p : Progress) (place count : ℕ) (notes : List Note) (ends : Ending) (leaf' : Leaf) (y : Seated)
+    → BeginsAt life.mode p → first_open p ≡ place → place + count ≡ tables → EachNoted IsClosedNote place count notes
+    → FitsNext known life leaf m → IfSome known (λ (k : Known). m'.held.region ≡ m.held.region) → ends ≡ ending.Done → leaf' ≡ IsDown y
+    → Lived known tables Kills life (noted_all notes) ends leaf' m'
+killed known tables life m m' leaf p place count notes ends leaf' y begins from size each fits same ends_are now =
+    let c = closed_noted place count notes each in record {
+      next = on life Down life.way [];
+      hands = hands_nothing leaf';
+      does = λ least few. lives.kills p begins
+          (c.0, ap (λ (n : ℕ). n + length c.0) from ∙ (ap (λ (n : ℕ). place + n) c.1 ∙ size), subst (λ (n : ℕ). Notes n (map said.Closed c.0) (noted_all notes)) (sym from) c.2)
+          ends_are refl;
+      counts = acting.keeps (ap (λ (e : Ending). is_disk_fault e) ends_are) (counts_closed life.durable place count notes each);
+      mode = subst (λ (l : Leaf). FitsMode Down l) (sym now) tt;
+      way = way_stays known life (on life Down life.way []) leaf m m' refl fits same;
+    }
+
+pub kill_lives : (names : List (List ℕ)) (known : Option Known) (life : Life) (m m' : Meaning) (leaf : Leaf) (notes : List Note) (ends : Ending) (leaf' : Leaf)
+    → AreInPlace names (seated_of leaf) → IfSome known (λ (k : Known). StandsKnown k leaf m) → FitsMode life.mode leaf → FitsNext known life leaf m
+    → KillMoves m m' leaf notes ends leaf' → Lived known (length names) Kills life (noted_all notes) ends leaf' m'
+kill_lives names known life m m' leaf notes ends leaf' in_place stands mode fits (steps.up s y is each same ends_are now) =
+    let u = up_mode life.mode s (subst (λ (l : Leaf). FitsMode life.mode l) is mode) in
+    let p : Progress = record { owed = u.0; treated = 0; shut = false } in
+    let size : length s.seated.tables ≡ length names = ap (λ (l : Leaf). length (seated_of l).tables) (sym is) ∙ as_many names (seated_of leaf) in_place in
+    killed known (length names) life m m' leaf p 0 (length s.seated.tables) notes ends leaf' y (subst (λ (k : Mode). BeginsAt k p) (sym u.1) refl) refl (omega (arith, size)) each
+    fits (same_held known leaf m m' stands same) ends_are now
+kill_lives names known life m m' leaf notes ends leaf' in_place stands mode fits (steps.preparing x y count is left each same ends_are now) =
+    let u = preparing_mode life.mode x (subst (λ (l : Leaf). FitsMode life.mode l) is mode) in
+    let size : length x.serving.seated.tables ≡ length names = ap (λ (l : Leaf). length (seated_of l).tables) (sym is) ∙ as_many names (seated_of leaf) in_place in
+    killed known (length names) life m m' leaf u.0 (length x.closed) count notes ends leaf' y (subst (λ (k : Mode). BeginsAt k u.0) (sym u.1) refl) (sym u.2.closed) (left ∙ size) each
+    fits (same_held known leaf m m' stands same) ends_are now
+kill_lives names known life m m' leaf notes ends leaf' in_place stands mode fits (steps.not_up down notes_are same ends_are now) = record {
+  next = life;
+  hands = hands_nothing leaf';
+  does = λ least few. lives.not_up (resting_mode leaf life.mode mode down) (noted_none notes notes_are) ends_are refl;
+  counts = acting.keeps (ap (λ (e : Ending). is_disk_fault e) ends_are) (counts_stay life.durable notes notes_are);
+  mode = subst (λ (l : Leaf). FitsMode life.mode l) (sym now) mode;
+  way = way_stays known life life leaf m m' refl fits (same_held known leaf m m' stands same);
+}
+
+-- ---- any deed
+
+pub deed_lives : (names : List (List ℕ)) (known : Option Known) (deed : Deed) (life : Life) (m m' : Meaning) (leaf : Leaf) (notes : List Note) (ends : Ending) (leaf' : Leaf)
+    → AreInPlace names (seated_of leaf) → AreGrounded known (seated_of leaf) → AreStewards (seated_of leaf) → IfSome known (λ (k : Known). StandsKnown k leaf m)
+    → FitsMode life.mode leaf → FitsNext known life leaf m → OpensCounts known life m m' leaf notes
+    → Moves deed m m' leaf notes ends leaf' → Lived known (length names) deed life (noted_all notes) ends leaf' m'
+deed_lives names known Starts life m m' leaf notes ends leaf' in_place grounded stewards stands mode fits opens moves =
+    start_lives names known life m m' leaf notes ends leaf' in_place grounded stands mode fits opens moves
+deed_lives names known (Flushes table) life m m' leaf notes ends leaf' in_place grounded stewards stands mode fits opens moves =
+    flush_lives known (length names) table life m m' leaf notes ends leaf' stands mode fits moves
+deed_lives names known (Drains stop) life m m' leaf notes ends leaf' in_place grounded stewards stands mode fits opens moves =
+    drain_lives names known stop life m m' leaf notes ends leaf' in_place grounded stewards stands mode fits moves
+deed_lives names known Kills life m m' leaf notes ends leaf' in_place grounded stewards stands mode fits opens moves =
+    kill_lives names known life m m' leaf notes ends leaf' in_place stands mode fits moves

@@ -1,0 +1,222 @@
+-- Tables that are handed over had at least the columns that the histories tell: one for each that has rows then.
+use Rattle.std.proofs.Common.{◌≡◌, ℕ, suc, ◌+◌, ◌-◌, ◌<◌, ◌≤◌, Bool, false, List, [], ◌∷◌, ◌++◌, length, take, Some, None, refl, sym, ap, subst, ◌∙◌, arith}
+use Rattle.std.specs.Prelude.{slice_get, slice_set}
+use Rattle.std.proofs.lemmas.List.{append_assoc, length-append}
+use Rattle.std.proofs.Math.Seq.{take-append_seam}
+use Rattle.leaf_history.specs.Calls as call
+use Rattle.leaf_history.specs.Replies as reply
+use Rattle.leaf_history.specs.History.{Entry, HistoryState, LegalFrom, after, held}
+use Rattle.leaf_history.specs.Laws.{CallersKeep}
+use Rattle.leaf_history.proofs.Histories.{LegalFrom-back, LegalFrom-front, after-append, others_keep}
+use Rattle.leaf_table.specs.Turns.{Shared, is_founded, start_of}
+use Rattle.leaf_table.specs.Calls.{SeatView, Made, base_seen, entry_seen, seen_of, state_seen}
+use Rattle.leaf_table.proofs.Knowing.{callers_of}
+use Rattle.leaf_steward.specs.declared.notes.Note.{Note}
+use Rattle.leaf_steward.specs.declared.notes.What.{What}
+use Rattle.leaf_steward.specs.declared.notes.What.TheVariants as what
+use Rattle.leaf_steward.specs.Seated.{Seated}
+use Rattle.leaf_steward.specs.Making.{EachNoted, IsHandedNote, MadeAs, Makes}
+use Rattle.leaf_steward.proofs.WatchMakes.{makes_tables}
+use Rattle.leaf_machine.specs.States.{Shutting, columns_seen}
+use Rattle.table_state.specs.Tables.{least_columns}
+use Rattle.transcript.specs.Histories.{Ground}
+use Rattle.transcript.specs.Answers.{columns_handed, rows_before}
+use Rattle.leaf_moves.specs.Stage.{Leaf, IsDown, IsPreparing, IsUp, seated_of}
+use Rattle.leaf_moves.specs.Steps.{At, BeginsShutting, MakesStep, MakesSteps, Part, noted_all}
+use Rattle.leaf_moves.specs.Steps as moves
+use Rattle.transcript_leaf.specs.Session.{AreToldOn, IsStewards, ground_of_table}
+use Rattle.transcript_leaf.specs.Acting.{Hands}
+use Rattle.transcript_leaf.proofs.Ids.{stewards_still}
+use Rattle.transcript_leaf.proofs.Lists.{element_at, get_set_other, get_set_same, same_some, within}
+use Rattle.transcript_leaf.proofs.CountingNotes.{AreStewards, makes_seats}
+use Rattle.transcript_leaf.proofs.Noting.{notes_at}
+use Rattle.transcript_leaf.proofs.Wearing.{seen_length}
+
+-- ---- the steward's seats stay the steward's
+
+part_stewards : (x : Seated) (notes : List Note) (y : Seated) → Part x notes y → AreStewards x → AreStewards y
+part_stewards x notes y part are place w sat =
+    let count : length y.seats ≡ length x.seats = makes_seats part.from part.to x notes y part.made in
+    let v = element_at x.seats place (omega (arith, count, within y.seats place w sat)) in
+    stewards_still v.0 w (notes_at part.from part.to x notes y place v.0 w part.made v.1 sat (are place v.0 v.1)).ids (are place v.0 v.1)
+
+abbrev seats_at : At → Seated
+seats_at (moves.Shuts x) = x.serving.seated
+seats_at (moves.Copies x copy made) = x.serving.seated
+
+step_stewards : (s : At) (notes : List Note) (t : At) → MakesStep s notes t → AreStewards (seats_at s) → AreStewards (seats_at t)
+step_stewards s notes t (moves.treats x y s_is few treats part t_is) are =
+    subst (λ (a : At). AreStewards (seats_at a)) (sym t_is) (part_stewards x.serving.seated notes y.serving.seated part (subst (λ (a : At). AreStewards (seats_at a)) s_is are))
+step_stewards s notes t (moves.plans x copy s_is all long none t_is) are =
+    let here : AreStewards x.serving.seated = subst (λ (a : At). AreStewards (seats_at a)) s_is are in
+    subst (λ (a : At). AreStewards (seats_at a)) (sym t_is) here
+step_stewards s notes t (moves.copies x copy made s_is few none t_is) are =
+    let here : AreStewards x.serving.seated = subst (λ (a : At). AreStewards (seats_at a)) s_is are in
+    subst (λ (a : At). AreStewards (seats_at a)) (sym t_is) here
+
+pub steps_stewards : (n : ℕ) (s : At) (notes : List Note) (t : At) → MakesSteps n s notes t → AreStewards (seats_at s) → AreStewards (seats_at t)
+steps_stewards n s notes t (moves.none k a ns b n_is notes_are same) are = subst (λ (a : At). AreStewards (seats_at a)) (sym same) are
+steps_stewards n s notes t (moves.more k a ns b fewer first others between n_is step rest ns_are) are =
+    steps_stewards fewer between others t rest (step_stewards s first between step are)
+
+-- a drain begins with the leaf's seats
+pub begun_stewards : (leaf : Leaf) (x : Shutting) → BeginsShutting leaf x → AreStewards (seated_of leaf) → AreStewards x.serving.seated
+begun_stewards (IsDown y) x begins are = absurd begins
+begun_stewards (IsUp s) x begins are = subst (λ (y : Shutting). AreStewards y.serving.seated) (sym begins) are
+begun_stewards (IsPreparing y) x begins are = subst (λ (y : Shutting). AreStewards y.serving.seated) (sym begins) are
+
+-- ---- a table that is handed over
+
+-- it holds then what the steward's seat had seen it hold: others change nothing of a shut table
+rows_handed : (g : Ground) (entries more : List Entry) (t : Shared) (clock number : ℕ) (v w : SeatView) → IsStewards v → Made (base_seen t) clock v call.Done reply.Noted w → number ≡ length w.seen
+    → g ≡ ground_of_table t → entries ≡ seen_of w ++ more → rows_before g entries number ≡ (held (state_seen (base_seen t) v)).rows
+rows_handed g entries more t clock number v w steward made counted ground on =
+    ap (λ (x : Ground). (held (after x.founded x.base (take (number - 1) entries))).rows) ground
+    ∙ (ap (λ (es : List Entry). (held (after founded start es)).rows) (ap (λ (n : ℕ). take n entries) count ∙ (ap (λ (es : List Entry). take (length front) es) entries_are ∙ take-append_seam front (own ∷ more)))
+    ∙ ap (λ (s : HistoryState). (held s).rows) (after-append founded start (seen_of v) made.between ∙ still))
+  where
+    founded : Bool
+    founded = is_founded (base_seen t)
+
+    start : HistoryState
+    start = start_of (base_seen t)
+
+    front : List Entry
+    front = seen_of v ++ made.between
+
+    own : Entry
+    own = entry_seen v.id clock call.Done reply.Noted
+
+    entries_are : entries ≡ front ++ (own ∷ more)
+    entries_are = on ∙ (ap (λ (es : List Entry). es ++ more) made.seen ∙ append_assoc front (own ∷ []) more)
+
+    count : number - 1 ≡ length front
+    count = omega (arith, counted, seen_length w, ap (λ (es : List Entry). length es) made.seen, length-append front (own ∷ []))
+
+    legal_front : LegalFrom founded start front
+    legal_front = LegalFrom-front founded start front (own ∷ []) (subst (λ (es : List Entry). LegalFrom founded start es) made.seen made.legal)
+
+    keeps : CallersKeep (state_seen (base_seen t) v) (after founded (state_seen (base_seen t) v) made.between)
+    keeps = others_keep founded (state_seen (base_seen t) v) made.between (LegalFrom-back founded start (seen_of v) made.between legal_front)
+        (callers_of v made.between steward.id (let share = steward.share in omega (arith, share)) made.others)
+
+    shut : (state_seen (base_seen t) v).live ≡ false
+    shut = sym keeps.live ∙ (ap (λ (s : HistoryState). s.live) (sym (after-append founded start (seen_of v) made.between)) ∙ made.allowed.1)
+
+    still : after founded (state_seen (base_seen t) v) made.between ≡ state_seen (base_seen t) v
+    still = keeps.shut shut
+
+handed_made : (t : Shared) (clock : ℕ) (v : SeatView) (w : What) (u : SeatView) → IsHandedNote w → MadeAs (base_seen t) clock v w u → Made (base_seen t) clock v call.Done reply.Noted u
+handed_made t clock v (what.Opened n) u is made = absurd is
+handed_made t clock v (what.Took n) u is made = absurd is
+handed_made t clock v (what.Flushed n) u is made = absurd is
+handed_made t clock v (what.Closed n) u is made = absurd is
+handed_made t clock v what.Handed u is made = made
+
+-- a seat behind which others are noted stays
+kept_seat : (from to : ℕ) (x : Seated) (notes : List Note) (z : Seated) (place first count : ℕ) → place < first → Makes from to x notes z → EachNoted IsHandedNote first count notes
+    → slice_get z.seats place ≡ slice_get x.seats place
+kept_seat from to x notes z place first count low (Makes.none f u a ns b order none same) each = ap (λ (s : Seated). slice_get s.seats place) same
+kept_seat from to x notes z place first count low (Makes.more f u a ns b clock note rest between order one makes is) each =
+    let all : EachNoted IsHandedNote first count (note ∷ rest) = subst (λ (xs : List Note). EachNoted IsHandedNote first count xs) is each in
+    kept_seat clock to between rest z place (suc first) all.0 (omega (arith, low)) makes all.4
+    ∙ (ap (λ (s : Seated). slice_get s.seats place) one.now ∙ get_set_other x.seats note.table place one.after (λ same. apart (omega (arith, sym all.2 ∙ same)) low))
+  where
+    apart : first ≡ place → place < first → ⊥
+    apart same below = omega (arith, same, below)
+
+-- ---- all that are handed over
+
+from_first : (j : ℕ) → 0 + j ≡ j
+from_first j = omega arith
+
+module _ (g : ℕ → Ground) (h : ℕ → List Entry) (z : Seated) (told : AreToldOn g h z) where
+  columns_are : (from to : ℕ) (x : Seated) (notes : List Note) (ts : List Shared) (vs : List SeatView) (place count : ℕ) → Makes from to x notes z → EachNoted IsHandedNote place count notes
+      → AreStewards x → ((j : ℕ) → slice_get x.tables (place + j) ≡ slice_get ts j) → ((j : ℕ) → slice_get x.seats (place + j) ≡ slice_get vs j)
+      → columns_handed g h (noted_all notes) ≤ columns_seen ts vs
+  columns_are from to x notes ts vs place count (Makes.none f u a ns b order none same) each are tables seats = omega (arith, ap (λ (xs : List Note). columns_handed g h (noted_all xs)) none)
+  columns_are from to x notes ts vs place count (Makes.more f u a ns b clock note rest between order one makes is) each are tables seats =
+      let sum : columns_handed g h (noted_all notes) ≡ columns_handed g h (noted_all (note ∷ rest)) = ap (λ (xs : List Note). columns_handed g h (noted_all xs)) is in
+      omega (arith, sum, by ts vs tables seats (λ us ws tables_are seats_are. columns_are clock to between rest us ws (suc place) all.0 makes all.4 stewards tables_are seats_are))
+    where
+      all : EachNoted IsHandedNote place count (note ∷ rest)
+      all = subst (λ (xs : List Note). EachNoted IsHandedNote place count xs) is each
+
+      here : place + 0 ≡ note.table
+      here = omega (arith, all.2)
+
+      at : slice_get x.tables (place + 0) ≡ Some one.table
+      at = ap (λ (n : ℕ). slice_get x.tables n) here ∙ one.at
+
+      was : slice_get x.seats (place + 0) ≡ Some one.before
+      was = ap (λ (n : ℕ). slice_get x.seats n) here ∙ one.was
+
+      same_tables : between.tables ≡ x.tables
+      same_tables = ap (λ (s : Seated). s.tables) one.now
+
+      apart : (j : ℕ) → note.table ≡ suc place + j → ⊥
+      apart j same = omega (arith, same, all.2)
+
+      further : (j : ℕ) → suc place + j ≡ place + suc j
+      further j = omega arith
+
+      later : (j : ℕ) → slice_get between.seats (suc place + j) ≡ slice_get x.seats (place + suc j)
+      later j = ap (λ (s : Seated). slice_get s.seats (suc place + j)) one.now
+          ∙ (get_set_other x.seats note.table (suc place + j) one.after (apart j) ∙ ap (λ (n : ℕ). slice_get x.seats n) (further j))
+
+      stewards : AreStewards between
+      stewards = part_stewards x (note ∷ []) between
+          (record { from = clock; to = clock; made = Makes.more clock clock x (note ∷ []) between clock note [] between (omega arith) one (Makes.none clock clock between [] between (omega arith) refl refl) refl }) are
+
+      -- the seat stays what it is behind its entry
+      now : slice_get z.seats place ≡ Some one.after
+      now = kept_seat clock to between rest z place (suc place) all.0 (omega arith) makes all.4
+          ∙ (ap (λ (s : Seated). slice_get s.seats place) one.now
+          ∙ subst (λ (n : ℕ). slice_get (slice_set x.seats note.table one.after) n ≡ Some one.after) all.2 (get_set_same x.seats note.table one.before one.after one.was))
+
+      at_end : slice_get z.tables place ≡ Some one.table
+      at_end = ap (λ (ts : List Shared). slice_get ts place) (makes_tables clock to between rest z makes ∙ same_tables) ∙ (ap (λ (n : ℕ). slice_get x.tables n) (sym all.2) ∙ one.at)
+
+      rows : rows_before (g note.table) (h note.table) note.number ≡ (held (state_seen (base_seen one.table) one.before)).rows
+      rows =
+          let goes = told.on place one.after now in
+          rows_handed (g note.table) (h note.table) goes.0 one.table clock note.number one.before one.after (are note.table one.before one.was)
+          (handed_made one.table clock one.before note.what one.after all.3 one.made) one.number
+          (ap g all.2 ∙ told.grounded place one.table one.after at_end now)
+          (ap h all.2 ∙ goes.1)
+
+      first : least_columns (rows_before (g note.table) (h note.table) note.number) ≡ least_columns (held (state_seen (base_seen one.table) one.before)).rows
+      first = ap least_columns rows
+
+      by : (us : List Shared) (ws : List SeatView) → ((j : ℕ) → slice_get x.tables (place + j) ≡ slice_get us j) → ((j : ℕ) → slice_get x.seats (place + j) ≡ slice_get ws j)
+          → ((us' : List Shared) (ws' : List SeatView) → ((j : ℕ) → slice_get between.tables (suc place + j) ≡ slice_get us' j) → ((j : ℕ) → slice_get between.seats (suc place + j) ≡ slice_get ws' j)
+          → columns_handed g h (noted_all rest) ≤ columns_seen us' ws')
+          → columns_handed g h (noted_all (note ∷ rest)) ≤ columns_seen us ws
+      by [] ws tables_are seats_are further_are = absurd (none_there (sym at ∙ tables_are 0))
+        where
+          none_there : Some one.table ≡ None → ⊥
+          none_there e = cc
+      by (t ∷ us) [] tables_are seats_are further_are = absurd (none_there (sym was ∙ seats_are 0))
+        where
+          none_there : Some one.before ≡ None → ⊥
+          none_there e = cc
+      by (t ∷ us) (v ∷ ws) tables_are seats_are further_are =
+          let table : one.table ≡ t = same_some one.table t (sym at ∙ tables_are 0) in
+          let seat : one.before ≡ v = same_some one.before v (sym was ∙ seats_are 0) in
+          let same : least_columns (held (state_seen (base_seen one.table) one.before)).rows ≡ least_columns (held (state_seen (base_seen t) v)).rows =
+          ap (λ (s : Shared). least_columns (held (state_seen (base_seen s) one.before)).rows) table ∙ ap (λ (s : SeatView). least_columns (held (state_seen (base_seen t) s)).rows) seat in
+          let others = further_are us ws
+          (λ j. ap (λ (ts : List Shared). slice_get ts (suc place + j)) same_tables ∙ (ap (λ (n : ℕ). slice_get x.tables n) (further j) ∙ tables_are (suc j)))
+          (λ j. later j ∙ seats_are (suc j)) in
+          omega (arith, first, same, others)
+
+  -- all of a leaf's
+  pub handed_columns : (from to : ℕ) (x : Seated) (notes : List Note) (count : ℕ) → Makes from to x notes z → EachNoted IsHandedNote 0 count notes → AreStewards x
+      → columns_handed g h (noted_all notes) ≤ columns_seen x.tables x.seats
+  handed_columns from to x notes count makes each are =
+      columns_are from to x notes x.tables x.seats 0 count makes each are
+      (λ j. ap (λ (k : ℕ). slice_get x.tables k) (from_first j)) (λ j. ap (λ (k : ℕ). slice_get x.seats k) (from_first j))
+
+-- a deed that hands nothing over
+pub hands_nothing : (leaf : Leaf) → Hands leaf
+hands_nothing leaf = record { handed = []; columns = 0; told = λ grounds histories on. omega arith }

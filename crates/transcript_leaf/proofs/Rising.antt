@@ -1,0 +1,126 @@
+-- The moments of the entries that a leaf's steward makes do not fall.
+use Rattle.std.proofs.Common.{◌≡◌, ℕ, ◌-◌, ◌==◌, ◌≤◌, Bool, true, false, List, [], ◌∷◌, ◌++◌, length, Option, Some, refl, sym, ap, subst, ◌∙◌, arith, append-nil}
+use Rattle.std.specs.Prelude.{slice_get, option_map, if◌then◌else◌}
+use Rattle.std.proofs.lemmas.Bool.{eq-eqb}
+use Rattle.std.proofs.lemmas.List.{length-append}
+use Rattle.std.proofs.lemmas.Grind.{flat_map-append}
+use Rattle.leaf_history.specs.History.{Entry}
+use Rattle.leaf_table.specs.declared.base.TableBase.{TableBase}
+use Rattle.leaf_table.specs.Calls.{SeatView, base_seen, entry_seen, seen_of}
+use Rattle.leaf_steward.specs.declared.notes.Note.{Note}
+use Rattle.leaf_steward.specs.declared.notes.What.{What}
+use Rattle.leaf_steward.specs.declared.notes.What.TheVariants as what
+use Rattle.leaf_steward.specs.Seated.{Seated}
+use Rattle.leaf_steward.specs.Making.{MadeAs, Makes, OneEntry}
+use Rattle.printed_lines.specs.declared.line.Ending.{Ending}
+use Rattle.transcript.specs.Pieces.{Acted, Called, Deed, Noted, Piece, Says, Worn}
+use Rattle.transcript.specs.Histories.{Ground}
+use Rattle.transcript.specs.Moments.{MomentsRise, moment_of, notes_in, notes_told}
+use Rattle.leaf_moves.specs.Steps.{noted, noted_all}
+use Rattle.transcript_leaf.specs.Session.{AreToldOn, HasNoDeed}
+use Rattle.transcript_leaf.proofs.Ids.{stewards_still}
+use Rattle.transcript_leaf.proofs.Lists.{element_at, get_set_same, within}
+use Rattle.transcript_leaf.proofs.CountingNotes.{AreStewards, makes_seats}
+use Rattle.transcript_leaf.proofs.Noting.{notes_at}
+use Rattle.transcript_leaf.proofs.ToldOn.{told_made}
+use Rattle.transcript_leaf.proofs.Wearing.{seen_length}
+
+-- ---- moments one behind another
+
+pub rise_on : (histories : ℕ → List Entry) (from mid to : ℕ) (ns ms : List Noted) → MomentsRise histories from ns mid → MomentsRise histories mid ms to → MomentsRise histories from (ns ++ ms) to
+rise_on histories from mid to [] ms first next = sooner ms first next
+  where
+    sooner : (ms : List Noted) → from ≤ mid → MomentsRise histories mid ms to → MomentsRise histories from ms to
+    sooner [] low high = omega (arith, low, high)
+    sooner (n ∷ ms) low rise = (rise.0, rise.1, omega (arith, low, rise.2), rise.3)
+rise_on histories from mid to (n ∷ ns) ms first next = (first.0, first.1, first.2, rise_on histories first.0 mid to ns ms first.3 next)
+
+-- time may pass
+pub rise_later : (histories : ℕ → List Entry) (from to later : ℕ) (ns : List Noted) → to ≤ later → MomentsRise histories from ns to → MomentsRise histories from ns later
+rise_later histories from to later [] le rise = omega (arith, le, rise)
+rise_later histories from to later (n ∷ ns) le rise = (rise.0, rise.1, rise.2, rise_later histories rise.0 to later ns le rise.3)
+
+-- ---- one entry
+
+-- an entry behind others, in a list that goes on
+stands_at : (front : List Entry) (e : Entry) (more : List Entry) → slice_get ((front ++ e ∷ []) ++ more) (length front) ≡ Some e
+stands_at [] e more = refl
+stands_at (f ∷ front) e more = stands_at front e more
+
+-- what a note tells of carries the clock
+made_last : (base : Option TableBase) (clock : ℕ) (v w : SeatView) (kind : What) → MadeAs base clock v kind w
+    → (front : List Entry) × (e : Entry) × (seen_of w ≡ front ++ e ∷ []) × (e.clock ≡ clock)
+made_last base clock v w (what.Opened n) m = (seen_of v ++ m.1.between, entry_seen v.id clock _ _, m.1.seen, refl)
+made_last base clock v w (what.Took n) m = (seen_of v ++ m.between, entry_seen v.id clock _ _, m.seen, refl)
+made_last base clock v w (what.Flushed n) m = (seen_of v ++ m.between, entry_seen v.id clock _ _, m.seen, refl)
+made_last base clock v w (what.Closed n) m = (seen_of v ++ m.between, entry_seen v.id clock _ _, m.seen, refl)
+made_last base clock v w what.Handed m = (seen_of v ++ m.between, entry_seen v.id clock _ _, m.seen, refl)
+
+module _ (grounds : ℕ → Ground) (histories : ℕ → List Entry) where
+  -- histories that go on from the seat have that entry under its number
+  moment_is : (clock : ℕ) (x : Seated) (note : Note) (y : Seated) → OneEntry clock x note y → AreToldOn grounds histories y → moment_of histories (noted note) ≡ Some clock
+  moment_is clock x note y one told =
+      let last = made_last (base_seen one.table) clock one.before one.after note.what one.made in
+      let seat : slice_get y.seats note.table ≡ Some one.after =
+      ap (λ (s : Seated). slice_get s.seats note.table) one.now ∙ get_set_same x.seats note.table one.before one.after one.was in
+      let on = told.on note.table one.after seat in
+      let count : note.number - 1 ≡ length last.0 =
+      omega (arith, one.number, seen_length one.after, ap (λ (es : List Entry). length es) last.2, length-append last.0 (last.1 ∷ [])) in
+      let here : slice_get (histories note.table) (note.number - 1) ≡ Some last.1 =
+      ap (λ (es : List Entry). slice_get es (note.number - 1)) (on.1 ∙ ap (λ (es : List Entry). es ++ on.0) last.2)
+      ∙ (ap (λ n. slice_get ((last.0 ++ last.1 ∷ []) ++ on.0) n) count ∙ stands_at last.0 last.1 on.0) in
+      ap (λ (o : Option Entry). option_map (λ (e : Entry). e.clock) o) here ∙ ap (λ n. Some n) last.3
+
+  one_stewards : (clock to : ℕ) (x : Seated) (note : Note) (y : Seated) → OneEntry clock x note y → clock ≤ to → AreStewards x → AreStewards y
+  one_stewards clock to x note y one low are place w sat =
+      let single : Makes clock to x (note ∷ []) y = Makes.more clock to x (note ∷ []) y clock note [] y (omega arith) one (Makes.none clock to y [] y low refl refl) refl in
+      let count : length y.seats ≡ length x.seats = makes_seats clock to x (note ∷ []) y single in
+      let v = element_at x.seats place (omega (arith, count, within y.seats place w sat)) in
+      stewards_still v.0 w (notes_at clock to x (note ∷ []) y place v.0 w single v.1 sat (are place v.0 v.1)).ids (are place v.0 v.1)
+
+  ends_later : (from to : ℕ) (x : Seated) (notes : List Note) (y : Seated) → Makes from to x notes y → from ≤ to
+  ends_later from to x notes y (Makes.none f u a ns b le is same) = le
+  ends_later from to x notes y (Makes.more f u a ns b clock first rest between le one makes is) = let on = ends_later clock to between rest y makes in omega (arith, le, on)
+
+  -- the entries of a deed
+  pub makes_rise : (from to : ℕ) (x : Seated) (notes : List Note) (y : Seated) → Makes from to x notes y → AreStewards x → AreToldOn grounds histories y → MomentsRise histories from (noted_all notes) to
+  makes_rise from to x notes y (Makes.none f u a ns b le is same) are told = subst (λ (ks : List Note). MomentsRise histories from (noted_all ks) to) (sym is) le
+  makes_rise from to x notes y (Makes.more f u a ns b clock first rest between le one makes is) are told =
+      let stewards = one_stewards clock to x first between one (ends_later clock to between rest y makes) are in
+      let later = told_made grounds histories clock to between rest y makes stewards told in
+      subst (λ (ks : List Note). MomentsRise histories from (noted_all ks) to) (sym is)
+      (clock, moment_is clock x first between one later, le, makes_rise clock to between rest y makes stewards told)
+
+-- ---- of pieces
+
+pub told_append : (leaf : ℕ) (ps qs : List Piece) → notes_told leaf (ps ++ qs) ≡ notes_told leaf ps ++ notes_told leaf qs
+told_append leaf ps qs = flat_map-append (notes_in leaf) ps qs
+
+pub told_act : (leaf : ℕ) (ps : List Piece) (deed : Deed) (notes : List Noted) (ends : Ending) → notes_told leaf (ps ++ Acted leaf deed notes ends ∷ []) ≡ notes_told leaf ps ++ notes
+told_act leaf ps deed notes ends =
+    told_append leaf ps (Acted leaf deed notes ends ∷ []) ∙ ap (λ (ns : List Noted). notes_told leaf ps ++ ns) own
+  where
+    by : (b : Bool) → b ≡ true → (if b then notes else []) ++ [] ≡ notes
+    by true e = append-nil notes
+    by false e = absurd cc
+
+    own : notes_told leaf (Acted leaf deed notes ends ∷ []) ≡ notes
+    own = by (leaf == leaf) (eq-eqb leaf leaf refl)
+
+-- ---- past what is no deed of the leaf's steward
+
+none_by : (b : Bool) (notes rest : List Noted) → b ≡ false → (if b then notes else []) ++ rest ≡ rest
+none_by true notes rest e = absurd cc
+none_by false notes rest e = refl
+
+notes_none : (leaf : ℕ) (ps : List Piece) → HasNoDeed leaf ps → notes_told leaf ps ≡ []
+notes_none leaf [] apart = refl
+notes_none leaf (Acted l d ns e ∷ ps) apart = none_by (l == leaf) ns (notes_told leaf ps) apart.0 ∙ notes_none leaf ps apart.1
+notes_none leaf (Called l t c n said ∷ ps) apart = notes_none leaf ps apart.1
+notes_none leaf (Worn l t ∷ ps) apart = notes_none leaf ps apart.1
+notes_none leaf (Says line ∷ ps) apart = notes_none leaf ps apart.1
+
+pub notes_between : (leaf : ℕ) (before none more : List Piece) → HasNoDeed leaf none → notes_told leaf (before ++ (none ++ more)) ≡ notes_told leaf (before ++ more)
+notes_between leaf before none more apart =
+    told_append leaf before (none ++ more)
+    ∙ (ap (λ (ns : List Noted). notes_told leaf before ++ ns) (told_append leaf none more ∙ ap (λ (ns : List Noted). ns ++ notes_told leaf more) (notes_none leaf none apart)) ∙ sym (told_append leaf before more))

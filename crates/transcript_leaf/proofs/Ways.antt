@@ -1,0 +1,113 @@
+-- The one way of a region, and that of what a start leaves of it.
+use Rattle.std.proofs.Common.{◌≡◌, inl, ℕ, Bool, true, false, cond, ltb, eqb, List, length, refl, ap, ◌∙◌}
+use Rattle.std.specs.Prelude.{slice_index}
+use Rattle.std.proofs.lemmas.Bool.{ltb-true}
+use Rattle.region_layout.specs.declared.head.Head.{Head}
+use Rattle.region_layout.specs.declared.head.Head.TheVariants as head
+use Rattle.region_layout.specs.Images.{TableImage}
+use Rattle.region_layout.specs.Region.{IsClosed, head_of, version_of}
+use Rattle.region_layout.proofs.Heads.{shut_head}
+use Rattle.region_directory.specs.Region.{IsAdoptable, reads}
+use Rattle.adopt.specs.declared.found.WhyDisk.{WhyDisk}
+use Rattle.adopt.specs.declared.found.WhyDisk.TheVariants as why
+use Rattle.adopt.specs.Adopting.{IsWhy, IsLeftBehind}
+use Rattle.leaf_opening.specs.declared.ways.Way.{Way}
+use Rattle.leaf_opening.specs.declared.ways.Way.TheVariants.{Memory, Disk}
+use Rattle.leaf_opening.specs.Starts.{IsWayOf, way_after}
+use Rattle.transcript_leaf.proofs.Lists.{clash_bool}
+
+-- a head has one version, and that is of one that is read or not
+read_not : (h : Head) (v w : ℕ) → h ≡ head.Version v → h ≡ head.Version w → reads v ≡ true → reads w ≡ false → ⊥
+read_not h v w e f r n = clash_bool (reads v) r (ap (λ (k : ℕ). reads k) (same h e f) ∙ n)
+  where
+    same : (x : Head) → x ≡ head.Version v → x ≡ head.Version w → v ≡ w
+    same x e f = cc
+
+no_why : (region : List ℕ) (images : List TableImage) (log_end : ℕ) → IsAdoptable region images log_end → (w : WhyDisk) → IsWhy region w → ⊥
+no_why region images log_end a why.NoHead h = clash (head_of region) a.version a.is.has.head h
+  where
+    clash : (x : Head) (v : ℕ) → x ≡ head.Version v → x ≡ head.NoHead → ⊥
+    clash x v e f = cc
+no_why region images log_end a (why.Closed b) h = clash (head_of region) a.version a.is.has.head h
+  where
+    clash : (x : Head) (v : ℕ) → x ≡ head.Version v → x ≡ head.Closed b → ⊥
+    clash x v e f = cc
+no_why region images log_end a (why.OtherVersion v) h = read_not (head_of region) a.version v a.is.has.head h.0 a.reads_it h.1
+no_why region images log_end a why.NoImage h = h.3 images log_end a
+
+same_why : (region : List ℕ) (v w : WhyDisk) → IsWhy region v → IsWhy region w → v ≡ w
+same_why region why.NoHead why.NoHead g h = refl
+same_why region why.NoHead (why.Closed b) g h = absurd (cc)
+same_why region why.NoHead (why.OtherVersion n) g h = absurd (clash (head_of region) g h.0)
+  where
+    clash : (x : Head) → x ≡ head.NoHead → x ≡ head.Version n → ⊥
+    clash x e f = cc
+same_why region why.NoHead why.NoImage g h = absurd (clash (head_of region) h.0 g h.1)
+  where
+    clash : (x : Head) (v : ℕ) → x ≡ head.NoHead → x ≡ head.Version v → ⊥
+    clash x v e f = cc
+same_why region (why.Closed a) why.NoHead g h = absurd (clash (head_of region) g h)
+  where
+    clash : (x : Head) → x ≡ head.Closed a → x ≡ head.NoHead → ⊥
+    clash x e f = cc
+same_why region (why.Closed a) (why.Closed b) g h = ap why.Closed (same (head_of region) g h)
+  where
+    same : (x : Head) → x ≡ head.Closed a → x ≡ head.Closed b → a ≡ b
+    same x e f = cc
+same_why region (why.Closed a) (why.OtherVersion n) g h = absurd (clash (head_of region) g h.0)
+  where
+    clash : (x : Head) → x ≡ head.Closed a → x ≡ head.Version n → ⊥
+    clash x e f = cc
+same_why region (why.Closed a) why.NoImage g h = absurd (clash (head_of region) h.0 g h.1)
+  where
+    clash : (x : Head) (v : ℕ) → x ≡ head.Closed a → x ≡ head.Version v → ⊥
+    clash x v e f = cc
+same_why region (why.OtherVersion m) why.NoHead g h = absurd (clash (head_of region) g.0 h)
+  where
+    clash : (x : Head) → x ≡ head.Version m → x ≡ head.NoHead → ⊥
+    clash x e f = cc
+same_why region (why.OtherVersion m) (why.Closed b) g h = absurd (clash (head_of region) g.0 h)
+  where
+    clash : (x : Head) → x ≡ head.Version m → x ≡ head.Closed b → ⊥
+    clash x e f = cc
+same_why region (why.OtherVersion m) (why.OtherVersion n) g h = ap why.OtherVersion (same (head_of region) g.0 h.0)
+  where
+    same : (x : Head) → x ≡ head.Version m → x ≡ head.Version n → m ≡ n
+    same x e f = cc
+same_why region (why.OtherVersion m) why.NoImage g h = absurd (read_not (head_of region) h.0 m h.1 g.0 h.2 g.1)
+same_why region why.NoImage why.NoHead g h = absurd (clash (head_of region) g.0 g.1 h)
+  where
+    clash : (x : Head) (v : ℕ) → x ≡ head.Version v → x ≡ head.NoHead → ⊥
+    clash x v e f = cc
+same_why region why.NoImage (why.Closed b) g h = absurd (clash (head_of region) g.0 g.1 h)
+  where
+    clash : (x : Head) (v : ℕ) → x ≡ head.Version v → x ≡ head.Closed b → ⊥
+    clash x v e f = cc
+same_why region why.NoImage (why.OtherVersion n) g h = absurd (read_not (head_of region) g.0 n g.1 h.0 g.2 h.1)
+same_why region why.NoImage why.NoImage g h = refl
+
+-- a region has one way
+pub same_way : (region : List ℕ) (v w : Way) → IsWayOf region v → IsWayOf region w → v ≡ w
+same_way region Memory Memory g h = refl
+same_way region Memory (Disk w) g h = absurd (no_why region g.0 g.1 g.2 w h)
+same_way region (Disk v) Memory g h = absurd (no_why region h.0 h.1 h.2 v g)
+same_way region (Disk v) (Disk w) g h = ap Disk (same_why region v w g h)
+
+-- ---- what a start leaves
+
+-- a region without a head is closed
+no_head : (region : List ℕ) → head_of region ≡ head.NoHead → IsClosed region
+no_head region h = inl (ltb-true (length region) 16 (by (ltb (length region) 16) (eqb (slice_index region 0) 1) (slice_index region 0) (version_of region) h))
+  where
+    by : (short opened : Bool) (byte version : ℕ) → cond short head.NoHead (cond opened (head.Version version) (head.Closed byte)) ≡ head.NoHead → short ≡ true
+    by true opened byte version e = refl
+    by false true byte version e = absurd cc
+    by false false byte version e = absurd cc
+
+-- the way of the region that a start leaves
+pub way_left : (region now : List ℕ) (w : Way) → IsLeftBehind region now → IsWayOf region w → IsWayOf now (way_after w)
+way_left region now Memory left h = left.opened h.2.version h.2.is.has.head
+way_left region now (Disk why.NoHead) left h = ap (λ (r : List ℕ). head_of r) (left.closed (no_head region h)) ∙ h
+way_left region now (Disk (why.Closed flag)) left h = ap (λ (r : List ℕ). head_of r) (left.closed (shut_head region flag h)) ∙ h
+way_left region now (Disk (why.OtherVersion v)) left h = left.opened v h.0
+way_left region now (Disk why.NoImage) left h = left.opened h.0 h.1

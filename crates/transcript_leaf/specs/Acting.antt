@@ -1,0 +1,48 @@
+-- What a deed of the leaf's steward makes of its life.
+use Rattle.std.specs.Prelude.{◌≡◌, ℕ, ◌≤◌, Bool, false, List, Option, Some, None, IfSome, is_some, map}
+use Rattle.berth_face.specs.Berth.{Meaning}
+use Rattle.leaf_opening.specs.declared.ways.Way.{Way}
+use Rattle.leaf_opening.specs.Starts.{IsWayOf}
+use Rattle.printed_lines.specs.declared.line.Ending.{Ending}
+use Rattle.printed_lines.specs.declared.line.Ending.TheVariants as ends
+use Rattle.printed_lines.specs.declared.line.Said.TheVariants.{Opened}
+use Rattle.transcript.specs.Pieces.{Deed, Noted, Starts}
+use Rattle.transcript.specs.Life.{Life, Does, Notes, claimed, durable_with}
+use Rattle.transcript.specs.Counts.{is_disk_fault}
+use Rattle.leaf_history.specs.History.{Entry}
+use Rattle.transcript.specs.Histories.{Ground}
+use Rattle.transcript.specs.Answers.{columns_handed}
+use Rattle.transcript.specs.Transcript.{Known}
+use Rattle.leaf_moves.specs.Stage.{Leaf, seated_of}
+use Rattle.transcript_leaf.specs.Session.{AreToldOn, FitsMode}
+
+-- a fault of the disk at a flush or a drain loses what was claimed of the counts; one at a start touches no record of the log
+abbrev pub loses_counts : Deed → Ending → Bool
+loses_counts Starts ending = false
+loses_counts _ ending = is_disk_fault ending
+
+-- how the claim on the counts goes on: by the notes; or it is lost where the disk failed; or a start has made it anew
+pub data CountsGo (told : Bool) (deed : Deed) (life : Life) (notes : List Noted) (ending : Ending) (next : Life) : Type 0 where
+  keeps : loses_counts deed ending ≡ false → next.durable ≡ durable_with life.durable notes → CountsGo told deed life notes ending next
+  lost : next.durable ≡ None → CountsGo told deed life notes ending next
+  opened : (way : Way) (counts : List ℕ) → ending ≡ ends.Started way → Notes 0 (map Opened counts) notes → next.durable ≡ claimed told counts → CountsGo told deed life notes ending next
+
+-- the way of the next start, where it is claimed
+abbrev pub FitsWay : Option Known → Life → Meaning → Type 0
+FitsWay None life m = life.way ≡ None
+FitsWay (Some k) life m = IfSome life.way (IsWayOf m.held.region)
+
+-- what a deed hands over: tables, in these entries, that had so many columns: at least those that the histories tell
+pub record Hands (leaf : Leaf) : Type 0 where
+  pub handed : List Noted
+  pub columns : ℕ
+  pub told : (grounds : ℕ → Ground) (histories : ℕ → List Entry) → AreToldOn grounds histories (seated_of leaf) → columns_handed grounds histories handed ≤ columns
+
+-- the life behind a deed
+pub record Lived (known : Option Known) (tables : ℕ) (deed : Deed) (life : Life) (notes : List Noted) (ending : Ending) (leaf : Leaf) (m : Meaning) : Type 0 where
+  pub next : Life
+  pub hands : Hands leaf
+  pub does : (least : List Noted → ℕ) → least hands.handed ≤ hands.columns → Does (is_some known) tables least deed life notes ending next
+  pub counts : CountsGo (is_some known) deed life notes ending next
+  pub mode : FitsMode next.mode leaf
+  pub way : FitsWay known next m

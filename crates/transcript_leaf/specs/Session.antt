@@ -1,0 +1,263 @@
+-- One leaf of a run in the middle, by its number: what holds of what the run printed so far, of each of the leaf's tables, and of the leaf, by who holds it or seats of it: the
+-- run, or a lane of a burst. The pieces are those of all leaves.
+use Rattle.std.specs.Prelude.{◌≡◌, ◌⊎◌, ℕ, suc, ◌+◌, ◌<◌, ◌==◌, true, false, List, [], ◌∷◌, ◌++◌, length, map, Option, Some, None, IfSome, is_some, slice_get, IsPermutation, IsTrue, ⊤}
+use Rattle.std.specs.List.{AllByRecursion}
+use Rattle.row_records.specs.Records.{LogRecord}
+use Rattle.berth_face.specs.Berth.{Meaning, Pair}
+use Rattle.leaf_history.specs.History.{Entry, LegalFrom, after}
+use Rattle.leaf_model.specs.Names.{AreDistinct}
+use Rattle.adopt.specs.Adopting.{IsBroken}
+use Rattle.disk_backup.specs.Scanning.{BeginsScan}
+use Rattle.leaf_opening.specs.Starts.{IsWayOf}
+use Rattle.crash_moments.specs.Left.{NamedStates}
+use Rattle.crash_moments.specs.Told as moments
+use Rattle.turnstile.specs.Ids.{InShare}
+use Rattle.turnstile.specs.Seats.{AreIds, Owns, unused_seat}
+use Rattle.leaf_table.specs.Turns.{Shared, is_founded, start_of}
+use Rattle.leaf_table.specs.Calls.{SeatView, OwnsTheRest, base_seen, name_of, seen_of}
+use Rattle.log_steward.specs.Owing.{Owing}
+use Rattle.leaf_steward.specs.Seated.{Seated, AtEach, watched_by}
+use Rattle.leaf_machine.specs.States.{Shutting, IsShutAndTaken, treated}
+use Rattle.crash_states.specs.Beginning.{MayBegin}
+use Rattle.transcript.specs.Base.{LogHas, unseen, watched_with}
+use Rattle.transcript.specs.Pieces.{Piece, Called, Worn, Acted, Says, PlayedItem, all_pieces}
+use Rattle.transcript.specs.Life.{Life, Mode, Down, Up, Preparing, Owed, Progress, Lives, first_open}
+use Rattle.transcript.specs.Histories.{Ground, InOrder, Shown, Shows, shown}
+use Rattle.transcript.specs.Strangers.{IsNamedBy, Strangers}
+use Rattle.transcript.specs.Moments.{MomentsRise, notes_told}
+use Rattle.transcript.specs.Answers.{columns_handed}
+use Rattle.transcript.specs.Transcript.{Known, first_life, ground_of}
+use Rattle.transcript.specs.Leaving.{IsKnown}
+use Rattle.leaf_moves.specs.Stage.{Leaf, IsDown, IsUp, IsPreparing, seated_of, Stands, AreHandedNothing}
+use Rattle.leaf_moves.specs.Holds.{Hold, caller_in, steward_in}
+
+-- ---- one table
+
+-- The lines, with numbers from n on, tell just those of the entries whose ids are these, in their order and each once.
+abbrev pub TellsOf : (ℕ → Type 0) → ℕ → List Shown → List Entry → Type 0
+TellsOf O n ss [] = ss ≡ []
+TellsOf O n ss (e ∷ es) = ((O e.caller → ⊥) × TellsOf O (suc n) ss es)
+    ⊎ (O e.caller × (s : Shown) × (rest : List Shown) × (ss ≡ s ∷ rest) × (s.number ≡ n) × Shows s.call s.said e × TellsOf O (suc n) rest es)
+
+abbrev pub OwnedBy : Option SeatView → ℕ → Type 0
+OwnedBy None id = ⊥
+OwnedBy (Some v) id = Owns v id
+
+-- the ids of the steward's seat and the callers', as far as they are there
+abbrev pub OneOf : Option SeatView → Option SeatView → ℕ → Type 0
+OneOf v c id = OwnedBy v id ⊎ OwnedBy c id
+
+-- these ids are callers', and none of the share from this id on
+abbrev pub StandApart : ℕ → ℕ → List ℕ → Type 0
+StandApart id share ids = AllByRecursion (λ (x : ℕ). (0 < x) × (InShare id share x → ⊥)) ids
+
+-- the steward's seat owns the id 0 alone; a callers' owns others, and what it took over is none of what it has
+pub record IsStewards (v : SeatView) : Type 0 where
+  pub id : v.id ≡ 0
+  pub share : v.share ≡ 1
+  pub taken : v.taken ≡ []
+
+pub record IsCallers (c : SeatView) : Type 0 where
+  pub id : 0 < c.id
+  pub share : 0 < c.share
+  pub apart : StandApart c.id c.share c.taken
+
+-- What is known of a table at which somebody holds these seats, and had seen so much when a stretch of the run began: what the steward's seat has seen since, up to the last meeting;
+-- what the callers' has seen behind that; and the lines of both, by their numbers.
+pub record TableSession (g : Ground) (start : List Entry) (number table : ℕ) (items : List PlayedItem) (v c : Option SeatView) : Type 0 where
+  pub stewards : IfSome v IsStewards
+  pub callers : IfSome c IsCallers
+  pub met : List Entry
+  pub since : List Entry
+  pub seen_steward : IfSome v (λ s. seen_of s ≡ start ++ met)
+  pub seen_caller : IfSome c (λ s. seen_of s ≡ start ++ (met ++ since))
+  pub alone : (c ≡ None → since ≡ []) × (v ≡ None → met ≡ [])
+  pub told : List Shown
+  pub later : List Shown
+  pub lines : IsPermutation (shown number table (all_pieces items)) (told ++ later)
+  pub tells : TellsOf (OneOf v c) (suc (length start)) told met
+  pub tells_later : TellsOf (OwnedBy c) (suc (length start) + length met) later since
+  pub order : InOrder number table (length start) items (length start + length (met ++ since))
+  pub legal : LegalFrom g.founded g.base (start ++ (met ++ since))
+
+-- ---- the leaf, and what is printed of it
+
+-- what the log is owed is what the lines say
+abbrev pub IsOwedAs : Option Owed → Owing → Type 0
+IsOwedAs None o = o.log.owed ≡ None
+IsOwedAs (Some told) o = (r : LogRecord) × (o.log.owed ≡ Some r) × (o.owner ≡ told.table) × (o.count ≡ told.count)
+
+-- how far a leaf has come that shuts its tables
+pub record IsProgressOf (x : Shutting) (p : Progress) : Type 0 where
+  pub owed : IsOwedAs p.owed x.serving.owing
+  pub treated_are : p.treated ≡ treated x
+  pub shut : p.shut ≡ x.shut
+  pub closed : length x.closed ≡ first_open p
+
+-- the leaf is in this mode
+abbrev pub FitsMode : Mode → Leaf → Type 0
+FitsMode Down (IsDown x) = ⊤
+FitsMode (Up owed) (IsUp x) = IsOwedAs owed x.owing
+FitsMode (Preparing p) (IsPreparing x) = IsProgressOf x p
+FitsMode _ _ = ⊥
+
+-- all that was taken of the table is flushed, and it is so much
+abbrev pub IsSettled : NamedStates → Shared → SeatView → ℕ → Type 0
+IsSettled base t v n = ((after true (base (name_of t)) (seen_of v)).taken ≡ n) × ((after true (base (name_of t)) (seen_of v)).flushed ≡ n)
+
+-- each table's count by its place
+abbrev pub AtCounts : (Shared → SeatView → ℕ → Type 0) → Seated → List ℕ → Type 0
+AtCounts P x counts = AtEach (λ place t v. (n : ℕ) → slice_get counts place ≡ Some n → P t v n) x
+
+-- just so many writes of each table are in the log: of a leaf at rest as it reads, and of one that serves all that were taken, while nothing is owed
+abbrev pub IsDurable : NamedStates → List ℕ → Leaf → Meaning → Type 0
+IsDurable base counts (IsDown x) m = (length counts ≡ length x.tables) × AtCounts (λ t v n. LogHas m.held.disk (name_of t) n) x counts
+IsDurable base counts (IsUp x) m = (length counts ≡ length x.seated.tables) × (x.owing.log.owed ≡ None) × AtCounts (IsSettled base) x.seated counts
+IsDurable base counts (IsPreparing x) m = (length counts ≡ length x.serving.seated.tables) × (x.serving.owing.log.owed ≡ None)
+    × AtCounts (IsSettled base) x.serving.seated counts
+    × AtEach (λ place t v. place < length x.closed → IsShutAndTaken (after true (base (name_of t)) (seen_of v))) x.serving.seated
+
+-- so will its next start be, where that is claimed; nothing is of a berth of which nothing is known
+abbrev pub FitsNext : Option Known → Life → Leaf → Meaning → Type 0
+FitsNext None life leaf m = (life.way ≡ None) × (life.durable ≡ None)
+FitsNext (Some k) life leaf m = IfSome life.way (IsWayOf m.held.region) × IfSome life.durable (λ counts. IsDurable k.base counts leaf m)
+
+-- the tables begin from this ground
+abbrev pub AreGrounded : Option Known → Seated → Type 0
+AreGrounded known x = AtEach (λ place t v. (is_founded (base_seen t) ≡ (ground_of known (name_of t)).founded) × (start_of (base_seen t) ≡ (ground_of known (name_of t)).base)) x
+
+-- the leaf has tables of these names, and a seat of its steward at each
+pub record AreInPlace (names : List (List ℕ)) (x : Seated) : Type 0 where
+  pub named : map name_of x.tables ≡ names
+  pub same_names : x.names ≡ names
+  pub seats : length x.seats ≡ length names
+  pub distinct : AreDistinct names
+
+-- ---- what stands of a leaf with a base
+
+-- the berth tells its contents, the base was handed in nothing, and this stands of the leaf
+pub record StandsKnown (k : Known) (leaf : Leaf) (m : Meaning) : Type 0 where
+  pub tells : IsTrue m.tells
+  pub sound : AreHandedNothing k.base
+  pub stands : Stands k.base leaf m
+
+-- region and disk read as the run was handed them, but for the flag of an open region and the first byte of a disk of at most one
+pub record IsAsHanded (held : Pair) (m : Meaning) : Type 0 where
+  pub region : IsBroken held.region m.held.region
+  pub disk : BeginsScan (length held.disk) held.disk m.held.disk
+
+-- until the leaf is first up, each stranger that it tells of has its cause
+pub record AreNamed (number : ℕ) (names : List (List ℕ)) (held : Pair) (life : Life) (pieces : List Piece) (m : Meaning) : Type 0 where
+  pub rest : life.begun ≡ false → (life.mode ≡ Down) × IsAsHanded held m
+  pub on : (more : List Piece) → (life.begun ≡ false → Strangers (IsNamedBy names held) number more) → Strangers (IsNamedBy names held) number (pieces ++ more)
+
+-- what holds of a run over a berth with a base, that meant `old` when it began
+pub record KnownLeaf (number : ℕ) (names : List (List ℕ)) (old : Meaning) (life : Life) (pieces : List Piece) (leaf : Leaf) (m : Meaning) (k : Known) : Type 0 where
+  pub now : StandsKnown k leaf m
+  pub told : moments.Told k.base (watched_with names k.base unseen) (watched_by (seated_of leaf)) old m
+  pub named : AreNamed number names k.held life pieces m
+
+-- ---- the leaf so far
+
+-- what the tables of this turnstile begin from
+abbrev pub ground_of_table : Shared → Ground
+ground_of_table t = record { founded = is_founded (base_seen t); base = start_of (base_seen t) }
+
+-- the grounds of the tables, and histories that go on from what the seats have seen
+pub record AreToldOn (grounds : ℕ → Ground) (histories : ℕ → List Entry) (x : Seated) : Type 0 where
+  pub grounded : AtEach (λ place t v. grounds place ≡ ground_of_table t) x
+  pub on : (place : ℕ) (v : SeatView) → slice_get x.seats place ≡ Some v → (more : List Entry) × (histories place ≡ seen_of v ++ more)
+
+-- What is known of a leaf by who holds it, behind these pieces of the run. Its berth meant `old` when the run began, and means `m` now. Its life is so, and the moments of its steward's entries do not fall, however the histories go on.
+pub record LeafHeld (number : ℕ) (names : List (List ℕ)) (known : Option Known) (old : Meaning) (pieces : List Piece) (leaf : Leaf) (m : Meaning) : Type 0 where
+  pub life : Life
+  pub lives : (grounds : ℕ → Ground) (histories : ℕ → List Entry) → AreToldOn grounds histories (seated_of leaf)
+      → Lives (is_some known) (length names) (columns_handed grounds histories) number (first_life known names) pieces life
+  pub moments : (grounds : ℕ → Ground) (histories : ℕ → List Entry) → AreToldOn grounds histories (seated_of leaf) → MomentsRise histories old.clock (notes_told number pieces) m.clock
+  pub in_place : AreInPlace names (seated_of leaf)
+  pub grounded : AreGrounded known (seated_of leaf)
+  pub mode : FitsMode life.mode leaf
+  pub next : FitsNext known life leaf m
+  pub of_known : IfSome known (KnownLeaf number names old life pieces leaf m)
+
+-- What is known of the leaf with this number by who holds seats of it, and the leaf itself where it is held. The stretch began behind the pieces `before`, when each table's
+-- history had come to `start`; since then these items were played. The whole run is the stretch that began with nothing.
+pub record LeafSession {B : Type 0} (meaning : B → Meaning) (number : ℕ) (names : List (List ℕ)) (known : Option Known) (old : Meaning) (before : List Piece) (start : ℕ → List Entry)
+    (items : List PlayedItem) (x : Hold B) : Type 0 where
+  pub named : map name_of x.tables ≡ names
+  pub callers_are : length x.callers ≡ length names
+  pub tables : (place : ℕ) (t : Shared) → slice_get x.tables place ≡ Some t
+      → TableSession (ground_of known (name_of t)) (start place) number place items (steward_in x.held place) (caller_in x.callers place)
+  pub grounded : (place : ℕ) (t : Shared) → slice_get x.tables place ≡ Some t
+      → (is_founded (base_seen t) ≡ (ground_of known (name_of t)).founded) × (start_of (base_seen t) ≡ (ground_of known (name_of t)).base)
+  pub held : (leaf : Leaf) (b : B) → x.held ≡ Some (leaf, b) → (map name_of (seated_of leaf).tables ≡ map name_of x.tables) × LeafHeld number names known old (before ++ all_pieces items) leaf (meaning b)
+
+-- the run holds the leaf, and of each table a seat with all ids but the steward's
+pub record IsWhole {B : Type 0} (x : Hold B) : Type 0 where
+  pub leaf : Leaf
+  pub berth : B
+  pub held : x.held ≡ Some (leaf, berth)
+  pub seats : (place : ℕ) → place < length x.callers → (c : SeatView) × (slice_get x.callers place ≡ Some (Some c)) × OwnsTheRest c
+
+-- each seat of the steward has seen what the callers' has, and that has entries of a turnstile's ids alone
+abbrev pub AreMet : {B : Type 0} → Hold B → Type 0
+AreMet x = (place : ℕ) (v c : SeatView) → steward_in x.held place ≡ Some v → caller_in x.callers place ≡ Some c → (seen_of v ≡ seen_of c) × AreIds c.seen
+
+-- no id is held by both
+abbrev pub AreApart : {B : Type 0} → Hold B → Hold B → Type 0
+AreApart x y = (place id : ℕ) → OneOf (steward_in x.held place) (caller_in x.callers place) id → OneOf (steward_in y.held place) (caller_in y.callers place) id → ⊥
+
+-- ---- pieces of other leaves
+
+-- a piece that tells nothing of the leaf with this number
+abbrev pub IsOthers : ℕ → Piece → Type 0
+IsOthers number (Called leaf table c n said) = (leaf == number) ≡ false
+IsOthers number (Worn leaf table) = (leaf == number) ≡ false
+IsOthers number (Acted leaf deed notes ending) = (leaf == number) ≡ false
+IsOthers number (Says line) = ⊤
+
+-- a piece that is no deed of the leaf with this number
+abbrev pub IsNoDeed : ℕ → Piece → Type 0
+IsNoDeed number (Called leaf table c n said) = ⊤
+IsNoDeed number (Worn leaf table) = ⊤
+IsNoDeed number (Acted leaf deed notes ending) = (leaf == number) ≡ false
+IsNoDeed number (Says line) = ⊤
+
+abbrev pub HasNoDeed : ℕ → List Piece → Type 0
+HasNoDeed number pieces = AllByRecursion (IsNoDeed number) pieces
+
+-- both hold the same ids of each table, and the leaf or not
+pub record AreSame {B : Type 0} (x y : Hold B) : Type 0 where
+  pub ids : (place id : ℕ) → (OneOf (steward_in x.held place) (caller_in x.callers place) id → OneOf (steward_in y.held place) (caller_in y.callers place) id)
+      × (OneOf (steward_in y.held place) (caller_in y.callers place) id → OneOf (steward_in x.held place) (caller_in x.callers place) id)
+  pub held : is_some x.held ≡ is_some y.held
+
+-- z holds what x and y held
+pub record HoldsBoth {B : Type 0} (x y z : Hold B) : Type 0 where
+  pub ids : (place id : ℕ) → (OneOf (steward_in z.held place) (caller_in z.callers place) id
+      → OneOf (steward_in x.held place) (caller_in x.callers place) id ⊎ OneOf (steward_in y.held place) (caller_in y.callers place) id)
+      × (OneOf (steward_in x.held place) (caller_in x.callers place) id ⊎ OneOf (steward_in y.held place) (caller_in y.callers place) id
+      → OneOf (steward_in z.held place) (caller_in z.callers place) id)
+  pub held : (is_some x.held ≡ false → is_some z.held ≡ is_some y.held) × (is_some y.held ≡ false → is_some z.held ≡ is_some x.held)
+  pub one : (is_some x.held ≡ false) ⊎ (is_some y.held ≡ false)
+
+-- ---- how a run begins
+
+-- a leaf may begin over the berth, and what stands of one at rest stands there
+pub record StandsFirst (x : Seated) (m : Meaning) (base : NamedStates) : Type 0 where
+  pub begins : MayBegin base m
+  pub stands : Stands base (IsDown x) m
+
+-- A leaf that is down, whose seats have made no entry yet. Where its berth's base is known, it is one that a leaf may begin over the berth with.
+pub record IsNewHold {B : Type 0} (meaning : B → Meaning) (names : List (List ℕ)) (base : Option NamedStates) (known : Option Known) (x : Hold B) : Type 0 where
+  pub seated : Seated
+  pub berth : B
+  pub down : x.held ≡ Some (IsDown seated, berth)
+  pub tables : seated.tables ≡ x.tables
+  pub in_place : AreInPlace names seated
+  pub callers_are : length x.callers ≡ length names
+  pub first : IfSome base (StandsFirst seated (meaning berth))
+  pub is_known : IsKnown base (meaning berth) known
+  pub grounded : AreGrounded known seated
+  pub unused : (place : ℕ) (t : Shared) → slice_get x.tables place ≡ Some t
+      → (slice_get seated.seats place ≡ Some (unused_seat t.site 0 1 1024)) × (slice_get x.callers place ≡ Some (Some (unused_seat t.site 1 65536 65536)))
