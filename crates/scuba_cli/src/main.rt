@@ -25,16 +25,10 @@ use std::{env, io};
 /// How many leaves may have a berth.
 const BERTHS: u32 = 256;
 
-/// The words of the command line are no command.
-const WORDS: u8 = 2;
-
-/// Memory ran out.
-const NO_MEMORY: u8 = 6;
-
 fn main(rt: HostRuntime) -> ExitCode {
     let line = match read_line(&rt) {
         Ok(line) => line,
-        Err(refusal) => return ExitCode::from(refusal_number(refusal)),
+        Err(refusal) => return ended(&rt, &refusal_status(refusal)),
     };
     let words = line.words.as_slice();
     match line.folder.as_str() {
@@ -52,14 +46,14 @@ fn serve<
     requires { IfOk berths (λ berths. AreBases N.base B.meaning berths.items) }
 {
     let Ok(mut berths) = berths else {
-        return ExitCode::from(NO_MEMORY);
+        return ended(rt, &Status::NoMemory);
     };
     let Ok(count) = Box::new(rt.alloc(), CountWatch::new()) else {
-        return ExitCode::from(NO_MEMORY);
+        return ended(rt, &Status::NoMemory);
     };
     let mut watches: Vec<Box<dyn Watch>> = Vec::new(rt.alloc());
     if watches.push(count).is_err() {
-        return ExitCode::from(NO_MEMORY);
+        return ended(rt, &Status::NoMemory);
     }
     let mut source = StdSource::new(rt.reader());
     let mut sink = StdSink::new(io::writer(rt));
@@ -73,8 +67,7 @@ fn serve<
         &OpenGate,
         &mut watches,
     );
-    tell(rt, &status);
-    ExitCode::from(status_number(&status))
+    ended(rt, &status)
 }
 
 /// Berths in memory that hold nothing, and to which nothing was ever written.
@@ -104,6 +97,12 @@ fn file_berths(rt: HostRuntime, folder: &str) -> Result<Vec<FileBerth>, AllocErr
     Ok(berths)
 }
 
+/// How the program ends at this status: it says why on standard error, where not all was done.
+fn ended<R: AllocGlobal + Eprint>(rt: &R, status: &Status) -> ExitCode {
+    tell(rt, status);
+    ExitCode::from(status_number(status))
+}
+
 /// Says on standard error why the run was not done. Where there is no memory for that, nothing is said.
 fn tell<R: AllocGlobal + Eprint>(rt: &R, status: &Status) {
     if matches!(status, Status::Done) {
@@ -126,18 +125,18 @@ fn status_number(status: &Status) -> u8
 {
     match status {
         Status::Done => 0,
-        Status::Words => WORDS,
+        Status::Words => 2,
         Status::Script { .. } => 3,
         Status::ReadFault => 4,
         Status::WriteFault => 5,
-        Status::NoMemory => NO_MEMORY,
+        Status::NoMemory => 6,
     }
 }
 
-/// The number of the status where there is no command line.
-fn refusal_number(refusal: Refusal) -> u8 {
+/// The status where there is no command line.
+fn refusal_status(refusal: Refusal) -> Status {
     match refusal {
-        Refusal::Words => WORDS,
-        Refusal::NoMemory => NO_MEMORY,
+        Refusal::Words => Status::Words,
+        Refusal::NoMemory => Status::NoMemory,
     }
 }
