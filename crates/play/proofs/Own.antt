@@ -10,10 +10,10 @@ use Rattle.script_text.specs.declared.fault.ScriptFault.{ScriptFault}
 use Rattle.script_text.specs.declared.fault.ScriptFault.TheVariants.{At, NoMemory}
 use Rattle.script_text.specs.Script.{IfAt, script_of}
 use Rattle.script_text.proofs.Own.{own_fault}
-use Rattle.row_count.specs.Outcome.{IsRefused, TakesText, IfScript, if_short}
-use Rattle.row_count.specs.Source.{longest_text}
-use Rattle.row_count.specs.declared.status.Status.{Status}
-use Rattle.row_count.specs.declared.status.Status.TheVariants as status
+use Rattle.run_ends.specs.Outcome.{IsRefused, TakesText, IfScript, if_short}
+use Rattle.run_ends.specs.Source.{longest_text}
+use Rattle.run_ends.specs.declared.status.Status.{Status}
+use Rattle.run_ends.specs.declared.status.Status.TheVariants as status
 use Rattle.play.specs.Outcome.{play_verdict, status_of_fault, status_played}
 
 -- the status of a text that is not too long is what it comes to

@@ -14,7 +14,7 @@ use Rattle.script_text.specs.declared.script.Script.{Script}
 use Rattle.script_text.specs.Commands.{leaf_count}
 use Rattle.script_text.specs.Script.{script_of}
 use Rattle.soak.specs.Soak.{soak_script}
-use Rattle.row_count.specs.declared.status.Status.{Status}
+use Rattle.run_ends.specs.declared.status.Status.{Status}
 use Rattle.transcript.specs.Pieces.{PlayedItem, all_lines, item_of, plays_in, script_fleet}
 use Rattle.transcript.specs.Transcript.{Known}
 use Rattle.transcript.specs.Leaving.{IsToldRun}

@@ -5,10 +5,10 @@ use Rattle.berth_face.specs.Streams.{TakesAtMost}
 use Rattle.script_text.specs.declared.script.Script.{Script}
 use Rattle.script_text.specs.declared.fault.Why.TheVariants as why
 use Rattle.soak.specs.Soak.{soak_script}
-use Rattle.row_count.specs.Outcome.{IfScript, TakesText}
-use Rattle.row_count.specs.Source.{longest_text}
-use Rattle.row_count.specs.declared.status.Status.{Status}
-use Rattle.row_count.specs.declared.status.Status.TheVariants as status
+use Rattle.run_ends.specs.Outcome.{IfScript, TakesText}
+use Rattle.run_ends.specs.Source.{longest_text}
+use Rattle.run_ends.specs.declared.status.Status.{Status}
+use Rattle.run_ends.specs.declared.status.Status.TheVariants as status
 use Rattle.play.specs.Outcome.{soak_verdict}
 use Rattle.play.specs.Played.{leaves_in, soak_leaves}
 

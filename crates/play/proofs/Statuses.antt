@@ -1,7 +1,7 @@
 -- A run is done where nothing is at fault.
 use Rattle.std.proofs.Common.{◌≡◌, inl, inr, ◌∙◌, ℕ, refl}
 use Rattle.script_text.specs.declared.fault.Why.{Why}
-use Rattle.row_count.specs.declared.status.Status.TheVariants as status
+use Rattle.run_ends.specs.declared.status.Status.TheVariants as status
 use Rattle.play.specs.Complete.{IsComplete}
 
 words_differ : status.Words ≡ status.Done → ⊥

@@ -1,8 +1,8 @@
 -- That a run is done where nothing is at fault.
 use Rattle.std.specs.Prelude.{◌≡◌, ◌⊎◌, ◌↔◌, ℕ, List, Option, Some, None, IfSome}
 use Rattle.berth_face.specs.Causes.{Rose}
-use Rattle.row_count.specs.Outcome.{IfScript, UnlessCutOff}
-use Rattle.row_count.specs.declared.status.Status.{Status}
+use Rattle.run_ends.specs.Outcome.{IfScript, UnlessCutOff}
+use Rattle.run_ends.specs.declared.status.Status.{Status}
 use Rattle.play.specs.Outcome.{IsTextRefused, verdict}
 use Rattle.play.specs.declared.words.Request.{Request}
 

@@ -10,9 +10,10 @@ use Rattle.script_text.specs.declared.fault.ScriptFault.TheVariants.{At, NoMemor
 use Rattle.script_text.specs.declared.script.Script.{Script}
 use Rattle.script_text.specs.Commands.{Fault}
 use Rattle.script_text.specs.Script.{script_of}
-use Rattle.row_count.specs.Outcome.{IsCounted, IsRefused, count_verdict, if_short}
+use Rattle.run_ends.specs.Outcome.{IsRefused, if_short}
+use Rattle.row_count.specs.Outcome.{IsCounted, count_verdict}
 use Rattle.row_count.specs.declared.count.Range.{Range}
-use Rattle.row_count.specs.declared.status.Status.{Status}
+use Rattle.run_ends.specs.declared.status.Status.{Status}
 use Rattle.play.specs.Played.{IsPlayed, IsSoaked, leaves_in, soak_leaves}
 use Rattle.play.specs.declared.words.Request.{Request}
 use Rattle.play.specs.declared.words.Request.TheVariants.{Count, Play, Soak}

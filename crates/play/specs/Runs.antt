@@ -23,7 +23,7 @@ use Rattle.transcript_fleet.specs.Session.{Session}
 use Rattle.transcript_fleet.specs.Laws.{IsToldFleet}
 use Rattle.player.specs.Crew.{AllCounted, berth_in}
 use Rattle.bursts.specs.Items.{MayPlayItem}
-use Rattle.row_count.specs.declared.status.Status.{Status}
+use Rattle.run_ends.specs.declared.status.Status.{Status}
 use Rattle.play.specs.Played.{KeepsCounts}
 
 -- ---- the tables

@@ -10,7 +10,7 @@ use Rattle.script_text.specs.Script.{script_of}
 use Rattle.soak.specs.Soak.{soak_script}
 use Rattle.printed_lines.specs.Lines.{lines_text}
 use Rattle.script_text.specs.declared.fleet.Fleet.{Fleet}
-use Rattle.row_count.specs.declared.status.Status.{Status}
+use Rattle.run_ends.specs.declared.status.Status.{Status}
 use Rattle.transcript.specs.Pieces.{PlayedItem, all_lines, all_pieces, item_lines, item_of, plays_in, plays_of}
 use Rattle.transcript.specs.Transcript.{Known}
 use Rattle.transcript.specs.Leaving.{AreKnown}

@@ -22,7 +22,7 @@ use leaf_model::Names;
 use player::Crew;
 use printed_lines::{Line, put_lines};
 use rollover_watch::Watch;
-use row_count::{Status, write_all};
+use run_ends::{Status, write_all};
 use script_text::{Command, Item, Items};
 use std::alloc::{AllocError, Global};
 use std::collections::VecDeque;

@@ -17,5 +17,5 @@ pub use kept::{Choice, KeptTables, KnownBerths};
 pub use known::{keep, run_keeping, run_known, run_twice};
 pub use laws::complete;
 pub use program::run;
-pub use row_count::{Status, fault_text};
+pub use run_ends::{Status, fault_text};
 pub use script_text::Why;

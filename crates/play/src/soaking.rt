@@ -1,7 +1,7 @@
 // The play of a script that two numbers make.
 ghost use Rattle.std.specs.Prelude.{◌≡◌, ◌≢◌, ◌≤◌, length, map};
 ghost use Rattle.berth_face.specs.Causes.{Rose};
-ghost use Rattle.row_count.specs.Outcome.{IfScript, UnlessCutOff};
+ghost use Rattle.run_ends.specs.Outcome.{IfScript, UnlessCutOff};
 ghost use Rattle.play.specs.Outcome.{UnlessPlayed, soak_verdict};
 ghost use Rattle.play.specs.Shortened.{IfShort, SoakEndsShort};
 ghost use Rattle.play.specs.Played.{AreBases, IsSoaked, LeavesBerths, soak_leaves};
@@ -10,7 +10,7 @@ use crate::bases::Bases;
 use crate::berths::play_items;
 use berth_face::{Berth, Gate, Sink};
 use rollover_watch::Watch;
-use row_count::Status;
+use run_ends::Status;
 use script_text::Why;
 use std::alloc::Global;
 use std::sync::Wait;

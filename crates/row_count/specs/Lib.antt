@@ -1,4 +1,2 @@
 pub mod Count
-pub mod Source
 pub mod Outcome
-pub mod Faults

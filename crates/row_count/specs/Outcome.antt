@@ -1,16 +1,13 @@
 -- What a count leaves, and which status its text decides.
-use Rattle.std.specs.Prelude.{◌≡◌, ℕ, List, [], ◌∷◌, ◌++◌, length, nat_lt, if◌then◌else◌, Option, Result, Ok, Err, codes, decimal}
+use Rattle.std.specs.Prelude.{◌≡◌, ℕ, List, [], ◌∷◌, ◌++◌, Option, Result, Ok, Err, codes, decimal}
 use Rattle.std.specs.Io.KnownBytes.{Appends}
-use Rattle.berth_face.specs.Streams.{ReadsAll, TakesAtMost, TakesCount, WritesFront}
-use Rattle.script_text.specs.declared.fault.Why.{Why}
+use Rattle.berth_face.specs.Streams.{ReadsAll, WritesFront}
 use Rattle.script_text.specs.declared.fault.Why.TheVariants as why
+use Rattle.run_ends.specs.Outcome.{if_short}
+use Rattle.run_ends.specs.declared.status.Status.{Status}
 use Rattle.row_count.specs.Count.{count_of}
-use Rattle.row_count.specs.Source.{longest_text, most_taken}
 use Rattle.row_count.specs.declared.count.LineFault.{LineFault}
 use Rattle.row_count.specs.declared.count.Range.{Range}
-use Rattle.row_count.specs.declared.status.Status.{Status}
-
--- ---- counts
 
 -- the line that tells a count
 abbrev pub count_line : ℕ → List ℕ
@@ -35,42 +32,6 @@ abbrev pub status_of : Result ℕ LineFault → Status
 status_of (Ok count) = Status.Done
 status_of (Err found) = Status.Script found.line (why.Row found.fault)
 
--- the status that a text decides, unless it is too long
-abbrev pub if_short : List ℕ → Status → Status
-if_short text status = if nat_lt longest_text (length text) then Status.Script 0 why.TooLong else status
-
 -- the status of a text whose rows are counted
 abbrev pub count_verdict : Range → List ℕ → Status
 count_verdict range text = if_short text (status_of (count_of range text))
-
--- ---- why a source is refused
-
--- one byte too much was taken, or the source was read to its end and its text decides this status
-abbrev pub IsRefused : (List ℕ → Status) → Option (List ℕ) → Option (List ℕ) → ℕ → Why → Type 0
-IsRefused decided before after line why.TooLong = (line ≡ 0) × TakesCount before after most_taken
-IsRefused decided before after line fault = (text : List ℕ) × ReadsAll before after text × (decided text ≡ Status.Script line fault)
-
--- ---- what holds at which status
-
--- what holds of the line and the cause of a refused text
-abbrev pub IfScript : Status → (ℕ → Why → Type 0) → Type 0
-IfScript (Status.Script line why) P = P line why
-IfScript _ P = Unit {0}
-
--- what holds unless the outside failed or memory ran out
-abbrev pub UnlessCutOff : Status → Type 0 → Type 0
-UnlessCutOff Status.ReadFault P = Unit {0}
-UnlessCutOff Status.WriteFault P = Unit {0}
-UnlessCutOff Status.NoMemory P = Unit {0}
-UnlessCutOff _ P = P
-
--- what holds at every status but those that follow a write
-abbrev pub UnlessWritten : Status → Type 0 → Type 0
-UnlessWritten Status.Done P = Unit {0}
-UnlessWritten Status.WriteFault P = Unit {0}
-UnlessWritten _ P = P
-
--- one byte more than a text may have is taken where it is refused as too long, and never otherwise
-abbrev pub TakesText : Status → Option (List ℕ) → Option (List ℕ) → Type 0
-TakesText (Status.Script line why.TooLong) before after = TakesCount before after most_taken
-TakesText _ before after = TakesAtMost before after longest_text

@@ -1,6 +1,6 @@
 -- The numbers that the program ends with.
 use Rattle.std.specs.Prelude.{ℕ}
-use Rattle.row_count.specs.declared.status.Status.{Status}
+use Rattle.run_ends.specs.declared.status.Status.{Status}
 
 -- the exit status of a run
 abbrev pub exit_number : Status → ℕ

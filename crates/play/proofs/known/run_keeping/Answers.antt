@@ -1,5 +1,5 @@
 use Rattle.std.proofs.Common.{rules, ◌≡◌, ap}
-use Rattle.row_count.specs.declared.status.Status.{Status}
+use Rattle.run_ends.specs.declared.status.Status.{Status}
 use Rattle.play.specs.Played.{IsPlayed}
 use Rattle.play.proofs.KeepsBase.{is_played, leaves_kept}
 use Rattle.play.proofs.known.run_keeping.Goals as goal

@@ -1,7 +1,7 @@
 use Rattle.std.proofs.Common.{rules, ◌≡◌, ◌≤◌, sym, subst, length, Ok}
 use Rattle.berth_face.specs.Streams.{ReadsAll, TakesAtMost}
-use Rattle.row_count.specs.Outcome.{IfScript, IsRefused, TakesText}
-use Rattle.row_count.specs.Source.{longest_text}
+use Rattle.run_ends.specs.Outcome.{IfScript, IsRefused, TakesText}
+use Rattle.run_ends.specs.Source.{longest_text}
 use Rattle.play.specs.Outcome.{play_verdict}
 use Rattle.script_text.specs.Fits.{IsScript}
 use Rattle.script_text.specs.Script.{script_of}

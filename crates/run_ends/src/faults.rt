@@ -1,7 +1,7 @@
 // A status as one line for people.
 ghost use Rattle.std.specs.Prelude.{◌≡◌, ◌≢◌, IfOk, string_bytes};
 ghost use Rattle.row_json.specs.declared.object.RowFault.TheVariants as fault;
-ghost use Rattle.row_count.specs.Faults.{at_line, cause_of, fault_text, query_cause, quoted, row_cause};
+ghost use Rattle.run_ends.specs.Faults.{at_line, cause_of, fault_text, query_cause, quoted, row_cause};
 
 use crate::status::Status;
 use leaf_model::Text;

@@ -3,7 +3,7 @@ ghost use Rattle.std.specs.Prelude.{◌≡◌, ◌≤◌, ◌<◌, ◌+◌, leng
 ghost use Rattle.std.specs.Io.KnownBytes.{Appends, IsAtEnd, Keeps};
 ghost use Rattle.berth_face.specs.Causes.{Rose, HasCause};
 ghost use Rattle.berth_face.specs.Streams.{ReadsAll, TakesAtMost, TakesCount, WritesFront};
-ghost use Rattle.row_count.specs.Source.{TookMore};
+ghost use Rattle.run_ends.specs.Source.{TookMore};
 
 use berth_face::{Failed, Sink, Source};
 use std::alloc::{AllocError, Global};

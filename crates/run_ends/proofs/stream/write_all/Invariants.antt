@@ -1,6 +1,6 @@
 use Rattle.std.proofs.Common.{◌≤◌, length}
 use Rattle.berth_face.specs.Streams.{Written}
-use Rattle.row_count.proofs.stream.write_all.Given as goal
+use Rattle.run_ends.proofs.stream.write_all.Given as goal
 
 abbrev pub invariant-loop-rest : goal.invariant-loop-rest
 invariant-loop-rest g l =

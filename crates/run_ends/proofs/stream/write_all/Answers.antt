@@ -1,7 +1,7 @@
 use Rattle.std.proofs.Common.{arith, sym, ◌∙◌}
 use Rattle.std.proofs.lemmas.Bool.{eqb-true}
 use Rattle.berth_face.proofs.Streams.{written_start, written_more, written_kept, written_all}
-use Rattle.row_count.proofs.stream.write_all.Goals as goal
+use Rattle.run_ends.proofs.stream.write_all.Goals as goal
 
 pub loop-rest-init : goal.loop-rest-init
 loop-rest-init g c = (written_start _ _, omega arith)

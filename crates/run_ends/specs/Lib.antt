@@ -1,0 +1,3 @@
+pub mod Source
+pub mod Faults
+pub mod Outcome
