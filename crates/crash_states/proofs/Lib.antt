@@ -5,3 +5,4 @@ pub mod Pairs
 pub mod Lefts
 pub mod Meeting
 pub mod Whole
+pub mod Opened

@@ -5,6 +5,7 @@ use Rattle.row_records.specs.Records.{LogRecord}
 use Rattle.berth_face.specs.Berth.{Meaning}
 use Rattle.leaf_history.specs.History.{HistoryState, base_of}
 use Rattle.crash_moments.specs.Left.{NamedStates}
+use Rattle.disk_backup.specs.SoundLogs.{HasSoundLog}
 use Rattle.crash_states.specs.Standing.{Rests}
 
 -- A leaf with this base may begin over the berth: each log that a crash may leave has the least writes of each name, or those of one record more, and the base has the longest.
@@ -22,3 +23,10 @@ pub record BeginsAgain (tables : NamedStates) (m : Meaning) : Type 0 where
   pub is : (name : List ℕ) → base name ≡ base_of (base name).writes (base name).flushed
   pub begins : MayBegin base m
   pub front : (name : List ℕ) → IsFrontOf (tables name) (base name)
+
+-- a leaf may begin over a berth that was opened on this disk: its base is what the log has, all of it flushed, which is a front of the writes of each table
+pub record BeginsOnLog (tables : NamedStates) (disk : List ℕ) (m : Meaning) : Type 0 where
+  pub logged : List ℕ → List Write
+  pub log : HasSoundLog logged disk
+  pub begins : MayBegin (λ name. base_of (logged name) (length (logged name))) m
+  pub front : (name : List ℕ) → IsFrontOf (tables name) (base_of (logged name) (length (logged name)))

@@ -1,8 +1,9 @@
 // Over which berths a leaf may begin.
 ghost use Rattle.crash_moments.specs.Base.{IsReady};
 ghost use Rattle.region_directory.specs.Region.{reads};
-ghost use Rattle.crash_moments.specs.Left.{NamedStates};
-ghost use Rattle.crash_states.specs.Beginning.{MayBegin};
+ghost use Rattle.berth_face.specs.Berth.{OpenedOn, Pair};
+ghost use Rattle.crash_moments.specs.Left.{NamedStates, Left};
+ghost use Rattle.crash_states.specs.Beginning.{BeginsOnLog, MayBegin};
 ghost use Rattle.leaf_machine.specs.Leaving.{LeavesBegin};
 
 use berth_face::Berth;
@@ -16,4 +17,9 @@ pub fn begins_where_ready<B: Berth>(berth: &B)
 /// each table, and each flushed one is in every log that a crash may leave.
 pub fn leaves_begin<B: Berth>(berth: &B)
     ensures { LeavesBegin (B.meaning berth.now) }
+{}
+
+/// Over a berth that was opened on a region and a disk which belong to some tables, as each pair does that a crash may leave, a leaf may begin: its base is what the log has.
+pub fn begins_where_opened<B: Berth>(berth: &B)
+    ensures { (tables : NamedStates) (p : Pair) → Left reads tables p → OpenedOn p.region p.disk (B.meaning berth.now) → BeginsOnLog tables p.disk (B.meaning berth.now) }
 {}
