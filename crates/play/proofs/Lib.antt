@@ -6,8 +6,6 @@ pub mod Beginning
 pub mod Own
 pub mod Ends
 pub mod Short
-pub mod Listing
-pub mod KeepsBase
 pub mod Statuses
 pub mod Soaked
 pub mod Pieces

@@ -3,7 +3,6 @@ pub mod Empty
 pub mod Played
 pub mod Runs
 pub mod Outcome
-pub mod Keeping
 pub mod Complete
 pub mod Cut
 pub mod Shortened

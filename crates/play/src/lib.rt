@@ -3,8 +3,6 @@
 
 mod bases;
 mod berths;
-mod kept;
-mod known;
 mod laws;
 mod program;
 mod script;
@@ -13,8 +11,6 @@ mod tables;
 mod words;
 
 pub use bases::{Bases, EmptyBerths};
-pub use kept::{Choice, KeptTables, KnownBerths};
-pub use known::{keep, run_keeping, run_known, run_twice};
 pub use laws::complete;
 pub use program::run;
 pub use run_ends::{Status, fault_text};

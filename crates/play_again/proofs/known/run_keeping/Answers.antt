@@ -1,8 +1,8 @@
 use Rattle.std.proofs.Common.{rules, ◌≡◌, ap}
 use Rattle.run_ends.specs.declared.status.Status.{Status}
 use Rattle.play.specs.Played.{IsPlayed}
-use Rattle.play.proofs.KeepsBase.{is_played, leaves_kept}
-use Rattle.play.proofs.known.run_keeping.Goals as goal
+use Rattle.play_again.proofs.KeepsBase.{is_played, leaves_kept}
+use Rattle.play_again.proofs.known.run_keeping.Goals as goal
 
 pub keep_left-requires : goal.keep_left-requires
 keep_left-requires g c =

@@ -1,7 +1,7 @@
 use Rattle.std.proofs.Common.{IfSome, subst}
-use Rattle.play.specs.Keeping.{LeavesKnown}
-use Rattle.play.proofs.KeepsBase.{bases_left}
-use Rattle.play.proofs.known.run_twice.Goals as goal
+use Rattle.play_again.specs.Keeping.{LeavesKnown}
+use Rattle.play_again.proofs.KeepsBase.{bases_left}
+use Rattle.play_again.proofs.known.run_twice.Goals as goal
 
 pub run_known-next-requires-clause-bases : goal.run_known-next-requires-clause-bases
 run_known-next-requires-clause-bases g c κs within =

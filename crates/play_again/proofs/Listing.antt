@@ -22,7 +22,7 @@ use Rattle.crash_states.specs.Beginning.{IsFrontOf}
 use Rattle.leaf_machine.proofs.CopyWatching.{nothing_sound}
 use Rattle.leaf_machine.proofs.LeaveRests.{whole_most}
 use Rattle.play.specs.Played.{AreShut, IsBase}
-use Rattle.play.specs.Keeping.{IsKeptOf, Kept, states_of}
+use Rattle.play_again.specs.Keeping.{IsKeptOf, Kept, states_of}
 
 -- a table's writes are a front of them
 pub front_same : (s : HistoryState) → IsFrontOf s s
@@ -55,13 +55,13 @@ records_with None records least same = (records, same)
 records_with (Some r) records least same = (records ++ r ∷ [], writes_more records r least same)
 
 module _ (base : NamedStates) (m : Meaning) (is : IsBase base m) where
-  abbrev least : List ℕ → List Write
+  abbrev pub least : List ℕ → List Write
   least = is.begins.1.0
 
-  abbrev next : Option LogRecord
+  abbrev pub next : Option LogRecord
   next = is.begins.1.1
 
-  abbrev most : List ℕ → List Write
+  abbrev pub most : List ℕ → List Write
   most = with_writes next least
 
   rests : Rests [] base least next m
@@ -76,11 +76,19 @@ module _ (base : NamedStates) (m : Meaning) (is : IsBase base m) where
       by (inl log) = records_with next log.sound.0 least log.each
       by (inr log) = (log.sound.0, log.each)
 
-  abbrev kept : List Kept
+  abbrev pub kept : List Kept
   kept = kept_of base longest.0
 
-  no_least : (name : List ℕ) → most name ≡ [] → least name ≡ []
+  pub no_least : (name : List ℕ) → most name ≡ [] → least name ≡ []
   no_least name none = nil_from_length (least name) (omega (arith, ap (λ (l : List Write). length l) none, (with_owed next least name).no_less))
+
+  -- where a name that no log has has no writes in the base, the list is the base
+  pub same_kept : ((name : List ℕ) → most name ≡ [] → base name ≡ no_base) → (name : List ℕ) → states_of kept name ≡ base name
+  same_kept none name = by (listed base longest.0 name is.is)
+    where
+      by : (states_of kept name ≡ base name) ⊎ ((states_of kept name ≡ no_base) × (writes_of name longest.0 ≡ [])) → states_of kept name ≡ base name
+      by (inl e) = e
+      by (inr no) = no.0 ∙ sym (none name (sym (longest.1 name) ∙ no.1))
 
   -- what holds of a name in the base, and of no writes where no log has any, holds of it in the list
   carried : (P : HistoryState → Type 0) (name : List ℕ) → P (base name) → (most name ≡ [] → P no_base) → P (states_of kept name)
@@ -128,7 +136,7 @@ module _ (base : NamedStates) (m : Meaning) (is : IsBase base m) where
     region = region_kept;
   }
 
-  base_kept : IsBase (states_of kept) m
+  pub base_kept : IsBase (states_of kept) m
   base_kept = record {
     begins = (is.begins.0, (least, next, rests_kept));
     is = λ name. carried (λ s. s ≡ base_of s.writes s.flushed) name (is.is name) (λ none. refl);

@@ -1,5 +1,5 @@
-use Rattle.play.specs.Keeping.{LeavesKnown}
-use Rattle.play.proofs.known.run_keeping.Given as goal
+use Rattle.play_again.specs.Keeping.{LeavesKnown}
+use Rattle.play_again.proofs.known.run_keeping.Given as goal
 
 -- what this run leaves known
 abbrev pub ghosts-keep_left : goal.ghosts-keep_left

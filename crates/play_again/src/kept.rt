@@ -1,6 +1,6 @@
 // What is known of berths, as a token that contracts alone see: a proof chooses it when it is made.
 ghost use Rattle.std.specs.Prelude.{◌≡◌, List, Option, IfOk};
-ghost use Rattle.play.specs.Keeping.{Kept};
+ghost use Rattle.play_again.specs.Keeping.{Kept};
 
 use atomic_table::{Play, Seat, Table, TableRule};
 use std::alloc::{AllocError, Global};
@@ -13,7 +13,7 @@ pub struct KeptTables {
 
 impl Model for KeptTables {
     ghost use Rattle.std.specs.Prelude.{List, Option, []};
-    ghost use Rattle.play.specs.Keeping.{Kept};
+    ghost use Rattle.play_again.specs.Keeping.{Kept};
 
     ghost Value = { List (Option (List Kept)) };
 
@@ -23,7 +23,7 @@ impl Model for KeptTables {
 /// What is chosen.
 pub trait Choice {
     ghost use Rattle.std.specs.Prelude.{List, Option};
-    ghost use Rattle.play.specs.Keeping.{Kept};
+    ghost use Rattle.play_again.specs.Keeping.{Kept};
 
     ghost fits: { List (Option (List Kept)) → Type 0 };
 }
@@ -60,7 +60,7 @@ pub struct KnownBerths {
 
 impl Model for KnownBerths {
     ghost use Rattle.std.specs.Prelude.{List, Option};
-    ghost use Rattle.play.specs.Keeping.{Kept};
+    ghost use Rattle.play_again.specs.Keeping.{Kept};
 
     ghost Value = { List (Option (List Kept)) };
 

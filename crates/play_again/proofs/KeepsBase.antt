@@ -33,9 +33,9 @@ use Rattle.transcript.specs.Leaving.{AreKnown, IsKnown, IsToldRun}
 use Rattle.transcript.specs.Transcript.{Known}
 use Rattle.transcript_leaf.proofs.Lists.{element_at, same_some, within}
 use Rattle.play.proofs.Lists.{choose_each}
-use Rattle.play.proofs.Listing.{front_same, list_kept}
+use Rattle.play_again.proofs.Listing.{front_same, list_kept}
 use Rattle.play.specs.Played.{AreBases, IsBase, IsPlayed}
-use Rattle.play.specs.Keeping.{ArePlayedTwice, IsKeptOf, KeepsEach, KeepsOne, Kept, LeavesKnown, base_kept, bases_of, tables_left}
+use Rattle.play_again.specs.Keeping.{ArePlayedTwice, IsKeptOf, KeepsEach, KeepsOne, Kept, LeavesKnown, base_kept, bases_of, tables_left}
 use Rattle.play.specs.Outcome.{IsDone}
 use Rattle.play.specs.declared.words.Request.{Request}
 use Rattle.play.specs.declared.words.Request.TheVariants.{Play}
@@ -186,7 +186,7 @@ leaves_kept base meaning left written source said_source next_source sink said_s
 -- ---- what is kept serves the next run
 
 -- a kept base is one where its list has it
-base_there : {B : Type 0} (meaning : B → Meaning) (b : B) (next : List (Option (List Kept))) (leaf : ℕ)
+pub base_there : {B : Type 0} (meaning : B → Meaning) (b : B) (next : List (Option (List Kept))) (leaf : ℕ)
     → ((kept : Option (List Kept)) → slice_get next leaf ≡ Some kept → IfSome (base_kept kept) (λ states. IsBase states (meaning b))) → IfSome (bases_of next leaf) (λ states. IsBase states (meaning b))
 base_there meaning b [] leaf each = tt
 base_there meaning b (kept ∷ more) zero each = each kept refl
