@@ -13,7 +13,7 @@ use Rattle.leaf_steward.specs.declared.notes.Note.{Note}
 use Rattle.leaf_steward.specs.Seated.{Seated, AreFounded, watched_by}
 use Rattle.leaf_steward.specs.Making.{Makes, NotesOn, OneEntry}
 use Rattle.leaf_steward.proofs.WatchMakes.{makes_tables}
-use Rattle.log_steward.specs.Owing.{RunsTo}
+use Rattle.leaf_steward.specs.Owing.{RunsTo}
 use Rattle.leaf_machine.specs.States.{Serving, GoesOn, GoesOnServing, UpStands}
 use Rattle.leaf_machine.specs.PrepParts.{IsPartOfStep}
 

@@ -16,7 +16,7 @@ use Rattle.crash_states.proofs.Meeting.{met_runs}
 use Rattle.leaf_steward.specs.Seated.{Seated, AreFounded, AreSeated, AtPlace, Spares, watched, watched_by, with_seat}
 use Rattle.leaf_steward.proofs.WatchPlaces.{watch_all}
 use Rattle.leaf_steward.proofs.Watching.{met_learns, watch_get, watch_set}
-use Rattle.log_steward.specs.Owing.{Owing}
+use Rattle.leaf_steward.specs.Owing.{Owing}
 use Rattle.leaf_machine.specs.States.{IsShutting}
 use Rattle.leaf_machine.proofs.PrepEntries.{met_keeps, met_spares}
 use Rattle.leaf_machine.proofs.PrepHolds.{Holds, holds_of, met_holds}

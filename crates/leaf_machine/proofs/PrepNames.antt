@@ -7,7 +7,7 @@ use Rattle.berth_face.specs.Berth.{Meaning}
 use Rattle.table_state.specs.Tables.{Table}
 use Rattle.leaf_table.specs.Calls.{name_of}
 use Rattle.leaf_steward.specs.Seated.{Seated, AreSeated}
-use Rattle.log_steward.specs.Owing.{Owing}
+use Rattle.leaf_steward.specs.Owing.{Owing}
 use Rattle.leaf_machine.specs.States.{Shutting, IsShutting, treated}
 use Rattle.leaf_machine.specs.Shut.{ShutState}
 use Rattle.leaf_machine.proofs.PrepHolds.{Holds, holds_of}

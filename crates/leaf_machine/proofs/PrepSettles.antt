@@ -12,7 +12,7 @@ use Rattle.crash_states.specs.Standing.{Runs}
 use Rattle.leaf_steward.specs.declared.notes.Note.{Note}
 use Rattle.leaf_steward.specs.Seated.{Seated, AreFounded, AreSeated, AtPlace, Spares, watched_by}
 use Rattle.leaf_steward.specs.Making.{NotesOn, OneEntry}
-use Rattle.log_steward.specs.Owing.{Owing, IsOwed, RunsTo, SettlesOwed, flushed_note, nothing, done, failed}
+use Rattle.leaf_steward.specs.Owing.{Owing, IsOwed, RunsTo, SettlesOwed, flushed_note, nothing, done, failed}
 use Rattle.leaf_machine.specs.States.{Serving, Shutting, IsShutting, SparesOwed, UpStands}
 use Rattle.leaf_machine.specs.PrepParts.{IsPartOfStep}
 use Rattle.leaf_machine.proofs.PrepHolds.{Holds, flushed_holds, holds_of}

@@ -29,7 +29,7 @@ use Rattle.leaf_steward.specs.Making.{Makes, NotesOn, OneEntry, ShutsAt}
 use Rattle.leaf_steward.proofs.WatchMakes.{makes_seated, makes_tables}
 use Rattle.leaf_steward.proofs.WatchPlaces.{watch_all}
 use Rattle.leaf_steward.proofs.Watching.{made_enters, makes_more, watch_get, watch_set}
-use Rattle.log_steward.specs.Owing.{Owing, Brings, HasJustTaken, RunsTo, done, failed}
+use Rattle.leaf_steward.specs.Owing.{Owing, Brings, HasJustTaken, RunsTo, done, failed}
 use Rattle.leaf_machine.specs.States.{Shutting, GoesOn, IsShutting, UpStands}
 use Rattle.leaf_machine.specs.Flushes.{OwedNotes}
 use Rattle.leaf_machine.specs.Prepares.{Halts, half}

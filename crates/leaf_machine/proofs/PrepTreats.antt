@@ -7,7 +7,7 @@ use Rattle.berth_face.specs.Berth.{Meaning}
 use Rattle.table_state.specs.Tables.{Table}
 use Rattle.leaf_steward.specs.declared.notes.Note.{Note}
 use Rattle.leaf_steward.specs.declared.notes.What.TheVariants as what
-use Rattle.log_steward.specs.Owing.{Owing}
+use Rattle.leaf_steward.specs.Owing.{Owing}
 use Rattle.leaf_machine.specs.declared.preparing.PrepareFault.{PrepareFault}
 use Rattle.leaf_machine.specs.declared.preparing.PrepareFault.TheVariants.{DiskFault, NoRoom, NoMemory}
 use Rattle.leaf_machine.specs.States.{Serving, Shutting, treated}

@@ -9,7 +9,7 @@ use Rattle.leaf_steward.specs.declared.notes.Note.{Note}
 use Rattle.leaf_steward.specs.Seated.{Seated, AreSeated, AtEach, IsOpen, Spares}
 use Rattle.leaf_steward.specs.Making.{Makes, OpenedNotes}
 use Rattle.leaf_steward.proofs.WatchMakes.{makes_tables}
-use Rattle.log_steward.specs.Owing.{Owing}
+use Rattle.leaf_steward.specs.Owing.{Owing}
 use Rattle.leaf_machine.specs.States.{IsDown, IsUp, UpStands}
 use Rattle.leaf_machine.proofs.StartAlike.{founded_same}
 use Rattle.leaf_machine.proofs.StartOpening.{StartOpened, start_runs}

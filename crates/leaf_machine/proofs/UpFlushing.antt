@@ -16,7 +16,7 @@ use Rattle.leaf_steward.specs.declared.notes.What.TheVariants as what
 use Rattle.leaf_steward.specs.Seated.{Seated, AtPlace, AreSeated, AreFounded, Spares, watched_by}
 use Rattle.leaf_steward.specs.Making.{Makes, OneEntry, TakesAt, WornAt}
 use Rattle.leaf_steward.proofs.WatchMakes.{makes_seated, makes_tables}
-use Rattle.log_steward.specs.Owing.{Owing, Brings, HasJustTaken, RunsTo, SettlesOwed, flushed_note}
+use Rattle.leaf_steward.specs.Owing.{Owing, Brings, HasJustTaken, RunsTo, SettlesOwed, flushed_note}
 use Rattle.leaf_machine.specs.declared.up.FlushReply.{FlushReply}
 use Rattle.leaf_machine.specs.declared.up.FlushReply.TheVariants as reply
 use Rattle.leaf_machine.specs.States.{Serving, IsUp, UpStands, GoesOn, GoesOnServing}

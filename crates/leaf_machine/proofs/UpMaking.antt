@@ -24,7 +24,7 @@ use Rattle.leaf_steward.specs.Seated.{Seated, AreSeated, AreFounded, watched, wa
 use Rattle.leaf_steward.specs.Making.{Makes, OneEntry, TakesAt}
 use Rattle.leaf_steward.proofs.WatchPlaces.{watch_all}
 use Rattle.leaf_steward.proofs.Watching.{made_enters, makes_more, watch_get, watch_set}
-use Rattle.log_steward.specs.Owing.{Owing, HasJustTaken}
+use Rattle.leaf_steward.specs.Owing.{Owing, HasJustTaken}
 use Rattle.leaf_machine.proofs.UpSeats.{takes_entry}
 
 -- ---- entries, one after another

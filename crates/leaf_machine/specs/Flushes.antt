@@ -4,7 +4,7 @@ use Rattle.row_records.specs.Records.{LogRecord}
 use Rattle.leaf_steward.specs.declared.notes.Note.{Note}
 use Rattle.leaf_steward.specs.declared.notes.What.TheVariants as what
 use Rattle.leaf_steward.specs.Making.{WornAt}
-use Rattle.log_steward.specs.Owing.{Owing, flushed_note}
+use Rattle.leaf_steward.specs.Owing.{Owing, flushed_note}
 use Rattle.leaf_machine.specs.declared.up.FlushReply.{FlushReply}
 use Rattle.leaf_machine.specs.declared.up.FlushReply.TheVariants.{Flushed, DiskFault, Worn}
 use Rattle.leaf_machine.specs.States.{Serving}

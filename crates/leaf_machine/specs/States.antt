@@ -14,7 +14,7 @@ use Rattle.crash_moments.specs.Told.{Told}
 use Rattle.crash_moments.specs.Watched.{IsFoundation}
 use Rattle.crash_states.specs.Standing.{Runs, Rests, Copies}
 use Rattle.leaf_steward.specs.Seated.{Seated, AtEach, AtPlace, AreFounded, IsOpen, IsShut, Spares, watched_by}
-use Rattle.log_steward.specs.Owing.{Owing, IsOwed}
+use Rattle.leaf_steward.specs.Owing.{Owing, IsOwed}
 
 -- a leaf that serves its tables
 pub record Serving : Type 0 where

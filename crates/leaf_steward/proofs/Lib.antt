@@ -6,3 +6,4 @@ pub mod Watching
 pub mod Seating
 pub mod Passing
 pub mod Keeping
+pub mod Bringing

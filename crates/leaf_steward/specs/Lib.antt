@@ -1,2 +1,3 @@
 pub mod Seated
 pub mod Making
+pub mod Owing

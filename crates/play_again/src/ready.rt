@@ -31,11 +31,11 @@ pub fn run_over<R: Wait + Threads + Sync, S: Source, K: Sink, B: Berth, G: Gate>
     requires { AreReady B.meaning berths.old.items }
     ensures told { IfOk result (λ status. (kept : List (Option (List Kept))) × AreKeptReady B.meaning berths.old.items kept
         × (status ≡ Status.Done → IsDone (bases_of kept) B.meaning (request_of (map string_bytes words.now))
-            (S.left source.old) (S.left source.new) (K.written sink.old) (K.written sink.new) berths.old.items berths.new.items
-            (map (λ watch. held watch) watches.old.items) (map (λ watch. held watch) watches.new.items))
+        (S.left source.old) (S.left source.new) (K.written sink.old) (K.written sink.new) berths.old.items berths.new.items
+        (map (λ watch. held watch) watches.old.items) (map (λ watch. held watch) watches.new.items))
         × IfShort status (IsShort (bases_of kept) B.meaning (request_of (map string_bytes words.now))
-            (S.left source.old) (S.left source.new) (K.written sink.old) (K.written sink.new) berths.old.items berths.new.items
-            (map (λ watch. held watch) watches.old.items) (map (λ watch. held watch) watches.new.items))) }
+        (S.left source.old) (S.left source.new) (K.written sink.old) (K.written sink.new) berths.old.items berths.new.items
+        (map (λ watch. held watch) watches.old.items) (map (λ watch. held watch) watches.new.items))) }
     ensures refused { OnErr result ((source.new ≡ source.old) × (sink.new ≡ sink.old) × (berths.new ≡ berths.old) × (watches.new ≡ watches.old)) }
 {
     let known = keep_ready::<Brand, B>(alloc, berths)?;

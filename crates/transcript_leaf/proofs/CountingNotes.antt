@@ -7,7 +7,7 @@ use Rattle.row_records.specs.Records.{LogRecord}
 use Rattle.crash_moments.specs.Left.{NamedStates}
 use Rattle.leaf_table.specs.Turns.{Shared, is_founded}
 use Rattle.leaf_table.specs.Calls.{SeatView, base_seen, name_of}
-use Rattle.log_steward.specs.Owing.{Owing}
+use Rattle.leaf_steward.specs.Owing.{Owing}
 use Rattle.leaf_machine.specs.Flushes.{OwedNotes}
 use Rattle.leaf_machine.specs.States.{IsShutAndTaken}
 use Rattle.leaf_steward.specs.declared.notes.Note.{Note}

@@ -8,7 +8,7 @@ use Rattle.leaf_table.specs.Turns.{Shared}
 use Rattle.leaf_steward.specs.declared.notes.Note.{Note}
 use Rattle.leaf_steward.specs.Seated.{Seated}
 use Rattle.leaf_steward.proofs.WatchMakes.{makes_tables}
-use Rattle.log_steward.specs.Owing.{Owing}
+use Rattle.leaf_steward.specs.Owing.{Owing}
 use Rattle.leaf_machine.specs.States.{Shutting, treated}
 use Rattle.leaf_machine.specs.Prepares.{Treats, Halts, Starves}
 use Rattle.leaf_machine.specs.Prepares as prepares

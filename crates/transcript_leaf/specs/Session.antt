@@ -15,7 +15,7 @@ use Rattle.turnstile.specs.Ids.{InShare}
 use Rattle.turnstile.specs.Seats.{AreIds, Owns, unused_seat}
 use Rattle.leaf_table.specs.Turns.{Shared, is_founded, start_of}
 use Rattle.leaf_table.specs.Calls.{SeatView, OwnsTheRest, base_seen, name_of, seen_of}
-use Rattle.log_steward.specs.Owing.{Owing}
+use Rattle.leaf_steward.specs.Owing.{Owing}
 use Rattle.leaf_steward.specs.Seated.{Seated, AtEach, watched_by}
 use Rattle.leaf_machine.specs.States.{Shutting, IsShutAndTaken, treated}
 use Rattle.crash_states.specs.Beginning.{MayBegin}

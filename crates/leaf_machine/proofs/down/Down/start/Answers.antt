@@ -11,7 +11,7 @@ use Rattle.crash_states.specs.Standing.{Rests, Runs, StandsNow}
 use Rattle.leaf_steward.specs.Seated.{AtEach, AreFounded, watched_by}
 use Rattle.leaf_steward.specs.Making.{EachNoted, Makes}
 use Rattle.leaf_steward.proofs.WatchMakes.{makes_tables}
-use Rattle.log_steward.specs.Owing.{Owing}
+use Rattle.leaf_steward.specs.Owing.{Owing}
 use Rattle.leaf_machine.specs.declared.faults.StartFault.{StartFault}
 use Rattle.leaf_machine.specs.declared.faults.StartFault.TheVariants as fault
 use Rattle.leaf_machine.specs.States.{IsUp}

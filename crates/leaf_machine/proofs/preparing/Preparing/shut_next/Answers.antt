@@ -4,7 +4,7 @@ use Rattle.table_state.specs.Tables.{Table, bare}
 use Rattle.leaf_table.specs.Calls.{base_seen, state_seen}
 use Rattle.leaf_steward.specs.declared.notes.Note.{Note}
 use Rattle.leaf_steward.specs.Seated.{Seated, AreSeated, AtPlace}
-use Rattle.log_steward.specs.Owing.{Owing, Brings}
+use Rattle.leaf_steward.specs.Owing.{Owing, Brings}
 use Rattle.leaf_machine.specs.States.{Shutting, IsShutting, treated}
 use Rattle.leaf_machine.specs.PrepParts.{IsPartOfStep, ShutsNext}
 use Rattle.leaf_machine.proofs.PrepNames.{as_put, treated_put}

@@ -5,9 +5,9 @@ use Rattle.disk_backup.specs.State.{LogState}
 use Rattle.crash_serving.specs.Laws.{Owes}
 use Rattle.crash_states.specs.Standing.{Runs}
 use Rattle.leaf_steward.specs.Seated.{watched_by}
-use Rattle.log_steward.specs.Owing.{Owing, Brings, SettlesOwed}
-use Rattle.log_steward.proofs.Bringing.{offered_owes, nothing_owes, none_pending, settled_brings}
-use Rattle.log_steward.proofs.StewardLog.bring.Goals as goal
+use Rattle.leaf_steward.specs.Owing.{Owing, Brings, SettlesOwed}
+use Rattle.leaf_steward.proofs.Bringing.{offered_owes, nothing_owes, none_pending, settled_brings}
+use Rattle.leaf_steward.proofs.log.StewardLog.bring.Goals as goal
 
 pub returns-then-is_pending-clause-brings : goal.returns-then-is_pending-clause-brings
 returns-then-is_pending-clause-brings g c =

@@ -1,6 +1,4 @@
-//! What the steward of a leaf does for its log: it settles what the log is owed, and notes the table as flushed.
-#![tactic(auto)]
-
+// What the steward of a leaf does for its log: it settles what the log is owed, and notes the table as flushed.
 ghost use Rattle.std.specs.Prelude.{◌≡◌, ◌<◌, ◌≤◌, ◌^◌, ◌+◌, ◌++◌, ◌∷◌, ℕ, List, [], None, length, IfSome, IsSome, IsTrue, is_some};
 ghost use Rattle.leaf_model.specs.declared.writes.Write.{Write};
 ghost use Rattle.row_records.specs.Records.{IsRecord};
@@ -10,11 +8,12 @@ ghost use Rattle.crash_states.specs.Standing.{Runs};
 ghost use Rattle.leaf_table.specs.Calls.{base_seen, name_of, state_seen};
 ghost use Rattle.leaf_steward.specs.Seated.{AreFounded, AtPlace, Spares, watched_by};
 ghost use Rattle.leaf_steward.specs.Making.{OneEntry};
-ghost use Rattle.log_steward.specs.Owing.{Brings, HasJustTaken, IsOwed, RunsTo, SettlesOwed, flushed_note};
+ghost use Rattle.leaf_steward.specs.Owing.{Brings, HasJustTaken, IsOwed, RunsTo, SettlesOwed, flushed_note};
 
+use crate::notes::Notes;
+use crate::seats::Seats;
 use berth_face::{Berth, Gate};
 use disk_backup::{BackupLog, DiskFault};
-use leaf_steward::{Notes, Seats};
 use row_records::Pending;
 use std::marker::Model;
 use std::sync::Wait;
@@ -30,7 +29,7 @@ pub struct StewardLog {
 }
 
 impl Model for StewardLog {
-    ghost use Rattle.log_steward.specs.Owing.{Owing};
+    ghost use Rattle.leaf_steward.specs.Owing.{Owing};
 
     ghost Value = { Owing };
 

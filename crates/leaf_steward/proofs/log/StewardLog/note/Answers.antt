@@ -1,8 +1,8 @@
 use Rattle.std.proofs.Common.{subst}
 use Rattle.leaf_steward.specs.Making.{OneEntry}
-use Rattle.log_steward.specs.Owing.{Owing, flushed_note}
-use Rattle.log_steward.proofs.Bringing.{noted}
-use Rattle.log_steward.proofs.StewardLog.note.Goals as goal
+use Rattle.leaf_steward.specs.Owing.{Owing, flushed_note}
+use Rattle.leaf_steward.proofs.Bringing.{noted}
+use Rattle.leaf_steward.proofs.log.StewardLog.note.Goals as goal
 
 pub returns-clause-runs : goal.returns-clause-runs
 returns-clause-runs g c = λ writes founded none runs.

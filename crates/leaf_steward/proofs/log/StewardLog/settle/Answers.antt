@@ -3,9 +3,9 @@ use Rattle.std.specs.Prelude.{IsSome, IsTrue, Result}
 use Rattle.disk_backup.specs.declared.fault.DiskFault.{DiskFault}
 use Rattle.crash_states.specs.Standing.{Runs}
 use Rattle.leaf_steward.specs.Seated.{watched_by}
-use Rattle.log_steward.specs.Owing.{Owing, SettlesOwed}
-use Rattle.log_steward.proofs.Bringing.{HasSettled, with_log, failed_runs, settled_runs, failed_settles, done_settles}
-use Rattle.log_steward.proofs.StewardLog.settle.Goals as goal
+use Rattle.leaf_steward.specs.Owing.{Owing, SettlesOwed}
+use Rattle.leaf_steward.proofs.Bringing.{HasSettled, with_log, failed_runs, settled_runs, failed_settles, done_settles}
+use Rattle.leaf_steward.proofs.log.StewardLog.settle.Goals as goal
 
 abbrev good : Result (Unit {0}) DiskFault
 good = Ok tt

@@ -26,7 +26,7 @@ use Rattle.leaf_steward.specs.Seated.{Seated, AreSeated, AreFounded, AtPlace, wa
 use Rattle.leaf_steward.specs.Making.{OneEntry}
 use Rattle.leaf_steward.proofs.WatchPlaces.{watch_all}
 use Rattle.leaf_steward.proofs.Watching.{made_enters, now_seen, watch_get, watch_set}
-use Rattle.log_steward.specs.Owing.{Owing, SettlesOwed, Brings, RunsTo, flushed_note}
+use Rattle.leaf_steward.specs.Owing.{Owing, SettlesOwed, Brings, RunsTo, flushed_note}
 
 -- ---- a log that is owed nothing, and the note of the table
 
