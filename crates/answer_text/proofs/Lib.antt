@@ -2,3 +2,4 @@ pub mod GroupOrder
 pub mod Sorting
 pub mod Parts
 pub mod Samples
+pub mod SetText

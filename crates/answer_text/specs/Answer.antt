@@ -5,7 +5,7 @@ use Rattle.std.specs.List.{join_by}
 use Rattle.std.specs.Option.{option_cmp}
 use Rattle.std.specs.declared.cmp.Ordering.{Ordering}
 use Rattle.std.specs.Ordering.{int_cmp, is_lt, ordering_then}
-use Rattle.serde_json.specs.Data.{string}
+use Rattle.serde_json.specs.Data.{string, array, Items, no_items, item}
 use Rattle.serde_json.specs.Written.{compact_text}
 use Rattle.leaf_model.specs.declared.queries.Agg.{Agg}
 use Rattle.leaf_model.specs.declared.queries.Agg.TheVariants.{Count, Sum, Min, Max, Avg}
@@ -51,11 +51,17 @@ abbrev pub int_text : Option ℤ → List ℕ
 int_text None = codes "-"
 int_text (Some n) = signed_decimal n
 
--- a text is a JSON string, as `serde_json` writes it with no space
+-- texts as items of a JSON array
+abbrev pub strings : List (List ℕ) → Items
+strings [] = no_items
+strings (text ∷ texts) = item (string text) (strings texts)
+
+-- a text is a JSON string, and a set an array of them, as `serde_json` writes them with no space
 abbrev pub key_text : Key → List ℕ
 key_text key.Missing = codes "-"
 key_text (key.Int n) = signed_decimal n
 key_text (key.Text t) = compact_text (string t)
+key_text (key.Set members) = compact_text (array (strings members))
 
 -- an average is the sum and the number of the integers
 abbrev pub agg_text : ℕ → Agg → Fold → List ℕ

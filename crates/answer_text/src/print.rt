@@ -1,8 +1,11 @@
 // A group as one line of text.
 ghost use Rattle.std.specs.Prelude.{◌≡◌, IfOk, map, string_bytes};
-ghost use Rattle.answer_text.specs.Answer.{agg_text, group_line, group_parts, int_text, key_text};
+ghost use Rattle.serde_json.specs.Data.{array};
+ghost use Rattle.serde_json.specs.View.{items_view};
+ghost use Rattle.serde_json.specs.Written.{compact_text};
+ghost use Rattle.answer_text.specs.Answer.{agg_text, group_line, group_parts, int_text, key_text, strings};
 
-use leaf_model::{Agg, Fold, Group, Key, Query, Text};
+use leaf_model::{Agg, Fold, Group, Key, Query, Text, Texts};
 use serde_json::Value;
 use std::alloc::{AllocError, Global};
 
@@ -15,6 +18,25 @@ fn int_text(alloc: Global, number: Option<i64>) -> Result<String, AllocError>
     }
 }
 
+/// The texts as items of a JSON array.
+#[tactic(auto, using(crate::proofs::SetText::one_more))]
+fn items_of(alloc: Global, texts: &[Text]) -> Result<Vec<Value>, AllocError>
+    ensures { IfOk result (λ items. items_view items.items ≡ strings texts.now) }
+{
+    let mut items = Vec::with_capacity(alloc, texts.len())?;
+    for text in texts {
+        items.push(Value::String(text.copy()?.into_inner()))?;
+    }
+    Ok(items)
+}
+
+fn set_text(alloc: Global, members: &Texts) -> Result<String, AllocError>
+    ensures { IfOk result (λ text. string_bytes text ≡ compact_text (array (strings members.now))) }
+{
+    let items = items_of(alloc, members.as_slice())?;
+    Value::Array(items).to_string(alloc)
+}
+
 fn key_text(alloc: Global, key: &Key) -> Result<String, AllocError>
     ensures { IfOk result (λ text. string_bytes text ≡ key_text key.now) }
 {
@@ -22,6 +44,7 @@ fn key_text(alloc: Global, key: &Key) -> Result<String, AllocError>
         Key::Missing => String::from_str(alloc, "-"),
         Key::Int(number) => number.to_string(alloc),
         Key::Text(text) => Value::String(text.copy()?.into_inner()).to_string(alloc),
+        Key::Set(members) => set_text(alloc, members),
     }
 }
 

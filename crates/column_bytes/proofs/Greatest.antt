@@ -3,7 +3,7 @@ use Rattle.std.proofs.Common.{◌≡◌, ℕ, zero, suc, ◌+◌, ◌*◌, ◌/�
 use Rattle.std.proofs.lemmas.Int.{ints}
 use Rattle.std.proofs.lemmas.Nat.{mod_below, pow-add}
 use Rattle.bit_columns.specs.Bits.{bit, bits_from}
-use Rattle.column_bytes.specs.Cells.{Codebook, Base, Anchors, Entries, IsCode}
+use Rattle.column_bytes.specs.Cells.{Codebook, Base, Anchors, Entries, Sets, IsCode}
 
 pub bits_small : (bytes : List ℕ) (from w : ℕ) → bits_from bytes from w < 2 ^ w
 unfolding bits_from
@@ -19,3 +19,4 @@ pub between : (book : Codebook) (code greatest : ℕ) → IsCode book 0 → IsCo
 between (Base base) code greatest least most h = grind (arith, ints)
 between (Anchors anchors) code greatest least most h = tt
 between (Entries texts) code greatest least most h = omega (arith, most, h)
+between (Sets sets) code greatest least most h = omega (arith, most, h)

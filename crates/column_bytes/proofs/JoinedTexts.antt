@@ -25,6 +25,9 @@ joined_split texts zero = refl
 joined_split [] (suc i) = refl
 joined_split (text ∷ texts) (suc i) = ap (λ xs. text ++ xs) (joined_split texts i) ∙ sym (append_assoc text (joined (take i texts)) (joined (drop i texts)))
 
+pub end_upto : (texts : List (List ℕ)) (k : ℕ) → end_at texts k ≤ length (joined texts)
+end_upto texts k = let whole = ap length (joined_split texts k) ∙ length-append (joined (take k texts)) (joined (drop k texts)) in omega (arith, whole)
+
 joined_part : (texts : List (List ℕ)) (k : ℕ) → k < length texts → slice_range (joined texts) (end_at texts k) (end_at texts (k + 1)) ≡ slice_index_or texts k []
 joined_part texts k h =
     let text = slice_index_or texts k [] in
@@ -32,7 +35,7 @@ joined_part texts k h =
     ap (λ xs. slice_range xs (end_at texts k) (end_at texts (k + 1))) (joined_split texts (k + 1) ∙ ap (λ xs. xs ++ rest) (joined_more texts k h))
     ∙ part_between (joined (take k texts)) text rest (end_at texts k) (end_at texts (k + 1)) refl (sym (end_more texts k h))
 
-end_small : (texts : List (List ℕ)) → AreTexts texts → (k : ℕ) → k ≤ length texts → end_at texts k ≤ 65535 * k
+pub end_small : (texts : List (List ℕ)) → AreTexts texts → (k : ℕ) → k ≤ length texts → end_at texts k ≤ 65535 * k
 end_small texts are zero h = omega arith
 end_small texts are (suc k) h =
     let before = end_small texts are k (omega arith) in
@@ -41,15 +44,22 @@ end_small texts are (suc k) h =
     let more = ap (end_at texts) (sym e) ∙ end_more texts k (omega arith) in
     omega (arith, before, short, more)
 
+-- so few texts have fewer bytes than 2^32
+pub joined_small : (texts : List (List ℕ)) → AreTexts texts → length texts ≤ 65536 → length (joined texts) < 4294967296
+joined_small texts are few =
+    let most = end_small texts are (length texts) (omega arith) in
+    let all : end_at texts (length texts) ≡ length (joined texts) = ap (λ ts. length (joined ts)) (take_all (length texts) texts (omega arith)) in
+    omega (arith, most, all, few)
+
 -- ends and texts that were written are a dictionary of these texts
 pub record IsMade (bytes : List ℕ) (texts : List (List ℕ)) : Type 0 where
   pub is : IsDictionary bytes
   pub same : texts_at bytes ≡ texts
-  pub small : length bytes ≤ 2 ^ 40
+  pub small : length bytes ≤ 2 ^ 33
 
-pub made : (texts : List (List ℕ)) (front bytes : List ℕ) → length texts ≤ 65536 → AreTexts texts → length front ≡ 4 + 4 * length texts → u32_at front 0 ≡ length texts
+pub made : (texts : List (List ℕ)) (front bytes : List ℕ) → length texts ≤ 67108864 → length (joined texts) < 4294967296 → AreTexts texts → length front ≡ 4 + 4 * length texts → u32_at front 0 ≡ length texts
     → ((k : ℕ) → k < length texts → u32_at front (4 + 4 * k) ≡ end_at texts (k + 1)) → bytes ≡ front ++ joined texts → IsMade bytes texts
-made texts front bytes few are len counted ends spelled =
+made texts front bytes few most are len counted ends spelled =
     let n = length texts in
     let count : text_count bytes ≡ n = ap (λ b. u32_at b 0) spelled ∙ u32_front front (joined texts) 0 (omega arith) ∙ counted in
     let after : (k : ℕ) → k < n → text_from bytes (suc k) ≡ end_at texts (k + 1)
@@ -63,7 +73,6 @@ made texts front bytes few are len counted ends spelled =
     ∙ ap₂ (slice_range (joined texts)) (before k (omega arith)) (after k h) ∙ joined_part texts k h in
     let last = before n (omega arith) in
     let long = ap length spelled ∙ length-append front (joined texts) in
-    let most = end_small texts are n (omega arith) in
     record {
       is = record {
         ends = record {

@@ -4,6 +4,7 @@ use Rattle.std.specs.List.{range_with_len}
 use Rattle.std.proofs.lemmas.List.FromFn.{fill_by_all}
 use Rattle.bit_columns.specs.Bits.{IsBits, codes, BitString}
 use Rattle.leaf_model.specs.declared.rows.Value.{Value}
+use Rattle.column_bytes.specs.declared.kind.Kind.{Kind}
 use Rattle.column_bytes.specs.declared.kind.Kind.TheVariants as kinds
 use Rattle.column_bytes.specs.declared.form.Form.{Form}
 use Rattle.column_bytes.specs.declared.form.Form.TheVariants as forms
@@ -47,9 +48,11 @@ codes_coded cells list book is i within present =
     (is.each i found.0 inside found.1).1
 
 form_named : (form : Form) → form_at (kind_byte form) (form_byte form) ≡ Some form
+unfolding form_at
 form_named forms.Offset = refl
 form_named forms.Delta = refl
 form_named forms.Dictionary = refl
+form_named forms.Sets = refl
 
 pub laid : (form : Form) (cells : List (Option Value)) (list extra presence packed bytes : List ℕ) (n width marker : ℕ) (all_there : Bool)
     → ReadsColumn bytes (kind_byte form ∷ form_byte form ∷ width ∷ marker ∷ []) n presence packed extra
@@ -117,7 +120,12 @@ pub marker_says : (all_there : Bool) → ((if all_there then 0 else 1) == 0) ≡
 marker_says true = refl
 marker_says false = refl
 
-pub kind_named : (form : Form) (n : ℕ) (extra : List ℕ) (byte : ℕ) → byte ≡ kind_byte form → (if byte == 1 then kinds.Ints else kinds.Texts) ≡ kind_of (book_of form n extra)
-kind_named forms.Offset n extra byte e = ap (λ b. if b == 1 then kinds.Ints else kinds.Texts) e
-kind_named forms.Delta n extra byte e = ap (λ b. if b == 1 then kinds.Ints else kinds.Texts) e
-kind_named forms.Dictionary n extra byte e = ap (λ b. if b == 1 then kinds.Ints else kinds.Texts) e
+-- the kind that a byte names
+abbrev pub kind_by : ℕ → Kind
+kind_by byte = if byte == 1 then kinds.Ints else (if byte == 2 then kinds.Texts else kinds.Sets)
+
+pub kind_named : (form : Form) (n : ℕ) (extra : List ℕ) (byte : ℕ) → byte ≡ kind_byte form → kind_by byte ≡ kind_of (book_of form n extra)
+kind_named forms.Offset n extra byte e = ap kind_by e
+kind_named forms.Delta n extra byte e = ap kind_by e
+kind_named forms.Dictionary n extra byte e = ap kind_by e
+kind_named forms.Sets n extra byte e = ap kind_by e

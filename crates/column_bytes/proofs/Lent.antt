@@ -2,25 +2,26 @@
 use Rattle.std.proofs.Common.{◌≡◌, ℕ, ◌<◌, ◌∷◌, [], List, length, map, is_some, slice_index_or, Option, Some, None, IfSome, option_map, refl, sym, ap₂, subst, arith}
 use Rattle.std.proofs.lemmas.List.{get_or-map, length-map}
 use Rattle.column_bytes.specs.declared.kind.Kind.{Kind}
-use Rattle.column_bytes.specs.declared.value.ValueRef.{ValueRef}
-use Rattle.column_bytes.specs.Cells.{value_of, values_of}
+use Rattle.std.specs.Borrow.{Bor}
+use Rattle.leaf_model.specs.declared.rows.Value.{Value}
+use Rattle.column_bytes.specs.Cells.{lent_value, values_of}
 use Rattle.column_bytes.specs.Coding.{AreOfKind, IsOfKind}
 
-pub length-values : (cells : List (Option ValueRef)) → length (values_of cells) ≡ length cells
-length-values cells = length-map cells (option_map value_of)
+pub length-values : (cells : List (Option (Bor Value))) → length (values_of cells) ≡ length cells
+length-values cells = length-map cells (option_map lent_value)
 
-pub value_here : (cells : List (Option ValueRef)) (i : ℕ) → i < length cells → option_map value_of (slice_index_or cells i None) ≡ slice_index_or (values_of cells) i None
-value_here cells i within = sym (get_or-map (option_map value_of) cells i None None within)
+pub value_here : (cells : List (Option (Bor Value))) (i : ℕ) → i < length cells → option_map lent_value (slice_index_or cells i None) ≡ slice_index_or (values_of cells) i None
+value_here cells i within = sym (get_or-map (option_map lent_value) cells i None None within)
 
-pub kind_here : (kind : Kind) (cells : List (Option ValueRef)) (i : ℕ) → i < length cells → AreOfKind kind (values_of cells)
-    → IfSome (option_map value_of (slice_index_or cells i None)) (IsOfKind kind)
+pub kind_here : (kind : Kind) (cells : List (Option (Bor Value))) (i : ℕ) → i < length cells → AreOfKind kind (values_of cells)
+    → IfSome (option_map lent_value (slice_index_or cells i None)) (IsOfKind kind)
 kind_here kind cells i within are = subst (λ value. IfSome value (IsOfKind kind)) (sym (value_here cells i within)) (are i (omega (arith, length-values cells)))
 
-some_same : (cell : Option ValueRef) → is_some cell ≡ is_some (option_map value_of cell)
+some_same : (cell : Option (Bor Value)) → is_some cell ≡ is_some (option_map lent_value cell)
 some_same None = refl
 some_same (Some value) = refl
 
 -- which cells are there, of the values too
-pub there_same : (cells : List (Option ValueRef)) → map is_some cells ≡ map is_some (values_of cells)
+pub there_same : (cells : List (Option (Bor Value))) → map is_some cells ≡ map is_some (values_of cells)
 there_same [] = refl
 there_same (cell ∷ cells) = ap₂ (λ x xs. x ∷ xs) (some_same cell) (there_same cells)

@@ -7,4 +7,8 @@ pub mod Offsets
 pub mod Distinct
 pub mod JoinedTexts
 pub mod Reading
+pub mod SetParts
 pub mod Greatest
+pub mod Named
+pub mod SetCoding
+pub mod SetBytes

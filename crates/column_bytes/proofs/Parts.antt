@@ -2,6 +2,8 @@
 use Rattle.std.proofs.Common.{◌≡◌, ℕ, ◌*◌, ◌<◌, Bool, true, false, List, [], length, map, slice_index, slice_index_or, ℤ, pos, Option, Some, None, IfSome, if◌then◌else◌, refl, sym, ap, subst, ◌∙◌, arith}
 use Rattle.std.specs.List.{range_with_len}
 use Rattle.std.specs.Int.{div_ceil}
+use Rattle.std.proofs.lemmas.Bool.{false≢true}
+use Rattle.std.proofs.lemmas.List.{get_or-map, length-map}
 use Rattle.std.proofs.lemmas.List.FromFn.{length-map-range_with_len, get_or-map-range_with_len, fill_by_all}
 use Rattle.bit_columns.specs.Bits.{code, codes, BitString, PackedCodes}
 use Rattle.leaf_model.specs.declared.rows.Value.{Value}
@@ -10,7 +12,7 @@ use Rattle.column_bytes.specs.declared.kind.Kind.TheVariants as kinds
 use Rattle.column_bytes.specs.declared.form.Form.{Form}
 use Rattle.column_bytes.specs.Fields.{i64_at}
 use Rattle.column_bytes.specs.Dictionary.{text_count, text_at, texts_at}
-use Rattle.column_bytes.specs.Cells.{anchors_at, is_there, there, coded_of, book_of, value_at, cell_at, cells_of, integer_cells, text_cells, kind_of, entries, IsCode, AreCodes, Coded, Codebook, Base, Anchors, Entries}
+use Rattle.column_bytes.specs.Cells.{anchors_at, is_there, there, coded_of, book_of, value_at, cell_at, cells_of, integer_cells, entry_cells, kind_of, has_entries, entries, no_value, IsCode, AreCodes, Coded, Codebook, Base, Anchors, Entries, Sets}
 
 pub length-codes : (bytes : List ℕ) (w n : ℕ) → length (codes bytes w n) ≡ n
 length-codes bytes w n = length-map-range_with_len (code bytes w) 0 n
@@ -84,19 +86,25 @@ cells-from_integers coded integers are len each =
     (λ there. each k within (are k within there)))
     ∙ ap (λ m. map integer (range_with_len 0 m)) (sym len)
 
-ints_no_texts : kinds.Ints ≡ kinds.Texts → ⊥
-ints_no_texts e = cc
+-- a code of a dictionary stands for one of its values
+pub entry_is : (book : Codebook) (codes : List ℕ) (i : ℕ) → has_entries (kind_of book) ≡ true → IsCode book (slice_index codes i) → value_at book codes i ≡ slice_index_or (entries book) (slice_index codes i) no_value
+entry_is (Base base) codes i has is = absurd (false≢true has)
+entry_is (Anchors anchors) codes i has is = absurd (false≢true has)
+entry_is (Entries texts) codes i has is = sym (get_or-map values.Text texts (slice_index codes i) [] no_value is)
+entry_is (Sets sets) codes i has is = sym (get_or-map values.Set sets (slice_index codes i) [] no_value is)
 
--- a book of texts is its entries
-pub cells-from_texts : (coded : Coded) → kind_of coded.book ≡ kinds.Texts → cells_of coded ≡ text_cells (entries coded.book) coded.present coded.codes
-cells-from_texts coded is = ap (λ book. cells_of (record { present = coded.present; codes = coded.codes; book = book })) (book_is coded.book is)
-  where
-    book_is : (book : Codebook) → kind_of book ≡ kinds.Texts → book ≡ Entries (entries book)
-    book_is (Base base) e = absurd (ints_no_texts e)
-    book_is (Anchors anchors) e = absurd (ints_no_texts e)
-    book_is (Entries texts) e = refl
+-- so codes of a dictionary and its values are the cells
+pub cells-from_entries : (coded : Coded) → has_entries (kind_of coded.book) ≡ true → AreCodes coded → cells_of coded ≡ entry_cells (entries coded.book) coded.present coded.codes
+cells-from_entries coded has are =
+    let n = length coded.codes in
+    let cell = λ (i : ℕ). if slice_index_or coded.present i false then Some (slice_index_or (entries coded.book) (slice_index coded.codes i) no_value) else None in
+    fill_by_all cell (cells_of coded) n None (length-map-range_with_len (cell_at coded) 0 n)
+    (λ k within. get_or-map-range_with_len (cell_at coded) 0 n k k None within (omega arith)
+    ∙ cell_same (slice_index_or coded.present k false) (value_at coded.book coded.codes k) (slice_index_or (entries coded.book) (slice_index coded.codes k) no_value)
+    (λ there. entry_is coded.book coded.codes k has (are k within there)))
 
-pub below-from_texts : (book : Codebook) (code : ℕ) → kind_of book ≡ kinds.Texts → IsCode book code → code < length (entries book)
-below-from_texts (Base base) code e is = absurd (ints_no_texts e)
-below-from_texts (Anchors anchors) code e is = absurd (ints_no_texts e)
-below-from_texts (Entries texts) code e is = is
+pub below-from_entries : (book : Codebook) (code : ℕ) → has_entries (kind_of book) ≡ true → IsCode book code → code < length (entries book)
+below-from_entries (Base base) code has is = absurd (false≢true has)
+below-from_entries (Anchors anchors) code has is = absurd (false≢true has)
+below-from_entries (Entries texts) code has is = omega (arith, is, length-map texts values.Text)
+below-from_entries (Sets sets) code has is = omega (arith, is, length-map sets values.Set)

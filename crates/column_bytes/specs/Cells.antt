@@ -1,5 +1,6 @@
 -- What presence, codes and what the codes stand for mean together: a list of cells.
 use Rattle.std.specs.Prelude.{◌≡◌, ℕ, ◌*◌, ◌<◌, Bool, true, false, List, [], length, map, slice_index, slice_index_or, ℤ, pos, ◌+ℤ◌, FitsSigned, Option, Some, None, option_map, if◌then◌else◌}
+use Rattle.std.specs.Borrow.{Bor}
 use Rattle.std.specs.List.{range_with_len}
 use Rattle.std.specs.Int.{w64, div_ceil}
 use Rattle.bit_columns.specs.Bits.{codes, is_present, BitString, PackedCodes}
@@ -14,12 +15,14 @@ use Rattle.column_bytes.specs.declared.value.ValueRef.{ValueRef}
 use Rattle.column_bytes.specs.declared.value.ValueRef.TheVariants as seen
 use Rattle.column_bytes.specs.Fields.{i64_at}
 use Rattle.column_bytes.specs.Dictionary.{IsDictionary, texts_at}
+use Rattle.column_bytes.specs.Sets.{IsSetDictionary, sets_at}
 
--- what codes stand for: a base to be added to, differences between anchors, or texts
+-- what codes stand for: a base to be added to, differences between anchors, texts, or sets
 pub data Codebook : Type 0 where
   Base : ℤ → Codebook
   Anchors : List ℤ → Codebook
   Entries : List (List ℕ) → Codebook
+  Sets : List (List (List ℕ)) → Codebook
 
 -- which cells are there, a code for each cell, and what the codes stand for
 pub record Coded : Type 0 where
@@ -32,6 +35,7 @@ abbrev pub value_at : Codebook → List ℕ → ℕ → Value
 value_at (Base base) codes i = values.Int (base +ℤ pos (slice_index codes i))
 value_at (Anchors anchors) codes i = values.Int (slot anchors codes i)
 value_at (Entries texts) codes i = values.Text (slice_index_or texts (slice_index codes i) [])
+value_at (Sets sets) codes i = values.Set (slice_index_or sets (slice_index codes i) [])
 
 -- the cell at a place, or nothing where it is missing
 abbrev pub cell_at : Coded → ℕ → Option Value
@@ -46,15 +50,21 @@ abbrev pub integer_cells : List Bool → List ℤ → List (Option Value)
 integer_cells present integers =
     map (λ i. if slice_index_or present i false then Some (values.Int (slice_index_or integers i (pos 0))) else None) (range_with_len 0 (length present))
 
--- the cells that codes of texts are
-abbrev pub text_cells : List (List ℕ) → List Bool → List ℕ → List (Option Value)
-text_cells texts present codes = cells_of (record { present = present; codes = codes; book = Entries texts })
+-- what is said of a code that stands for no value
+abbrev pub no_value : Value
+no_value = values.Int (pos 0)
+
+-- the cells that codes of some values are
+abbrev pub entry_cells : List Value → List Bool → List ℕ → List (Option Value)
+entry_cells entries present codes =
+    map (λ i. if slice_index_or present i false then Some (slice_index_or entries (slice_index codes i) no_value) else None) (range_with_len 0 (length codes))
 
 -- a code that stands for a value
 abbrev pub IsCode : Codebook → ℕ → Type 0
 IsCode (Base base) code = FitsSigned w64 (base +ℤ pos code)
 IsCode (Anchors anchors) code = Unit {0}
 IsCode (Entries texts) code = code < length texts
+IsCode (Sets sets) code = code < length sets
 
 -- each cell that is there has such a code
 abbrev pub AreCodes : Coded → Type 0
@@ -64,21 +74,34 @@ abbrev pub kind_of : Codebook → Kind
 kind_of (Base base) = kinds.Ints
 kind_of (Anchors anchors) = kinds.Ints
 kind_of (Entries texts) = kinds.Texts
+kind_of (Sets sets) = kinds.Sets
 
--- the texts that codes stand for, in the order of their codes
-abbrev pub entries : Codebook → List (List ℕ)
+-- codes of this kind stand for values of a dictionary
+abbrev pub has_entries : Kind → Bool
+has_entries kinds.Ints = false
+has_entries kinds.Texts = true
+has_entries kinds.Sets = true
+
+-- the values of the dictionary, in the order of their codes
+abbrev pub entries : Codebook → List Value
 entries (Base base) = []
 entries (Anchors anchors) = []
-entries (Entries texts) = texts
+entries (Entries texts) = map values.Text texts
+entries (Sets sets) = map values.Set sets
 
--- a cell's value, behind a loan
+-- the value that a reader gives
 abbrev pub value_of : ValueRef → Value
 value_of (seen.Int n) = values.Int n
 value_of (seen.Text text) = values.Text text.now
+value_of (seen.Set members) = values.Set members
 
--- the values of some cells, behind loans
-abbrev pub values_of : List (Option ValueRef) → List (Option Value)
-values_of cells = map (option_map value_of) cells
+-- a value that is lent
+abbrev pub lent_value : Bor Value → Value
+lent_value value = value.now
+
+-- some cells that are lent
+abbrev pub values_of : List (Option (Bor Value)) → List (Option Value)
+values_of cells = map (option_map lent_value) cells
 
 -- ---- what the parts of a column mean
 
@@ -90,12 +113,14 @@ abbrev pub book_of : Form → ℕ → List ℕ → Codebook
 book_of forms.Offset n extra = Base (i64_at extra 0)
 book_of forms.Delta n extra = Anchors (anchors_at n extra)
 book_of forms.Dictionary n extra = Entries (texts_at extra)
+book_of forms.Sets n extra = Sets (sets_at extra)
 
--- one i64, an i64 for each 64 cells begun, or a dictionary
+-- one i64, an i64 for each 64 cells begun, or a dictionary of texts or of sets
 abbrev pub IsExtra : Form → ℕ → List ℕ → Type 0
 IsExtra forms.Offset n extra = length extra ≡ 8
 IsExtra forms.Delta n extra = length extra ≡ 8 * div_ceil n 64
 IsExtra forms.Dictionary n extra = IsDictionary extra
+IsExtra forms.Sets n extra = IsSetDictionary extra
 
 -- whether a cell is there: each is, where there are no presence bits
 abbrev pub is_there : Option BitString → ℕ → Bool

@@ -1,6 +1,7 @@
 -- What is written for cells.
 use Rattle.std.specs.Prelude.{◌≡◌, ℕ, ◌+◌, ◌<◌, ◌≤◌, List, [], ◌∷◌, ◌++◌, length, take, slice_index, slice_index_or, ℤ, pos, Option, Some, None, IfSome}
 use Rattle.byteorder.specs.Endian.{little_bytes}
+use Rattle.leaf_model.specs.Values.{IsSet}
 use Rattle.leaf_model.specs.declared.rows.Value.{Value}
 use Rattle.leaf_model.specs.declared.rows.Value.TheVariants as values
 use Rattle.column_bytes.specs.declared.kind.Kind.{Kind}
@@ -9,12 +10,12 @@ use Rattle.column_bytes.specs.declared.form.Form.{Form}
 use Rattle.column_bytes.specs.declared.form.Form.TheVariants as forms
 use Rattle.column_bytes.specs.Cells.{Codebook, value_at, IsCode}
 
--- a value that a column of a kind may hold: an integer, or a text of at most 65,535 bytes
+-- a value that a column of a kind may hold: an integer, a text of at most 65,535 bytes, or a set
 abbrev pub IsOfKind : Kind → Value → Type 0
 IsOfKind kinds.Ints (values.Int n) = Unit {0}
-IsOfKind kinds.Ints (values.Text text) = ⊥
-IsOfKind kinds.Texts (values.Int n) = ⊥
 IsOfKind kinds.Texts (values.Text text) = length text ≤ 65535
+IsOfKind kinds.Sets (values.Set members) = IsSet members
+IsOfKind kind value = ⊥
 
 -- each cell that is there is of the kind
 abbrev pub AreOfKind : Kind → List (Option Value) → Type 0
@@ -51,11 +52,13 @@ abbrev pub kind_byte : Form → ℕ
 kind_byte forms.Offset = 1
 kind_byte forms.Delta = 1
 kind_byte forms.Dictionary = 2
+kind_byte forms.Sets = 3
 
 abbrev pub form_byte : Form → ℕ
 form_byte forms.Offset = 1
 form_byte forms.Delta = 2
 form_byte forms.Dictionary = 1
+form_byte forms.Sets = 1
 
 -- kind, form, width and presence
 abbrev pub front_bytes : Form → ℕ → ℕ → List ℕ

@@ -3,22 +3,23 @@ use Rattle.std.specs.Prelude.{◌≡◌, ℕ, ◌*◌, ◌<◌, ◌≤◌, ◌==
 use Rattle.bit_columns.specs.Bits.{IsBits, BitString, PackedCodes}
 use Rattle.leaf_model.specs.declared.rows.Value.{Value}
 use Rattle.column_bytes.specs.declared.kind.Kind.{Kind}
-use Rattle.column_bytes.specs.declared.kind.Kind.TheVariants.{Ints, Texts}
+use Rattle.column_bytes.specs.declared.kind.Kind.TheVariants.{Ints, Texts, Sets}
 use Rattle.column_bytes.specs.declared.form.Form.{Form}
 use Rattle.column_bytes.specs.declared.form.Form.TheVariants as forms
 use Rattle.column_bytes.specs.Fields.{u32_at, u64_at}
 use Rattle.column_bytes.specs.Cells.{Coded, IsExtra, AreCodes, cells_of, coded_of}
 
--- the form that the bytes of kind and form name: integers by offset or by delta, texts by a dictionary
-abbrev pub form_at : ℕ → ℕ → Option Form
+-- the form that the bytes of kind and form name: integers by offset or by delta, texts or sets by a dictionary
+unfoldable pub form_at : ℕ → ℕ → Option Form
 form_at kind form =
     if (kind == 1) && (form == 1) then Some forms.Offset
     else (if (kind == 1) && (form == 2) then Some forms.Delta
-    else (if (kind == 2) && (form == 1) then Some forms.Dictionary else None))
+    else (if (kind == 2) && (form == 1) then Some forms.Dictionary
+    else (if (kind == 3) && (form == 1) then Some forms.Sets else None)))
 
 -- the fields of a header of 40 bytes
 abbrev pub kind_in : List ℕ → Kind
-kind_in bytes = if slice_index bytes 0 == 1 then Ints else Texts
+kind_in bytes = if slice_index bytes 0 == 1 then Ints else (if slice_index bytes 0 == 2 then Texts else Sets)
 
 abbrev pub width_in : List ℕ → ℕ
 width_in bytes = slice_index bytes 2

@@ -1,5 +1,6 @@
 pub mod Fields
 pub mod Dictionary
+pub mod Sets
 pub mod Cells
 pub mod Column
 pub mod Held

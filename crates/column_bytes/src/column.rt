@@ -1,13 +1,13 @@
 // A column of cells as bytes.
 ghost use Rattle.std.specs.Prelude.{◌≡◌, ◌<◌, ◌≤◌, ◌↔◌, ℕ, length, option_map, IfOk, IfSome, IsTrue};
-ghost use Rattle.column_bytes.specs.Cells.{value_of, values_of};
+ghost use Rattle.column_bytes.specs.Cells.{lent_value, values_of};
 ghost use Rattle.column_bytes.specs.Column.{HasCells, kind_in};
 ghost use Rattle.column_bytes.specs.Coding.{AreOfKind, IsOfKind};
 
 use crate::integers::encode_integers;
 use crate::kind::Kind;
+use crate::set_codes::encode_sets;
 use crate::text_codes::encode_texts;
-use crate::value::ValueRef;
 use leaf_model::Value;
 use std::alloc::{AllocError, Global};
 use std::marker::Model;
@@ -47,10 +47,11 @@ fn is_of_kind(kind: Kind, cell: &Option<Value>) -> bool
         None => true,
         Some(Value::Int(_)) => kind == Kind::Ints,
         Some(Value::Text(text)) => kind == Kind::Texts && text.as_str().len() <= 65535,
+        Some(Value::Set(members)) => kind == Kind::Sets && members.is_set(),
     }
 }
 
-/// Whether each cell that is there is of the kind, and no text has more than 65,535 bytes.
+/// Whether each cell that is there is of the kind: no text has more than 65,535 bytes, and texts that are called a set are one.
 pub fn are_of_kind(kind: Kind, cells: &[Option<Value>]) -> bool
     ensures { IsTrue result ↔ AreOfKind kind cells.now }
 {
@@ -62,23 +63,23 @@ pub fn are_of_kind(kind: Kind, cells: &[Option<Value>]) -> bool
     true
 }
 
-fn value_ref(cell: &Option<Value>) -> Option<ValueRef<'_>>
-    ensures { option_map value_of result ≡ cell.now }
+fn lend(cell: &Option<Value>) -> Option<&Value>
+    ensures { option_map lent_value result ≡ cell.now }
 {
     match cell {
         None => None,
-        Some(value) => Some(ValueRef::of(value)),
+        Some(value) => Some(value),
     }
 }
 
-fn refs_to(alloc: Global, cells: &[Option<Value>]) -> Result<Vec<Option<ValueRef<'_>>>, AllocError>
-    ensures { IfOk result (λ refs. values_of refs.items ≡ cells.now) }
+fn lend_all(alloc: Global, cells: &[Option<Value>]) -> Result<Vec<Option<&Value>>, AllocError>
+    ensures { IfOk result (λ lent. values_of lent.items ≡ cells.now) }
 {
-    let mut refs = Vec::with_capacity(alloc, cells.len())?;
+    let mut lent = Vec::with_capacity(alloc, cells.len())?;
     for cell in cells {
-        refs.push(value_ref(cell))?;
+        lent.push(lend(cell))?;
     }
-    Ok(refs)
+    Ok(lent)
 }
 
 /// The bytes of a column of cells, as of cells that are lent.
@@ -89,8 +90,8 @@ pub fn encode(alloc: Global, kind: Kind, cells: &[Option<Value>]) -> Result<Colu
     ensures cells { IfOk result (λ column. HasCells column (length cells.now) cells.now) }
     ensures kind { IfOk result (λ column. kind_in column ≡ kind) }
 {
-    let refs = refs_to(alloc, cells)?;
-    encode_refs(alloc, kind, &refs)
+    let lent = lend_all(alloc, cells)?;
+    encode_refs(alloc, kind, &lent)
 }
 
 /// The bytes of a column of 1 to 65,536 cells that are lent, each that is there of the kind: integers in the form that takes
@@ -98,7 +99,7 @@ pub fn encode(alloc: Global, kind: Kind, cells: &[Option<Value>]) -> Result<Colu
 pub fn encode_refs(
     alloc: Global,
     kind: Kind,
-    cells: &[Option<ValueRef>],
+    cells: &[Option<&Value>],
 ) -> Result<Column, AllocError>
     requires some { 0 < length cells.now }
     requires few { length cells.now ≤ 65536 }
@@ -113,6 +114,10 @@ pub fn encode_refs(
         }
         Kind::Texts => {
             let bytes = encode_texts(alloc, cells)?;
+            Ok(Column { bytes })
+        }
+        Kind::Sets => {
+            let bytes = encode_sets(alloc, cells)?;
             Ok(Column { bytes })
         }
     }

@@ -9,4 +9,6 @@ pub(crate) enum Form {
     Delta,
     // Places of texts in a dictionary.
     Dictionary,
+    // Places of sets in a dictionary of sets.
+    Sets,
 }

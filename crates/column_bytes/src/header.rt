@@ -18,6 +18,7 @@ pub(crate) struct Header {
     pub extra_from: usize,
 }
 
+#[tactic(auto, unfolding(crate::specs::Column::form_at))]
 fn form_of(kind: u8, form: u8) -> Option<Form>
     ensures { result ≡ form_at kind form }
 {
@@ -25,6 +26,7 @@ fn form_of(kind: u8, form: u8) -> Option<Form>
         (1, 1) => Some(Form::Offset),
         (1, 2) => Some(Form::Delta),
         (2, 1) => Some(Form::Dictionary),
+        (3, 1) => Some(Form::Sets),
         _ => None,
     }
 }

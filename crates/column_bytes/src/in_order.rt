@@ -97,6 +97,6 @@ pub(crate) fn fill_values(form: Form, extra: &[u8], codes: &[u64], values: &mut 
     match form {
         Form::Offset => fill_offsets(i64_at(extra, 0), codes, values),
         Form::Delta => fill_slots(extra, codes, values),
-        Form::Dictionary => unreachable!(),
+        Form::Dictionary | Form::Sets => unreachable!(),
     }
 }

@@ -5,21 +5,32 @@ ghost use Rattle.leaf_model.specs.declared.rows.Value.{Value};
 ghost use Rattle.leaf_model.specs.declared.rows.Value.TheVariants.{Int};
 ghost use Rattle.column_bytes.specs.declared.kind.Kind.TheVariants.{Ints};
 ghost use Rattle.column_bytes.specs.Fields.{i64_at};
-ghost use Rattle.column_bytes.specs.Cells.{IsExtra, book_of, kind_of, value_of, values_of};
+ghost use Rattle.column_bytes.specs.Cells.{IsExtra, book_of, kind_of, lent_value, values_of};
 ghost use Rattle.column_bytes.specs.Column.{HasCells, kind_in};
 ghost use Rattle.column_bytes.specs.Coding.{IsOfKind, AreOfKind, AreIntegers, AreCodesOf};
 
 use crate::form::Form;
-use crate::value::ValueRef;
 use crate::writer::{put_u64, write};
 use bit_columns::width_of;
 use delta_codes::delta;
+use leaf_model::Value;
 use std::alloc::{AllocError, Global};
 
+// The integer that a value is.
+fn integer_of(value: &Value) -> i64
+    requires { IsOfKind Ints value.now }
+    ensures { value.now ≡ Int result }
+{
+    match value {
+        Value::Int(integer) => *integer,
+        Value::Text(_) | Value::Set(_) => unreachable!(),
+    }
+}
+
 // The first integer that is there, or 0.
-fn first_integer(cells: &[Option<ValueRef>]) -> i64 {
+fn first_integer(cells: &[Option<&Value>]) -> i64 {
     for cell in cells {
-        if let Some(ValueRef::Int(integer)) = cell {
+        if let Some(Value::Int(integer)) = cell {
             return *integer;
         }
     }
@@ -27,18 +38,18 @@ fn first_integer(cells: &[Option<ValueRef>]) -> i64 {
 }
 
 // The integer of a cell, or the one before where it is missing.
-fn integer_or(cell: &Option<ValueRef>, before: i64) -> i64
-    requires { IfSome (option_map value_of cell.now) (IsOfKind Ints) }
-    ensures { (value : Value) → option_map value_of cell.now ≡ Some value → value ≡ Int result }
+fn integer_or(cell: &Option<&Value>, before: i64) -> i64
+    requires { IfSome (option_map lent_value cell.now) (IsOfKind Ints) }
+    ensures { (value : Value) → option_map lent_value cell.now ≡ Some value → value ≡ Int result }
 {
     match cell {
-        Some(ValueRef::Int(integer)) => *integer,
-        Some(ValueRef::Text(_)) | None => before,
+        Some(value) => integer_of(value),
+        None => before,
     }
 }
 
 // An integer for each cell. A missing one has that of the cell before, so that it makes no code longer.
-pub(crate) fn integers_of(alloc: Global, cells: &[Option<ValueRef>]) -> Result<Vec<i64>, AllocError>
+pub(crate) fn integers_of(alloc: Global, cells: &[Option<&Value>]) -> Result<Vec<i64>, AllocError>
     requires { AreOfKind Ints (values_of cells.now) }
     ensures { IfOk result (λ integers. AreIntegers (values_of cells.now) integers.items) }
 {
@@ -133,7 +144,7 @@ pub(crate) fn delta_coding(alloc: Global, integers: &[i64]) -> Result<Coding, Al
 pub(crate) fn write_integers(
     alloc: Global,
     form: Form,
-    cells: &[Option<ValueRef>],
+    cells: &[Option<&Value>],
     integers: &[i64],
     coding: &Coding,
 ) -> Result<Vec<u8>, AllocError>
@@ -152,7 +163,7 @@ pub(crate) fn write_integers(
 /// The bytes of a column of integers, in the form that takes fewer.
 pub(crate) fn encode_integers(
     alloc: Global,
-    cells: &[Option<ValueRef>],
+    cells: &[Option<&Value>],
 ) -> Result<Vec<u8>, AllocError>
     requires some { 0 < length cells.now }
     requires few { length cells.now ≤ 65536 }

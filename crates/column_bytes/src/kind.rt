@@ -7,4 +7,6 @@ pub enum Kind {
     Ints,
     /// Texts of at most 65,535 bytes.
     Texts,
+    /// Sets of texts.
+    Sets,
 }

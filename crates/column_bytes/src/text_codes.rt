@@ -5,17 +5,16 @@ ghost use Rattle.leaf_model.specs.declared.rows.Value.{Value};
 ghost use Rattle.leaf_model.specs.declared.rows.Value.TheVariants as values;
 ghost use Rattle.column_bytes.specs.declared.kind.Kind.TheVariants as kinds;
 ghost use Rattle.column_bytes.specs.Fields.{u32_at};
-ghost use Rattle.column_bytes.specs.Cells.{Entries, value_of, values_of};
+ghost use Rattle.column_bytes.specs.Cells.{Entries, lent_value, values_of};
 ghost use Rattle.column_bytes.specs.Column.{HasCells, kind_in};
 ghost use Rattle.column_bytes.specs.Dictionary.{AreKept, AreTexts, IsDictionary, distinct, lent, texts_at, texts_by};
 ghost use Rattle.column_bytes.specs.Coding.{IsOfKind, AreOfKind, IsCoding, end_at, joined};
 
 use crate::form::Form;
 use crate::text_set::TextSet;
-use crate::value::ValueRef;
 use crate::writer::{put_u32, write};
 use delta_codes::Codes;
-use leaf_model::{Text, Texts};
+use leaf_model::{Text, Texts, Value};
 use std::alloc::{AllocError, Global};
 
 /// The texts of a list, each once, and a code for each of the list's places.
@@ -67,31 +66,31 @@ pub fn dictionary(alloc: Global, values: &[Text]) -> Result<Dict, AllocError>
     })
 }
 
-fn value_code<'a>(set: &mut TextSet<'a>, value: &ValueRef<'a>) -> Result<u64, AllocError>
-    requires { IsOfKind kinds.Texts (value_of value.now) }
+fn value_code<'a>(set: &mut TextSet<'a>, value: &'a Value) -> Result<u64, AllocError>
+    requires { IsOfKind kinds.Texts (value.now) }
     ensures below { IfOk result (λ code. code < length set.new) }
-    ensures code { IfOk result (λ code. value_of value.now ≡ values.Text (slice_index_or set.new code [])) }
+    ensures code { IfOk result (λ code. value.now ≡ values.Text (slice_index_or set.new code [])) }
     ensures kept { OnOk result (AreKept set.old set.new) }
     ensures texts { OnOk result (AreTexts set.old → AreTexts set.new) }
     ensures grows { OnOk result (length set.new ≤ length set.old + 1) }
 {
     match value {
-        ValueRef::Text(text) => {
-            let code = set.code_of(text)?;
+        Value::Text(text) => {
+            let code = set.code_of(text.as_str())?;
             Ok(code)
         }
-        ValueRef::Int(_) => unreachable!(),
+        Value::Int(_) | Value::Set(_) => unreachable!(),
     }
 }
 
 // The code of a cell's text, or the one before where the cell is missing.
 fn code_or<'a>(
     set: &mut TextSet<'a>,
-    cell: &Option<ValueRef<'a>>,
+    cell: &Option<&'a Value>,
     before: u64,
 ) -> Result<u64, AllocError>
-    requires { IfSome (option_map value_of cell.now) (IsOfKind kinds.Texts) }
-    ensures code { IfOk result (λ code. (value : Value) → option_map value_of cell.now ≡ Some value → (code < length set.new) × (value ≡ values.Text (slice_index_or set.new code []))) }
+    requires { IfSome (option_map lent_value cell.now) (IsOfKind kinds.Texts) }
+    ensures code { IfOk result (λ code. (value : Value) → option_map lent_value cell.now ≡ Some value → (code < length set.new) × (value ≡ values.Text (slice_index_or set.new code []))) }
     ensures kept { OnOk result (AreKept set.old set.new) }
     ensures texts { OnOk result (AreTexts set.old → AreTexts set.new) }
     ensures grows { OnOk result (length set.new ≤ length set.old + 1) }
@@ -108,7 +107,7 @@ fn code_or<'a>(
 // A code for each cell. A missing one has that of the cell before, so that it makes no code longer.
 fn cell_codes<'a>(
     alloc: Global,
-    cells: &[Option<ValueRef<'a>>],
+    cells: &[Option<&'a Value>],
     set: &mut TextSet<'a>,
 ) -> Result<Vec<u64>, AllocError>
     requires none { set.old ≡ [] }
@@ -128,8 +127,8 @@ fn cell_codes<'a>(
 
 // The number of texts, and where each ends among their bytes.
 fn ends_of(alloc: Global, texts: &[&str]) -> Result<Vec<u8>, AllocError>
-    requires few { length texts.now ≤ 65536 }
-    requires texts { AreTexts (lent texts.now) }
+    requires few { length texts.now ≤ 67108864 }
+    requires small { length (joined (lent texts.now)) < 4294967296 }
     ensures len { IfOk result (λ bytes. length bytes.items ≡ 4 + 4 * length texts.now) }
     ensures count { IfOk result (λ bytes. u32_at bytes.items 0 ≡ length texts.now) }
     ensures ends { IfOk result (λ bytes. (k : ℕ) → k < length texts.now → u32_at bytes.items (4 + 4 * k) ≡ end_at (lent texts.now) (k + 1)) }
@@ -154,12 +153,13 @@ fn put_texts(out: &mut Vec<u8>, texts: &[&str]) -> Result<(), AllocError>
 }
 
 // A dictionary of the texts as bytes.
-fn dictionary_bytes(alloc: Global, texts: &[&str]) -> Result<Vec<u8>, AllocError>
-    requires few { length texts.now ≤ 65536 }
+pub(crate) fn dictionary_bytes(alloc: Global, texts: &[&str]) -> Result<Vec<u8>, AllocError>
+    requires few { length texts.now ≤ 67108864 }
+    requires small { length (joined (lent texts.now)) < 4294967296 }
     requires texts { AreTexts (lent texts.now) }
     ensures dictionary { IfOk result (λ bytes. IsDictionary bytes.items) }
     ensures same { IfOk result (λ bytes. texts_at bytes.items ≡ lent texts.now) }
-    ensures small { IfOk result (λ bytes. length bytes.items ≤ 2 ^ 40) }
+    ensures small { IfOk result (λ bytes. length bytes.items ≤ 2 ^ 33) }
 {
     let mut bytes = ends_of(alloc, texts)?;
     put_texts(&mut bytes, texts)?;
@@ -167,7 +167,7 @@ fn dictionary_bytes(alloc: Global, texts: &[&str]) -> Result<Vec<u8>, AllocError
 }
 
 /// The bytes of a column of texts.
-pub(crate) fn encode_texts(alloc: Global, cells: &[Option<ValueRef>]) -> Result<Vec<u8>, AllocError>
+pub(crate) fn encode_texts(alloc: Global, cells: &[Option<&Value>]) -> Result<Vec<u8>, AllocError>
     requires some { 0 < length cells.now }
     requires few { length cells.now ≤ 65536 }
     requires kind { AreOfKind kinds.Texts (values_of cells.now) }

@@ -13,7 +13,7 @@ pub(crate) fn text_count(extra: &[u8]) -> u32
 }
 
 // Where a text begins among the bytes of the texts.
-fn text_from(extra: &[u8], k: usize) -> usize
+pub(crate) fn text_from(extra: &[u8], k: usize) -> usize
     requires { 4 + 4 * k ≤ length extra.now }
     ensures value { result ≡ text_from extra.now k }
     ensures small { result < 4294967296 }
@@ -26,7 +26,7 @@ fn text_from(extra: &[u8], k: usize) -> usize
 }
 
 // Whether no end is below the one before.
-fn ends_rise(extra: &[u8], count: usize) -> bool
+pub(crate) fn ends_rise(extra: &[u8], count: usize) -> bool
     requires { 4 + 4 * count ≤ length extra.now }
     ensures { IsTrue result ↔ ((k : ℕ) → k < count → text_from extra.now k ≤ text_from extra.now (suc k)) }
 {
@@ -64,7 +64,7 @@ fn text_range(extra: &[u8], k: usize) -> (usize, usize)
     (text_from(extra, k), text_from(extra, k + 1))
 }
 
-fn text_bytes(extra: &[u8], k: usize) -> &[u8]
+pub(crate) fn text_bytes(extra: &[u8], k: usize) -> &[u8]
     requires ends { AreEnds extra.now }
     requires within { k < text_count extra.now }
     ensures { result.now ≡ text_at extra.now k }

@@ -3,9 +3,9 @@ ghost use Rattle.std.specs.Prelude.{◌≡◌, ℕ, ◌+◌, ◌*◌, ◌^◌, �
 ghost use Rattle.std.specs.Int.{w64, div_ceil};
 ghost use Rattle.bit_columns.specs.Bits.{code, codes};
 ghost use Rattle.leaf_model.specs.declared.rows.Value.{Value};
-ghost use Rattle.column_bytes.specs.declared.kind.Kind.TheVariants.{Ints, Texts};
+ghost use Rattle.column_bytes.specs.declared.kind.Kind.TheVariants.{Ints};
 ghost use Rattle.column_bytes.specs.declared.form.Form.{Form};
-ghost use Rattle.column_bytes.specs.Cells.{Coded, coded_of, cells_of, cell_at, value_at, value_of, kind_of, entries, integer_cells, text_cells, is_there, IsCode, IsExtra, AreCodes, book_of};
+ghost use Rattle.column_bytes.specs.Cells.{Coded, coded_of, cells_of, cell_at, value_at, value_of, kind_of, entries, entry_cells, has_entries, integer_cells, no_value, is_there, IsCode, IsExtra, AreCodes, book_of};
 ghost use Rattle.column_bytes.specs.Column.{HasCells, IsColumn, IsPresence, coded_in, kind_in, presence_bits};
 
 use crate::fields::i64_at;
@@ -13,6 +13,8 @@ use crate::form::Form;
 use crate::header::{HEADER_LEN, Header, header_of};
 use crate::in_order::{fill_present, fill_values, offset_sum};
 use crate::kind::Kind;
+use crate::set_ref::SetRef;
+use crate::sets::{is_set_dictionary, set_count};
 use crate::slots::slot_at;
 use crate::texts::{is_dictionary, text_count, text_of};
 use crate::value::ValueRef;
@@ -71,6 +73,7 @@ fn is_extra(form: Form, extra: &[u8], count: u32) -> bool
         Form::Offset => extra.len() == 8,
         Form::Delta => extra.len() == 8 * count.div_ceil(64) as usize,
         Form::Dictionary => is_dictionary(extra),
+        Form::Sets => is_set_dictionary(extra),
     }
 }
 
@@ -93,6 +96,7 @@ fn is_code(form: Form, extra: &[u8], count: u32, code: u64) -> bool
         Form::Offset => i64_at(extra, 0).checked_add_unsigned(code).is_some(),
         Form::Delta => true,
         Form::Dictionary => code < u64::from(text_count(extra)),
+        Form::Sets => code < u64::from(set_count(extra)),
     }
 }
 
@@ -140,6 +144,7 @@ fn last_code(form: Form, extra: &[u8], count: u32) -> u64
         Form::Offset => i64::MAX.abs_diff(i64_at(extra, 0)),
         Form::Delta => u64::MAX,
         Form::Dictionary => u64::from(text_count(extra)) - 1,
+        Form::Sets => u64::from(set_count(extra)) - 1,
     }
 }
 
@@ -187,6 +192,7 @@ fn value_in<'a>(form: Form, packed: &Packed, extra: &'a [u8], i: u32) -> ValueRe
         Form::Offset => ValueRef::Int(offset_value(i64_at(extra, 0), packed.get(i))),
         Form::Delta => ValueRef::Int(slot_at(packed, extra, i)),
         Form::Dictionary => ValueRef::Text(text_of(extra, packed.get(i) as usize)),
+        Form::Sets => ValueRef::Set(SetRef::of(extra, packed.get(i) as usize)),
     }
 }
 
@@ -246,6 +252,7 @@ impl<'a> ColumnView<'a> {
         match self.form {
             Form::Offset | Form::Delta => Kind::Ints,
             Form::Dictionary => Kind::Texts,
+            Form::Sets => Kind::Sets,
         }
     }
 
@@ -284,37 +291,39 @@ impl<'a> ColumnView<'a> {
         fill_values(self.form, self.extra, codes, values);
     }
 
-    /// The codes of a column of texts, in order: which cells are there, and the codes of their texts.
+    /// The codes of a column of texts or sets, in order: which cells are there, and the codes of their values.
     /// Each slice has a place for each cell. The code of a missing cell means nothing.
     pub fn codes(&self, codes: &mut [u64], present: &mut [bool])
-        requires kind { kind_of self.now.book ≡ Texts }
+        requires kind { has_entries (kind_of self.now.book) ≡ true }
         requires codes { length codes.old ≡ length self.now.codes }
         requires present { length present.old ≡ length self.now.codes }
-        ensures cells { cells_of self.now ≡ text_cells (entries self.now.book) present.new codes.new }
+        ensures cells { cells_of self.now ≡ entry_cells (entries self.now.book) present.new codes.new }
         ensures below { (i : ℕ) → i < length self.now.codes → slice_index_or present.new i false ≡ true → slice_index codes.new i < length (entries self.now.book) }
     {
         self.packed.fill(codes);
         fill_present(&self.presence, present);
     }
 
-    /// How many texts the codes of a column of texts stand for; 0 in a column of integers.
-    pub fn texts(&self) -> u32
+    /// How many values the codes of a column of texts or sets stand for; 0 in a column of integers.
+    pub fn entries(&self) -> u32
         ensures { result ≡ length (entries self.now.book) }
     {
         match self.form {
             Form::Offset | Form::Delta => 0,
             Form::Dictionary => text_count(self.extra),
+            Form::Sets => set_count(self.extra),
         }
     }
 
-    /// The text that a code stands for.
-    pub fn text(&self, code: u32) -> &'a str
+    /// The value that a code stands for.
+    pub fn entry(&self, code: u32) -> ValueRef<'a>
         requires { code < length (entries self.now.book) }
-        ensures { result.now ≡ slice_index_or (entries self.now.book) code [] }
+        ensures { value_of result ≡ slice_index_or (entries self.now.book) code no_value }
     {
         match self.form {
             Form::Offset | Form::Delta => unreachable!(),
-            Form::Dictionary => text_of(self.extra, code as usize),
+            Form::Dictionary => ValueRef::Text(text_of(self.extra, code as usize)),
+            Form::Sets => ValueRef::Set(SetRef::of(self.extra, code as usize)),
         }
     }
 }

@@ -8,9 +8,9 @@ ghost use Rattle.column_bytes.specs.Coding.{IsCoding, column_bytes, form_byte, f
 
 use crate::form::Form;
 use crate::header::HEADER_LEN;
-use crate::value::ValueRef;
 use bit_columns::{pack, pack_bits, width_of};
 use byteorder::{ByteOrder, LittleEndian};
+use leaf_model::Value;
 use std::alloc::{AllocError, Global};
 
 pub(crate) fn put_u32(out: &mut Vec<u8>, number: u32) -> Result<(), AllocError>
@@ -87,6 +87,7 @@ fn kind_byte(form: Form) -> u8
     match form {
         Form::Offset | Form::Delta => 1,
         Form::Dictionary => 2,
+        Form::Sets => 3,
     }
 }
 
@@ -94,7 +95,7 @@ fn form_byte(form: Form) -> u8
     ensures { result ≡ form_byte form }
 {
     match form {
-        Form::Offset | Form::Dictionary => 1,
+        Form::Offset | Form::Dictionary | Form::Sets => 1,
         Form::Delta => 2,
     }
 }
@@ -118,7 +119,7 @@ fn are_all_there(present: &[bool]) -> bool
     true
 }
 
-fn present_in(alloc: Global, cells: &[Option<ValueRef>]) -> Result<Vec<bool>, AllocError>
+fn present_in(alloc: Global, cells: &[Option<&Value>]) -> Result<Vec<bool>, AllocError>
     ensures { IfOk result (λ present. present.items ≡ map is_some cells.now) }
 {
     cells.iter().map(|cell| cell.is_some()).collect(alloc)
@@ -152,7 +153,7 @@ fn presence_of(alloc: Global, present: &[bool]) -> Result<Presence, AllocError>
 pub(crate) fn write(
     alloc: Global,
     form: Form,
-    cells: &[Option<ValueRef>],
+    cells: &[Option<&Value>],
     codes: &[u64],
     extra: &[u8],
 ) -> Result<Vec<u8>, AllocError>

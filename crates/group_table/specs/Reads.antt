@@ -12,6 +12,7 @@ abbrev pub seen_value : Seen → Option Value
 seen_value seen.Missing = None
 seen_value (seen.Int n) = Some (value.Int n)
 seen_value (seen.Text text) = Some (value.Text text.now)
+seen_value (seen.Set members) = Some (value.Set members.now)
 
 -- the key that it makes
 abbrev pub seen_key : Seen → Key

@@ -1,6 +1,6 @@
 // Guesses at the places of keys in a table.
 use crate::reads::{Seen, see_key};
-use leaf_model::{Group, Key};
+use leaf_model::{Group, Key, Text};
 use std::alloc::{AllocError, Global};
 
 fn mix_word(mixed: u64, word: u64) -> u64 {
@@ -32,11 +32,21 @@ fn mix_text(mixed: u64, text: &str) -> u64 {
     mix_word(mix_front(mixed, bytes), last)
 }
 
+/// Text by text, and how many there are.
+fn mix_texts(mixed: u64, texts: &[Text]) -> u64 {
+    let mut mixed = mixed;
+    for text in texts {
+        mixed = mix_text(mixed, text.as_str());
+    }
+    mix_word(mixed, texts.len() as u64)
+}
+
 fn mix(mixed: u64, seen: Seen) -> u64 {
     match seen {
         Seen::Missing => mix_word(mixed, 1),
         Seen::Int(n) => mix_word(mixed, u64::from_le_bytes(n.to_le_bytes())),
         Seen::Text(text) => mix_text(mixed, text.as_str()),
+        Seen::Set(members) => mix_texts(mixed, members.as_slice()),
     }
 }
 

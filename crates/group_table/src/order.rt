@@ -7,7 +7,7 @@ use crate::reads::{Seen, see_key};
 use leaf_model::Key;
 use std::cmp::Ordering;
 
-/// Missing, then integers, then texts by their bytes.
+/// Missing, then integers, then texts by their bytes, then sets as lists of texts.
 fn compare_seen(a: Seen, b: Seen) -> Ordering
     ensures { result ≡ key_cmp (seen_key a.entry) (seen_key b.entry) }
 {
@@ -16,16 +16,25 @@ fn compare_seen(a: Seen, b: Seen) -> Ordering
             Seen::Missing => Ordering::Equal,
             Seen::Int(_m) => Ordering::Less,
             Seen::Text(_u) => Ordering::Less,
+            Seen::Set(_n) => Ordering::Less,
         },
         Seen::Int(n) => match b {
             Seen::Missing => Ordering::Greater,
             Seen::Int(m) => n.cmp(&m),
             Seen::Text(_u) => Ordering::Less,
+            Seen::Set(_n) => Ordering::Less,
         },
         Seen::Text(t) => match b {
             Seen::Missing => Ordering::Greater,
             Seen::Int(_m) => Ordering::Greater,
             Seen::Text(u) => t.as_str().cmp(u.as_str()),
+            Seen::Set(_n) => Ordering::Less,
+        },
+        Seen::Set(members) => match b {
+            Seen::Missing => Ordering::Greater,
+            Seen::Int(_m) => Ordering::Greater,
+            Seen::Text(_u) => Ordering::Greater,
+            Seen::Set(others) => members.compare(others),
         },
     }
 }

@@ -1,10 +1,10 @@
 ghost use Rattle.std.specs.Prelude.{◌≡◌, IfOk, option_and_then, map, Some, bytes_eq};
 ghost use Rattle.std.specs.List.{list_all};
-ghost use Rattle.leaf_model.specs.Groups.{cell_value, value_of, op_accepts, cond_accepts, passes, key_of, as_int};
+ghost use Rattle.leaf_model.specs.Groups.{cell_value, value_of, op_accepts, set_accepts, cond_accepts, passes, key_of, as_int};
 ghost use Rattle.leaf_model.specs.Values.{time_name};
 ghost use Rattle.group_table.specs.Reads.{seen_value, seen_key};
 
-use leaf_model::{Cell, Cond, Key, Keys, Op, Query, Row, Text, Value};
+use leaf_model::{Cell, Cond, Key, Keys, Op, Query, Row, Text, Texts, Value};
 use std::alloc::{AllocError, Global};
 use std::cmp::Ordering;
 
@@ -14,6 +14,7 @@ pub enum Seen<'a> {
     Missing,
     Int(i64),
     Text(&'a Text),
+    Set(&'a Texts),
 }
 
 fn is_time(name: &Text) -> bool
@@ -39,6 +40,7 @@ fn see<'a>(value: &'a Value) -> Seen<'a>
     match value {
         Value::Int(n) => Seen::Int(*n),
         Value::Text(text) => Seen::Text(text),
+        Value::Set(members) => Seen::Set(members),
     }
 }
 
@@ -63,6 +65,16 @@ fn accepts(op: &Op, order: Ordering) -> bool
         Op::Le => order != Ordering::Greater,
         Op::Gt => order == Ordering::Greater,
         Op::Ge => order != Ordering::Less,
+        Op::Has => false,
+    }
+}
+
+fn set_accepts(op: &Op, members: &Texts, text: &str) -> bool
+    ensures { result ≡ set_accepts op.now members.now text.now }
+{
+    match op {
+        Op::Has => members.holds(text),
+        Op::Eq | Op::Ne | Op::Lt | Op::Le | Op::Gt | Op::Ge => false,
     }
 }
 
@@ -74,10 +86,17 @@ fn meets(cond: &Cond, row: &Row) -> bool
         Seen::Int(n) => match &cond.value {
             Value::Int(m) => accepts(&cond.op, n.cmp(m)),
             Value::Text(_text) => false,
+            Value::Set(_members) => false,
         },
         Seen::Text(text) => match &cond.value {
             Value::Int(_m) => false,
             Value::Text(other) => accepts(&cond.op, text.as_str().cmp(other.as_str())),
+            Value::Set(_members) => false,
+        },
+        Seen::Set(members) => match &cond.value {
+            Value::Int(_m) => false,
+            Value::Text(text) => set_accepts(&cond.op, members, text.as_str()),
+            Value::Set(_others) => false,
         },
     }
 }
@@ -122,6 +141,7 @@ pub fn see_key(key: &Key) -> Seen<'_>
         Key::Missing => Seen::Missing,
         Key::Int(n) => Seen::Int(*n),
         Key::Text(text) => Seen::Text(text),
+        Key::Set(members) => Seen::Set(members),
     }
 }
 
@@ -132,6 +152,7 @@ fn own_key(seen: Seen) -> Result<Key, AllocError>
         Seen::Missing => Ok(Key::Missing),
         Seen::Int(n) => Ok(Key::Int(n)),
         Seen::Text(text) => Ok(Key::Text(text.copy()?)),
+        Seen::Set(members) => Ok(Key::Set(members.copy()?)),
     }
 }
 
@@ -152,5 +173,6 @@ pub fn int_at(name: &Text, row: &Row) -> Option<i64>
         Seen::Missing => None,
         Seen::Int(n) => Some(n),
         Seen::Text(_text) => None,
+        Seen::Set(_members) => None,
     }
 }

@@ -1,4 +1,5 @@
 pub mod Distinct
 mod Ends
 pub mod KeyOrder
+pub mod SetLaws
 mod Samples

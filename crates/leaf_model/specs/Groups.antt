@@ -11,7 +11,7 @@ use Rattle.leaf_model.specs.declared.rows.Value.TheVariants as value
 use Rattle.leaf_model.specs.declared.rows.Cell.{Cell}
 use Rattle.leaf_model.specs.declared.rows.Row.{Row}
 use Rattle.leaf_model.specs.declared.queries.Op.{Op}
-use Rattle.leaf_model.specs.declared.queries.Op.TheVariants.{Eq, Ne, Lt, Le, Gt, Ge}
+use Rattle.leaf_model.specs.declared.queries.Op.TheVariants.{Eq, Ne, Lt, Le, Gt, Ge, Has}
 use Rattle.leaf_model.specs.declared.queries.Cond.{Cond}
 use Rattle.leaf_model.specs.declared.queries.Agg.{Agg}
 use Rattle.leaf_model.specs.declared.queries.Agg.TheVariants.{Count, Sum, Min, Max, Avg}
@@ -21,6 +21,7 @@ use Rattle.leaf_model.specs.declared.groups.Key.TheVariants as key
 use Rattle.leaf_model.specs.declared.groups.Fold.{Fold}
 use Rattle.leaf_model.specs.declared.groups.Group.{Group}
 use Rattle.leaf_model.specs.Values.{time_name}
+use Rattle.leaf_model.specs.Names.{is_among}
 
 -- the value of the cell of that name
 abbrev pub cell_value : List ℕ → List Cell → Option Value
@@ -35,6 +36,11 @@ value_of name row = if bytes_eq name time_name then Some (value.Int row.time) el
 abbrev pub text_cmp : List ℕ → List ℕ → Ordering
 text_cmp = slice_cmp nat_cmp
 
+-- lists of texts compare from the left
+abbrev pub texts_cmp : List (List ℕ) → List (List ℕ) → Ordering
+texts_cmp = slice_cmp text_cmp
+
+-- HAS is no comparison
 abbrev pub op_accepts : Op → Ordering → Bool
 op_accepts Eq o = is_eq o
 op_accepts Ne o = not (is_eq o)
@@ -42,13 +48,19 @@ op_accepts Lt o = is_lt o
 op_accepts Le o = is_le o
 op_accepts Gt o = is_gt o
 op_accepts Ge o = is_ge o
+op_accepts Has o = false
+
+-- a set meets HAS alone, with a text that it holds
+abbrev pub set_accepts : Op → List (List ℕ) → List ℕ → Bool
+set_accepts Has members text = is_among members text
+set_accepts op members text = false
 
 -- an integer and a text meet no operator
 abbrev pub compares : Op → Value → Value → Bool
 compares op (value.Int a) (value.Int b) = op_accepts op (int_cmp a b)
 compares op (value.Text a) (value.Text b) = op_accepts op (text_cmp a b)
-compares op (value.Int a) (value.Text b) = false
-compares op (value.Text a) (value.Int b) = false
+compares op (value.Set members) (value.Text text) = set_accepts op members text
+compares op a b = false
 
 -- a missing cell meets no condition
 abbrev pub cond_accepts : Cond → Option Value → Bool
@@ -63,22 +75,24 @@ abbrev pub key_of : Option Value → Key
 key_of None = key.Missing
 key_of (Some (value.Int n)) = key.Int n
 key_of (Some (value.Text t)) = key.Text t
+key_of (Some (value.Set members)) = key.Set members
 
 -- what the row has under the names of GROUP BY
 abbrev pub keys_of : Query → Row → List Key
 keys_of q row = map (λ name. key_of (value_of name row)) q.keys
 
--- missing, then integers ascending, then texts by their bytes
+-- missing, then integers ascending, then texts by their bytes, then sets as lists of texts
 abbrev pub key_cmp : Key → Key → Ordering
 key_cmp key.Missing key.Missing = Equal
-key_cmp key.Missing (key.Int b) = Less
-key_cmp key.Missing (key.Text b) = Less
+key_cmp key.Missing b = Less
 key_cmp (key.Int a) key.Missing = Greater
 key_cmp (key.Int a) (key.Int b) = int_cmp a b
-key_cmp (key.Int a) (key.Text b) = Less
-key_cmp (key.Text a) key.Missing = Greater
-key_cmp (key.Text a) (key.Int b) = Greater
+key_cmp (key.Int a) b = Less
 key_cmp (key.Text a) (key.Text b) = text_cmp a b
+key_cmp (key.Text a) (key.Set b) = Less
+key_cmp (key.Text a) b = Greater
+key_cmp (key.Set a) (key.Set b) = texts_cmp a b
+key_cmp (key.Set a) b = Greater
 
 -- lists of keys compare from the left
 abbrev pub keys_cmp : List Key → List Key → Ordering
@@ -102,7 +116,7 @@ distinct_keys q (row ∷ rows) = with_keys (keys_of q row) (distinct_keys q rows
 -- the integer that stands in a cell
 abbrev pub as_int : Value → Option ℤ
 as_int (value.Int n) = Some n
-as_int (value.Text t) = None
+as_int other = None
 
 -- the integer cells of a name
 abbrev pub ints_of : List ℕ → List Row → List ℤ

@@ -1,4 +1,5 @@
 pub mod Values
+pub mod Sets
 pub mod Content
 pub mod Groups
 pub mod Names

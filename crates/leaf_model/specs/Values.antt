@@ -1,12 +1,12 @@
 -- What rows, writes and queries may be.
-use Rattle.std.specs.Prelude.{ℕ, ◌<◌, ◌≤◌, ◌^◌, ◌≢◌, List, length, map, ℤ, pos, ◌≤ℤ◌, codes, IsUtf8, FitsSigned}
+use Rattle.std.specs.Prelude.{ℕ, ◌+◌, ◌<◌, ◌≤◌, ◌^◌, ◌≢◌, List, [], ◌∷◌, length, map, ℤ, pos, ◌≤ℤ◌, codes, IsUtf8, FitsSigned}
 use Rattle.std.specs.List.{AllByRecursion}
 use Rattle.std.specs.List.Sorted.{IsStrictlySortedBy}
 use Rattle.std.specs.Int.{w64}
 use Rattle.std.specs.Ordering.{nat_cmp}
 use Rattle.std.specs.Cmp.Lexicographic.{slice_cmp}
 use Rattle.leaf_model.specs.declared.rows.Value.{Value}
-use Rattle.leaf_model.specs.declared.rows.Value.TheVariants.{Int, Text}
+use Rattle.leaf_model.specs.declared.rows.Value.TheVariants.{Int, Text, Set}
 use Rattle.leaf_model.specs.declared.rows.Cell.{Cell}
 use Rattle.leaf_model.specs.declared.rows.Row.{Row}
 use Rattle.leaf_model.specs.declared.writes.Write.{Write}
@@ -27,10 +27,23 @@ pub record IsCellName (name : List ℕ) : Type 0 where
   pub short : length name ≤ 255
   pub other : name ≢ time_name
 
--- an i64, or a text of at most 65,535 bytes
+-- how many bytes some texts have together
+abbrev pub bytes_in : List (List ℕ) → ℕ
+bytes_in [] = 0
+bytes_in (t ∷ ts) = length t + bytes_in ts
+
+-- at most 1,024 texts that ascend by their bytes, with at most 65,535 bytes together; none is a set too
+pub record IsSet (members : List (List ℕ)) : Type 0 where
+  pub few : length members ≤ 1024
+  pub utf8 : AllByRecursion IsUtf8 members
+  pub ascending : IsStrictlySortedBy (slice_cmp nat_cmp) members
+  pub together : bytes_in members ≤ 65535
+
+-- an i64, a text of at most 65,535 bytes, or a set
 abbrev pub IsValue : Value → Type 0
 IsValue (Int n) = FitsSigned w64 n
 IsValue (Text t) = IsUtf8 t × (length t ≤ 65535)
+IsValue (Set members) = IsSet members
 
 pub record IsCell (c : Cell) : Type 0 where
   pub name : IsCellName c.name

@@ -2,7 +2,7 @@
 ghost use Rattle.std.specs.Prelude.{◌≡◌};
 ghost use Rattle.leaf_model.specs.Groups.{key_cmp, keys_cmp};
 
-use crate::text::Text;
+use crate::text::{Text, Texts};
 use std::cmp::Ordering;
 use std::marker::Model;
 
@@ -12,10 +12,11 @@ pub enum Key {
     Missing,
     Int(i64),
     Text(Text),
+    Set(Texts),
 }
 
 impl Key {
-    /// Missing, then integers, then texts by their bytes.
+    /// Missing, then integers, then texts by their bytes, then sets as lists of texts.
     pub fn compare(&self, other: &Key) -> Ordering
         ensures { result ≡ key_cmp self.now other.now }
     {
@@ -24,16 +25,25 @@ impl Key {
                 Key::Missing => Ordering::Equal,
                 Key::Int(_m) => Ordering::Less,
                 Key::Text(_u) => Ordering::Less,
+                Key::Set(_n) => Ordering::Less,
             },
             Key::Int(n) => match other {
                 Key::Missing => Ordering::Greater,
                 Key::Int(m) => n.cmp(m),
                 Key::Text(_u) => Ordering::Less,
+                Key::Set(_n) => Ordering::Less,
             },
             Key::Text(t) => match other {
                 Key::Missing => Ordering::Greater,
                 Key::Int(_m) => Ordering::Greater,
                 Key::Text(u) => t.as_str().cmp(u.as_str()),
+                Key::Set(_n) => Ordering::Less,
+            },
+            Key::Set(members) => match other {
+                Key::Missing => Ordering::Greater,
+                Key::Int(_m) => Ordering::Greater,
+                Key::Text(_u) => Ordering::Greater,
+                Key::Set(others) => members.compare(others),
             },
         }
     }

@@ -4,6 +4,7 @@
 mod groups;
 mod queries;
 mod rows;
+mod set;
 mod steps;
 mod table_names;
 mod text;

@@ -6,7 +6,7 @@ use crate::text::{Names, Text};
 use std::alloc::AllocError;
 use std::marker::Model;
 
-/// How a cell is compared with a constant.
+/// How a cell is compared with a constant. `Has` asks of a set whether it holds a text.
 #[derive(Clone, Copy, Debug, PartialEq, Eq)]
 pub enum Op {
     Eq,
@@ -15,9 +15,10 @@ pub enum Op {
     Le,
     Gt,
     Ge,
+    Has,
 }
 
-/// A condition on the cell of a name. It is false of a missing cell, and between an integer and a text.
+/// A condition on the cell of a name. It is false of a missing cell, and between an integer and a text; a set meets `Has` alone.
 #[derive(Debug, Drop)]
 pub struct Cond {
     pub name: Text,

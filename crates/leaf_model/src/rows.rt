@@ -1,7 +1,7 @@
 // Rows: a time, and cells in the order of their names.
 ghost use Rattle.std.specs.Prelude.{◌≡◌, ◌≤◌, length, IfOk};
 
-use crate::text::Text;
+use crate::text::{Text, Texts};
 use std::alloc::AllocError;
 use std::marker::Model;
 
@@ -10,6 +10,8 @@ use std::marker::Model;
 pub enum Value {
     Int(i64),
     Text(Text),
+    /// Texts that ascend by their bytes, each once.
+    Set(Texts),
 }
 
 impl Value {
@@ -19,6 +21,7 @@ impl Value {
         match self {
             Value::Int(number) => Ok(Value::Int(*number)),
             Value::Text(text) => Ok(Value::Text(text.copy()?)),
+            Value::Set(members) => Ok(Value::Set(members.copy()?)),
         }
     }
 }

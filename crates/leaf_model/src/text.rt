@@ -1,7 +1,12 @@
 // Texts, which contracts see as their bytes.
-ghost use Rattle.std.specs.Prelude.{◌≡◌, IfOk, string_bytes};
+ghost use Rattle.std.specs.Prelude.{◌≡◌, ◌↔◌, IfOk, IsTrue, string_bytes};
+ghost use Rattle.leaf_model.specs.Values.{IsSet};
+ghost use Rattle.leaf_model.specs.Groups.{texts_cmp};
+ghost use Rattle.leaf_model.specs.Names.{is_among};
 
+use crate::set::are_set;
 use std::alloc::AllocError;
+use std::cmp::Ordering;
 use std::marker::Model;
 
 /// A text of UTF-8. Contracts see it as its bytes.
@@ -91,6 +96,26 @@ impl Names {
     }
 }
 
+fn compare_texts(a: &[Text], b: &[Text]) -> Ordering
+    ensures { result ≡ texts_cmp a.now b.now }
+{
+    let mut i: usize = 0;
+    while i < a.len() && i < b.len() {
+        match a[i].as_str().cmp(b[i].as_str()) {
+            Ordering::Less => return Ordering::Less,
+            Ordering::Equal => i += 1,
+            Ordering::Greater => return Ordering::Greater,
+        }
+    }
+    a.len().cmp(&b.len())
+}
+
+fn is_one_of(texts: &[Text], text: &str) -> bool
+    ensures { result ≡ is_among texts.now text.now }
+{
+    texts.iter().any(|other| other.as_str() == text)
+}
+
 /// Texts. Contracts see them as the list.
 #[derive(Debug, Drop)]
 pub struct Texts {
@@ -123,5 +148,36 @@ impl Texts {
         ensures { result.items ≡ self }
     {
         self.inner
+    }
+
+    pub fn copy(&self) -> Result<Texts, AllocError>
+        ensures { IfOk result (λ copy. copy ≡ self.now) }
+    {
+        let mut inner: Vec<Text> = Vec::new(*self.inner.allocator());
+        for item in self.inner.as_slice() {
+            inner.push(item.copy()?)?;
+        }
+        Ok(Texts { inner })
+    }
+
+    /// Compares from the left, text by text; where one list ends first, it is the less.
+    pub fn compare(&self, other: &Texts) -> Ordering
+        ensures { result ≡ texts_cmp self.now other.now }
+    {
+        compare_texts(self.inner.as_slice(), other.inner.as_slice())
+    }
+
+    /// Whether it is one of them.
+    pub fn holds(&self, text: &str) -> bool
+        ensures { result ≡ is_among self.now text.now }
+    {
+        is_one_of(self.inner.as_slice(), text)
+    }
+
+    /// Whether they are a set: ascending by their bytes, each once, few and short enough.
+    pub fn is_set(&self) -> bool
+        ensures { IsTrue result ↔ IsSet self.now }
+    {
+        are_set(self.inner.as_slice())
     }
 }

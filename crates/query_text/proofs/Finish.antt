@@ -1,5 +1,5 @@
 -- What was read can be finished.
-use Rattle.std.proofs.Common.{◌≡◌, ℕ, suc, zero, ◌+◌, ◌<◌, ◌≤◌, Bool, true, false, ◌||◌, List, [], ◌∷◌, length, Some, refl, ◌∙◌, pos, arith, nat_lt}
+use Rattle.std.proofs.Common.{◌≡◌, ℕ, suc, zero, ◌+◌, ◌<◌, ◌≤◌, Bool, true, false, ◌||◌, List, [], ◌∷◌, length, Some, refl, ◌∙◌, pos, arith, nat_lt, if◌then◌else◌}
 use Rattle.std.specs.Prelude.{codes, slice_get}
 use Rattle.std.specs.List.{list_any, position_from}
 use Rattle.std.proofs.lemmas.Bool.{le-ltb, ltb-true, false≢true}
@@ -15,7 +15,7 @@ use Rattle.query_text.specs.declared.places.Kind.{Kind}
 use Rattle.query_text.specs.declared.places.Kind.TheVariants as kind
 use Rattle.query_text.specs.declared.places.Place.{Place}
 use Rattle.query_text.specs.declared.places.Place.TheVariants.{Select, Item, NameEnd, Opening, Inside, Closing, AggEnd, NextAgg, Table, Where, LowTime, LowSign, LowBound, And, HighTime, HighSign, HighBound, CondEnd, CondName, CondOp, CondValue, By, GroupName, GroupEnd, OrderBy, OrderAgg, OrderOpening, OrderInside, OrderClosing, Ordered, LimitNumber, Last}
-use Rattle.query_text.specs.Roles.{kind_of, has_kind, is_orderable, same_agg, agg_inside}
+use Rattle.query_text.specs.Roles.{kind_of, has_kind, is_orderable, same_agg, agg_inside, const_of, const_for, text_of, is_has}
 use Rattle.query_text.specs.Reading.{may_end, has_keys, with_agg, with_cond}
 use Rattle.query_text.proofs.Plain.{reads}
 use Rattle.query_text.proofs.Found.{same_bytes}
@@ -186,8 +186,16 @@ cond_end_by false q e = end_here q CondEnd (rw e refl)
 finish_conds : (q : Query) → Finish q CondEnd
 finish_conds q = cond_end_by (has_keys q) q refl
 
+-- every operator takes a text
+text_by : (b : Bool) → (if b then text_of (token.Text []) else const_of (token.Text [])) ≡ Some (value.Text [])
+text_by true = refl
+text_by false = refl
+
+text_for : (op : Op) → const_for op (token.Text []) ≡ Some (value.Text [])
+text_for op = text_by (is_has op)
+
 finish_value : (q : Query) (name : List ℕ) (op : Op) → Finish q (CondValue name op)
-finish_value q name op = finish_with (token.Int (Some (pos 0))) q (with_cond q name op (value.Int (pos 0))) (CondValue name op) CondEnd (λ ts. refl) (finish_conds (with_cond q name op (value.Int (pos 0))))
+finish_value q name op = finish_with (token.Text []) q (with_cond q name op (value.Text [])) (CondValue name op) CondEnd (λ ts. rw (text_for op) refl) (finish_conds (with_cond q name op (value.Text [])))
 
 finish_op : (q : Query) (name : List ℕ) → Finish q (CondOp name)
 finish_op q name = finish_with (token.Compare Eq) q q (CondOp name) (CondValue name Eq) (λ ts. refl) (finish_value q name Eq)

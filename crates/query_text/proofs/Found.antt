@@ -8,6 +8,7 @@ use Rattle.std.proofs.lemmas.List.{append_assoc, append-nil, length-append}
 use Rattle.leaf_model.specs.declared.rows.Value.{Value}
 use Rattle.leaf_model.specs.declared.rows.Value.TheVariants as value
 use Rattle.leaf_model.specs.declared.queries.Op.TheVariants.{Le, Ge}
+use Rattle.leaf_model.specs.declared.queries.Op.{Op}
 use Rattle.leaf_model.specs.declared.queries.Cond.{Cond}
 use Rattle.leaf_model.specs.declared.queries.Agg.{Agg}
 use Rattle.leaf_model.specs.declared.queries.Agg.TheVariants as agg
@@ -20,10 +21,10 @@ use Rattle.query_text.specs.declared.places.Place.{Place}
 use Rattle.query_text.specs.declared.places.Place.TheVariants.{Select, Item, Opening, AggEnd, NextAgg, CondEnd, GroupEnd, OrderAgg, Ordered}
 use Rattle.query_text.specs.declared.places.Move.TheVariants.{On}
 use Rattle.leaf_model.specs.Names.{is_table_name}
-use Rattle.query_text.specs.Roles.{name_of, const_of, kind_of, is_keyword, has_kind, is_orderable, same_agg, agg_inside}
+use Rattle.query_text.specs.Roles.{name_of, const_of, const_for, text_of, is_has, kind_of, is_keyword, has_kind, is_orderable, same_agg, agg_inside}
 use Rattle.query_text.specs.Reading.{goes_on, may_end, order_or_limit, nothing_read, with_agg}
 use Rattle.query_text.specs.Printing.{ordering_agg}
-use Rattle.query_text.specs.Grammar.{Sign, Says, Spells, TheName, Exactly, keyword, int, IsOrder, IsSpelled, agg_signs, names_signs, more_aggs_signs, aggs_signs, range_signs, conds_signs, more_names_signs, group_signs, order_signs, limit_signs, const_sign}
+use Rattle.query_text.specs.Grammar.{Sign, Says, Spells, TheName, Exactly, keyword, int, IsOrder, IsSpelled, agg_signs, names_signs, more_aggs_signs, aggs_signs, range_signs, conds_signs, more_names_signs, group_signs, order_signs, limit_signs, const_sign, text_sign, asked_sign}
 use Rattle.query_text.proofs.Plain.{reads, made, selected}
 
 -- ---- the first tokens of a spelling
@@ -110,7 +111,7 @@ pub name_no_kind : (t : Token) (name : List ℕ) → name_of t ≡ Some name →
 name_no_kind (token.Word w) name h =
     kinds_none (bytes_eq w (codes "SELECT")) (bytes_eq w (codes "FROM")) (bytes_eq w (codes "WHERE")) (bytes_eq w (codes "AND")) (bytes_eq w (codes "GROUP")) (bytes_eq w (codes "BY"))
     (bytes_eq w (codes "ORDER")) (bytes_eq w (codes "LIMIT")) (bytes_eq w (codes "COUNT")) (bytes_eq w (codes "SUM")) (bytes_eq w (codes "MIN")) (bytes_eq w (codes "MAX")) (bytes_eq w (codes "AVG"))
-    (name_word w name h).0.0
+    ((or_false (bytes_eq w (codes "HAS")) _ (name_word w name h).0.0).1)
 name_no_kind (token.Name n) name h = refl
 name_no_kind (token.Text n) name h = refl
 name_no_kind (token.Int n) name h = refl
@@ -221,6 +222,19 @@ found_range s r table from to further ts fits h next =
 const_says : (v : Value) (t : Token) → Says (const_sign v) t → const_of t ≡ Some v
 const_says (value.Int n) t h = rw h refl
 const_says (value.Text x) t h = rw h refl
+const_says (value.Set members) t h = absurd h
+
+text_says : (v : Value) (t : Token) → Says (text_sign v) t → text_of t ≡ Some v
+text_says (value.Int n) t h = absurd h
+text_says (value.Text x) t h = rw h refl
+text_says (value.Set members) t h = absurd h
+
+asked_by : (b : Bool) (v : Value) (t : Token) → Says (if b then text_sign v else const_sign v) t → (if b then text_of t else const_of t) ≡ Some v
+asked_by true v t h = text_says v t h
+asked_by false v t h = const_says v t h
+
+asked_says : (op : Op) (v : Value) (t : Token) → Says (asked_sign op v) t → const_for op t ≡ Some v
+asked_says op v t h = asked_by (is_has op) v t h
 
 found_conds : (r : Query) (table : List ℕ) (from to : ℤ) (conds before : List Cond) (keys : List (List ℕ)) (aggs : List Agg) (further : List Sign) (ts : List Token)
     → Spells (conds_signs conds further) ts
@@ -228,8 +242,8 @@ found_conds : (r : Query) (table : List ℕ) (from to : ℤ) (conds before : Lis
     → reads (made table from to before keys aggs None 100000) CondEnd ts ≡ Some r
 found_conds r table from to [] before keys aggs further ts h next = let all = next ts h in rw (append-nil before) at all
 found_conds r table from to (c ∷ conds) before keys aggs further ts h next =
-    let f = four (keyword (codes "AND")) (TheName c.name) (Exactly (token.Compare c.op)) (const_sign c.value) (conds_signs conds further) ts h in
-    rw (f.is, f.says_a, f.says_b, f.says_c, const_says c.value f.x f.says_d)
+    let f = four (keyword (codes "AND")) (TheName c.name) (Exactly (token.Compare c.op)) (asked_sign c.op c.value) (conds_signs conds further) ts h in
+    rw (f.is, f.says_a, f.says_b, f.says_c, asked_says c.op c.value f.x f.says_d)
     (found_conds r table from to conds (before ++ (c ∷ [])) keys aggs further f.us f.rest (λ vs k. rw (append_assoc before (c ∷ []) conds) (next vs k)))
 
 -- ---- GROUP BY

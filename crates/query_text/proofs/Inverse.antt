@@ -17,9 +17,9 @@ use Rattle.query_text.specs.declared.places.Kind.TheVariants as kind
 use Rattle.query_text.specs.declared.places.Place.{Place}
 use Rattle.query_text.specs.declared.places.Move.TheVariants.{On, Stuck}
 use Rattle.leaf_model.specs.Names.{is_table_name}
-use Rattle.query_text.specs.Roles.{name_of, const_of, kind_of, op_of, int_of, limit_from, table_of, is_word, is_mark, same_agg, agg_inside}
+use Rattle.query_text.specs.Roles.{name_of, const_of, const_for, text_of, is_has, kind_of, op_of, int_of, limit_from, table_of, is_word, is_mark, same_agg, agg_inside}
 use Rattle.query_text.specs.Reading.{goes_on, may_end, on_if, goes_with, sign_fits}
-use Rattle.query_text.specs.Grammar.{Sign, Says, Spells, agg_signs, const_sign}
+use Rattle.query_text.specs.Grammar.{Sign, Says, Spells, agg_signs, const_sign, text_sign, asked_sign}
 use Rattle.query_text.proofs.Plain.{reads, moved}
 use Rattle.query_text.proofs.Found.{some_same, None≢Some}
 
@@ -156,6 +156,16 @@ the_const (token.Text n) (value.Int m) h = absurd (true≢false (ap is_text_in h
     is_text_in : Option Value → Bool
     is_text_in (Some (value.Text k)) = true
     is_text_in o = false
+the_const (token.Int (Some n)) (value.Set m) h = absurd (false≢true (ap is_set_in h))
+  where
+    is_set_in : Option Value → Bool
+    is_set_in (Some (value.Set k)) = true
+    is_set_in o = false
+the_const (token.Text n) (value.Set m) h = absurd (false≢true (ap is_set_in h))
+  where
+    is_set_in : Option Value → Bool
+    is_set_in (Some (value.Set k)) = true
+    is_set_in o = false
 the_const (token.Int None) v h = absurd (None≢Some h)
 the_const (token.Word n) v h = absurd (None≢Some h)
 the_const (token.Name n) v h = absurd (None≢Some h)
@@ -165,6 +175,39 @@ the_const token.Close v h = absurd (None≢Some h)
 the_const token.Star v h = absurd (None≢Some h)
 the_const (token.Compare o) v h = absurd (None≢Some h)
 the_const token.Stray v h = absurd (None≢Some h)
+
+pub the_text : (t : Token) (v : Value) → text_of t ≡ Some v → Says (text_sign v) t
+the_text (token.Text n) (value.Text m) h = ap token.Text (ap text_in h)
+  where
+    text_in : Option Value → List ℕ
+    text_in (Some (value.Text k)) = k
+    text_in o = n
+the_text (token.Text n) (value.Int m) h = absurd (true≢false (ap is_text_in h))
+  where
+    is_text_in : Option Value → Bool
+    is_text_in (Some (value.Text k)) = true
+    is_text_in o = false
+the_text (token.Text n) (value.Set m) h = absurd (true≢false (ap is_text_in h))
+  where
+    is_text_in : Option Value → Bool
+    is_text_in (Some (value.Text k)) = true
+    is_text_in o = false
+the_text (token.Int n) v h = absurd (None≢Some h)
+the_text (token.Word n) v h = absurd (None≢Some h)
+the_text (token.Name n) v h = absurd (None≢Some h)
+the_text token.Comma v h = absurd (None≢Some h)
+the_text token.Open v h = absurd (None≢Some h)
+the_text token.Close v h = absurd (None≢Some h)
+the_text token.Star v h = absurd (None≢Some h)
+the_text (token.Compare o) v h = absurd (None≢Some h)
+the_text token.Stray v h = absurd (None≢Some h)
+
+the_asked_by : (b : Bool) (t : Token) (v : Value) → (if b then text_of t else const_of t) ≡ Some v → Says (if b then text_sign v else const_sign v) t
+the_asked_by true t v h = the_text t v h
+the_asked_by false t v h = the_const t v h
+
+pub the_asked : (op : Op) (t : Token) (v : Value) → const_for op t ≡ Some v → Says (asked_sign op v) t
+the_asked op t v h = the_asked_by (is_has op) t v h
 
 -- ---- aggregates
 

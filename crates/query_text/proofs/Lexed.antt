@@ -1,6 +1,6 @@
 -- The tokens of written parts.
 use Rattle.std.proofs.Common.{◌≡◌, ℕ, suc, zero, ◌+◌, ◌<◌, ◌≤◌, ◌^◌, Bool, true, false, ◌&&◌, ◌||◌, not, List, [], ◌∷◌, ◌++◌, length, take_while, cond, Some, if◌then◌else◌, refl, sym, ap, ◌∙◌, pos, negsuc, ℤ, arith}
-use Rattle.std.specs.Prelude.{codes, decimal}
+use Rattle.std.specs.Prelude.{codes, decimal, bytes_eq}
 use Rattle.std.specs.Int.{IsInRange}
 use Rattle.std.specs.Fmt.{signed_decimal}
 use Rattle.std.specs.Bool.{◌==◌}
@@ -14,7 +14,7 @@ use Rattle.std.proofs.lemmas.Fmt.{digits_decimal, digits_value-decimal, decimal_
 use Rattle.std.proofs.lemmas.Str.Parse.{IsNumeralModel, IsDigitsTest, FoldsDigits, numerals_by_fold}
 use Rattle.std.proofs.lemmas.List.{append_assoc, length-append}
 use Rattle.leaf_model.specs.declared.queries.Op.{Op}
-use Rattle.leaf_model.specs.declared.queries.Op.TheVariants.{Eq, Ne, Lt, Le, Gt, Ge}
+use Rattle.leaf_model.specs.declared.queries.Op.TheVariants.{Eq, Ne, Lt, Le, Gt, Ge, Has}
 use Rattle.query_text.specs.declared.tokens.Token.{Token}
 use Rattle.query_text.specs.declared.tokens.Token.TheVariants as token
 use Rattle.query_text.specs.Tokens.{Placed, tokens_from, token_with, is_blank, begins_word, goes_on_word, value_from, quote_from}
@@ -79,11 +79,11 @@ digits_stop (b ∷ bs) h = rw (no_digit b h) refl
 word_no_blank : (b : ℕ) → begins_word b ≡ true → is_blank b ≡ false
 word_no_blank b h = grind (arith, nat_tests)
 
-pub lexed_word : (b : ℕ) (bs next : List ℕ) → begins_word b ≡ true → list_all goes_on_word bs ≡ true → stops next ≡ true
+pub lexed_word : (b : ℕ) (bs next : List ℕ) → begins_word b ≡ true → list_all goes_on_word bs ≡ true → bytes_eq (b ∷ bs) (codes "HAS") ≡ false → stops next ≡ true
     → lexed 0 ((b ∷ bs) ++ next) ≡ token.Word (b ∷ bs) ∷ lexed 0 next
-lexed_word b bs next first rest end =
+lexed_word b bs next first rest other end =
     let taken = taken_all goes_on_word bs next rest (word_stops next end) in
-    rw (word_no_blank b first, first, taken) (ap (λ ts. token.Word (b ∷ bs) ∷ ts) (pass bs next))
+    rw (word_no_blank b first, first, taken, other) (ap (λ ts. token.Word (b ∷ bs) ∷ ts) (pass bs next))
 
 -- ---- integers
 
@@ -198,13 +198,17 @@ not_true : (b : Bool) → not b ≡ true → b ≡ false
 not_true true h = absurd (false≢true h)
 not_true false h = refl
 
+or_first : (x y : Bool) → (x || y) ≡ false → x ≡ false
+or_first true y h = absurd (false≢true (sym h))
+or_first false y h = refl
+
 lexed_plain : (n next : List ℕ) → is_plain n ≡ true → length n ≤ 255 → stops next ≡ true → (name_of (token.Word n) ≡ Some n) × (lexed 0 (n ++ next) ≡ token.Word n ∷ lexed 0 next)
 lexed_plain [] next h short end = absurd (false≢true h)
 lexed_plain (b ∷ bs) next h short end =
     let first = and_parts (begins_word b) (list_all goes_on_word bs && not (is_keyword (b ∷ bs))) h in
     let rest = and_parts (list_all goes_on_word bs) (not (is_keyword (b ∷ bs))) first.1 in
     let plain = not_true (is_keyword (b ∷ bs)) rest.1 in
-    (rw (plain, le-ltb 255 (length (b ∷ bs)) short) refl, lexed_word b bs next first.0 rest.0 end)
+    (rw (plain, le-ltb 255 (length (b ∷ bs)) short) refl, lexed_word b bs next first.0 rest.0 (or_first (bytes_eq (b ∷ bs) (codes "HAS")) _ plain) end)
 
 lexed_quoted : (n next : List ℕ) → IsName n → stops next ≡ true → lexed 0 (in_quotes 34 n ++ next) ≡ token.Name n ∷ lexed 0 next
 lexed_quoted n next good end =
@@ -226,3 +230,4 @@ lexed_op Lt next = refl
 lexed_op Le next = refl
 lexed_op Gt next = refl
 lexed_op Ge next = refl
+lexed_op Has next = refl

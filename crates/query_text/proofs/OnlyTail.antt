@@ -16,13 +16,13 @@ use Rattle.query_text.specs.declared.places.Kind.TheVariants as kind
 use Rattle.query_text.specs.declared.places.Place.{Place}
 use Rattle.query_text.specs.declared.places.Place.TheVariants.{CondEnd, CondName, CondOp, CondValue, By, GroupName, GroupEnd, OrderBy, OrderAgg, OrderOpening, OrderInside, OrderClosing, Ordered, LimitNumber, Last}
 use Rattle.query_text.specs.declared.places.Move.TheVariants.{On, Stuck}
-use Rattle.query_text.specs.Roles.{name_of, const_of, kind_of, op_of, int_of, limit_from, is_word, is_mark, has_kind, is_orderable, agg_inside, same_agg}
+use Rattle.query_text.specs.Roles.{name_of, const_for, kind_of, op_of, int_of, limit_from, is_word, is_mark, has_kind, is_orderable, agg_inside, same_agg}
 use Rattle.query_text.specs.Reading.{on_if, goes_with, is_key, with_cond}
 use Rattle.query_text.specs.Printing.{ordering_agg}
-use Rattle.query_text.specs.Grammar.{Sign, Says, Spells, TheName, Exactly, keyword, IsOrder, agg_signs, conds_signs, more_names_signs, group_signs, order_signs, limit_signs, const_sign}
+use Rattle.query_text.specs.Grammar.{Sign, Says, Spells, TheName, Exactly, keyword, IsOrder, agg_signs, conds_signs, more_names_signs, group_signs, order_signs, limit_signs, asked_sign}
 use Rattle.query_text.proofs.Plain.{reads, moved, made}
 use Rattle.query_text.proofs.Found.{some_same, None≢Some, seam, longer, next_length}
-use Rattle.query_text.proofs.Inverse.{on_if_in, step, give, the_word, the_open, the_close, the_comma, the_op, the_limit, the_const, kind_word, the_kind, inside_spells, same_aggs}
+use Rattle.query_text.proofs.Inverse.{on_if_in, step, give, the_word, the_open, the_close, the_comma, the_op, the_limit, the_asked, kind_word, the_kind, inside_spells, same_aggs}
 
 pub one_less : {x : Token} {ts us : List Token} → ts ≡ x ∷ us → length ts ≡ suc (length us)
 one_less is = ap length is
@@ -273,12 +273,12 @@ unconditioned : (table : List ℕ) (from to : ℤ) (before : List Cond) (keys : 
 unconditioned table from to before keys aggs r ts l = record { conds = []; tail = rw (append-nil before) l }
 
 cond_spells : (c : Cond) (S : List Sign) (t n o v : Token) (ts ns os vs : List Token) → t ≡ token.Word (codes "AND") → ts ≡ n ∷ ns → name_of n ≡ Some c.name
-    → ns ≡ o ∷ os → o ≡ token.Compare c.op → os ≡ v ∷ vs → Says (const_sign c.value) v → Spells S vs
-    → Spells (keyword (codes "AND") ∷ TheName c.name ∷ Exactly (token.Compare c.op) ∷ const_sign c.value ∷ S) (t ∷ ts)
+    → ns ≡ o ∷ os → o ≡ token.Compare c.op → os ≡ v ∷ vs → Says (asked_sign c.op c.value) v → Spells S vs
+    → Spells (keyword (codes "AND") ∷ TheName c.name ∷ Exactly (token.Compare c.op) ∷ asked_sign c.op c.value ∷ S) (t ∷ ts)
 cond_spells c S t n o v ts ns os vs et ets en ens eo eos ev h = rw (ets, ens, eos) (et, (en, (eo, (ev, h))))
 
 cond_more : (table : List ℕ) (from to : ℤ) (before : List Cond) (c : Cond) (keys : List (List ℕ)) (aggs : List Agg) (r : Query) (ts us : List Token)
-    → ((S : List Sign) → Spells S us → Spells (keyword (codes "AND") ∷ TheName c.name ∷ Exactly (token.Compare c.op) ∷ const_sign c.value ∷ S) ts)
+    → ((S : List Sign) → Spells S us → Spells (keyword (codes "AND") ∷ TheName c.name ∷ Exactly (token.Compare c.op) ∷ asked_sign c.op c.value ∷ S) ts)
     → Conditioned table from to (before ++ (c ∷ [])) keys aggs r us → Conditioned table from to before keys aggs r ts
 cond_more table from to before c keys aggs r ts us f l = record {
   conds = c ∷ l.conds;
@@ -294,13 +294,13 @@ cond_by true table from to before keys aggs r t ts e rec h =
     let s = made table from to before keys aggs None 100000 in
     let n = give name_of (λ name. s) (λ name. CondOp name) s r CondName ts refl (λ t. refl) (rw e at h) in
     let o = give op_of (λ op. s) (λ op. CondValue n.x op) s r (CondOp n.x) n.us refl (λ t. refl) n.read in
-    let v = give const_of (λ v. with_cond s n.x o.x v) (λ v. CondEnd) s r (CondValue n.x o.x) o.us refl (λ t. refl) o.read in
+    let v = give (const_for o.x) (λ v. with_cond s n.x o.x v) (λ v. CondEnd) s r (CondValue n.x o.x) o.us refl (λ t. refl) o.read in
     let ln = one_less n.is in
     let lo = one_less o.is in
     let lv = one_less v.is in
     let c : Cond = record { name = n.x; op = o.x; value = v.x } in
     cond_more table from to before c keys aggs r (t ∷ ts) v.us
-    (λ S k. cond_spells c S t n.t o.t v.t ts n.us o.us v.us (the_word (codes "AND") t e) n.is n.gives o.is (the_op o.t o.x o.gives) v.is (the_const v.t v.x v.gives) k)
+    (λ S k. cond_spells c S t n.t o.t v.t ts n.us o.us v.us (the_word (codes "AND") t e) n.is n.gives o.is (the_op o.t o.x o.gives) v.is (the_asked o.x v.t v.x v.gives) k)
     (rec (before ++ (c ∷ [])) v.us (omega (arith, ln, lo, lv)) v.read)
 
 pub only_conds : (fuel : ℕ) (table : List ℕ) (from to : ℤ) (before : List Cond) (keys : List (List ℕ)) (aggs : List Agg) (r : Query) (ts : List Token) → length ts ≤ fuel

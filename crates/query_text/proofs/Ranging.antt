@@ -14,7 +14,7 @@ use Rattle.query_text.specs.declared.places.Place.{Place}
 use Rattle.query_text.specs.declared.places.Place.TheVariants.{Select, Item, NameEnd, Opening, Inside, Closing, AggEnd, NextAgg, Table, Where, LowTime, LowSign, LowBound, And, HighTime, HighSign, HighBound, CondEnd, CondName, CondOp, CondValue, By, GroupName, GroupEnd, OrderBy, OrderAgg, OrderOpening, OrderInside, OrderClosing, Ordered, LimitNumber, Last}
 use Rattle.query_text.specs.declared.places.Move.{Move}
 use Rattle.query_text.specs.declared.places.Move.TheVariants.{On, Stuck}
-use Rattle.query_text.specs.Roles.{name_of, const_of, kind_of, op_of, int_of, limit_from, table_of, is_word, is_mark, has_kind, is_orderable, agg_inside, same_agg}
+use Rattle.query_text.specs.Roles.{name_of, const_for, kind_of, op_of, int_of, limit_from, table_of, is_word, is_mark, has_kind, is_orderable, agg_inside, same_agg}
 use Rattle.query_text.specs.Reading.{is_in_range, goes_on, on_if, order_or_limit, has_keys, goes_with, sign_fits, is_key, with_agg}
 use Rattle.query_text.specs.Grammar.{behind_from, is_ranging}
 use Rattle.query_text.proofs.Found.{None≢Some, name_word, or_false}
@@ -133,7 +133,7 @@ keyword_other : (s f others : Bool) → (s || (f || others)) ≡ false → f ≡
 keyword_other s f others h = (or_false f others ((or_false s (f || others) h).1)).0
 
 name_other : (t : Token) (n : List ℕ) → name_of t ≡ Some n → is_word (codes "FROM") t ≡ false
-name_other (token.Word w) n h = keyword_other (bytes_eq w (codes "SELECT")) (bytes_eq w (codes "FROM")) _ (name_word w n h).0.0
+name_other (token.Word w) n h = keyword_other (bytes_eq w (codes "SELECT")) (bytes_eq w (codes "FROM")) _ (or_false (bytes_eq w (codes "HAS")) _ (name_word w n h).0.0).1
 name_other (token.Name m) n h = refl
 name_other (token.Text m) n h = refl
 name_other (token.Int m) n h = refl
@@ -199,7 +199,7 @@ at_next q CondEnd t d h =
     (λ some. on_at (is_word (codes "GROUP") t) q By (next_behind d t) (λ k. late_next d t h)) (λ none. order_at q t (next_behind d t) (late_next d t h)))
 at_next q CondName t d h = with_at (name_of t) _ _ (next_behind d t) (λ n e. late_next d t h) tt
 at_next q (CondOp name) t d h = with_at (op_of t) _ _ (next_behind d t) (λ o e. late_next d t h) tt
-at_next q (CondValue name op) t d h = with_at (const_of t) _ _ (next_behind d t) (λ v e. late_next d t h) tt
+at_next q (CondValue name op) t d h = with_at (const_for op t) _ _ (next_behind d t) (λ v e. late_next d t h) tt
 at_next q By t d h = on_at (is_word (codes "BY") t) q (GroupName 0) (next_behind d t) (λ e. late_next d t h)
 at_next q (GroupName i) t d h = on_at (is_key (slice_get q.keys i) (name_of t)) q (GroupEnd (i + 1)) (next_behind d t) (λ e. late_next d t h)
 at_next q (GroupEnd i) t d h =

@@ -1,5 +1,5 @@
 -- Where a text is refused: what stands before begins some query, and with what stands there no query goes on.
-use Rattle.std.proofs.Common.{◌≡◌, ℕ, ◌+◌, Bool, true, false, ◌&&◌, List, [], ◌∷◌, ◌++◌, length, Option, Some, None, Result, Ok, Err, if◌then◌else◌, refl, sym, ap, ◌∙◌, nat_lt, pos}
+use Rattle.std.proofs.Common.{◌≡◌, ℕ, ◌+◌, Bool, true, false, ◌&&◌, List, [], ◌∷◌, ◌++◌, length, Option, Some, None, Result, Ok, Err, if◌then◌else◌, refl, sym, ap, ◌∙◌, nat_lt, pos, not}
 use Rattle.std.specs.Prelude.{codes, slice_get, ℤ, option_and_then}
 use Rattle.std.specs.List.{list_any, position_from}
 use Rattle.std.proofs.lemmas.Bool.{true≢false, false≢true}
@@ -17,7 +17,7 @@ use Rattle.query_text.specs.declared.places.Place.TheVariants.{Select, Item, Nam
 use Rattle.query_text.specs.declared.places.Move.{Move}
 use Rattle.query_text.specs.declared.places.Move.TheVariants.{On, Stuck}
 use Rattle.query_text.specs.Tokens.{Placed, tokens_of}
-use Rattle.query_text.specs.Roles.{name_of, const_of, kind_of, op_of, int_of, limit_from, table_of, is_word, is_mark, is_int, has_kind, is_orderable, agg_inside, same_agg}
+use Rattle.query_text.specs.Roles.{name_of, const_for, is_has, kind_of, op_of, int_of, limit_from, table_of, is_word, is_mark, is_int, has_kind, is_orderable, agg_inside, same_agg}
 use Rattle.query_text.specs.Reading.{read_from, query_of, nothing_read, led, fault_of, plain_fault, takes_int, is_in_range, goes_on, may_end, on_if, order_or_limit, has_keys, goes_with, sign_fits, is_key, with_agg, with_cond}
 use Rattle.query_text.specs.Grammar.{IsBegun, IsStuck, IsQueryRefused, IsSize, IsFault, next_offset, behind_from, is_ranging, plain_tokens}
 use Rattle.query_text.proofs.Plain.{reads, moved}
@@ -76,7 +76,7 @@ sound q CondEnd t h =
     (λ e. if_sound (has_keys q) (on_if (is_word (codes "GROUP") t) q By) (order_or_limit q t) (λ some. on_sound (is_word (codes "GROUP") t) q By (λ k. some)) (λ none. order_sound q t))
 sound q CondName t h = with_sound (name_of t) _ _ (λ n. tt) tt
 sound q (CondOp name) t h = with_sound (op_of t) _ _ (λ o. tt) tt
-sound q (CondValue name op) t h = with_sound (const_of t) _ _ (λ v. tt) tt
+sound q (CondValue name op) t h = with_sound (const_for op t) _ _ (λ v. tt) tt
 sound q By t h = on_sound (is_word (codes "BY") t) q (GroupName 0) (λ e. h)
 sound q (GroupName i) t h = on_sound (is_key (slice_get q.keys i) (name_of t)) q (GroupEnd (i + 1)) (λ e. tt)
 sound q (GroupEnd i) t h =
@@ -178,10 +178,18 @@ record IntTaken (q : Query) (place : Place) : Type 0 where
   goes : (ts : List Token) → reads q place (token.Int (Some (pos 0)) ∷ ts) ≡ reads s next ts
   holds : IsSound s next
 
+not_true : (b : Bool) → not b ≡ true → b ≡ false
+not_true true h = absurd (false≢true h)
+not_true false h = refl
+
+not_false : (b : Bool) → not b ≡ false → b ≡ true
+not_false true h = refl
+not_false false h = absurd (true≢false h)
+
 int_taken : (q : Query) (place : Place) → takes_int place ≡ true → IntTaken q place
 int_taken q LowBound h = record { s = record q { from = pos 0 }; next = And; goes = λ ts. refl; holds = tt }
 int_taken q HighBound h = record { s = record q { to = pos 0 }; next = CondEnd; goes = λ ts. refl; holds = tt }
-int_taken q (CondValue name op) h = record { s = with_cond q name op (value.Int (pos 0)); next = CondEnd; goes = λ ts. refl; holds = tt }
+int_taken q (CondValue name op) h = let plain = not_true (is_has op) h in record { s = with_cond q name op (value.Int (pos 0)); next = CondEnd; goes = λ ts. rw plain refl; holds = tt }
 int_taken q LimitNumber h = record { s = record q { limit = 0 }; next = Last; goes = λ ts. refl; holds = tt }
 int_taken q place h = absurd (false≢true h)
 
@@ -204,7 +212,7 @@ int_inside kind.Avg n = refl
 int_stuck : (q : Query) (place : Place) (n : ℤ) → takes_int place ≡ false → goes_on q place (token.Int (Some n)) ≡ Stuck
 int_stuck q LowBound n h = absurd (true≢false h)
 int_stuck q HighBound n h = absurd (true≢false h)
-int_stuck q (CondValue name op) n h = absurd (true≢false h)
+int_stuck q (CondValue name op) n h = let has = not_false (is_has op) h in rw has refl
 int_stuck q LimitNumber n h = absurd (true≢false h)
 int_stuck q (Inside k) n h = rw (int_inside k n) refl
 int_stuck q (OrderInside k) n h = rw (int_inside k n) refl

@@ -1,6 +1,6 @@
 -- What a text's tokens hold can be written again.
 use Rattle.std.proofs.Common.{◌≡◌, ℕ, suc, zero, ◌<◌, ◌≤◌, ◌^◌, Bool, true, false, ◌&&◌, List, [], ◌∷◌, length, take_while, Option, Some, None, Ok, if◌then◌else◌, refl, sym, pos, ℤ, arith, nat_lt, nat_le, subst}
-use Rattle.std.specs.Prelude.{codes, neg_ℤ}
+use Rattle.std.specs.Prelude.{codes, neg_ℤ, bytes_eq}
 use Rattle.std.specs.Bool.{◌==◌}
 use Rattle.std.specs.Str.{is_utf8}
 use Rattle.std.specs.Char.{is_ascii_digit}
@@ -9,7 +9,7 @@ use Rattle.std.proofs.lemmas.Bool.{ltb-true, leb-true, ltb-false, and_parts}
 use Rattle.std.proofs.lemmas.Str.{is_utf8-from_IsUtf8}
 use Rattle.leaf_model.specs.declared.rows.Value.{Value}
 use Rattle.leaf_model.specs.declared.rows.Value.TheVariants as value
-use Rattle.leaf_model.specs.declared.queries.Op.TheVariants.{Ne, Lt, Le, Gt, Ge}
+use Rattle.leaf_model.specs.declared.queries.Op.TheVariants.{Ne, Lt, Le, Gt, Ge, Has}
 use Rattle.leaf_model.specs.declared.queries.Cond.{Cond}
 use Rattle.leaf_model.specs.declared.queries.Agg.{Agg}
 use Rattle.leaf_model.specs.declared.queries.Agg.TheVariants as agg
@@ -17,16 +17,16 @@ use Rattle.leaf_model.specs.declared.queries.Query.{Query}
 use Rattle.query_text.specs.declared.tokens.Token.{Token}
 use Rattle.query_text.specs.declared.tokens.Token.TheVariants as token
 use Rattle.query_text.specs.declared.tokens.Found.{Found}
-use Rattle.query_text.specs.Tokens.{Quote, tokens_of, token_with, begins_word, goes_on_word, is_blank, quote_from, quoted_token, value_from, signed_value, number_token, minus_token, pair_token, mark_token, stray}
-use Rattle.query_text.specs.Roles.{name_of}
+use Rattle.query_text.specs.Tokens.{Quote, tokens_of, token_with, begins_word, goes_on_word, is_blank, quote_from, quoted_token, value_from, signed_value, number_token, minus_token, pair_token, mark_token, stray, word_token}
+use Rattle.query_text.specs.Roles.{name_of, is_has}
 use Rattle.query_text.specs.Reading.{query_of}
 use Rattle.query_text.specs.Printing.{printed, ordering_agg}
-use Rattle.query_text.specs.Grammar.{Sign, Says, Spells, TheName, Exactly, keyword, int, IsSpelled, plain_tokens, agg_signs, names_signs, more_aggs_signs, aggs_signs, range_signs, conds_signs, group_signs, order_signs, limit_signs, const_sign}
+use Rattle.query_text.specs.Grammar.{Sign, Says, Spells, TheName, Exactly, keyword, int, IsSpelled, plain_tokens, agg_signs, names_signs, more_aggs_signs, aggs_signs, range_signs, conds_signs, group_signs, order_signs, limit_signs, const_sign, text_sign}
 use Rattle.query_text.proofs.Lexing.{word_utf8}
 use Rattle.query_text.proofs.Found.{some_same, None≢Some, one, four, name_word}
 use Rattle.query_text.proofs.Meaning.{read_spelled}
 use Rattle.query_text.proofs.Lexed.{lexed, same_tokens, IsI64, IsText, IsName}
-use Rattle.query_text.proofs.Written.{IsConst, IsCond, HasName, IsWritable, written_back}
+use Rattle.query_text.proofs.Written.{IsAsked, IsConst, IsCond, HasName, IsWritable, written_back}
 
 -- ---- tokens of a text
 
@@ -96,12 +96,14 @@ mark_valid b rest =
     if_holds IsGood (b == 60) _ _ (λ e. pair_valid (token.Compare Lt) (token.Compare Le) rest tt tt) (λ e.
     if_holds IsGood (b == 62) _ _ (λ e. pair_valid (token.Compare Gt) (token.Compare Ge) rest tt tt) (λ e. tt))))))))
 
-word_valid : (b : ℕ) (rest : List ℕ) → begins_word b ≡ true → IsToken (token.Word (b ∷ take_while goes_on_word rest))
-word_valid b rest e = (omega arith, is_utf8-from_IsUtf8 (b ∷ take_while goes_on_word rest) (word_utf8 b rest e))
+word_valid : (b : ℕ) (rest : List ℕ) → begins_word b ≡ true → IsToken (word_token (b ∷ take_while goes_on_word rest))
+word_valid b rest e =
+    let w = b ∷ take_while goes_on_word rest in
+    if_holds IsToken (bytes_eq w (codes "HAS")) (token.Compare Has) (token.Word w) (λ has. tt) (λ other. (omega arith, is_utf8-from_IsUtf8 w (word_utf8 b rest e)))
 
 found_valid : (b : ℕ) (rest : List ℕ) → IsGood (token_with b rest)
 found_valid b rest =
-    if_holds IsGood (begins_word b) (record { token = token.Word (b ∷ take_while goes_on_word rest); more = length (take_while goes_on_word rest) }) _ (λ e. word_valid b rest e) (λ e.
+    if_holds IsGood (begins_word b) (record { token = word_token (b ∷ take_while goes_on_word rest); more = length (take_while goes_on_word rest) }) _ (λ e. word_valid b rest e) (λ e.
     if_holds IsGood (is_ascii_digit b) (number_token (b ∷ take_while is_ascii_digit rest) (take_while is_ascii_digit rest)) _ (λ e. signed_valid false (value_from 0 (b ∷ take_while is_ascii_digit rest))) (λ e.
     if_holds IsGood (b == 45) (minus_token (take_while is_ascii_digit rest)) _ (λ e. minus_valid (take_while is_ascii_digit rest)) (λ e.
     if_holds IsGood (b == 34) (quoted_token token.Name 1 255 (quote_from 34 false rest)) _ (λ e. name_valid (quote_from 34 false rest)) (λ e.
@@ -136,6 +138,16 @@ int_said t n h good = subst IsToken h good
 const_said : (t : Token) (v : Value) → Says (const_sign v) t → IsToken t → IsConst v
 const_said t (value.Int n) h good = subst IsToken h good
 const_said t (value.Text x) h good = subst IsToken h good
+const_said t (value.Set members) h good = absurd h
+
+text_said : (t : Token) (v : Value) → Says (text_sign v) t → IsToken t → IsAsked true v
+text_said t (value.Int n) h good = absurd h
+text_said t (value.Text x) h good = subst IsToken h good
+text_said t (value.Set members) h good = absurd h
+
+asked_said : (b : Bool) (t : Token) (v : Value) → Says (if b then text_sign v else const_sign v) t → IsToken t → IsAsked b v
+asked_said true t v h good = text_said t v h good
+asked_said false t v h good = const_said t v h good
 
 -- a part whose tokens are good, and the tokens behind it
 pub record Behind (P : Type 0) (S : List Sign) : Type 0 where
@@ -192,7 +204,7 @@ conds_said (c ∷ conds) S (t ∷ []) h good = absurd h.1
 conds_said (c ∷ conds) S (t ∷ u ∷ []) h good = absurd h.1.1
 conds_said (c ∷ conds) S (t ∷ u ∷ v ∷ []) h good = absurd h.1.1.1
 conds_said (c ∷ conds) S (t ∷ u ∷ v ∷ x ∷ ts) h good =
-    ((name_said u c.name h.1.0 good.1.0, const_said x c.value h.1.1.1.0 good.1.1.1.0), conds_said conds S ts h.1.1.1.1 good.1.1.1.1)
+    ((name_said u c.name h.1.0 good.1.0, asked_said (is_has c.op) x c.value h.1.1.1.0 good.1.1.1.0), conds_said conds S ts h.1.1.1.1 good.1.1.1.1)
 
 first_good : (t : Token) (ts us : List Token) → ts ≡ t ∷ us → AllByRecursion IsToken ts → AllByRecursion IsToken (t ∷ us)
 first_good t ts us is good = subst (λ xs. AllByRecursion IsToken xs) is good

@@ -1,8 +1,9 @@
 -- The text that a query is written as is cut into tokens that spell the query.
-use Rattle.std.proofs.Common.{◌≡◌, ℕ, suc, zero, ◌≤◌, true, ◌&&◌, List, [], ◌∷◌, ◌++◌, length, Option, Some, None, Ok, refl, sym, ap, ◌∙◌, pos, arith, nat_le, subst}
-use Rattle.std.specs.Prelude.{codes, decimal, slice_get}
+use Rattle.std.proofs.Common.{◌≡◌, ℕ, suc, zero, ◌≤◌, true, ◌&&◌, List, [], ◌∷◌, ◌++◌, length, Option, Some, None, Ok, refl, sym, ap, ◌∙◌, pos, arith, nat_le, subst, Bool, false, if◌then◌else◌}
+use Rattle.std.specs.Prelude.{codes, decimal, slice_get, bytes_eq}
 use Rattle.std.specs.Fmt.{signed_decimal}
 use Rattle.std.specs.Char.{is_ascii_lowercase}
+use Rattle.std.specs.Bool.{◌==◌}
 use Rattle.std.specs.List.{list_all, AllByRecursion}
 use Rattle.std.proofs.lemmas.Bool.{false≢true, and_parts, true≢false}
 use Rattle.std.proofs.lemmas.Bool.Decides.{nat_tests}
@@ -18,19 +19,27 @@ use Rattle.query_text.specs.Tokens.{begins_word, goes_on_word}
 use Rattle.leaf_model.specs.Names.{is_name_byte, is_table_name}
 use Rattle.query_text.specs.Reading.{query_of}
 use Rattle.query_text.specs.Printing.{printed, name_text, op_text, value_text, agg_then, names_then, more_aggs_then, aggs_then, range_then, conds_then, more_names_then, group_then, ordering_agg, order_then}
-use Rattle.query_text.specs.Grammar.{Sign, Spells, TheName, Exactly, IsQuery, IsOrder, agg_signs, names_signs, more_aggs_signs, aggs_signs, range_signs, conds_signs, more_names_signs, group_signs, order_signs, limit_signs, query_signs, const_sign}
+use Rattle.query_text.specs.Grammar.{Sign, Spells, TheName, Exactly, IsQuery, IsOrder, agg_signs, names_signs, more_aggs_signs, aggs_signs, range_signs, conds_signs, more_names_signs, group_signs, order_signs, limit_signs, query_signs, const_sign, text_sign}
 use Rattle.query_text.proofs.Found.{some_same, None≢Some}
 use Rattle.query_text.proofs.Meaning.{spelled_read}
 use Rattle.query_text.proofs.Lexed.{lexed, same_tokens, stops, lexed_word, lexed_int, lexed_text, lexed_name, lexed_op, IsI64, IsText, IsName}
+use Rattle.query_text.specs.Roles.{is_has}
 
 -- ---- queries whose parts can be written
 
 abbrev pub IsConst : Value → Type 0
 IsConst (value.Int n) = IsI64 n
 IsConst (value.Text t) = IsText t
+IsConst (value.Set members) = ⊥
+
+-- a text alone, where that is asked for
+abbrev pub IsAsked : Bool → Value → Type 0
+IsAsked true (value.Text t) = IsText t
+IsAsked true v = ⊥
+IsAsked false v = IsConst v
 
 abbrev pub IsCond : Cond → Type 0
-IsCond c = IsName c.name × IsConst c.value
+IsCond c = IsName c.name × IsAsked (is_has c.op) c.value
 
 abbrev pub HasName : Agg → Type 0
 HasName agg.Count = Unit {0}
@@ -86,12 +95,16 @@ table_word (b ∷ bs) h =
     let both = and_parts (is_name_byte b) (list_all is_name_byte bs) h in
     rw (table_byte b both.0, table_word bs both.1) refl
 
+-- a word that begins with a small letter is no HAS
+lower_other : (b : ℕ) (bs : List ℕ) → is_ascii_lowercase b ≡ true → bytes_eq (b ∷ bs) (codes "HAS") ≡ false
+lower_other b bs h = let other : (b == 72) ≡ false = grind (arith, nat_tests) in rw other refl
+
 lexed_table : (table next : List ℕ) → is_table_name table ≡ true → stops next ≡ true → lexed 0 (table ++ next) ≡ token.Word table ∷ lexed 0 next
 lexed_table [] next h end = absurd (false≢true h)
 lexed_table (b ∷ bs) next h end =
     let first = and_parts (is_ascii_lowercase b) (nat_le (length bs) 63 && list_all is_name_byte bs) h in
     let rest = and_parts (nat_le (length bs) 63) (list_all is_name_byte bs) first.1 in
-    lexed_word b bs next (lower_begins b first.0) (table_word bs rest.1) end
+    lexed_word b bs next (lower_begins b first.0) (table_word bs rest.1) (lower_other b bs first.0) end
 
 range_written : (q : Query) (further : List ℕ) (S : List Sign) → is_table_name q.table ≡ true → IsI64 q.from → IsI64 q.to → stops further ≡ true
     → Spells S (lexed 0 further) → Spells (range_signs q.table q.from q.to S) (lexed 0 (range_then q further))
@@ -104,6 +117,13 @@ range_written q further S fits low high end h =
 const_written : (v : Value) (next : List ℕ) (S : List Sign) → IsConst v → stops next ≡ true → Spells S (lexed 0 next) → Spells (const_sign v ∷ S) (lexed 0 (value_text v ++ next))
 const_written (value.Int n) next S good end h = rw (lexed_int n next good end) (refl, h)
 const_written (value.Text t) next S good end h = subst (λ ts. Spells (Exactly (token.Text t) ∷ S) ts) (sym (lexed_text t next good end)) (refl, h)
+const_written (value.Set members) next S good end h = absurd good
+
+asked_written : (b : Bool) (v : Value) (next : List ℕ) (S : List Sign) → IsAsked b v → stops next ≡ true → Spells S (lexed 0 next) → Spells ((if b then text_sign v else const_sign v) ∷ S) (lexed 0 (value_text v ++ next))
+asked_written true (value.Int n) next S good end h = absurd good
+asked_written true (value.Text t) next S good end h = subst (λ ts. Spells (Exactly (token.Text t) ∷ S) ts) (sym (lexed_text t next good end)) (refl, h)
+asked_written true (value.Set members) next S good end h = absurd good
+asked_written false v next S good end h = const_written v next S good end h
 
 conds_stop : (conds : List Cond) (further : List ℕ) → stops further ≡ true → stops (conds_then conds further) ≡ true
 conds_stop [] further h = h
@@ -114,7 +134,7 @@ conds_written [] further S good end h = h
 conds_written (c ∷ conds) further S good end h =
     let rest = conds_then conds further in
     let l = lexed_name c.name (codes " " ++ (op_text c.op ++ (codes " " ++ (value_text c.value ++ rest)))) good.0.0 refl in
-    let v = const_written c.value rest (conds_signs conds S) good.0.1 (conds_stop conds further end) (conds_written conds further S good.1 end h) in
+    let v = asked_written (is_has c.op) c.value rest (conds_signs conds S) good.0.1 (conds_stop conds further end) (conds_written conds further S good.1 end h) in
     (refl, rw (l.is, lexed_op c.op (value_text c.value ++ rest)) (l.names, (refl, v)))
 
 names_stop : (names : List (List ℕ)) (further : List ℕ) → stops further ≡ true → stops (more_names_then names further) ≡ true

@@ -3,6 +3,7 @@ use Rattle.std.specs.Prelude.{if◌then◌else◌, nat_lt, ◌&&◌, ◌≡◌, 
 use Rattle.std.specs.List.{position_from}
 use Rattle.leaf_model.specs.declared.rows.Value.{Value}
 use Rattle.leaf_model.specs.declared.rows.Value.TheVariants as value
+use Rattle.leaf_model.specs.declared.queries.Op.{Op}
 use Rattle.leaf_model.specs.declared.queries.Op.TheVariants.{Le, Ge}
 use Rattle.leaf_model.specs.declared.queries.Cond.{Cond}
 use Rattle.leaf_model.specs.declared.queries.Agg.{Agg}
@@ -14,20 +15,22 @@ use Rattle.query_text.specs.declared.fault.QueryFault.{QueryFault}
 use Rattle.query_text.specs.declared.fault.QueryFault.TheVariants.{Syntax, NoTime, TooLarge, NoMemory}
 use Rattle.query_text.specs.Tokens.{Placed, tokens_of}
 use Rattle.leaf_model.specs.Names.{is_table_name}
-use Rattle.query_text.specs.Roles.{name_of, is_word, is_int, is_orderable, same_agg}
+use Rattle.query_text.specs.Roles.{name_of, is_has, is_word, is_int, is_orderable, same_agg}
 use Rattle.query_text.specs.Printing.{ordering_agg}
 
 -- ---- what is written at one place
 
--- one token, or any token that gives that name, plain or quoted
+-- one token, any token that gives that name, plain or quoted, or what no token says
 pub data Sign : Type 0 where
   Exactly : (token : Token) → Sign
   TheName : (name : List ℕ) → Sign
+  Never : Sign
 
 -- that token, or one of those that give the name
 abbrev pub Says : Sign → Token → Type 0
 Says (Exactly u) t = t ≡ u
 Says (TheName name) t = name_of t ≡ Some name
+Says Never t = ⊥
 
 -- tokens, one for each place
 abbrev pub Spells : List Sign → List Token → Type 0
@@ -80,15 +83,25 @@ range_signs table from to further =
     ∷ keyword (codes "WHERE") ∷ keyword (codes "time") ∷ Exactly (token.Compare Ge) ∷ int from
     ∷ keyword (codes "AND") ∷ keyword (codes "time") ∷ Exactly (token.Compare Le) ∷ int to ∷ further
 
+-- a text
+abbrev pub text_sign : Value → Sign
+text_sign (value.Text t) = Exactly (token.Text t)
+text_sign v = Never
+
 -- an integer or a text
 abbrev pub const_sign : Value → Sign
 const_sign (value.Int n) = int n
 const_sign (value.Text t) = Exactly (token.Text t)
+const_sign (value.Set members) = Never
+
+-- what a comparison is with
+abbrev pub asked_sign : Op → Value → Sign
+asked_sign op v = if is_has op then text_sign v else const_sign v
 
 -- AND, a name, a comparison and a constant, for each condition
 abbrev pub conds_signs : List Cond → List Sign → List Sign
 conds_signs [] further = further
-conds_signs (c ∷ conds) further = keyword (codes "AND") ∷ TheName c.name ∷ Exactly (token.Compare c.op) ∷ const_sign c.value ∷ conds_signs conds further
+conds_signs (c ∷ conds) further = keyword (codes "AND") ∷ TheName c.name ∷ Exactly (token.Compare c.op) ∷ asked_sign c.op c.value ∷ conds_signs conds further
 
 -- more names, each behind a comma
 abbrev pub more_names_signs : List (List ℕ) → List Sign → List Sign

@@ -7,7 +7,7 @@ use Rattle.std.specs.Fmt.{signed_decimal}
 use Rattle.leaf_model.specs.declared.rows.Value.{Value}
 use Rattle.leaf_model.specs.declared.rows.Value.TheVariants as value
 use Rattle.leaf_model.specs.declared.queries.Op.{Op}
-use Rattle.leaf_model.specs.declared.queries.Op.TheVariants.{Eq, Ne, Lt, Le, Gt, Ge}
+use Rattle.leaf_model.specs.declared.queries.Op.TheVariants.{Eq, Ne, Lt, Le, Gt, Ge, Has}
 use Rattle.leaf_model.specs.declared.queries.Cond.{Cond}
 use Rattle.leaf_model.specs.declared.queries.Agg.{Agg}
 use Rattle.leaf_model.specs.declared.queries.Agg.TheVariants.{Count, Sum, Min, Max, Avg}
@@ -32,10 +32,11 @@ in_quotes mark bs = mark ∷ (flat_map (doubled mark) bs ++ (mark ∷ []))
 abbrev pub name_text : List ℕ → List ℕ
 name_text name = if is_plain name then name else in_quotes 34 name
 
--- an integer in decimal, a text in single quotes
+-- an integer in decimal, a text in single quotes; a set has no text
 abbrev pub value_text : Value → List ℕ
 value_text (value.Int n) = signed_decimal n
 value_text (value.Text t) = in_quotes 39 t
+value_text (value.Set members) = []
 
 -- the comparisons
 abbrev pub op_text : Op → List ℕ
@@ -45,6 +46,7 @@ op_text Lt = codes "<"
 op_text Le = codes "<="
 op_text Gt = codes ">"
 op_text Ge = codes ">="
+op_text Has = codes "HAS"
 
 -- an aggregate's word, and what it takes in parentheses
 abbrev pub agg_then : Agg → List ℕ → List ℕ

@@ -15,7 +15,7 @@ use Rattle.query_text.specs.declared.places.Place.TheVariants.{Select, Item, Nam
 use Rattle.query_text.specs.declared.places.Move.{Move}
 use Rattle.query_text.specs.declared.places.Move.TheVariants.{On, Stuck}
 use Rattle.query_text.specs.Tokens.{Placed, tokens_of}
-use Rattle.query_text.specs.Roles.{is_word, is_mark, name_of, kind_of, table_of, is_int, op_of, int_of, const_of, limit_from, agg_inside, same_agg, has_kind, is_orderable}
+use Rattle.query_text.specs.Roles.{is_word, is_mark, name_of, kind_of, table_of, is_int, op_of, int_of, const_for, is_has, limit_from, agg_inside, same_agg, has_kind, is_orderable}
 
 -- ---- what was read, with one part more
 
@@ -86,7 +86,7 @@ goes_on q CondEnd t =
     else (if has_keys q then on_if (is_word (codes "GROUP") t) q By else order_or_limit q t)
 goes_on q CondName t = goes_with (name_of t) (λ name. On q (CondOp name)) Stuck
 goes_on q (CondOp name) t = goes_with (op_of t) (λ op. On q (CondValue name op)) Stuck
-goes_on q (CondValue name op) t = goes_with (const_of t) (λ value. On (with_cond q name op value) CondEnd) Stuck
+goes_on q (CondValue name op) t = goes_with (const_for op t) (λ value. On (with_cond q name op value) CondEnd) Stuck
 goes_on q By t = on_if (is_word (codes "BY") t) q (GroupName 0)
 goes_on q (GroupName i) t = on_if (is_key (slice_get q.keys i) (name_of t)) q (GroupEnd (i + 1))
 goes_on q (GroupEnd i) t = if nat_lt i (length q.keys) then on_if (is_mark token.Comma t) q (GroupName i) else order_or_limit q t
@@ -113,7 +113,7 @@ may_end q place = false
 abbrev pub takes_int : Place → Bool
 takes_int LowBound = true
 takes_int HighBound = true
-takes_int (CondValue name op) = true
+takes_int (CondValue name op) = not (is_has op)
 takes_int LimitNumber = true
 takes_int place = false
 

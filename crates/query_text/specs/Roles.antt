@@ -3,6 +3,7 @@ use Rattle.std.specs.Prelude.{ℕ, Bool, true, false, ◌||◌, List, [], ◌∷
 use Rattle.std.specs.List.{list_any}
 use Rattle.leaf_model.specs.declared.rows.Value.TheVariants as value
 use Rattle.leaf_model.specs.declared.queries.Op.{Op}
+use Rattle.leaf_model.specs.declared.queries.Op.TheVariants.{Has}
 use Rattle.leaf_model.specs.declared.queries.Agg.{Agg}
 use Rattle.leaf_model.specs.declared.queries.Agg.TheVariants as agg
 use Rattle.leaf_model.specs.Names.{is_table_name}
@@ -13,7 +14,7 @@ use Rattle.query_text.specs.declared.places.Kind.TheVariants.{Count, Sum, Min, M
 
 -- the words that no plain name may be
 abbrev pub is_keyword : List ℕ → Bool
-is_keyword w = list_any (bytes_eq w) (map codes ("SELECT" ∷ "FROM" ∷ "WHERE" ∷ "AND" ∷ "GROUP" ∷ "BY" ∷ "ORDER" ∷ "LIMIT" ∷ "COUNT" ∷ "SUM" ∷ "MIN" ∷ "MAX" ∷ "AVG" ∷ []))
+is_keyword w = list_any (bytes_eq w) (map codes ("HAS" ∷ "SELECT" ∷ "FROM" ∷ "WHERE" ∷ "AND" ∷ "GROUP" ∷ "BY" ∷ "ORDER" ∷ "LIMIT" ∷ "COUNT" ∷ "SUM" ∷ "MIN" ∷ "MAX" ∷ "AVG" ∷ []))
 
 -- that very word, which is not quoted
 abbrev pub is_word : List ℕ → Token → Bool
@@ -69,6 +70,20 @@ abbrev pub const_of : Token → Option value.the_data
 const_of (token.Int (Some n)) = Some (value.Int n)
 const_of (token.Text t) = Some (value.Text t)
 const_of other = None
+
+-- a text
+abbrev pub text_of : Token → Option value.the_data
+text_of (token.Text t) = Some (value.Text t)
+text_of other = None
+
+-- whether an operator is HAS
+abbrev pub is_has : Op → Bool
+is_has Has = true
+is_has op = false
+
+-- what a comparison is with: HAS takes a text, and every other one an integer or a text
+abbrev pub const_for : Op → Token → Option value.the_data
+const_for op t = if is_has op then text_of t else const_of t
 
 -- 0 to 100,000
 abbrev pub limit_from : Option ℤ → Option ℕ

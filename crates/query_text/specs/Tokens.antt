@@ -1,5 +1,5 @@
 -- The tokens of a text, each with the offset of its first byte.
-use Rattle.std.specs.Prelude.{ℕ, ◌^◌, suc, zero, ◌+◌, ◌*◌, ◌-◌, Bool, true, false, ◌&&◌, ◌||◌, List, [], ◌∷◌, ◌++◌, length, ℤ, pos, neg_ℤ, Option, Some, None, option_map, if◌then◌else◌, nat_lt, nat_le, take_while}
+use Rattle.std.specs.Prelude.{ℕ, ◌^◌, suc, zero, ◌+◌, ◌*◌, ◌-◌, Bool, true, false, ◌&&◌, ◌||◌, List, [], ◌∷◌, ◌++◌, length, ℤ, pos, neg_ℤ, Option, Some, None, option_map, if◌then◌else◌, nat_lt, nat_le, take_while, codes, bytes_eq}
 use Rattle.std.specs.Bool.{◌==◌}
 use Rattle.std.specs.Str.{is_utf8}
 use Rattle.std.specs.Char.{is_ascii_digit, is_ascii_alphabetic}
@@ -50,6 +50,10 @@ quote_from mark false (b ∷ rest) = if b == mark then option_map (λ (q : Quote
 quote_from mark true (b ∷ rest) = if b == mark then option_map (with_byte mark) (quote_from mark false rest) else Some (record { inside = []; long = 0 })
 
 -- ---- one token: what it is, and how many bytes it takes behind its first
+
+-- the word HAS compares; every other word is one
+abbrev pub word_token : List ℕ → Token
+word_token w = if bytes_eq w (codes "HAS") then Compare op.Has else Word w
 
 -- a byte that begins no token
 abbrev pub stray : Found
@@ -103,7 +107,7 @@ mark_token b rest =
 -- the longest token that begins with b: a name in quotes has 1 to 255 bytes, and a text at most 65,535
 abbrev pub token_with : ℕ → List ℕ → Found
 token_with b rest =
-    if begins_word b then record { token = Word (b ∷ take_while goes_on_word rest); more = length (take_while goes_on_word rest) }
+    if begins_word b then record { token = word_token (b ∷ take_while goes_on_word rest); more = length (take_while goes_on_word rest) }
     else (if is_ascii_digit b then number_token (b ∷ take_while is_ascii_digit rest) (take_while is_ascii_digit rest)
     else (if b == 45 then minus_token (take_while is_ascii_digit rest)
     else (if b == 34 then quoted_token Name 1 255 (quote_from 34 false rest)

@@ -7,7 +7,7 @@ ghost use Rattle.query_text.specs.Reading.{takes_int, is_in_range, plain_fault, 
 use crate::builders::start;
 use crate::fault::QueryFault;
 use crate::places::{Move, Place};
-use crate::roles::is_number;
+use crate::roles::{is_has, is_number};
 use crate::scanner::{next_solid, token_at};
 use crate::steps::{is_grouped, step};
 use crate::tokens::Token;
@@ -17,10 +17,38 @@ use std::alloc::{AllocError, Global};
 fn wants_number(place: &Place) -> bool
     ensures { result ≡ takes_int place.now }
 {
-    matches!(
-        place,
-        Place::LowBound | Place::HighBound | Place::CondValue(_, _) | Place::LimitNumber
-    )
+    match place {
+        Place::LowBound | Place::HighBound | Place::LimitNumber => true,
+        Place::CondValue(_name, op) => !is_has(*op),
+        Place::Select
+        | Place::Item
+        | Place::NameEnd
+        | Place::Opening(_)
+        | Place::Inside(_)
+        | Place::Closing(_)
+        | Place::AggEnd
+        | Place::NextAgg
+        | Place::Table
+        | Place::Where
+        | Place::LowTime
+        | Place::LowSign
+        | Place::And
+        | Place::HighTime
+        | Place::HighSign
+        | Place::CondEnd
+        | Place::CondName
+        | Place::CondOp(_)
+        | Place::By
+        | Place::GroupName(_)
+        | Place::GroupEnd(_)
+        | Place::OrderBy
+        | Place::OrderAgg
+        | Place::OrderOpening(_)
+        | Place::OrderInside(_)
+        | Place::OrderClosing(_)
+        | Place::Ordered
+        | Place::Last => false,
+    }
 }
 
 fn is_inside_range(place: &Place) -> bool

@@ -1,7 +1,7 @@
 // What a token may stand for.
 ghost use Rattle.std.specs.Prelude.{◌≡◌};
 ghost use Rattle.query_text.specs.declared.tokens.Token.TheVariants.{Word, Open, Close, Star, Comma};
-ghost use Rattle.query_text.specs.Roles.{is_keyword, is_word, name_of, kind_of, table_of, is_mark, is_int, op_of, int_of, const_of, limit_from};
+ghost use Rattle.query_text.specs.Roles.{is_keyword, is_word, name_of, kind_of, table_of, is_mark, is_int, op_of, int_of, is_has, text_of, const_of, const_for, limit_from};
 
 use crate::places::Kind;
 use crate::tokens::Token;
@@ -17,7 +17,8 @@ const MAX_LIMIT: i64 = 100_000;
 pub fn is_reserved(word: &str) -> bool
     ensures { result ≡ is_keyword word.now }
 {
-    word == "SELECT"
+    word == "HAS"
+        || word == "SELECT"
         || word == "FROM"
         || word == "WHERE"
         || word == "AND"
@@ -200,7 +201,7 @@ pub fn number_in(token: &Token) -> Option<i64>
 }
 
 /// An integer or a text.
-pub fn take_const(token: Token) -> Option<Value>
+fn take_const(token: Token) -> Option<Value>
     ensures { result ≡ const_of token }
 {
     match token {
@@ -215,6 +216,44 @@ pub fn take_const(token: Token) -> Option<Value>
         | Token::Star
         | Token::Compare(_)
         | Token::Stray => None,
+    }
+}
+
+/// A text.
+fn take_text(token: Token) -> Option<Value>
+    ensures { result ≡ text_of token }
+{
+    match token {
+        Token::Text(text) => Some(Value::Text(text)),
+        Token::Int(_)
+        | Token::Word(_)
+        | Token::Name(_)
+        | Token::Comma
+        | Token::Open
+        | Token::Close
+        | Token::Star
+        | Token::Compare(_)
+        | Token::Stray => None,
+    }
+}
+
+pub fn is_has(op: Op) -> bool
+    ensures { result ≡ is_has op }
+{
+    match op {
+        Op::Has => true,
+        Op::Eq | Op::Ne | Op::Lt | Op::Le | Op::Gt | Op::Ge => false,
+    }
+}
+
+/// What a comparison is with: HAS takes a text, and every other one an integer or a text.
+pub fn take_const_for(op: Op, token: Token) -> Option<Value>
+    ensures { result ≡ const_for op token }
+{
+    if is_has(op) {
+        take_text(token)
+    } else {
+        take_const(token)
     }
 }
 

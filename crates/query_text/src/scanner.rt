@@ -1,7 +1,6 @@
 // The scanner, which gives one token at a time.
 ghost use Rattle.std.specs.Prelude.{◌≡◌, ◌≤◌, ◌<◌, ◌∷◌, IfOk, IsUtf8, length, drop, get_or, take_while, false};
-ghost use Rattle.query_text.specs.declared.tokens.Token.TheVariants.{Word};
-ghost use Rattle.query_text.specs.Tokens.{is_blank, goes_on_word, begins_word, pair_token, mark_token, token_with, tokens_from};
+ghost use Rattle.query_text.specs.Tokens.{is_blank, goes_on_word, begins_word, pair_token, mark_token, token_with, tokens_from, word_token};
 
 use crate::numbers::{digits_part, minus_found, number_found};
 use crate::quotes::{quoted_name, quoted_text, stray_found};
@@ -48,15 +47,26 @@ fn text_of_utf8(bytes: Vec<u8>) -> Text
     }
 }
 
+/// The word HAS compares.
+fn word_token(word: Text) -> Token
+    ensures { result ≡ word_token word }
+{
+    if word.as_str() == "HAS" {
+        Token::Compare(Op::Has)
+    } else {
+        Token::Word(word)
+    }
+}
+
 fn word_found(alloc: Global, first: u8, part: &[u8]) -> Result<Found, AllocError>
     requires { IsUtf8 (first ∷ part.now) }
-    ensures { IfOk result (λ found. found ≡ record { token = Word (first ∷ part.now); more = length part.now }) }
+    ensures { IfOk result (λ found. found ≡ record { token = word_token (first ∷ part.now); more = length part.now }) }
 {
     let mut word: Vec<u8> = Vec::new(alloc);
     word.push(first)?;
     word.extend_from_slice(part)?;
     Ok(Found {
-        token: Token::Word(text_of_utf8(word)),
+        token: word_token(text_of_utf8(word)),
         more: part.len(),
     })
 }

@@ -97,6 +97,7 @@ pub fn push_value(out: &mut String, value: &Value) -> Result<(), AllocError>
     match value {
         Value::Int(number) => push_number(out, *number),
         Value::Text(text) => push_quoted(out, b'\'', text.as_str()),
+        Value::Set(_members) => Ok(()),
     }
 }
 
@@ -110,6 +111,7 @@ pub fn op_word(op: Op) -> &'static str
         Op::Le => "<=",
         Op::Gt => ">",
         Op::Ge => ">=",
+        Op::Has => "HAS",
     }
 }
 

@@ -10,7 +10,7 @@ use crate::builders::{
 };
 use crate::places::{Kind, Move, Place};
 use crate::roles::{
-    closes, is_the_comma, is_the_word, kind_in, limit_in, number_in, op_in, opens, take_const,
+    closes, is_the_comma, is_the_word, kind_in, limit_in, number_in, op_in, opens, take_const_for,
     take_name, take_table,
 };
 use crate::tokens::Token;
@@ -116,7 +116,7 @@ fn is_sign(op: Option<Op>, is_low: bool) -> bool
     match op {
         Some(Op::Ge) => is_low,
         Some(Op::Le) => !is_low,
-        Some(Op::Eq | Op::Ne | Op::Lt | Op::Gt) | None => false,
+        Some(Op::Eq | Op::Ne | Op::Lt | Op::Gt | Op::Has) | None => false,
     }
 }
 
@@ -178,7 +178,7 @@ fn cond_op(query: Query, name: Text, token: &Token) -> Move
 fn cond_value(query: Query, name: Text, op: Op, token: Token) -> Result<Move, AllocError>
     ensures { IfOk result (λ moved. moved ≡ goes_on query (CondValue name op) token) }
 {
-    match take_const(token) {
+    match take_const_for(op, token) {
         None => Ok(Move::Stuck),
         Some(value) => Ok(Move::On(push_cond(query, Cond { name, op, value })?, Place::CondEnd)),
     }

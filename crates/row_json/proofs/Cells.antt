@@ -6,11 +6,11 @@ use Rattle.std.proofs.lemmas.Slice.Eq.{bytes_eq-Decides}
 use Rattle.std.specs.List.{AllByRecursion}
 use Rattle.std.specs.List.Sorted.{IsStrictlySortedBy}
 use Rattle.std.specs.Result.{is_ok}
-use Rattle.serde_json.specs.Data.{Data, null, boolean, number, string, array, object, Num, Members, no_members, member}
+use Rattle.serde_json.specs.Data.{Data, null, boolean, number, string, array, object, Num, Items, Members, no_members, member}
 use Rattle.serde_json.specs.Find.{as_i64}
 use Rattle.leaf_model.specs.Values.{time_name}
 use Rattle.leaf_model.specs.declared.rows.Value.{Value}
-use Rattle.leaf_model.specs.declared.rows.Value.TheVariants.{Int, Text}
+use Rattle.leaf_model.specs.declared.rows.Value.TheVariants.{Int, Text, Set}
 use Rattle.leaf_model.specs.declared.rows.Cell.{Cell}
 use Rattle.row_json.specs.Row.{is_time, is_bad_name, is_missing, text_of, value_of, named_cell, cell_of, and_then, cells_of}
 use Rattle.row_json.specs.Meaning.{HoldsValue, IsOther}
@@ -18,10 +18,16 @@ use Rattle.row_json.specs.declared.object.RowFault.{RowFault}
 use Rattle.row_json.specs.declared.object.RowFault.TheVariants.{Name}
 use Rattle.row_json.specs.declared.object.RowFault.TheVariants as fault
 use Rattle.row_json.proofs.Rows.{before, with_cell, before_none}
+use Rattle.row_json.proofs.SetMeaning.{set_held, held_set}
 use Rattle.row_json.proofs.Order.{Below}
 use Rattle.row_json.proofs.Found.{Ascending, found_here, found_later, found_cases, found_none, found_all}
 
 -- ---- one member
+
+abbrev is_array : Data → Bool
+is_array (array items) = true
+is_array other = false
+
 
 integer_held : (n : Num) (o : Option ℤ) (v : Value) → as_i64 n ≡ o → option_map Int o ≡ Some v → HoldsValue (number n) v
 integer_held n None v is h = absurd (found_none v h)
@@ -36,7 +42,7 @@ value_held null v h = absurd (found_none v h)
 value_held (boolean b) v h = absurd (found_none v h)
 value_held (number n) v h = integer_held n (as_i64 n) v refl h
 value_held (string s) v h = text_held s (nat_lt 65535 (length s)) v refl h
-value_held (array items) v h = absurd (found_none v h)
+value_held (array items) v h = set_held items v h
 value_held (object all) v h = absurd (found_none v h)
 
 held_value : (d : Data) (v : Value) → HoldsValue d v → value_of d ≡ Some v
@@ -44,7 +50,7 @@ held_value null (Int z) h = ap (option_map Int) h
 held_value (boolean b) (Int z) h = ap (option_map Int) h
 held_value (number n) (Int z) h = ap (option_map Int) h
 held_value (string s) (Int z) h = absurd (found_none z h)
-held_value (array items) (Int z) h = ap (option_map Int) h
+held_value (array items) (Int z) h = absurd (found_none z h)
 held_value (object all) (Int z) h = ap (option_map Int) h
 held_value null (Text t) h = absurd (found_none t h.0)
 held_value (boolean b) (Text t) h = absurd (found_none t h.0)
@@ -52,6 +58,12 @@ held_value (number n) (Text t) h = absurd (found_none t h.0)
 held_value (string s) (Text t) h = ap (option_and_then text_of) h.0 ∙ ap (λ b. cond b None (Some (Text t))) (le-ltb 65535 (length t) h.1)
 held_value (array items) (Text t) h = absurd (found_none t h.0)
 held_value (object all) (Text t) h = absurd (found_none t h.0)
+held_value null (Set ts) h = absurd (true≢false (sym (ap is_array h.is)))
+held_value (boolean b) (Set ts) h = absurd (true≢false (sym (ap is_array h.is)))
+held_value (number n) (Set ts) h = absurd (true≢false (sym (ap is_array h.is)))
+held_value (string s) (Set ts) h = absurd (true≢false (sym (ap is_array h.is)))
+held_value (array items) (Set ts) h = held_set items ts h
+held_value (object all) (Set ts) h = absurd (true≢false (sym (ap is_array h.is)))
 
 null_missing : (d : Data) → is_missing d ≡ true → d ≡ null
 null_missing null h = refl

@@ -1,15 +1,18 @@
 -- What a row and each fault say of a text, in terms of the members of its object.
-use Rattle.std.specs.Prelude.{◌≡◌, ◌≢◌, ◌⊎◌, ℕ, ◌<◌, ◌≤◌, ◌≤ℤ◌, ℤ, pos, List, length, true, false, Some, None, option_and_then, Contains, IsUtf8}
+use Rattle.std.specs.Prelude.{◌≡◌, ◌≢◌, ◌⊎◌, ℕ, [], ◌∷◌, ◌<◌, ◌≤◌, ◌≤ℤ◌, ℤ, pos, List, length, true, false, Some, None, option_and_then, Contains, IsUtf8}
 use Rattle.std.specs.Cmp.Lexicographic.{slice_cmp}
 use Rattle.std.specs.List.{AllByRecursion}
 use Rattle.std.specs.Ordering.{nat_cmp}
 use Rattle.std.specs.declared.cmp.Ordering.TheVariants.{Less}
-use Rattle.serde_json.specs.Data.{Data, null, object, Members}
+use Rattle.std.specs.List.Sorted.{IsStrictlySortedBy}
+use Rattle.serde_json.specs.Data.{Data, null, string, array, object, Items, no_items, item, Members}
 use Rattle.serde_json.specs.Find.{get_member, as_number, as_str, as_object, as_i64}
 use Rattle.serde_json.specs.Read.{read}
-use Rattle.leaf_model.specs.Values.{time_name}
+use Rattle.leaf_model.specs.Groups.{text_cmp}
+use Rattle.leaf_model.specs.Names.{is_among}
+use Rattle.leaf_model.specs.Values.{bytes_in, time_name}
 use Rattle.leaf_model.specs.declared.rows.Value.{Value}
-use Rattle.leaf_model.specs.declared.rows.Value.TheVariants.{Int, Text}
+use Rattle.leaf_model.specs.declared.rows.Value.TheVariants.{Int, Text, Set}
 use Rattle.leaf_model.specs.declared.rows.Row.{Row}
 use Rattle.row_json.specs.Row.{cell_count, is_bad_name, named_cell}
 use Rattle.row_json.specs.declared.object.RowFault.{RowFault}
@@ -33,10 +36,28 @@ IsInteger d z = option_and_then as_i64 (as_number d) ≡ Some z
 abbrev pub IsTextValue : Data → List ℕ → Type 0
 IsTextValue d t = (as_str d ≡ Some t) × (length t ≤ 65535)
 
--- a cell holds what the JSON value says: an integer or a text
+-- the items of an array are these texts
+abbrev pub AreTexts : Items → List (List ℕ) → Type 0
+AreTexts no_items texts = texts ≡ []
+AreTexts (item (string t) rest) texts = (others : List (List ℕ)) × (texts ≡ t ∷ others) × AreTexts rest others
+AreTexts (item other rest) texts = ⊥
+
+-- the JSON value is an array of at most 1,024 texts; these are its texts, each once and in order, and have at most 65,535 bytes together
+pub record IsSetValue (d : Data) (members : List (List ℕ)) : Type 0 where
+  pub items : Items
+  pub is : d ≡ array items
+  pub texts : List (List ℕ)
+  pub are : AreTexts items texts
+  pub few : length texts ≤ 1024
+  pub ascending : IsStrictlySortedBy text_cmp members
+  pub same : (t : List ℕ) → is_among members t ≡ is_among texts t
+  pub together : bytes_in members ≤ 65535
+
+-- a cell holds what the JSON value says: an integer, a text or a set
 abbrev pub HoldsValue : Data → Value → Type 0
 HoldsValue d (Int z) = IsInteger d z
 HoldsValue d (Text t) = IsTextValue d t
+HoldsValue d (Set members) = IsSetValue d members
 
 -- the object's member `time` is this integer, from 0 on
 pub record IsTimeOf (all : Members) (time : ℤ) : Type 0 where

@@ -1,14 +1,16 @@
 -- Which row a JSON text is, or what is its first fault.
-use Rattle.std.specs.Prelude.{ℕ, ◌+◌, ◌||◌, ◌==◌, ℤ, pos, negsuc, List, [], ◌++◌, length, Bool, nat_lt, if◌then◌else◌, Option, Some, None, option_map, option_and_then, option_to_list, ok_or, Result, Ok, Err, Vec}
+use Rattle.std.specs.Prelude.{ℕ, suc, ◌+◌, ◌||◌, ◌==◌, ℤ, pos, negsuc, List, [], ◌++◌, length, Bool, nat_lt, if◌then◌else◌, Option, Some, None, option_map, option_and_then, option_to_list, ok_or, Result, Ok, Err, Vec}
 use Rattle.std.specs.Option.{is_some}
 use Rattle.std.specs.Str.{bytes_eq, is_utf8}
 use Rattle.std.specs.declared.alloc.Global.{Global}
-use Rattle.serde_json.specs.Data.{Data, number, string, object, Members, no_members, member}
+use Rattle.std.specs.BTreeSet.{insert_key}
+use Rattle.serde_json.specs.Data.{Data, number, string, array, object, Items, no_items, item, Members, no_members, member}
 use Rattle.serde_json.specs.Find.{get, as_number, as_null, as_i64}
 use Rattle.serde_json.specs.Read.{read}
-use Rattle.leaf_model.specs.Values.{time_name}
+use Rattle.leaf_model.specs.Groups.{text_cmp}
+use Rattle.leaf_model.specs.Values.{bytes_in, time_name}
 use Rattle.leaf_model.specs.declared.rows.Value.{Value}
-use Rattle.leaf_model.specs.declared.rows.Value.TheVariants.{Int, Text}
+use Rattle.leaf_model.specs.declared.rows.Value.TheVariants.{Int, Text, Set}
 use Rattle.leaf_model.specs.declared.rows.Cell.{Cell}
 use Rattle.leaf_model.specs.declared.rows.Row.{Row}
 use Rattle.row_json.specs.declared.object.RowFault.{RowFault}
@@ -45,10 +47,26 @@ is_bad_name name = length name == 0 || nat_lt 255 (length name)
 abbrev pub text_of : List ℕ → Option Value
 text_of s = if nat_lt 65535 (length s) then None else Some (Text s)
 
--- what a cell would hold: an integer that is an i64, or a text
+-- these texts in order, each once, and those of an array in their places among them, where all its items are texts
+abbrev pub texts_with : List (List ℕ) → Items → Option (List (List ℕ))
+texts_with texts no_items = Some texts
+texts_with texts (item (string t) rest) = texts_with (insert_key text_cmp texts t) rest
+texts_with texts (item other rest) = None
+
+-- how many items an array has
+abbrev pub item_count : Items → ℕ
+item_count no_items = 0
+item_count (item d rest) = suc (item_count rest)
+
+-- texts are a value where the array has at most 1,024 of them, repeated ones counted, and they have at most 65,535 bytes together
+abbrev pub set_of : ℕ → List (List ℕ) → Option Value
+set_of count texts = if nat_lt 1024 count || nat_lt 65535 (bytes_in texts) then None else Some (Set texts)
+
+-- what a cell would hold: an integer that is an i64, a text, or the distinct texts of an array in order
 abbrev pub value_of : Data → Option Value
 value_of (number n) = option_map Int (as_i64 n)
 value_of (string s) = text_of s
+value_of (array items) = option_and_then (set_of (item_count items)) (texts_with [] items)
 value_of other = None
 
 -- the cell of this name and value

@@ -3,6 +3,7 @@
 
 mod object;
 mod quick;
+mod sets;
 
 pub use object::{RowFault, row, row_meaning};
 pub use quick::{RowRoom, quick_time};

@@ -1,13 +1,15 @@
 // A row from its JSON text.
-ghost use Rattle.std.specs.Prelude.{◌≡◌, ◌≢◌, ◌↔◌, ◌≤ℤ◌, ℕ, List, [], nat_lt, Ok, Err, IfOk, IfErr, IfSome, pos, string_bytes, string_cmp};
+ghost use Rattle.std.specs.Prelude.{◌≡◌, ◌≢◌, ◌↔◌, ◌≤ℤ◌, ℕ, List, [], nat_lt, Ok, Err, IfOk, IfErr, IfSome, option_map, pos, string_bytes, string_cmp};
 ghost use Rattle.std.specs.List.{AllByRecursion};
 ghost use Rattle.std.specs.List.Sorted.{IsStrictlySortedBy};
 ghost use Rattle.std.specs.Map.{keys_of};
 ghost use Rattle.serde_json.specs.View.{view, members_view};
+ghost use Rattle.leaf_model.specs.declared.rows.Value.TheVariants.{Int};
 ghost use Rattle.leaf_model.specs.Values.{IsCell, IsRow, IsValue};
 ghost use Rattle.row_json.specs.Meaning.{IsThisRow, Refuses};
 ghost use Rattle.row_json.specs.Row.{row_of, row_of_data, row_of_members, time_of, cell_count, cells_of, cell_of, value_of, text_of, items_of};
 
+use crate::sets::set_in;
 use leaf_model::{Cell, Cells, Row, Text, Value};
 use std::alloc::Global;
 use std::collections::BTreeMap;
@@ -132,7 +134,7 @@ fn cells(alloc: Global, members: Members) -> Result<Vec<Cell>, RowFault>
 {
     let mut cells = room_for_cells(alloc, &members)?;
     for (name, value) in members {
-        if let Some(cell) = cell_of(name, value)? {
+        if let Some(cell) = cell_of(alloc, name, value)? {
             if cells.push(cell).is_err() {
                 return Err(RowFault::NoMemory);
             }
@@ -153,8 +155,12 @@ fn room_for_cells(alloc: Global, members: &Members) -> Result<Vec<Cell>, RowFaul
 }
 
 /// The cell that a member is, where it is one.
-fn cell_of(name: String, value: serde_json::Value) -> Result<Option<Cell>, RowFault>
-    ensures exact { result ≡ cell_of (string_bytes name) (view value) }
+fn cell_of(
+    alloc: Global,
+    name: String,
+    value: serde_json::Value,
+) -> Result<Option<Cell>, RowFault>
+    ensures exact { result ≢ Err RowFault.NoMemory → result ≡ cell_of (string_bytes name) (view value) }
     ensures is_cell { IfOk result (λ found. IfSome found IsCell) }
 {
     if name.as_str() == "time" {
@@ -168,24 +174,36 @@ fn cell_of(name: String, value: serde_json::Value) -> Result<Option<Cell>, RowFa
     if value.is_null() {
         return Ok(None);
     }
-    match value_of(value) {
+    match value_of(alloc, value)? {
         Some(value) => Ok(Some(Cell { name, value })),
         None => Err(RowFault::Value(name)),
     }
 }
 
 /// What a member holds, where a cell can hold it.
-fn value_of(value: serde_json::Value) -> Option<Value>
-    ensures exact { result ≡ value_of (view value) }
-    ensures is_value { IfSome result IsValue }
+fn value_of(alloc: Global, value: serde_json::Value) -> Result<Option<Value>, RowFault>
+    ensures exact { IfOk result (λ found. found ≡ value_of (view value)) }
+    ensures refused { IfErr result (λ fault. fault ≡ RowFault.NoMemory) }
+    ensures is_value { IfOk result (λ found. IfSome found IsValue) }
 {
     match value {
-        serde_json::Value::Number(number) => Some(Value::Int(number.as_i64()?)),
-        serde_json::Value::String(text) => text_of(text),
-        serde_json::Value::Null => None,
-        serde_json::Value::Bool(_is) => None,
-        serde_json::Value::Array(_items) => None,
-        serde_json::Value::Object(_members) => None,
+        serde_json::Value::Number(number) => Ok(integer_of(number.as_i64())),
+        serde_json::Value::String(text) => Ok(text_of(text)),
+        serde_json::Value::Array(items) => set_in(alloc, items),
+        serde_json::Value::Null => Ok(None),
+        serde_json::Value::Bool(_is) => Ok(None),
+        serde_json::Value::Object(_members) => Ok(None),
+    }
+}
+
+/// The value that an integer is.
+fn integer_of(integer: Option<i64>) -> Option<Value>
+    ensures exact { result ≡ option_map Int integer }
+    ensures is_value { IfSome result IsValue }
+{
+    match integer {
+        Some(integer) => Some(Value::Int(integer)),
+        None => None,
     }
 }
 

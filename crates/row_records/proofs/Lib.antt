@@ -6,3 +6,4 @@ pub mod Growing
 pub mod Pended
 pub mod Front
 pub mod Once
+pub mod Sets

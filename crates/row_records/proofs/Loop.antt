@@ -6,7 +6,7 @@ use Rattle.leaf_model.specs.declared.rows.Cell.{Cell}
 use Rattle.leaf_model.specs.declared.writes.Write.{Write}
 use Rattle.row_records.specs.declared.fault.ReadError.{ReadError}
 use Rattle.row_records.specs.declared.fault.ReadError.TheVariants as errors
-use Rattle.row_records.specs.Reading.{◌>>=◌, ReadFails, cell_at, cells_at, row_at, rows_at, write_at, writes_at, last_name}
+use Rattle.row_records.specs.Reading.{◌>>=◌, ReadFails, cell_at, cells_at, row_at, rows_at, long_text_at, texts_at, write_at, writes_at, last_name}
 
 -- what was read before, and what is still read
 abbrev pub with_front : {A : Type 0} → List A → Option (List A × List ℕ) → Option (List A × List ℕ)
@@ -72,6 +72,21 @@ row_fails errors.Broken count i bytes lt h = rw (one_more count i lt, h) refl
 pub rows_done : (count i : ℕ) (bytes : List ℕ) → count ≤ i → rows_at (count - i) bytes ≡ Some ([], bytes)
 unfolding rows_at
 rows_done count i bytes le = rw (no_more count i le) refl
+
+-- ---- texts
+
+pub text_read : (count i : ℕ) (bytes text after : List ℕ) → i < count → long_text_at bytes ≡ Some (text, after) → texts_at (count - i) bytes ≡ with_first text (texts_at (count - (i + 1)) after)
+unfolding texts_at
+text_read count i bytes text after lt h = rw (one_more count i lt, h) refl
+
+pub text_fails : (e : ReadError) (count i : ℕ) (bytes : List ℕ) → i < count → ReadFails e (long_text_at bytes) → ReadFails e (texts_at (count - i) bytes)
+unfolding texts_at
+text_fails errors.Memory count i bytes lt h = tt
+text_fails errors.Broken count i bytes lt h = rw (one_more count i lt, h) refl
+
+pub texts_done : (count i : ℕ) (bytes : List ℕ) → count ≤ i → texts_at (count - i) bytes ≡ Some ([], bytes)
+unfolding texts_at
+texts_done count i bytes le = rw (no_more count i le) refl
 
 -- ---- writes
 

@@ -3,7 +3,7 @@ use Rattle.std.specs.Prelude.{◌≡◌, ℕ, ◌<◌, List, ◌∷◌, ◌++◌
 use Rattle.std.specs.List.{flat_map, AllByRecursion}
 use Rattle.std.specs.Int.{w16, w32, w64, to_le_bytes, cast_unsigned}
 use Rattle.leaf_model.specs.declared.rows.Value.{Value}
-use Rattle.leaf_model.specs.declared.rows.Value.TheVariants.{Int, Text}
+use Rattle.leaf_model.specs.declared.rows.Value.TheVariants.{Int, Text, Set}
 use Rattle.leaf_model.specs.declared.rows.Cell.{Cell}
 use Rattle.leaf_model.specs.declared.rows.Row.{Row}
 use Rattle.leaf_model.specs.Values.{IsRow}
@@ -27,10 +27,15 @@ i64_bytes n = to_le_bytes w64 (cast_unsigned w64 n)
 abbrev pub name_bytes : List ℕ → List ℕ
 name_bytes name = length name ∷ name
 
--- a 1 and an integer, or a 2 and a text behind its length
+-- a text behind its length
+abbrev pub text_bytes : List ℕ → List ℕ
+text_bytes t = u16_bytes (length t) ++ t
+
+-- a 1 and an integer, a 2 and a text, or a 3 and the texts of a set behind their number
 abbrev pub value_bytes : Value → List ℕ
 value_bytes (Int n) = 1 ∷ i64_bytes n
-value_bytes (Text t) = 2 ∷ (u16_bytes (length t) ++ t)
+value_bytes (Text t) = 2 ∷ text_bytes t
+value_bytes (Set members) = 3 ∷ (u16_bytes (length members) ++ flat_map text_bytes members)
 
 -- the name, and the value
 abbrev pub cell_bytes : Cell → List ℕ

@@ -1,7 +1,7 @@
 -- The record that is gathered of a table's writes.
 use Rattle.std.specs.Prelude.{ℕ, ◌-◌, List, [], ◌∷◌, ◌++◌, length, take, Option, Some, None}
 use Rattle.leaf_model.specs.declared.writes.Write.{Write}
-use Rattle.row_records.specs.Records.{LogRecord, record_bytes}
+use Rattle.row_records.specs.Records.{LogRecord, record_bytes, written}
 use Rattle.row_records.specs.Reading.{record_of}
 
 -- a whole record with a closed gate after it, or nothing
@@ -20,9 +20,9 @@ pending_of bytes = record_of (take (length bytes - 1) bytes)
 
 -- one write more
 abbrev pub with_write : Write → LogRecord → LogRecord
-with_write write r = record { name = r.name; writes = r.writes ++ write ∷ [] }
+with_write write r = record r { writes = r.writes ++ write ∷ [] }
 
 -- one push: the first makes the record
 abbrev pub with_push : List ℕ → Write → Option LogRecord → LogRecord
-with_push table write None = record { name = table; writes = write ∷ [] }
+with_push table write None = written table (write ∷ [])
 with_push table write (Some r) = with_write write r

@@ -1,17 +1,18 @@
 -- Reading a record from left to right: each field is a value and the bytes after it, or nothing.
-use Rattle.std.specs.Prelude.{◌≡◌, ℕ, zero, suc, ◌^◌, ℤ, pos, List, [], ◌∷◌, length, take, drop, Bool, not, ◌&&◌, ◌==◌, nat_lt, if◌then◌else◌, Option, Some, None, Result, Ok, Err}
+use Rattle.std.specs.Prelude.{false, true, ◌≡◌, ℕ, zero, suc, ◌^◌, ℤ, pos, List, [], ◌∷◌, length, take, drop, Bool, not, ◌&&◌, ◌==◌, nat_lt, if◌then◌else◌, Option, Some, None, Result, Ok, Err}
 use Rattle.std.specs.Str.{bytes_eq, is_utf8}
 use Rattle.std.specs.Ordering.{nat_cmp, is_lt}
 use Rattle.std.specs.Cmp.Lexicographic.{slice_cmp}
 use Rattle.std.specs.Int.{Width, w16, w32, w64, byte_len, from_le_bytes, cast_signed}
 use Rattle.leaf_model.specs.declared.rows.Value.{Value}
-use Rattle.leaf_model.specs.declared.rows.Value.TheVariants.{Int, Text}
+use Rattle.leaf_model.specs.declared.rows.Value.TheVariants.{Int, Text, Set}
 use Rattle.leaf_model.specs.declared.rows.Cell.{Cell}
 use Rattle.leaf_model.specs.declared.rows.Row.{Row}
 use Rattle.leaf_model.specs.declared.writes.Write.{Write}
 use Rattle.leaf_model.specs.declared.writes.Write.TheVariants.{Add, Expire, Keep}
 use Rattle.leaf_model.specs.Values.{time_name}
-use Rattle.row_records.specs.Records.{LogRecord}
+use Rattle.leaf_model.specs.Sets.{is_set}
+use Rattle.row_records.specs.Records.{LogRecord, flush_of, has_sets}
 use Rattle.row_records.specs.declared.fault.ReadError.{ReadError}
 use Rattle.row_records.specs.declared.fault.ReadError.TheVariants as errors
 
@@ -64,7 +65,24 @@ time_at bytes = do
   n ← number_at w64 bytes
   if nat_lt n.0 (2 ^ 63) then Some (pos n.0, n.1) else None
 
--- an integer behind a 1, a text behind a 2
+-- a text behind its length
+unfoldable pub long_text_at : List ℕ → Option (List ℕ × List ℕ)
+long_text_at bytes = do
+  n ← number_at w16 bytes
+  text_at n.0 n.1
+
+-- so many texts
+unfoldable pub texts_at : ℕ → List ℕ → Option (List (List ℕ) × List ℕ)
+texts_at n bytes = many_at long_text_at n bytes
+
+-- the texts of a set behind their number
+unfoldable pub set_at : List ℕ → Option (List (List ℕ) × List ℕ)
+set_at bytes = do
+  count ← number_at w16 bytes
+  texts ← texts_at count.0 count.1
+  if is_set texts.0 then Some texts else None
+
+-- an integer behind a 1, a text behind a 2, a set behind a 3
 unfoldable pub value_at : List ℕ → Option (Value × List ℕ)
 value_at [] = None
 value_at (zero ∷ rest) = None
@@ -72,10 +90,12 @@ value_at (suc zero ∷ rest) = do
   n ← number_at w64 rest
   Some (Int (cast_signed w64 n.0), n.1)
 value_at (suc (suc zero) ∷ rest) = do
-  n ← number_at w16 rest
-  text ← text_at n.0 n.1
+  text ← long_text_at rest
   Some (Text text.0, text.1)
-value_at (suc (suc (suc b)) ∷ rest) = None
+value_at (suc (suc (suc zero)) ∷ rest) = do
+  members ← set_at rest
+  Some (Set members.0, members.1)
+value_at (suc (suc (suc (suc b))) ∷ rest) = None
 
 -- a name that may stand behind the last one: above it, and not `time`
 unfoldable pub may_follow : List ℕ → List ℕ → Bool
@@ -130,20 +150,27 @@ unfoldable pub writes_at : ℕ → List ℕ → Option (List Write × List ℕ)
 writes_at n bytes = many_at write_at n bytes
 
 -- the name, the number of writes and the writes
-unfoldable pub flush_at : List ℕ → Option (LogRecord × List ℕ)
+unfoldable pub flush_at : List ℕ → Option ((List ℕ × List Write) × List ℕ)
 flush_at bytes = do
   name ← name_at bytes
   count ← number_at w64 name.1
-  if count.0 == 0 then None else (writes_at count.0 count.1 >>= λ writes. Some (record { name = name.0; writes = writes.0 }, writes.1))
+  if count.0 == 0 then None else (writes_at count.0 count.1 >>= λ writes. Some ((name.0, writes.0), writes.1))
 
--- what follows the length of a record: all of the bytes
+-- such a flush, all of the bytes, as a record of a kind
+unfoldable pub whole_at : Bool → List ℕ → Option LogRecord
+whole_at sets bytes = do
+  flush ← flush_at bytes
+  if length flush.1 == 0 then Some (flush_of sets flush.0) else None
+
+-- what follows the length of a record: the kind, and the rest; a record of kind 1 has no sets
 unfoldable pub body_of : List ℕ → Option LogRecord
 body_of [] = None
 body_of (zero ∷ rest) = None
 body_of (suc zero ∷ rest) = do
-  flush ← flush_at rest
-  if length flush.1 == 0 then Some flush.0 else None
-body_of (suc (suc b) ∷ rest) = None
+  r ← whole_at false rest
+  if has_sets r.writes then None else Some r
+body_of (suc (suc zero) ∷ rest) = whole_at true rest
+body_of (suc (suc (suc b)) ∷ rest) = None
 
 -- the record that the bytes are, all of them
 unfoldable pub record_of : List ℕ → Option LogRecord

@@ -1,32 +1,65 @@
 -- A record of the log: the writes of one flush of a table.
-use Rattle.std.specs.Prelude.{ℕ, ◌<◌, ◌≤◌, ◌^◌, List, ◌∷◌, ◌++◌, length, IsUtf8}
-use Rattle.std.specs.List.{flat_map, AllByRecursion}
+use Rattle.std.specs.Prelude.{◌≡◌, ℕ, ◌<◌, ◌≤◌, ◌^◌, Bool, true, false, List, ◌∷◌, ◌++◌, length, IsUtf8}
+use Rattle.std.specs.List.{flat_map, list_any, AllByRecursion}
+use Rattle.leaf_model.specs.declared.rows.Value.{Value}
+use Rattle.leaf_model.specs.declared.rows.Value.TheVariants.{Set}
+use Rattle.leaf_model.specs.declared.rows.Cell.{Cell}
+use Rattle.leaf_model.specs.declared.rows.Row.{Row}
+use Rattle.leaf_model.specs.declared.writes.Write.TheVariants.{Add}
+use Rattle.row_records.specs.declared.record_reader.Flush.{Flush}
 use Rattle.leaf_model.specs.declared.writes.Write.{Write}
 use Rattle.leaf_model.specs.Values.{IsWrite}
 use Rattle.row_records.specs.Bytes.{name_bytes, u64_bytes, write_bytes}
 
--- a table's name, and its writes, the first one first
+-- whether its kind allows sets, a table's name, and its writes, the first one first
 pub record LogRecord : Type 0 where
+  pub sets : Bool
   pub name : List ℕ
   pub writes : List Write
 
+-- a record as it is written
+abbrev pub written : List ℕ → List Write → LogRecord
+written name writes = record { sets = true; name = name; writes = writes }
+
+abbrev pub record_kind : Bool → ℕ
+record_kind false = 1
+record_kind true = 2
+
 -- the kind, the table's name, the number of writes, and the writes
 abbrev pub record_body : LogRecord → List ℕ
-record_body r = 1 ∷ (name_bytes r.name ++ u64_bytes (length r.writes) ++ flat_map write_bytes r.writes)
+record_body r = record_kind r.sets ∷ (name_bytes r.name ++ u64_bytes (length r.writes) ++ flat_map write_bytes r.writes)
+
+-- ---- sets in it
+
+abbrev pub is_set : Value → Bool
+is_set (Set members) = true
+is_set other = false
+
+abbrev pub has_set : Write → Bool
+has_set (Add rows) = list_any (λ (row : Row). list_any (λ (c : Cell). is_set c.value) row.cells) rows
+has_set other = false
+
+abbrev pub has_sets : List Write → Bool
+has_sets writes = list_any has_set writes
 
 -- the length of what follows, and that
 abbrev pub record_bytes : LogRecord → List ℕ
 record_bytes r = u64_bytes (length (record_body r)) ++ record_body r
 
--- a name of at most 255 bytes of UTF-8, and one write at least, so long that its numbers fit
+-- a name of at most 255 bytes of UTF-8, and one write at least, so long that its numbers fit; sets where its kind allows them
 pub record IsRecord (r : LogRecord) : Type 0 where
   pub name : IsUtf8 r.name
   pub short : length r.name ≤ 255
   pub some : 0 < length r.writes
   pub count : length r.writes < 2 ^ 64
   pub each : AllByRecursion IsWrite r.writes
+  pub plain : r.sets ≡ false → has_sets r.writes ≡ false
   pub whole : length (record_body r) < 2 ^ 64
 
--- a name and writes as one record
-abbrev pub flush_of : List ℕ × List Write → LogRecord
-flush_of flush = record { name = flush.0; writes = flush.1 }
+-- a name and writes as one record of a kind
+abbrev pub flush_of : Bool → List ℕ × List Write → LogRecord
+flush_of sets flush = record { sets = sets; name = flush.0; writes = flush.1 }
+
+-- the record that was read
+abbrev pub record_is : Flush → LogRecord
+record_is flush = record { sets = flush.sets; name = flush.name; writes = flush.writes }

@@ -10,6 +10,6 @@ mod row_writer;
 
 pub use fault::ReadError;
 pub use pending::Pending;
-pub use record_reader::read_record;
+pub use record_reader::{Flush, read_record};
 pub use row_reader::{name_of, read_rows, rows_in_front, time_of, u8_at, u64_at};
 pub use row_writer::put_rows;

@@ -1,12 +1,20 @@
 // Reading a record: the table's name and its writes.
 ghost use Rattle.std.specs.Prelude.{◌≡◌, IfOk, IfSome, Some, option_map};
-ghost use Rattle.row_records.specs.Records.{LogRecord, IsRecord, record_bytes, flush_of};
-ghost use Rattle.row_records.specs.Reading.{ReadsAs, add_at, write_at, writes_at, flush_at, body_of, record_of};
+ghost use Rattle.row_records.specs.Records.{LogRecord, IsRecord, has_set, has_sets, is_set, record_bytes, record_is};
+ghost use Rattle.row_records.specs.Reading.{ReadsAs, add_at, write_at, writes_at, flush_at, whole_at, body_of, record_of};
 
 use crate::fault::ReadError;
 use crate::row_reader::{name_of, rows_of, time_of, u32_at, u64_at};
-use leaf_model::{Rows, Text, Write, Writes};
+use leaf_model::{Rows, Text, Value, Write, Writes};
 use std::alloc::{AllocError, Global};
+
+/// A record that was read: whether its kind allows sets, its table's name, and its writes.
+#[derive(Debug, Drop)]
+pub struct Flush {
+    pub sets: bool,
+    pub name: Text,
+    pub writes: Writes,
+}
 
 #[tactic(auto, unfolding(crate::specs::Reading::add_at))]
 fn add_of(alloc: Global, bytes: &[u8]) -> Result<(Write, &[u8]), ReadError>
@@ -54,7 +62,7 @@ fn writes_of(alloc: Global, count: u64, bytes: &[u8]) -> Result<(Vec<Write>, &[u
 
 #[tactic(auto, unfolding(crate::specs::Reading::flush_at))]
 fn flush_of(alloc: Global, bytes: &[u8]) -> Result<((Text, Writes), &[u8]), ReadError>
-    ensures { ReadsAs (λ x. (flush_of x.0, x.1.now)) result (flush_at bytes.now) }
+    ensures { ReadsAs (λ x. ((x.0.0, x.0.1), x.1.now)) result (flush_at bytes.now) }
 {
     let (name, rest) = name_of(alloc, bytes)?;
     let (count, rest) = u64_at(rest)?;
@@ -66,25 +74,61 @@ fn flush_of(alloc: Global, bytes: &[u8]) -> Result<((Text, Writes), &[u8]), Read
     Ok(((name, writes), rest))
 }
 
+#[tactic(auto, unfolding(crate::specs::Reading::whole_at))]
+fn whole_of(alloc: Global, sets: bool, bytes: &[u8]) -> Result<Flush, ReadError>
+    ensures { ReadsAs record_is result (whole_at sets bytes.now) }
+{
+    let ((name, writes), rest) = flush_of(alloc, bytes)?;
+    if !rest.is_empty() {
+        return Err(ReadError::Broken);
+    }
+    Ok(Flush { sets, name, writes })
+}
+
+fn is_set(value: &Value) -> bool
+    ensures { result ≡ is_set value.now }
+{
+    match value {
+        Value::Set(_members) => true,
+        Value::Int(_) | Value::Text(_) => false,
+    }
+}
+
+fn has_set(write: &Write) -> bool
+    ensures { result ≡ has_set write.now }
+{
+    match write {
+        Write::Add(rows) => rows.as_slice().iter().any(|row| row.cells.as_slice().iter().any(|cell| is_set(&cell.value))),
+        Write::Expire(_) | Write::Keep(_) => false,
+    }
+}
+
+fn has_sets(writes: &[Write]) -> bool
+    ensures { result ≡ has_sets writes.now }
+{
+    writes.iter().any(|write| has_set(write))
+}
+
 #[tactic(auto, unfolding(crate::specs::Reading::body_of))]
-fn body_of(alloc: Global, bytes: &[u8]) -> Result<(Text, Writes), ReadError>
-    ensures { ReadsAs flush_of result (body_of bytes.now) }
+fn body_of(alloc: Global, bytes: &[u8]) -> Result<Flush, ReadError>
+    ensures { ReadsAs record_is result (body_of bytes.now) }
 {
     match bytes {
         [1, rest @ ..] => {
-            let (flush, rest) = flush_of(alloc, rest)?;
-            if !rest.is_empty() {
+            let record = whole_of(alloc, false, rest)?;
+            if has_sets(record.writes.as_slice()) {
                 return Err(ReadError::Broken);
             }
-            Ok(flush)
+            Ok(record)
         }
+        [2, rest @ ..] => whole_of(alloc, true, rest),
         _ => Err(ReadError::Broken),
     }
 }
 
 #[tactic(auto, unfolding(crate::specs::Reading::record_of))]
-fn record_of(alloc: Global, bytes: &[u8]) -> Result<(Text, Writes), ReadError>
-    ensures { ReadsAs flush_of result (record_of bytes.now) }
+fn record_of(alloc: Global, bytes: &[u8]) -> Result<Flush, ReadError>
+    ensures { ReadsAs record_is result (record_of bytes.now) }
 {
     let (len, rest) = u64_at(bytes)?;
     if len != rest.len() as u64 {
@@ -94,11 +138,11 @@ fn record_of(alloc: Global, bytes: &[u8]) -> Result<(Text, Writes), ReadError>
 }
 
 /// The table and the writes of a record, or nothing where the bytes are no record.
-pub fn read_record(alloc: Global, bytes: &[u8]) -> Result<Option<(Text, Writes)>, AllocError>
+pub fn read_record(alloc: Global, bytes: &[u8]) -> Result<Option<Flush>, AllocError>
     // What is read is spelled so.
-    ensures found { IfOk result (λ found. IfSome found (λ flush. IsRecord (flush_of flush) × (bytes.now ≡ record_bytes (flush_of flush)))) }
+    ensures found { IfOk result (λ found. IfSome found (λ flush. IsRecord (record_is flush) × (bytes.now ≡ record_bytes (record_is flush)))) }
     // What is spelled so is read, unless memory runs out.
-    ensures only { (r : LogRecord) → IsRecord r → bytes.now ≡ record_bytes r → IfOk result (λ found. option_map flush_of found ≡ Some r) }
+    ensures only { (r : LogRecord) → IsRecord r → bytes.now ≡ record_bytes r → IfOk result (λ found. option_map record_is found ≡ Some r) }
 {
     match record_of(alloc, bytes) {
         Ok(flush) => Ok(Some(flush)),

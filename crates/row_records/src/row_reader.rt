@@ -6,10 +6,10 @@ ghost use Rattle.leaf_model.specs.declared.rows.Row.{Row};
 ghost use Rattle.leaf_model.specs.Values.{IsRow};
 ghost use Rattle.row_records.specs.declared.fault.ReadError.TheVariants.{Broken};
 ghost use Rattle.row_records.specs.Bytes.{rows_bytes, StandsInFront};
-ghost use Rattle.row_records.specs.Reading.{ReadsAs, number_at, byte_at, text_at, name_at, time_at, value_at, may_follow, cell_at, cells_at, row_at, rows_at, last_name};
+ghost use Rattle.row_records.specs.Reading.{ReadsAs, number_at, byte_at, text_at, name_at, time_at, long_text_at, texts_at, set_at, value_at, may_follow, cell_at, cells_at, row_at, rows_at, last_name};
 
 use crate::fault::ReadError;
-use leaf_model::{Cell, Cells, Row, Text, Value};
+use leaf_model::{Cell, Cells, Row, Text, Texts, Value};
 use std::alloc::{AllocError, Global};
 
 /// The rows at the front of the bytes, and how many bytes they take; nothing where so many rows do not stand there.
@@ -119,6 +119,42 @@ pub fn time_of(bytes: &[u8]) -> Result<(i64, &[u8]), ReadError>
     Ok((number as i64, rest))
 }
 
+/// A text behind its length.
+#[tactic(auto, unfolding(crate::specs::Reading::long_text_at))]
+fn long_text_of(alloc: Global, bytes: &[u8]) -> Result<(Text, &[u8]), ReadError>
+    ensures { ReadsAs (λ x. (x.0, x.1.now)) result (long_text_at bytes.now) }
+{
+    let (len, rest) = u16_at(bytes)?;
+    text_of(alloc, len as usize, rest)
+}
+
+fn texts_of(alloc: Global, count: u16, bytes: &[u8]) -> Result<(Vec<Text>, &[u8]), ReadError>
+    ensures { ReadsAs (λ x. (x.0.items, x.1.now)) result (texts_at count bytes.now) }
+{
+    let mut texts = Vec::new(alloc);
+    let mut rest = bytes;
+    for _ in 0..count {
+        let (text, after) = long_text_of(alloc, rest)?;
+        texts.push(text)?;
+        rest = after;
+    }
+    Ok((texts, rest))
+}
+
+/// The texts of a set behind their number.
+#[tactic(auto, unfolding(crate::specs::Reading::set_at))]
+fn set_of(alloc: Global, bytes: &[u8]) -> Result<(Texts, &[u8]), ReadError>
+    ensures { ReadsAs (λ x. (x.0, x.1.now)) result (set_at bytes.now) }
+{
+    let (count, rest) = u16_at(bytes)?;
+    let (texts, rest) = texts_of(alloc, count, rest)?;
+    let texts = Texts::of(texts);
+    if !texts.is_set() {
+        return Err(ReadError::Broken);
+    }
+    Ok((texts, rest))
+}
+
 #[tactic(auto, unfolding(crate::specs::Reading::value_at))]
 fn value_of(alloc: Global, bytes: &[u8]) -> Result<(Value, &[u8]), ReadError>
     ensures { ReadsAs (λ x. (x.0, x.1.now)) result (value_at bytes.now) }
@@ -129,9 +165,12 @@ fn value_of(alloc: Global, bytes: &[u8]) -> Result<(Value, &[u8]), ReadError>
             Ok((Value::Int(number.cast_signed()), rest))
         }
         [2, rest @ ..] => {
-            let (len, rest) = u16_at(rest)?;
-            let (text, rest) = text_of(alloc, len as usize, rest)?;
+            let (text, rest) = long_text_of(alloc, rest)?;
             Ok((Value::Text(text), rest))
+        }
+        [3, rest @ ..] => {
+            let (members, rest) = set_of(alloc, rest)?;
+            Ok((Value::Set(members), rest))
         }
         _ => Err(ReadError::Broken),
     }

@@ -1,10 +1,10 @@
 // Rows as bytes, at the end of what was written before.
 ghost use Rattle.std.specs.Prelude.{◌≡◌, ◌≤◌, ◌++◌, length, OnOk, OnErr};
 ghost use Rattle.std.specs.List.{flat_map, AllByRecursion};
-ghost use Rattle.leaf_model.specs.Values.{IsValue, IsCell, IsRow};
-ghost use Rattle.row_records.specs.Bytes.{name_bytes, value_bytes, cell_bytes, row_bytes, rows_bytes, i64_bytes, u16_bytes, BeginsWith};
+ghost use Rattle.leaf_model.specs.Values.{IsSet, IsValue, IsCell, IsRow};
+ghost use Rattle.row_records.specs.Bytes.{name_bytes, text_bytes, value_bytes, cell_bytes, row_bytes, rows_bytes, i64_bytes, u16_bytes, BeginsWith};
 
-use leaf_model::{Cell, Row, Value};
+use leaf_model::{Cell, Row, Text, Value};
 use std::alloc::AllocError;
 
 /// Puts the rows' bytes at the end.
@@ -30,6 +30,36 @@ pub(crate) fn put_name(out: &mut Vec<u8>, name: &str) -> Result<(), AllocError>
     out.extend_from_slice(name.as_bytes())
 }
 
+fn put_text(out: &mut Vec<u8>, text: &str) -> Result<(), AllocError>
+    requires { length text.now ≤ 65535 }
+    ensures put { OnOk result (out.new.items ≡ out.old.items ++ text_bytes text.now) }
+    ensures begins { OnErr result (BeginsWith out.old.items out.new.items) }
+{
+    out.extend_from_slice(&(text.len() as u16).to_le_bytes())?;
+    out.extend_from_slice(text.as_bytes())
+}
+
+fn put_texts(out: &mut Vec<u8>, texts: &[Text]) -> Result<(), AllocError>
+    requires { AllByRecursion (λ text. length text ≤ 65535) texts.now }
+    ensures put { OnOk result (out.new.items ≡ out.old.items ++ flat_map text_bytes texts.now) }
+    ensures begins { OnErr result (BeginsWith out.old.items out.new.items) }
+{
+    for text in texts {
+        put_text(out, text.as_str())?;
+    }
+    Ok(())
+}
+
+#[tactic(auto, using(crate::proofs::Sets::each_short))]
+fn put_set(out: &mut Vec<u8>, members: &[Text]) -> Result<(), AllocError>
+    requires { IsSet members.now }
+    ensures put { OnOk result (out.new.items ≡ out.old.items ++ (u16_bytes (length members.now) ++ flat_map text_bytes members.now)) }
+    ensures begins { OnErr result (BeginsWith out.old.items out.new.items) }
+{
+    out.extend_from_slice(&(members.len() as u16).to_le_bytes())?;
+    put_texts(out, members)
+}
+
 fn put_value(out: &mut Vec<u8>, value: &Value) -> Result<(), AllocError>
     requires { IsValue value.now }
     ensures put { OnOk result (out.new.items ≡ out.old.items ++ value_bytes value.now) }
@@ -42,8 +72,11 @@ fn put_value(out: &mut Vec<u8>, value: &Value) -> Result<(), AllocError>
         }
         Value::Text(text) => {
             out.push(2)?;
-            out.extend_from_slice(&(text.as_str().len() as u16).to_le_bytes())?;
-            out.extend_from_slice(text.as_str().as_bytes())
+            put_text(out, text.as_str())
+        }
+        Value::Set(members) => {
+            out.push(3)?;
+            put_set(out, members.as_slice())
         }
     }
 }

@@ -10,7 +10,7 @@ is_made c =
     let front = c.in_ok-bytes.bytes.items in
     let n = length-lent texts in
     let few = c.requires.few in
-    made (lent texts) front c.put_texts.new.out.items (omega (arith, n)) c.requires.texts
+    made (lent texts) front c.put_texts.new.out.items (omega (arith, n)) c.requires.small c.requires.texts
     (c.in_ok-bytes.ensures.len ∙ ap (λ m. 4 + 4 * m) (sym n))
     (c.in_ok-bytes.ensures.count ∙ sym n)
     (λ k h. c.in_ok-bytes.ensures.ends k (omega (arith, n))) c.in_ok-put_texts.ensures

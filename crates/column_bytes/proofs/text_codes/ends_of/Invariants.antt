@@ -1,4 +1,4 @@
-use Rattle.std.proofs.Common.{◌≡◌, ℕ, ◌+◌, ◌*◌, ◌<◌, ◌≤◌, length}
+use Rattle.std.proofs.Common.{◌≡◌, ℕ, ◌+◌, ◌*◌, ◌<◌, length}
 use Rattle.column_bytes.specs.Fields.{u32_at}
 use Rattle.column_bytes.specs.Dictionary.{lent}
 use Rattle.column_bytes.specs.Coding.{end_at}
@@ -9,6 +9,6 @@ invariant-loop-text l = record {
   len : length l.bytes.items ≡ 4 + 4 * l.text-index;
   count : u32_at l.bytes.items 0 ≡ length l.texts;
   end_is : l.end ≡ end_at (lent l.texts) l.text-index;
-  small : l.end ≤ 65535 * l.text-index;
+  small : l.end < 4294967296;
   ends : (k : ℕ) → k < l.text-index → u32_at l.bytes.items (4 + 4 * k) ≡ end_at (lent l.texts) (k + 1);
 }

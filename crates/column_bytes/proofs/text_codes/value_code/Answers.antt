@@ -1,4 +1,4 @@
-use Rattle.std.proofs.Common.{sym, subst, ap}
+use Rattle.std.proofs.Common.{List, ℕ, ◌≤◌, length, sym, subst}
 use Rattle.column_bytes.specs.declared.kind.Kind.TheVariants as kinds
 use Rattle.column_bytes.specs.Cells.{value_of}
 use Rattle.column_bytes.specs.Coding.{IsOfKind}
@@ -8,5 +8,6 @@ use Rattle.column_bytes.proofs.text_codes.value_code.Goals as goal
 
 pub returns-clause-texts : goal.returns-clause-texts
 returns-clause-texts c =
-    let short = subst (IsOfKind kinds.Texts) (ap value_of c.in-Text.is) c.requires in
-    λ are. subst AreTexts (sym c.in_ok-code-in-Text.ensures.texts) (texts_with c.args.set.now c.in-Text.text.now are (record { utf8 = c.code_of.ensures.utf8; short = short }))
+    let text = c.as_str.result.now in
+    let short = subst (λ (t : List ℕ). length t ≤ 65535) (sym c.as_str.ensures) (subst (IsOfKind kinds.Texts) c.in-Text.is c.requires) in
+    λ are. subst AreTexts (sym c.in_ok-code-in-Text.ensures.texts) (texts_with c.args.set.now text are (record { utf8 = c.code_of.ensures.utf8; short = short }))

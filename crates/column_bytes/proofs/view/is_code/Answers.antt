@@ -1,5 +1,6 @@
 use Rattle.std.proofs.Common.{rules, ◌<◌, sym, ◌∙◌, arith, tests}
 use Rattle.column_bytes.proofs.Parts.{length-texts}
+use Rattle.column_bytes.proofs.SetParts.{length-sets}
 use Rattle.column_bytes.proofs.view.is_code.Goals as goal
 
 pub returns-in-Dictionary : goal.returns-in-Dictionary
@@ -8,4 +9,12 @@ returns-in-Dictionary c =
     rw c.in-Dictionary.is (
       λ h. let below : c.args.code < c.from.result = search (rules, tests) in omega arith,
       λ h. let below : c.args.code < c.from.result = omega arith in search (rules, tests),
+    )
+
+pub returns-in-Sets : goal.returns-in-Sets
+returns-in-Sets c =
+    let e = c.from-in-Sets.ensures ∙ c.set_count.ensures ∙ sym (length-sets c.args.extra.now) in
+    rw c.in-Sets.is (
+      λ h. let below : c.args.code < c.from-in-Sets.result = search (rules, tests) in omega arith,
+      λ h. let below : c.args.code < c.from-in-Sets.result = omega arith in search (rules, tests),
     )

@@ -1,7 +1,7 @@
 use Rattle.std.proofs.Common.{◌≡◌, ℕ, List, false, length, slice_index, slice_index_or, IfSome, sym, subst, ap, ap₂, ◌∙◌, arith}
 use Rattle.bit_columns.specs.Bits.{codes}
-use Rattle.column_bytes.specs.Cells.{Coded, AreCodes, IsCode, entries, text_cells, there}
-use Rattle.column_bytes.proofs.Parts.{length-codes, cells-from_texts, below-from_texts}
+use Rattle.column_bytes.specs.Cells.{Coded, AreCodes, IsCode, entries, entry_cells, there}
+use Rattle.column_bytes.proofs.Parts.{length-codes, cells-from_entries, below-from_entries}
 use Rattle.column_bytes.proofs.view.ColumnView.codes.Goals as goal
 
 pub fill-requires : goal.fill-requires
@@ -31,7 +31,7 @@ returns-clause-cells c =
     = c.fill_present.ensures ∙ ap (there inside.presence) sized ∙ ap (λ (v : Coded). v.present) c.self.view_is in
     let list : c.fill.new.out ≡ coded.codes
     = c.fill.ensures ∙ ap (codes inside.packed.bytes inside.packed.width) c.self.invariant.codes ∙ ap (λ (v : Coded). v.codes) c.self.view_is in
-    cells-from_texts coded c.requires.kind ∙ ap₂ (text_cells (entries coded.book)) (sym present) (sym list)
+    cells-from_entries coded c.requires.kind (subst AreCodes c.self.view_is c.self.invariant.each) ∙ ap₂ (entry_cells (entries coded.book)) (sym present) (sym list)
 
 pub returns-clause-below : goal.returns-clause-below
 returns-clause-below c = λ i h there_is.
@@ -45,4 +45,4 @@ returns-clause-below c = λ i h there_is.
     = c.fill.ensures ∙ ap (codes inside.packed.bytes inside.packed.width) c.self.invariant.codes ∙ ap (λ (v : Coded). v.codes) c.self.view_is in
     let are : AreCodes coded = subst AreCodes c.self.view_is c.self.invariant.each in
     let code = are i h (ap (λ p. slice_index_or p i false) (sym present) ∙ there_is) in
-    below-from_texts coded.book (slice_index c.fill.new.out i) c.requires.kind (subst (λ (xs : List ℕ). IsCode coded.book (slice_index xs i)) (sym list) code)
+    below-from_entries coded.book (slice_index c.fill.new.out i) c.requires.kind (subst (λ (xs : List ℕ). IsCode coded.book (slice_index xs i)) (sym list) code)

@@ -1,0 +1,19 @@
+use Rattle.std.proofs.Common.{◌≡◌, ℕ, ◌*◌, ◌<◌, ◌≤◌, [], length, Some, None, slice_index, slice_index_or}
+use Rattle.leaf_model.specs.Values.{bytes_in}
+use Rattle.leaf_model.specs.declared.rows.Value.{Value}
+use Rattle.leaf_model.specs.declared.rows.Value.TheVariants.{Set}
+use Rattle.column_bytes.specs.Cells.{values_of}
+use Rattle.column_bytes.specs.Dictionary.{texts_by}
+use Rattle.column_bytes.specs.Sets.{AreSetCodes}
+use Rattle.column_bytes.proofs.set_codes.cell_codes.Given as goal
+
+abbrev pub invariant-loop-cell : goal.invariant-loop-cell
+invariant-loop-cell l = record {
+  held : AreSetCodes l.texts l.sets;
+  few : length l.sets ≤ l.cell-index;
+  few_texts : length l.texts ≤ 1024 * l.cell-index;
+  bytes : bytes_in l.texts ≤ 65535 * l.cell-index;
+  same : length l.codes.items ≡ l.cell-index;
+  each : (k : ℕ) → k < l.cell-index → (value : Value) → slice_index_or (values_of l.cells) k None ≡ Some value
+      → (slice_index l.codes.items k < length l.sets) × (value ≡ Set (texts_by l.texts (slice_index_or l.sets (slice_index l.codes.items k) [])));
+}
