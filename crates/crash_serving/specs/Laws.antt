@@ -1,7 +1,7 @@
 -- Laws of a leaf that serves or shuts its tables, as statements.
 use Rattle.std.specs.Prelude.{◌≡◌, ℕ, ◌≤◌, true, false, List, [], ◌∷◌, ◌++◌, length, slice_get, slice_set, Option, Some, None, IfSome, IsSome, Result, OnOk, OnErr}
 use Rattle.leaf_model.specs.declared.writes.Write.{Write}
-use Rattle.row_records.specs.Records.{LogRecord, IsRecord}
+use Rattle.row_records.specs.Records.{LogRecord, IsRecord, new_record}
 use Rattle.berth_face.specs.Berth.{Meaning}
 use Rattle.leaf_history.specs.Calls as call
 use Rattle.leaf_history.specs.Replies as reply
@@ -31,7 +31,7 @@ pub record Settles {T E : Type 0} (ws : List Watched) (owner : ℕ) (log log' : 
 -- the record of these writes of a name: none where there are none
 abbrev pub record_for : List ℕ → List Write → Option LogRecord
 record_for name [] = None
-record_for name (w ∷ ws) = Some (record { name = name; writes = w ∷ ws })
+record_for name (w ∷ ws) = Some (new_record name (w ∷ ws))
 
 -- a log that was owed nothing is owed the record of what was not taken of the table, of which nothing is on the disk
 pub record Owes (pending : Option LogRecord) (log log' : LogState) : Type 0 where

@@ -11,7 +11,7 @@ use Rattle.leaf_history.specs.Calls as call
 use Rattle.leaf_history.specs.Replies.{Reply}
 use Rattle.leaf_history.specs.Replies as reply
 use Rattle.leaf_history.specs.History.{Entry, HistoryState, base_of, no_base, LegalFrom, OpenAllowed, after, after_entry, held, untaken, write_count}
-use Rattle.row_records.specs.Records.{LogRecord}
+use Rattle.row_records.specs.Records.{LogRecord, new_record}
 use Rattle.table_state.specs.Tables.{Table}
 use Rattle.group_table.specs.Joined.{IsWithin}
 use Rattle.leaf_table.specs.declared.base.TableBase.{TableBase}
@@ -89,7 +89,7 @@ history h = map told h
 -- the record of a table's writes: none where there are no writes
 abbrev pub record_for : List ℕ → List Write → Option LogRecord
 record_for name [] = None
-record_for name (w ∷ ws) = Some (record { name = name; writes = w ∷ ws })
+record_for name (w ∷ ws) = Some (new_record name (w ∷ ws))
 
 -- the record of the writes of a table that were not taken
 abbrev pub untaken_record : List ℕ → HistoryState → Option LogRecord

@@ -5,7 +5,7 @@ use Rattle.std.proofs.lemmas.List.{take_at, drop_at, append-nil}
 use Rattle.std.proofs.lemmas.List.Concat.{flat_map-cons, flat_map-append}
 use Rattle.leaf_model.specs.declared.writes.Write.{Write}
 use Rattle.row_records.specs.Bytes.{u64_bytes, name_bytes, write_bytes}
-use Rattle.row_records.specs.Records.{LogRecord, record_body, record_bytes}
+use Rattle.row_records.specs.Records.{LogRecord, record_body, record_bytes, record_kind}
 use Rattle.row_records.specs.Pending.{pending_bytes, with_write}
 
 -- other bytes in the place of some
@@ -24,12 +24,12 @@ renumbered bytes len head number writes once n name_len count is ll lh ln first 
     patched (u64_bytes n ++ head) number writes (u64_bytes count) (name_len + 10) once (one ∙ sym (append_assoc (u64_bytes n) head (number ++ writes))) (omega (arith, lh, length-append (u64_bytes n) head)) ln
 
 -- the fields of a record, one after another
-fields : (len name number writes rest : List ℕ) → (len ++ (1 ∷ ((name ++ number) ++ writes))) ++ rest ≡ len ++ ((1 ∷ name) ++ (number ++ (writes ++ rest)))
-fields len name number writes rest =
-    append_assoc len (1 ∷ ((name ++ number) ++ writes)) rest ∙ ap (λ (w : List ℕ). len ++ (1 ∷ w)) (append_assoc (name ++ number) writes rest ∙ append_assoc name number (writes ++ rest))
+fields : (kind : ℕ) (len name number writes rest : List ℕ) → (len ++ (kind ∷ ((name ++ number) ++ writes))) ++ rest ≡ len ++ ((kind ∷ name) ++ (number ++ (writes ++ rest)))
+fields kind len name number writes rest =
+    append_assoc len (kind ∷ ((name ++ number) ++ writes)) rest ∙ ap (λ (w : List ℕ). len ++ (kind ∷ w)) (append_assoc (name ++ number) writes rest ∙ append_assoc name number (writes ++ rest))
 
-pub fields_of : (r : LogRecord) (rest : List ℕ) → record_bytes r ++ rest ≡ u64_bytes (length (record_body r)) ++ ((1 ∷ name_bytes r.name) ++ (u64_bytes (length r.writes) ++ (flat_map write_bytes r.writes ++ rest)))
-fields_of r rest = fields (u64_bytes (length (record_body r))) (name_bytes r.name) (u64_bytes (length r.writes)) (flat_map write_bytes r.writes) rest
+pub fields_of : (r : LogRecord) (rest : List ℕ) → record_bytes r ++ rest ≡ u64_bytes (length (record_body r)) ++ ((record_kind r.sets ∷ name_bytes r.name) ++ (u64_bytes (length r.writes) ++ (flat_map write_bytes r.writes ++ rest)))
+fields_of r rest = fields (record_kind r.sets) (u64_bytes (length (record_body r))) (name_bytes r.name) (u64_bytes (length r.writes)) (flat_map write_bytes r.writes) rest
 
 one_more : (writes : List Write) (write : Write) → flat_map write_bytes writes ++ write_bytes write ≡ flat_map write_bytes (writes ++ write ∷ [])
 one_more writes write =
@@ -54,15 +54,15 @@ grown r write =
     )
 
 pub pushed : (r : LogRecord) (write : Write) (k count : ℕ) → k ≡ length (record_body (with_write write r)) → count ≡ length r.writes + 1
-    → u64_bytes k ++ ((1 ∷ name_bytes r.name) ++ (u64_bytes count ++ (flat_map write_bytes r.writes ++ (write_bytes write ++ 0 ∷ [])))) ≡ pending_bytes (Some (with_write write r))
+    → u64_bytes k ++ ((record_kind r.sets ∷ name_bytes r.name) ++ (u64_bytes count ++ (flat_map write_bytes r.writes ++ (write_bytes write ++ 0 ∷ [])))) ≡ pending_bytes (Some (with_write write r))
 pushed r write k count size number =
     let name = name_bytes r.name in
     let writes = flat_map write_bytes r.writes in
     let joined : writes ++ (write_bytes write ++ 0 ∷ []) ≡ flat_map write_bytes (r.writes ++ write ∷ []) ++ 0 ∷ [] = sym (append_assoc writes (write_bytes write) (0 ∷ [])) ∙ ap (λ (w : List ℕ). w ++ 0 ∷ []) (one_more r.writes write) in
     let counted : count ≡ length (r.writes ++ write ∷ []) = omega (arith, number, length-append r.writes (write ∷ [])) in
-    ap (λ (w : List ℕ). u64_bytes k ++ ((1 ∷ name) ++ (u64_bytes count ++ w))) joined
-    ∙ ap (λ (m : ℕ). u64_bytes k ++ ((1 ∷ name) ++ (u64_bytes m ++ (flat_map write_bytes (r.writes ++ write ∷ []) ++ 0 ∷ [])))) counted
-    ∙ ap (λ (m : ℕ). u64_bytes m ++ ((1 ∷ name) ++ (u64_bytes (length (r.writes ++ write ∷ [])) ++ (flat_map write_bytes (r.writes ++ write ∷ []) ++ 0 ∷ [])))) size
+    ap (λ (w : List ℕ). u64_bytes k ++ ((record_kind r.sets ∷ name) ++ (u64_bytes count ++ w))) joined
+    ∙ ap (λ (m : ℕ). u64_bytes k ++ ((record_kind r.sets ∷ name) ++ (u64_bytes m ++ (flat_map write_bytes (r.writes ++ write ∷ []) ++ 0 ∷ [])))) counted
+    ∙ ap (λ (m : ℕ). u64_bytes m ++ ((record_kind r.sets ∷ name) ++ (u64_bytes (length (r.writes ++ write ∷ [])) ++ (flat_map write_bytes (r.writes ++ write ∷ []) ++ 0 ∷ [])))) size
     ∙ sym (fields_of (with_write write r) (0 ∷ []))
 
 -- all but the gate

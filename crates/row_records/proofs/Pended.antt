@@ -1,7 +1,8 @@
 -- What the bytes of a pending record hold, before and after a push.
-use Rattle.std.proofs.Common.{◌≡◌, ℕ, ◌+◌, ◌-◌, ◌^◌, ◌≤◌, ◌<◌, List, [], ◌∷◌, ◌++◌, length, take, Option, Some, None, refl, sym, ap, subst, ◌∙◌, length-append, arith}
+use Rattle.std.proofs.Common.{◌≡◌, ℕ, ◌+◌, ◌-◌, ◌^◌, ◌≤◌, ◌<◌, List, [], ◌∷◌, ◌++◌, length, take, Option, Some, None, true, refl, sym, ap, subst, ◌∙◌, length-append, arith}
 use Rattle.std.specs.Prelude.{IfSome, IsSome, IsUtf8}
 use Rattle.std.specs.List.{flat_map, AllByRecursion}
+use Rattle.std.proofs.lemmas.Bool.{false≢true}
 use Rattle.std.proofs.lemmas.List.Concat.{flat_map-cons}
 use Rattle.leaf_model.specs.declared.writes.Write.{Write}
 use Rattle.leaf_model.specs.declared.writes.Write.TheVariants.{Add, Expire, Keep}
@@ -9,7 +10,7 @@ use Rattle.row_records.specs.Bytes.{u64_bytes, name_bytes, write_bytes, IsBytes}
 use Rattle.leaf_model.specs.Values.{IsWrite}
 use Rattle.row_records.specs.Records.{LogRecord, IsRecord, record_body, record_bytes}
 use Rattle.row_records.specs.Reading.{record_of}
-use Rattle.row_records.specs.Pending.{pending_bytes, pending_count, pending_of, with_write, with_push}
+use Rattle.row_records.specs.Pending.{allows_sets, pending_bytes, pending_count, pending_of, with_write, with_push}
 use Rattle.row_records.proofs.Fields.{IsBytes-take}
 use Rattle.row_records.proofs.Records.{record_found, record_again}
 use Rattle.row_records.proofs.Growing.{ungated, fields_of}
@@ -51,11 +52,16 @@ pub room : (o : Option LogRecord) (bytes name : List ℕ) → IsSome o → IfSom
 room None bytes name some same e = absurd cc
 room (Some r) bytes name some same e = omega (arith, size r, ap length e, ap length same)
 
-short_record : (name : List ℕ) (writes : List Write) → IsUtf8 name → length name ≤ 255 → 0 < length writes → AllByRecursion IsWrite writes
-    → length (pending_bytes (Some (record { name = name; writes = writes }))) < 2 ^ 63 → IsRecord (record { name = name; writes = writes })
-short_record name writes utf8 short some each lt =
-    let r : LogRecord = record { name = name; writes = writes } in
-    record { name = utf8; short = short; some = some; count = omega (arith, writes_fit writes, size r, lt); each = each; whole = omega (arith, body_size r, size r, lt) }
+short_record : (r : LogRecord) → r.sets ≡ true → IsUtf8 r.name → length r.name ≤ 255 → 0 < length r.writes → AllByRecursion IsWrite r.writes → length (pending_bytes (Some r)) < 2 ^ 63 → IsRecord r
+short_record r kind utf8 short some each lt = record {
+  name = utf8;
+  short = short;
+  some = some;
+  count = omega (arith, writes_fit r.writes, size r, lt);
+  each = each;
+  plain = λ none. absurd (false≢true (sym none ∙ kind));
+  whole = omega (arith, body_size r, size r, lt);
+}
 
 all_more : (writes : List Write) (write : Write) → AllByRecursion IsWrite writes → IsWrite write → AllByRecursion IsWrite (writes ++ write ∷ [])
 all_more [] write each is = (is, tt)
@@ -66,26 +72,29 @@ pub record Pushed (r : LogRecord) (count : ℕ) (new : List ℕ) : Type 0 where
   pub of : pending_of new ≡ Some r
   pub whole : new ≡ pending_bytes (pending_of new)
   pub counted : count ≡ pending_count (pending_of new)
+  pub kind : allows_sets (pending_of new) ≡ true
 
-made : (r : LogRecord) (count : ℕ) (new : List ℕ) → IsRecord r → count ≡ length r.writes → new ≡ pending_bytes (Some r) → Pushed r count new
-made r count new is number e =
+made : (r : LogRecord) (count : ℕ) (new : List ℕ) → r.sets ≡ true → IsRecord r → count ≡ length r.writes → new ≡ pending_bytes (Some r) → Pushed r count new
+made r count new kind is number e =
     let of = held_by r new is e in
-    record { of = of; whole = e ∙ ap pending_bytes (sym of); counted = number ∙ ap pending_count (sym of) }
+    record { of = of; whole = e ∙ ap pending_bytes (sym of); counted = number ∙ ap pending_count (sym of); kind = ap allows_sets of ∙ kind }
 
 pub begun : (name new : List ℕ) (write : Write) → IsUtf8 name → length name ≤ 255 → IsWrite write → length new < 2 ^ 63
     → new ≡ pending_bytes (Some (with_push name write None)) → Pushed (with_push name write None) 1 new
-begun name new write utf8 short is lt e = made (with_push name write None) 1 new (short_record name (write ∷ []) utf8 short (omega arith) (is, tt) (subst (λ (l : List ℕ). length l < 2 ^ 63) e lt)) refl e
+begun name new write utf8 short is lt e =
+    let r = with_push name write None in
+    made r 1 new refl (short_record r refl utf8 short (omega arith) (is, tt) (subst (λ (l : List ℕ). length l < 2 ^ 63) e lt)) refl e
 
-pub gone_on : (o : Option LogRecord) (name bytes new : List ℕ) (count : ℕ) (write : Write) → IsBytes bytes → IsSome o → IfSome o (λ r. r.name ≡ name) → IsWrite write → length new < 2 ^ 63
+pub gone_on : (o : Option LogRecord) (name bytes new : List ℕ) (count : ℕ) (write : Write) → IsBytes bytes → IsSome o → IfSome o (λ r. r.name ≡ name) → allows_sets o ≡ true → IsWrite write → length new < 2 ^ 63
     → pending_of bytes ≡ o → bytes ≡ pending_bytes o → count ≡ pending_count o
     → ((r : LogRecord) → bytes ≡ pending_bytes (Some r) → length name ≡ length r.name → count + 1 ≡ length r.writes + 1 → new ≡ pending_bytes (Some (with_write write r)))
     → Pushed (with_push name write o) (count + 1) new
-gone_on None name bytes new count write fits some same is lt of whole counted adds = absurd cc
-gone_on (Some r) name bytes new count write fits some same is lt of whole counted adds =
+gone_on None name bytes new count write fits some same kind is lt of whole counted adds = absurd cc
+gone_on (Some r) name bytes new count write fits some same kind is lt of whole counted adds =
     let old = held_record r bytes fits of in
     let e = adds r whole (sym (ap length same)) (omega (arith, counted)) in
     let more = length-append r.writes (write ∷ []) in
-    made (with_write write r) (count + 1) new (short_record r.name (r.writes ++ write ∷ []) old.name old.short (omega (arith, more)) (all_more r.writes write old.each is) (subst (λ (l : List ℕ). length l < 2 ^ 63) e lt)) (omega (arith, more, counted)) e
+    made (with_write write r) (count + 1) new kind (short_record (with_write write r) kind old.name old.short (omega (arith, more)) (all_more r.writes write old.each is) (subst (λ (l : List ℕ). length l < 2 ^ 63) e lt)) (omega (arith, more, counted)) e
 
 pub nothing_held : pending_of [] ≡ None
 unfolding record_of

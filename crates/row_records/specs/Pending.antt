@@ -1,13 +1,18 @@
 -- The record that is gathered of a table's writes.
-use Rattle.std.specs.Prelude.{ℕ, ◌-◌, List, [], ◌∷◌, ◌++◌, length, take, Option, Some, None}
+use Rattle.std.specs.Prelude.{ℕ, ◌-◌, Bool, true, List, [], ◌∷◌, ◌++◌, length, take, Option, Some, None}
 use Rattle.leaf_model.specs.declared.writes.Write.{Write}
-use Rattle.row_records.specs.Records.{LogRecord, record_bytes, written}
+use Rattle.row_records.specs.Records.{LogRecord, new_record, record_bytes}
 use Rattle.row_records.specs.Reading.{record_of}
 
 -- a whole record with a closed gate after it, or nothing
 abbrev pub pending_bytes : Option LogRecord → List ℕ
 pending_bytes None = []
 pending_bytes (Some r) = record_bytes r ++ 0 ∷ []
+
+-- whether its kind allows sets, where there is one
+abbrev pub allows_sets : Option LogRecord → Bool
+allows_sets None = true
+allows_sets (Some r) = r.sets
 
 -- how many writes are gathered
 abbrev pub pending_count : Option LogRecord → ℕ
@@ -24,5 +29,5 @@ with_write write r = record r { writes = r.writes ++ write ∷ [] }
 
 -- one push: the first makes the record
 abbrev pub with_push : List ℕ → Write → Option LogRecord → LogRecord
-with_push table write None = written table (write ∷ [])
+with_push table write None = new_record table (write ∷ [])
 with_push table write (Some r) = with_write write r

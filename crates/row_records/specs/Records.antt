@@ -6,9 +6,9 @@ use Rattle.leaf_model.specs.declared.rows.Value.TheVariants.{Set}
 use Rattle.leaf_model.specs.declared.rows.Cell.{Cell}
 use Rattle.leaf_model.specs.declared.rows.Row.{Row}
 use Rattle.leaf_model.specs.declared.writes.Write.TheVariants.{Add}
-use Rattle.row_records.specs.declared.record_reader.Flush.{Flush}
 use Rattle.leaf_model.specs.declared.writes.Write.{Write}
 use Rattle.leaf_model.specs.Values.{IsWrite}
+use Rattle.row_records.specs.declared.record_reader.Flush.{Flush}
 use Rattle.row_records.specs.Bytes.{name_bytes, u64_bytes, write_bytes}
 
 -- whether its kind allows sets, a table's name, and its writes, the first one first
@@ -17,10 +17,11 @@ pub record LogRecord : Type 0 where
   pub name : List ℕ
   pub writes : List Write
 
--- a record as it is written
-abbrev pub written : List ℕ → List Write → LogRecord
-written name writes = record { sets = true; name = name; writes = writes }
+-- the record that is written of a table and its writes
+abbrev pub new_record : List ℕ → List Write → LogRecord
+new_record name writes = record { sets = true; name = name; writes = writes }
 
+-- the number of a record's kind: 2 allows sets
 abbrev pub record_kind : Bool → ℕ
 record_kind false = 1
 record_kind true = 2
@@ -31,14 +32,21 @@ record_body r = record_kind r.sets ∷ (name_bytes r.name ++ u64_bytes (length r
 
 -- ---- sets in it
 
-abbrev pub is_set : Value → Bool
-is_set (Set members) = true
-is_set other = false
+-- whether a value is a set
+abbrev pub is_set_value : Value → Bool
+is_set_value (Set members) = true
+is_set_value other = false
 
+-- whether a cell of a row holds a set
+abbrev pub row_has_set : Row → Bool
+row_has_set row = list_any (λ (c : Cell). is_set_value c.value) row.cells
+
+-- whether a write adds a row with one
 abbrev pub has_set : Write → Bool
-has_set (Add rows) = list_any (λ (row : Row). list_any (λ (c : Cell). is_set c.value) row.cells) rows
+has_set (Add rows) = list_any row_has_set rows
 has_set other = false
 
+-- whether one of some writes does
 abbrev pub has_sets : List Write → Bool
 has_sets writes = list_any has_set writes
 

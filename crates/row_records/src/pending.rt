@@ -1,8 +1,8 @@
-ghost use Rattle.std.specs.Prelude.{◌≡◌, ◌≤◌, length, Option, Some, None, OnOk, OnErr, IfSome, IsSome};
+ghost use Rattle.std.specs.Prelude.{◌≡◌, ◌≤◌, length, Option, Some, None, true, OnOk, OnErr, IfSome, IsSome};
 ghost use Rattle.leaf_model.specs.Values.{IsWrite};
 ghost use Rattle.row_records.specs.Bytes.{IsBytes};
 ghost use Rattle.row_records.specs.Records.{IsRecord};
-ghost use Rattle.row_records.specs.Pending.{pending_bytes, pending_count, pending_of, with_push};
+ghost use Rattle.row_records.specs.Pending.{allows_sets, pending_bytes, pending_count, pending_of, with_push};
 
 use crate::record_writer::{add_write, first_record};
 use leaf_model::{Text, Write};
@@ -16,6 +16,7 @@ pub struct Pending {
     count: u64,
     ghost whole: { bytes.items ≡ pending_bytes (pending_of bytes.items) },
     ghost counted: { count ≡ pending_count (pending_of bytes.items) },
+    ghost kind: { allows_sets (pending_of bytes.items) ≡ true },
 }
 
 impl Model for Pending {

@@ -1,11 +1,12 @@
 // Reading a record: the table's name and its writes.
 ghost use Rattle.std.specs.Prelude.{◌≡◌, IfOk, IfSome, Some, option_map};
-ghost use Rattle.row_records.specs.Records.{LogRecord, IsRecord, has_set, has_sets, is_set, record_bytes, record_is};
+ghost use Rattle.std.specs.List.{list_any};
+ghost use Rattle.row_records.specs.Records.{LogRecord, IsRecord, has_set, has_sets, is_set_value, record_bytes, record_is, row_has_set};
 ghost use Rattle.row_records.specs.Reading.{ReadsAs, add_at, write_at, writes_at, flush_at, whole_at, body_of, record_of};
 
 use crate::fault::ReadError;
 use crate::row_reader::{name_of, rows_of, time_of, u32_at, u64_at};
-use leaf_model::{Rows, Text, Value, Write, Writes};
+use leaf_model::{Row, Rows, Text, Value, Write, Writes};
 use std::alloc::{AllocError, Global};
 
 /// A record that was read: whether its kind allows sets, its table's name, and its writes.
@@ -85,8 +86,8 @@ fn whole_of(alloc: Global, sets: bool, bytes: &[u8]) -> Result<Flush, ReadError>
     Ok(Flush { sets, name, writes })
 }
 
-fn is_set(value: &Value) -> bool
-    ensures { result ≡ is_set value.now }
+fn is_set_value(value: &Value) -> bool
+    ensures { result ≡ is_set_value value.now }
 {
     match value {
         Value::Set(_members) => true,
@@ -94,11 +95,26 @@ fn is_set(value: &Value) -> bool
     }
 }
 
+fn row_has_set(row: &Row) -> bool
+    ensures { result ≡ row_has_set row.now }
+{
+    row.cells
+        .as_slice()
+        .iter()
+        .any(|cell| is_set_value(&cell.value))
+}
+
+fn have_set(rows: &[Row]) -> bool
+    ensures { result ≡ list_any row_has_set rows.now }
+{
+    rows.iter().any(|row| row_has_set(row))
+}
+
 fn has_set(write: &Write) -> bool
     ensures { result ≡ has_set write.now }
 {
     match write {
-        Write::Add(rows) => rows.as_slice().iter().any(|row| row.cells.as_slice().iter().any(|cell| is_set(&cell.value))),
+        Write::Add(rows) => have_set(rows.as_slice()),
         Write::Expire(_) | Write::Keep(_) => false,
     }
 }

@@ -3,7 +3,7 @@ ghost use Rattle.std.specs.Prelude.{ℕ, List, ◌≡◌, ◌≤◌, ◌<◌, �
 ghost use Rattle.std.specs.Int.{w64, to_le_bytes};
 ghost use Rattle.leaf_model.specs.Values.{IsWrite};
 ghost use Rattle.row_records.specs.Bytes.{write_bytes, u64_bytes};
-ghost use Rattle.row_records.specs.Records.{LogRecord, written};
+ghost use Rattle.row_records.specs.Records.{LogRecord, new_record};
 ghost use Rattle.row_records.specs.Pending.{pending_bytes, with_write};
 
 use crate::row_writer::{lay_rows, put_name};
@@ -44,7 +44,7 @@ fn overwrite(bytes: &mut [u8], at: usize, number: u64)
 pub(crate) fn first_record(alloc: Global, table: &str, write: &Write) -> Result<Vec<u8>, AllocError>
     requires short { length table.now ≤ 255 }
     requires write { IsWrite write.now }
-    ensures { IfOk result (λ bytes. bytes.items ≡ pending_bytes (Some (written table.now (write.now ∷ [])))) }
+    ensures { IfOk result (λ bytes. bytes.items ≡ pending_bytes (Some (new_record table.now (write.now ∷ [])))) }
 {
     let mut body = Vec::new(alloc);
     body.push(2)?;

@@ -1,5 +1,5 @@
-use Rattle.std.proofs.Common.{rules, ◌<◌, ◌^◌, ◌∙◌, length, ap, subst, arith}
-use Rattle.row_records.specs.Pending.{pending_bytes, pending_count}
+use Rattle.std.proofs.Common.{rules, ◌<◌, ◌^◌, ◌∙◌, length, sym, ap, subst, arith}
+use Rattle.row_records.specs.Pending.{allows_sets, pending_bytes, pending_count}
 use Rattle.row_records.specs.Bytes.{IsBytes}
 use Rattle.row_records.proofs.Pended.{few, room, gone_on}
 use Rattle.row_records.proofs.pending.Pending.go_on.Goals as goal
@@ -20,15 +20,15 @@ add_write-requires-clause-room c =
 pub invariant_of-self-inside-2 : goal.invariant_of-self-inside-2
 invariant_of-self-inside-2 c =
     let bytes = c.self.inside.bytes.items in
-    let all = gone_on c.args.self.now c.args.table.now bytes c.add_write.new.bytes.items c.self.inside.count c.args.write.now (subst IsBytes c.as_slice.ensures.value c.are_bytes.ensures) c.requires.some c.requires.table c.requires.write (search rules)
+    let all = gone_on c.args.self.now c.args.table.now bytes c.add_write.new.bytes.items c.self.inside.count c.args.write.now (subst IsBytes c.as_slice.ensures.value c.are_bytes.ensures) c.requires.some c.requires.table (sym (ap allows_sets c.self.view_is) ∙ c.self.inside.kind) c.requires.write (search rules)
     c.self.view_is (c.self.inside.whole ∙ ap pending_bytes c.self.view_is) (c.self.inside.counted ∙ ap pending_count c.self.view_is)
     (λ r is len more. c.in_ok-add_write.ensures.added r is (ap length c.as_str.ensures ∙ len) more) in
-    (all.whole, (all.counted, tt))
+    (all.whole, (all.counted, (all.kind, tt)))
 
 pub returns-clause-pushed : goal.returns-clause-pushed
 returns-clause-pushed c =
     let bytes = c.self.inside.bytes.items in
-    let all = gone_on c.args.self.now c.args.table.now bytes c.add_write.new.bytes.items c.self.inside.count c.args.write.now (subst IsBytes c.as_slice.ensures.value c.are_bytes.ensures) c.requires.some c.requires.table c.requires.write (search rules)
+    let all = gone_on c.args.self.now c.args.table.now bytes c.add_write.new.bytes.items c.self.inside.count c.args.write.now (subst IsBytes c.as_slice.ensures.value c.are_bytes.ensures) c.requires.some c.requires.table (sym (ap allows_sets c.self.view_is) ∙ c.self.inside.kind) c.requires.write (search rules)
     c.self.view_is (c.self.inside.whole ∙ ap pending_bytes c.self.view_is) (c.self.inside.counted ∙ ap pending_count c.self.view_is)
     (λ r is len more. c.in_ok-add_write.ensures.added r is (search rules) more) in
     all.of
