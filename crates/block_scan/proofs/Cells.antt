@@ -23,14 +23,6 @@ cell_read rows c read i within =
     ap (λ (l : List (Option Value)). slice_index_or l i None) (sym read.cells)
     ∙ get_or-map-range_with_len (cell_at c.view) 0 (length c.view.codes) i i None within (omega arith)
 
-pub no_cell : (name : List ℕ) (v : Option Value) (cells : List Cell) → v ≡ None → cells ≡ cells ++ cell_of name v
-no_cell name v cells e = sym (append-nil cells) ∙ ap (λ (w : Option Value). cells ++ cell_of name w) (sym e)
-
-pub one_cell : (name own : List ℕ) (v : Option Value) (value : Value) (cells : List Cell) → v ≡ Some value → own ≡ name
-    → cells ++ record { name = own; value = value } ∷ [] ≡ cells ++ cell_of name v
-one_cell name own v value cells e same =
-    ap (λ (n : List ℕ). cells ++ record { name = n; value = value } ∷ []) same ∙ ap (λ (w : Option Value). cells ++ cell_of name w) (sym e)
-
 pub cells_more : (place i : ℕ) (read : List ReadColumn) (c : ReadColumn) (cells now : List Cell) → i < length read → c ≡ get_or read i c
     → cells ≡ cells_at place (columns_of (take i read)) → now ≡ cells ++ cell_of c.column.now.name (value_in c.column.now.bytes place)
     → now ≡ cells_at place (columns_of (take (i + 1) read))

@@ -12,7 +12,7 @@ use Rattle.leaf_model.specs.declared.rows.Row.{Row}
 use Rattle.leaf_model.specs.declared.queries.Cond.{Cond}
 use Rattle.leaf_model.specs.declared.queries.Query.{Query}
 use Rattle.leaf_model.specs.Groups.{cell_value, cond_accepts, groups, passes, value_of}
-use Rattle.column_bytes.specs.Cells.{integer_cells, text_cells}
+use Rattle.column_bytes.specs.Cells.{entry_cells, integer_cells, no_value}
 use Rattle.row_blocks.specs.Columns.{cells_in}
 use Rattle.row_blocks.specs.Blocks.{cell_of, value_in}
 use Rattle.block_scan.specs.Decoded.{accepted_codes, conds_hold}
@@ -25,11 +25,11 @@ integer_at bytes present integers i within cells =
     ap (λ (l : List (Option Value)). slice_index_or l i None) cells
     ∙ get_or-map-range_with_len (λ k. cond (slice_index_or present k false) (Some (values.Int (slice_index_or integers k (pos 0)))) None) 0 (length present) i i None within (omega arith)
 
-pub text_at : (bytes : List ℕ) (texts : List (List ℕ)) (present : List Bool) (codes : List ℕ) (i : ℕ) → i < length codes → cells_in bytes ≡ text_cells texts present codes
-    → value_in bytes i ≡ cond (slice_index_or present i false) (Some (values.Text (slice_index_or texts (slice_index codes i) []))) None
-text_at bytes texts present codes i within cells =
+pub entry_at : (bytes : List ℕ) (entries : List Value) (present : List Bool) (codes : List ℕ) (i : ℕ) → i < length codes → cells_in bytes ≡ entry_cells entries present codes
+    → value_in bytes i ≡ cond (slice_index_or present i false) (Some (slice_index_or entries (slice_index codes i) no_value)) None
+entry_at bytes entries present codes i within cells =
     ap (λ (l : List (Option Value)). slice_index_or l i None) cells
-    ∙ get_or-map-range_with_len (λ k. cond (slice_index_or present k false) (Some (values.Text (slice_index_or texts (slice_index codes k) []))) None) 0 (length codes) i i None within (omega arith)
+    ∙ get_or-map-range_with_len (λ k. cond (slice_index_or present k false) (Some (slice_index_or entries (slice_index codes k) no_value)) None) 0 (length codes) i i None within (omega arith)
 
 -- ---- the column of a name
 
@@ -62,22 +62,22 @@ groups_narrow q row places left narrowed =
     ap (λ (l : List ℕ). groups q (map row l)) narrowed ∙ ap (groups q) (sym (filter_mapped (conds_hold q.conds) row places))
     ∙ ap (groups_of q) (weaker_test (conds_hold q.conds) (passes q) (λ r e. conds_of (int_le q.from r.time) (int_le r.time q.to) (conds_hold q.conds r) e) (map row places))
 
--- ---- texts that meet a condition
+-- ---- values that meet a condition
 
-pub accepted_more : (c : Cond) (texts : List (List ℕ)) (k : ℕ) (all now : List Bool) (b : Bool) (text : List ℕ)
-    → all ≡ map (λ code. cond_accepts c (Some (values.Text (slice_index_or texts code [])))) (range_with_len 0 k) → text ≡ slice_index_or texts k [] → b ≡ cond_accepts c (Some (values.Text text)) → now ≡ all ++ b ∷ []
-    → now ≡ map (λ code. cond_accepts c (Some (values.Text (slice_index_or texts code [])))) (range_with_len 0 (k + 1))
-accepted_more c texts k all now b text so_far at is pushed =
-    let f = λ (code : ℕ). cond_accepts c (Some (values.Text (slice_index_or texts code []))) in
+pub accepted_more : (c : Cond) (entries : List Value) (k : ℕ) (all now : List Bool) (b : Bool) (value : Value)
+    → all ≡ map (λ code. cond_accepts c (Some (slice_index_or entries code no_value))) (range_with_len 0 k) → value ≡ slice_index_or entries k no_value → b ≡ cond_accepts c (Some value) → now ≡ all ++ b ∷ []
+    → now ≡ map (λ code. cond_accepts c (Some (slice_index_or entries code no_value))) (range_with_len 0 (k + 1))
+accepted_more c entries k all now b value so_far at is pushed =
+    let f = λ (code : ℕ). cond_accepts c (Some (slice_index_or entries code no_value)) in
     let zero_add : 0 + k ≡ k = omega arith in
-    pushed ∙ ap (λ (l : List Bool). l ++ b ∷ []) so_far ∙ ap (λ (d : Bool). map f (range_with_len 0 k) ++ d ∷ []) (is ∙ ap (λ (t : List ℕ). cond_accepts c (Some (values.Text t))) at)
+    pushed ∙ ap (λ (l : List Bool). l ++ b ∷ []) so_far ∙ ap (λ (d : Bool). map f (range_with_len 0 k) ++ d ∷ []) (is ∙ ap (λ (v : Value). cond_accepts c (Some v)) at)
     ∙ sym (map-range_with_len_more f 0 k k zero_add)
 
-pub accepted_at : (c : Cond) (texts : List (List ℕ)) (accepted : List Bool) (code : ℕ) → accepted ≡ accepted_codes c texts → code < length texts
-    → slice_index_or accepted code false ≡ cond_accepts c (Some (values.Text (slice_index_or texts code [])))
-accepted_at c texts accepted code is within =
-    let f = λ (k : ℕ). cond_accepts c (Some (values.Text (slice_index_or texts k []))) in
-    ap (λ (l : List Bool). slice_index_or l code false) is ∙ get_or-map-range_with_len f 0 (length texts) code code false within (omega arith)
+pub accepted_at : (c : Cond) (entries : List Value) (accepted : List Bool) (code : ℕ) → accepted ≡ accepted_codes c entries → code < length entries
+    → slice_index_or accepted code false ≡ cond_accepts c (Some (slice_index_or entries code no_value))
+accepted_at c entries accepted code is within =
+    let f = λ (k : ℕ). cond_accepts c (Some (slice_index_or entries k no_value)) in
+    ap (λ (l : List Bool). slice_index_or l code false) is ∙ get_or-map-range_with_len f 0 (length entries) code code false within (omega arith)
 
-pub accepted_count : (c : Cond) (texts : List (List ℕ)) (accepted : List Bool) → accepted ≡ accepted_codes c texts → length accepted ≡ length texts
-accepted_count c texts accepted is = ap (λ (l : List Bool). length l) is ∙ length-map-range_with_len (λ (k : ℕ). cond_accepts c (Some (values.Text (slice_index_or texts k [])))) 0 (length texts)
+pub accepted_count : (c : Cond) (entries : List Value) (accepted : List Bool) → accepted ≡ accepted_codes c entries → length accepted ≡ length entries
+accepted_count c entries accepted is = ap (λ (l : List Bool). length l) is ∙ length-map-range_with_len (λ (k : ℕ). cond_accepts c (Some (slice_index_or entries k no_value))) 0 (length entries)

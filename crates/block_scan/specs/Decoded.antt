@@ -6,13 +6,13 @@ use Rattle.leaf_model.specs.declared.rows.Value.TheVariants as values
 use Rattle.leaf_model.specs.declared.rows.Row.{Row}
 use Rattle.leaf_model.specs.declared.queries.Cond.{Cond}
 use Rattle.leaf_model.specs.Groups.{cell_value, cond_accepts, value_of}
-use Rattle.column_bytes.specs.Cells.{entries}
+use Rattle.column_bytes.specs.Cells.{entries, no_value}
 use Rattle.row_blocks.specs.Blocks.{cells_at, value_in}
 use Rattle.block_scan.specs.declared.reading.ReadColumn.{ReadColumn}
 use Rattle.block_scan.specs.declared.finding.Named.{Named}
 use Rattle.block_scan.specs.declared.finding.Named.TheVariants.{Nowhere, Once, Twice}
 use Rattle.block_scan.specs.declared.decoded.Decoded.{Decoded}
-use Rattle.block_scan.specs.declared.decoded.Decoded.TheVariants.{Missing, Ints, Texts}
+use Rattle.block_scan.specs.declared.decoded.Decoded.TheVariants.{Missing, Ints, Codes}
 use Rattle.block_scan.specs.Reads.{IsRead, columns_of}
 
 -- no column has the name, or one alone, or more than one
@@ -25,13 +25,13 @@ IsNamed rows name read Twice = ⊤
 abbrev pub decoded_at : Decoded → ℕ → Option Value
 decoded_at Missing i = None
 decoded_at (Ints d) i = if slice_index_or d.present.items i false then Some (values.Int (slice_index_or d.values.items i (pos 0))) else None
-decoded_at (Texts d) i = if slice_index_or d.present.items i false then Some (values.Text (slice_index_or (entries d.view.now.book) (slice_index d.codes.items i) [])) else None
+decoded_at (Codes d) i = if slice_index_or d.present.items i false then Some (slice_index_or (entries d.view.now.book) (slice_index d.codes.items i) no_value) else None
 
--- so much was decoded, and each code that is there stands for a text
+-- so much was decoded, and each code that is there stands for a value
 abbrev pub IsSized : ℕ → Decoded → Type 0
 IsSized rows Missing = ⊤
 IsSized rows (Ints d) = (length d.present.items ≡ rows) × (length d.values.items ≡ rows)
-IsSized rows (Texts d) = (length d.present.items ≡ rows) × (length d.codes.items ≡ rows)
+IsSized rows (Codes d) = (length d.present.items ≡ rows) × (length d.codes.items ≡ rows)
     × ((i : ℕ) → i < rows → slice_index_or d.present.items i false ≡ true → slice_index d.codes.items i < length (entries d.view.now.book))
 
 -- it is what stands at each place
@@ -43,6 +43,6 @@ pub record IsDecoded (rows : ℕ) (there : ℕ → Option Value) (d : Decoded) :
 abbrev pub conds_hold : List Cond → Row → Bool
 conds_hold conds row = list_all (λ (c : Cond). cond_accepts c (value_of c.name row)) conds
 
--- of texts, by their codes, which meet a condition
-abbrev pub accepted_codes : Cond → List (List ℕ) → List Bool
-accepted_codes c texts = map (λ code. cond_accepts c (Some (values.Text (slice_index_or texts code [])))) (range_with_len 0 (length texts))
+-- of values, by their codes, which meet a condition
+abbrev pub accepted_codes : Cond → List Value → List Bool
+accepted_codes c entries = map (λ code. cond_accepts c (Some (slice_index_or entries code no_value))) (range_with_len 0 (length entries))

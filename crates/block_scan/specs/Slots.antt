@@ -8,15 +8,15 @@ use Rattle.leaf_model.specs.declared.queries.Query.{Query}
 use Rattle.leaf_model.specs.declared.groups.Key.{Key}
 use Rattle.leaf_model.specs.declared.groups.Key.TheVariants as key
 use Rattle.leaf_model.specs.declared.groups.Fold.{Fold}
-use Rattle.leaf_model.specs.Groups.{as_int, fold_of, keys_of, value_of}
-use Rattle.column_bytes.specs.Cells.{entries}
+use Rattle.leaf_model.specs.Groups.{as_int, fold_of, key_of, keys_of, value_of}
+use Rattle.column_bytes.specs.Cells.{entries, no_value}
 use Rattle.block_scan.specs.declared.decoded.Decoded.{Decoded}
-use Rattle.block_scan.specs.declared.decoded.Decoded.TheVariants.{Texts}
+use Rattle.block_scan.specs.declared.decoded.Decoded.TheVariants.{Codes}
 use Rattle.block_scan.specs.declared.slots.Slots.{Slots}
 use Rattle.block_scan.specs.declared.slots.Slots.TheVariants.{Alone, Coded}
 use Rattle.block_scan.specs.Decoded.{IsSized, decoded_at}
 
--- where a place stands: in the first slot where it has no text, and else behind it by the text's code
+-- where a place stands: in the first slot where it has no value, and else behind it by the value's code
 abbrev pub slot_at : Slots → ℕ → ℕ
 slot_at Alone i = 0
 slot_at (Coded d) i = if slice_index_or d.present.items i false then suc (slice_index d.codes.items i) else 0
@@ -30,12 +30,12 @@ slots_in (Coded d) = suc (length (entries d.view.now.book))
 abbrev pub keys_at : Query → Slots → ℕ → List Key
 keys_at q slots zero = map (λ (name : List ℕ). key.Missing) q.keys
 keys_at q Alone (suc code) = []
-keys_at q (Coded d) (suc code) = key.Text (slice_index_or (entries d.view.now.book) code []) ∷ []
+keys_at q (Coded d) (suc code) = key_of (Some (slice_index_or (entries d.view.now.book) code no_value)) ∷ []
 
 -- so much was decoded
 abbrev pub IsHeld : ℕ → Slots → Type 0
 IsHeld n Alone = ⊤
-IsHeld n (Coded d) = IsSized n (Texts d)
+IsHeld n (Coded d) = IsSized n (Codes d)
 
 -- each place stands in a slot of its keys
 pub record AreSlots (q : Query) (n : ℕ) (row : ℕ → Row) (slots : Slots) : Type 0 where

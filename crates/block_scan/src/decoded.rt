@@ -1,10 +1,10 @@
 // What the columns of a name mean at each place.
-ghost use Rattle.std.specs.Prelude.{◌≡◌, ℕ, ◌<◌, ◌≤◌, true, false, List, [], length, pos, slice_index, slice_index_or, IfOk, IfSome, Some, None, if◌then◌else◌};
+ghost use Rattle.std.specs.Prelude.{◌≡◌, ℕ, ◌<◌, ◌≤◌, true, false, length, pos, slice_index, slice_index_or, IfOk, IfSome, Some, None, if◌then◌else◌};
 ghost use Rattle.std.specs.List.{AllByRecursion};
 ghost use Rattle.leaf_model.specs.declared.rows.Value.TheVariants as cells;
 ghost use Rattle.leaf_model.specs.Groups.{value_of};
 ghost use Rattle.column_bytes.specs.declared.kind.Kind.TheVariants as kinds;
-ghost use Rattle.column_bytes.specs.Cells.{entries, kind_of};
+ghost use Rattle.column_bytes.specs.Cells.{entries, has_entries, kind_of, no_value};
 ghost use Rattle.row_blocks.specs.Blocks.{value_in};
 ghost use Rattle.block_scan.specs.Decoded.{IsDecoded};
 ghost use Rattle.block_scan.specs.Reads.{IsRead, columns_of, row_of};
@@ -22,20 +22,20 @@ pub struct Integers {
     pub values: Vec<i64>,
 }
 
-/// Which cells are there, and the codes of their texts.
+/// Which cells are there, and the codes of their texts or sets.
 #[derive(Drop)]
-pub struct TextCodes<'b, 'a> {
+pub struct EntryCodes<'b, 'a> {
     pub present: Vec<bool>,
     pub codes: Vec<u64>,
     pub view: &'b ColumnView<'a>,
 }
 
-/// What a name means at each place: nothing, integers or texts.
+/// What a name means at each place: nothing, integers, or texts or sets by their codes.
 #[derive(Drop)]
 pub enum Decoded<'b, 'a> {
     Missing,
     Ints(Integers),
-    Texts(TextCodes<'b, 'a>),
+    Codes(EntryCodes<'b, 'a>),
 }
 
 fn fill_integers(
@@ -77,33 +77,33 @@ fn decode_integers(alloc: Global, rows: u32, read: &ReadColumn) -> Result<Intege
 
 fn fill_codes(rows: u32, read: &ReadColumn, codes: &mut [u64], present: &mut [bool])
     requires read { IsRead rows read.now }
-    requires kind { kind_of read.now.view.book ≡ kinds.Texts }
+    requires kind { has_entries (kind_of read.now.view.book) ≡ true }
     requires codes { length codes.old ≡ rows }
     requires present { length present.old ≡ rows }
-    ensures each { (i : ℕ) → i < rows → value_in read.now.column.now.bytes i ≡ (if slice_index_or present.new i false then Some (cells.Text (slice_index_or (entries read.now.view.book) (slice_index codes.new i) [])) else None) }
+    ensures each { (i : ℕ) → i < rows → value_in read.now.column.now.bytes i ≡ (if slice_index_or present.new i false then Some (slice_index_or (entries read.now.view.book) (slice_index codes.new i) no_value) else None) }
     ensures below { (i : ℕ) → i < rows → slice_index_or present.new i false ≡ true → slice_index codes.new i < length (entries read.now.view.book) }
 {
     read.view.codes(codes, present);
 }
 
-fn decode_texts<'b, 'a>(
+fn decode_codes<'b, 'a>(
     alloc: Global,
     rows: u32,
     read: &'b ReadColumn<'a>,
-) -> Result<TextCodes<'b, 'a>, AllocError>
+) -> Result<EntryCodes<'b, 'a>, AllocError>
     requires read { IsRead rows read.now }
-    requires kind { kind_of read.now.view.book ≡ kinds.Texts }
+    requires kind { has_entries (kind_of read.now.view.book) ≡ true }
     ensures view { IfOk result (λ d. d.view.now ≡ read.now.view) }
     ensures present { IfOk result (λ d. length d.present.items ≡ rows) }
     ensures codes { IfOk result (λ d. length d.codes.items ≡ rows) }
-    ensures each { IfOk result (λ d. (i : ℕ) → i < rows → value_in read.now.column.now.bytes i ≡ (if slice_index_or d.present.items i false then Some (cells.Text (slice_index_or (entries read.now.view.book) (slice_index d.codes.items i) [])) else None)) }
+    ensures each { IfOk result (λ d. (i : ℕ) → i < rows → value_in read.now.column.now.bytes i ≡ (if slice_index_or d.present.items i false then Some (slice_index_or (entries read.now.view.book) (slice_index d.codes.items i) no_value) else None)) }
     ensures below { IfOk result (λ d. (i : ℕ) → i < rows → slice_index_or d.present.items i false ≡ true → slice_index d.codes.items i < length (entries read.now.view.book)) }
 {
     let mut codes = vec![in alloc; 0u64; rows as usize]?;
     let mut present = vec![in alloc; false; rows as usize]?;
     fill_codes(rows, read, codes.as_mut_slice(), present.as_mut_slice());
     let view = &read.view;
-    Ok(TextCodes {
+    Ok(EntryCodes {
         present,
         codes,
         view,
@@ -123,9 +123,9 @@ fn decode_column<'b, 'a>(
             let integers = decode_integers(alloc, rows, read)?;
             Ok(Decoded::Ints(integers))
         }
-        Kind::Texts => {
-            let codes = decode_texts(alloc, rows, read)?;
-            Ok(Decoded::Texts(codes))
+        Kind::Texts | Kind::Sets => {
+            let codes = decode_codes(alloc, rows, read)?;
+            Ok(Decoded::Codes(codes))
         }
     }
 }

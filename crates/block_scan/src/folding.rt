@@ -79,7 +79,7 @@ fn integer_of(rows: u32, decoded: &Decoded, place: u32) -> Option<i64>
                 None
             }
         }
-        Decoded::Texts(_) => None,
+        Decoded::Codes(_) => None,
     }
 }
 

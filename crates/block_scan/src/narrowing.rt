@@ -1,16 +1,17 @@
 // The places that meet the conditions of a query.
-ghost use Rattle.std.specs.Prelude.{◌≡◌, ◌<◌, ◌≤◌, List, [], length, filter, slice_index_or, IfOk, IfSome, Some};
+ghost use Rattle.std.specs.Prelude.{◌≡◌, ◌<◌, ◌≤◌, length, filter, slice_index_or, IfOk, IfSome, Some};
 ghost use Rattle.std.specs.List.{AllByRecursion};
 ghost use Rattle.leaf_model.specs.declared.rows.Value.TheVariants as values;
-ghost use Rattle.leaf_model.specs.Groups.{cond_accepts, op_accepts};
-ghost use Rattle.column_bytes.specs.Cells.{entries};
-ghost use Rattle.block_scan.specs.declared.decoded.Decoded.TheVariants.{Texts};
+ghost use Rattle.leaf_model.specs.Groups.{cond_accepts, op_accepts, set_accepts};
+ghost use Rattle.leaf_model.specs.Names.{is_among};
+ghost use Rattle.column_bytes.specs.Cells.{entries, no_value, value_of};
+ghost use Rattle.block_scan.specs.declared.decoded.Decoded.TheVariants.{Codes};
 ghost use Rattle.block_scan.specs.Decoded.{accepted_codes, IsSized, conds_hold, decoded_at};
 ghost use Rattle.block_scan.specs.Reads.{IsRead, columns_of, row_of};
 
-use crate::decoded::{Decoded, TextCodes, decode};
+use crate::decoded::{Decoded, EntryCodes, decode};
 use crate::reading::ReadColumn;
-use column_bytes::ColumnView;
+use column_bytes::{ColumnView, SetRef, ValueRef};
 use leaf_model::{Cond, Op, Value};
 use std::alloc::{AllocError, Global};
 use std::cmp::Ordering;
@@ -25,6 +26,7 @@ fn accepts(op: &Op, order: Ordering) -> bool
         Op::Le => order != Ordering::Greater,
         Op::Gt => order == Ordering::Greater,
         Op::Ge => order != Ordering::Less,
+        Op::Has => false,
     }
 }
 
@@ -34,6 +36,7 @@ fn accepts_integer(cond: &Cond, number: &i64) -> bool
     match &cond.value {
         Value::Int(other) => accepts(&cond.op, number.cmp(other)),
         Value::Text(_text) => false,
+        Value::Set(_members) => false,
     }
 }
 
@@ -43,18 +46,59 @@ fn accepts_text(cond: &Cond, text: &str) -> bool
     match &cond.value {
         Value::Int(_number) => false,
         Value::Text(other) => accepts(&cond.op, text.cmp(other.as_str())),
+        Value::Set(_members) => false,
     }
 }
 
-/// The text that a code stands for.
-pub(crate) fn text_of<'a>(view: &ColumnView<'a>, code: u64) -> &'a str
-    requires { code < length (entries view.now.book) }
-    ensures { result.now ≡ slice_index_or (entries view.now.book) code [] }
+fn is_member(members: &SetRef, text: &str) -> bool
+    ensures { result ≡ is_among members.now text.now }
 {
-    if code >= u64::from(view.texts()) {
+    for i in 0..members.len() {
+        if members.text(i) == text {
+            return true;
+        }
+    }
+    false
+}
+
+fn set_accepts(op: &Op, members: &SetRef, text: &str) -> bool
+    ensures { result ≡ set_accepts op.now members.now text.now }
+{
+    match op {
+        Op::Has => is_member(members, text),
+        Op::Eq | Op::Ne | Op::Lt | Op::Le | Op::Gt | Op::Ge => false,
+    }
+}
+
+fn accepts_set(cond: &Cond, members: &SetRef) -> bool
+    ensures { result ≡ cond_accepts cond.now (Some (values.Set members.now)) }
+{
+    match &cond.value {
+        Value::Int(_number) => false,
+        Value::Text(text) => set_accepts(&cond.op, members, text.as_str()),
+        Value::Set(_others) => false,
+    }
+}
+
+fn accepts_value(cond: &Cond, value: &ValueRef) -> bool
+    ensures { result ≡ cond_accepts cond.now (Some (value_of value.now)) }
+{
+    match value {
+        ValueRef::Int(number) => accepts_integer(cond, number),
+        ValueRef::Text(text) => accepts_text(cond, text),
+        ValueRef::Set(members) => accepts_set(cond, members),
+    }
+}
+
+/// The value that a code stands for.
+pub(crate) fn entry_of<'a>(view: &ColumnView<'a>, code: u64) -> ValueRef<'a>
+    requires { code < length (entries view.now.book) }
+    ensures { value_of result ≡ slice_index_or (entries view.now.book) code no_value }
+{
+    if code >= u64::from(view.entries()) {
         unreachable!()
     }
-    view.text(code as u32)
+    view.entry(code as u32)
 }
 
 /// Whether what was decoded at a place meets the condition.
@@ -67,47 +111,47 @@ fn is_met(rows: u32, cond: &Cond, decoded: &Decoded, place: u32) -> bool
     match decoded {
         Decoded::Missing => false,
         Decoded::Ints(found) => found.present[place] && accepts_integer(cond, &found.values[place]),
-        Decoded::Texts(found) => {
-            found.present[place] && accepts_text(cond, text_of(found.view, found.codes[place]))
+        Decoded::Codes(found) => {
+            found.present[place] && accepts_value(cond, &entry_of(found.view, found.codes[place]))
         }
     }
 }
 
-/// Of the texts of a column, by their codes, which meet the condition.
-fn accepted_texts(alloc: Global, cond: &Cond, view: &ColumnView) -> Result<Vec<bool>, AllocError>
+/// Of the texts or sets of a column, by their codes, which meet the condition.
+fn accepted_entries(alloc: Global, cond: &Cond, view: &ColumnView) -> Result<Vec<bool>, AllocError>
     ensures { IfOk result (λ all. all.items ≡ accepted_codes cond.now (entries view.now.book)) }
 {
-    let mut all = Vec::with_capacity(alloc, view.texts() as usize)?;
-    for code in 0..view.texts() {
-        all.push(accepts_text(cond, view.text(code)))?;
+    let mut all = Vec::with_capacity(alloc, view.entries() as usize)?;
+    for code in 0..view.entries() {
+        all.push(accepts_value(cond, &view.entry(code)))?;
     }
     Ok(all)
 }
 
-/// Whether the text at a place meets the condition, by its code.
-fn is_code_met(rows: u32, cond: &Cond, found: &TextCodes, accepted: &[bool], place: u32) -> bool
-    requires sized { IsSized rows (Texts found.now) }
+/// Whether the value at a place meets the condition, by its code.
+fn is_code_met(rows: u32, cond: &Cond, found: &EntryCodes, accepted: &[bool], place: u32) -> bool
+    requires sized { IsSized rows (Codes found.now) }
     requires accepted { accepted.now ≡ accepted_codes cond.now (entries found.now.view.now.book) }
     requires place { place < rows }
-    ensures { result ≡ cond_accepts cond.now (decoded_at (Texts found.now) place) }
+    ensures { result ≡ cond_accepts cond.now (decoded_at (Codes found.now) place) }
 {
     let place = place as usize;
     found.present[place] && accepted[found.codes[place] as usize]
 }
 
-/// The places at which a text meets the condition: each text is looked at once.
-fn narrow_texts(
+/// The places at which a text or a set meets the condition: each is looked at once.
+fn narrow_codes(
     alloc: Global,
     rows: u32,
     cond: &Cond,
-    found: &TextCodes,
+    found: &EntryCodes,
     places: &[u32],
 ) -> Result<Vec<u32>, AllocError>
-    requires sized { IsSized rows (Texts found.now) }
+    requires sized { IsSized rows (Codes found.now) }
     requires places { AllByRecursion (λ place. place < rows) places.now }
-    ensures { IfOk result (λ left. left.items ≡ filter (λ i. cond_accepts cond.now (decoded_at (Texts found.now) i)) places.now) }
+    ensures { IfOk result (λ left. left.items ≡ filter (λ i. cond_accepts cond.now (decoded_at (Codes found.now) i)) places.now) }
 {
-    let accepted = accepted_texts(alloc, cond, found.view)?;
+    let accepted = accepted_entries(alloc, cond, found.view)?;
     let mut left = Vec::new(alloc);
     for place in places {
         if is_code_met(rows, cond, found, accepted.as_slice(), *place) {
@@ -152,7 +196,7 @@ fn narrow(
 {
     match decoded {
         Decoded::Missing | Decoded::Ints(_) => narrow_each(alloc, rows, cond, decoded, places),
-        Decoded::Texts(found) => narrow_texts(alloc, rows, cond, found, places),
+        Decoded::Codes(found) => narrow_codes(alloc, rows, cond, found, places),
     }
 }
 

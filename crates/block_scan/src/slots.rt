@@ -1,23 +1,25 @@
 // Places in slots, by the code of the one key that they have.
-ghost use Rattle.std.specs.Prelude.{◌≡◌, ℕ, ◌<◌, ◌≤◌, List, [], ◌∷◌, length, map, filter, not, nat_lt, slice_index_or, IfOk, IfSome};
+ghost use Rattle.std.specs.Prelude.{◌≡◌, ℕ, ◌<◌, ◌≤◌, List, [], ◌∷◌, length, map, filter, not, nat_lt, slice_index_or, IfOk, IfSome, Some};
 ghost use Rattle.std.specs.List.{AllByRecursion};
 ghost use Rattle.block_scan.specs.Reads.{IsRead, columns_of, row_of};
 ghost use Rattle.leaf_model.specs.declared.groups.Key.TheVariants as key;
-ghost use Rattle.column_bytes.specs.Cells.{entries};
+ghost use Rattle.leaf_model.specs.Groups.{key_of};
+ghost use Rattle.column_bytes.specs.Cells.{entries, no_value, value_of};
 ghost use Rattle.block_scan.specs.Slots.{AreSlots, IsHeld, keys_at, slot_at, slots_in};
 
-use crate::decoded::{Decoded, TextCodes, decode};
-use crate::narrowing::text_of;
+use crate::decoded::{Decoded, EntryCodes, decode};
+use crate::narrowing::entry_of;
 use crate::reading::ReadColumn;
-use column_bytes::ColumnView;
-use leaf_model::{Key, Keys, Query, Text};
+use column_bytes::{ColumnView, ValueRef};
+use leaf_model::{Key, Keys, Query, Text, Value};
+use row_blocks::own_value;
 use std::alloc::{AllocError, Global};
 
-/// Where places stand: all in one slot, or each by the code of its text.
+/// Where places stand: all in one slot, or each by the code of its text or set.
 #[derive(Drop)]
 pub enum Slots<'b, 'a> {
     Alone,
-    Coded(TextCodes<'b, 'a>),
+    Coded(EntryCodes<'b, 'a>),
 }
 
 /// The slots of a query's keys: of none, or of one that is no integer in this block. None where it has others.
@@ -35,7 +37,7 @@ pub(crate) fn slots_of<'b, 'a>(
         [] => Ok(Some(Slots::Alone)),
         [name] => match decode(alloc, name, times, read)? {
             Some(Decoded::Missing) => Ok(Some(Slots::Alone)),
-            Some(Decoded::Texts(codes)) => Ok(Some(Slots::Coded(codes))),
+            Some(Decoded::Codes(codes)) => Ok(Some(Slots::Coded(codes))),
             Some(Decoded::Ints(_)) | None => Ok(None),
         },
         _ => Ok(None),
@@ -52,13 +54,23 @@ fn missing_keys(alloc: Global, names: &[Text]) -> Result<Keys, AllocError>
     Ok(Keys::of(keys))
 }
 
-fn text_key(alloc: Global, view: &ColumnView, code: u64) -> Result<Keys, AllocError>
-    requires { code < length (entries view.now.book) }
-    ensures { IfOk result (λ keys. keys ≡ key.Text (slice_index_or (entries view.now.book) code []) ∷ []) }
+fn own_key(alloc: Global, value: &ValueRef) -> Result<Key, AllocError>
+    ensures { IfOk result (λ key. key ≡ key_of (Some (value_of value.now))) }
 {
-    let text = String::from_str(alloc, text_of(view, code))?;
+    match own_value(alloc, value)? {
+        Value::Int(number) => Ok(Key::Int(number)),
+        Value::Text(text) => Ok(Key::Text(text)),
+        Value::Set(members) => Ok(Key::Set(members)),
+    }
+}
+
+fn entry_key(alloc: Global, view: &ColumnView, code: u64) -> Result<Keys, AllocError>
+    requires { code < length (entries view.now.book) }
+    ensures { IfOk result (λ keys. keys ≡ key_of (Some (slice_index_or (entries view.now.book) code no_value)) ∷ []) }
+{
+    let key = own_key(alloc, &entry_of(view, code))?;
     let mut keys = Vec::with_capacity(alloc, 1)?;
-    keys.push(Key::Text(Text::of(text)))?;
+    keys.push(key)?;
     Ok(Keys::of(keys))
 }
 
@@ -78,7 +90,7 @@ pub(crate) fn keys_of_slot(
             if slot == 0 {
                 return missing_keys(alloc, query.keys.as_slice());
             }
-            text_key(alloc, found.view, slot - 1)
+            entry_key(alloc, found.view, slot - 1)
         }
     }
 }
@@ -89,7 +101,7 @@ pub(crate) fn slots_in(slots: &Slots) -> u64
 {
     match slots {
         Slots::Alone => 1,
-        Slots::Coded(found) => u64::from(found.view.texts()) + 1,
+        Slots::Coded(found) => u64::from(found.view.entries()) + 1,
     }
 }
 

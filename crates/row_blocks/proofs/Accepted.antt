@@ -39,6 +39,7 @@ time_fits : (v : Option Value) → IsTimeCell v → IsTime (time_of v)
 time_fits None is = absurd is
 time_fits (Some (values.Int n)) is = is
 time_fits (Some (values.Text text)) is = absurd is
+time_fits (Some (values.Set members)) is = absurd is
 
 row_stands : (n : ℕ) (first : BlockColumn) (others : List BlockColumn) (views : List Coded) → AreParts n first others → AreSeen views others → (i : ℕ) → i < n → IsRow (row_at (first ∷ others) i)
 row_stands n first others views parts seen i within = record {

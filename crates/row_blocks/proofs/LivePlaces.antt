@@ -148,6 +148,7 @@ timed : (v : Option Value) → IsTimeCell v → v ≡ Some (values.Int (time_of 
 timed None is = absurd is
 timed (Some (values.Int n)) is = refl
 timed (Some (values.Text text)) is = absurd is
+timed (Some (values.Set members)) is = absurd is
 
 row_is_at : (b : Block) (first : BlockColumn) (others : List BlockColumn) (i : ℕ) → b.columns ≡ first ∷ others → i < b.rows → slice_index_or (rows_in b) i no_row ≡ row_at (first ∷ others) i
 row_is_at b first others i columns within =

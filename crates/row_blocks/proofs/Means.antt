@@ -3,8 +3,7 @@ use Rattle.std.proofs.Common.{◌≡◌, ℕ, ◌<◌, ◌≤◌, List, length, 
 use Rattle.leaf_model.specs.declared.rows.Value.{Value}
 use Rattle.column_bytes.specs.declared.form.Form.{Form}
 use Rattle.column_bytes.specs.declared.form.Form.TheVariants.{Offset}
-use Rattle.column_bytes.specs.declared.value.ValueRef.{ValueRef}
-use Rattle.column_bytes.specs.Cells.{cells_of, values_of}
+use Rattle.column_bytes.specs.Cells.{cells_of}
 use Rattle.column_bytes.specs.Column.{HasCells, coded_in}
 use Rattle.column_bytes.proofs.Reading.{list_counted}
 use Rattle.row_blocks.specs.Columns.{MeanCells, cells_in, form_in}
@@ -31,8 +30,8 @@ pub few_cells : (bytes : List ℕ) (n : ℕ) → MeanCells bytes n → n ≤ 655
 unfolding MeanCells
 few_cells bytes n mean = let count = mean.count in let few = mean.is.header.fields.few in omega arith
 
--- what was written of some cells that were lent
-pub written : (bytes made : List ℕ) (cells : List (Option ValueRef)) → HasCells bytes (length cells) (values_of cells) → made ≡ bytes → MeanCells made (length cells) × (cells_in made ≡ values_of cells)
-written bytes made cells has same =
-    let is = means bytes (length cells) (values_of cells) has in
-    (subst (λ (text : List ℕ). MeanCells text (length cells)) (sym same) is.0, ap cells_in same ∙ sym is.1)
+-- what was written of some cells
+pub written : (bytes made : List ℕ) (n : ℕ) (cells : List (Option Value)) → HasCells bytes n cells → made ≡ bytes → MeanCells made n × (cells_in made ≡ cells)
+written bytes made n cells has same =
+    let is = means bytes n cells has in
+    (subst (λ (text : List ℕ). MeanCells text n) (sym same) is.0, ap cells_in same ∙ sym is.1)

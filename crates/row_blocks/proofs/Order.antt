@@ -8,7 +8,7 @@ use Rattle.std.proofs.lemmas.Cmp.{nat_cmp_total, nat_list_cmp_total, on_total, t
 use Rattle.std.proofs.lemmas.Map.Lookups.{exact_bytes}
 use Rattle.leaf_model.specs.Groups.{text_cmp}
 use Rattle.column_bytes.specs.declared.kind.Kind.{Kind}
-use Rattle.column_bytes.specs.declared.kind.Kind.TheVariants.{Ints, Texts}
+use Rattle.column_bytes.specs.declared.kind.Kind.TheVariants.{Ints, Texts, Sets}
 use Rattle.row_blocks.specs.Headings.{Heading, heading_cmp, kind_place}
 
 pub heading_total : IsTotalOrder heading_cmp
@@ -17,8 +17,13 @@ heading_total = then_total (on_total (λ (h : Heading). h.name) nat_list_cmp_tot
 exact_kind : (a b : Kind) → nat_cmp (kind_place a) (kind_place b) ≡ Equal → a ≡ b
 exact_kind Ints Ints e = refl
 exact_kind Ints Texts e = absurd cc
+exact_kind Ints Sets e = absurd cc
 exact_kind Texts Ints e = absurd cc
 exact_kind Texts Texts e = refl
+exact_kind Texts Sets e = absurd cc
+exact_kind Sets Ints e = absurd cc
+exact_kind Sets Texts e = absurd cc
+exact_kind Sets Sets e = refl
 
 both_equal : (a b : Ordering) → ordering_then a b ≡ Equal → (a ≡ Equal) × (b ≡ Equal)
 both_equal Less b e = absurd cc

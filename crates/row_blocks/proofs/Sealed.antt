@@ -1,5 +1,5 @@
 -- The times and the columns of the other cells are a block, which means the rows.
-use Rattle.std.proofs.Common.{◌≡◌, ℕ, ◌<◌, ◌≤◌, List, ◌∷◌, length, map, slice_index_or, ℤ, pos, Option, Some, None, IfSome, option_map, refl, sym, ap, subst, ◌∙◌, Bor, arith}
+use Rattle.std.proofs.Common.{◌≡◌, ℕ, ◌<◌, ◌≤◌, List, ◌∷◌, length, map, slice_index_or, ℤ, pos, Option, Some, None, IfSome, refl, sym, ap, subst, ◌∙◌, Bor, arith}
 use Rattle.std.specs.List.{AllByRecursion}
 use Rattle.std.proofs.lemmas.List.{get_or-map, length-map}
 use Rattle.std.proofs.lemmas.List.FromFn.{fill_by_all}
@@ -8,8 +8,6 @@ use Rattle.leaf_model.specs.declared.rows.Value.TheVariants.{Int}
 use Rattle.leaf_model.specs.declared.rows.Cell.{Cell}
 use Rattle.leaf_model.specs.declared.rows.Row.{Row}
 use Rattle.leaf_model.specs.Values.{IsRow, time_name}
-use Rattle.column_bytes.specs.declared.value.ValueRef.{ValueRef}
-use Rattle.column_bytes.specs.Cells.{value_of, values_of}
 use Rattle.column_bytes.specs.Coding.{AreOfKind, IsOfKind}
 use Rattle.column_bytes.specs.Column.{kind_in}
 use Rattle.column_bytes.specs.declared.kind.Kind.TheVariants.{Ints}
@@ -19,14 +17,10 @@ use Rattle.row_blocks.specs.Blocks.{Block, IsBlock, IsRange, IsTimeCell, row_at,
 use Rattle.row_blocks.specs.Merging.{HoldCells, lent_rows}
 use Rattle.row_blocks.proofs.Taking.{cells_at_row, no_row, row_is}
 
--- as many cells as times
-pub lent_times : (times : List ℤ) (cells : List (Option ValueRef)) → values_of cells ≡ map (λ (t : ℤ). Some (Int t)) times → length cells ≡ length times
-lent_times times cells lent = sym (length-map cells (option_map value_of)) ∙ ap (λ (l : List (Option Value)). length l) lent ∙ length-map times (λ (t : ℤ). Some (Int t))
-
-pub counted_times : (rows : List (Bor Row)) (times : List ℤ) (cells : List (Option ValueRef)) → times ≡ times_of (lent_rows rows) → values_of cells ≡ map (λ (t : ℤ). Some (Int t)) times
-    → length cells ≡ length rows
-counted_times rows times cells same lent =
-    lent_times times cells lent ∙ ap (λ (l : List ℤ). length l) same ∙ length-map (lent_rows rows) (λ (row : Row). row.time) ∙ length-map rows (λ (row : Bor Row). row.now)
+-- as many times as rows
+pub counted_times : (rows : List (Bor Row)) (times : List ℤ) → times ≡ times_of (lent_rows rows) → length times ≡ length rows
+counted_times rows times same =
+    ap (λ (l : List ℤ). length l) same ∙ length-map (lent_rows rows) (λ (row : Row). row.time) ∙ length-map rows (λ (row : Bor Row). row.now)
 
 pub are_ints : (times : List ℤ) → AreOfKind Ints (map (λ (t : ℤ). Some (Int t)) times)
 are_ints times i within =
@@ -40,13 +34,13 @@ pub record HoldsTimes (rows : List Row) (column : BlockColumn) : Type 0 where
   pub means : MeanCells column.bytes (length rows)
   pub cells : cells_in column.bytes ≡ map (λ (t : ℤ). Some (Int t)) (times_of rows)
 
-pub holds_times : (rows : List Row) (times : List ℤ) (cells : List (Option ValueRef)) (column : BlockColumn) → times ≡ times_of rows → values_of cells ≡ map (λ (t : ℤ). Some (Int t)) times
-    → column.name ≡ time_name → kind_in column.bytes ≡ Ints → MeanCells column.bytes (length cells) → cells_in column.bytes ≡ values_of cells → HoldsTimes rows column
-holds_times rows times cells column same lent name kind means held = record {
+pub holds_times : (rows : List Row) (times : List ℤ) (column : BlockColumn) → times ≡ times_of rows
+    → column.name ≡ time_name → kind_in column.bytes ≡ Ints → MeanCells column.bytes (length times) → cells_in column.bytes ≡ map (λ (t : ℤ). Some (Int t)) times → HoldsTimes rows column
+holds_times rows times column same name kind means held = record {
   name = name;
   kind = kind;
-  means = subst (MeanCells column.bytes) (lent_times times cells lent ∙ ap (λ (l : List ℤ). length l) same ∙ length-map rows (λ (row : Row). row.time)) means;
-  cells = held ∙ lent ∙ ap (λ (l : List ℤ). map (λ (t : ℤ). Some (Int t)) l) same;
+  means = subst (MeanCells column.bytes) (ap (λ (l : List ℤ). length l) same ∙ length-map rows (λ (row : Row). row.time)) means;
+  cells = held ∙ ap (λ (l : List ℤ). map (λ (t : ℤ). Some (Int t)) l) same;
 }
 
 abbrev pub block_of : List Row → BlockColumn → List BlockColumn → Block

@@ -240,6 +240,7 @@ front_kind h (c ∷ cells) are = by (heading_cmp h (heading_of c)) refl
     of_value : (value : Value) → IsValue value → IsOfKind (kind_of value) value
     of_value (values.Int n) is = tt
     of_value (values.Text text) is = is.1
+    of_value (values.Set members) is = is
 
     by : (o : Ordering) → heading_cmp h (heading_of c) ≡ o → IfSome (if is_eq o then Some c.value else None) (IsOfKind h.kind)
     by Less e = tt

@@ -9,15 +9,17 @@ use Rattle.std.proofs.lemmas.List.FromFn.{get_or-map-range_with_len, length-map-
 use Rattle.byteorder.specs.Endian.{little_number}
 use Rattle.byteorder.specs.Numbers.{little_from-lt}
 use Rattle.leaf_model.specs.declared.rows.Value.{Value}
-use Rattle.leaf_model.specs.Values.{IsValue}
+use Rattle.leaf_model.specs.Values.{IsSet, IsValue}
 use Rattle.delta_codes.specs.Slots.{after, slot, unzigzag}
 use Rattle.column_bytes.specs.declared.form.Form.{Form}
 use Rattle.column_bytes.specs.declared.form.Form.TheVariants as forms
 use Rattle.column_bytes.specs.Fields.{i64_at, u64_at}
 use Rattle.column_bytes.specs.Dictionary.{text_count}
+use Rattle.column_bytes.specs.Sets.{sets_part}
 use Rattle.column_bytes.specs.Cells.{IsCode, IsExtra, anchors_at, book_of, cell_at, value_at}
 use Rattle.column_bytes.specs.Column.{IsColumn, coded_in, codes_part, count_in, extra_from, extra_part, width_in}
 use Rattle.column_bytes.proofs.Parts.{anchors_at_place, length-codes, length-texts, texts_at_place}
+use Rattle.column_bytes.proofs.SetParts.{length-sets, sets_at_place}
 use Rattle.row_blocks.specs.Columns.{MeanCells, cells_in}
 
 positive : (n : ℕ) → n < 2 ^ 63 → FitsSigned w64 (pos n)
@@ -64,6 +66,10 @@ code_fits forms.Dictionary n extra codes i below is code =
     let k = slice_index codes i in
     let inside : k < text_count extra = omega (arith, length-texts extra, code) in
     subst (λ (text : List ℕ). IsUtf8 text × (length text ≤ 65535)) (sym (texts_at_place extra k inside)) ((is.texts k inside).utf8, (is.texts k inside).short)
+code_fits forms.Sets n extra codes i below is code =
+    let k = slice_index codes i in
+    let inside : k < text_count (sets_part extra) = omega (arith, length-sets extra, code) in
+    subst IsSet (sym (sets_at_place extra k inside)) (is.each k inside)
 
 cell_fits : (bytes : List ℕ) (form : Form) → ((k : ℕ) → slice_index bytes k < 256) → IsColumn bytes form → (i : ℕ) → i < length (coded_in form bytes).codes
     → IfSome (cell_at (coded_in form bytes) i) IsValue

@@ -1,5 +1,5 @@
 -- A block: columns of one number of cells, which mean rows.
-use Rattle.std.specs.Prelude.{◌≡◌, ℕ, ◌<◌, ◌≤◌, List, [], ◌∷◌, length, map, slice_index_or, ℤ, pos, ◌≤ℤ◌, Option, Some, None, Bool, true, false, ◌&&◌, bytes_eq}
+use Rattle.std.specs.Prelude.{◌≡◌, ℕ, ◌<◌, ◌≤◌, ◌==◌, List, [], ◌∷◌, length, map, slice_index_or, ℤ, pos, ◌≤ℤ◌, Option, Some, None, Bool, ◌&&◌, bytes_eq}
 use Rattle.std.specs.List.{range_with_len, flat_map, AllByRecursion}
 use Rattle.std.specs.List.Sorted.{IsStrictlySortedBy}
 use Rattle.leaf_model.specs.declared.rows.Value.{Value}
@@ -8,11 +8,11 @@ use Rattle.leaf_model.specs.declared.rows.Cell.{Cell}
 use Rattle.leaf_model.specs.declared.rows.Row.{Row}
 use Rattle.leaf_model.specs.Values.{IsRow, IsCellName, IsTime, time_name}
 use Rattle.column_bytes.specs.declared.kind.Kind.{Kind}
-use Rattle.column_bytes.specs.declared.kind.Kind.TheVariants.{Ints, Texts}
+use Rattle.column_bytes.specs.declared.kind.Kind.TheVariants.{Ints}
 use Rattle.column_bytes.specs.Column.{kind_in}
 use Rattle.row_blocks.specs.declared.column.BlockColumn.{BlockColumn}
 use Rattle.row_blocks.specs.Columns.{cells_in, MeanCells}
-use Rattle.row_blocks.specs.Headings.{heading, heading_cmp}
+use Rattle.row_blocks.specs.Headings.{heading, heading_cmp, kind_place}
 
 -- so many rows, and the columns, that of the times first
 pub record Block : Type 0 where
@@ -37,8 +37,7 @@ cells_at i columns = flat_map (λ (c : BlockColumn). cell_of c.name (value_in c.
 -- the time that a cell is
 abbrev pub time_of : Option Value → ℤ
 time_of (Some (values.Int n)) = n
-time_of (Some (values.Text text)) = pos 0
-time_of None = pos 0
+time_of v = pos 0
 
 -- the row at a place: the first column has its time, the others its cells
 abbrev pub row_at : List BlockColumn → ℕ → Row
@@ -53,8 +52,7 @@ rows_in b = map (row_at b.columns) (range_with_len 0 b.rows)
 -- the cell is a time
 abbrev pub IsTimeCell : Option Value → Type 0
 IsTimeCell (Some (values.Int n)) = IsTime n
-IsTimeCell (Some (values.Text text)) = ⊥
-IsTimeCell None = ⊥
+IsTimeCell v = ⊥
 
 -- integers named `time`, each there and a time
 pub record AreTimes (rows : ℕ) (c : BlockColumn) : Type 0 where
@@ -96,10 +94,7 @@ abbrev pub times_of : List Row → List ℤ
 times_of rows = map (λ (row : Row). row.time) rows
 
 abbrev pub is_kind : Kind → Kind → Bool
-is_kind Ints Ints = true
-is_kind Ints Texts = false
-is_kind Texts Ints = false
-is_kind Texts Texts = true
+is_kind a b = kind_place a == kind_place b
 
 abbrev pub is_column : List ℕ → Kind → BlockColumn → Bool
 is_column name kind c = bytes_eq c.name name && is_kind (kind_in c.bytes) kind

@@ -7,7 +7,7 @@ use Rattle.leaf_model.specs.declared.rows.Value.TheVariants as values
 use Rattle.leaf_model.specs.declared.rows.Cell.{Cell}
 use Rattle.leaf_model.specs.Groups.{text_cmp}
 use Rattle.column_bytes.specs.declared.kind.Kind.{Kind}
-use Rattle.column_bytes.specs.declared.kind.Kind.TheVariants.{Ints, Texts}
+use Rattle.column_bytes.specs.declared.kind.Kind.TheVariants.{Ints, Texts, Sets}
 use Rattle.column_bytes.specs.Column.{kind_in}
 use Rattle.row_blocks.specs.declared.column.BlockColumn.{BlockColumn}
 
@@ -19,6 +19,7 @@ pub record Heading : Type 0 where
 abbrev pub kind_of : Value → Kind
 kind_of (values.Int n) = Ints
 kind_of (values.Text text) = Texts
+kind_of (values.Set members) = Sets
 
 -- the column that a cell belongs in
 abbrev pub heading_of : Cell → Heading
@@ -27,10 +28,11 @@ heading_of c = record { name = c.name; kind = kind_of c.value }
 abbrev pub heading : BlockColumn → Heading
 heading c = record { name = c.name; kind = kind_in c.bytes }
 
--- integers come before texts
+-- integers come before texts, and these before sets
 abbrev pub kind_place : Kind → ℕ
 kind_place Ints = 0
 kind_place Texts = 1
+kind_place Sets = 2
 
 -- by name, and of one name by kind
 abbrev pub heading_cmp : Heading → Heading → Ordering

@@ -9,8 +9,7 @@ use Rattle.std.specs.Ordering.{is_eq, is_gt}
 use Rattle.leaf_model.specs.declared.rows.Value.{Value}
 use Rattle.leaf_model.specs.declared.rows.Cell.{Cell}
 use Rattle.leaf_model.specs.declared.rows.Row.{Row}
-use Rattle.column_bytes.specs.declared.value.ValueRef.{ValueRef}
-use Rattle.column_bytes.specs.Cells.{value_of}
+use Rattle.column_bytes.specs.Cells.{lent_value}
 use Rattle.row_blocks.specs.declared.column.BlockColumn.{BlockColumn}
 use Rattle.row_blocks.specs.Headings.{Heading, heading, heading_of, heading_cmp}
 use Rattle.row_blocks.specs.Blocks.{IsOther, cells_at}
@@ -78,11 +77,11 @@ front_cmp None (c ∷ cells) = Greater
 front_cmp (Some a) (c ∷ cells) = heading_cmp (heading_of a) (heading_of c)
 
 -- of the first so many rows this is a first cell under the earliest heading, which none before a place has, and these are the values under it
-pub record AreLent (rests : List (List Cell)) (values : List (Option ValueRef)) (like : Option Cell) (from count : ℕ) : Type 0 where
+pub record AreLent (rests : List (List Cell)) (values : List (Option (Bor Value))) (like : Option Cell) (from count : ℕ) : Type 0 where
   pub same : length values ≡ length rests
   pub within : from ≤ count
   pub first : IsEarliest like (take count rests)
-  pub each : (k : ℕ) → k < count → option_map value_of (slice_index_or values k None) ≡ value_under like (slice_index_or rests k [])
+  pub each : (k : ℕ) → k < count → option_map lent_value (slice_index_or values k None) ≡ value_under like (slice_index_or rests k [])
   pub none : (k : ℕ) → k < from → slice_index_or values k None ≡ None
 
 -- these columns were taken off the rows, and these cells are left of each row

@@ -8,7 +8,7 @@ ghost use Rattle.row_blocks.specs.Blocks.{Block, IsBlock, IsRange, is_column, ro
 use crate::accepting::range_of_block;
 use crate::column::{BlockColumn, BlockColumns};
 use crate::fault::BlockFault;
-use crate::headings::kind_in;
+use crate::headings::{is_kind, kind_in};
 use column_bytes::Kind;
 use leaf_model::Text;
 use std::alloc::Global;
@@ -112,7 +112,7 @@ impl RowBlock {
 fn is_column(column: &BlockColumn, name: &Text, kind: Kind) -> bool
     ensures { result ≡ is_column name.now kind column.now }
 {
-    column.name.as_str() == name.as_str() && kind_in(column.bytes.as_slice()) == kind
+    column.name.as_str() == name.as_str() && is_kind(kind_in(column.bytes.as_slice()), kind)
 }
 
 fn column_named<'a>(columns: &'a [BlockColumn], name: &Text, kind: Kind) -> Option<&'a [u8]>

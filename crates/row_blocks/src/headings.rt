@@ -1,5 +1,5 @@
 // What tells the columns of a block apart: a name and a kind.
-ghost use Rattle.std.specs.Prelude.{◌≡◌};
+ghost use Rattle.std.specs.Prelude.{◌≡◌, ◌==◌};
 ghost use Rattle.column_bytes.specs.Column.{kind_in};
 ghost use Rattle.row_blocks.specs.Headings.{heading, heading_cmp, heading_of, kind_of, kind_place};
 ghost use Rattle.std.specs.Ordering.{nat_cmp};
@@ -16,6 +16,7 @@ pub(crate) fn kind_of(value: &Value) -> Kind
     match value {
         Value::Int(_) => Kind::Ints,
         Value::Text(_) => Kind::Texts,
+        Value::Set(_) => Kind::Sets,
     }
 }
 
@@ -23,26 +24,40 @@ pub(crate) fn kind_of(value: &Value) -> Kind
 pub(crate) fn kind_in(bytes: &[u8]) -> Kind
     ensures { result ≡ kind_in bytes.now }
 {
-    if !bytes.is_empty() && bytes[0] == 1 {
-        Kind::Ints
-    } else {
-        Kind::Texts
+    if bytes.is_empty() {
+        return Kind::Sets;
     }
+    if bytes[0] == 1 {
+        Kind::Ints
+    } else if bytes[0] == 2 {
+        Kind::Texts
+    } else {
+        Kind::Sets
+    }
+}
+
+/// Where a kind stands among the columns of one name.
+fn kind_place(kind: Kind) -> u8
+    ensures { result ≡ kind_place kind }
+{
+    match kind {
+        Kind::Ints => 0,
+        Kind::Texts => 1,
+        Kind::Sets => 2,
+    }
+}
+
+/// Whether two kinds are one.
+pub(crate) fn is_kind(a: Kind, b: Kind) -> bool
+    ensures { result ≡ (kind_place a == kind_place b) }
+{
+    kind_place(a) == kind_place(b)
 }
 
 fn compare_kinds(a: Kind, b: Kind) -> Ordering
     ensures { result ≡ nat_cmp (kind_place a) (kind_place b) }
 {
-    match a {
-        Kind::Ints => match b {
-            Kind::Ints => Ordering::Equal,
-            Kind::Texts => Ordering::Less,
-        },
-        Kind::Texts => match b {
-            Kind::Ints => Ordering::Greater,
-            Kind::Texts => Ordering::Equal,
-        },
-    }
+    kind_place(a).cmp(&kind_place(b))
 }
 
 /// The order of the columns that two cells belong in.

@@ -1,14 +1,13 @@
 // The next column of the rows: the earliest heading at the fronts of what is left of their cells, and the values under it, in one walk.
 ghost use Rattle.std.specs.Prelude.{◌≡◌, ℕ, ◌+◌, ◌<◌, ◌≤◌, [], length, map, None, Option, option_map, IfSome, slice_index_or};
 ghost use Rattle.std.specs.declared.cmp.Ordering.TheVariants as orders;
-ghost use Rattle.column_bytes.specs.Cells.{value_of, values_of};
+ghost use Rattle.column_bytes.specs.Cells.{lent_value, values_of};
 ghost use Rattle.leaf_model.specs.declared.rows.Cell.{Cell};
 ghost use Rattle.row_blocks.specs.Headings.{heading_of};
 ghost use Rattle.row_blocks.specs.Merging.{AreLent, IsEarliest, front, front_cmp, front_value, lent};
 
 use crate::headings::compare_cells;
-use column_bytes::ValueRef;
-use leaf_model::Cell;
+use leaf_model::{Cell, Value};
 use std::cmp::Ordering;
 
 /// A first cell under the earliest heading so far, and a place before which no row has one under it.
@@ -40,12 +39,12 @@ fn first_cell<'a>(rest: &'a [Cell]) -> Option<&'a Cell>
     }
 }
 
-fn first_value<'a>(rest: &'a [Cell]) -> Option<ValueRef<'a>>
-    ensures { option_map value_of result ≡ option_map (λ (c : Cell). c.value) (front rest.now) }
+fn first_value<'a>(rest: &'a [Cell]) -> Option<&'a Value>
+    ensures { option_map lent_value result ≡ option_map (λ (c : Cell). c.value) (front rest.now) }
 {
     match rest {
         [] => None,
-        [cell, ..] => Some(ValueRef::of(&cell.value)),
+        [cell, ..] => Some(&cell.value),
     }
 }
 
@@ -57,7 +56,7 @@ fn rest_at<'a>(rests: &[&'a [Cell]], i: usize) -> &'a [Cell]
 }
 
 /// Takes the values back that were lent from a place on.
-fn forget(values: &mut [Option<ValueRef>], from: usize, to: usize)
+fn forget(values: &mut [Option<&Value>], from: usize, to: usize)
     requires order { from ≤ to }
     requires within { to ≤ length values.old }
     requires before { (k : ℕ) → k < from → slice_index_or values.old k None ≡ None }
@@ -73,7 +72,7 @@ fn forget(values: &mut [Option<ValueRef>], from: usize, to: usize)
 fn pass<'a>(
     earliest: &Earliest<'a>,
     rests: &[&'a [Cell]],
-    values: &mut [Option<ValueRef<'a>>],
+    values: &mut [Option<&'a Value>],
     i: usize,
 ) -> Earliest<'a>
     requires lent { AreLent (lent rests.now) values.old (option_map (λ c. c.now) earliest.now.cell) earliest.now.from i }
@@ -94,7 +93,7 @@ fn pass<'a>(
 fn lend<'a>(
     earliest: &Earliest<'a>,
     rests: &[&'a [Cell]],
-    values: &mut [Option<ValueRef<'a>>],
+    values: &mut [Option<&'a Value>],
     i: usize,
 ) -> Earliest<'a>
     requires lent { AreLent (lent rests.now) values.old (option_map (λ c. c.now) earliest.now.cell) earliest.now.from i }
@@ -115,7 +114,7 @@ fn lend<'a>(
 fn restart<'a>(
     earliest: &Earliest<'a>,
     rests: &[&'a [Cell]],
-    values: &mut [Option<ValueRef<'a>>],
+    values: &mut [Option<&'a Value>],
     i: usize,
 ) -> Earliest<'a>
     requires lent { AreLent (lent rests.now) values.old (option_map (λ c. c.now) earliest.now.cell) earliest.now.from i }
@@ -137,7 +136,7 @@ fn restart<'a>(
 fn look<'a>(
     earliest: &Earliest<'a>,
     rests: &[&'a [Cell]],
-    values: &mut [Option<ValueRef<'a>>],
+    values: &mut [Option<&'a Value>],
     i: usize,
 ) -> Earliest<'a>
     requires lent { AreLent (lent rests.now) values.old (option_map (λ c. c.now) earliest.now.cell) earliest.now.from i }
@@ -156,7 +155,7 @@ fn look<'a>(
 /// A first cell under the earliest heading, or None where no cells are left. The values of its column are lent.
 pub(crate) fn lend_earliest<'a>(
     rests: &[&'a [Cell]],
-    values: &mut [Option<ValueRef<'a>>],
+    values: &mut [Option<&'a Value>],
 ) -> Option<&'a Cell>
     requires { length values.old ≡ length rests.now }
     ensures same { length values.new ≡ length values.old }

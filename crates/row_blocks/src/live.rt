@@ -29,7 +29,7 @@ pub(crate) fn time_at(block: &RowBlock, times: &ColumnView, place: u32) -> i64
 {
     match times.cell(place) {
         Some(ValueRef::Int(time)) => time,
-        Some(ValueRef::Text(_)) | None => unreachable!(),
+        Some(ValueRef::Text(_)) | Some(ValueRef::Set(_)) | None => unreachable!(),
     }
 }
 

@@ -1,7 +1,7 @@
 // The rows that a block is.
 ghost use Rattle.std.specs.Prelude.{◌≡◌, ◌<◌, ◌∷◌, ◌++◌, length, slice_index_or, IfOk};
 ghost use Rattle.std.specs.List.{AllByRecursion};
-ghost use Rattle.column_bytes.specs.Cells.{value_of};
+ghost use Rattle.column_bytes.specs.Cells.{cell_at, value_of};
 ghost use Rattle.row_blocks.specs.Blocks.{IsBlock, IsOther, cell_of, cells_at, rows_in, value_in};
 ghost use Rattle.row_blocks.specs.Live.{AreTimesOf};
 ghost use Rattle.row_blocks.specs.Places.{AreSeen, no_column};
@@ -10,24 +10,62 @@ use crate::block::RowBlock;
 use crate::column::BlockColumn;
 use crate::live::{time_at, times_view};
 use crate::rules::views_of_others;
-use column_bytes::{ColumnView, ValueRef};
-use leaf_model::{Cell, Cells, Row, Text, Value};
+use column_bytes::{ColumnView, SetRef, ValueRef};
+use leaf_model::{Cell, Cells, Row, Text, Texts, Value};
 use std::alloc::{AllocError, Global};
 
-fn own_value(alloc: Global, value: ValueRef) -> Result<Value, AllocError>
-    ensures { IfOk result (λ own. own ≡ value_of value.entry) }
+fn own_texts(alloc: Global, members: &SetRef) -> Result<Texts, AllocError>
+    ensures { IfOk result (λ own. own ≡ members.now) }
+{
+    let mut texts = Vec::with_capacity(alloc, members.len() as usize)?;
+    for i in 0..members.len() {
+        let text = String::from_str(alloc, members.text(i))?;
+        texts.push(Text::of(text))?;
+    }
+    Ok(Texts::of(texts))
+}
+
+/// A value of its own, as one that a column lends.
+pub fn own_value(alloc: Global, value: &ValueRef) -> Result<Value, AllocError>
+    ensures { IfOk result (λ own. own ≡ value_of value.now) }
 {
     match value {
-        ValueRef::Int(number) => Ok(Value::Int(number)),
+        ValueRef::Int(number) => Ok(Value::Int(*number)),
         ValueRef::Text(text) => {
             let own = String::from_str(alloc, text)?;
             Ok(Value::Text(Text::of(own)))
         }
+        ValueRef::Set(members) => {
+            let own = own_texts(alloc, members)?;
+            Ok(Value::Set(own))
+        }
     }
 }
 
-/// Adds the cell of a column at a place, where there is one.
-fn push_cell(
+/// Adds the cell of a column at a place, under its name, where there is one.
+pub fn push_cell(
+    alloc: Global,
+    name: &Text,
+    view: &ColumnView,
+    place: u32,
+    cells: &mut Vec<Cell>,
+) -> Result<(), AllocError>
+    requires { place < length view.now.codes }
+    ensures { IfOk result (λ done. cells.new.items ≡ cells.old.items ++ cell_of name.now (cell_at view.now place)) }
+{
+    match view.cell(place) {
+        None => Ok(()),
+        Some(value) => {
+            let value = own_value(alloc, &value)?;
+            let name = name.copy()?;
+            cells.push(Cell { name, value })?;
+            Ok(())
+        }
+    }
+}
+
+/// Adds the cell of one of a block's columns at a place, where there is one.
+fn push_cell_at(
     alloc: Global,
     columns: &[BlockColumn],
     views: &[ColumnView],
@@ -42,15 +80,7 @@ fn push_cell(
     requires column { k < length columns.now }
     ensures { IfOk result (λ done. cells.new.items ≡ cells.old.items ++ cell_of (slice_index_or columns.now k no_column).name (value_in (slice_index_or columns.now k no_column).bytes i)) }
 {
-    match views[k].cell(i) {
-        None => Ok(()),
-        Some(value) => {
-            let value = own_value(alloc, value)?;
-            let name = columns[k].name.copy()?;
-            cells.push(Cell { name, value })?;
-            Ok(())
-        }
-    }
+    push_cell(alloc, &columns[k].name, &views[k], i, cells)
 }
 
 /// The cells at a place, in the order of the columns.
@@ -68,7 +98,7 @@ fn cells_at(
 {
     let mut cells = Vec::new(alloc);
     for k in 0..columns.len() {
-        push_cell(alloc, columns, views, k, i, rows, &mut cells)?;
+        push_cell_at(alloc, columns, views, k, i, rows, &mut cells)?;
     }
     Ok(Cells::of(cells))
 }

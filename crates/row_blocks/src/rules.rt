@@ -153,7 +153,7 @@ pub(crate) fn times_of_column(
     };
     match view.kind() {
         Kind::Ints => times_of_integers(alloc, rows, column, &view),
-        Kind::Texts => Ok(None),
+        Kind::Texts | Kind::Sets => Ok(None),
     }
 }
 

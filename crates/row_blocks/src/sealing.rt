@@ -1,6 +1,7 @@
 // Sealing rows into a block: the times first, and then column by column what is left of the rows' cells.
-ghost use Rattle.std.specs.Prelude.{◌≡◌, ◌<◌, ◌≤◌, length, IfOk};
+ghost use Rattle.std.specs.Prelude.{◌≡◌, ◌<◌, ◌≤◌, length, map, ℤ, Some, IfOk};
 ghost use Rattle.std.specs.List.{AllByRecursion};
+ghost use Rattle.leaf_model.specs.declared.rows.Value.TheVariants.{Int};
 ghost use Rattle.leaf_model.specs.Values.{IsRow, time_name};
 ghost use Rattle.column_bytes.specs.Cells.{values_of};
 ghost use Rattle.column_bytes.specs.Column.{kind_in};
@@ -15,23 +16,23 @@ use crate::block::RowBlock;
 use crate::column::{BlockColumn, BlockColumns, ColumnBytes};
 use crate::headings::kind_of;
 use crate::lending::lend_earliest;
-use crate::merge::{move_on, rests_of};
+use crate::merge::{move_on, no_values, rests_of};
 use crate::times::{range_of, time_cells, times_of};
-use column_bytes::{Kind, ValueRef, encode_refs};
-use leaf_model::{Cell, Row, Text};
+use column_bytes::{Kind, encode, encode_refs};
+use leaf_model::{Cell, Row, Text, Value};
 use std::alloc::{AllocError, Global};
 
 /// The column of the times.
-fn times_column(alloc: Global, cells: &[Option<ValueRef>]) -> Result<BlockColumn, AllocError>
-    requires some { 0 < length cells.now }
-    requires few { length cells.now ≤ 65536 }
-    requires kind { AreOfKind Ints (values_of cells.now) }
+fn times_column(alloc: Global, times: &[i64]) -> Result<BlockColumn, AllocError>
+    requires some { 0 < length times.now }
+    requires few { length times.now ≤ 65536 }
     ensures name { IfOk result (λ column. column.name ≡ time_name) }
     ensures kind { IfOk result (λ column. kind_in column.bytes ≡ Ints) }
-    ensures means { IfOk result (λ column. MeanCells column.bytes (length cells.now)) }
-    ensures cells { IfOk result (λ column. cells_in column.bytes ≡ values_of cells.now) }
+    ensures means { IfOk result (λ column. MeanCells column.bytes (length times.now)) }
+    ensures cells { IfOk result (λ column. cells_in column.bytes ≡ map (λ (t : ℤ). Some (Int t)) times.now) }
 {
-    let bytes = encode_refs(alloc, Kind::Ints, cells)?;
+    let cells = time_cells(alloc, times)?;
+    let bytes = encode(alloc, Kind::Ints, &cells)?;
     Ok(BlockColumn {
         name: Text::of(String::from_str(alloc, "time")?),
         bytes: ColumnBytes::of(bytes.into_bytes()),
@@ -42,7 +43,7 @@ fn times_column(alloc: Global, cells: &[Option<ValueRef>]) -> Result<BlockColumn
 fn column_like(
     alloc: Global,
     like: &Cell,
-    values: &[Option<ValueRef>],
+    values: &[Option<&Value>],
 ) -> Result<BlockColumn, AllocError>
     requires some { 0 < length values.now }
     requires few { length values.now ≤ 65536 }
@@ -62,7 +63,7 @@ fn column_like(
 fn other_columns<'a>(
     alloc: Global,
     rows: &[&'a Row],
-    values: &mut [Option<ValueRef<'a>>],
+    values: &mut [Option<&'a Value>],
 ) -> Result<Vec<BlockColumn>, AllocError>
     requires some { 0 < length (lent_rows rows.now) }
     requires few { length (lent_rows rows.now) ≤ 65536 }
@@ -88,8 +89,8 @@ pub fn seal_refs(alloc: Global, rows: &[&Row]) -> Result<RowBlock, AllocError>
 {
     let times = times_of(alloc, rows)?;
     let range = range_of(&times);
-    let mut values = time_cells(alloc, &times)?;
-    let first = times_column(alloc, &values)?;
+    let first = times_column(alloc, &times)?;
+    let mut values = no_values(alloc, rows.len())?;
     let mut others = other_columns(alloc, rows, &mut values)?;
     let mut columns = Vec::new(alloc);
     columns.push(first)?;

@@ -1,12 +1,10 @@
 // The times of a block.
 ghost use Rattle.std.specs.Prelude.{◌≡◌, ℕ, ◌<◌, length, map, slice_index_or, ℤ, pos, ◌≤ℤ◌, IfOk, Some};
 ghost use Rattle.leaf_model.specs.declared.rows.Value.TheVariants.{Int};
-ghost use Rattle.column_bytes.specs.Cells.{values_of};
 ghost use Rattle.row_blocks.specs.Blocks.{IsAmong, IsRange, times_of};
 ghost use Rattle.row_blocks.specs.Merging.{lent_rows};
 
-use column_bytes::ValueRef;
-use leaf_model::Row;
+use leaf_model::{Row, Value};
 use std::alloc::{AllocError, Global};
 
 fn least_of(times: &[i64]) -> i64
@@ -56,15 +54,12 @@ pub(crate) fn times_of(alloc: Global, rows: &[&Row]) -> Result<Vec<i64>, AllocEr
 }
 
 /// The cells of a column of times.
-pub(crate) fn time_cells<'a>(
-    alloc: Global,
-    times: &[i64],
-) -> Result<Vec<Option<ValueRef<'a>>>, AllocError>
-    ensures { IfOk result (λ cells. values_of cells.items ≡ map (λ (t : ℤ). Some (Int t)) times.now) }
+pub(crate) fn time_cells(alloc: Global, times: &[i64]) -> Result<Vec<Option<Value>>, AllocError>
+    ensures { IfOk result (λ cells. cells.items ≡ map (λ (t : ℤ). Some (Int t)) times.now) }
 {
     let mut cells = Vec::with_capacity(alloc, times.len())?;
     for time in times {
-        cells.push(Some(ValueRef::Int(*time)))?;
+        cells.push(Some(Value::Int(*time)))?;
     }
     Ok(cells)
 }

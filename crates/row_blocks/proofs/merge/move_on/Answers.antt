@@ -1,8 +1,9 @@
-use Rattle.std.proofs.Common.{rules, ◌≡◌, ℕ, ◌+◌, ◌<◌, List, [], ◌∷◌, ◌++◌, length, map, get_or, take, drop, sym, ap, ◌∙◌, Bor, arith}
-use Rattle.std.proofs.lemmas.List.{drop-drop, drop-set-lt, get_or-drop, length-set, map_more, map_push, take_all, take_more_set}
+use Rattle.std.proofs.Common.{rules, ◌≡◌, ℕ, ◌+◌, ◌<◌, List, [], ◌∷◌, ◌++◌, length, map, None, option_map, get_or, take, drop, sym, ap, ◌∙◌, Bor, arith}
+use Rattle.std.proofs.lemmas.List.{drop-drop, drop-set-lt, get_or-drop, get_or_default, length-set, map_more, map_push, take_all, take_more_set}
 use Rattle.leaf_model.specs.declared.rows.Cell.{Cell}
 use Rattle.row_blocks.specs.Merging.{lent, rest_after}
 use Rattle.row_blocks.proofs.Lent.{front_at}
+use Rattle.column_bytes.specs.Cells.{lent_value}
 use Rattle.row_blocks.proofs.merge.move_on.Goals as goal
 
 pub loop-i-preserved : goal.loop-i-preserved
@@ -19,13 +20,15 @@ loop-i-preserved c =
     = ap (λ (k : ℕ). get_or rests k item) (sym place) ∙ sym (get_or-drop i rests 0 item) ∙ ap (λ (l : List (Bor (List Cell))). get_or l 0 item) was.left
     ∙ get_or-drop i before 0 item ∙ ap (λ (k : ℕ). get_or before k item) place in
     let was_is : get_or before i item ≡ item = sym here ∙ item_is in
+    let value_is : option_map lent_value c.index-values-i.result ≡ option_map lent_value (get_or values i None)
+    = ap (option_map lent_value) (c.index-values-i.is ∙ get_or_default values i c.index-values-i.result None (omega (arith, c.requires, inside))) in
     record {
       same = length-set rests i made ∙ was.same;
       done = λ h fronts.
           let f = rest_after h in
           ap (λ (l : List (Bor (List Cell))). lent l) (take_more_set rests i made within) ∙ map_push now (take i rests) made
           ∙ ap (λ (l : List (List Cell)). l ++ made.now ∷ []) (was.done h fronts)
-          ∙ ap (λ (cells : List Cell). map f (lent (take i before)) ++ cells ∷ []) (c.rest_after.ensures h (front_at h values before i item fronts inside was_is) ∙ ap (λ (r : Bor (List Cell)). f r.now) (sym was_is))
+          ∙ ap (λ (cells : List Cell). map f (lent (take i before)) ++ cells ∷ []) (c.rest_after.ensures h (value_is ∙ front_at h values before i item fronts inside was_is) ∙ ap (λ (r : Bor (List Cell)). f r.now) (sym was_is))
           ∙ sym (map_push f (lent (take i before)) (get_or before i item).now)
           ∙ ap (λ (l : List (List Cell)). map f l) (sym (map_more now before i item inside));
       left = drop-set-lt (i + 1) rests i made (omega arith) ∙ sym (drop-drop 1 i rests) ∙ ap (λ (l : List (Bor (List Cell))). drop 1 l) was.left ∙ drop-drop 1 i before;

@@ -1,28 +1,22 @@
-use Rattle.std.proofs.Common.{◌≡◌, ◌<◌, ◌≤◌, ℕ, List, [], ◌∷◌, ◌++◌, length, ℤ, sym, ap, subst, ◌∙◌, Bor, arith}
+use Rattle.std.proofs.Common.{◌≡◌, ◌<◌, ◌≤◌, ℕ, List, [], ◌∷◌, ◌++◌, length, ℤ, Option, sym, ap, subst, ◌∙◌, Bor, arith}
 use Rattle.std.proofs.lemmas.List.{length-map}
+use Rattle.leaf_model.specs.declared.rows.Value.{Value}
 use Rattle.leaf_model.specs.declared.rows.Row.{Row}
-use Rattle.column_bytes.specs.declared.kind.Kind.TheVariants.{Ints}
-use Rattle.column_bytes.specs.Cells.{values_of}
-use Rattle.column_bytes.specs.Coding.{AreOfKind}
 use Rattle.row_blocks.specs.declared.column.BlockColumn.{BlockColumn}
 use Rattle.row_blocks.specs.Blocks.{IsBlock, IsRange, rows_in, times_of}
 use Rattle.row_blocks.specs.Merging.{lent_rows}
-use Rattle.row_blocks.proofs.Sealed.{are_ints, counted_times, holds_times, means_rows, sealed, sealed_range}
+use Rattle.row_blocks.proofs.Sealed.{counted_times, holds_times, means_rows, sealed, sealed_range}
 use Rattle.row_blocks.proofs.sealing.seal_refs.Goals as goal
 
 pub times_column-requires-clause-some : goal.times_column-requires-clause-some
-times_column-requires-clause-some c = omega (arith, c.requires.some, counted_times c.args.rows.now c.deref-2.result.now c.deref-3.result.now (c.deref-2.ensures.value ∙ c.in_ok-times.ensures) (ap values_of c.deref-3.ensures.value ∙ c.in_ok-values.ensures))
+times_column-requires-clause-some c = omega (arith, c.requires.some, counted_times c.args.rows.now c.deref-2.result.now (c.deref-2.ensures.value ∙ c.in_ok-times.ensures))
 
 pub times_column-requires-clause-few : goal.times_column-requires-clause-few
-times_column-requires-clause-few c = omega (arith, c.requires.few, counted_times c.args.rows.now c.deref-2.result.now c.deref-3.result.now (c.deref-2.ensures.value ∙ c.in_ok-times.ensures) (ap values_of c.deref-3.ensures.value ∙ c.in_ok-values.ensures))
-
-pub times_column-requires-clause-kind : goal.times_column-requires-clause-kind
-times_column-requires-clause-kind c = subst (AreOfKind Ints) (sym (ap values_of c.deref-3.ensures.value ∙ c.in_ok-values.ensures)) (are_ints c.deref-2.result.now)
+times_column-requires-clause-few c = omega (arith, c.requires.few, counted_times c.args.rows.now c.deref-2.result.now (c.deref-2.ensures.value ∙ c.in_ok-times.ensures))
 
 pub other_columns-requires-clause-places : goal.other_columns-requires-clause-places
 other_columns-requires-clause-places c =
-    counted_times c.args.rows.now c.deref-2.result.now c.deref_mut.result.now (c.deref-2.ensures.value ∙ c.in_ok-times.ensures) (ap values_of c.deref_mut.ensures.value ∙ c.in_ok-values.ensures)
-    ∙ sym (length-map c.args.rows.now (λ (r : Bor Row). r.now))
+    ap (λ (l : List (Option (Bor Value))). length l) c.deref_mut.ensures.value ∙ c.in_ok-values.ensures ∙ sym (length-map c.args.rows.now (λ (r : Bor Row). r.now))
 
 pub of-requires-2-clause-block : goal.of-requires-2-clause-block
 of-requires-2-clause-block c =
@@ -36,7 +30,7 @@ of-requires-2-clause-block c =
     subst (λ (n : ℕ). IsBlock (record { rows = n; columns = c.of.result })) count
     (subst (λ (l : List BlockColumn). IsBlock (record { rows = length rows; columns = l })) (sym columns)
     (sealed rows column others some few c.requires.rows
-    (holds_times rows c.deref-2.result.now c.deref-3.result.now column (c.deref-2.ensures.value ∙ c.in_ok-times.ensures) (ap values_of c.deref-3.ensures.value ∙ c.in_ok-values.ensures) said.name said.kind said.means said.cells) c.in_ok-others.ensures))
+    (holds_times rows c.deref-2.result.now column (c.deref-2.ensures.value ∙ c.in_ok-times.ensures) said.name said.kind said.means said.cells) c.in_ok-others.ensures))
 
 pub of-requires-2-clause-range : goal.of-requires-2-clause-range
 of-requires-2-clause-range c =
@@ -49,7 +43,7 @@ of-requires-2-clause-range c =
     subst (λ (n : ℕ). IsRange (times_of (rows_in (record { rows = n; columns = c.of.result }))) from to) count
     (subst (λ (l : List BlockColumn). IsRange (times_of (rows_in (record { rows = length rows; columns = l }))) from to) (sym columns)
     (sealed_range rows column others from to
-    (holds_times rows c.deref-2.result.now c.deref-3.result.now column (c.deref-2.ensures.value ∙ c.in_ok-times.ensures) (ap values_of c.deref-3.ensures.value ∙ c.in_ok-values.ensures) said.name said.kind said.means said.cells) c.in_ok-others.ensures
+    (holds_times rows c.deref-2.result.now column (c.deref-2.ensures.value ∙ c.in_ok-times.ensures) said.name said.kind said.means said.cells) c.in_ok-others.ensures
     (subst (λ (times : List ℤ). IsRange times from to) (c.deref.ensures.value ∙ c.in_ok-times.ensures) c.range_of-range.ensures)))
 
 pub returns : goal.returns
@@ -63,4 +57,4 @@ returns c =
     ∙ ap (λ (n : ℕ). rows_in (record { rows = n; columns = c.of.result })) (sym count)
     ∙ ap (λ (l : List BlockColumn). rows_in (record { rows = length rows; columns = l })) columns
     ∙ means_rows rows column others
-    (holds_times rows c.deref-2.result.now c.deref-3.result.now column (c.deref-2.ensures.value ∙ c.in_ok-times.ensures) (ap values_of c.deref-3.ensures.value ∙ c.in_ok-values.ensures) said.name said.kind said.means said.cells) c.in_ok-others.ensures
+    (holds_times rows c.deref-2.result.now column (c.deref-2.ensures.value ∙ c.in_ok-times.ensures) said.name said.kind said.means said.cells) c.in_ok-others.ensures

@@ -1,9 +1,0 @@
-use Rattle.std.proofs.Common.{◌≡◌, [], Some, map, slice_index_or}
-use Rattle.std.specs.List.{range_with_len}
-use Rattle.leaf_model.specs.declared.rows.Value.TheVariants as values
-use Rattle.leaf_model.specs.Groups.{cond_accepts}
-use Rattle.column_bytes.specs.Cells.{entries}
-use Rattle.block_scan.proofs.narrowing.accepted_texts.Given as goal
-
-abbrev pub invariant-loop-code : goal.invariant-loop-code
-invariant-loop-code l = l.all.items ≡ map (λ code. cond_accepts l.cond (Some (values.Text (slice_index_or (entries l.view.book) code [])))) (range_with_len 0 l.code)

@@ -1,8 +1,0 @@
-use Rattle.std.proofs.Common.{◌≡◌, filter, take}
-use Rattle.leaf_model.specs.Groups.{cond_accepts}
-use Rattle.block_scan.specs.declared.decoded.Decoded.TheVariants.{Texts}
-use Rattle.block_scan.specs.Decoded.{decoded_at}
-use Rattle.block_scan.proofs.narrowing.narrow_texts.Given as goal
-
-abbrev pub invariant-loop-place : goal.invariant-loop-place
-invariant-loop-place l = l.left.items ≡ filter (λ i. cond_accepts l.cond (decoded_at (Texts l.found) i)) (take l.place-index l.places)
