@@ -6,14 +6,14 @@ use Rattle.std.specs.Prelude.{◌≢◌, IfSome}
 use Rattle.std.specs.List.{flat_map, AllByRecursion}
 use Rattle.std.specs.Int.{w64, from_le_bytes}
 use Rattle.std.proofs.lemmas.List.{take_at, drop_at, drop_more}
+use Rattle.row_records.specs.declared.record_reader.Flush.{Flush}
 use Rattle.row_records.specs.Bytes.{u64_bytes}
-use Rattle.row_records.specs.Records.{LogRecord, IsRecord, record_body, record_bytes, flush_of}
+use Rattle.row_records.specs.Records.{LogRecord, IsRecord, record_body, record_bytes, record_is}
 use Rattle.disk_backup.specs.Logs.{is_short, is_closed, ClosedLog, open_records}
 use Rattle.row_records.proofs.Fields.{wide64}
 use Rattle.row_records.proofs.Once.{one_record}
 use Rattle.row_records.proofs.Pended.{writes_fit, size}
 use Rattle.row_records.specs.Bytes.{write_bytes}
-use Rattle.leaf_model.specs.declared.writes.Write.{Write}
 use Rattle.row_records.specs.Pending.{pending_bytes}
 use Rattle.disk_backup.specs.Scanning.{Scanned, NoRecord, ScannedIsFront, LogIsWhole, size_at}
 use Rattle.disk_backup.proofs.Logs.{one_head, open_cons, open_snoc, all_snoc, end_snoc}
@@ -72,14 +72,10 @@ few_writes r = fewer (length r.writes) (length (flat_map write_bytes r.writes)) 
 within : (at n w size : ℕ) → w ≤ n → n ≡ size → at + w ≤ at + size
 within at n w size few is = omega (arith, few, is)
 
--- a table's name and writes that were read
-abbrev pub Flush : Type 0
-Flush = List ℕ × List Write
-
-pub writes_within : (found : Option Flush) (flush : Flush) (bytes : List ℕ) (at size : ℕ) → found ≡ Some flush → IfSome found (λ f. IsRecord (flush_of f) × (bytes ≡ record_bytes (flush_of f))) → length bytes ≡ size → at + length flush.1 ≤ at + size
+pub writes_within : (found : Option Flush) (flush : Flush) (bytes : List ℕ) (at size : ℕ) → found ≡ Some flush → IfSome found (λ f. IsRecord (record_is f) × (bytes ≡ record_bytes (record_is f))) → length bytes ≡ size → at + length flush.writes ≤ at + size
 writes_within found flush bytes at size is read len =
-    let had : IsRecord (flush_of flush) × (bytes ≡ record_bytes (flush_of flush)) = subst (λ (o : Option Flush). IfSome o (λ f. IsRecord (flush_of f) × (bytes ≡ record_bytes (flush_of f)))) is read in
-    within at (length (record_bytes (flush_of flush))) (length flush.1) size (few_writes (flush_of flush)) (sym (ap length had.1) ∙ len)
+    let had : IsRecord (record_is flush) × (bytes ≡ record_bytes (record_is flush)) = subst (λ (o : Option Flush). IfSome o (λ f. IsRecord (record_is f) × (bytes ≡ record_bytes (record_is f)))) is read in
+    within at (length (record_bytes (record_is flush))) (length flush.writes) size (few_writes (record_is flush)) (sym (ap length had.1) ∙ len)
 
 -- ---- a log is never damaged
 

@@ -6,7 +6,7 @@ use Rattle.row_records.specs.Records.{LogRecord, IsRecord, record_bytes}
 use Rattle.row_records.specs.Pending.{pending_bytes}
 use Rattle.berth_face.specs.Berth.{Pair, Meaning}
 use Rattle.berth_face.specs.Moments.{EachNow, Throughout}
-use Rattle.berth_face.proofs.Moments.{started, throughout_map}
+use Rattle.berth_face.proofs.Moments.{throughout_map}
 use Rattle.disk_backup.specs.Logs.{ClosedLog, open_records}
 use Rattle.disk_backup.specs.State.{LogState}
 use Rattle.disk_backup.specs.Gates.{ClosedAfter, OpenAfter, OwingAfter, EitherWay}

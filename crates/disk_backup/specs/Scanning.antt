@@ -62,7 +62,7 @@ pub record Damaged (disk : List ℕ) (at : ℕ) : Type 0 where
 
 -- the record of what a flush gave
 abbrev pub record_is : FlushRecord → LogRecord
-record_is flush = record { name = flush.table; writes = flush.writes }
+record_is flush = record { sets = flush.sets; name = flush.table; writes = flush.writes }
 
 -- the whole record at the front, behind which something stands
 pub record Found (bytes : List ℕ) (r : LogRecord) : Type 0 where

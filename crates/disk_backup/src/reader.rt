@@ -69,7 +69,14 @@ fn record_at<B: Berth>(
     let bytes = bytes_at(alloc, at, size, berth)?;
     match read_record(alloc, &bytes)? {
         None => Err(LogFault::DiskDamaged),
-        Some((table, writes)) => Ok((FlushRecord { table, writes }, at + size)),
+        Some(flush) => {
+            let record = FlushRecord {
+                sets: flush.sets,
+                table: flush.name,
+                writes: flush.writes,
+            };
+            Ok((record, at + size))
+        }
     }
 }
 

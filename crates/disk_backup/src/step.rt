@@ -5,9 +5,10 @@ use crate::log::BackupLog;
 use leaf_model::{Text, Writes};
 use std::marker::Model;
 
-/// The writes of one flush of a table.
+/// The writes of one flush of a table, and whether its record's kind allows sets.
 #[derive(Drop)]
 pub struct FlushRecord {
+    pub sets: bool,
     pub table: Text,
     pub writes: Writes,
 }
