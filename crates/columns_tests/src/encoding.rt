@@ -36,9 +36,9 @@ fn cell_in_order<'a>(
     }
     match view.kind() {
         Kind::Ints => Some(ValueRef::Int(integer)),
-        Kind::Texts => {
-            if code < u64::from(view.texts()) {
-                Some(ValueRef::Text(view.text(code as u32)))
+        Kind::Texts | Kind::Sets => {
+            if code < u64::from(view.entries()) {
+                Some(view.entry(code as u32))
             } else {
                 None
             }
@@ -57,7 +57,7 @@ fn are_same_in_order(
     let mut values = vec![in alloc; 0i64; count]?;
     match view.kind() {
         Kind::Ints => view.integers(&mut codes, &mut present, &mut values),
-        Kind::Texts => view.codes(&mut codes, &mut present),
+        Kind::Texts | Kind::Sets => view.codes(&mut codes, &mut present),
     }
     let mut same = cells.len() == count;
     for i in 0..count.min(cells.len()) {
@@ -101,7 +101,7 @@ fn is_read_back(
 }
 
 // Whether the cells are written as these bytes, and read back from them.
-fn is_written_so(
+pub(crate) fn is_written_so(
     alloc: Global,
     kind: Kind,
     cells: &[Option<Value>],
@@ -154,7 +154,7 @@ fn long_cell(alloc: Global, len: usize) -> Result<Vec<Option<Value>>, AllocError
 }
 
 // The length of the column of some cells, where it is read back as them.
-fn read_back_len(
+pub(crate) fn read_back_len(
     alloc: Global,
     kind: Kind,
     cells: &[Option<Value>],

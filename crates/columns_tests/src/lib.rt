@@ -6,4 +6,6 @@ mod encoding;
 #[cfg(test)]
 mod reading;
 #[cfg(test)]
+mod sets;
+#[cfg(test)]
 mod vectors;

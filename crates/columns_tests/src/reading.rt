@@ -2,8 +2,8 @@
 ghost use Rattle.std.specs.Prelude.{◌≡◌, ◌+◌, ◌<◌};
 
 use crate::vectors::{
-    BY_DELTA, BY_OFFSET, EMPTY_TEXT, ENDS, FIVE, ONE_TEXT, TEXTS, WIDE, WIDE_BY_DELTA, WRAPPED,
-    are_same, integer_cells, text_cells,
+    BY_DELTA, BY_OFFSET, EMPTY_TEXT, ENDS, FIVE, ONE_TEXT, SET, TEXTS, WIDE, WIDE_BY_DELTA, WRAPPED,
+    are_same, integer_cells, set_cell, text_cells,
 };
 use column_bytes::{ColumnView, Kind, NoColumn};
 use leaf_model::{Steps, Value};
@@ -187,6 +187,27 @@ fn spelled_texts_are_read(rt: HostRuntime) -> Result<(), Fail> {
     ] {
         let cells = text_cells(alloc, texts)?;
         assert!(rt; is_vector(alloc, bytes, Kind::Texts, &cells)?);
+    }
+    Ok(())
+}
+
+#[test]
+fn a_spelled_set_is_read(rt: HostRuntime) -> Result<(), Fail> {
+    let alloc = rt.alloc();
+    let mut cells = Vec::new(alloc);
+    cells.push(set_cell(alloc, &["a", "b"])?)?;
+    assert!(rt; is_vector(alloc, SET, Kind::Sets, &cells)?);
+    for (at, byte) in [
+        // Texts that fall, a text twice, a number that no text has.
+        (52, b'c'),
+        (66, 0),
+        (66, 2),
+        // Ends of texts that fall, an end past the members, a member behind the last end.
+        (44, 3),
+        (58, 3),
+        (58, 1),
+    ] {
+        assert!(rt; is_spoilt(alloc, SET, at, byte)?);
     }
     Ok(())
 }

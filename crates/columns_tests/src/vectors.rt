@@ -1,6 +1,6 @@
 // Columns whose bytes were spelled by hand, and cells for tests.
-use column_bytes::{ColumnView, ValueRef};
-use leaf_model::{Text, Value};
+use column_bytes::{ColumnView, SetRef, ValueRef};
+use leaf_model::{Text, Texts, Value};
 use std::alloc::{AllocError, Global};
 
 /// The integer 5 by its offset, at width 0.
@@ -43,6 +43,14 @@ pub(crate) const EMPTY_TEXT: &[u8] =
 pub(crate) const ONE_TEXT: &[u8] =
     b"\x02\x01\x01\0\x01\0\0\0\x28\0\0\0\0\0\0\0\x28\0\0\0\0\0\0\0\x29\0\0\0\0\0\0\0\x32\0\0\0\0\0\0\0\0\x01\0\0\0\x01\0\0\0a";
 
+/// The set of `a` and `b`, with its code at width 0.
+pub(crate) const SET: &[u8] =
+    b"\x03\x01\0\0\x01\0\0\0\x28\0\0\0\0\0\0\0\x28\0\0\0\0\0\0\0\x28\0\0\0\0\0\0\0\x46\0\0\0\0\0\0\0\x02\0\0\0\x01\0\0\0\x02\0\0\0ab\x01\0\0\0\x02\0\0\0\0\0\0\0\x01\0\0\0";
+
+/// The same with its members exchanged, which is no column.
+pub(crate) const EXCHANGED: &[u8] =
+    b"\x03\x01\0\0\x01\0\0\0\x28\0\0\0\0\0\0\0\x28\0\0\0\0\0\0\0\x28\0\0\0\0\0\0\0\x46\0\0\0\0\0\0\0\x02\0\0\0\x01\0\0\0\x02\0\0\0ab\x01\0\0\0\x02\0\0\0\x01\0\0\0\0\0\0\0";
+
 pub(crate) fn integer_cells(
     alloc: Global,
     values: &[Option<i64>],
@@ -72,11 +80,33 @@ pub(crate) fn text_cells(
     Ok(cells)
 }
 
+/// A cell of these texts, which may be no set.
+pub(crate) fn set_cell(alloc: Global, texts: &[&str]) -> Result<Option<Value>, AllocError> {
+    let mut members = Vec::new(alloc);
+    for text in texts {
+        members.push(Text::of(String::from_str(alloc, text)?))?;
+    }
+    Ok(Some(Value::Set(Texts::of(members))))
+}
+
+fn is_same_set(set: &SetRef, texts: &[Text]) -> bool {
+    let mut same = set.len() as usize == texts.len();
+    for i in 0..set.len() {
+        match texts.get(i as usize) {
+            Some(text) => same = same && set.text(i) == text.as_str(),
+            None => same = false,
+        }
+    }
+    same
+}
+
 pub(crate) fn is_same(seen: Option<ValueRef>, cell: &Option<Value>) -> bool {
-    match cell {
-        None => seen.is_none(),
-        Some(Value::Int(integer)) => matches!(seen, Some(ValueRef::Int(n)) if n == *integer),
-        Some(Value::Text(text)) => matches!(seen, Some(ValueRef::Text(t)) if t == text.as_str()),
+    match (seen, cell) {
+        (None, None) => true,
+        (Some(ValueRef::Int(seen)), Some(Value::Int(integer))) => seen == *integer,
+        (Some(ValueRef::Text(seen)), Some(Value::Text(text))) => seen == text.as_str(),
+        (Some(ValueRef::Set(seen)), Some(Value::Set(members))) => is_same_set(&seen, members.as_slice()),
+        _ => false,
     }
 }
 
