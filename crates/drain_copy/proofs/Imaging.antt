@@ -61,7 +61,7 @@ adoptable tables log_end place directory distinct each written is fits spelled =
     let long : place ≡ 16 + length (joined columns) = is ∙ ap (λ (n : ℕ). 16 + n) (sym (tables_length tables)) in
     let found : directory_from image ≡ place = place_found place columns directory fits in
     let behind : drop (directory_from image) image ≡ directory = ap (λ (n : ℕ). drop n image) found ∙ behind_place place columns directory long in
-    let back = tables_back layout tables (head_bytes layout place) directory image 16 (image_parts place columns directory) (head_long place) each in
+    let back = tables_back tables (head_bytes layout place) directory image 16 (image_parts place columns directory) (head_long place) each in
     record {
       version = layout;
       reads_it = refl;

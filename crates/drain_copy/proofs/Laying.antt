@@ -13,7 +13,7 @@ use Rattle.leaf_model.specs.Values.{IsCellName}
 use Rattle.leaf_model.specs.Groups.{text_cmp}
 use Rattle.column_bytes.specs.Coding.{joined}
 use Rattle.column_bytes.specs.declared.kind.Kind.{Kind}
-use Rattle.column_bytes.specs.declared.kind.Kind.TheVariants.{Ints, Texts}
+use Rattle.column_bytes.specs.declared.kind.Kind.TheVariants.{Ints, Texts, Sets}
 use Rattle.column_bytes.specs.Column.{kind_in}
 use Rattle.row_blocks.specs.declared.column.BlockColumn.{BlockColumn}
 use Rattle.row_blocks.specs.Blocks.{Block, IsBlock, IsOther}
@@ -26,7 +26,7 @@ use Rattle.region_directory.specs.declared.directory.TablePlaces.{TablePlaces}
 use Rattle.region_directory.specs.declared.drained.DrainTable.{DrainTable}
 use Rattle.region_directory.specs.Directory.{Joined, AreColumns, IsBlockPlaces, IsSkipOf, IsTablePlaces, IsDirectory}
 use Rattle.region_directory.specs.Drained.{all_columns, images_of}
-use Rattle.region_directory.specs.Region.{column_in, block_in, parts_in, allows, IsTableIn, image_of_parts}
+use Rattle.region_directory.specs.Region.{column_in, block_in, parts_in, allows, layout, IsTableIn, image_of_parts}
 use Rattle.region_directory.specs.Written.{BlockFits, TableFits, MayBeWritten}
 use Rattle.region_directory.proofs.Ending.{table_columns}
 use Rattle.region_directory.proofs.Following.{InOrder, none_in_order, one_in_order, more_in_order}
@@ -96,36 +96,37 @@ blocks_back (b ∷ blocks) front back region at is long =
 
 -- ---- and the tables
 
-allows_kind : (version : ℕ) (kind : Kind) → allows version kind ≡ true
-allows_kind version Ints = refl
-allows_kind version Texts = refl
+allows_kind : (kind : Kind) → allows layout kind ≡ true
+allows_kind Ints = refl
+allows_kind Texts = refl
+allows_kind Sets = refl
 
-allows_columns : (version : ℕ) (columns : List BlockColumn) → AllByRecursion (λ (c : BlockColumn). allows version (kind_in c.bytes) ≡ true) columns
-allows_columns version [] = tt
-allows_columns version (c ∷ columns) = (allows_kind version (kind_in c.bytes), allows_columns version columns)
+allows_columns : (columns : List BlockColumn) → AllByRecursion (λ (c : BlockColumn). allows layout (kind_in c.bytes) ≡ true) columns
+allows_columns [] = tt
+allows_columns (c ∷ columns) = (allows_kind (kind_in c.bytes), allows_columns columns)
 
-allows_blocks : (version : ℕ) (blocks : List Block) → AllByRecursion (λ (b : Block). AllByRecursion (λ (c : BlockColumn). allows version (kind_in c.bytes) ≡ true) b.columns) blocks
-allows_blocks version [] = tt
-allows_blocks version (b ∷ blocks) = (allows_columns version b.columns, allows_blocks version blocks)
+allows_blocks : (blocks : List Block) → AllByRecursion (λ (b : Block). AllByRecursion (λ (c : BlockColumn). allows layout (kind_in c.bytes) ≡ true) b.columns) blocks
+allows_blocks [] = tt
+allows_blocks (b ∷ blocks) = (allows_columns b.columns, allows_blocks blocks)
 
-abbrev pub AreBack : ℕ → List ℕ → ℕ → List DrainTable → Type 0
-AreBack version region at tables = AllByRecursion (IsTableIn version region) (tables_from at tables) × (images_of tables ≡ map (table_in region) (tables_from at tables))
+abbrev pub AreBack : List ℕ → ℕ → List DrainTable → Type 0
+AreBack region at tables = AllByRecursion (IsTableIn layout region) (tables_from at tables) × (images_of tables ≡ map (table_in region) (tables_from at tables))
 
 parts_back : (t : DrainTable) (region : List ℕ) (at : ℕ) → map (block_in region) (blocks_from at t.parts.blocks) ≡ t.parts.blocks → parts_in region (table_from at t) ≡ t.parts
 parts_back t region at is = ap (λ (bs : List Block). record { horizon = t.parts.horizon; writes = t.parts.writes; skip = t.parts.skip; blocks = bs }) is
 
-pub tables_back : (version : ℕ) (tables : List DrainTable) (front back region : List ℕ) (at : ℕ) → region ≡ front ++ (joined (all_columns tables) ++ back) → length front ≡ at
-    → AllByRecursion (λ (t : DrainTable). IsParts t.parts) tables → AreBack version region at tables
-tables_back version [] front back region at is long each = (tt, refl)
-tables_back version (t ∷ tables) front back region at is long each =
+pub tables_back : (tables : List DrainTable) (front back region : List ℕ) (at : ℕ) → region ≡ front ++ (joined (all_columns tables) ++ back) → length front ≡ at
+    → AllByRecursion (λ (t : DrainTable). IsParts t.parts) tables → AreBack region at tables
+tables_back [] front back region at is long each = (tt, refl)
+tables_back (t ∷ tables) front back region at is long each =
     let mine = joined (blocks_bytes t.parts.blocks) in
     let rest = joined (all_columns tables) in
     let parts : region ≡ front ++ ((mine ++ rest) ++ back) = split front (blocks_bytes t.parts.blocks) (all_columns tables) back region is in
     let blocks = blocks_back t.parts.blocks front (rest ++ back) region at (parts ∙ ap (λ (l : List ℕ). front ++ l) (append_assoc mine rest back)) long in
     let first : parts_in region (table_from at t) ≡ t.parts = parts_back t region at blocks in
-    let others = tables_back version tables (front ++ mine) back region (at + blocks_size t.parts.blocks) (shifted front mine rest back region parts)
+    let others = tables_back tables (front ++ mine) back region (at + blocks_size t.parts.blocks) (shifted front mine rest back region parts)
     (longer front mine at (blocks_size t.parts.blocks) long (blocks_length t.parts.blocks)) each.1 in (
-      (record { parts = subst IsParts (sym first) each.0; kinds = allows_blocks version (parts_in region (table_from at t)).blocks }, others.0),
+      (record { parts = subst IsParts (sym first) each.0; kinds = allows_blocks (parts_in region (table_from at t)).blocks }, others.0),
       ap₂ (λ x xs. x ∷ xs) (ap (image_of_parts t.name) (sym first)) others.1,
     )
 

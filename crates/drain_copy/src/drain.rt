@@ -24,7 +24,7 @@ use crate::region_calls::{append, begin, finish, open};
 use crate::sizes::room;
 use crate::step::{DrainStep, Next, PlanFault, RegionFault};
 use berth_face::Berth;
-use region_directory::DrainTables;
+use region_directory::{DrainTables, LAYOUT};
 use region_layout::head_rest;
 use row_blocks::ColumnBytes;
 use std::alloc::Global;
@@ -221,7 +221,7 @@ impl Drain {
         ensures length { length result ≡ 15 }
         ensures head { result ++ drop 16 self.now.image ≡ drop 1 self.now.image }
     {
-        head_rest(2, self.place)
+        head_rest(LAYOUT, self.place)
     }
 
     fn directory(&self) -> &[u8]

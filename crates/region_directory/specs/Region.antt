@@ -1,9 +1,9 @@
 -- What a region means, by its fields.
-use Rattle.std.specs.Prelude.{◌≡◌, ℕ, ◌+◌, ◌==◌, Bool, true, List, [], map, take, drop, codes, slice_range}
+use Rattle.std.specs.Prelude.{◌≡◌, ℕ, ◌+◌, ◌==◌, ◌||◌, Bool, true, nat_lt, List, [], map, take, drop, codes, slice_range}
 use Rattle.std.specs.List.{AllByRecursion}
 use Rattle.std.specs.Int.{w64, from_le_bytes}
 use Rattle.column_bytes.specs.declared.kind.Kind.{Kind}
-use Rattle.column_bytes.specs.declared.kind.Kind.TheVariants.{Ints, Texts}
+use Rattle.column_bytes.specs.declared.kind.Kind.TheVariants.{Ints, Texts, Sets}
 use Rattle.column_bytes.specs.Column.{kind_in}
 use Rattle.region_layout.specs.declared.head.Head.TheVariants.{Version}
 use Rattle.region_layout.specs.Images.{TableImage}
@@ -15,6 +15,7 @@ use Rattle.region_directory.specs.declared.directory.BlockPlaces.{BlockPlaces}
 use Rattle.region_directory.specs.declared.directory.TablePlaces.{TablePlaces}
 use Rattle.region_directory.specs.declared.directory.Directory.{Directory}
 use Rattle.row_blocks.specs.Blocks.{Block}
+use Rattle.row_blocks.specs.Columns.{MeanCells}
 use Rattle.row_blocks.specs.Held.{rows_held}
 use Rattle.table_state.specs.Tables.{IsParts}
 use Rattle.region_directory.specs.Directory.{IsDirectory}
@@ -24,16 +25,21 @@ use Rattle.region_directory.specs.Written.{directory_bytes}
 
 -- the version that a drain writes
 abbrev pub layout : ℕ
-layout = 2
+layout = 3
 
 -- the versions that a start adopts
 abbrev pub reads : ℕ → Bool
-reads version = version == 2
+reads version = version == 2 || version == 3
 
--- the kinds of columns that an image of a version may have
+-- the kinds of columns that an image of a version may have: sets stand in none before version 3
 abbrev pub allows : ℕ → Kind → Bool
 allows version Ints = true
 allows version Texts = true
+allows version Sets = nat_lt 2 version
+
+-- the bytes mean so many cells, of a kind that the version allows
+abbrev pub MeanIn : ℕ → List ℕ → ℕ → Type 0
+MeanIn version bytes n = MeanCells bytes n × (allows version (kind_in bytes) ≡ true)
 
 -- ---- the parts of a region
 

@@ -2,14 +2,7 @@
 ghost use Rattle.std.specs.Prelude.{◌≡◌, ℕ, List};
 ghost use Rattle.region_layout.specs.Images.{TableImage};
 ghost use Rattle.region_layout.specs.Region.{IsClosed};
-ghost use Rattle.region_directory.specs.Region.{IsAdoptable, reads};
-
-/// Whether a start adopts images of that version.
-pub fn reads(version: u32) -> bool
-    ensures { result ≡ reads version }
-{
-    version == 2
-}
+ghost use Rattle.region_directory.specs.Region.{IsAdoptable};
 
 /// A region is an image of one list of tables and one end of the log, and none where it is closed.
 pub fn one_reading()

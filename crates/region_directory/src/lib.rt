@@ -7,9 +7,11 @@ mod directory_writer;
 mod drained;
 mod laws;
 mod rules;
+mod version;
 
 pub use directory::{
     BlockPlaces, BlockPlacesList, Directory, Place, Places, TablePlaces, TablePlacesList,
 };
 pub use drained::{DrainTable, DrainTables};
-pub use laws::{one_reading, reads};
+pub use laws::one_reading;
+pub use version::{LAYOUT, allows, reads};
