@@ -5,8 +5,6 @@ use Rattle.std.specs.List.{AllByRecursion, flat_map}
 use Rattle.std.proofs.lemmas.List.{append-nil, map-append}
 use Rattle.leaf_model.specs.Names.{AreDistinct}
 use Rattle.region_layout.specs.Images.{TableImage}
-use Rattle.column_bytes.specs.declared.kind.Kind.{Kind}
-use Rattle.column_bytes.specs.declared.kind.Kind.TheVariants.{Ints, Texts}
 use Rattle.column_bytes.specs.Column.{kind_in}
 use Rattle.row_blocks.specs.declared.column.BlockColumn.{BlockColumn}
 use Rattle.row_blocks.specs.Blocks.{Block}
@@ -92,21 +90,29 @@ tables_are region d = ap (tables_from d.tables) (sym (append-nil (map (own_bytes
 
 -- ---- they are the tables of the image
 
-allowed : (version : ℕ) (kind : Kind) → allows version kind ≡ true
-allowed version Ints = refl
-allowed version Texts = refl
+abbrev pub AreAllowed : ℕ → List (List ℕ) → Type 0
+AreAllowed version columns = AllByRecursion (λ (bytes : List ℕ). allows version (kind_in bytes) ≡ true) columns
 
-columns_allowed : (version : ℕ) (cs : List BlockColumn) → AllByRecursion (λ (c : BlockColumn). allows version (kind_in c.bytes) ≡ true) cs
-columns_allowed version [] = tt
-columns_allowed version (c ∷ cs) = (allowed version (kind_in c.bytes), columns_allowed version cs)
+both_allowed : (version : ℕ) (region : List ℕ) (ps qs : List Place) → AreAllowed version (map (own_bytes region) (ps ++ qs)) → AreAllowed version (map (own_bytes region) ps) × AreAllowed version (map (own_bytes region) qs)
+both_allowed version region [] qs each = (tt, each)
+both_allowed version region (p ∷ ps) qs each = let rest = both_allowed version region ps qs each.1 in ((each.0, rest.0), rest.1)
 
-blocks_allowed : (version : ℕ) (bs : List Block) → AllByRecursion (λ (b : Block). AllByRecursion (λ (c : BlockColumn). allows version (kind_in c.bytes) ≡ true) b.columns) bs
-blocks_allowed version [] = tt
-blocks_allowed version (b ∷ bs) = (columns_allowed version b.columns, blocks_allowed version bs)
+columns_allowed : (version : ℕ) (region : List ℕ) (ps : List Place) → AreAllowed version (map (own_bytes region) ps) → AllByRecursion (λ (c : BlockColumn). allows version (kind_in c.bytes) ≡ true) (map (column_in region) ps)
+columns_allowed version region [] each = tt
+columns_allowed version region (p ∷ ps) each = (each.0, columns_allowed version region ps each.1)
 
-each_in : (version : ℕ) (region : List ℕ) (ts : List TablePlaces) → AllByRecursion IsMade (map (drained region) ts) → AllByRecursion (IsTableIn version region) ts
-each_in version region [] each = tt
-each_in version region (t ∷ ts) each = (record { parts = each.0; kinds = blocks_allowed version (parts_in region t).blocks }, each_in version region ts each.1)
+blocks_allowed : (version : ℕ) (region : List ℕ) (bs : List BlockPlaces) → AreAllowed version (map (own_bytes region) (block_columns bs))
+    → AllByRecursion (λ (b : Block). AllByRecursion (λ (c : BlockColumn). allows version (kind_in c.bytes) ≡ true) b.columns) (map (block_in region) bs)
+blocks_allowed version region [] each = tt
+blocks_allowed version region (b ∷ bs) each =
+    let both = both_allowed version region b.columns (block_columns bs) each in
+    (columns_allowed version region b.columns both.0, blocks_allowed version region bs both.1)
+
+each_in : (version : ℕ) (region : List ℕ) (ts : List TablePlaces) → AllByRecursion IsMade (map (drained region) ts) → AreAllowed version (map (own_bytes region) (flat_map table_columns ts)) → AllByRecursion (IsTableIn version region) ts
+each_in version region [] each kinds = tt
+each_in version region (t ∷ ts) each kinds =
+    let both = both_allowed version region (table_columns t) (flat_map table_columns ts) kinds in
+    (record { parts = each.0; kinds = blocks_allowed version region t.blocks both.0 }, each_in version region ts each.1 both.1)
 
 each_made : (version : ℕ) (region : List ℕ) (ts : List TablePlaces) → AllByRecursion (IsTableIn version region) ts → AllByRecursion IsMade (map (drained region) ts)
 each_made version region [] each = tt
@@ -146,7 +152,7 @@ module _ (region now : List ℕ) (a : AdoptState) (adopting : Adopting region a 
           is = record {
             directory = a.directory;
             has = adopting.has;
-            each = each_in a.version region a.directory.tables (subst (AllByRecursion IsMade) same made.1);
+            each = each_in a.version region a.directory.tables (subst (AllByRecursion IsMade) same made.1) (subst (AreAllowed a.version) heap_is adopting.kinds);
             tables_are = ap images_of same ∙ images_are region a.directory.tables;
             log_end_is = made.2;
           };
@@ -155,7 +161,7 @@ module _ (region now : List ℕ) (a : AdoptState) (adopting : Adopting region a 
       )
   finishes (Ok step.NoImage) refused = (
     inl (none, λ parts. refused (subst (AllByRecursion IsMade) (sym made_is) (parts_made region a.directory.tables parts))),
-    (λ images log_end is. refused (subst (AllByRecursion IsMade) (sym made_is) (each_made is.version region a.directory.tables (each_table a.version region a.directory images log_end adopting.has is)))),
+    (λ images log_end is. refused (subst (AllByRecursion IsMade) (sym made_is) (each_made a.version region a.directory.tables (each_table a.version region a.directory images log_end adopting.has is)))),
     left,
   )
   finishes (Ok (step.More b)) made = absurd made

@@ -58,6 +58,7 @@ ready_found names region old now version l left a closed cut read looks known sp
     on : Adopting region (begun names version l (length left)) now
     on = record {
       reads_it = read;
+      kinds = tt;
       has = looks.0;
       known = known;
       len = looks.2;

@@ -1,7 +1,9 @@
 -- What a step answers that takes a column.
-use Rattle.std.proofs.Common.{◌≡◌, ℕ, suc, ◌+◌, ◌<◌, ◌≤◌, ◌^◌, List, [], ◌∷◌, ◌++◌, length, take, reverse, Some, None, Result, Ok, Err, sym, ap, subst, ◌∙◌, arith}
+use Rattle.std.proofs.Common.{◌≡◌, true, ℕ, suc, ◌+◌, ◌<◌, ◌≤◌, ◌^◌, List, [], ◌∷◌, ◌++◌, length, take, reverse, Some, None, Result, Ok, Err, sym, ap, subst, ◌∙◌, arith}
+use Rattle.column_bytes.specs.Column.{kind_in}
 use Rattle.region_layout.specs.Region.{IsClosed}
 use Rattle.region_directory.specs.declared.directory.Directory.{Directory}
+use Rattle.region_directory.specs.Region.{allows}
 use Rattle.adopt.specs.declared.spans.Span.{Span}
 use Rattle.adopt.specs.declared.found.AdoptFault.{AdoptFault}
 use Rattle.adopt.specs.declared.found.AdoptFault.TheVariants.{RegionFault, NoMemory}
@@ -37,28 +39,29 @@ module _ (names : List (List ℕ)) (version image_len : ℕ) (d : Directory) (pl
     closed : IsClosed old
     closed = taken_closed region old state adopting init s front left
 
-    pub column_fails : (result : Result AdoptStep AdoptFault) (e : AdoptFault) → result ≡ Err e → (IsClosed old → TakesSpan s old new (Err e)) → AdoptsOn region state new result
+    pub column_fails : (result : Result AdoptStep AdoptFault) (e : AdoptFault) → result ≡ Err e → (IsClosed old → TakesSpan version s old new (Err e)) → AdoptsOn region state new result
     column_fails result RegionFault is takes = subst (AdoptsOn region state new) (sym is) (takes closed)
     column_fails result NoMemory is takes =
         subst (AdoptsOn region state new) (sym is) (subst (IsLeftBehind region) (sym (takes closed)) (taken_left region old state adopting init s front left))
 
-    pub column_none : (IsClosed old → TakesSpan s old new (Ok None)) → BreaksNow region state × IsNoImage region × IsLeftBehind region new
+    pub column_none : (IsClosed old → TakesSpan version s old new (Ok None)) → BreaksNow region state × IsNoImage region × IsLeftBehind region new
     column_none takes = (
       taken_breaks region old state adopting init s front left (takes closed).0,
       taken_none region old state adopting init s front left (takes closed).0,
       subst (IsLeftBehind region) (sym (takes closed).1) (taken_left region old state adopting init s front left),
     )
 
-    pub put_fails : (result : Result AdoptStep AdoptFault) (bytes : List ℕ) → result ≡ Err NoMemory → (IsClosed old → TakesSpan s old new (Ok (Some bytes))) → AdoptsOn region state new result
+    pub put_fails : (result : Result AdoptStep AdoptFault) (bytes : List ℕ) → result ≡ Err NoMemory → (IsClosed old → TakesSpan version s old new (Ok (Some bytes))) → AdoptsOn region state new result
     put_fails result bytes is takes = subst (AdoptsOn region state new) (sym is) (cut_left region old state adopting init s front left new (takes closed).1)
 
-    pub column_taken : (bytes : List ℕ) (now : List (List ℕ)) (b : AdoptState) → (IsClosed old → TakesSpan s old new (Ok (Some bytes))) → now ≡ taken ++ bytes ∷ []
+    pub column_taken : (bytes : List ℕ) (now : List (List ℕ)) (b : AdoptState) → (IsClosed old → TakesSpan version s old new (Ok (Some bytes))) → now ≡ taken ++ bytes ∷ []
         → b ≡ record { names = names; version = version; image_len = image_len; directory = d; left = length init; heap = reverse now } → Adopting region b new × (suc (length init) ≡ length all) × IsInImage b new × NextMeansCells region state
     column_taken bytes now b takes put later =
         let own = later ∙ ap (λ (h : List (List ℕ)). record { names = names; version = version; image_len = image_len; directory = d; left = length init; heap = h }) (put_first taken now bytes put) in
-        let got = takes closed in (
-          taken_on region old state adopting init s front left new bytes b got.0 got.1 own,
+        let got = takes closed in
+        let kind = subst (λ (l : List ℕ). allows version (kind_in l) ≡ true) (sym got.0) got.2.1 in (
+          taken_on region old state adopting init s front left new bytes b got.0 got.1 kind own,
           sym (left ∙ count_last init s),
-          taken_inside region old state adopting init s front left new bytes b got.0 got.1 own,
+          taken_inside region old state adopting init s front left new bytes b got.0 got.1 kind own,
           taken_means region old state adopting init s front left got.2,
         )

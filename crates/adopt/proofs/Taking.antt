@@ -1,12 +1,12 @@
 -- A column is taken off a region.
-use Rattle.std.proofs.Common.{◌≡◌, ℕ, suc, ◌+◌, ◌-◌, ◌≤◌, List, [], ◌∷◌, ◌++◌, length, map, take, drop, get_or, refl, sym, ap, ap₂, subst, ◌∙◌, arith, length-take, take-append-drop, append_assoc}
+use Rattle.std.proofs.Common.{◌≡◌, true, ℕ, suc, ◌+◌, ◌-◌, ◌≤◌, List, [], ◌∷◌, ◌++◌, length, map, take, drop, get_or, refl, sym, ap, ap₂, subst, ◌∙◌, arith, length-take, take-append-drop, append_assoc}
 use Rattle.std.proofs.lemmas.List.{drop-take, take-take}
 use Rattle.column_bytes.specs.Coding.{joined}
-use Rattle.row_blocks.specs.Columns.{MeanCells}
+use Rattle.column_bytes.specs.Column.{kind_in}
 use Rattle.region_layout.specs.Region.{IsClosed}
 use Rattle.region_directory.specs.declared.directory.Place.{Place}
 use Rattle.region_directory.specs.Directory.{columns_of}
-use Rattle.region_directory.specs.Region.{column_in, directory_from}
+use Rattle.region_directory.specs.Region.{MeanIn, allows, column_in, directory_from}
 use Rattle.std.specs.Prelude.{IfSome, slice_get}
 use Rattle.std.proofs.Common.{inr, length-append, Option, Some}
 use Rattle.adopt.specs.Adopting.{BreaksNow, NextMeansCells, next_span}
@@ -116,9 +116,9 @@ module _ (region now : List ℕ) (a : AdoptState) (adopting : Adopting region a 
       ∙ ap (take s.length) (behind_flag s.place region (omega (arith, begins)) long)
       ∙ ap (λ (n : ℕ). take n (drop s.place region)) back
 
-  pub taken_none : (MeanCells (bytes_at now s) s.rows → ⊥) → IsNoImage region
+  pub taken_none : (MeanIn a.version (bytes_at now s) s.rows → ⊥) → IsNoImage region
   taken_none fails =
-      no_cells a.version region a.directory init s rest adopting.has split (λ means. fails (subst (λ (l : List ℕ). MeanCells l s.rows) (sym bytes_is) means))
+      no_cells a.version region a.directory init s rest adopting.has split (λ means. fails (subst (λ (l : List ℕ). MeanIn a.version l s.rows) (sym bytes_is) means))
 
   next_is : next_span a ≡ Some s
   next_is =
@@ -128,24 +128,24 @@ module _ (region now : List ℕ) (a : AdoptState) (adopting : Adopting region a 
   bytes_there : bytes_at now s ≡ bytes_at region s
   bytes_there = let back : s.place + s.length - s.place ≡ s.length = omega arith in bytes_is ∙ ap (λ (n : ℕ). take n (drop s.place region)) back
 
-  means_there : MeanCells (bytes_at now s) s.rows → MeanCells (bytes_at region s) s.rows
-  means_there means = subst (λ (l : List ℕ). MeanCells l s.rows) bytes_there means
+  means_there : MeanIn a.version (bytes_at now s) s.rows → MeanIn a.version (bytes_at region s) s.rows
+  means_there means = subst (λ (l : List ℕ). MeanIn a.version l s.rows) bytes_there means
 
-  pub taken_means : MeanCells (bytes_at now s) s.rows → NextMeansCells region a
-  taken_means means = subst (λ (o : Option Span). IfSome o (λ t. MeanCells (bytes_at region t) t.rows)) (sym next_is) (means_there means)
+  pub taken_means : MeanIn a.version (bytes_at now s) s.rows → NextMeansCells region a
+  taken_means means = subst (λ (o : Option Span). IfSome o (λ t. MeanIn a.version (bytes_at region t) t.rows)) (sym next_is) (means_there means)
 
-  pub taken_breaks : (MeanCells (bytes_at now s) s.rows → ⊥) → BreaksNow region a
+  pub taken_breaks : (MeanIn a.version (bytes_at now s) s.rows → ⊥) → BreaksNow region a
   taken_breaks fails =
       inr (
         omega (arith, left, length-append init (s ∷ [])),
-        λ means. fails (subst (λ (l : List ℕ). MeanCells l s.rows) (sym bytes_there) (subst (λ (o : Option Span). IfSome o (λ t. MeanCells (bytes_at region t) t.rows)) next_is means)),
+        λ means. fails (subst (λ (l : List ℕ). MeanIn a.version l s.rows) (sym bytes_there) (subst (λ (o : Option Span). IfSome o (λ t. MeanIn a.version (bytes_at region t) t.rows)) next_is means)),
       )
 
   behind_is : a.heap ≡ map (span_in region) rest
   behind_is = adopting.heap ∙ ap₂ (λ (n : ℕ) (l : List (List ℕ)). drop n l) count bytes_are ∙ behind_split (span_in region) init s rest
 
   -- what is then known of it, with its bytes on the heap
-  module _ (new bytes : List ℕ) (b : AdoptState) (bytes_read : bytes ≡ bytes_at now s) (cut : new ≡ take s.place now)
+  module _ (new bytes : List ℕ) (b : AdoptState) (bytes_read : bytes ≡ bytes_at now s) (cut : new ≡ take s.place now) (kind : allows a.version (kind_in bytes) ≡ true)
       (later : b ≡ record { names = a.names; version = a.version; image_len = a.image_len; directory = a.directory; left = length init; heap = bytes ∷ a.heap }) where
     heap_is : bytes ∷ a.heap ≡ map (span_in region) (s ∷ rest)
     heap_is = ap₂ (λ (x : List ℕ) (l : List (List ℕ)). x ∷ l) (bytes_read ∙ bytes_is) behind_is
@@ -160,6 +160,7 @@ module _ (region now : List ℕ) (a : AdoptState) (adopting : Adopting region a 
       known = adopting.known;
       len = adopting.len;
       few = let few = adopting.few in omega (arith, few, count);
+      kinds = (kind, adopting.kinds);
       heap = heap_is ∙ sym (ap (drop (length init)) bytes_are ∙ from_split (span_in region) init s rest);
       rest = cut ∙ cut_now
           ∙ ap (λ (n : ℕ). take n (closed_flag region)) (sym (ap (λ (l : List ℕ). get_or l (length init) place) places_are ∙ at_split (λ (t : Span). t.place) place init s rest));

@@ -3,6 +3,7 @@ use Rattle.std.specs.Prelude.{◌≡◌, ◌⊎◌, ℕ, suc, ◌+◌, ◌-◌, 
 use Rattle.std.specs.List.{AllByRecursion, find, list_any}
 use Rattle.berth_face.specs.Berth.{Pair, Meaning}
 use Rattle.column_bytes.specs.Coding.{joined}
+use Rattle.column_bytes.specs.Column.{kind_in}
 use Rattle.region_layout.specs.declared.head.Head.TheVariants as head
 use Rattle.region_layout.specs.Images.{TableImage}
 use Rattle.region_layout.specs.Region.{IsClosed, head_of}
@@ -21,10 +22,8 @@ use Rattle.region_directory.specs.declared.directory.Directory.{Directory}
 use Rattle.region_directory.specs.declared.drained.DrainTable.{DrainTable}
 use Rattle.table_state.specs.Tables.{IsParts}
 use Rattle.region_directory.specs.Directory.{columns_of}
-use Rattle.region_directory.specs.Region.{HasDirectory, IsAdoptable, column_in, directory_from, reads}
+use Rattle.region_directory.specs.Region.{HasDirectory, IsAdoptable, MeanIn, allows, column_in, directory_from, parts_in, reads}
 use Rattle.region_directory.specs.Drained.{images_of}
-use Rattle.row_blocks.specs.Columns.{MeanCells}
-use Rattle.region_directory.specs.Region.{parts_in}
 use Rattle.adopt.specs.declared.spans.Span.{Span}
 use Rattle.adopt.specs.Finding.{bytes_at}
 use Rattle.adopt.specs.Taken.{spans_of}
@@ -94,13 +93,14 @@ pub record ClosedFrom (old : Meaning) (p : Pair) : Type 0 where
 abbrev pub cut_at : AdoptState → List ℕ → ℕ
 cut_at a region = get_or (map (λ (p : Place). p.place) (columns_of a.directory)) a.left (directory_from region)
 
--- So much was taken of this image, whose flag was open; the region is the rest of it.
+-- So much was taken of this image, whose flag was open, each column of a kind that its version allows; the region is the rest of it.
 pub record Adopting (region : List ℕ) (a : AdoptState) (now : List ℕ) : Type 0 where
   pub reads_it : reads a.version ≡ true
   pub has : HasDirectory a.version region a.directory
   pub known : stranger_of a.names (map (λ (t : TablePlaces). t.name) a.directory.tables) ≡ None
   pub len : a.image_len ≡ length region
   pub few : a.left ≤ length (columns_of a.directory)
+  pub kinds : AllByRecursion (λ (bytes : List ℕ). allows a.version (kind_in bytes) ≡ true) a.heap
   pub heap : a.heap ≡ drop a.left (map (λ (p : Place). (column_in region p).bytes) (columns_of a.directory))
   pub rest : now ≡ take (cut_at a region) (0 ∷ drop 1 region)
 
@@ -148,9 +148,9 @@ pub record AreDrained (names : List (List ℕ)) (tables : List DrainTable) : Typ
 abbrev pub next_span : AdoptState → Option Span
 next_span a = slice_get (spans_of a.directory) (a.left - 1)
 
--- it has as many cells as its block has rows
+-- it has as many cells as its block has rows, of a kind that the version allows
 abbrev pub NextMeansCells : List ℕ → AdoptState → Type 0
-NextMeansCells region a = IfSome (next_span a) (λ s. MeanCells (bytes_at region s) s.rows)
+NextMeansCells region a = IfSome (next_span a) (λ s. MeanIn a.version (bytes_at region s) s.rows)
 
 -- a step finds no image: none is left, and the blocks are no tables; or the next column means no such cells
 abbrev pub BreaksNow : List ℕ → AdoptState → Type 0

@@ -1,8 +1,10 @@
--- How many cells bytes mean.
-use Rattle.std.specs.Prelude.{ℕ, List, Option, Some, None}
+-- What bytes mean as a column, told by a number of cells and a kind.
+use Rattle.std.specs.Prelude.{◌≡◌, ℕ, List, Option, Some, None}
+use Rattle.column_bytes.specs.declared.kind.Kind.{Kind}
+use Rattle.column_bytes.specs.Column.{kind_in}
 use Rattle.row_blocks.specs.Columns.{MeanCells}
 
--- the bytes mean so many cells, or none
-abbrev pub CountsCells : List ℕ → Option ℕ → Type 0
-CountsCells bytes (Some n) = MeanCells bytes n
-CountsCells bytes None = (n : ℕ) → MeanCells bytes n → ⊥
+-- the bytes mean so many cells and are of this kind, or mean none
+abbrev pub TellsCells : List ℕ → Option (ℕ × Kind) → Type 0
+TellsCells bytes (Some told) = MeanCells bytes told.0 × (kind_in bytes ≡ told.1)
+TellsCells bytes None = (n : ℕ) → MeanCells bytes n → ⊥

@@ -2,12 +2,11 @@
 use Rattle.std.specs.Prelude.{◌≡◌, ℕ, ◌≤◌, Bool, not, List, ◌∷◌, length, take, drop, codes, Option, Some, None, Result, Ok, Err, bytes_eq}
 use Rattle.std.specs.List.{list_any}
 use Rattle.std.specs.Int.{w64, from_le_bytes}
-use Rattle.row_blocks.specs.Columns.{MeanCells}
 use Rattle.region_layout.specs.Region.{IsClosed}
 use Rattle.region_directory.specs.declared.directory.TablePlaces.{TablePlaces}
 use Rattle.region_directory.specs.declared.directory.Directory.{Directory}
 use Rattle.region_directory.specs.Directory.{IsDirectory}
-use Rattle.region_directory.specs.Region.{HasDirectory, directory_from}
+use Rattle.region_directory.specs.Region.{HasDirectory, MeanIn, directory_from}
 use Rattle.region_directory.specs.Written.{directory_bytes}
 use Rattle.adopt.specs.declared.spans.Span.{Span}
 use Rattle.adopt.specs.declared.looked.Looked.{Looked}
@@ -51,9 +50,9 @@ LooksAt version region (Some l) = HasDirectory version region l.directory × (l.
 abbrev pub bytes_at : List ℕ → Span → List ℕ
 bytes_at region s = take s.length (drop s.place region)
 
--- The column was read, and the region is cut where it stood; or it has another number of cells than its block has rows.
-abbrev pub TakesSpan : Span → List ℕ → List ℕ → Result (Option (List ℕ)) AdoptFault → Type 0
-TakesSpan s old new (Ok None) = (MeanCells (bytes_at old s) s.rows → ⊥) × (new ≡ old)
-TakesSpan s old new (Ok (Some bytes)) = (bytes ≡ bytes_at old s) × (new ≡ take s.place old) × MeanCells (bytes_at old s) s.rows
-TakesSpan s old new (Err RegionFault) = IsClosed new
-TakesSpan s old new (Err NoMemory) = new ≡ old
+-- The column was read, and the region is cut where it stood; or it is none of that version, or has another number of cells than its block has rows.
+abbrev pub TakesSpan : ℕ → Span → List ℕ → List ℕ → Result (Option (List ℕ)) AdoptFault → Type 0
+TakesSpan version s old new (Ok None) = (MeanIn version (bytes_at old s) s.rows → ⊥) × (new ≡ old)
+TakesSpan version s old new (Ok (Some bytes)) = (bytes ≡ bytes_at old s) × (new ≡ take s.place old) × MeanIn version (bytes_at old s) s.rows
+TakesSpan version s old new (Err RegionFault) = IsClosed new
+TakesSpan version s old new (Err NoMemory) = new ≡ old

@@ -131,7 +131,7 @@ impl Adopt {
         let Some(span) = left.pop() else {
             unreachable!();
         };
-        let Some(column) = take_span(alloc, span, berth)? else {
+        let Some(column) = take_span(alloc, version, span, berth)? else {
             return Ok(AdoptStep::NoImage);
         };
         let held = held + column.as_slice().len() as u64;
@@ -149,15 +149,16 @@ impl Adopt {
     }
 }
 
-/// Reads a column, and cuts the region where it stood; or None, where it means no cells.
+/// Reads a column, and cuts the region where it stood; or None, where it means no cells, or is of a kind that the version does not allow.
 fn take_span<B: Berth>(
     alloc: Global,
+    version: u32,
     span: Span,
     berth: &mut B,
 ) -> Result<Option<ColumnBytes>, AdoptFault>
     ensures size { IfOk result (λ found. IfSome found (λ bytes. length bytes ≤ span.length)) }
     ensures told { IsTrue (B.meaning berth.old).tells → IsClosed (B.meaning berth.old).held.region
-        → TakesSpan span (B.meaning berth.old).held.region (B.meaning berth.new).held.region result }
+        → TakesSpan version span (B.meaning berth.old).held.region (B.meaning berth.new).held.region result }
     ensures disk { IsTrue (B.meaning berth.old).tells → (B.meaning berth.new).held.disk ≡ (B.meaning berth.old).held.disk }
     ensures disks { IsTrue (B.meaning berth.old).tells → Ended SameDisk (B.meaning berth.old) (B.meaning berth.new) }
     ensures moments { IsTrue (B.meaning berth.old).tells → IsClosed (B.meaning berth.old).held.region
@@ -168,7 +169,7 @@ fn take_span<B: Berth>(
     ensures reads { (B.meaning berth.new).disk_reads ≡ (B.meaning berth.old).disk_reads }
 {
     let column = read_piece(alloc, span.place, span.length, berth)?;
-    if !mean_cells(&column, span.rows) {
+    if !mean_cells(version, &column, span.rows) {
         return Ok(None);
     }
     cut(span.place, berth)?;

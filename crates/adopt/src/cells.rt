@@ -1,42 +1,43 @@
-// Whether bytes mean so many cells.
+// Whether bytes mean so many cells, of a kind that a version allows.
 ghost use Rattle.std.specs.Prelude.{◌≡◌, ◌↔◌, ◌<◌, ℕ, List, length, Option, IfSome, IsSome, IsTrue};
 ghost use Rattle.leaf_model.specs.declared.rows.Value.{Value};
 ghost use Rattle.column_bytes.specs.Column.{HasCells};
-ghost use Rattle.row_blocks.specs.Columns.{MeanCells};
-ghost use Rattle.adopt.specs.Cells.{CountsCells};
+ghost use Rattle.region_directory.specs.Region.{MeanIn};
+ghost use Rattle.adopt.specs.Cells.{TellsCells};
 
-use column_bytes::ColumnView;
+use column_bytes::{ColumnView, Kind};
 use leaf_model::Steps;
+use region_directory::allows;
 use std::marker::Brand;
 use std::sync::ledger::{Blank, Ledger};
 
-// How many cells the bytes mean, where they are a column. It counts no steps.
-fn count_read<L: Ledger>(bytes: &[u8], blank: Blank) -> Option<u32>
+// How many cells the bytes mean, and of which kind, where they are a column. It counts no steps.
+fn tell_read<L: Ledger>(bytes: &[u8], blank: Blank) -> Option<(u32, Kind)>
     requires name { blank.name ≡ L.name }
     requires parts { blank.parts ≡ L.parts }
     requires some { 0 < blank.parts }
-    ensures { CountsCells bytes.now result }
+    ensures { TellsCells bytes.now result }
 {
     let mut steps = Steps::<L>::new(blank);
     match ColumnView::read(bytes, &mut steps) {
-        Ok(view) => Some(view.len()),
+        Ok(view) => Some((view.len(), view.kind())),
         Err(_) => None,
     }
 }
 
-fn count_cells(bytes: &[u8]) -> Option<u32>
-    ensures { CountsCells bytes.now result }
+fn tell_cells(bytes: &[u8]) -> Option<(u32, Kind)>
+    ensures { TellsCells bytes.now result }
 {
-    count_read::<Brand>(bytes, Blank::new(1))
+    tell_read::<Brand>(bytes, Blank::new(1))
 }
 
-/// Whether the bytes are a column of so many cells.
+/// Whether the bytes are a column of so many cells that an image of the version may have.
 #[tactic(auto, using(crate::proofs::Counts::one_number))]
-pub fn mean_cells(bytes: &[u8], rows: u32) -> bool
-    ensures { IsTrue result ↔ MeanCells bytes.now rows }
+pub fn mean_cells(version: u32, bytes: &[u8], rows: u32) -> bool
+    ensures { IsTrue result ↔ MeanIn version bytes.now rows }
 {
-    match count_cells(bytes) {
-        Some(count) => count == rows,
+    match tell_cells(bytes) {
+        Some((count, kind)) => count == rows && allows(version, kind),
         None => false,
     }
 }

@@ -34,7 +34,7 @@ returns-in_default-2-clause-told g c =
     let none : c.in_ok-column.field-0 ≡ None = search rules in
     subst (λ (a : AdoptState). (region : List ℕ) → IsTrue (g.B.Berth.meaning c.args.berth.now).tells → Adopting region a old → BreaksNow region a × IsNoImage region × IsLeftBehind region new) c.self.view_is
     (λ region told adopting. column_none i.names.value i.version i.image_len i.directory i.place i.held i.left.items init s i.taken.items c.self.invariant split region old new adopting
-    (λ closed. subst (λ (o : Option (List ℕ)). TakesSpan s old new (Ok o)) none (c.in_ok-column.ensures.told told closed)))
+    (λ closed. subst (λ (o : Option (List ℕ)). TakesSpan i.version s old new (Ok o)) none (c.in_ok-column.ensures.told told closed)))
 
 pub overflow_add-held : goal.overflow_add-held
 overflow_add-held g c =
@@ -58,7 +58,7 @@ returns-in_err-put-clause-told g c =
     let p = err_from_is_err_and c.from_residual-in_err-put.result c.from_residual-in_err-put.ensures.1 in
     let is = p.1 ∙ ap Err p.2 in
     subst (λ (a : AdoptState). (region : List ℕ) → IsTrue (g.B.Berth.meaning c.args.berth.now).tells → Adopting region a old → AdoptsOn region a new c.from_residual-in_err-put.result) c.self.view_is
-    (λ region told adopting. put_fails i.names.value i.version i.image_len i.directory i.place i.held i.left.items init s i.taken.items c.self.invariant split region old new adopting c.from_residual-in_err-put.result c.in-Some-2.column is (λ closed. subst (λ (o : Option (List ℕ)). TakesSpan s old new (Ok o)) c.in-Some-2.is (c.in_ok-column.ensures.told told closed)))
+    (λ region told adopting. put_fails i.names.value i.version i.image_len i.directory i.place i.held i.left.items init s i.taken.items c.self.invariant split region old new adopting c.from_residual-in_err-put.result c.in-Some-2.column is (λ closed. subst (λ (o : Option (List ℕ)). TakesSpan i.version s old new (Ok o)) c.in-Some-2.is (c.in_ok-column.ensures.told told closed)))
 
 pub invariant_of-result : goal.invariant_of-result
 invariant_of-result g c =
@@ -83,7 +83,7 @@ returns-clause-told g c =
     λ region told adopting.
     let before = subst (λ (a : AdoptState). Adopting region a old) (sym c.self.view_is) adopting in
     let count = ap (λ (a : AdoptState). a.left) c.self.view_is in
-    let got = column_taken i.names.value i.version i.image_len i.directory i.place i.held i.left.items init s i.taken.items c.self.invariant split region old new before c.in-Some-2.column c.put.new.list.items _ (λ closed. subst (λ (o : Option (List ℕ)). TakesSpan s old new (Ok o)) c.in-Some-2.is (c.in_ok-column.ensures.told told closed)) c.in_ok-put.ensures refl in
+    let got = column_taken i.names.value i.version i.image_len i.directory i.place i.held i.left.items init s i.taken.items c.self.invariant split region old new before c.in-Some-2.column c.put.new.list.items _ (λ closed. subst (λ (o : Option (List ℕ)). TakesSpan i.version s old new (Ok o)) c.in-Some-2.is (c.in_ok-column.ensures.told told closed)) c.in_ok-put.ensures refl in
     (got.0, got.1 ∙ count, got.2, subst (NextMeansCells region) c.self.view_is got.3)
 
 pub returns-clause-kept : goal.returns-clause-kept
