@@ -5,14 +5,14 @@ use std::alloc::AllocError;
 use std::marker::Model;
 
 /// A leaf, and the number of the entry that was made at its table.
-#[derive(Clone, Copy, Debug, PartialEq, Eq)]
+#[derive(Clone, Copy, PartialEq, Eq)]
 pub struct Named {
     pub leaf: u32,
     pub number: u64,
 }
 
 /// Leaves with the numbers of their entries. Contracts see them as the list.
-#[derive(Debug, Drop)]
+#[derive(Drop)]
 pub struct NamedList {
     inner: Vec<Named>,
 }
@@ -55,7 +55,7 @@ impl NamedList {
 }
 
 /// Leaves by their numbers alone. Contracts see them as the list.
-#[derive(Debug, Drop)]
+#[derive(Drop)]
 pub struct Leaves {
     inner: Vec<u32>,
 }

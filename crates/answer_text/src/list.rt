@@ -5,7 +5,7 @@ use leaf_model::Text;
 use std::marker::Model;
 
 /// The lines of an answer, without their ends. Contracts see them as the list.
-#[derive(Debug, Drop)]
+#[derive(Drop)]
 pub struct Lines {
     inner: Vec<Text>,
 }

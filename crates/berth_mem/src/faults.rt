@@ -8,7 +8,7 @@ ghost use Rattle.berth_mem.specs.declared.faults.Plan.TheVariants.{Failing};
 use std::marker::Model;
 
 /// A method of a source, a sink or a berth.
-#[derive(Clone, Copy, Debug, PartialEq, Eq)]
+#[derive(Clone, Copy, PartialEq, Eq)]
 pub enum Method {
     Take,
     Put,
@@ -43,14 +43,14 @@ impl Method {
 }
 
 /// A call that is to fail: the method, and which of its calls, from 1.
-#[derive(Clone, Copy, Debug, PartialEq, Eq)]
+#[derive(Clone, Copy, PartialEq, Eq)]
 pub struct Fail {
     pub method: Method,
     pub count: u64,
 }
 
 /// The calls that are to fail. Contracts see them as the list.
-#[derive(Debug, Drop)]
+#[derive(Drop)]
 pub struct Fails {
     inner: Vec<Fail>,
 }

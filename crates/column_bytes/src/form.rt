@@ -1,7 +1,7 @@
 // How the cells of a column are coded.
 
 // What the codes of a column stand for.
-#[derive(Debug, Clone, Copy, PartialEq, Eq)]
+#[derive(Clone, Copy, PartialEq, Eq)]
 pub(crate) enum Form {
     // What is to be added to one base.
     Offset,

@@ -1,7 +1,7 @@
 // What a column holds.
 
 /// What the cells of a column that are there hold.
-#[derive(Debug, Clone, Copy, PartialEq, Eq)]
+#[derive(Clone, Copy, PartialEq, Eq)]
 pub enum Kind {
     /// Integers of 64 bits.
     Ints,

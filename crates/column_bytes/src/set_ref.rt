@@ -7,7 +7,7 @@ use crate::sets::{text_of_set, texts_in_set};
 use std::marker::Model;
 
 /// The texts of a set, lent by the column: ascending, each once. Contracts see them as the list.
-#[derive(Debug, Drop)]
+#[derive(Drop)]
 pub struct SetRef<'a> {
     extra: &'a [u8],
     set: usize,

@@ -18,7 +18,7 @@ use leaf_model::{Text, Texts, Value};
 use std::alloc::{AllocError, Global};
 
 /// The texts of a list, each once, and a code for each of the list's places.
-#[derive(Debug, Drop)]
+#[derive(Drop)]
 pub struct Dict {
     pub texts: Texts,
     pub codes: Codes,

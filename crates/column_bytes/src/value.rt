@@ -3,7 +3,7 @@
 use crate::set_ref::SetRef;
 
 /// The value of a cell that is there, its texts lent by the column.
-#[derive(Debug, Drop)]
+#[derive(Drop)]
 pub enum ValueRef<'a> {
     Int(i64),
     Text(&'a str),

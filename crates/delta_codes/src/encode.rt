@@ -8,7 +8,7 @@ use crate::lists::{Anchors, Codes};
 use std::alloc::{AllocError, Global};
 
 /// Values as anchors and codes. The code of a place that has an anchor means nothing.
-#[derive(Debug, Drop)]
+#[derive(Drop)]
 pub struct Deltas {
     pub anchors: Anchors,
     pub codes: Codes,

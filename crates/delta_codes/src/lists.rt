@@ -4,7 +4,7 @@ ghost use Rattle.std.specs.Prelude.{◌≡◌};
 use std::marker::Model;
 
 /// The values at the places 0, 64, 128 and so on. Contracts see them as the list.
-#[derive(Debug, Drop)]
+#[derive(Drop)]
 pub struct Anchors {
     inner: Vec<i64>,
 }
@@ -38,7 +38,7 @@ impl Anchors {
 }
 
 /// One code for each value, in their order. Contracts see them as the list.
-#[derive(Debug, Drop)]
+#[derive(Drop)]
 pub struct Codes {
     inner: Vec<u64>,
 }

@@ -20,7 +20,7 @@ pub enum PlanFault {
 
 /// What a step did: it put a closed head into an empty region, or wrote a column of so many bytes, or the directory and the head
 /// behind the flag, or it opened the flag.
-#[derive(Clone, Copy, Debug, PartialEq, Eq)]
+#[derive(Clone, Copy, PartialEq, Eq)]
 pub enum DrainStep {
     Begun,
     Column { bytes: u64 },
@@ -29,7 +29,7 @@ pub enum DrainStep {
 }
 
 /// What comes next: the beginning; a column, or behind the last one the directory; the flag; or nothing.
-#[derive(Clone, Copy, Debug, PartialEq, Eq)]
+#[derive(Clone, Copy, PartialEq, Eq)]
 pub enum Next {
     Begin,
     Copy,

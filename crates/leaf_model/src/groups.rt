@@ -7,7 +7,7 @@ use std::cmp::Ordering;
 use std::marker::Model;
 
 /// What a row has under a name of GROUP BY.
-#[derive(Debug, Drop)]
+#[derive(Drop)]
 pub enum Key {
     Missing,
     Int(i64),
@@ -64,7 +64,7 @@ fn compare_keys(a: &[Key], b: &[Key]) -> Ordering
 }
 
 /// The keys of a group, in the order of GROUP BY. Contracts see them as the list.
-#[derive(Debug, Drop)]
+#[derive(Drop)]
 pub struct Keys {
     inner: Vec<Key>,
 }
@@ -106,7 +106,7 @@ impl Keys {
 }
 
 /// The number, the sum, the least and the greatest of some integers.
-#[derive(Clone, Copy, Debug)]
+#[derive(Clone, Copy)]
 pub struct Fold {
     pub seen: u64,
     pub sum: i128,
@@ -115,7 +115,7 @@ pub struct Fold {
 }
 
 /// A fold for each aggregate of a query, in their order. Contracts see them as the list.
-#[derive(Debug, Drop)]
+#[derive(Drop)]
 pub struct Folds {
     inner: Vec<Fold>,
 }
@@ -150,7 +150,7 @@ impl Folds {
 }
 
 /// The rows that share their keys: how many they are, and a fold for each aggregate.
-#[derive(Debug, Drop)]
+#[derive(Drop)]
 pub struct Group {
     pub keys: Keys,
     pub count: u64,
@@ -158,7 +158,7 @@ pub struct Group {
 }
 
 /// Groups, by their keys ascending. Contracts see them as the list.
-#[derive(Debug, Drop)]
+#[derive(Drop)]
 pub struct Groups {
     inner: Vec<Group>,
 }

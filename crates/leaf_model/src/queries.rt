@@ -7,7 +7,7 @@ use std::alloc::AllocError;
 use std::marker::Model;
 
 /// How a cell is compared with a constant. `Has` asks of a set whether it holds a text.
-#[derive(Clone, Copy, Debug, PartialEq, Eq)]
+#[derive(Clone, Copy, PartialEq, Eq)]
 pub enum Op {
     Eq,
     Ne,
@@ -19,7 +19,7 @@ pub enum Op {
 }
 
 /// A condition on the cell of a name. It is false of a missing cell, and between an integer and a text; a set meets `Has` alone.
-#[derive(Debug, Drop)]
+#[derive(Drop)]
 pub struct Cond {
     pub name: Text,
     pub op: Op,
@@ -39,7 +39,7 @@ impl Cond {
 }
 
 /// The conditions of a query, all of which are to hold. Contracts see them as the list.
-#[derive(Debug, Drop)]
+#[derive(Drop)]
 pub struct Conds {
     inner: Vec<Cond>,
 }
@@ -84,7 +84,7 @@ impl Conds {
 }
 
 /// What is told of a group: the number of its rows, or of its integers of a name the sum, the least, the greatest, or the sum with their number.
-#[derive(Debug, Drop)]
+#[derive(Drop)]
 pub enum Agg {
     Count,
     Sum(Text),
@@ -108,7 +108,7 @@ impl Agg {
 }
 
 /// The aggregates of a query, in the order of its answer. Contracts see them as the list.
-#[derive(Debug, Drop)]
+#[derive(Drop)]
 pub struct Aggs {
     inner: Vec<Agg>,
 }
@@ -154,7 +154,7 @@ impl Aggs {
 
 /// A query of one table: the rows from the time `from` to the time `to` that meet the conditions, in groups by `keys`.
 /// `order` is the place among `aggs` by which the answer is ordered, and `limit` the most lines of it.
-#[derive(Debug, Drop)]
+#[derive(Drop)]
 pub struct Query {
     pub table: Text,
     pub from: i64,

@@ -6,7 +6,7 @@ use std::alloc::AllocError;
 use std::marker::Model;
 
 /// What a cell holds.
-#[derive(Debug, Drop)]
+#[derive(Drop)]
 pub enum Value {
     Int(i64),
     Text(Text),
@@ -27,7 +27,7 @@ impl Value {
 }
 
 /// A named value of a row. The name `time` never names a cell.
-#[derive(Debug, Drop)]
+#[derive(Drop)]
 pub struct Cell {
     pub name: Text,
     pub value: Value,
@@ -45,7 +45,7 @@ impl Cell {
 }
 
 /// The cells of a row. Contracts see them as the list.
-#[derive(Debug, Drop)]
+#[derive(Drop)]
 pub struct Cells {
     inner: Vec<Cell>,
 }
@@ -90,7 +90,7 @@ impl Cells {
 }
 
 /// A time from 0 to 2^63 - 1, and at most 1,024 cells with ascending, distinct names.
-#[derive(Debug, Drop)]
+#[derive(Drop)]
 pub struct Row {
     pub time: i64,
     pub cells: Cells,
@@ -108,7 +108,7 @@ impl Row {
 }
 
 /// The rows of one add, at most 100,000. Contracts see them as the list.
-#[derive(Debug, Drop)]
+#[derive(Drop)]
 pub struct Rows {
     inner: Vec<Row>,
 }
@@ -156,7 +156,7 @@ impl Rows {
 }
 
 /// The rows of a table in order of arrival, of any number. Contracts see them as the list.
-#[derive(Debug, Drop)]
+#[derive(Drop)]
 pub struct TableRows {
     inner: Vec<Row>,
 }

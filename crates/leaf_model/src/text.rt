@@ -52,7 +52,7 @@ impl Text {
 }
 
 /// Names, in an order that means something. Contracts see them as the list.
-#[derive(Debug, Drop)]
+#[derive(Drop)]
 pub struct Names {
     inner: Vec<Text>,
 }
@@ -117,7 +117,7 @@ fn is_one_of(texts: &[Text], text: &str) -> bool
 }
 
 /// Texts. Contracts see them as the list.
-#[derive(Debug, Drop)]
+#[derive(Drop)]
 pub struct Texts {
     inner: Vec<Text>,
 }

@@ -5,7 +5,7 @@ use crate::rows::Rows;
 use std::marker::Model;
 
 /// What changes a table: rows that are added, a horizon below which rows expire, or how many of the last rows to keep.
-#[derive(Debug, Drop)]
+#[derive(Drop)]
 pub enum Write {
     Add(Rows),
     Expire(i64),
@@ -13,7 +13,7 @@ pub enum Write {
 }
 
 /// Writes, the first one first. Contracts see them as the list.
-#[derive(Debug, Drop)]
+#[derive(Drop)]
 pub struct Writes {
     inner: Vec<Write>,
 }

@@ -4,7 +4,7 @@ ghost use Rattle.std.specs.Prelude.{◌≡◌, ◌<◌, ◌≤◌, ◌++◌, ◌
 use std::marker::Model;
 
 /// An entry: the table was opened with so many writes; so many were taken, or were flushed; it was closed after so many; or it was handed over.
-#[derive(Clone, Copy, Debug, PartialEq, Eq)]
+#[derive(Clone, Copy, PartialEq, Eq)]
 pub enum What {
     Opened(u64),
     Took(u64),
@@ -14,7 +14,7 @@ pub enum What {
 }
 
 /// An entry of a table. The table is its place in the leaf, and the number is that of the entry in the table's history, from 1.
-#[derive(Clone, Copy, Debug, PartialEq, Eq)]
+#[derive(Clone, Copy, PartialEq, Eq)]
 pub struct Note {
     pub table: u32,
     pub number: u64,

@@ -4,7 +4,7 @@ use leaf_opening::Way;
 use rollover_plan::Wave;
 
 /// What an entry's line says after its number.
-#[derive(Debug, Clone, Copy, PartialEq, Eq)]
+#[derive(Clone, Copy, PartialEq, Eq)]
 pub enum Said {
     /// An add kept so many rows, and so many came late.
     Added { kept: u64, late: u64 },
@@ -27,7 +27,7 @@ pub enum Said {
 }
 
 /// The commands of a leaf's steward.
-#[derive(Debug, Clone, Copy, PartialEq, Eq)]
+#[derive(Clone, Copy, PartialEq, Eq)]
 pub enum Verb {
     Flush,
     Drain,
@@ -36,7 +36,7 @@ pub enum Verb {
 }
 
 /// How a command of a leaf's steward ended.
-#[derive(Debug, Drop)]
+#[derive(Drop)]
 pub enum Ending {
     Done,
     /// A drain made as many steps as it was to make, and the leaf was killed.
@@ -59,7 +59,7 @@ pub enum Ending {
 }
 
 /// A printed line, and behind an answer the answer's own lines.
-#[derive(Debug, Drop)]
+#[derive(Drop)]
 pub enum Line {
     /// One entry of a table's history; the table is its place among the fleet's.
     Entry {

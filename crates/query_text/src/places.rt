@@ -3,7 +3,7 @@
 use leaf_model::{Agg, Op, Query, Text};
 
 /// The words of aggregates.
-#[derive(Clone, Copy, Debug, PartialEq, Eq)]
+#[derive(Clone, Copy, PartialEq, Eq)]
 pub enum Kind {
     Count,
     Sum,
@@ -13,7 +13,7 @@ pub enum Kind {
 }
 
 /// What stands next. A number is a place among the selected names, or among the aggregates.
-#[derive(Debug, Drop)]
+#[derive(Drop)]
 pub enum Place {
     Select,
     Item,
@@ -50,7 +50,7 @@ pub enum Place {
 }
 
 /// What a token does to what was read: it goes on, or no query goes on with it.
-#[derive(Debug, Drop)]
+#[derive(Drop)]
 pub enum Move {
     On(Query, Place),
     Stuck,

@@ -15,7 +15,7 @@ const MAX_NAME: usize = 255;
 const MAX_TEXT: usize = 65_535;
 
 /// The inside of a quote without the doubling, and how many bytes it takes with its end.
-#[derive(Debug, Drop)]
+#[derive(Drop)]
 pub struct Quoted {
     pub inside: Vec<u8>,
     pub long: usize,

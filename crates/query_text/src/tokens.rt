@@ -3,7 +3,7 @@
 use leaf_model::{Op, Text};
 
 /// What a text is cut into. An integer that is no i64 has no value.
-#[derive(Debug, Drop)]
+#[derive(Drop)]
 pub enum Token {
     /// A letter or `_`, and then letters, digits and `_`.
     Word(Text),
@@ -22,7 +22,7 @@ pub enum Token {
 }
 
 /// A token, and how many bytes it takes behind its first.
-#[derive(Debug, Drop)]
+#[derive(Drop)]
 pub struct Found {
     pub token: Token,
     pub more: usize,

@@ -13,7 +13,7 @@ use std::alloc::{AllocError, Global};
 use std::marker::Model;
 
 /// A column: its name, where its bytes begin in the region, and how many there are.
-#[derive(Debug, Drop)]
+#[derive(Drop)]
 pub struct Place {
     pub name: Text,
     pub place: u64,
@@ -21,7 +21,7 @@ pub struct Place {
 }
 
 /// The columns of a block in their order. Contracts see them as the list.
-#[derive(Debug, Drop)]
+#[derive(Drop)]
 pub struct Places {
     inner: Vec<Place>,
 }
@@ -56,14 +56,14 @@ impl Places {
 }
 
 /// A block: how many rows it has, 1 to 65,536, and its columns.
-#[derive(Debug, Drop)]
+#[derive(Drop)]
 pub struct BlockPlaces {
     pub rows: u32,
     pub columns: Places,
 }
 
 /// The blocks of a table in their order. Contracts see them as the list.
-#[derive(Debug, Drop)]
+#[derive(Drop)]
 pub struct BlockPlacesList {
     inner: Vec<BlockPlaces>,
 }
@@ -98,7 +98,7 @@ impl BlockPlacesList {
 }
 
 /// A table: its horizon from 0 to 2^63 - 1, how many writes it accepted, below 2^63, how many rows of the first block are cut away, and its blocks.
-#[derive(Debug, Drop)]
+#[derive(Drop)]
 pub struct TablePlaces {
     pub name: Text,
     pub horizon: i64,
@@ -108,7 +108,7 @@ pub struct TablePlaces {
 }
 
 /// The tables of a region in their order, at most 16. Contracts see them as the list.
-#[derive(Debug, Drop)]
+#[derive(Drop)]
 pub struct TablePlacesList {
     inner: Vec<TablePlaces>,
 }
@@ -143,7 +143,7 @@ impl TablePlacesList {
 }
 
 /// The directory of a region: where the log ended, below 2^63, and the tables, whose names are distinct.
-#[derive(Debug, Drop)]
+#[derive(Drop)]
 pub struct Directory {
     pub log_end: u64,
     pub tables: TablePlacesList,

@@ -3,7 +3,7 @@ ghost use Rattle.std.specs.Prelude.{◌≡◌, ◌∷◌};
 ghost use Rattle.region_layout.specs.Region.{head_of, head_bytes};
 
 /// What the head of a region says.
-#[derive(Debug, Clone, Copy, PartialEq, Eq)]
+#[derive(Clone, Copy, PartialEq, Eq)]
 pub enum Head {
     /// There are fewer than 16 bytes.
     NoHead,

@@ -10,7 +10,7 @@ use rollover_plan::{Wave, Waves};
 use rollover_watch::{RollEvent, Watch, tell_all};
 
 /// How many waves were begun, and whether one was left out.
-#[derive(Clone, Copy, Debug, PartialEq, Eq)]
+#[derive(Clone, Copy, PartialEq, Eq)]
 pub struct Rolled {
     pub waves: u32,
     pub halted: bool,

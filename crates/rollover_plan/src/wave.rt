@@ -4,7 +4,7 @@ ghost use Rattle.std.specs.Prelude.{◌≡◌};
 use std::marker::Model;
 
 /// The leaves that restart together. Contracts see them as the list.
-#[derive(Debug, Drop)]
+#[derive(Drop)]
 pub struct Wave {
     inner: Vec<u32>,
 }
@@ -38,7 +38,7 @@ impl Wave {
 }
 
 /// Waves, one after another. Contracts see them as the list.
-#[derive(Debug, Drop)]
+#[derive(Drop)]
 pub struct Waves {
     inner: Vec<Wave>,
 }

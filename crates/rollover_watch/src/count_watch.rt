@@ -9,7 +9,7 @@ use crate::watch::Watch;
 use itoa::Buffer;
 
 /// Counts the drains that ended well and the starts that found the tables in memory. It stays, and keeps no events.
-#[derive(Debug, Drop)]
+#[derive(Drop)]
 pub struct CountWatch {
     drained: u64,
     adopted: u64,

@@ -4,7 +4,7 @@ ghost use Rattle.rollover_watch.specs.declared.event.RollEvent.TheVariants as ev
 ghost use Rattle.rollover_watch.specs.Watches.{is_drained, is_adopted};
 
 /// How the drain of a leaf ended.
-#[derive(Clone, Copy, Debug, PartialEq, Eq)]
+#[derive(Clone, Copy, PartialEq, Eq)]
 pub enum Drained {
     Done,
     Fault,
@@ -21,7 +21,7 @@ impl Drained {
 }
 
 /// How the start of a leaf ended: with the tables from its region, or from its disk, or not at all.
-#[derive(Clone, Copy, Debug, PartialEq, Eq)]
+#[derive(Clone, Copy, PartialEq, Eq)]
 pub enum Started {
     Memory,
     Disk,
@@ -40,7 +40,7 @@ impl Started {
 
 /// What happens in a rollover. Waves are numbered from 1; the last event says how many were begun, and whether one was
 /// left out.
-#[derive(Clone, Copy, Debug, PartialEq, Eq)]
+#[derive(Clone, Copy, PartialEq, Eq)]
 pub enum RollEvent {
     Wave { number: u32, of: u32 },
     Drain { leaf: u32, got: Drained },
@@ -71,7 +71,7 @@ impl RollEvent {
 }
 
 /// What a watch answers to an event: to be told more, to be told no more, or that no further wave begins.
-#[derive(Clone, Copy, Debug, PartialEq, Eq)]
+#[derive(Clone, Copy, PartialEq, Eq)]
 pub enum Wish {
     Stay,
     Leave,

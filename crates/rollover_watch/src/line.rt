@@ -5,7 +5,7 @@ ghost use Rattle.rollover_watch.specs.Lines.{ArePrintable};
 use std::marker::Model;
 
 /// A line of at most 80 bytes, each from 32 to 126. Contracts see it as its bytes.
-#[derive(Debug, Drop)]
+#[derive(Drop)]
 pub struct Line {
     bytes: [u8; 80],
     len: usize,

@@ -24,7 +24,7 @@ use std::collections::VecDeque;
 use std::thread::Threads;
 
 /// The times from `from` to `to`.
-#[derive(Clone, Copy, Debug)]
+#[derive(Clone, Copy)]
 pub struct Range {
     pub from: i64,
     pub to: i64,
@@ -52,7 +52,7 @@ impl From<AllocError> for CountError {
 }
 
 /// What was counted of a part of a text: its lines, and its rows that are in the range.
-#[derive(Clone, Copy, Debug)]
+#[derive(Clone, Copy)]
 pub struct PartCount {
     pub lines: u64,
     pub rows: u64,

@@ -10,7 +10,7 @@ use leaf_model::{Row, Rows, Text, Value, Write, Writes};
 use std::alloc::{AllocError, Global};
 
 /// A record that was read: whether its kind allows sets, its table's name, and its writes.
-#[derive(Debug, Drop)]
+#[derive(Drop)]
 pub struct Flush {
     pub sets: bool,
     pub name: Text,

@@ -5,7 +5,7 @@ use leaf_model::{Names, Query, Rows};
 use std::marker::Model;
 
 /// A command. A leaf is its number from 0, and a table its place among those of the fleet, from 0.
-#[derive(Debug, Drop)]
+#[derive(Drop)]
 pub enum Command {
     /// So many machines, with so many leaves each, which all have these tables.
     Fleet {
@@ -47,7 +47,7 @@ pub enum Command {
 }
 
 /// The commands of a script, in their order. Contracts see them as the list.
-#[derive(Debug, Drop)]
+#[derive(Drop)]
 pub struct Commands {
     inner: Vec<Command>,
 }

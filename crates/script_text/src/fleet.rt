@@ -20,7 +20,7 @@ const MAX_TABLES: usize = 16;
 const MAX_LEAVES: u64 = 256;
 
 /// So many machines, with so many leaves each, which all have these tables.
-#[derive(Debug, Drop)]
+#[derive(Drop)]
 pub struct Fleet {
     pub machines: u32,
     pub per_machine: u32,

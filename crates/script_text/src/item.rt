@@ -5,14 +5,14 @@ use crate::command::{Command, Commands};
 use std::marker::Model;
 
 /// A command, or the lanes of a burst, each of them commands.
-#[derive(Debug, Drop)]
+#[derive(Drop)]
 pub enum Item {
     One(Command),
     Burst(LaneList),
 }
 
 /// The lanes of a burst, in their order. Contracts see them as the list.
-#[derive(Debug, Drop)]
+#[derive(Drop)]
 pub struct LaneList {
     inner: Vec<Commands>,
 }
@@ -47,7 +47,7 @@ impl LaneList {
 }
 
 /// The items of a script, in their order. Contracts see them as the list.
-#[derive(Debug, Drop)]
+#[derive(Drop)]
 pub struct Items {
     inner: Vec<Item>,
 }

@@ -25,7 +25,7 @@ use std::thread::Threads;
 const MAX_LANES: usize = 16;
 
 /// Where a line stands.
-#[derive(Debug, Drop)]
+#[derive(Drop)]
 pub enum Standing {
     Outside,
     /// In a burst before its first lane.
@@ -35,14 +35,14 @@ pub enum Standing {
 }
 
 /// What was read, and where the next line stands.
-#[derive(Debug, Drop)]
+#[derive(Drop)]
 pub struct Reading {
     pub script: Script,
     pub standing: Standing,
 }
 
 /// What was read with a line, and how many rows the line takes from those after it.
-#[derive(Debug, Drop)]
+#[derive(Drop)]
 pub struct Step {
     pub reading: Reading,
     pub rows: u64,

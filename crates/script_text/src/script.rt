@@ -3,7 +3,7 @@ use crate::item::Items;
 
 /// The items of a script in their order, of which the first is the fleet. The number of the line that the fleet stands on
 /// is 0 where there is none, and where the script was no text.
-#[derive(Debug, Drop)]
+#[derive(Drop)]
 pub struct Script {
     pub fleet_line: u64,
     pub items: Items,

@@ -10,7 +10,7 @@ use crate::words::{next_word, number_of, place_of};
 use leaf_model::is_table_name;
 
 /// A leaf, and a table by its place.
-#[derive(Clone, Copy, Debug)]
+#[derive(Clone, Copy)]
 pub struct Target {
     pub leaf: u32,
     pub table: u32,

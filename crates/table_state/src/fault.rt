@@ -8,7 +8,7 @@ pub enum AddFault {
 }
 
 /// How many rows of an add were kept, and how many came late.
-#[derive(Clone, Copy, Debug, PartialEq, Eq)]
+#[derive(Clone, Copy, PartialEq, Eq)]
 pub struct Added {
     pub kept: u64,
     pub late: u64,
