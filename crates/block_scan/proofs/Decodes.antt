@@ -1,7 +1,8 @@
 -- What is decoded of columns, and which places are left.
-use Rattle.std.proofs.Common.{◌≡◌, ℕ, ◌+◌, ◌<◌, Bool, true, false, ◌&&◌, cond, List, [], ◌∷◌, ◌++◌, length, map, take, filter, get_or, slice_index, slice_index_or, ℤ, pos, int_le, Option, Some, None, sym, ap, ◌∙◌, arith}
-use Rattle.std.specs.Prelude.{bytes_eq}
+use Rattle.std.proofs.Common.{◌≡◌, ℕ, ◌+◌, ◌<◌, Bool, true, false, ◌&&◌, cond, List, [], ◌∷◌, ◌++◌, length, map, take, filter, get_or, slice_index, slice_index_or, ℤ, pos, int_le, Option, Some, None, refl, sym, ap, ◌∙◌, arith}
+use Rattle.std.specs.Prelude.{bytes_eq, option_and_then}
 use Rattle.std.specs.List.{AllByRecursion, range_with_len}
+use Rattle.std.proofs.lemmas.List.{get_or-map, length-map}
 use Rattle.std.proofs.lemmas.List.Elements.{filter_agree}
 use Rattle.std.proofs.lemmas.List.Folds.{list_all_more}
 use Rattle.std.proofs.lemmas.List.FromFn.{get_or-map-range_with_len, length-map-range_with_len, map-range_with_len_more}
@@ -11,11 +12,14 @@ use Rattle.leaf_model.specs.declared.rows.Cell.{Cell}
 use Rattle.leaf_model.specs.declared.rows.Row.{Row}
 use Rattle.leaf_model.specs.declared.queries.Cond.{Cond}
 use Rattle.leaf_model.specs.declared.queries.Query.{Query}
-use Rattle.leaf_model.specs.Groups.{cell_value, cond_accepts, groups, passes, value_of}
-use Rattle.column_bytes.specs.Cells.{entry_cells, integer_cells, no_value}
+use Rattle.leaf_model.specs.Groups.{as_int, cell_value, cond_accepts, groups, passes, value_of}
+use Rattle.column_bytes.specs.Cells.{Codebook, Base, Anchors, Entries, Sets, entries, entry_cells, integer_cells, no_value}
 use Rattle.row_blocks.specs.Columns.{cells_in}
 use Rattle.row_blocks.specs.Blocks.{cell_of, value_in}
-use Rattle.block_scan.specs.Decoded.{accepted_codes, conds_hold}
+use Rattle.block_scan.specs.declared.decoded.EntryCodes.{EntryCodes}
+use Rattle.block_scan.specs.declared.decoded.Decoded.TheVariants.{Codes}
+use Rattle.block_scan.specs.Decoded.{IsSized, accepted_codes, conds_hold}
+use Rattle.block_scan.specs.Slots.{integer_of}
 use Rattle.block_scan.proofs.Lists.{both_tests, filter_alike, filter_mapped, weaker_test}
 use Rattle.block_scan.proofs.Narrowed.{groups_of}
 
@@ -30,6 +34,21 @@ pub entry_at : (bytes : List ℕ) (entries : List Value) (present : List Bool) (
 entry_at bytes entries present codes i within cells =
     ap (λ (l : List (Option Value)). slice_index_or l i None) cells
     ∙ get_or-map-range_with_len (λ k. cond (slice_index_or present k false) (Some (slice_index_or entries (slice_index codes k) no_value)) None) 0 (length codes) i i None within (omega arith)
+
+-- no text and no set is an integer
+no_integer : (book : Codebook) (code : ℕ) → code < length (entries book) → as_int (slice_index_or (entries book) code no_value) ≡ None
+no_integer (Base base) code within = absurd (omega (arith, within))
+no_integer (Anchors anchors) code within = absurd (omega (arith, within))
+no_integer (Entries texts) code within = ap as_int (get_or-map values.Text texts code [] no_value (omega (arith, within, length-map texts values.Text)))
+no_integer (Sets sets) code within = ap as_int (get_or-map values.Set sets code [] no_value (omega (arith, within, length-map sets values.Set)))
+
+pub no_integers : (rows : ℕ) (d : EntryCodes) (place : ℕ) → IsSized rows (Codes d) → place < rows → integer_of (Codes d) place ≡ None
+no_integers rows d place sized within = by (slice_index_or d.present.items place false) refl
+  where
+    by : (b : Bool) → slice_index_or d.present.items place false ≡ b
+        → option_and_then as_int (cond b (Some (slice_index_or (entries d.view.now.book) (slice_index d.codes.items place) no_value)) None) ≡ None
+    by true e = no_integer d.view.now.book (slice_index d.codes.items place) (sized.2 place within e)
+    by false e = refl
 
 -- ---- the column of a name
 

@@ -1,5 +1,5 @@
 -- Places in slots, by the code of the one key that they have, and what aggregates look at there.
-use Rattle.std.specs.Prelude.{◌≡◌, ⊤, ℕ, zero, suc, ◌<◌, false, List, [], ◌∷◌, length, map, ℤ, slice_index, slice_index_or, Option, None, if◌then◌else◌, filter_map, option_and_then}
+use Rattle.std.specs.Prelude.{◌≡◌, ⊤, ℕ, zero, suc, ◌<◌, false, List, [], ◌∷◌, length, map, ℤ, slice_index, slice_index_or, Option, Some, None, if◌then◌else◌, filter_map, option_and_then}
 use Rattle.std.specs.List.{AllZip}
 use Rattle.leaf_model.specs.declared.rows.Row.{Row}
 use Rattle.leaf_model.specs.declared.queries.Agg.{Agg}
