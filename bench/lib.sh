@@ -25,8 +25,10 @@ has() {
   command -v "$1" >/dev/null 2>&1 || { echo "$2: skipped, since $1 is not there"; return 1; }
 }
 
-# find_scuba: the program to measure is $scuba; the launcher builds it where it is missing or older than its sources
+# find_scuba: the program to measure is $scuba, which the variable SCUBA may name; the launcher builds it where it is missing or older than its sources
 find_scuba() {
+  scuba=${SCUBA-}
+  if [ -n "$scuba" ]; then return; fi
   "$top/scuba" mem count 0 0 </dev/null >/dev/null || exit 1
   scuba=$top/crates/scuba_cli/out/scuba_cli
 }
@@ -34,6 +36,18 @@ find_scuba() {
 # rust PEER: builds peers/PEER.rs as $out/PEER
 rust() {
   rustc -O --edition 2021 -o "$out/$1" "$bench/peers/$1.rs" || fail "peers/$1.rs could not be built"
+}
+
+# has_simdjson: whether simdjson is there to be built with; where it is not, says that the peer is skipped
+has_simdjson() {
+  has g++ simdjson || return
+  printf '#include <simdjson.h>\nint main() {}\n' | g++ -x c++ -o "$out/found" - -lsimdjson 2>"$out/error" ||
+    { echo "simdjson: skipped, since its header or its library is not there"; return 1; }
+}
+
+# simdjson PEER: builds peers/PEER.cpp as $out/PEER
+simdjson() {
+  g++ -O2 -pthread -o "$out/$1" "$bench/peers/$1.cpp" -lsimdjson || fail "peers/$1.cpp could not be built"
 }
 
 # crates_under CRATE..: these crates of the repository and all that they stand on, lowest first
@@ -92,13 +106,12 @@ adds() {
 }
 
 # once NAME INPUT COMMAND..: runs a command over an input; adds its processor seconds, its peak memory in KiB and its seconds by the clock to the runs of that
-# name, and keeps its answer
+# name, and keeps its answer. Seconds are told by the shell in thousandths, since /usr/bin/time has hundredths.
 once() {
-  local name=$1 input=$2 begun
+  local name=$1 input=$2 TIMEFORMAT='%3U %3S %3R'
   shift 2
-  begun=$EPOCHREALTIME
-  /usr/bin/time -o "$out/time" -f '%U %S %M' "$@" <"$input" >"$out/$name.answer" 2>"$out/error" || fail "$name failed: $(tail -n 1 "$out/error")"
-  awk -v begun="$begun" -v ended="$EPOCHREALTIME" '{ printf "%s %s %.6f\n", $1 + $2, $3, ended - begun }' "$out/time" >>"$out/$name.times"
+  { time /usr/bin/time -o "$out/peak" -f %M "$@" <"$input" >"$out/$name.answer" 2>"$out/error"; } 2>"$out/time" || fail "$name failed: $(tail -n 1 "$out/error")"
+  awk -v peak="$(tail -n 1 "$out/peak")" '{ printf "%.3f %s %s\n", $1 + $2, peak, $3 }' "$out/time" >>"$out/$name.times"
 }
 
 # median NAME [COLUMN]: of the figures of its runs, of their first column where none is named
