@@ -155,11 +155,11 @@ module _ (texts sets : List (List ℕ)) (dict front : List ℕ) (dictionary : Is
       let upto = end_upto sets (suc k) in
       let long_set : length (set_at texts the_part k) ≡ length (slice_index_or sets k []) = set_long k within in
       sym (texts_by_each texts (slice_index_or sets k []) (set_at texts the_part k) (sym long_set) (λ i h.
-          let inside : i < length (slice_index_or sets k []) = omega (arith, h, long_set) in
-          let there : end_at sets k + i < length (joined sets) = omega (arith, inside, more, upto) in
-          let place : text_from the_part k + i ≡ end_at sets k + i = ap (λ (m : ℕ). m + i) (from k (omega arith)) in
-          ap (λ m. slice_index_or texts m []) (sym (ap (member_at the_part) place ∙ member (end_at sets k + i) there ∙ joined_at sets k i within inside))
-          ∙ sym (get_or-map-range_with_len (λ (j : ℕ). slice_index_or texts (member_at the_part j) []) (text_from the_part k) (text_from the_part (suc k) - text_from the_part k) i (text_from the_part k + i) [] (omega (arith, inside, wide)) (omega arith))))
+      let inside : i < length (slice_index_or sets k []) = omega (arith, h, long_set) in
+      let there : end_at sets k + i < length (joined sets) = omega (arith, inside, more, upto) in
+      let place : text_from the_part k + i ≡ end_at sets k + i = ap (λ (m : ℕ). m + i) (from k (omega arith)) in
+      ap (λ m. slice_index_or texts m []) (sym (ap (member_at the_part) place ∙ member (end_at sets k + i) there ∙ joined_at sets k i within inside))
+      ∙ sym (get_or-map-range_with_len (λ (j : ℕ). slice_index_or texts (member_at the_part j) []) (text_from the_part k) (text_from the_part (suc k) - text_from the_part k) i (text_from the_part k + i) [] (omega (arith, inside, wide)) (omega arith))))
     where
       set_long : (k : ℕ) → k < length sets → length (set_at texts the_part k) ≡ length (slice_index_or sets k [])
       set_long k within = length-map-range_with_len (λ (j : ℕ). slice_index_or texts (member_at the_part j) []) (text_from the_part k) (text_from the_part (suc k) - text_from the_part k) ∙ width k within

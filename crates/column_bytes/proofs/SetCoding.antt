@@ -133,9 +133,10 @@ set_coded_more cells codes more texts new sets others i code len made kept stay 
     let was = before k h value e in
     let c = slice_index codes k in
     let stays = stay c was.0 in
-    let same : slice_index more k ≡ c = ap (λ xs. slice_index xs k) made ∙ get_or_append_left codes (code ∷ []) 0 k (omega arith) in
-    (subst (λ n. n < length others) (sym same) stays.0,
-    was.1 ∙ ap values.Set (sym (by_kept texts new (slice_index_or sets c []) kept (valid c was.0)) ∙ ap (texts_by new) (sym stays.1) ∙ ap (λ n. texts_by new (slice_index_or others n [])) (sym same))))
+    let same : slice_index more k ≡ c = ap (λ xs. slice_index xs k) made ∙ get_or_append_left codes (code ∷ []) 0 k (omega arith) in (
+      subst (λ n. n < length others) (sym same) stays.0,
+      was.1 ∙ ap values.Set (sym (by_kept texts new (slice_index_or sets c []) kept (valid c was.0)) ∙ ap (texts_by new) (sym stays.1) ∙ ap (λ n. texts_by new (slice_index_or others n [])) (sym same)),
+    ))
     (λ value e.
     let is = here value e in
     let same : slice_index more i ≡ code = ap (λ xs. slice_index xs i) made ∙ ap (slice_index (codes ++ code ∷ [])) (sym len) ∙ get_or-append_seam codes code [] 0 in

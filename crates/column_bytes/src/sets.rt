@@ -90,7 +90,10 @@ fn goes_up(texts: &[u8], part: &[u8], k: usize, i: usize) -> bool
     requires inside { i < text_from part.now (suc k) - text_from part.now k }
     ensures { IsTrue result ↔ GoesUp (set_at (texts_at texts.now) part.now k) i }
 {
-    i == 0 || text_in(texts, part, k, i - 1).cmp(text_in(texts, part, k, i)).is_lt()
+    i == 0
+        || text_in(texts, part, k, i - 1)
+            .cmp(text_in(texts, part, k, i))
+            .is_lt()
 }
 
 // Whether the texts of a set are one.

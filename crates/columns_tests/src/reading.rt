@@ -2,8 +2,8 @@
 ghost use Rattle.std.specs.Prelude.{◌≡◌, ◌+◌, ◌<◌};
 
 use crate::vectors::{
-    BY_DELTA, BY_OFFSET, EMPTY_TEXT, ENDS, FIVE, ONE_TEXT, SET, TEXTS, WIDE, WIDE_BY_DELTA, WRAPPED,
-    are_same, integer_cells, set_cell, text_cells,
+    BY_DELTA, BY_OFFSET, EMPTY_TEXT, ENDS, FIVE, ONE_TEXT, SET, TEXTS, WIDE, WIDE_BY_DELTA,
+    WRAPPED, are_same, integer_cells, set_cell, text_cells,
 };
 use column_bytes::{ColumnView, Kind, NoColumn};
 use leaf_model::{Steps, Value};

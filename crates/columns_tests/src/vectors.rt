@@ -105,7 +105,10 @@ pub(crate) fn is_same(seen: Option<ValueRef>, cell: &Option<Value>) -> bool {
         (None, None) => true,
         (Some(ValueRef::Int(seen)), Some(Value::Int(integer))) => seen == *integer,
         (Some(ValueRef::Text(seen)), Some(Value::Text(text))) => seen == text.as_str(),
-        (Some(ValueRef::Set(seen)), Some(Value::Set(members))) => is_same_set(&seen, members.as_slice()),
+        (Some(ValueRef::Set(seen)), Some(Value::Set(members))) => is_same_set(
+            &seen,
+            members.as_slice(),
+        ),
         _ => false,
     }
 }

@@ -7,6 +7,7 @@ use Rattle.rollover_watch.specs.declared.event.RollEvent.{RollEvent}
 use Rattle.rollover_watch.specs.declared.event.RollEvent.TheVariants as event
 use Rattle.rollover_watch.specs.declared.event.Wish.{Wish}
 use Rattle.rollover_watch.specs.declared.event.Wish.TheVariants.{Leave, Halt}
+
 -- What a watch means: what its line will show, and what it will wish at an event, each by the events that it is told from now on; how many drains it was told that were done, and starts
 -- that found the tables in memory; and the events that it was told, where it keeps them.
 pub record Held : Type 0 where

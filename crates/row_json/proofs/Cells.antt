@@ -28,7 +28,6 @@ abbrev is_array : Data → Bool
 is_array (array items) = true
 is_array other = false
 
-
 integer_held : (n : Num) (o : Option ℤ) (v : Value) → as_i64 n ≡ o → option_map Int o ≡ Some v → HoldsValue (number n) v
 integer_held n None v is h = absurd (found_none v h)
 integer_held n (Some z) v is h = subst (HoldsValue (number n)) (ap (λ o. unwrap_or o v) h) is

@@ -155,11 +155,7 @@ fn room_for_cells(alloc: Global, members: &Members) -> Result<Vec<Cell>, RowFaul
 }
 
 /// The cell that a member is, where it is one.
-fn cell_of(
-    alloc: Global,
-    name: String,
-    value: serde_json::Value,
-) -> Result<Option<Cell>, RowFault>
+fn cell_of(alloc: Global, name: String, value: serde_json::Value) -> Result<Option<Cell>, RowFault>
     ensures exact { result ≢ Err RowFault.NoMemory → result ≡ cell_of (string_bytes name) (view value) }
     ensures is_cell { IfOk result (λ found. IfSome found IsCell) }
 {

@@ -60,7 +60,10 @@ fn own_texts(alloc: Global, strings: BTreeSet<String>) -> Result<Vec<Text>, RowF
 }
 
 /// The set that an array is, where a cell can hold it.
-pub(crate) fn set_in(alloc: Global, items: Vec<serde_json::Value>) -> Result<Option<Value>, RowFault>
+pub(crate) fn set_in(
+    alloc: Global,
+    items: Vec<serde_json::Value>,
+) -> Result<Option<Value>, RowFault>
     ensures exact { IfOk result (λ found. found ≡ option_and_then (set_of (item_count (items_view items.items))) (texts_with [] (items_view items.items))) }
     ensures refused { IfErr result (λ fault. fault ≡ RowFault.NoMemory) }
     ensures is_value { IfOk result (λ found. IfSome found IsValue) }

@@ -39,6 +39,7 @@ pub returns-clause-numbers : goal.returns-clause-numbers
 returns-clause-numbers c =
     let members = c.as_slice-text-items.result.now in
     let was = c.loop-text.invariant in
-    let past : c.loop-text.text-index ≡ length members = omega (arith, c.loop-text-test.false, c.loop-text.auto.text-index-end) in
-    (λ k h. (was.each k (omega (arith, was.same, h))).0,
-    texts_by_each c.loop-text.texts c.loop-text.numbers.items members (omega (arith, was.same, past)) (λ k h. (was.each k (omega (arith, past, h))).1) ∙ c.as_slice-text-items.ensures)
+    let past : c.loop-text.text-index ≡ length members = omega (arith, c.loop-text-test.false, c.loop-text.auto.text-index-end) in (
+      λ k h. (was.each k (omega (arith, was.same, h))).0,
+      texts_by_each c.loop-text.texts c.loop-text.numbers.items members (omega (arith, was.same, past)) (λ k h. (was.each k (omega (arith, past, h))).1) ∙ c.as_slice-text-items.ensures,
+    )

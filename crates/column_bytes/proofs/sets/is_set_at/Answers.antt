@@ -10,14 +10,20 @@ use Rattle.column_bytes.proofs.SetParts.{set_count_is}
 use Rattle.column_bytes.proofs.sets.is_set_at.Goals as goal
 
 pub returns-then-count-gt1024 : goal.returns-then-count-gt1024
-returns-then-count-gt1024 c = (λ f. absurd cc, λ is.
-    let few = is.few in
-    absurd (omega (arith, c.set_len-count.ensures, set_count_is c.args.texts.now c.args.part.now c.args.k, few, c.if-count-gt1024.true)))
+returns-then-count-gt1024 c = (
+  λ f. absurd cc,
+  λ is.
+      let few = is.few in
+      absurd (omega (arith, c.set_len-count.ensures, set_count_is c.args.texts.now c.args.part.now c.args.k, few, c.if-count-gt1024.true)),
+)
 
 pub returns-then-not-goes_up : goal.returns-then-not-goes_up
-returns-then-not-goes_up c = (λ f. absurd cc, λ is.
-    let all = set_at (texts_at c.args.texts.now) c.args.part.now c.args.k in
-    sym c.if-not-goes_up.true ∙ c.goes_up.ensures.1 (set_goes_up all c.loop-i.i is (omega (arith, c.loop-i-test.true, c.set_len-count.ensures, set_count_is c.args.texts.now c.args.part.now c.args.k))))
+returns-then-not-goes_up c = (
+  λ f. absurd cc,
+  λ is.
+      let all = set_at (texts_at c.args.texts.now) c.args.part.now c.args.k in
+      sym c.if-not-goes_up.true ∙ c.goes_up.ensures.1 (set_goes_up all c.loop-i.i is (omega (arith, c.loop-i-test.true, c.set_len-count.ensures, set_count_is c.args.texts.now c.args.part.now c.args.k))),
+)
 
 pub returns-then-len-left : goal.returns-then-len-left
 returns-then-len-left c = (

@@ -13,9 +13,10 @@ returns-then-are_numbered c =
     let texts = c.split_at.result.0.now in let part = c.split_at.result.1.now in
     let end = c.in-Some.ensures.end.0 in
     let front : texts ≡ texts_part extra = c.split_at.ensures.front ∙ ap (λ n. take n extra) end in
-    let back : part ≡ sets_part extra = c.split_at.ensures.back ∙ ap (λ n. drop n extra) end in
-    (λ yes. record {
-      numbered = subst (AreNumbered (texts_part extra)) back (subst (λ t. AreNumbered t part) front (c.if-are_numbered.ensures.0 refl));
-      each = subst (AreEach (texts_part extra)) back (subst (λ t. AreEach t part) front (c.are_sets.ensures.0 yes));
-    },
-    λ is. c.are_sets.ensures.1 (subst (λ t. AreEach t part) (sym front) (subst (AreEach (texts_part extra)) (sym back) is.each)))
+    let back : part ≡ sets_part extra = c.split_at.ensures.back ∙ ap (λ n. drop n extra) end in (
+      λ yes. record {
+        numbered = subst (AreNumbered (texts_part extra)) back (subst (λ t. AreNumbered t part) front (c.if-are_numbered.ensures.0 refl));
+        each = subst (AreEach (texts_part extra)) back (subst (λ t. AreEach t part) front (c.are_sets.ensures.0 yes));
+      },
+      λ is. c.are_sets.ensures.1 (subst (λ t. AreEach t part) (sym front) (subst (AreEach (texts_part extra)) (sym back) is.each)),
+    )

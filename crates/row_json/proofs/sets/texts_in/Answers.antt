@@ -15,9 +15,10 @@ loop-item-preserved c =
     let came = c.in-Some.ensures.steps.0 ∙ ap (λ (v : Value). v ∷ rest) c.in-String.is in
     let step = texts_step (texts_of keys) text rest in
     let longer = ap length came in
-    let long = ap length put in
-    (ap (λ ts. texts_with ts (items_view rest)) (ap texts_of put ∙ text_put keys text)
-    ∙ sym step
-    ∙ sym (ap (λ vs. texts_with (texts_of keys) (items_view vs)) came)
-    ∙ c.loop-item.invariant.0,
-    omega (arith, long, longer, put_length keys text, c.loop-item.invariant.1))
+    let long = ap length put in (
+      ap (λ ts. texts_with ts (items_view rest)) (ap texts_of put ∙ text_put keys text)
+          ∙ sym step
+          ∙ sym (ap (λ vs. texts_with (texts_of keys) (items_view vs)) came)
+          ∙ c.loop-item.invariant.0,
+      omega (arith, long, longer, put_length keys text, c.loop-item.invariant.1),
+    )
