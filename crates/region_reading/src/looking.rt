@@ -1,0 +1,110 @@
+// The directory of a region.
+ghost use Rattle.std.specs.Prelude.{◌≡◌, ◌↔◌, ℕ, List, length, take, drop, codes, None, IsTrue, IfOk, IfSome, IsSome, Err};
+ghost use Rattle.std.specs.Int.{w64, from_le_bytes};
+ghost use Rattle.berth_face.specs.Causes.{Rose};
+ghost use Rattle.region_layout.specs.declared.head.Head.TheVariants.{Version};
+ghost use Rattle.region_layout.specs.Region.{head_of};
+ghost use Rattle.region_reading.specs.declared.fault.LookFault.TheVariants as fault;
+ghost use Rattle.region_reading.specs.Reading.{IsRead, IsThere, LooksAt, StandsAt, TellsPlace, Untouched};
+
+use crate::fault::LookFault;
+use crate::looked::Looked;
+use crate::region::read_piece;
+use berth_face::Berth;
+use region_directory::Directory;
+use std::alloc::{AllocError, Global};
+
+fn has_letters(front: &[u8; 16]) -> bool
+    ensures { IsTrue result ↔ take 3 (drop 1 front.now) ≡ codes "SCB" }
+{
+    &front[1..4] == b"SCB".as_slice()
+}
+
+/// Where a head says that the directory stands.
+fn directory_place(front: &[u8; 16]) -> u64
+    ensures { result ≡ from_le_bytes w64 (take 8 (drop 8 front.now)) }
+{
+    match front[8..].split_first_chunk::<8>() {
+        Some((place, _)) => u64::from_le_bytes(*place),
+        None => unreachable!(),
+    }
+}
+
+/// Where a head with the letters says that the directory stands, behind itself.
+fn told_place(front: &[u8; 16]) -> Option<u64>
+    ensures some { IfSome result (TellsPlace front.now) }
+    ensures none { (place : ℕ) → TellsPlace front.now place → IsSome result }
+{
+    let place = directory_place(front);
+    if place < 16 {
+        return None;
+    }
+    if has_letters(front) {
+        Some(place)
+    } else {
+        None
+    }
+}
+
+/// The bytes from a place to the region's end, and how long the region is.
+#[tactic(auto, using(crate::proofs::Reading::untouched_on))]
+fn read_behind<B: Berth>(
+    alloc: Global,
+    place: u64,
+    berth: &mut B,
+) -> Result<(Vec<u8>, u64), LookFault>
+    ensures told { IsTrue (B.meaning berth.old).tells → IfOk result (λ read. (read.0.items ≡ drop place (B.meaning berth.old).held.region) × (read.1 ≡ length (B.meaning berth.old).held.region)) }
+    ensures untouched { Untouched (B.meaning berth.old) (B.meaning berth.new) }
+    ensures cause { result ≡ Err fault.RegionFault → Rose (B.meaning berth.old).region_faults (B.meaning berth.new).region_faults }
+{
+    let len = berth.region_len()?;
+    let bytes = read_piece(alloc, place, len.saturating_sub(place), berth)?;
+    Ok((bytes, len))
+}
+
+/// The directory that the bytes are which stand at this place.
+fn directory_in(alloc: Global, bytes: &[u8], place: u64) -> Result<Option<Directory>, AllocError>
+    ensures there { IfOk result (IsThere place bytes.now) }
+    ensures read { IfOk result (λ found. IfSome found (IsRead place)) }
+{
+    Directory::read(alloc, bytes, place)
+}
+
+/// The directory that stands at a place.
+pub fn look_at<B: Berth>(
+    alloc: Global,
+    place: u64,
+    berth: &mut B,
+) -> Result<Option<Looked>, LookFault>
+    ensures told { IsTrue (B.meaning berth.old).tells → IfOk result (StandsAt place (B.meaning berth.old).held.region) }
+    ensures read { IfOk result (λ found. IfSome found (λ l. IsRead l.place l.directory)) }
+    ensures untouched { Untouched (B.meaning berth.old) (B.meaning berth.new) }
+    ensures cause { result ≡ Err fault.RegionFault → Rose (B.meaning berth.old).region_faults (B.meaning berth.new).region_faults }
+{
+    let (bytes, image_len) = read_behind(alloc, place, berth)?;
+    match directory_in(alloc, &bytes, place)? {
+        Some(directory) => Ok(Some(Looked {
+            directory,
+            place,
+            image_len,
+        })),
+        None => Ok(None),
+    }
+}
+
+/// The directory of a region that has these first bytes. Its flag may have been closed since they were read.
+pub fn look<B: Berth>(
+    alloc: Global,
+    front: &[u8; 16],
+    berth: &mut B,
+) -> Result<Option<Looked>, LookFault>
+    ensures told { (region : List ℕ) (version : ℕ) → IsTrue (B.meaning berth.old).tells → drop 1 (B.meaning berth.old).held.region ≡ drop 1 region → head_of region ≡ Version version → front.now ≡ take 16 region → IfOk result (LooksAt version region) }
+    ensures read { IfOk result (λ found. IfSome found (λ l. IsRead l.place l.directory)) }
+    ensures untouched { Untouched (B.meaning berth.old) (B.meaning berth.new) }
+    ensures cause { result ≡ Err fault.RegionFault → Rose (B.meaning berth.old).region_faults (B.meaning berth.new).region_faults }
+{
+    match told_place(front) {
+        Some(place) => look_at(alloc, place, berth),
+        None => Ok(None),
+    }
+}
