@@ -27,7 +27,8 @@ use Rattle.adopt.specs.declared.found.AdoptStep.TheVariants as step
 use Rattle.adopt.specs.Adopting.{Adopting, AdoptsOn, AreAdopted, IsLeftBehind}
 use Rattle.adopt.specs.Finishing.{FinishesAs, IsMade, after_block, after_column, after_table, block_from, left_by, made_from, named_front, table_from, tables_from}
 use Rattle.adopt.specs.Finding.{closed_flag}
-use Rattle.adopt.specs.Taken.{AdoptState, IsRead}
+use Rattle.region_reading.specs.Reading.{IsRead}
+use Rattle.adopt.specs.Taken.{AdoptState}
 use Rattle.adopt.proofs.Meanings.{each_table}
 use Rattle.adopt.proofs.Heads.{left_cut}
 

@@ -1,20 +1,12 @@
 -- What the first bytes of a region say of it, and what closing its flag, a cut and a torn write make of it.
-use Rattle.std.proofs.Common.{◌≡◌, inl, inr, ℕ, zero, suc, ◌≤◌, Bool, true, false, cond, ltb, eqb, List, [], ◌∷◌, length, take, drop, refl, sym, subst, arith, length-take, ltb-false, le-ltb}
-use Rattle.std.specs.Prelude.{slice_index}
+use Rattle.std.proofs.Common.{◌≡◌, inl, inr, ℕ, zero, suc, ◌≤◌, false, ltb, List, [], ◌∷◌, length, take, drop, refl, sym, subst, arith, length-take, le-ltb}
 use Rattle.berth_face.specs.Berth.{Torn, Cut}
-use Rattle.region_layout.specs.declared.head.Head.TheVariants.{NoHead, Closed, Version}
-use Rattle.region_layout.specs.Region.{IsClosed, head_of, version_of}
+use Rattle.region_layout.specs.declared.head.Head.TheVariants.{Closed, Version}
+use Rattle.region_layout.specs.Region.{IsClosed, head_of}
 use Rattle.region_layout.proofs.Heads.{closed_head}
+use Rattle.region_reading.proofs.Directories.{head_long}
 use Rattle.adopt.specs.Adopting.{IsBroken, IsLeftBehind}
 use Rattle.adopt.specs.Finding.{closed_flag}
-
-long_by : (short opened : Bool) (byte version other : ℕ) → cond short NoHead (cond opened (Version version) (Closed byte)) ≡ Version other → short ≡ false
-long_by true opened byte version other e = absurd cc
-long_by false opened byte version other e = refl
-
--- where a version is told, there is a whole head
-pub head_long : (region : List ℕ) (version : ℕ) → head_of region ≡ Version version → 16 ≤ length region
-head_long region version e = ltb-false (length region) 16 (long_by (ltb (length region) 16) (eqb (slice_index region 0) 1) (slice_index region 0) (version_of region) version e)
 
 pub closed_size : (region : List ℕ) → 16 ≤ length region → length (closed_flag region) ≡ length region
 closed_size [] long = absurd (omega (arith, long))

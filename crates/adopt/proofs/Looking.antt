@@ -10,13 +10,15 @@ use Rattle.region_directory.specs.declared.directory.Place.{Place}
 use Rattle.region_directory.specs.Directory.{columns_of}
 use Rattle.region_directory.specs.Region.{HasDirectory, column_in, directory_from, reads}
 use Rattle.adopt.specs.declared.spans.Span.{Span}
-use Rattle.adopt.specs.declared.looked.Looked.{Looked}
+use Rattle.region_reading.specs.declared.looked.Looked.{Looked}
 use Rattle.adopt.specs.declared.found.Found.TheVariants as found
 use Rattle.adopt.specs.Adopting.{Adopting, Finds, IsInImage, HasNoDirectory, IsLeftBehind, stranger_of}
-use Rattle.adopt.specs.Finding.{LooksAt, closed_flag}
-use Rattle.adopt.specs.Taken.{AdoptState, IsRead, KeepsTrack, span_bytes, spans_of}
+use Rattle.region_reading.specs.Reading.{IsRead, LooksAt}
+use Rattle.region_reading.proofs.Directories.{head_long}
+use Rattle.adopt.specs.Finding.{closed_flag}
+use Rattle.adopt.specs.Taken.{AdoptState, KeepsTrack, span_bytes, spans_of}
 use Rattle.adopt.proofs.Columns.{same_all, same_count}
-use Rattle.adopt.proofs.Heads.{closed_size, head_long, left_closed}
+use Rattle.adopt.proofs.Heads.{closed_size, left_closed}
 use Rattle.adopt.proofs.Known.{all_among, names_of}
 use Rattle.adopt.proofs.Reading.{directory_behind}
 

@@ -15,7 +15,8 @@ use Rattle.adopt.specs.Adopting.{Adopting, IsInImage, IsLeftBehind, IsNoImage, c
 use Rattle.adopt.specs.Finding.{bytes_at, closed_flag}
 use Rattle.adopt.specs.Taken.{AdoptState, spans_of}
 use Rattle.adopt.proofs.Meanings.{no_cells}
-use Rattle.adopt.proofs.Heads.{behind_flag, closed_size, cut_closed, flag_closed, head_long, left_cut}
+use Rattle.region_reading.proofs.Directories.{head_long}
+use Rattle.adopt.proofs.Heads.{behind_flag, closed_size, cut_closed, flag_closed, left_cut}
 use Rattle.adopt.proofs.Reading.{directory_inside}
 use Rattle.adopt.proofs.Columns.{JoinedSpans, Stands, held_behind, at_split, past_split, from_split, behind_split, joined_short, places, same_all, same_bytes, same_joined, same_places, span_in, stands}
 

@@ -1,4 +1,5 @@
 pub mod Taken
+pub mod Faults
 pub mod Adopting
 pub mod Cells
 pub mod Finding

@@ -7,6 +7,7 @@ use Rattle.region_directory.specs.declared.directory.BlockPlaces.{BlockPlaces}
 use Rattle.region_directory.specs.declared.directory.TablePlaces.{TablePlaces}
 use Rattle.region_directory.specs.declared.directory.Directory.{Directory}
 use Rattle.region_directory.specs.Directory.{IsDirectory}
+use Rattle.region_reading.specs.Reading.{IsRead}
 use Rattle.adopt.specs.declared.spans.Span.{Span}
 
 -- What was read of the directory, how many columns are still in the region, and the others, in their order, on the heap.
@@ -39,14 +40,6 @@ span_bytes [] = 0
 span_bytes (s ∷ spans) = s.length + span_bytes spans
 
 -- ---- what an adoption keeps on every berth
-
--- what was read of a directory that stood at this place: it keeps its own rules, and its numbers are small
-pub record IsRead (place : ℕ) (d : Directory) : Type 0 where
-  pub itself : IsDirectory place d
-  pub few : length d.tables ≤ 16
-  pub writes : AllByRecursion (λ (t : TablePlaces). t.writes < 2 ^ 63) d.tables
-  pub log_end : d.log_end < 2 ^ 63
-  pub small : place < 2 ^ 64
 
 -- each table has one of the names; these columns are left, the first ones of the directory; and so many bytes were taken of the others
 pub record KeepsTrack (names : List (List ℕ)) (d : Directory) (place : ℕ) (left : List Span) (heap : List (List ℕ)) (held : ℕ) : Type 0 where

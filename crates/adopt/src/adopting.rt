@@ -15,16 +15,18 @@ use crate::finding::find_closed;
 use crate::finishing::finished;
 use crate::found::{AdoptFault, AdoptStep, Found};
 use crate::lists::put;
-use crate::region::{close_flag, cut, read_front, read_piece};
+use crate::region::{close_flag, cut};
 use crate::spans::Span;
 use crate::taken::Adopt;
 use berth_face::Berth;
 use leaf_model::Names;
 use region_layout::Head;
+use region_reading::{read_front, read_piece};
 use row_blocks::ColumnBytes;
 use std::alloc::Global;
 
 /// Reads the head. It closes an open flag before anything else is read or changed, reads the directory of an image that a start adopts, and cuts the region there.
+#[tactic(auto, using(crate::proofs::Ending::untouched_disks))]
 pub fn find<B: Berth>(alloc: Global, berth: &mut B, names: &Names) -> Result<Found, AdoptFault>
     requires names { AreNames names.now }
     ensures told { IsTrue (B.meaning berth.old).tells → Finds names.now (B.meaning berth.old).held.region (B.meaning berth.new).held.region result }
@@ -150,6 +152,7 @@ impl Adopt {
 }
 
 /// Reads a column, and cuts the region where it stood; or None, where it means no cells, or is of a kind that the version does not allow.
+#[tactic(auto, using(crate::proofs::Ending::untouched_disks))]
 fn take_span<B: Berth>(
     alloc: Global,
     version: u32,

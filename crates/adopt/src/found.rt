@@ -1,11 +1,13 @@
 // What a look at a region finds, and what a step of an adoption comes to.
 ghost use Rattle.std.specs.Prelude.{◌≡◌};
 ghost use Rattle.adopt.specs.declared.found.AdoptFault.TheVariants.{RegionFault, NoMemory};
+ghost use Rattle.adopt.specs.Faults.{told_of_look};
 
 use crate::taken::Adopt;
 use berth_face::Failed;
 use leaf_model::Text;
 use region_directory::DrainTables;
+use region_reading::LookFault;
 use std::alloc::AllocError;
 use table_state::Tables;
 
@@ -29,6 +31,17 @@ impl From<AllocError> for AdoptFault {
 
     fn from(_e: AllocError) -> AdoptFault {
         AdoptFault::NoMemory
+    }
+}
+
+impl From<LookFault> for AdoptFault {
+    ghost from_gives = { λ f e. e ≡ told_of_look f };
+
+    fn from(fault: LookFault) -> AdoptFault {
+        match fault {
+            LookFault::RegionFault => AdoptFault::RegionFault,
+            LookFault::NoMemory => AdoptFault::NoMemory,
+        }
     }
 }
 

@@ -7,7 +7,6 @@ mod finding;
 mod finishing;
 mod found;
 mod lists;
-mod looked;
 mod region;
 mod spans;
 mod starting;

@@ -3,7 +3,7 @@ use Rattle.region_layout.specs.declared.head.Head.TheVariants.{Version}
 use Rattle.region_layout.specs.Region.{head_of}
 use Rattle.region_layout.proofs.Heads.{closed_head}
 use Rattle.adopt.specs.Finding.{IsOpenRegion}
-use Rattle.adopt.proofs.Ending.{ended_on}
+use Rattle.adopt.proofs.Ending.{ended_on, untouched_disks}
 use Rattle.adopt.proofs.Moments.{adopts_stay, adopts_after}
 use Rattle.adopt.proofs.adopting.find.Goals as goal
 
@@ -13,8 +13,8 @@ returns-in-Version-clause-disks g c =
     let a = g.B.Berth.meaning c.args.berth.now in
     let b = g.B.Berth.meaning c.read_front.new.berth in
     let d = g.B.Berth.meaning c.find_open.new.berth in
-    let told_b : IsTrue b.tells = subst IsTrue (sym c.read_front.ensures.time.tells) told in
-    ended_on a b d (c.read_front.ensures.disks told) (c.find_open.ensures.disks told_b)
+    let told_b : IsTrue b.tells = subst IsTrue (sym c.read_front.ensures.untouched.time.tells) told in
+    ended_on a b d (untouched_disks a b c.read_front.ensures.untouched told) (c.find_open.ensures.disks told_b)
 
 pub returns-in_err-front-clause-moments : goal.returns-in_err-front-clause-moments
 returns-in_err-front-clause-moments g c =
@@ -22,7 +22,7 @@ returns-in_err-front-clause-moments g c =
     let a = g.B.Berth.meaning c.args.berth.now in
     let b = g.B.Berth.meaning c.read_front.new.berth in
     let laws = g.met.B.Berth g.world.𝓛 g.world.𝓜 g.world.𝓡 ((λ s x. x), (λ x. x), (λ x. x), λ x. x) in
-    adopts_stay a b (λ p left. laws.keeps_region c.args.berth.now p told left) c.read_front.ensures.time (c.read_front.ensures.stays told)
+    adopts_stay a b (λ p left. laws.keeps_region c.args.berth.now p told left) c.read_front.ensures.untouched.time (c.read_front.ensures.untouched.stays told)
 
 pub returns-in-NoHead-clause-moments : goal.returns-in-NoHead-clause-moments
 returns-in-NoHead-clause-moments g c =
@@ -30,7 +30,7 @@ returns-in-NoHead-clause-moments g c =
     let a = g.B.Berth.meaning c.args.berth.now in
     let b = g.B.Berth.meaning c.read_front.new.berth in
     let laws = g.met.B.Berth g.world.𝓛 g.world.𝓜 g.world.𝓡 ((λ s x. x), (λ x. x), (λ x. x), λ x. x) in
-    adopts_stay a b (λ p left. laws.keeps_region c.args.berth.now p told left) c.read_front.ensures.time (c.read_front.ensures.stays told)
+    adopts_stay a b (λ p left. laws.keeps_region c.args.berth.now p told left) c.read_front.ensures.untouched.time (c.read_front.ensures.untouched.stays told)
 
 pub returns-in-Closed-clause-moments : goal.returns-in-Closed-clause-moments
 returns-in-Closed-clause-moments g c =
@@ -38,7 +38,7 @@ returns-in-Closed-clause-moments g c =
     let a = g.B.Berth.meaning c.args.berth.now in
     let b = g.B.Berth.meaning c.read_front.new.berth in
     let laws = g.met.B.Berth g.world.𝓛 g.world.𝓜 g.world.𝓡 ((λ s x. x), (λ x. x), (λ x. x), λ x. x) in
-    adopts_stay a b (λ p left. laws.keeps_region c.args.berth.now p told left) c.read_front.ensures.time (c.read_front.ensures.stays told)
+    adopts_stay a b (λ p left. laws.keeps_region c.args.berth.now p told left) c.read_front.ensures.untouched.time (c.read_front.ensures.untouched.stays told)
 
 pub returns-in-Version-clause-moments : goal.returns-in-Version-clause-moments
 returns-in-Version-clause-moments g c =
@@ -46,8 +46,8 @@ returns-in-Version-clause-moments g c =
     let a = g.B.Berth.meaning c.args.berth.now in
     let b = g.B.Berth.meaning c.read_front.new.berth in
     let d = g.B.Berth.meaning c.find_open.new.berth in
-    let told_b : IsTrue b.tells = subst IsTrue (sym c.read_front.ensures.time.tells) told in
+    let told_b : IsTrue b.tells = subst IsTrue (sym c.read_front.ensures.untouched.time.tells) told in
     let laws = g.met.B.Berth g.world.𝓛 g.world.𝓜 g.world.𝓡 ((λ s x. x), (λ x. x), (λ x. x), λ x. x) in
     let opened : head_of b.held.region ≡ Version c.in-Version.version = search rules in
     let open_flag : IsOpenRegion b.held.region = λ closed. closed_head b.held.region closed c.in-Version.version opened in
-    adopts_after a b d (λ p left. laws.keeps_region c.args.berth.now p told left) c.read_front.ensures.time (c.read_front.ensures.stays told) (c.find_open.ensures.moments told_b open_flag)
+    adopts_after a b d (λ p left. laws.keeps_region c.args.berth.now p told left) c.read_front.ensures.untouched.time (c.read_front.ensures.untouched.stays told) (c.find_open.ensures.moments told_b open_flag)

@@ -3,7 +3,8 @@ use Rattle.std.specs.Prelude.{Contains}
 use Rattle.std.specs.List.{AllByRecursion}
 use Rattle.region_directory.specs.declared.directory.TablePlaces.{TablePlaces}
 use Rattle.adopt.specs.Finishing.{FinishesAs}
-use Rattle.adopt.specs.Taken.{AdoptState, IsRead}
+use Rattle.region_reading.specs.Reading.{IsRead}
+use Rattle.adopt.specs.Taken.{AdoptState}
 use Rattle.adopt.proofs.Finished.{are_adopted, finishes}
 use Rattle.adopt.proofs.taken.Adopt.finish.Goals as goal
 
