@@ -53,7 +53,7 @@ module _ (tables : NamedStates) (p : Pair) (m : Meaning) (left : Left reads tabl
     empty = λ e q at. subst (λ (d : List ℕ). length d ≤ 1) (sym ((o.pairs q at).1 ∙ (sym (ap (λ (h : Pair). h.disk) o.held) ∙ e))) (lit≤ tt);
     region = λ q at. rebased (record { region = m.held.region; disk = q.disk }) (subst (HasSoundLog logged) (sym (o.pairs q at).1) sound_log)
         (subst (λ (d : List ℕ). RegionLeft reads tables (record { region = m.held.region; disk = d })) (sym (o.pairs q at).1)
-          (subst (λ (r : List ℕ). RegionLeft reads tables (record { region = r; disk = p.disk })) (sym (ap (λ (h : Pair). h.region) o.held)) left.region));
+        (subst (λ (r : List ℕ). RegionLeft reads tables (record { region = r; disk = p.disk })) (sym (ap (λ (h : Pair). h.region) o.held)) left.region));
   }
 
   front_on : (name : List ℕ) → IsFrontOf (tables name) (base_on name)

@@ -6,11 +6,10 @@ use Rattle.row_blocks.proofs.Means.{means}
 use Rattle.adopt.proofs.cells.tell_read.Goals as goal
 
 pub returns-in-Ok : goal.returns-in-Ok
-returns-in-Ok g c =
-    (
-      subst (MeanCells c.args.bytes.now) (sym c.len.ensures.len) (means c.args.bytes.now (length c.in-Ok.view.codes) (cells_of c.in-Ok.view) c.in-Ok.ensures.accepted).0,
-      sym (c.kind.ensures ∙ c.in-Ok.ensures.kind),
-    )
+returns-in-Ok g c = (
+  subst (MeanCells c.args.bytes.now) (sym c.len.ensures.len) (means c.args.bytes.now (length c.in-Ok.view.codes) (cells_of c.in-Ok.view) c.in-Ok.ensures.accepted).0,
+  sym (c.kind.ensures ∙ c.in-Ok.ensures.kind),
+)
 
 pub returns : goal.returns
 unfolding MeanCells
