@@ -2,11 +2,12 @@
 use Rattle.std.specs.Prelude.{◌≡◌, ◌≢◌, ℕ, ◌<◌, List, [], length, slice_get, Option, Some, None, Result, Ok, Err, ⊤}
 use Rattle.leaf_model.specs.declared.writes.Write.{Write}
 use Rattle.row_records.specs.Records.{LogRecord}
-use Rattle.berth_face.specs.Berth.{Meaning}
+use Rattle.berth_face.specs.Berth.{Meaning, Pair}
 use Rattle.leaf_opening.specs.declared.ways.Way.{Way}
 use Rattle.leaf_opening.specs.declared.ways.OpenFault.{OpenFault}
 use Rattle.leaf_opening.specs.declared.ways.OpenFault.TheVariants as found
 use Rattle.leaf_opening.specs.OpenedLeaf.{OpenedLeaf}
+use Rattle.leaf_opening.specs.Answers.{IsAnswer}
 use Rattle.leaf_opening.specs.Starts.{Started, IsOpeningRefusal}
 use Rattle.leaf_table.specs.Calls.{SeatView, IsFresh}
 use Rattle.crash_moments.specs.Left.{NamedStates}
@@ -67,6 +68,17 @@ pub record CameUp (names : List (List ℕ)) (old new : Meaning) (notes : List No
 abbrev pub IsStartRefused : List (List ℕ) → Meaning → Meaning → StartFault → Type 0
 IsStartRefused names old new (Worn table) = ⊤
 IsStartRefused names old new fault = (f : OpenFault) × (fault ≡ told_of f) × IsOpeningRefusal names old new f
+
+-- a refusal that the bytes decide is the one that they decide
+abbrev pub IsExactRefusal : List (List ℕ) → Pair → StartFault → Type 0
+IsExactRefusal names held DiskDamaged = IsAnswer names held.region held.disk (Err found.DiskDamaged)
+IsExactRefusal names held (Stranger name) = IsAnswer names held.region held.disk (Err (found.Stranger name))
+IsExactRefusal names held _ = ⊤
+
+-- what a start answers is what the bytes decide, unless a seat is worn, the berth fails or memory runs out
+abbrev pub IsExactStart : {B : Type 0} → List (List ℕ) → Pair → Result ((Serving × B) × Way) ((Seated × B) × StartFault) → Type 0
+IsExactStart names held (Ok x) = IsAnswer names held.region held.disk (Ok x.1)
+IsExactStart names held (Err x) = IsExactRefusal names held x.1
 
 -- what becomes of a leaf at rest that starts
 abbrev pub StartGoesOn : {B : Type 0} → (B → Meaning) → Seated → Meaning → NamedStates → (List ℕ → List Write) → Option LogRecord

@@ -12,7 +12,7 @@ ghost use Rattle.crash_states.specs.Standing.{Rests};
 ghost use Rattle.leaf_steward.specs.Seated.{AreFounded, watched_by};
 ghost use Rattle.leaf_steward.specs.Making.{Makes};
 ghost use Rattle.leaf_machine.specs.declared.faults.StartFault.TheVariants as fault;
-ghost use Rattle.leaf_machine.specs.Starts.{CameUp, IsStartRefused, IsStart, StartGoesOn, berth_after, seats_after};
+ghost use Rattle.leaf_machine.specs.Starts.{CameUp, IsExactStart, IsStartRefused, IsStart, StartGoesOn, berth_after, seats_after};
 
 use crate::down::Down;
 use crate::faults::{StartFault, told};
@@ -41,6 +41,8 @@ impl<'t, B: Berth> Down<'t, B> {
         ensures came { IsTrue (B.meaning self.entry.1).tells → IfOk result (λ x. CameUp self.entry.0.names (B.meaning self.entry.1) (B.meaning x.0.1) notes.new x.0.0 x.1) }
         ensures way { IsTrue (B.meaning self.entry.1).tells → IfOk result (λ x. IsWayOf (B.meaning self.entry.1).held.region x.1) }
         ensures refused { IsTrue (B.meaning self.entry.1).tells → IfErr result (λ x. IsStartRefused self.entry.0.names (B.meaning self.entry.1) (B.meaning x.0.1) x.1) }
+        // What it answers is what the bytes of region and disk decide.
+        ensures exact { IsTrue (B.meaning self.entry.1).tells → IsExactStart self.entry.0.names (B.meaning self.entry.1).held result }
         // The disk reads as it did, or its first byte was written where it had at most one.
         ensures disk { IsTrue (B.meaning self.entry.1).tells → BeginsScan (length (B.meaning self.entry.1).held.disk) (B.meaning self.entry.1).held.disk (B.meaning (berth_after result)).held.disk }
         // At every moment since the call began a crash leaves what belongs to the tables as they stood then.

@@ -1,12 +1,13 @@
 -- What each command does to the leaves of a fleet and their callers' seats as the program holds them: the pieces that it prints, and what stands behind it.
-use Rattle.std.specs.Prelude.{◌≡◌, ◌≢◌, ℕ, zero, suc, ◌+◌, ◌<◌, ◌≤◌, List, [], ◌++◌, length, map, Option, Some, None, slice_get, slice_set, IsTrue, ⊤}
+use Rattle.std.specs.Prelude.{◌≡◌, ◌≢◌, ℕ, zero, suc, ◌+◌, ◌<◌, ◌≤◌, List, [], ◌++◌, length, map, Option, Some, None, Ok, slice_get, slice_set, IsTrue, ⊤}
 use Rattle.berth_face.specs.Berth.{Meaning}
 use Rattle.leaf_history.specs.Calls.{Call}
 use Rattle.adopt.specs.declared.found.WhyDisk.TheVariants as why
-use Rattle.adopt.specs.Adopting.{IsBroken, IsLeftBehind}
+use Rattle.adopt.specs.Adopting.{HasNoStranger, IsBroken, IsLeftBehind}
 use Rattle.disk_backup.specs.Scanning.{BeginsScan}
 use Rattle.leaf_opening.specs.declared.ways.Way.{Way}
 use Rattle.leaf_opening.specs.declared.ways.Way.TheVariants.{Memory, Disk}
+use Rattle.leaf_opening.specs.Answers.{IsAnswer}
 use Rattle.leaf_opening.specs.Starts.{IsWayOf}
 use Rattle.crash_moments.specs.Left.{NamedStates}
 use Rattle.leaf_table.specs.declared.replies.Reply.{Reply}
@@ -23,7 +24,7 @@ use Rattle.leaf_machine.specs.declared.faults.StartFault.TheVariants as fault
 use Rattle.leaf_machine.specs.declared.up.FlushReply.{FlushReply}
 use Rattle.leaf_machine.specs.declared.up.FlushReply.TheVariants as reply
 use Rattle.leaf_machine.specs.States.{Serving, Shutting, columns_seen, treated}
-use Rattle.leaf_machine.specs.Starts.{CameUp, IsOpenedNote, IsStartRefused}
+use Rattle.leaf_machine.specs.Starts.{CameUp, IsExactRefusal, IsOpenedNote, IsStartRefused}
 use Rattle.leaf_machine.specs.Flushes as flushing
 use Rattle.leaf_machine.specs.Prepares.{Treats, Halts, Starves, AllTreated, begins}
 use Rattle.printed_lines.specs.declared.line.Said.{Said}
@@ -119,6 +120,7 @@ RegionRefused _ m m' = IsLeftBehind m.held.region m'.held.region
 -- a refused start, over a berth that tells its contents
 pub record RefusalTold (x : Seated) (m m' : Meaning) (f : StartFault) : Type 0 where
   pub why : IsStartRefused x.names m m' f
+  pub exact : IsExactRefusal x.names m.held f
   pub region : RegionRefused f m m'
   pub disk : BeginsScan (length m.held.disk) m.held.disk m'.held.disk
 
@@ -126,6 +128,7 @@ pub record RefusalTold (x : Seated) (m m' : Meaning) (f : StartFault) : Type 0 w
 pub record StartsTold (x : Seated) (m m' : Meaning) (s : Serving) (notes : List Note) (way : Way) : Type 0 where
   pub came : CameUp x.names m m' notes s way
   pub way_is : IsWayOf m.held.region way
+  pub exact : IsAnswer x.names m.held.region m.held.disk (Ok way)
 
 -- a start: each table is opened, or it is refused, or the leaf is not down
 pub data StartMoves (m m' : Meaning) (leaf : Leaf) (notes : List Note) (ends : Ending) (leaf' : Leaf) : Type 0 where
@@ -258,7 +261,7 @@ RegionStopped zero m m' = m'.held.region ≡ m.held.region
 RegionStopped (suc made) m m' = IsWayOf m'.held.region (Disk (why.Closed 0))
 
 -- A drain makes its steps until one is the last and each table is handed over; or the region fails, and the leaf is down; or the copy has no room; or there is no memory; or the disk
--- fails; or it has made as many steps as it was to make, and the leaf is killed; or the leaf is down.
+-- fails; or it has made as many steps as it was to make, and the leaf is killed; or the leaf is down. What a copy leaves that ended or failed names no stranger.
 pub data DrainMoves (m m' : Meaning) (leaf : Leaf) (stop : Option ℕ) (notes : List Note) (ends : Ending) (leaf' : Leaf) : Type 0 where
   done : (x y : Shutting) (z : Seated) (treating handing : List Note) (n copy made : ℕ)
       → BeginsShutting leaf x
@@ -269,6 +272,7 @@ pub data DrainMoves (m m' : Meaning) (leaf : Leaf) (stop : Option ℕ) (notes : 
       → EachNoted IsHandedNote 0 (length x.serving.seated.tables) handing
       → notes ≡ treating ++ handing
       → ((base : NamedStates) → IsTrue m.tells → AreFounded (seated_of leaf) → Stands base leaf m → IsWayOf m'.held.region Memory)
+      → ((base : NamedStates) → IsTrue m.tells → AreFounded (seated_of leaf) → Stands base leaf m → HasNoStranger (seated_of leaf).names m'.held.region)
       → ends ≡ ending.Done
       → leaf' ≡ IsDown z
       → DrainMoves m m' leaf stop notes ends leaf'
@@ -276,6 +280,7 @@ pub data DrainMoves (m m' : Meaning) (leaf : Leaf) (stop : Option ℕ) (notes : 
       → BeginsShutting leaf x
       → MakesSteps n (Shuts x) notes (Copies y copy made)
       → MayMake stop (suc n)
+      → ((base : NamedStates) → IsTrue m.tells → AreFounded (seated_of leaf) → Stands base leaf m → HasNoStranger (seated_of leaf).names m'.held.region)
       → ends ≡ ending.FaultRegion
       → leaf' ≡ IsDown y.serving.seated
       → DrainMoves m m' leaf stop notes ends leaf'

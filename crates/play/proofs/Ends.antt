@@ -19,7 +19,7 @@ use Rattle.printed_lines.specs.Lines.{lines_text}
 use Rattle.script_text.specs.declared.fleet.Fleet.{Fleet}
 use Rattle.transcript.specs.Pieces.{PlayedItem, all_lines, all_pieces, script_fleet, item_of, plays_in}
 use Rattle.transcript.specs.Counts.{CountsRose}
-use Rattle.transcript.specs.Strangers.{IsNamedBy, Strangers}
+use Rattle.transcript.specs.Strangers.{Strangers}
 use Rattle.transcript.specs.Transcript.{Known, Transcript, first_life}
 use Rattle.leaf_moves.specs.Holds.{Hold}
 use Rattle.transcript.specs.Leaving.{AtBerth, IsToldRun, IsWritten, LeavesBerth}
@@ -184,7 +184,7 @@ module _ {B : Type 0} (meaning : B → Meaning) (front rest own : List B) (xs : 
       pub lines_are : all_lines transcript.played ≡ lines
       pub heard : HearsAll fleet (plays_in transcript.played) watching watched
       pub counts : (leaf : ℕ) → leaf < (leaf_count fleet) → AtBerth meaning olds news leaf (CountsRose leaf (all_pieces transcript.played))
-      pub strangers : (leaf : ℕ) (k : Known) → leaf < (leaf_count fleet) → known leaf ≡ Some k → Strangers (IsNamedBy fleet.names k.held) leaf (all_pieces transcript.played)
+      pub strangers : (leaf : ℕ) (k : Known) → leaf < (leaf_count fleet) → known leaf ≡ Some k → Strangers fleet.names k.held.disk leaf k.held.region (all_pieces transcript.played)
       pub leaves : (leaf : ℕ) (k : Known) → leaf < (leaf_count fleet) → known leaf ≡ Some k →
           AtBerth meaning olds news leaf (LeavesBerth fleet.names k.base (transcript.lives leaf) (transcript.histories leaf))
       pub moments : (leaf : ℕ) → leaf < (leaf_count fleet) → AtBerth meaning olds news leaf (λ old new. MomentsRise (transcript.histories leaf) old.clock (notes_told leaf (all_pieces transcript.played)) new.clock)
@@ -201,7 +201,7 @@ module _ {B : Type 0} (meaning : B → Meaning) (front rest own : List B) (xs : 
           heard = subst (λ (ps : List PlayedItem). HearsAll fleet (plays_in ps) watching watched) (sym same) heard;
           counts = λ leaf below. at_berth (CountsRose leaf (all_pieces t.played)) leaf (omega (arith, below, size))
               (λ old x l new at now held. subst (λ (ps : List PlayedItem). CountsRose leaf (all_pieces ps) (meaning old) (meaning new)) (sym same) (counted leaf old x l new at now held));
-          strangers = λ leaf k below is. subst (λ (ps : List PlayedItem). Strangers (IsNamedBy fleet.names k.held) leaf (all_pieces ps)) (sym same) (told.strangers leaf k below is);
+          strangers = λ leaf k below is. subst (λ (ps : List PlayedItem). Strangers fleet.names k.held.disk leaf k.held.region (all_pieces ps)) (sym same) (told.strangers leaf k below is);
           leaves = λ leaf k below is. at_berth (LeavesBerth fleet.names k.base (t.lives leaf) (t.histories leaf)) leaf (omega (arith, below, size))
               (λ old x l new at now held. told.leaves leaf k old new x is at now (berth_held x l new held));
           moments = λ leaf below. at_berth (λ old new. MomentsRise (t.histories leaf) old.clock (notes_told leaf (all_pieces t.played)) new.clock) leaf (omega (arith, below, size))

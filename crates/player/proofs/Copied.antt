@@ -1,5 +1,5 @@
 -- The copy of a leaf's tables, step by step.
-use Rattle.std.proofs.Common.{◌≡◌, ℕ, zero, suc, ◌+◌, ◌<◌, ◌≤◌, Bool, true, false, ltb, List, [], ◌∷◌, ◌++◌, length, drop, replicate, Option, Result, Ok, Err, refl, sym, ap, subst, ◌∙◌, le_refl, arith, inl}
+use Rattle.std.proofs.Common.{◌≡◌, ℕ, zero, suc, ◌+◌, ◌<◌, ◌≤◌, Bool, true, false, ltb, List, [], ◌∷◌, ◌++◌, length, drop, replicate, Option, Result, Ok, Err, refl, sym, ap, subst, ◌∙◌, le_refl, arith, inl, inr}
 use Rattle.std.specs.Prelude.{IsTrue, slice_index}
 use Rattle.std.proofs.lemmas.Bool.{le-ltb, ltb-true, ltb-false}
 use Rattle.std.proofs.lemmas.List.{length-drop}
@@ -27,7 +27,7 @@ use Rattle.leaf_machine.specs.declared.copying.Copied.{Copied}
 use Rattle.leaf_machine.specs.declared.copying.Copied.TheVariants as copied
 use Rattle.leaf_machine.specs.States.{Copying, GoesOnCopying, RestsOn, Shutting, columns_seen}
 use Rattle.leaf_machine.specs.Prepares.{IsCopyOf}
-use Rattle.leaf_machine.specs.Copies.{CopyGoesOn, IsCopyStep, berth_of_copy, seats_of_copy, IsUnderWay}
+use Rattle.leaf_machine.specs.Copies.{CopyGoesOn, IsCopyStep, LeavesRegion, berth_of_copy, seats_of_copy, IsUnderWay}
 use Rattle.leaf_machine.proofs.UpMaking.{makes_since}
 use Rattle.printed_lines.specs.declared.line.Ending.TheVariants as ending
 use Rattle.transcript.specs.Life.{MayMake}
@@ -57,6 +57,7 @@ pub record CopiedSoFar (c : Copying) (m : Meaning) (stop : Option ℕ) (d : Copy
   pub count : made + copy_left d ≡ copy_left c
   pub left_are : AreLeft stop made left
   pub none : notes ≡ []
+  pub image : d.drain.image ≡ c.drain.image
   pub reached : IsReached made m n d.drain.next
   pub copies : IsTrue m.tells → AreFounded c.seated → CopyStands c m → CopyTold c d m n
   pub reads : n.disk_reads ≡ m.disk_reads
@@ -73,6 +74,7 @@ copied_none c m stop notes empty = record {
   count = omega arith;
   left_are = none_made stop;
   none = empty;
+  image = refl;
   reached = refl;
   copies = λ tells founded stands. (stands, λ base. copy_told base c m stands);
   reads = refl;
@@ -84,6 +86,7 @@ pub record CopySteps {B : Type 0} (meaning : B → Meaning) (d : Copying) (n : M
   pub one : IsCopyStep d notes r
   pub made : Makes n.clock (meaning (berth_of_copy r)).clock d.seated notes (seats_of_copy r)
   pub crash : IsTrue n.tells → AreFounded d.seated → CopyGoesOn meaning d n r
+  pub region : IsTrue n.tells → AreFounded d.seated → (writes : List ℕ → List Write) → Copies (watched_by d.seated) d.drain writes n → LeavesRegion meaning d r
   pub reads : (meaning (berth_of_copy r)).disk_reads ≡ n.disk_reads
   pub time : Passes n (meaning (berth_of_copy r))
 
@@ -216,6 +219,7 @@ module _ (c : Copying) (m : Meaning) (stop left left' : Option ℕ) (d : Copying
       count = omega (arith, so_far.count, steps.one.0);
       left_are = left_now;
       none = steps.one.3;
+      image = steps.one.2 ∙ so_far.image;
       reached = way;
       copies = λ tells founded stands.
           let now : CopyTold c d m n = so_far.copies tells founded stands in
@@ -236,8 +240,19 @@ module _ (c : Copying) (m : Meaning) (stop left left' : Option ℕ) (d : Copying
         (λ tells founded stands.
         let now : CopyTold c d m n = so_far.copies tells founded stands in
         (steps.crash (tells_still tells) (founded_still founded) now.0.0 now.0.1).1)
+        (λ tells founded stands.
+        let now : CopyTold c d m n = so_far.copies tells founded stands in
+        inr (steps.region (tells_still tells) (founded_still founded) now.0.0 now.0.1 ∙ so_far.image))
         refl
 
     -- the region failed
     pub copied_failed : (down : Seated × B) (fault : RegionFault) → CopySteps meaning d n notes (failed_copy down fault) → CopyEnds c stop m (meaning down.1) notes ending.FaultRegion down.0
-    copied_failed down fault steps = move.failed so_far.made so_far.steps may_now steps.one.1 (steps.one.0 ∙ so_far.seated) refl
+    copied_failed down fault steps =
+        move.failed so_far.made so_far.steps may_now steps.one.1 (steps.one.0 ∙ so_far.seated)
+        (λ tells founded stands.
+        let now : CopyTold c d m n = so_far.copies tells founded stands in
+        elim (steps.region (tells_still tells) (founded_still founded) now.0.0 now.0.1) [
+          | inl closed ↦ inl closed
+          | inr whole ↦ inr (whole ∙ so_far.image)
+        ])
+        refl

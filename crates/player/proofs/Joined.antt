@@ -2,6 +2,7 @@
 use Rattle.std.proofs.Common.{◌≡◌, ℕ, zero, suc, ◌+◌, List, [], ◌++◌, length, Option, Result, Vec, Global, refl, sym, ap, subst, ◌∙◌, arith}
 use Rattle.std.specs.Prelude.{IsTrue, IfOk}
 use Rattle.berth_face.specs.Berth.{Meaning, Passes}
+use Rattle.adopt.specs.Adopting.{HasNoStranger}
 use Rattle.crash_moments.specs.Left.{NamedStates}
 use Rattle.crash_moments.proofs.Telling.{told_join}
 use Rattle.leaf_steward.specs.declared.notes.Note.{Note}
@@ -10,6 +11,7 @@ use Rattle.leaf_steward.specs.Making.{Makes, EachNoted, IsHandedNote}
 use Rattle.leaf_steward.proofs.WatchMakes.{makes_tables}
 use Rattle.leaf_machine.specs.States.{Shutting, Copying}
 use Rattle.leaf_machine.specs.Prepares.{begins}
+use Rattle.leaf_machine.proofs.StartMakes.{makes_names}
 use Rattle.leaf_machine.proofs.UpMaking.{makes_join}
 use Rattle.printed_lines.specs.declared.line.Ending.{Ending}
 use Rattle.printed_lines.specs.declared.line.Ending.TheVariants as ending
@@ -23,10 +25,11 @@ use Rattle.player.specs.Stage.{KeepsSeats}
 use Rattle.player.specs.Steps.{copy_left}
 use Rattle.player.specs.Lines.{AreAdded}
 use Rattle.player.specs.Moves as move
-use Rattle.player.specs.Moves.{CarriesCopy, CopyEnds, CopyRests, CopyStands, DrainsWithLines, IsKilled, IsCopyReady, MakesCopies}
+use Rattle.player.specs.Moves.{CarriesCopy, CopyEnds, CopyRests, CopyStands, DrainsWithLines, IsCopied, IsKilled, IsCopyReady, MakesCopies}
 use Rattle.player.proofs.Carrying.{carries_on, founded_on, makes_keeps}
 use Rattle.player.proofs.Counted.{makes_copies, makes_still, may_make_more, all_made}
 use Rattle.player.proofs.Drained.{told_more}
+use Rattle.player.proofs.OwnImages.{copied_own}
 
 -- ---- a leaf that begins to shut its tables is one that shuts them
 
@@ -90,16 +93,29 @@ module _ (x : Shutting) (m n o : Meaning) (leaf : Leaf) (stop left : Option ℕ)
   may_copy : (made : ℕ) → MayMake left (suc made) → MayMake stop (suc (ready.made + made))
   may_copy made may = may_make_more stop left ready.made (suc made) (suc (ready.made + made)) ready.left_are may (omega arith)
 
+  -- what it leaves names tables of the leaf alone
+  whole_names : ready.whole.serving.seated.names ≡ (seated_of leaf).names
+  whole_names =
+      ap (λ (s : Seated). s.names) (sym ready.copy.seated) ∙ (makes_names m.clock n.clock x.serving.seated treating c.seated ready.carries.made ∙ ap (λ (s : Seated). s.names) (begins_seated leaf x shuts))
+
+  copy_own : IsCopied c o → HasNoStranger (seated_of leaf).names o.held.region
+  copy_own copied =
+      subst (λ (names : List (List ℕ)). HasNoStranger names o.held.region) whole_names
+      (copied_own ready.whole.serving.seated.names ready.whole.closed c.drain.image o.held.region ready.whole.serving.owing.log.end ready.copy.image copied)
+
   copy_moves : CopyRests c z notes n o → CopyEnds c left n o notes ends z → DrainMoves m o leaf stop (treating ++ notes) ends (IsDown z)
-  copy_moves rests (move.done made copies last may noted memory ended) =
+  copy_moves rests (move.done made copies last may noted memory copied ended) =
       step.done x ready.whole z treating notes (ready.made + made) (copy_left c) made shuts (copy_steps made copies) last (may_copy made may)
       (record { from = n.clock; to = o.clock; made = subst (λ (s : Seated). Makes n.clock o.clock s notes z) ready.copy.seated rests.made })
       (subst (λ ts. EachNoted IsHandedNote 0 (length ts) notes) copy_tables noted)
       refl
       (λ base tells founded stands. let copies = copy_stands base tells founded stands in memory copies.0 copies.1 copies.2)
+      (λ base tells founded stands. let copies = copy_stands base tells founded stands in copy_own (copied copies.0 copies.1 copies.2))
       ended refl
-  copy_moves rests (move.failed made copies may none same ended) =
-      step.failed x ready.whole (ready.made + made) (copy_left c) made shuts (copy_still made copies none) (may_copy made may) ended (whole_down same)
+  copy_moves rests (move.failed made copies may none same copied ended) =
+      step.failed x ready.whole (ready.made + made) (copy_left c) made shuts (copy_still made copies none) (may_copy made may)
+      (λ base tells founded stands. let copies = copy_stands base tells founded stands in copy_own (copied copies.0 copies.1 copies.2))
+      ended (whole_down same)
   copy_moves rests (move.stopped made copies all none same stopped ended) =
       step.stopped_copying x ready.whole (ready.made + made) (copy_left c) made shuts
       (all_made stop left ready.made made (ready.made + made) ready.left_are all refl)

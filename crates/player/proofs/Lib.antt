@@ -10,6 +10,7 @@ pub mod Counted
 pub mod Treated
 pub mod Copied
 pub mod Drained
+pub mod OwnImages
 pub mod Joined
 pub mod NamePlaces
 pub mod NoteTables

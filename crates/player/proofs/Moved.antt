@@ -10,6 +10,7 @@ use Rattle.leaf_opening.specs.declared.ways.Way.{Way}
 use Rattle.leaf_opening.specs.declared.ways.Way.TheVariants.{Memory, Disk}
 use Rattle.leaf_opening.specs.declared.ways.OpenFault.{OpenFault}
 use Rattle.leaf_opening.specs.declared.ways.OpenFault.TheVariants as found
+use Rattle.leaf_opening.specs.Answers.{IsAnswer}
 use Rattle.leaf_opening.specs.Starts.{IsWayOf, IsOpeningRefusal}
 use Rattle.crash_moments.specs.Left.{NamedStates}
 use Rattle.crash_states.specs.Standing.{Rests, Runs}
@@ -20,7 +21,7 @@ use Rattle.leaf_machine.specs.declared.faults.StartFault.{StartFault}
 use Rattle.leaf_machine.specs.declared.faults.StartFault.TheVariants as fault
 use Rattle.leaf_machine.specs.declared.up.FlushReply.{FlushReply}
 use Rattle.leaf_machine.specs.States.{Serving, Shutting, GoesOn, RestsOn, GoesOnServing}
-use Rattle.leaf_machine.specs.Starts.{CameUp, IsStart, IsStartRefused, StartGoesOn, told_of}
+use Rattle.leaf_machine.specs.Starts.{CameUp, IsExactRefusal, IsStart, IsStartRefused, StartGoesOn, told_of}
 use Rattle.leaf_machine.specs.Flushes.{Flushes}
 use Rattle.printed_lines.specs.declared.line.Ending.TheVariants as ending
 use Rattle.printed_lines.specs.declared.line.Line.{Line}
@@ -117,10 +118,11 @@ module _ {B : Type 0} (meaning : B → Meaning) where
       → IsStart x.0 x.1 notes (Ok (s, way))
       → (IsTrue (meaning x.1).tells → CameUp x.0.names (meaning x.1) (meaning s.1) notes s.0 way)
       → (IsTrue (meaning x.1).tells → IsWayOf (meaning x.1).held.region way)
+      → (IsTrue (meaning x.1).tells → IsAnswer x.0.names (meaning x.1).held.region (meaning x.1).held.disk (Ok way))
       → StartMoves (meaning (berth_of self)) (meaning s.1) (state_of self) notes (ending.Started way) (IsUp s.0)
-  start_opens self x s way notes is start came found =
+  start_opens self x s way notes is start came found exact =
       subst (λ (l : OneLeaf B). StartMoves (meaning (berth_of l)) (meaning s.1) (state_of l) notes (ending.Started way) (IsUp s.0)) (sym is)
-      (StartMoves.opened x.0 s.0 way refl start.3 start.4 (λ tells. record { came = came tells; way_is = found tells }) refl refl)
+      (StartMoves.opened x.0 s.0 way refl start.3 start.4 (λ tells. record { came = came tells; way_is = found tells; exact = exact tells }) refl refl)
 
   pub start_carries : (self : OneLeaf B) (x : Seated × B) (s : Serving × B) (way : Way) (notes : List Note) → self ≡ one.Down x
       → Makes (meaning x.1).clock (meaning s.1).clock x.0 notes s.0.seated
@@ -138,16 +140,17 @@ module _ {B : Type 0} (meaning : B → Meaning) where
   pub start_refused : (self : OneLeaf B) (x y : Seated × B) (f : StartFault) (notes : List Note) (ends : ending.the_data) → self ≡ one.Down x
       → IsStart x.0 x.1 notes (Err (y, f))
       → (IsTrue (meaning x.1).tells → IsStartRefused x.0.names (meaning x.1) (meaning y.1) f)
+      → (IsTrue (meaning x.1).tells → IsExactRefusal x.0.names (meaning x.1).held f)
       → (IsTrue (meaning x.1).tells → BeginsScan (length (meaning x.1).held.disk) (meaning x.1).held.disk (meaning y.1).held.disk)
       → ((others : NamedStates) (least : List ℕ → List Write) (next : Option LogRecord) → IsTrue (meaning x.1).tells → AreFounded x.0 → Rests (watched_by x.0) others least next (meaning x.1)
       → StartGoesOn meaning x.0 (meaning x.1) others least next (Err (y, f)))
       → ends ≡ ending_of f
       → StartMoves (meaning (berth_of self)) (meaning y.1) (state_of self) notes ends (IsDown y.0)
-  start_refused self x y f notes ends is start why disk crash told =
+  start_refused self x y f notes ends is start why exact disk crash told =
       let was : Refused x.0 notes y.0 f = refused x.0 x.1 notes y f start in
       subst (λ (l : OneLeaf B). StartMoves (meaning (berth_of l)) (meaning y.1) (state_of l) notes ends (IsDown y.0)) (sym is)
       (StartMoves.refused x.0 f refl was.worn (λ base tells founded stands. (crash base stands.0 stands.1 tells founded stands.2).2)
-      (λ tells. record { why = why tells; region = region_refused meaning x.0 x.1 notes y f start (why tells); disk = disk tells })
+      (λ tells. record { why = why tells; exact = exact tells; region = region_refused meaning x.0 x.1 notes y f start (why tells); disk = disk tells })
       was.none told (ap IsDown was.same))
 
   pub refusal_carries : (self : OneLeaf B) (x y : Seated × B) (f : StartFault) (notes : List Note) → self ≡ one.Down x

@@ -1,10 +1,11 @@
 -- What the leaf's methods do, with the notes that they make.
-use Rattle.std.specs.Prelude.{◌≡◌, ℕ, suc, ◌+◌, ◌<◌, ◌≤◌, List, [], ◌++◌, length, slice_get, slice_set, Option, Some, Result, Vec, IsTrue, ⊤}
+use Rattle.std.specs.Prelude.{◌≡◌, ◌⊎◌, ℕ, suc, ◌+◌, ◌<◌, ◌≤◌, List, [], ◌++◌, length, slice_get, slice_set, Option, Some, Result, Vec, IsTrue, ⊤}
 use Rattle.std.specs.Global.{Global}
 use Rattle.std.specs.List.{AllByRecursion}
 use Rattle.leaf_model.specs.declared.writes.Write.{Write}
 use Rattle.berth_face.specs.Berth.{Meaning}
 use Rattle.berth_face.specs.Causes.{Rose}
+use Rattle.region_layout.specs.Region.{IsClosed}
 use Rattle.leaf_opening.specs.declared.ways.Way.TheVariants.{Memory}
 use Rattle.leaf_opening.specs.Starts.{IsWayOf}
 use Rattle.crash_moments.specs.Left.{NamedStates}
@@ -193,6 +194,10 @@ pub record ShutsTables {B E : Type 0} (number : ℕ) (meaning : B → Meaning) (
 abbrev pub MakesCopies : ℕ → ℕ → Type 0
 MakesCopies copy made = (x : Shutting) → MakesSteps made (step.Copies x copy 0) [] (step.Copies x copy made)
 
+-- the region is closed, or just the image that was copied
+abbrev pub IsCopied : Copying → Meaning → Type 0
+IsCopied c m = IsClosed m.held.region ⊎ (m.held.region ≡ c.drain.image)
+
 -- How a copy ends: each table is handed over, and the region is the image; or the region failed; or as many steps were made as may be, none of them the last.
 pub data CopyEnds (c : Copying) (stop : Option ℕ) (m m' : Meaning) (notes : List Note) (ends : Ending) (y : Seated) : Type 0 where
   done : (made : ℕ)
@@ -201,6 +206,7 @@ pub data CopyEnds (c : Copying) (stop : Option ℕ) (m m' : Meaning) (notes : Li
       → MayMake stop (suc made)
       → EachNoted IsHandedNote 0 (length c.seated.tables) notes
       → (IsTrue m.tells → AreFounded c.seated → CopyStands c m → IsWayOf m'.held.region Memory)
+      → (IsTrue m.tells → AreFounded c.seated → CopyStands c m → IsCopied c m')
       → ends ≡ ending.Done
       → CopyEnds c stop m m' notes ends y
   failed : (made : ℕ)
@@ -208,6 +214,7 @@ pub data CopyEnds (c : Copying) (stop : Option ℕ) (m m' : Meaning) (notes : Li
       → MayMake stop (suc made)
       → notes ≡ []
       → y ≡ c.seated
+      → (IsTrue m.tells → AreFounded c.seated → CopyStands c m → IsCopied c m')
       → ends ≡ ending.FaultRegion
       → CopyEnds c stop m m' notes ends y
   stopped : (made : ℕ)

@@ -19,7 +19,7 @@ use Rattle.script_text.specs.Commands.{leaf_count}
 use Rattle.transcript.specs.Pieces.{all_lines, all_pieces, script_fleet, plays_in}
 use Rattle.transcript.specs.Life.{Life}
 use Rattle.transcript.specs.Counts.{CountsRose}
-use Rattle.transcript.specs.Strangers.{IsNamedBy, Strangers}
+use Rattle.transcript.specs.Strangers.{Strangers}
 use Rattle.transcript.specs.Transcript.{Known, Transcript}
 use Rattle.transcript.specs.Watching.{HearsAll}
 use Rattle.transcript.specs.Moments.{MomentsRise, notes_told}
@@ -58,7 +58,7 @@ module _ {B : Type 0} (meaning : B → Meaning) (olds news : List B) where
     pub watched : HearsAll (script_fleet items) (plays_in transcript.played) before after
     pub counts : (leaf : ℕ) → leaf < (leaf_count (script_fleet items)) → AtBerth leaf (CountsRose leaf (all_pieces transcript.played))
     pub strangers : (leaf : ℕ) (k : Known) → leaf < (leaf_count (script_fleet items)) → known leaf ≡ Some k →
-        Strangers (IsNamedBy (script_fleet items).names k.held) leaf (all_pieces transcript.played)
+        Strangers (script_fleet items).names k.held.disk leaf k.held.region (all_pieces transcript.played)
     pub leaves : (leaf : ℕ) (k : Known) → leaf < (leaf_count (script_fleet items)) → known leaf ≡ Some k →
         AtBerth leaf (LeavesBerth (script_fleet items).names k.base (transcript.lives leaf) (transcript.histories leaf))
     pub moments : (leaf : ℕ) → leaf < (leaf_count (script_fleet items)) →

@@ -1,6 +1,6 @@
 -- The life of one leaf, as its steward's deeds print it: in which state it is, what its next start prints, and what its next `opened` lines tell.
 -- No rule looks at a table's history; how many columns tables have at least that are handed over is said from outside.
-use Rattle.std.specs.Prelude.{◌≡◌, ℕ, zero, suc, ◌+◌, ◌<◌, ◌≤◌, Bool, true, false, List, [], ◌∷◌, ◌++◌, length, map, Option, Some, None, IfSome, option_map, slice_set, replicate, ◌==◌, MatchBool, if◌then◌else◌, ⊤}
+use Rattle.std.specs.Prelude.{◌≡◌, ℕ, zero, suc, ◌+◌, ◌<◌, ◌≤◌, Bool, true, false, ◌&&◌, List, [], ◌∷◌, ◌++◌, length, map, Option, Some, None, IfSome, option_map, slice_set, replicate, ◌==◌, MatchBool, if◌then◌else◌, ⊤}
 use Rattle.leaf_opening.specs.declared.ways.Way.{Way}
 use Rattle.leaf_opening.specs.declared.ways.Way.TheVariants.{Memory, Disk}
 use Rattle.adopt.specs.declared.found.WhyDisk.TheVariants as why
@@ -86,15 +86,20 @@ abbrev pub claimed : {A : Type 0} → Bool → A → Option A
 claimed true a = Some a
 claimed false a = None
 
--- how a start is refused; a damaged log is not told over a berth whose base is known
-abbrev pub IsStartRefusal : Bool → Ending → Type 0
-IsStartRefusal told ends.FaultRegion = ⊤
-IsStartRefusal told ends.FaultDisk = ⊤
-IsStartRefusal told ends.FaultMemory = ⊤
-IsStartRefusal told (ends.FaultStranger name) = ⊤
-IsStartRefusal told (ends.FaultWorn table) = ⊤
-IsStartRefusal told ends.FaultDamaged = told ≡ false
-IsStartRefusal told _ = ⊥
+-- over a berth whose base is known no start finds bytes that are no image
+abbrev pub MayCome : Bool → Way → Type 0
+MayCome told (Disk why.NoImage) = told ≡ false
+MayCome told _ = ⊤
+
+-- how a start is refused; over a berth whose base is known a damaged log is not told, and no stranger of a leaf that was up before
+abbrev pub IsStartRefusal : Bool → Bool → Ending → Type 0
+IsStartRefusal told begun ends.FaultRegion = ⊤
+IsStartRefusal told begun ends.FaultDisk = ⊤
+IsStartRefusal told begun ends.FaultMemory = ⊤
+IsStartRefusal told begun (ends.FaultStranger name) = (told && begun) ≡ false
+IsStartRefusal told begun (ends.FaultWorn table) = ⊤
+IsStartRefusal told begun ends.FaultDamaged = told ≡ false
+IsStartRefusal told begun _ = ⊥
 
 -- what the start behind a refused one prints: nothing is touched for a worn seat; a region that failed is not known; else an open flag was closed
 abbrev pub way_refused : Ending → Option Way → Option Way
@@ -105,6 +110,7 @@ way_refused _ way = option_map way_after way
 pub data OfStart (told : Bool) (tables : ℕ) (life : Life) (notes : List Noted) (ending : Ending) (next : Life) : Type 0 where
   opens : (way : Way) (counts : List ℕ)
       → life.mode ≡ Down
+      → MayCome told way
       → IfSome life.way (λ w. way ≡ w)
       → IfSome life.durable (λ known. counts ≡ known)
       → length counts ≡ tables
@@ -113,7 +119,7 @@ pub data OfStart (told : Bool) (tables : ℕ) (life : Life) (notes : List Noted)
       → next ≡ record { mode = Up None; way = claimed told (way_after way); durable = claimed told counts; begun = true }
       → OfStart told tables life notes ending next
   refuses : life.mode ≡ Down
-      → IsStartRefusal told ending
+      → IsStartRefusal told life.begun ending
       → notes ≡ []
       → next ≡ on life Down (way_refused ending life.way) []
       → OfStart told tables life notes ending next

@@ -1,25 +1,32 @@
--- Why a start is refused for a stranger: a table's name that the leaf does not have.
+-- What a start finds of strangers: of tables' names that the leaf does not have.
 use Rattle.std.specs.Prelude.{◌⊎◌, ℕ, ◌==◌, List, [], ◌∷◌, MatchBool, ⊤}
-use Rattle.berth_face.specs.Berth.{Pair}
-use Rattle.adopt.specs.Adopting.{IsStranger}
+use Rattle.region_layout.specs.Region.{IsClosed}
+use Rattle.adopt.specs.Adopting.{HasNoStranger, IsNoImage, IsStranger}
 use Rattle.log_recovery.specs.Recovery.{IsRecoveryRefusal}
 use Rattle.log_recovery.specs.declared.fault.RecoveryFault.TheVariants as found
+use Rattle.leaf_opening.specs.declared.ways.Way.TheVariants.{Memory, Disk}
 use Rattle.printed_lines.specs.declared.line.Ending.{Ending}
 use Rattle.printed_lines.specs.declared.line.Ending.TheVariants as ends
 use Rattle.transcript.specs.Pieces.{Piece, Acted}
 
--- the directory of the region's image, or a record of the log, has this name first of those that the leaf does not have
-abbrev pub IsNamedBy : List (List ℕ) → Pair → List ℕ → Type 0
-IsNamedBy names held name = IsStranger names held.region name ⊎ IsRecoveryRefusal names held.disk (found.Stranger name)
+-- a start that ended so over this region and this log tells the first stranger of the region's directory, or else, where the region is no image, of the log; and one that came up found none
+abbrev pub FitsStrangers : List (List ℕ) → List ℕ → List ℕ → Ending → Type 0
+FitsStrangers names region disk (ends.FaultStranger name) = IsStranger names region name ⊎ (HasNoStranger names region × IsNoImage region × IsRecoveryRefusal names disk (found.Stranger name))
+FitsStrangers names region disk (ends.Started Memory) = HasNoStranger names region
+FitsStrangers names region disk (ends.Started (Disk w)) = HasNoStranger names region × ((name : List ℕ) → IsRecoveryRefusal names disk (found.Stranger name) → ⊥)
+FitsStrangers names region disk _ = ⊤
 
--- what a start that ended so leaves to be said of those behind it: nothing, once the leaf was up
-abbrev pub until_up : (List ℕ → Type 0) → Ending → Type 0 → Type 0
-until_up P (ends.Started way) rest = ⊤
-until_up P (ends.FaultStranger name) rest = P name × rest
-until_up P _ rest = rest
+-- what is left to be said behind a start that ended so, of the region that it left: nothing, once the leaf was up
+abbrev pub Behind : Ending → List ℕ → (List ℕ → Type 0) → Type 0
+Behind (ends.Started way) region P = ⊤
+Behind (ends.FaultWorn table) region P = P region
+Behind ends.NotUp region P = P region
+Behind ends.FaultRegion region P = P region ⊎ ((now : List ℕ) × IsClosed now × P now)
+Behind _ region P = (now : List ℕ) × IsClosed now × P now
 
--- each stranger that a leaf tells of, until it is first up, is such a name
-abbrev pub Strangers : (List ℕ → Type 0) → ℕ → List Piece → Type 0
-Strangers P leaf [] = ⊤
-Strangers P leaf (Acted l deed notes ending ∷ pieces) = MatchBool (l == leaf) (until_up P ending (Strangers P leaf pieces)) (Strangers P leaf pieces)
-Strangers P leaf (_ ∷ pieces) = Strangers P leaf pieces
+-- each start of a leaf, until it is first up, fits the strangers of the log that was handed and of the region that the starts before it left
+abbrev pub Strangers : List (List ℕ) → List ℕ → ℕ → List ℕ → List Piece → Type 0
+Strangers names disk leaf region [] = ⊤
+Strangers names disk leaf region (Acted l deed notes ending ∷ pieces) = MatchBool (l == leaf)
+    (FitsStrangers names region disk ending × Behind ending region (λ now. Strangers names disk leaf now pieces)) (Strangers names disk leaf region pieces)
+Strangers names disk leaf region (_ ∷ pieces) = Strangers names disk leaf region pieces

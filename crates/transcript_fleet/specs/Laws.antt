@@ -10,7 +10,7 @@ use Rattle.printed_lines.specs.Lines.{lines_text}
 use Rattle.script_text.specs.declared.fleet.Fleet.{Fleet}
 use Rattle.script_text.specs.Commands.{leaf_count}
 use Rattle.transcript.specs.Pieces.{PlayedItem, all_lines, all_pieces, item_of}
-use Rattle.transcript.specs.Strangers.{IsNamedBy, Strangers}
+use Rattle.transcript.specs.Strangers.{Strangers}
 use Rattle.transcript.specs.Transcript.{Known, Transcript}
 use Rattle.transcript.specs.Moments.{MomentsRise, notes_told}
 use Rattle.transcript.specs.Leaving.{LeavesBerth}
@@ -52,7 +52,7 @@ SessionsGoOn {B} meaning olds = (fleet : Fleet) (known : ℕ → Option Known) (
 pub record IsToldFleet {B : Type 0} (meaning : B → Meaning) (fleet : Fleet) (known : ℕ → Option Known) (items : List PlayedItem) (olds : List B) (xs : List (Hold B)) : Type 0 where
   pub transcript : Transcript fleet known (map item_of items) (lines_text fleet.names (all_lines items))
   pub played_is : transcript.played ≡ items
-  pub strangers : (leaf : ℕ) (k : Known) → leaf < leaf_count fleet → known leaf ≡ Some k → Strangers (IsNamedBy fleet.names k.held) leaf (all_pieces items)
+  pub strangers : (leaf : ℕ) (k : Known) → leaf < leaf_count fleet → known leaf ≡ Some k → Strangers fleet.names k.held.disk leaf k.held.region (all_pieces items)
   pub leaves : (leaf : ℕ) (k : Known) (old new : B) (x : Hold B) → known leaf ≡ Some k → slice_get olds leaf ≡ Some old → slice_get xs leaf ≡ Some x → berth_in x ≡ Some new
       → LeavesBerth fleet.names k.base (transcript.lives leaf) (transcript.histories leaf) (meaning old) (meaning new)
   pub moments : (leaf : ℕ) (old new : B) (x : Hold B) → slice_get olds leaf ≡ Some old → slice_get xs leaf ≡ Some x → berth_in x ≡ Some new

@@ -1,41 +1,27 @@
 -- What refused starts leave of region and disk: what was handed, but for the flag of an open region and the first byte of a disk of at most one.
 use Rattle.std.proofs.Common.{◌≡◌, ◌∙◌, inl, inr, ℕ, ◌≤◌, List, [], ◌∷◌, ◌++◌, length, take, min, refl, sym, ap, subst, arith, length-append}
-use Rattle.berth_face.specs.Berth.{Meaning, Pair}
+use Rattle.berth_face.specs.Berth.{Meaning}
 use Rattle.row_records.specs.Records.{LogRecord}
 use Rattle.region_layout.specs.Region.{IsClosed}
 use Rattle.region_layout.proofs.Heads.{closed_head}
 use Rattle.adopt.specs.Adopting.{IsBroken, IsLeftBehind, IsStranger}
 use Rattle.adopt.proofs.Heads.{untouched}
 use Rattle.disk_backup.specs.Logs.{open_records}
-use Rattle.disk_backup.specs.Scanning.{BeginsScan, FirstByte, Scanned}
+use Rattle.disk_backup.specs.Scanning.{BeginsScan, FirstByte, Scanned, begun}
 use Rattle.disk_backup.proofs.Logs.{end_snoc}
 use Rattle.log_recovery.specs.Recovery.{IsRecoveryRefusal}
 use Rattle.log_recovery.specs.declared.fault.RecoveryFault.TheVariants as found
 use Rattle.leaf_opening.proofs.Regions.{broken_same, left_closed}
 use Rattle.leaf_machine.specs.declared.faults.StartFault.{StartFault}
 use Rattle.leaf_machine.specs.declared.faults.StartFault.TheVariants as fault
-use Rattle.leaf_steward.specs.Seated.{Seated}
-use Rattle.leaf_moves.specs.Steps.{RefusalTold, RegionRefused}
-use Rattle.transcript_leaf.specs.Session.{IsAsHanded}
+use Rattle.leaf_moves.specs.Steps.{RegionRefused}
 
 -- ---- the region
-
-broken_on : (a b c : List ℕ) → IsBroken a b → IsBroken b c → IsBroken a c
-broken_on a b c first second = record {
-  closed = λ closed. second.closed (subst (λ (r : List ℕ). IsClosed r) (sym (first.closed closed)) closed) ∙ first.closed closed;
-  either = elim second.either [
-    | inl same ↦ elim first.either [
-      | inl before ↦ inl (same.0 ∙ before.0, same.1 ∙ before.1)
-      | inr shut ↦ inr (subst (λ (r : List ℕ). IsClosed r) (sym (second.closed shut)) shut)
-    ]
-    | inr shut ↦ inr shut
-  ];
-}
 
 left_as : (region now : List ℕ) → IsLeftBehind region now → IsBroken region now
 left_as region now left = record { closed = left.closed; either = inr (left_closed region now left) }
 
-refused_breaks : (f : StartFault) (m m' : Meaning) → RegionRefused f m m' → IsBroken m.held.region m'.held.region
+pub refused_breaks : (f : StartFault) (m m' : Meaning) → RegionRefused f m m' → IsBroken m.held.region m'.held.region
 refused_breaks fault.RegionFault m m' left = left
 refused_breaks fault.DiskFault m m' left = left_as m.held.region m'.held.region left
 refused_breaks fault.DiskDamaged m m' left = left_as m.held.region m'.held.region left
@@ -70,7 +56,7 @@ first_bytes a b c first second = record {
   };
 }
 
-scan_on : (a b c : List ℕ) → BeginsScan (length a) a b → BeginsScan (length b) b c → BeginsScan (length a) a c
+pub scan_on : (a b c : List ℕ) → BeginsScan (length a) a b → BeginsScan (length b) b c → BeginsScan (length a) a c
 scan_on a b c (inl same) second = subst (λ (d : List ℕ). BeginsScan (length d) d c) same second
 scan_on a b c (inr first) (inl same) = inr (subst (λ (d : List ℕ). FirstByte (length a) a d) (sym same) first)
 scan_on a b c (inr first) (inr second) = inr (first_bytes a b c first second)
@@ -86,24 +72,22 @@ log_named names old now name (inl same) refusal = subst (λ (d : List ℕ). IsRe
 log_named names old now name (inr first) refusal =
     absurd (no_record now refusal.0 refusal.1 refusal.2.at (omega (arith, first.short, first.torn.no_longer)) refusal.2.scanned)
 
--- ---- both
+-- ---- the log that a start reads
 
-pub handed_first : (held : Pair) (m : Meaning) → held ≡ m.held → IsAsHanded held m
-handed_first held m same = record {
-  region = subst (λ (p : Pair). IsBroken held.region p.region) same (untouched held.region);
-  disk = inl (sym (ap (λ (p : Pair). p.disk) same));
-}
+begun_named : (names : List (List ℕ)) (disk name : List ℕ) → IsRecoveryRefusal names (begun disk) (found.Stranger name) → IsRecoveryRefusal names disk (found.Stranger name)
+begun_named names [] name refusal = absurd (no_record (0 ∷ []) refusal.0 refusal.1 refusal.2.at (omega arith) refusal.2.scanned)
+begun_named names (b ∷ []) name refusal = absurd (no_record (0 ∷ []) refusal.0 refusal.1 refusal.2.at (omega arith) refusal.2.scanned)
+begun_named names (b ∷ c ∷ rest) name refusal = refusal
 
--- nothing was touched
-pub handed_still : (held : Pair) (m m' : Meaning) → m'.held ≡ m.held → IsAsHanded held m → IsAsHanded held m'
-handed_still held m m' same handed = record {
-  region = subst (λ (p : Pair). IsBroken held.region p.region) (sym same) handed.region;
-  disk = subst (λ (p : Pair). BeginsScan (length held.disk) held.disk p.disk) (sym same) handed.disk;
-}
+-- its strangers are those of the one that was handed
+pub read_named : (names : List (List ℕ)) (old now name : List ℕ) → BeginsScan (length old) old now → IsRecoveryRefusal names (begun now) (found.Stranger name) → IsRecoveryRefusal names old (found.Stranger name)
+read_named names old now name begins refusal = log_named names old now name begins (begun_named names now name refusal)
 
--- a start was refused
-pub handed_on : (held : Pair) (x : Seated) (m m' : Meaning) (f : StartFault) → RefusalTold x m m' f → IsAsHanded held m → IsAsHanded held m'
-handed_on held x m m' f told handed = record {
-  region = broken_on held.region m.held.region m'.held.region handed.region (refused_breaks f m m' told.region);
-  disk = scan_on held.disk m.held.disk m'.held.disk handed.disk told.disk;
-}
+then_begun : (names : List (List ℕ)) (disk name : List ℕ) → IsRecoveryRefusal names disk (found.Stranger name) → IsRecoveryRefusal names (begun disk) (found.Stranger name)
+then_begun names [] name refusal = absurd (no_record [] refusal.0 refusal.1 refusal.2.at (omega arith) refusal.2.scanned)
+then_begun names (b ∷ []) name refusal = absurd (no_record (b ∷ []) refusal.0 refusal.1 refusal.2.at (omega arith) refusal.2.scanned)
+then_begun names (b ∷ c ∷ rest) name refusal = refusal
+
+pub then_read : (names : List (List ℕ)) (old now name : List ℕ) → BeginsScan (length old) old now → IsRecoveryRefusal names old (found.Stranger name) → IsRecoveryRefusal names (begun now) (found.Stranger name)
+then_read names old now name (inl same) refusal = then_begun names now name (subst (λ (d : List ℕ). IsRecoveryRefusal names d (found.Stranger name)) (sym same) refusal)
+then_read names old now name (inr first) refusal = absurd (no_record old refusal.0 refusal.1 refusal.2.at first.short refusal.2.scanned)

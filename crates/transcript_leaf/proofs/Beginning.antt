@@ -1,5 +1,5 @@
 -- A leaf begins: at rest, over any berth, and with what is known of that berth's base; the run holds all of it.
-use Rattle.std.proofs.Common.{◌≡◌, inl, ℕ, List, [], map, Option, Some, None, refl, sym, ap, subst, ◌∙◌, arith}
+use Rattle.std.proofs.Common.{◌≡◌, inl, ℕ, false, List, [], map, Option, Some, None, refl, sym, ap, subst, ◌∙◌, arith}
 use Rattle.std.specs.Prelude.{IfSome, slice_get}
 use Rattle.std.proofs.lemmas.List.Sorted.{IsPermutation-refl}
 use Rattle.berth_face.specs.Berth.{Meaning}
@@ -14,7 +14,7 @@ use Rattle.transcript.specs.Leaving.{IsKnown}
 use Rattle.leaf_moves.specs.Stage.{Leaf, IsDown, seated_of}
 use Rattle.leaf_moves.specs.Holds.{Hold, caller_in, steward_in}
 use Rattle.transcript_leaf.specs.Session.{AreGrounded, AreInPlace, FitsMode, FitsNext, IsNewHold, IsWhole, KnownLeaf, LeafHeld, LeafSession, StandsFirst, TableSession}
-use Rattle.transcript_leaf.proofs.Lists.{element_at, same_some}
+use Rattle.transcript_leaf.proofs.Lists.{clash_bool, element_at, same_some}
 use Rattle.transcript_leaf.proofs.Places.{as_many_names, caller_is, same_pair}
 use Rattle.transcript_leaf.proofs.Durable.{first_durable}
 use Rattle.transcript_leaf.proofs.Named.{named_first}
@@ -62,6 +62,7 @@ first_known number names (Some b) (Some k) x m in_place grounded unused first is
       now = record { tells = stands.begins.0; sound = stands.begins.1.2.sound; stands = stands.stands };
       told = told_first names k.base x m in_place grounded unused stands.stands;
       named = named_first number names k m is.1;
+      own = λ begun. absurd (clash_bool false begun refl);
     }
 
 module _ {B : Type 0} (meaning : B → Meaning) (number : ℕ) (names : List (List ℕ)) (known : Option Known) (base : Option NamedStates) (x : Hold B) (new : IsNewHold meaning names base known x) where

@@ -1,5 +1,5 @@
 -- A leaf behind a meeting of its seats, and past what is no deed of its steward.
-use Rattle.std.proofs.Common.{◌≡◌, ℕ, ◌==◌, Bool, true, false, List, [], ◌∷◌, ◌++◌, length, Option, Some, None, sym, ap, subst, ◌∙◌, MatchBool}
+use Rattle.std.proofs.Common.{◌≡◌, inl, inr, ℕ, ◌==◌, Bool, true, false, List, [], ◌∷◌, ◌++◌, length, Option, Some, None, sym, ap, subst, ◌∙◌, MatchBool}
 use Rattle.std.specs.Prelude.{IfSome, is_some}
 use Rattle.std.proofs.lemmas.List.{append-nil, append_assoc}
 use Rattle.berth_face.specs.Berth.{Meaning}
@@ -8,7 +8,7 @@ use Rattle.leaf_steward.specs.Seated.{Seated}
 use Rattle.printed_lines.specs.declared.line.Ending.{Ending}
 use Rattle.printed_lines.specs.declared.line.Ending.TheVariants as ends
 use Rattle.transcript.specs.Pieces.{Noted, Acted, Called, Piece, Says, Worn}
-use Rattle.transcript.specs.Strangers.{IsNamedBy, Strangers, until_up}
+use Rattle.transcript.specs.Strangers.{Behind, FitsStrangers, Strangers}
 use Rattle.transcript.specs.Life.{Life, Mode, Down, Up, Preparing}
 use Rattle.transcript.specs.Answers.{columns_handed}
 use Rattle.transcript.specs.Transcript.{Known, first_life}
@@ -19,6 +19,7 @@ use Rattle.transcript_leaf.specs.Session.{AreGrounded, AreInPlace, FitsMode, Fit
 use Rattle.transcript_leaf.proofs.Lives.{lives_between}
 use Rattle.transcript_leaf.proofs.ToldOn.{told_met}
 use Rattle.transcript_leaf.proofs.Durable.{durable_met}
+use Rattle.transcript_leaf.proofs.Owned.{owned_met}
 use Rattle.transcript_leaf.proofs.Standing.{LeafMeets, seat_there, seats_become, stands_met, told_on}
 
 -- what comes of a thing comes of it where there is one
@@ -78,6 +79,7 @@ known_met number names (Some k) old life pieces leaf leaf' m in_place grounded m
       now = record { tells = s.now.tells; sound = s.now.sound; stands = on.stands };
       told = told_on k.base names leaf leaf' old m m s.told on;
       named = s.named;
+      own = λ begun. owned_met names k.base leaf leaf' m on (s.own begun);
     }
 
 -- the leaf
@@ -96,41 +98,47 @@ held_meets number names known old pieces leaf leaf' m now met = record {
 
 -- ---- past what is no deed of its steward
 
-ends_on : (P : List ℕ → Type 0) (e : Ending) (X Y : Type 0) → (X → Y) → until_up P e X → until_up P e Y
-ends_on P (ends.Started way) X Y f h = h
-ends_on P (ends.FaultStranger name) X Y f h = (h.0, f h.1)
-ends_on P ends.Done X Y f h = f h
-ends_on P ends.FaultRegion X Y f h = f h
-ends_on P ends.FaultDisk X Y f h = f h
-ends_on P ends.FaultDamaged X Y f h = f h
-ends_on P ends.FaultMemory X Y f h = f h
-ends_on P ends.FaultRoom X Y f h = f h
-ends_on P (ends.FaultWorn table) X Y f h = f h
-ends_on P ends.NotDown X Y f h = f h
-ends_on P ends.NotUp X Y f h = f h
-ends_on P ends.Stopped X Y f h = f h
-ends_on P ends.Worn X Y f h = f h
+behind_on : (e : Ending) (region : List ℕ) (P Q : List ℕ → Type 0) → ((now : List ℕ) → P now → Q now) → Behind e region P → Behind e region Q
+behind_on (ends.Started way) region P Q f h = h
+behind_on (ends.FaultStranger name) region P Q f h = (h.0, h.1, f h.0 h.2)
+behind_on ends.Done region P Q f h = (h.0, h.1, f h.0 h.2)
+behind_on ends.FaultRegion region P Q f h = elim h [
+  | inl same ↦ inl (f region same)
+  | inr shut ↦ inr (shut.0, shut.1, f shut.0 shut.2)
+]
+behind_on ends.FaultDisk region P Q f h = (h.0, h.1, f h.0 h.2)
+behind_on ends.FaultDamaged region P Q f h = (h.0, h.1, f h.0 h.2)
+behind_on ends.FaultMemory region P Q f h = (h.0, h.1, f h.0 h.2)
+behind_on ends.FaultRoom region P Q f h = (h.0, h.1, f h.0 h.2)
+behind_on (ends.FaultWorn table) region P Q f h = f region h
+behind_on ends.NotDown region P Q f h = (h.0, h.1, f h.0 h.2)
+behind_on ends.NotUp region P Q f h = f region h
+behind_on ends.Stopped region P Q f h = (h.0, h.1, f h.0 h.2)
+behind_on ends.Worn region P Q f h = (h.0, h.1, f h.0 h.2)
 
--- no stranger is told of there
-strangers_past : (P : List ℕ → Type 0) (leaf : ℕ) (none more : List Piece) → HasNoDeed leaf none → Strangers P leaf more → Strangers P leaf (none ++ more)
-strangers_past P leaf [] more apart h = h
-strangers_past P leaf (Acted l d ns e ∷ ps) more apart h = let on : Strangers P leaf (ps ++ more) = strangers_past P leaf ps more apart.1 h in rw apart.0 on
-strangers_past P leaf (Called l t c n said ∷ ps) more apart h = strangers_past P leaf ps more apart.1 h
-strangers_past P leaf (Worn l t ∷ ps) more apart h = strangers_past P leaf ps more apart.1 h
-strangers_past P leaf (Says line ∷ ps) more apart h = strangers_past P leaf ps more apart.1 h
+-- no start is among them
+module _ (names : List (List ℕ)) (disk : List ℕ) (leaf : ℕ) (none more : List Piece) (apart : HasNoDeed leaf none) where
+  strangers_past : (region : List ℕ) (ps : List Piece) → HasNoDeed leaf ps → Strangers names disk leaf region more → Strangers names disk leaf region (ps ++ more)
+  strangers_past region [] none_of h = h
+  strangers_past region (Acted l d ns e ∷ ps) none_of h = let on : Strangers names disk leaf region (ps ++ more) = strangers_past region ps none_of.1 h in rw none_of.0 on
+  strangers_past region (Called l t c n said ∷ ps) none_of h = strangers_past region ps none_of.1 h
+  strangers_past region (Worn l t ∷ ps) none_of h = strangers_past region ps none_of.1 h
+  strangers_past region (Says line ∷ ps) none_of h = strangers_past region ps none_of.1 h
 
-strangers_between : (P : List ℕ → Type 0) (leaf : ℕ) (before none more : List Piece) → HasNoDeed leaf none → Strangers P leaf (before ++ more) → Strangers P leaf (before ++ (none ++ more))
-strangers_between P leaf [] none more apart h = strangers_past P leaf none more apart h
-strangers_between P leaf (Acted l d ns e ∷ ps) none more apart h = by (l == leaf) h (λ g. strangers_between P leaf ps none more apart g)
-  where
-    by : (b : Bool) → MatchBool b (until_up P e (Strangers P leaf (ps ++ more))) (Strangers P leaf (ps ++ more))
-        → (Strangers P leaf (ps ++ more) → Strangers P leaf (ps ++ (none ++ more)))
-        → MatchBool b (until_up P e (Strangers P leaf (ps ++ (none ++ more)))) (Strangers P leaf (ps ++ (none ++ more)))
-    by true g go = ends_on P e (Strangers P leaf (ps ++ more)) (Strangers P leaf (ps ++ (none ++ more))) go g
-    by false g go = go g
-strangers_between P leaf (Called l t c n said ∷ ps) none more apart h = strangers_between P leaf ps none more apart h
-strangers_between P leaf (Worn l t ∷ ps) none more apart h = strangers_between P leaf ps none more apart h
-strangers_between P leaf (Says line ∷ ps) none more apart h = strangers_between P leaf ps none more apart h
+  strangers_between : (region : List ℕ) (before : List Piece) → Strangers names disk leaf region (before ++ more) → Strangers names disk leaf region (before ++ (none ++ more))
+  strangers_between region [] h = strangers_past region none apart h
+  strangers_between region (Acted l d ns e ∷ ps) h = by (l == leaf) h
+    where
+      by : (b : Bool) → MatchBool b (FitsStrangers names region disk e × Behind e region (λ now. Strangers names disk leaf now (ps ++ more))) (Strangers names disk leaf region (ps ++ more))
+          → MatchBool b (FitsStrangers names region disk e × Behind e region (λ now. Strangers names disk leaf now (ps ++ (none ++ more)))) (Strangers names disk leaf region (ps ++ (none ++ more)))
+      by true g = (
+        g.0,
+        behind_on e region (λ now. Strangers names disk leaf now (ps ++ more)) (λ now. Strangers names disk leaf now (ps ++ (none ++ more))) (λ now k. strangers_between now ps k) g.1,
+      )
+      by false g = strangers_between region ps g
+  strangers_between region (Called l t c n said ∷ ps) h = strangers_between region ps h
+  strangers_between region (Worn l t ∷ ps) h = strangers_between region ps h
+  strangers_between region (Says line ∷ ps) h = strangers_between region ps h
 
 known_between : (number : ℕ) (names : List (List ℕ)) (known : Option Known) (old : Meaning) (life : Life) (before none more : List Piece) (leaf : Leaf) (m : Meaning) → HasNoDeed number none
     → IfSome known (KnownLeaf number names old life (before ++ more) leaf m) → IfSome known (KnownLeaf number names old life (before ++ (none ++ more)) leaf m)
@@ -141,10 +149,11 @@ known_between number names (Some k) old life before none more leaf m apart s = r
   named = record {
     rest = s.named.rest;
     on = λ others all.
-        subst (λ (ps : List Piece). Strangers (IsNamedBy names k.held) number ps) (sym (append_assoc before (none ++ more) others ∙ ap (λ (ps : List Piece). before ++ ps) (append_assoc none more others)))
-        (strangers_between (IsNamedBy names k.held) number before none (more ++ others) apart
-        (subst (λ (ps : List Piece). Strangers (IsNamedBy names k.held) number ps) (append_assoc before more others) (s.named.on others all)));
+        subst (λ (ps : List Piece). Strangers names k.held.disk number k.held.region ps) (sym (append_assoc before (none ++ more) others ∙ ap (λ (ps : List Piece). before ++ ps) (append_assoc none more others)))
+        (strangers_between names k.held.disk number none (more ++ others) apart k.held.region before
+        (subst (λ (ps : List Piece). Strangers names k.held.disk number k.held.region ps) (append_assoc before more others) (s.named.on others all)));
   };
+  own = s.own;
 }
 
 -- such pieces may stand between the others

@@ -1,5 +1,5 @@
 -- The life behind a deed, by what it does to a leaf: starts, flushes and kills.
-use Rattle.std.proofs.Common.{◌≡◌, ℕ, suc, ◌+◌, Bool, true, false, List, [], ◌∷◌, length, map, refl, sym, ap, subst, ◌∙◌, arith, Option, Some, None}
+use Rattle.std.proofs.Common.{◌≡◌, ℕ, suc, ◌+◌, Bool, true, false, ◌&&◌, List, [], ◌∷◌, length, map, refl, sym, ap, subst, ◌∙◌, arith, Option, Some, None}
 use Rattle.std.specs.Prelude.{◌≢◌, IfSome, IsSome, IsTrue, is_some, option_map, ⊤}
 use Rattle.row_records.specs.Records.{LogRecord}
 use Rattle.berth_face.specs.Berth.{Meaning}
@@ -23,18 +23,19 @@ use Rattle.leaf_machine.specs.Starts.{IsOpenedNote}
 use Rattle.leaf_machine.specs.Flushes.{OwedNotes}
 use Rattle.leaf_machine.specs.Flushes as flushing
 use Rattle.transcript.specs.Pieces.{Deed, Starts, Flushes, Drains, Kills}
-use Rattle.transcript.specs.Life.{Life, Mode, Down, Up, Notes, Owed, Progress, BeginsAt, IsStartRefusal, claimed, durable_after, durable_by, durable_with, failed, first_open, on, way_refused}
+use Rattle.transcript.specs.Life.{Life, Mode, Down, Up, MayCome, Notes, Owed, Progress, BeginsAt, IsStartRefusal, claimed, durable_after, durable_by, durable_with, failed, first_open, on, way_refused}
 use Rattle.transcript.specs.Life as lives
 use Rattle.transcript.specs.Counts.{is_disk_fault}
 use Rattle.transcript.specs.Transcript.{Known}
 use Rattle.leaf_moves.specs.Stage.{Leaf, IsDown, IsUp, Stands, seated_of}
 use Rattle.leaf_moves.specs.Steps.{FlushMoves, KillMoves, Moves, RefusalTold, RegionRefused, StartMoves, StartsTold, ending_of, ending_of_flush, noted_all, said_of_note}
 use Rattle.leaf_moves.specs.Steps as steps
-use Rattle.transcript_leaf.specs.Session.{AreGrounded, AreInPlace, FitsMode, FitsNext, IsOwedAs, StandsKnown}
+use Rattle.transcript_leaf.specs.Session.{AreGrounded, AreInPlace, FitsMode, FitsNext, IsOwedAs, IsOwn, StandsKnown}
 use Rattle.transcript_leaf.specs.Acting.{FitsWay, Lived}
 use Rattle.transcript_leaf.specs.Acting as acting
 use Rattle.transcript_leaf.proofs.Lists.{clash_bool}
-use Rattle.transcript_leaf.proofs.Ways.{same_way, way_left}
+use Rattle.transcript_leaf.proofs.Owned.{never_stranger}
+use Rattle.transcript_leaf.proofs.Ways.{comes_known, may_come, same_way, way_left}
 use Rattle.transcript_leaf.proofs.Modes.{as_many, counts_stay, down_mode, founded_known, not_resting, not_serving, preparing_mode, resting_mode, same_held, up_mode, way_stays, where_known}
 use Rattle.transcript_leaf.proofs.NoteLines.{closed_noted, noted_none, noted_split, opened_noted, owed_noted}
 use Rattle.transcript_leaf.proofs.CountingNotes.{AreStewards}
@@ -94,16 +95,22 @@ way_opened : (known : Option Known) (m m' : Meaning) (x : Seated) (s : Serving) 
 way_opened None m m' x s notes way counts told = refl
 way_opened (Some k) m m' x s notes way counts told = way_left m.held.region m'.held.region way told.came.started.region told.way_is
 
+-- what was found is what a leaf may find
+way_may : (known : Option Known) (m m' : Meaning) (leaf : Leaf) (x : Seated) (s : Serving) (notes : List Note) (way : Way) → IfSome known (λ (k : Known). StandsKnown k leaf m) → leaf ≡ IsDown x
+    → IfSome known (λ (k : Known). StartsTold x m m' s notes way) → MayCome (is_some known) way
+way_may None m m' leaf x s notes way stands is told = may_come way
+way_may (Some k) m m' leaf x s notes way stands is told = comes_known k.base x m way (subst (λ (l : Leaf). Stands k.base l m) is stands.stands) told.way_is
+
 start_opened : (known : Option Known) (tables : ℕ) (life : Life) (m m' : Meaning) (leaf : Leaf) (x : Seated) (s : Serving) (notes : List Note) (way : Way) (ends : Ending) (leaf' : Leaf)
-    → length x.tables ≡ tables → FitsMode life.mode (IsDown x) → FitsNext known life leaf m → OpensCounts known life m m' leaf notes → leaf ≡ IsDown x
+    → length x.tables ≡ tables → FitsMode life.mode (IsDown x) → MayCome (is_some known) way → FitsNext known life leaf m → OpensCounts known life m m' leaf notes → leaf ≡ IsDown x
     → s.owing.log.owed ≡ None → EachNoted IsOpenedNote 0 (length x.tables) notes → IfSome known (λ (k : Known). StartsTold x m m' s notes way)
     → ends ≡ ending.Started way → leaf' ≡ IsUp s
     → Lived known tables Starts life (noted_all notes) ends leaf' m'
-start_opened known tables life m m' leaf x s notes way ends leaf' size mode fits opens is none each told ends_are now =
+start_opened known tables life m m' leaf x s notes way ends leaf' size mode may fits opens is none each told ends_are now =
     let o = opening life.durable (length x.tables) notes (counts_opened known life m m' leaf x s notes way fits opens is told) each in record {
       next = opened_life (is_some known) way o.counts;
       hands = hands_nothing leaf';
-      does = λ least few. lives.opens way o.counts (down_mode life.mode x mode) (way_opens known life m m' leaf x s notes way fits told) o.claimed_are (o.size ∙ size) o.told ends_are refl;
+      does = λ least few. lives.opens way o.counts (down_mode life.mode x mode) may (way_opens known life m m' leaf x s notes way fits told) o.claimed_are (o.size ∙ size) o.told ends_are refl;
       counts = acting.opened way o.counts ends_are o.told refl;
       mode = subst (λ (l : Leaf). FitsMode (Up None) l) (sym now) none;
       way = way_opened known m m' x s notes way o.counts told;
@@ -111,17 +118,22 @@ start_opened known tables life m m' leaf x s notes way ends leaf' size mode fits
 
 -- ---- a start that is refused
 
-refusal : (told : Bool) (f : StartFault) → (told ≡ true → f ≢ fault.DiskDamaged) → IsStartRefusal told (ending_of f)
-refusal told fault.RegionFault not = tt
-refusal told fault.DiskFault not = tt
-refusal told fault.DiskDamaged not = by told not
+refusal : (told begun : Bool) (f : StartFault) → (told ≡ true → f ≢ fault.DiskDamaged) → (told ≡ true → begun ≡ true → (name : List ℕ) → f ≢ fault.Stranger name) → IsStartRefusal told begun (ending_of f)
+refusal told begun fault.RegionFault not own = tt
+refusal told begun fault.DiskFault not own = tt
+refusal told begun fault.DiskDamaged not own = by told not
   where
     by : (b : Bool) → (b ≡ true → fault.DiskDamaged ≢ fault.DiskDamaged) → b ≡ false
     by true h = absurd (h refl refl)
     by false h = refl
-refusal told (fault.Stranger name) not = tt
-refusal told fault.NoMemory not = tt
-refusal told (fault.Worn table) not = tt
+refusal told begun (fault.Stranger name) not own = by told begun own
+  where
+    by : (a b : Bool) → (a ≡ true → b ≡ true → (n : List ℕ) → fault.Stranger name ≢ fault.Stranger n) → (a && b) ≡ false
+    by true true h = absurd (h refl refl name refl)
+    by true false h = refl
+    by false b h = refl
+refusal told begun fault.NoMemory not own = tt
+refusal told begun (fault.Worn table) not own = tt
 
 undamaged : (names : List (List ℕ)) (known : Option Known) (m : Meaning) (leaf : Leaf) (x : Seated) (f : StartFault)
     → AreInPlace names (seated_of leaf) → AreGrounded known (seated_of leaf) → IfSome known (λ (k : Known). StandsKnown k leaf m) → leaf ≡ IsDown x
@@ -130,6 +142,16 @@ undamaged : (names : List (List ℕ)) (known : Option Known) (m : Meaning) (leaf
 undamaged names None m leaf x f in_place grounded stands is sound e = absurd (clash_bool false e refl)
 undamaged names (Some k) m leaf x f in_place grounded stands is sound e =
     sound k.base stands.tells (subst (λ (l : Leaf). AreFounded (seated_of l)) is (founded_known names k (seated_of leaf) in_place grounded)) stands.stands
+
+-- no stranger of a leaf that was up
+strangers_none : (names : List (List ℕ)) (known : Option Known) (begun : Bool) (m m' : Meaning) (leaf : Leaf) (x : Seated) (f : StartFault)
+    → AreInPlace names (seated_of leaf) → IfSome known (λ (k : Known). StandsKnown k leaf m) → IfSome known (λ (k : Known). begun ≡ true → IsOwn names (seated_of leaf) m) → leaf ≡ IsDown x
+    → IfSome known (λ (k : Known). RefusalTold x m m' f)
+    → is_some known ≡ true → begun ≡ true → (name : List ℕ) → f ≢ fault.Stranger name
+strangers_none names None begun m m' leaf x f in_place stands own is told e up name = absurd (clash_bool false e refl)
+strangers_none names (Some k) begun m m' leaf x f in_place stands own is told e up name =
+    never_stranger names k.base x m m' f name (subst (λ (l : Leaf). AreInPlace names (seated_of l)) is in_place) (subst (λ (l : Leaf). Stands k.base l m) is stands.stands)
+    (subst (λ (l : Leaf). IsOwn names (seated_of l) m) is (own up)) told
 
 left_way : (way : Option Way) (m m' : Meaning) → IsLeftBehind m.held.region m'.held.region → IfSome way (IsWayOf m.held.region)
     → IfSome (option_map way_after way) (IsWayOf m'.held.region)
@@ -166,24 +188,28 @@ way_refuses (Some k) life m m' leaf x f fits told = refused_way f life.way m m' 
 
 pub start_lives : (names : List (List ℕ)) (known : Option Known) (life : Life) (m m' : Meaning) (leaf : Leaf) (notes : List Note) (ends : Ending) (leaf' : Leaf)
     → AreInPlace names (seated_of leaf) → AreGrounded known (seated_of leaf) → IfSome known (λ (k : Known). StandsKnown k leaf m)
+    → IfSome known (λ (k : Known). life.begun ≡ true → IsOwn names (seated_of leaf) m)
     → FitsMode life.mode leaf → FitsNext known life leaf m → OpensCounts known life m m' leaf notes
     → StartMoves m m' leaf notes ends leaf' → Lived known (length names) Starts life (noted_all notes) ends leaf' m'
-start_lives names known life m m' leaf notes ends leaf' in_place grounded stands mode fits opens (steps.opened x s way is none each told ends_are now) =
+start_lives names known life m m' leaf notes ends leaf' in_place grounded stands own mode fits opens (steps.opened x s way is none each told ends_are now) =
     start_opened known (length names) life m m' leaf x s notes way ends leaf'
     (ap (λ (l : Leaf). length (seated_of l).tables) (sym is) ∙ as_many names (seated_of leaf) in_place)
-    (subst (λ (l : Leaf). FitsMode life.mode l) is mode) fits opens is none each (where_known known leaf m (StartsTold x m m' s notes way) stands told) ends_are now
-start_lives names known life m m' leaf notes ends leaf' in_place grounded stands mode fits opens (steps.refused x f is worn sound told notes_are ends_are same) = record {
+    (subst (λ (l : Leaf). FitsMode life.mode l) is mode) (way_may known m m' leaf x s notes way stands is (where_known known leaf m (StartsTold x m m' s notes way) stands told)) fits opens is none each
+    (where_known known leaf m (StartsTold x m m' s notes way) stands told) ends_are now
+start_lives names known life m m' leaf notes ends leaf' in_place grounded stands own mode fits opens (steps.refused x f is worn sound told notes_are ends_are same) = record {
   next = refused_life life f;
   hands = hands_nothing leaf';
   does = λ least few. lives.refuses (down_mode life.mode x (subst (λ (l : Leaf). FitsMode life.mode l) is mode))
-      (subst (λ (e : Ending). IsStartRefusal (is_some known) e) (sym ends_are) (refusal (is_some known) f (undamaged names known m leaf x f in_place grounded stands is sound)))
+      (subst (λ (e : Ending). IsStartRefusal (is_some known) life.begun e) (sym ends_are)
+      (refusal (is_some known) life.begun f (undamaged names known m leaf x f in_place grounded stands is sound)
+      (strangers_none names known life.begun m m' leaf x f in_place stands own is (where_known known leaf m (RefusalTold x m m' f) stands told))))
       (noted_none notes notes_are)
       (ap (λ (e : Ending). on life Down (way_refused e life.way) []) (sym ends_are));
   counts = acting.keeps refl (ap (λ (ns : List Note). durable_with life.durable (noted_all ns)) (sym notes_are));
   mode = subst (λ (l : Leaf). FitsMode Down l) (sym (same ∙ is)) tt;
   way = way_refuses known life m m' leaf x f fits (where_known known leaf m (RefusalTold x m m' f) stands told);
 }
-start_lives names known life m m' leaf notes ends leaf' in_place grounded stands mode fits opens (steps.not_down not notes_are same ends_are now) = record {
+start_lives names known life m m' leaf notes ends leaf' in_place grounded stands own mode fits opens (steps.not_down not notes_are same ends_are now) = record {
   next = life;
   hands = hands_nothing leaf';
   does = λ least few. lives.not_down (not_resting leaf life.mode mode not) (noted_none notes notes_are) ends_are refl;
@@ -338,13 +364,14 @@ kill_lives names known life m m' leaf notes ends leaf' in_place stands mode fits
 
 pub deed_lives : (names : List (List ℕ)) (known : Option Known) (deed : Deed) (life : Life) (m m' : Meaning) (leaf : Leaf) (notes : List Note) (ends : Ending) (leaf' : Leaf)
     → AreInPlace names (seated_of leaf) → AreGrounded known (seated_of leaf) → AreStewards (seated_of leaf) → IfSome known (λ (k : Known). StandsKnown k leaf m)
+    → IfSome known (λ (k : Known). life.begun ≡ true → IsOwn names (seated_of leaf) m)
     → FitsMode life.mode leaf → FitsNext known life leaf m → OpensCounts known life m m' leaf notes
     → Moves deed m m' leaf notes ends leaf' → Lived known (length names) deed life (noted_all notes) ends leaf' m'
-deed_lives names known Starts life m m' leaf notes ends leaf' in_place grounded stewards stands mode fits opens moves =
-    start_lives names known life m m' leaf notes ends leaf' in_place grounded stands mode fits opens moves
-deed_lives names known (Flushes table) life m m' leaf notes ends leaf' in_place grounded stewards stands mode fits opens moves =
+deed_lives names known Starts life m m' leaf notes ends leaf' in_place grounded stewards stands own mode fits opens moves =
+    start_lives names known life m m' leaf notes ends leaf' in_place grounded stands own mode fits opens moves
+deed_lives names known (Flushes table) life m m' leaf notes ends leaf' in_place grounded stewards stands own mode fits opens moves =
     flush_lives known (length names) table life m m' leaf notes ends leaf' stands mode fits moves
-deed_lives names known (Drains stop) life m m' leaf notes ends leaf' in_place grounded stewards stands mode fits opens moves =
+deed_lives names known (Drains stop) life m m' leaf notes ends leaf' in_place grounded stewards stands own mode fits opens moves =
     drain_lives names known stop life m m' leaf notes ends leaf' in_place grounded stewards stands mode fits moves
-deed_lives names known Kills life m m' leaf notes ends leaf' in_place grounded stewards stands mode fits opens moves =
+deed_lives names known Kills life m m' leaf notes ends leaf' in_place grounded stewards stands own mode fits opens moves =
     kill_lives names known life m m' leaf notes ends leaf' in_place stands mode fits moves

@@ -281,12 +281,12 @@ pub drain_lives : (names : List (List ℕ)) (known : Option Known) (stop : Optio
     → AreInPlace names (seated_of leaf) → AreGrounded known (seated_of leaf) → AreStewards (seated_of leaf) → IfSome known (λ k. StandsKnown k leaf m)
     → FitsMode life.mode leaf → FitsNext known life leaf m
     → DrainMoves m m' leaf stop notes ends leaf' → Lived known (length names) (Drains stop) life (noted_all notes) ends leaf' m'
-drain_lives names known stop old m m' leaf notes ends leaf' place grounded stewards stands mode fits (moves.done x y z treating handing n copy made shuts steps last may part noted notes_are region ends_are leaf_is) =
+drain_lives names known stop old m m' leaf notes ends leaf' place grounded stewards stands mode fits (moves.done x y z treating handing n copy made shuts steps last may part noted notes_are region own ends_are leaf_is) =
     let b = begun old.mode leaf x mode shuts in
     rw (ends_are, leaf_is)
     (drained known (length names) stop old m m' leaf x stands fits b (b.tables ∙ as_many names (seated_of leaf) place) y z treating handing notes n copy made (begun_stewards leaf x shuts stewards) steps last may part noted notes_are
     (promised (IsWayOf m'.held.region Memory) names known leaf m place grounded stands region))
-drain_lives names known stop old m m' leaf notes ends leaf' place grounded stewards stands mode fits (moves.failed x y n copy made shuts steps may ends_are leaf_is) =
+drain_lives names known stop old m m' leaf notes ends leaf' place grounded stewards stands mode fits (moves.failed x y n copy made shuts steps may own ends_are leaf_is) =
     let b = begun old.mode leaf x mode shuts in
     rw (ends_are, leaf_is)
     (region_failed known (length names) stop old m m' leaf x stands fits b (b.tables ∙ as_many names (seated_of leaf) place) y notes n copy made steps may)

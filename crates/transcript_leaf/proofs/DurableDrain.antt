@@ -235,12 +235,12 @@ module _ (names : List (List ℕ)) (k : Known) (counts : List ℕ) (m m' : Meani
       LoggedAt place t v = (n : ℕ) → slice_get (By treating) place ≡ Some n → LogHas m'.held.disk (name_of t) n
 
   drain_moves : (stop : Option ℕ) (ends : Ending) → DrainMoves m m' leaf stop notes ends leaf' → is_disk_fault ends ≡ false → Later
-  drain_moves stop ends (DrainMoves.done x y z treating handing n copy made shuts steps last may part hands are memory is down) calm =
+  drain_moves stop ends (DrainMoves.done x y z treating handing n copy made shuts steps last may part hands are memory own is down) calm =
       let now : IsCleanAndReady k.base (By treating) y × AllTreated y = comes_to x n treating (Copies y copy made) shuts steps in
       let kept = handed_done k.base (By treating) y.serving.seated _ handing z g.known.sound now.0.ready part hands (all_done k.base (By treating) y now.0.clean now.1) in
       done_later z down (part_ready k.base y.serving.seated handing z part now.0.ready)
       (subst (λ (c : List ℕ). AreDone k.base c z) (sym (by_treating treating handing are (all_handed 0 _ handing hands))) kept)
-  drain_moves stop ends (DrainMoves.failed x y n copy made shuts steps may is down) calm = copied_later x y n copy made shuts steps down
+  drain_moves stop ends (DrainMoves.failed x y n copy made shuts steps may own is down) calm = copied_later x y n copy made shuts steps down
   drain_moves stop ends (DrainMoves.roomless x y n shuts steps all may region is preparing) calm =
       let now : IsCleanAndReady k.base (By notes) y = comes_to x n notes (Shuts y) shuts steps in
       shutting_later y preparing now.clean

@@ -15,7 +15,7 @@ use Rattle.leaf_machine.proofs.LeaveRuns.{runs_begin}
 use Rattle.printed_lines.specs.Lines.{name_at}
 use Rattle.transcript.specs.Pieces.{Piece, PlayedItem, all_pieces}
 use Rattle.transcript.specs.Histories.{Ground, InOrder, IsHistoryOf, Shown, Tells, shown}
-use Rattle.transcript.specs.Strangers.{IsNamedBy, Strangers}
+use Rattle.transcript.specs.Strangers.{Strangers}
 use Rattle.transcript.specs.Answers.{columns_handed}
 use Rattle.transcript.specs.Life.{Lives}
 use Rattle.transcript.specs.Transcript.{Known, first_life, ground_of}
@@ -129,16 +129,16 @@ module _ {B : Type 0} (meaning : B → Meaning) (number : ℕ) (names : List (Li
         subst (λ (es : List Entry). InOrder number table 0 items (length es)) (sym seen)
         (table_order (ground_of known (name_of at.0)) number table items seats.0 seats.1 session (met table seats.0 seats.1 seats.2 seats.3).0)
 
--- each stranger that was told of has its cause
+-- its starts found just the strangers that there are
 strangers_of : (number : ℕ) (names : List (List ℕ)) (known : Option Known) (old : Meaning) (pieces : List Piece) (l : Leaf) (m : Meaning) (k : Known) → known ≡ Some k
-    → LeafHeld number names known old pieces l m → Strangers (IsNamedBy names k.held) number pieces
+    → LeafHeld number names known old pieces l m → Strangers names k.held.disk number k.held.region pieces
 strangers_of number names None old pieces l m k is s = absurd cc
 strangers_of number names (Some d) old pieces l m k is s =
-    subst (λ (x : Known). Strangers (IsNamedBy names x.held) number pieces) (same_some d k is)
-    (subst (λ (ps : List Piece). Strangers (IsNamedBy names d.held) number ps) (append-nil pieces) (s.of_known.named.on [] (λ rest. tt)))
+    subst (λ (x : Known). Strangers names x.held.disk number x.held.region pieces) (same_some d k is)
+    (subst (λ (ps : List Piece). Strangers names d.held.disk number d.held.region ps) (append-nil pieces) (s.of_known.named.on [] (λ rest. tt)))
 
 pub strangers_in : {B : Type 0} (meaning : B → Meaning) (number : ℕ) (names : List (List ℕ)) (known : Option Known) (old : Meaning) (items : List PlayedItem) (x : Hold B) (k : Known) → known ≡ Some k
-    → LeafSession meaning number names known old [] (λ place. []) items x → IsWhole x → Strangers (IsNamedBy names k.held) number (all_pieces items)
+    → LeafSession meaning number names known old [] (λ place. []) items x → IsWhole x → Strangers names k.held.disk number k.held.region (all_pieces items)
 strangers_in meaning number names known old items x k is now whole =
     strangers_of number names known old (all_pieces items) whole.leaf (meaning whole.berth) k is (now.held whole.leaf whole.berth whole.held).1
 

@@ -1,5 +1,5 @@
 -- A leaf that is held goes on by a deed of its steward, behind a meeting of its seats.
-use Rattle.std.proofs.Common.{ℕ, List, [], ◌∷◌, ◌++◌, length, Option, sym, subst}
+use Rattle.std.proofs.Common.{◌≡◌, ℕ, true, List, [], ◌∷◌, ◌++◌, length, Option, sym, subst}
 use Rattle.std.specs.Prelude.{IfSome, is_some}
 use Rattle.berth_face.specs.Berth.{Meaning}
 use Rattle.leaf_steward.specs.declared.notes.Note.{Note}
@@ -9,7 +9,7 @@ use Rattle.transcript.specs.Answers.{columns_handed}
 use Rattle.transcript.specs.Transcript.{Known, first_life}
 use Rattle.leaf_moves.specs.Stage.{Leaf, Carries, seated_of}
 use Rattle.leaf_moves.specs.Steps.{Moves, noted_all}
-use Rattle.transcript_leaf.specs.Session.{KnownLeaf, LeafHeld, StandsKnown}
+use Rattle.transcript_leaf.specs.Session.{IsOwn, KnownLeaf, LeafHeld, StandsKnown}
 use Rattle.transcript_leaf.specs.Acting.{Lived}
 use Rattle.transcript_leaf.proofs.CountingNotes.{AreStewards}
 use Rattle.transcript_leaf.proofs.Deeds.{deed_lives}
@@ -25,9 +25,12 @@ module _ (number : ℕ) (names : List (List ℕ)) (known : Option Known) (old : 
   stands : IfSome known (λ k. StandsKnown k met m)
   stands = some_weaken known (KnownLeaf number names old s.life pieces met m) (λ k. StandsKnown k met m) (λ k h. h.now) s.of_known
 
+  own : IfSome known (λ k. s.life.begun ≡ true → IsOwn names (seated_of met) m)
+  own = some_weaken known (KnownLeaf number names old s.life pieces met m) (λ k. s.life.begun ≡ true → IsOwn names (seated_of met) m) (λ k h. h.own) s.of_known
+
   -- the life of the leaf behind the deed
   lived : Lived known (length names) deed s.life (noted_all notes) ends moved m'
-  lived = deed_lives names known deed s.life m m' met notes ends moved s.in_place s.grounded stewards stands s.mode s.next (opens names known s.life m m' met notes s.in_place s.grounded stands s.next) moves
+  lived = deed_lives names known deed s.life m m' met notes ends moved s.in_place s.grounded stewards stands own s.mode s.next (opens names known s.life m m' met notes s.in_place s.grounded stands s.next) moves
 
   pub held_acts : LeafHeld number names known old (pieces ++ Acted number deed (noted_all notes) ends ∷ []) moved m'
   held_acts = record {

@@ -16,7 +16,7 @@ use Rattle.transcript.specs.Pieces.{Called, Deed, Piece, Played, PlayedItem, One
 use Rattle.transcript.specs.Histories.{InOrder, IsHistoryOf, shown}
 use Rattle.transcript.specs.Answers.{WornIsLong, columns_handed}
 use Rattle.transcript.specs.Life.{Lives}
-use Rattle.transcript.specs.Strangers.{IsNamedBy, Strangers}
+use Rattle.transcript.specs.Strangers.{Strangers}
 use Rattle.transcript.specs.Transcript.{Known, first_life, ground_of}
 use Rattle.transcript.specs.Leaving.{LeavesBerth}
 use Rattle.leaf_moves.specs.Stage.{Leaf}
@@ -175,7 +175,7 @@ module _ {B : Type 0} (meaning : B → Meaning) (number : ℕ) (names : List (Li
         (now.held l b held).1.life
     leaf_lives now met l b held = lives_all meaning number names known old items x now met l b held
 
-    pub leaf_strangers : (k : Known) → known ≡ Some k → LeafSession meaning number names known old [] (λ place. []) items x → IsWhole x → Strangers (IsNamedBy names k.held) number (all_pieces items)
+    pub leaf_strangers : (k : Known) → known ≡ Some k → LeafSession meaning number names known old [] (λ place. []) items x → IsWhole x → Strangers names k.held.disk number k.held.region (all_pieces items)
     leaf_strangers k is now whole = strangers_in meaning number names known old items x k is now whole
 
     pub leaf_leaves : (k : Known) → known ≡ Some k → (now : LeafSession meaning number names known old [] (λ place. []) items x) → AreMet x → (l : Leaf) (b : B) (held : x.held ≡ Some (l, b))

@@ -51,3 +51,5 @@ pub mod Ways
 pub mod Wearing
 pub mod Whole
 pub mod Rising
+pub mod Owning
+pub mod Owned

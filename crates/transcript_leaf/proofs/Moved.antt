@@ -34,7 +34,8 @@ use Rattle.transcript_leaf.proofs.CountingNotes.{makes_seats}
 use Rattle.transcript_leaf.proofs.DurableStart.{opened_counts, opened_durable}
 use Rattle.transcript_leaf.proofs.Durable.{durable_moves}
 use Rattle.transcript_leaf.proofs.Named.{named_act}
-use Rattle.transcript_leaf.proofs.Standing.{seat_there, stands_carried, told_on}
+use Rattle.transcript_leaf.proofs.Owned.{owned}
+use Rattle.transcript_leaf.proofs.Standing.{founded_all, seat_there, stands_carried, told_on}
 use Rattle.transcript_leaf.proofs.Behind.{some_weaken}
 
 -- ---- the leaf behind the steward's entries
@@ -111,8 +112,8 @@ kills_no_start m m' leaf notes ends leaf' (KillMoves.preparing x y count was all
 kills_no_start m m' leaf notes ends leaf' (KillMoves.not_up down none held_is ends_are now) = ap is_started ends_are
 
 drains_no_start : (stop : Option ℕ) (m m' : Meaning) (leaf : Leaf) (notes : List Note) (ends : Ending) (leaf' : Leaf) → DrainMoves m m' leaf stop notes ends leaf' → is_started ends ≡ false
-drains_no_start stop m m' leaf notes ends leaf' (DrainMoves.done x y z treating handing n copy made shuts steps last may part each notes_are memory ends_are now) = ap is_started ends_are
-drains_no_start stop m m' leaf notes ends leaf' (DrainMoves.failed x y n copy made shuts steps may ends_are now) = ap is_started ends_are
+drains_no_start stop m m' leaf notes ends leaf' (DrainMoves.done x y z treating handing n copy made shuts steps last may part each notes_are memory own ends_are now) = ap is_started ends_are
+drains_no_start stop m m' leaf notes ends leaf' (DrainMoves.failed x y n copy made shuts steps may own ends_are now) = ap is_started ends_are
 drains_no_start stop m m' leaf notes ends leaf' (DrainMoves.roomless x y n shuts steps all may region ends_are now) = ap is_started ends_are
 drains_no_start stop m m' leaf notes ends leaf' (DrainMoves.starved x y z treating starving n shuts steps may starves part notes_are region ends_are now) = ap is_started ends_are
 drains_no_start stop m m' leaf notes ends leaf' (DrainMoves.halted x y z treating halting n shuts steps may below halts notes_are region ends_are now) = ap is_started ends_are
@@ -218,8 +219,12 @@ pub known_moved : (number : ℕ) (names : List (List ℕ)) (kn : Option Known) (
 known_moved number names None old deed life pieces m m' met notes ends moved in_place grounded mode moves carries lived s = tt
 known_moved number names (Some k) old deed life pieces m m' met notes ends moved in_place grounded mode moves carries lived s =
     let on = stands_carried names k.base met moved notes m m' s.now.tells in_place grounded s.now.sound s.now.stands carries in
+    let does = lived.does (λ handed. 0) (omega arith) in
     record {
       now = record { tells = subst IsTrue (sym on.told.passes.tells) s.now.tells; sound = s.now.sound; stands = on.stands };
       told = told_on k.base names met moved old m m' s.told on;
-      named = named_act number names (λ handed. 0) k.held life pieces deed m m' met notes ends moved lived.next s.now.tells mode in_place.same_names moves (lived.does (λ handed. 0) (omega arith)) s.named;
+      named = named_act number names (λ handed. 0) k.held life pieces deed m m' met notes ends moved lived.next s.now.tells mode in_place.same_names moves does s.named;
+      own = λ begun.
+          owned names k.base m m' met moved notes ends in_place s.now.tells (founded_all names (seated_of met) in_place k.base grounded) s.now.stands on life lived.next s.own begun
+          true (length names) (λ handed. 0) deed (noted_all notes) moves does;
     }

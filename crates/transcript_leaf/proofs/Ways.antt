@@ -1,19 +1,26 @@
 -- The one way of a region, and that of what a start leaves of it.
-use Rattle.std.proofs.Common.{◌≡◌, inl, ℕ, Bool, true, false, cond, ltb, eqb, List, length, refl, ap, ◌∙◌}
+use Rattle.std.proofs.Common.{◌≡◌, inl, ℕ, Bool, true, false, cond, ltb, eqb, List, length, refl, sym, ap, ◌∙◌}
 use Rattle.std.specs.Prelude.{slice_index}
 use Rattle.std.proofs.lemmas.Bool.{ltb-true}
+use Rattle.berth_face.specs.Berth.{Meaning, Pair}
 use Rattle.region_layout.specs.declared.head.Head.{Head}
 use Rattle.region_layout.specs.declared.head.Head.TheVariants as head
 use Rattle.region_layout.specs.Images.{TableImage}
 use Rattle.region_layout.specs.Region.{IsClosed, head_of, version_of}
-use Rattle.region_layout.proofs.Heads.{shut_head}
+use Rattle.region_layout.proofs.Heads.{closed_head, shut_head}
 use Rattle.region_directory.specs.Region.{IsAdoptable, reads}
 use Rattle.adopt.specs.declared.found.WhyDisk.{WhyDisk}
 use Rattle.adopt.specs.declared.found.WhyDisk.TheVariants as why
-use Rattle.adopt.specs.Adopting.{IsWhy, IsLeftBehind}
+use Rattle.adopt.specs.Adopting.{HasNoStranger, IsLeftBehind, IsNoImage, IsStranger, IsWhy}
 use Rattle.leaf_opening.specs.declared.ways.Way.{Way}
 use Rattle.leaf_opening.specs.declared.ways.Way.TheVariants.{Memory, Disk}
+use Rattle.leaf_opening.specs.Answers.{GoesToLog}
 use Rattle.leaf_opening.specs.Starts.{IsWayOf, way_after}
+use Rattle.leaf_opening.proofs.Exact.{why_alone}
+use Rattle.crash_moments.specs.Left.{NamedStates, RegionLeft}
+use Rattle.leaf_steward.specs.Seated.{Seated}
+use Rattle.transcript.specs.Life.{MayCome}
+use Rattle.leaf_moves.specs.Stage.{IsDown, Stands}
 use Rattle.transcript_leaf.proofs.Lists.{clash_bool}
 
 -- a head has one version, and that is of one that is read or not
@@ -111,3 +118,41 @@ way_left region now (Disk why.NoHead) left h = ap (λ (r : List ℕ). head_of r)
 way_left region now (Disk (why.Closed flag)) left h = ap (λ (r : List ℕ). head_of r) (left.closed (shut_head region flag h)) ∙ h
 way_left region now (Disk (why.OtherVersion v)) left h = left.opened v h.0
 way_left region now (Disk why.NoImage) left h = left.opened h.0 h.1
+
+-- ---- what a leaf left is never bytes that are no image
+
+left_why : (tables : NamedStates) (p : Pair) → RegionLeft reads tables p → IsWhy p.region why.NoImage → ⊥
+left_why tables p (RegionLeft.closed shut) w = closed_head p.region shut w.0 w.1
+left_why tables p (RegionLeft.other_version v of not) w = read_not (head_of p.region) w.0 v w.1 of w.2 not
+left_why tables p (RegionLeft.image v images end read is same log) w = w.3 images end (record { version = v; reads_it = read; is = is })
+
+-- a start over any berth, and over one of a leaf at rest
+pub may_come : (way : Way) → MayCome false way
+may_come Memory = tt
+may_come (Disk why.NoHead) = tt
+may_come (Disk (why.Closed flag)) = tt
+may_come (Disk (why.OtherVersion version)) = tt
+may_come (Disk why.NoImage) = refl
+
+pub comes_known : (base : NamedStates) (x : Seated) (m : Meaning) (way : Way) → Stands base (IsDown x) m → IsWayOf m.held.region way → MayCome true way
+comes_known base x m Memory stands is = tt
+comes_known base x m (Disk why.NoHead) stands is = tt
+comes_known base x m (Disk (why.Closed flag)) stands is = tt
+comes_known base x m (Disk (why.OtherVersion version)) stands is = tt
+comes_known base x m (Disk why.NoImage) stands is = absurd (left_why _ _ (stands.2.region m.held stands.2.stands.reads) is)
+
+-- ---- a region that goes to the log
+
+no_read : (region name : List ℕ) (names : List (List ℕ)) (h : Head) → IsStranger names region name → head_of region ≡ h → ((version : ℕ) → h ≡ head.Version version → ⊥) → ⊥
+no_read region name names h s is none = none s.0 (sym is ∙ s.3.head)
+
+-- has no stranger
+pub goes_own : (names : List (List ℕ)) (region : List ℕ) → GoesToLog names region → HasNoStranger names region
+goes_own names region (why.NoHead, w) name s = no_read region name names head.NoHead s w (λ version e. cc)
+goes_own names region (why.Closed flag, w) name s = no_read region name names (head.Closed flag) s w (λ version e. cc)
+goes_own names region (why.OtherVersion v, w) name s = read_not (head_of region) s.0 v s.3.head w.0 s.2 w.1
+goes_own names region (why.NoImage, w) name s = w.1 name s
+
+-- and no image
+pub goes_none : (names : List (List ℕ)) (region : List ℕ) → GoesToLog names region → IsNoImage region
+goes_none names region goes = λ images log_end is. no_why region images log_end is goes.0 (why_alone names region goes.0 goes.1)

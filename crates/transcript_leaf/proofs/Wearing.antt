@@ -117,8 +117,8 @@ kill_worn number histories heard m m' leaf notes ends leaf' (KillMoves.not_up do
 
 drain_worn : (number : ℕ) (histories : ℕ → ℕ → List Entry) (heard : List Noted) (stop : Option ℕ) (m m' : Meaning) (leaf : Leaf) (notes : List Note) (ends : Ending) (leaf' : Leaf)
     → DrainMoves m m' leaf stop notes ends leaf' → DeedIsLong number histories (Drains stop) heard ends
-drain_worn number histories heard stop m m' leaf notes ends leaf' (DrainMoves.done x y z treating handing n copy made shuts steps last may part each notes_are memory ends_are now) = rw ends_are tt
-drain_worn number histories heard stop m m' leaf notes ends leaf' (DrainMoves.failed x y n copy made shuts steps may ends_are now) = rw ends_are tt
+drain_worn number histories heard stop m m' leaf notes ends leaf' (DrainMoves.done x y z treating handing n copy made shuts steps last may part each notes_are memory own ends_are now) = rw ends_are tt
+drain_worn number histories heard stop m m' leaf notes ends leaf' (DrainMoves.failed x y n copy made shuts steps may own ends_are now) = rw ends_are tt
 drain_worn number histories heard stop m m' leaf notes ends leaf' (DrainMoves.roomless x y n shuts steps all may region ends_are now) = rw ends_are tt
 drain_worn number histories heard stop m m' leaf notes ends leaf' (DrainMoves.starved x y z treating starving n shuts steps may starves part notes_are region ends_are now) = rw ends_are tt
 drain_worn number histories heard stop m m' leaf notes ends leaf' (DrainMoves.halted x y z treating halting n shuts steps may below halts notes_are region ends_are now) = rw ends_are tt

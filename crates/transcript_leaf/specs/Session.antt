@@ -6,11 +6,12 @@ use Rattle.row_records.specs.Records.{LogRecord}
 use Rattle.berth_face.specs.Berth.{Meaning, Pair}
 use Rattle.leaf_history.specs.History.{Entry, LegalFrom, after}
 use Rattle.leaf_model.specs.Names.{AreDistinct}
-use Rattle.adopt.specs.Adopting.{IsBroken}
+use Rattle.adopt.specs.Adopting.{HasNoStranger}
 use Rattle.disk_backup.specs.Scanning.{BeginsScan}
 use Rattle.leaf_opening.specs.Starts.{IsWayOf}
 use Rattle.crash_moments.specs.Left.{NamedStates}
 use Rattle.crash_moments.specs.Told as moments
+use Rattle.crash_moments.specs.Watched.{was_opened}
 use Rattle.turnstile.specs.Ids.{InShare}
 use Rattle.turnstile.specs.Seats.{AreIds, Owns, unused_seat}
 use Rattle.leaf_table.specs.Turns.{Shared, is_founded, start_of}
@@ -23,7 +24,7 @@ use Rattle.transcript.specs.Base.{LogHas, unseen, watched_with}
 use Rattle.transcript.specs.Pieces.{Piece, Called, Worn, Acted, Says, PlayedItem, all_pieces}
 use Rattle.transcript.specs.Life.{Life, Mode, Down, Up, Preparing, Owed, Progress, Lives, first_open}
 use Rattle.transcript.specs.Histories.{Ground, InOrder, Shown, Shows, shown}
-use Rattle.transcript.specs.Strangers.{IsNamedBy, Strangers}
+use Rattle.transcript.specs.Strangers.{Strangers}
 use Rattle.transcript.specs.Moments.{MomentsRise, notes_told}
 use Rattle.transcript.specs.Answers.{columns_handed}
 use Rattle.transcript.specs.Transcript.{Known, first_life, ground_of}
@@ -141,21 +142,22 @@ pub record StandsKnown (k : Known) (leaf : Leaf) (m : Meaning) : Type 0 where
   pub sound : AreHandedNothing k.base
   pub stands : Stands k.base leaf m
 
--- region and disk read as the run was handed them, but for the flag of an open region and the first byte of a disk of at most one
-pub record IsAsHanded (held : Pair) (m : Meaning) : Type 0 where
-  pub region : IsBroken held.region m.held.region
-  pub disk : BeginsScan (length held.disk) held.disk m.held.disk
-
--- until the leaf is first up, each stranger that it tells of has its cause
+-- until the leaf is first up the disk reads as it was handed, but for the first byte of one of at most one, and each start fits the strangers that there are
 pub record AreNamed (number : ℕ) (names : List (List ℕ)) (held : Pair) (life : Life) (pieces : List Piece) (m : Meaning) : Type 0 where
-  pub rest : life.begun ≡ false → (life.mode ≡ Down) × IsAsHanded held m
-  pub on : (more : List Piece) → (life.begun ≡ false → Strangers (IsNamedBy names held) number more) → Strangers (IsNamedBy names held) number (pieces ++ more)
+  pub rest : life.begun ≡ false → (life.mode ≡ Down) × BeginsScan (length held.disk) held.disk m.held.disk
+  pub on : (more : List Piece) → (life.begun ≡ false → Strangers names held.disk number m.held.region more) → Strangers names held.disk number held.region (pieces ++ more)
+
+-- of a leaf that was up: a table of it was opened, and its region names no stranger
+pub record IsOwn (names : List (List ℕ)) (x : Seated) (m : Meaning) : Type 0 where
+  pub opened : was_opened m.clock (watched_by x) ≡ true
+  pub region : HasNoStranger names m.held.region
 
 -- what holds of a run over a berth with a base, that meant `old` when it began
 pub record KnownLeaf (number : ℕ) (names : List (List ℕ)) (old : Meaning) (life : Life) (pieces : List Piece) (leaf : Leaf) (m : Meaning) (k : Known) : Type 0 where
   pub now : StandsKnown k leaf m
   pub told : moments.Told k.base (watched_with names k.base unseen) (watched_by (seated_of leaf)) old m
   pub named : AreNamed number names k.held life pieces m
+  pub own : life.begun ≡ true → IsOwn names (seated_of leaf) m
 
 -- ---- the leaf so far
 

@@ -45,6 +45,7 @@ loop-leaf-preserved g c =
       one = c.step.ensures.step;
       made = c.step.ensures.made;
       crash = c.step.ensures.crash;
+      region = c.step.ensures.region;
       reads = c.step.ensures.reads;
       time = c.step.ensures.time;
     } in
@@ -70,6 +71,7 @@ returns-in-Ok-Finished-clause-ends g c =
       one = c.step.ensures.step;
       made = c.step.ensures.made;
       crash = c.step.ensures.crash;
+      region = c.step.ensures.region;
       reads = c.step.ensures.reads;
       time = c.step.ensures.time;
     } in
@@ -86,6 +88,7 @@ returns-in-Ok-Finished-clause-rests g c =
       one = c.step.ensures.step;
       made = c.step.ensures.made;
       crash = c.step.ensures.crash;
+      region = c.step.ensures.region;
       reads = c.step.ensures.reads;
       time = c.step.ensures.time;
     } in
@@ -104,6 +107,7 @@ returns-in-Err-clause-ends g c =
       one = c.step.ensures.step;
       made = c.step.ensures.made;
       crash = c.step.ensures.crash;
+      region = c.step.ensures.region;
       reads = c.step.ensures.reads;
       time = c.step.ensures.time;
     } in
@@ -120,6 +124,7 @@ returns-in-Err-clause-rests g c =
       one = c.step.ensures.step;
       made = c.step.ensures.made;
       crash = c.step.ensures.crash;
+      region = c.step.ensures.region;
       reads = c.step.ensures.reads;
       time = c.step.ensures.time;
     } in

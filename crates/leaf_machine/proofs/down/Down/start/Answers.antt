@@ -1,9 +1,10 @@
 use Rattle.std.proofs.Common.{rules, ◌≡◌, ◌∙◌, ℕ, List, None, refl, sym, ap, subst, arith, inl, length}
-use Rattle.std.specs.Prelude.{IsTrue, ◌≢◌, Err}
+use Rattle.std.specs.Prelude.{IsTrue, ◌≢◌, Ok, Err}
 use Rattle.leaf_model.specs.declared.writes.Write.{Write}
 use Rattle.berth_face.specs.Causes.{Rose}
 use Rattle.berth_face.specs.Berth.{Meaning}
 use Rattle.disk_backup.specs.Scanning.{BeginsScan}
+use Rattle.leaf_opening.specs.Answers.{IsAnswer}
 use Rattle.leaf_opening.specs.Starts.{IsWayOf, Started, opened_leaf}
 use Rattle.leaf_table.specs.Calls.{IsFresh}
 use Rattle.crash_moments.specs.Told.{Told}
@@ -15,9 +16,9 @@ use Rattle.leaf_steward.specs.Owing.{Owing}
 use Rattle.leaf_machine.specs.declared.faults.StartFault.{StartFault}
 use Rattle.leaf_machine.specs.declared.faults.StartFault.TheVariants as fault
 use Rattle.leaf_machine.specs.States.{IsUp}
-use Rattle.leaf_machine.specs.Starts.{IsOpenedNote, IsStartRefused, IsStart}
+use Rattle.leaf_machine.specs.Starts.{IsExactRefusal, IsOpenedNote, IsStartRefused, IsStart}
 use Rattle.leaf_machine.proofs.StartMakes.{makes_from, makes_names, makes_none, opened_each}
-use Rattle.leaf_machine.proofs.StartFaults.{refused_as, start_as, told_disk, told_region}
+use Rattle.leaf_machine.proofs.StartFaults.{exact_as, refused_as, start_as, told_disk, told_region}
 use Rattle.leaf_machine.proofs.StartOpening.{StartOpened, may_hand, opened_count, start_opened, start_runs}
 use Rattle.leaf_machine.proofs.StartRefusing.{StartRefused, down_on, failed, opening_refused, start_refused, worn_goes_on}
 use Rattle.leaf_machine.proofs.StartUp.{up_is}
@@ -123,6 +124,15 @@ returns-in-Ok-clause-way g c =
     let told : IsTrue (g.B.Berth.meaning c.self.inside.berth).tells = subst (λ l. IsTrue (g.B.Berth.meaning l.1).tells) (sym c.self.view_is) told_now in
     subst (λ l. IsWayOf (g.B.Berth.meaning l.1).held.region c.in-Ok.opened.way) c.self.view_is (c.in-Ok.ensures.way told)
 
+pub returns-in-Ok-clause-exact : goal.returns-in-Ok-clause-exact
+returns-in-Ok-clause-exact g c =
+    λ told_now.
+    let way = c.in-Ok.opened.way in
+    let m = g.B.Berth.meaning c.self.inside.berth in
+    let told : IsTrue m.tells = subst (λ l. IsTrue (g.B.Berth.meaning l.1).tells) (sym c.self.view_is) told_now in
+    subst (λ l. IsAnswer l.0.names (g.B.Berth.meaning l.1).held.region (g.B.Berth.meaning l.1).held.disk (Ok way)) c.self.view_is
+    (subst (λ (names : List (List ℕ)). IsAnswer names m.held.region m.held.disk (Ok way)) c.names.ensures (c.in-Ok.ensures.exact told))
+
 pub returns-in-Ok-clause-disk : goal.returns-in-Ok-clause-disk
 returns-in-Ok-clause-disk g c =
     λ told_now.
@@ -191,6 +201,15 @@ returns-in-Err-clause-refused g c =
     let refused : IsStartRefused c.names.result.now m n c.told.result = refused_as c.in-Err.fault c.told.result c.told.ensures c.names.result.now m n (c.in-Err.ensures.refused told) in
     subst (λ l. IsStartRefused l.0.names (g.B.Berth.meaning l.1) n c.told.result) c.self.view_is
     (subst (λ (names : List (List ℕ)). IsStartRefused names m n c.told.result) c.names.ensures refused)
+
+pub returns-in-Err-clause-exact : goal.returns-in-Err-clause-exact
+returns-in-Err-clause-exact g c =
+    λ told_now.
+    let m = g.B.Berth.meaning c.self.inside.berth in
+    let told : IsTrue m.tells = subst (λ l. IsTrue (g.B.Berth.meaning l.1).tells) (sym c.self.view_is) told_now in
+    let exact : IsExactRefusal c.names.result.now m.held c.told.result = exact_as c.in-Err.fault c.told.result c.told.ensures c.names.result.now m.held (c.in-Err.ensures.exact told) in
+    subst (λ l. IsExactRefusal l.0.names (g.B.Berth.meaning l.1).held c.told.result) c.self.view_is
+    (subst (λ (names : List (List ℕ)). IsExactRefusal names m.held c.told.result) c.names.ensures exact)
 
 pub returns-in-Err-clause-crash : goal.returns-in-Err-clause-crash
 returns-in-Err-clause-crash g c =

@@ -10,7 +10,7 @@ returns-in-Preparing-clause-carries g c = still_carries g.B.Berth.meaning c.args
 
 pub returns-in-Ok-clause-moves : goal.returns-in-Ok-clause-moves
 returns-in-Ok-clause-moves g c =
-    start_opens g.B.Berth.meaning c.args.self c.in-Down.down c.in-Ok.up c.in-Ok.way c.start.new.notes c.in-Down.is c.in-Ok.ensures.start c.in-Ok.ensures.came c.in-Ok.ensures.way
+    start_opens g.B.Berth.meaning c.args.self c.in-Down.down c.in-Ok.up c.in-Ok.way c.start.new.notes c.in-Down.is c.in-Ok.ensures.start c.in-Ok.ensures.came c.in-Ok.ensures.way c.in-Ok.ensures.exact
 
 pub returns-in-Ok-clause-carries : goal.returns-in-Ok-clause-carries
 returns-in-Ok-clause-carries g c =
@@ -22,7 +22,7 @@ returns-in-Ok-clause-reads g c = start_reads g.B.Berth.meaning c.args.self c.in-
 pub returns-in-Err-clause-moves : goal.returns-in-Err-clause-moves
 returns-in-Err-clause-moves g c =
     let was = c.in-Err.ensures in
-    start_refused g.B.Berth.meaning c.args.self c.in-Down.down c.in-Err.down c.in-Err.fault c.start.new.notes c.ending_of.result c.in-Down.is was.start was.refused was.disk was.crash c.ending_of.ensures
+    start_refused g.B.Berth.meaning c.args.self c.in-Down.down c.in-Err.down c.in-Err.fault c.start.new.notes c.ending_of.result c.in-Down.is was.start was.refused was.exact was.disk was.crash c.ending_of.ensures
 
 pub returns-in-Err-clause-carries : goal.returns-in-Err-clause-carries
 returns-in-Err-clause-carries g c =

@@ -1,0 +1,58 @@
+-- An image of a leaf's tables names no stranger.
+use Rattle.std.proofs.Common.{◌≡◌, ◌⊎◌, inl, inr, ◌∙◌, ℕ, Bool, true, false, not, List, [], ◌∷◌, ◌++◌, map, Option, Some, None, refl, sym, ap, subst, cond, append_assoc}
+use Rattle.std.specs.Prelude.{bytes_eq}
+use Rattle.std.specs.List.{list_any}
+use Rattle.std.proofs.lemmas.Bool.{or_left, or_right}
+use Rattle.std.proofs.lemmas.Slice.Eq.{bytes_eq-Decides}
+use Rattle.table_state.specs.Tables.{Table}
+use Rattle.region_layout.specs.Images.{TableImage, images_of}
+use Rattle.region_layout.specs.Region.{IsClosed, image_names}
+use Rattle.region_layout.proofs.Heads.{closed_head}
+use Rattle.region_directory.specs.declared.directory.TablePlaces.{TablePlaces}
+use Rattle.region_directory.specs.Region.{IsAdoptable, image_of_parts, parts_in}
+use Rattle.region_directory.proofs.Images.{same_directory}
+use Rattle.adopt.specs.Adopting.{HasNoStranger, IsStranger, stranger_of}
+
+-- ---- images of tables with these names
+
+is_among : (names before : List (List ℕ)) (name : List ℕ) (after : List (List ℕ)) → names ≡ before ++ name ∷ after → list_any (bytes_eq name) names ≡ true
+is_among names before name after is = subst (λ (ns : List (List ℕ)). list_any (bytes_eq name) ns ≡ true) (sym is) (among before)
+  where
+    among : (ns : List (List ℕ)) → list_any (bytes_eq name) (ns ++ name ∷ after) ≡ true
+    among [] = or_left (bytes_eq name name) (list_any (bytes_eq name) after) ((bytes_eq-Decides name name).1 refl)
+    among (n ∷ ns) = or_right (bytes_eq name n) (list_any (bytes_eq name) (ns ++ name ∷ after)) (among ns)
+
+known : (b : Bool) (name : List ℕ) (others : Option (List ℕ)) → b ≡ true → cond (not b) (Some name) others ≡ others
+known true name others e = refl
+known false name others e = absurd cc
+
+-- of a list's last names none is a stranger to the list
+none_strange : (names before own : List (List ℕ)) (tables : List Table) → names ≡ before ++ own → stranger_of names (image_names (images_of own tables)) ≡ None
+none_strange names before [] tables is = refl
+none_strange names before (name ∷ own) [] is = refl
+none_strange names before (name ∷ own) (t ∷ ts) is =
+    known (list_any (bytes_eq name) names) name (stranger_of names (image_names (images_of own ts))) (is_among names before name own is)
+    ∙ none_strange names (before ++ name ∷ []) own ts (is ∙ sym (append_assoc before (name ∷ []) own))
+
+-- ---- an adoptable region has just the names of its directory
+
+names_are : (region : List ℕ) (tables : List TablePlaces) → image_names (map (λ (t : TablePlaces). image_of_parts t.name (parts_in region t)) tables) ≡ map (λ (t : TablePlaces). t.name) tables
+names_are region [] = refl
+names_are region (t ∷ ts) = ap (λ (ns : List (List ℕ)). t.name ∷ ns) (names_are region ts)
+
+none_some : {X : Type 0} (o : Option X) (x : X) → o ≡ None → o ≡ Some x → ⊥
+none_some o x a b = cc
+
+image_own : (names : List (List ℕ)) (region : List ℕ) (images : List TableImage) (log_end : ℕ) → IsAdoptable region images log_end → stranger_of names (image_names images) ≡ None → HasNoStranger names region
+image_own names region images log_end is none name s =
+    let same = same_directory region s.0 is.version s.1 is.is.directory s.3 is.is.has in
+    let told : image_names images ≡ map (λ (t : TablePlaces). t.name) s.1.tables =
+    ap image_names is.is.tables_are ∙ (names_are region is.is.directory.tables ∙ ap (λ d. map (λ (t : TablePlaces). t.name) d.tables) (sym same)) in
+    none_some (stranger_of names (map (λ (t : TablePlaces). t.name) s.1.tables)) name (subst (λ (ns : List (List ℕ)). stranger_of names ns ≡ None) told none) s.4
+
+-- what a copy of a leaf's tables leaves: a closed region, or their image
+pub copied_own : (names : List (List ℕ)) (tables : List Table) (image region : List ℕ) (log_end : ℕ) → IsAdoptable image (images_of names tables) log_end → IsClosed region ⊎ (region ≡ image)
+    → HasNoStranger names region
+copied_own names tables image region log_end is (inl closed) name s = closed_head region closed s.0 s.3.head
+copied_own names tables image region log_end is (inr whole) =
+    subst (λ (r : List ℕ). HasNoStranger names r) (sym whole) (image_own names image (images_of names tables) log_end is (none_strange names [] names tables refl))
