@@ -31,16 +31,8 @@ or_false false b e = (refl, e)
 
 -- of another command than a rollover nothing is heard
 quiet_one : (fleet : Fleet) (c : Command) (pieces : List Piece) (ws : List Held) → is_rollover c ≡ false → Hears fleet (record { command = c; pieces = pieces }) ws ws
-quiet_one fleet (command.Fleet machines per_machine tables) pieces ws never = refl
-quiet_one fleet (command.Add leaf t rows) pieces ws never = refl
-quiet_one fleet (command.Expire leaf t horizon) pieces ws never = refl
-quiet_one fleet (command.Keep leaf t n) pieces ws never = refl
-quiet_one fleet (command.Query q) pieces ws never = refl
-quiet_one fleet (command.Flush leaf t) pieces ws never = refl
-quiet_one fleet (command.Drain leaf stop) pieces ws never = refl
-quiet_one fleet (command.Kill leaf) pieces ws never = refl
-quiet_one fleet (command.Start leaf) pieces ws never = refl
 quiet_one fleet (command.Rollover percent) pieces ws never = absurd cc
+quiet_one fleet _ pieces ws never = refl
 
 quiet : (fleet : Fleet) (ps : List Played) (ws : List Held) → has_rollover (commands_in ps) ≡ false → HearsAll fleet ps ws ws
 quiet fleet [] ws never = refl
@@ -79,16 +71,8 @@ rolling_append [] ys = omega arith
 rolling_append (x ∷ xs) ys = let more = rolling_append xs ys in omega (arith, more)
 
 roll_is : (c : Command) → is_rollover c ≡ true → is_stewards 0 c ≡ true
-roll_is (command.Fleet machines per_machine tables) e = absurd cc
-roll_is (command.Add leaf t rows) e = absurd cc
-roll_is (command.Expire leaf t horizon) e = absurd cc
-roll_is (command.Keep leaf t n) e = absurd cc
-roll_is (command.Query q) e = absurd cc
-roll_is (command.Flush leaf t) e = absurd cc
-roll_is (command.Drain leaf stop) e = absurd cc
-roll_is (command.Kill leaf) e = absurd cc
-roll_is (command.Start leaf) e = absurd cc
 roll_is (command.Rollover percent) e = refl
+roll_is _ e = absurd cc
 
 or_either : (a b : Bool) → (a || b) ≡ true → (a ≡ true) ⊎ (b ≡ true)
 or_either true b e = inl refl

@@ -8,16 +8,18 @@ use Rattle.std.proofs.lemmas.List.Sums.{length-filter}
 use Rattle.std.proofs.lemmas.Slice.Eq.{bytes_eq-Decides}
 use Rattle.script_text.specs.declared.command.Command.{Command}
 use Rattle.script_text.specs.declared.command.Command.TheVariants as command
+use Rattle.script_text.specs.Aims.{Aim, AtFleet, AtLeaf, AtLeaves, AtNamed, AtTable, IsAim, aim_of, is_for_steward}
 use Rattle.script_text.specs.Fits.{IsCommand, OneSteward}
 use Rattle.script_text.specs.Stewards.{has_steward, is_stewards}
 use Rattle.script_text.specs.declared.fleet.Fleet.{Fleet}
 use Rattle.script_text.specs.Commands.{leaf_count}
+use Rattle.script_text.proofs.Aimed.{aim_fits, stewards_aim}
 use Rattle.transcript.specs.Pieces.{place_among}
 use Rattle.leaf_moves.specs.Holds.{Hold}
 use Rattle.leaf_moves.specs.Plays.{MayPlay}
-use Rattle.player.specs.Crew.{HasAll, HasFor, HasLeaf, HasSeats, StillHas, is_set}
+use Rattle.player.specs.Crew.{HasAimed, HasAll, HasFor, HasLeaf, HasSeats, StillHas, is_set}
 use Rattle.bursts.specs.declared.plan.Plan.{Plan}
-use Rattle.bursts.specs.Needs.{AreAlone, ArePlans, Everywhere, IsAmong, IsPlan, IsPlanOf, Nowhere, OnlyAt, Places, acts_on, leaves_of, marked, marked_by, needed, table_of}
+use Rattle.bursts.specs.Needs.{AreAlone, ArePlans, Everywhere, IsAmong, IsPlan, IsPlanOf, Nowhere, OnlyAt, Places, acts_on, leaves_at, leaves_of, marked, marked_by, needed, table_at, table_of}
 use Rattle.bursts.specs.Played.{MayPlayOn}
 use Rattle.bursts.proofs.Held.{still_leaf, still_seats}
 
@@ -40,76 +42,64 @@ known_place name (n ∷ ns) (suc k) h e = below (bytes_eq name n) (place_among n
 pub place_below : (name : List ℕ) (names : List (List ℕ)) → Contains names name → place_among name names < length names
 place_below name names has = known_place name names has.0 has.1 has.2
 
+-- whom a command is for, where that is known
+pub aimed_within : (fleet : Fleet) (c : Command) (aim : Aim) → aim ≡ aim_of c → IsCommand (leaf_count fleet) fleet.names c → IsAim (leaf_count fleet) fleet.names aim
+aimed_within fleet c aim is may = subst (IsAim (leaf_count fleet) fleet.names) (sym is) (aim_fits (leaf_count fleet) fleet.names c may)
+
+-- the marks of a command by whom it is for
+pub tables_marked : (names : List (List ℕ)) (c : Command) (aim : Aim) (old new : List Bool) → aim ≡ aim_of c → new ≡ marked (table_at names aim) old → new ≡ marked (table_of names c) old
+tables_marked names c aim old new is marks = marks ∙ ap (λ a. marked (table_at names a) old) is
+
+pub leaves_marked : (c : Command) (aim : Aim) (old new : List Bool) → aim ≡ aim_of c → new ≡ marked (leaves_at aim) old → new ≡ marked (leaves_of c) old
+leaves_marked c aim old new is marks = marks ∙ ap (λ a. marked (leaves_at a) old) is
+
 -- the table that a command needs seats at is one of the fleet's
+table_within : (fleet : Fleet) (aim : Aim) (table : ℕ) → IsAim (leaf_count fleet) fleet.names aim → IsAmong (table_at fleet.names aim) table → table < length fleet.names
+table_within fleet (AtTable t) table is at = subst (λ k. k < length fleet.names) at is
+table_within fleet (AtNamed name) table is at = subst (λ k. k < length fleet.names) at (place_below name fleet.names is)
+table_within fleet _ table is at = absurd at
+
 pub table_below : (fleet : Fleet) (c : Command) (table : ℕ) → IsCommand (leaf_count fleet) fleet.names c → IsAmong (table_of fleet.names c) table → table < length fleet.names
-table_below fleet (command.Fleet machines per_machine tables) table is at = absurd is
-table_below fleet (command.Add leaf t rows) table is at = subst (λ k. k < length fleet.names) at is.1
-table_below fleet (command.Expire leaf t horizon) table is at = subst (λ k. k < length fleet.names) at is.1
-table_below fleet (command.Keep leaf t n) table is at = subst (λ k. k < length fleet.names) at is.1
-table_below fleet (command.Query q) table is at = subst (λ k. k < length fleet.names) at (place_below q.table fleet.names is.0)
-table_below fleet (command.Flush leaf t) table is at = absurd at
-table_below fleet (command.Drain leaf stop) table is at = absurd at
-table_below fleet (command.Kill leaf) table is at = absurd at
-table_below fleet (command.Start leaf) table is at = absurd at
-table_below fleet (command.Rollover percent) table is at = absurd at
+table_below fleet c table is = table_within fleet (aim_of c) table (aim_fits (leaf_count fleet) fleet.names c is)
 
 pub may_play : (fleet : Fleet) (c : Command) → IsCommand (leaf_count fleet) fleet.names c → MayPlay fleet c
 may_play fleet (command.Fleet machines per_machine tables) is = absurd is
-may_play fleet (command.Add leaf t rows) is = is
-may_play fleet (command.Expire leaf t horizon) is = is
-may_play fleet (command.Keep leaf t n) is = is
-may_play fleet (command.Query q) is = is
-may_play fleet (command.Flush leaf t) is = is
-may_play fleet (command.Drain leaf stop) is = is
-may_play fleet (command.Kill leaf) is = is
-may_play fleet (command.Start leaf) is = is
-may_play fleet (command.Rollover percent) is = is
+may_play fleet _ is = is
 
 module _ {B : Type 0} (fleet : Fleet) (xs : List (Hold B)) where
+  has_aimed : (aim : Aim) → IsAim (leaf_count fleet) fleet.names aim → ((table : ℕ) → IsAmong (table_at fleet.names aim) table → HasSeats xs table)
+      → ((leaf : ℕ) → IsAmong (leaves_at aim) leaf → leaf < leaf_count fleet → HasLeaf xs leaf) → HasAimed fleet xs aim
+  has_aimed AtFleet is seats leaves = absurd is
+  has_aimed (AtTable table) is seats leaves = seats table refl
+  has_aimed (AtNamed name) is seats leaves = seats (place_among name fleet.names) refl
+  has_aimed (AtLeaf leaf) is seats leaves = leaves leaf refl is
+  has_aimed AtLeaves is seats leaves = λ leaf below. leaves leaf tt below
+
   pub has_for : (c : Command) → IsCommand (leaf_count fleet) fleet.names c → ((table : ℕ) → IsAmong (table_of fleet.names c) table → HasSeats xs table)
       → ((leaf : ℕ) → IsAmong (leaves_of c) leaf → leaf < leaf_count fleet → HasLeaf xs leaf) → HasFor fleet xs c
-  has_for (command.Fleet machines per_machine tables) is seats leaves = absurd is
-  has_for (command.Add leaf t rows) is seats leaves = seats t refl
-  has_for (command.Expire leaf t horizon) is seats leaves = seats t refl
-  has_for (command.Keep leaf t n) is seats leaves = seats t refl
-  has_for (command.Query q) is seats leaves = seats (place_among q.table fleet.names) refl
-  has_for (command.Flush leaf t) is seats leaves = leaves leaf refl is.0
-  has_for (command.Drain leaf stop) is seats leaves = leaves leaf refl is.0
-  has_for (command.Kill leaf) is seats leaves = leaves leaf refl is
-  has_for (command.Start leaf) is seats leaves = leaves leaf refl is
-  has_for (command.Rollover percent) is seats leaves = λ leaf below. leaves leaf tt below
+  has_for c is = has_aimed (aim_of c) (aim_fits (leaf_count fleet) fleet.names c is)
 
   pub all_has_command : HasAll fleet xs → (c : Command) → IsCommand (leaf_count fleet) fleet.names c → HasFor fleet xs c
   all_has_command all c is = has_for c is (λ table at. all.seats table (table_below fleet c table is at)) (λ leaf at below. all.leaves leaf)
 
   pub all_has_for : HasAll fleet xs → (c : Command) → MayPlay fleet c → HasFor fleet xs c
   all_has_for all (command.Fleet machines per_machine tables) may = all.leaves
-  all_has_for all (command.Add leaf t rows) may = all.seats t may.1
-  all_has_for all (command.Expire leaf t horizon) may = all.seats t may.1
-  all_has_for all (command.Keep leaf t n) may = all.seats t may.1
-  all_has_for all (command.Query q) may = all.seats (place_among q.table fleet.names) (place_below q.table fleet.names may.0)
-  all_has_for all (command.Flush leaf t) may = all.leaves leaf
-  all_has_for all (command.Drain leaf stop) may = all.leaves leaf
-  all_has_for all (command.Kill leaf) may = all.leaves leaf
-  all_has_for all (command.Start leaf) may = all.leaves leaf
-  all_has_for all (command.Rollover percent) may = λ leaf below. all.leaves leaf
+  all_has_for all c may = all_has_command all c may
 
   pub all_may : HasAll fleet xs → (cs : List Command) → AllByRecursion (IsCommand (leaf_count fleet) fleet.names) cs → AllByRecursion (MayPlayOn fleet xs) cs
   all_may all [] are = tt
   all_may all (c ∷ cs) are = ((are.0, all_has_command all c are.0), all_may all cs are.1)
 
 module _ {B : Type 0} (fleet : Fleet) (xs ys : List (Hold B)) (still : StillHas xs ys) where
+  still_aimed : (aim : Aim) → HasAimed fleet xs aim → HasAimed fleet ys aim
+  still_aimed AtFleet has = λ leaf. still_leaf xs ys still leaf (has leaf)
+  still_aimed (AtTable table) has = still_seats xs ys still table has
+  still_aimed (AtNamed name) has = still_seats xs ys still (place_among name fleet.names) has
+  still_aimed (AtLeaf leaf) has = still_leaf xs ys still leaf has
+  still_aimed AtLeaves has = λ leaf below. still_leaf xs ys still leaf (has leaf below)
+
   pub still_for : (c : Command) → HasFor fleet xs c → HasFor fleet ys c
-  still_for (command.Fleet machines per_machine tables) has = λ leaf. still_leaf xs ys still leaf (has leaf)
-  still_for (command.Add leaf t rows) has = still_seats xs ys still t has
-  still_for (command.Expire leaf t horizon) has = still_seats xs ys still t has
-  still_for (command.Keep leaf t n) has = still_seats xs ys still t has
-  still_for (command.Query q) has = still_seats xs ys still (place_among q.table fleet.names) has
-  still_for (command.Flush leaf t) has = still_leaf xs ys still leaf has
-  still_for (command.Drain leaf stop) has = still_leaf xs ys still leaf has
-  still_for (command.Kill leaf) has = still_leaf xs ys still leaf has
-  still_for (command.Start leaf) has = still_leaf xs ys still leaf has
-  still_for (command.Rollover percent) has = λ leaf below. still_leaf xs ys still leaf (has leaf below)
+  still_for c = still_aimed (aim_of c)
 
   pub still_may : (cs : List Command) → AllByRecursion (MayPlayOn fleet xs) cs → AllByRecursion (MayPlayOn fleet ys) cs
   still_may [] may = tt
@@ -204,17 +194,13 @@ by_steward leaf marks i e = by (set_only marks leaf i e)
     by (inr set) = inr set
 
 -- a leaf is marked where a command of its steward stands
+marked_aimed : (aim : Aim) (marks : List Bool) (i : ℕ) → is_set (marked (leaves_at aim) marks) i ≡ true → (is_for_steward i aim ≡ true) ⊎ (is_set marks i ≡ true)
+marked_aimed (AtLeaf leaf) marks i e = by_steward leaf marks i e
+marked_aimed AtLeaves marks i e = inl refl
+marked_aimed _ marks i e = inr e
+
 marked_steward : (c : Command) (marks : List Bool) (i : ℕ) → is_set (marked (leaves_of c) marks) i ≡ true → (is_stewards i c ≡ true) ⊎ (is_set marks i ≡ true)
-marked_steward (command.Fleet machines per_machine tables) marks i e = inr e
-marked_steward (command.Add leaf t rows) marks i e = inr e
-marked_steward (command.Expire leaf t horizon) marks i e = inr e
-marked_steward (command.Keep leaf t n) marks i e = inr e
-marked_steward (command.Query q) marks i e = inr e
-marked_steward (command.Flush leaf t) marks i e = by_steward leaf marks i e
-marked_steward (command.Drain leaf stop) marks i e = by_steward leaf marks i e
-marked_steward (command.Kill leaf) marks i e = by_steward leaf marks i e
-marked_steward (command.Start leaf) marks i e = by_steward leaf marks i e
-marked_steward (command.Rollover percent) marks i e = inl refl
+marked_steward c marks i e = subst (λ b. (b ≡ true) ⊎ (is_set marks i ≡ true)) (sym (stewards_aim i c)) (marked_aimed (aim_of c) marks i e)
 
 marked_stewards : (cs : List Command) (marks : List Bool) (i : ℕ) → is_set (marked_by leaves_of cs marks) i ≡ true → (has_steward i cs ≡ true) ⊎ (is_set marks i ≡ true)
 marked_stewards [] marks i e = inr e

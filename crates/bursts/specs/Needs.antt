@@ -2,7 +2,7 @@
 use Rattle.std.specs.Prelude.{◌≡◌, ℕ, suc, ◌<◌, ◌≤◌, List, [], ◌∷◌, Bool, true, false, length, replicate, slice_set, count_by, ⊤}
 use Rattle.std.specs.List.{AllByRecursion}
 use Rattle.script_text.specs.declared.command.Command.{Command}
-use Rattle.script_text.specs.declared.command.Command.TheVariants as command
+use Rattle.script_text.specs.Aims.{Aim, AtLeaf, AtLeaves, AtNamed, AtTable, aim_of}
 use Rattle.script_text.specs.Fits.{IsCommand}
 use Rattle.script_text.specs.declared.fleet.Fleet.{Fleet}
 use Rattle.script_text.specs.Commands.{leaf_count}
@@ -18,31 +18,25 @@ pub data Places : Type 0 where
   OnlyAt : (place : ℕ) → Places
   Everywhere : Places
 
+-- the table at which seats of callers are needed for these
+abbrev pub table_at : List (List ℕ) → Aim → Places
+table_at names (AtTable table) = OnlyAt table
+table_at names (AtNamed name) = OnlyAt (place_among name names)
+table_at names _ = Nowhere
+
+-- the leaves whose stewards these are
+abbrev pub leaves_at : Aim → Places
+leaves_at (AtLeaf leaf) = OnlyAt leaf
+leaves_at AtLeaves = Everywhere
+leaves_at _ = Nowhere
+
 -- the table that a command needs seats of callers at
 abbrev pub table_of : List (List ℕ) → Command → Places
-table_of names (command.Fleet machines per_machine tables) = Nowhere
-table_of names (command.Add leaf table rows) = OnlyAt table
-table_of names (command.Expire leaf table horizon) = OnlyAt table
-table_of names (command.Keep leaf table n) = OnlyAt table
-table_of names (command.Query q) = OnlyAt (place_among q.table names)
-table_of names (command.Flush leaf table) = Nowhere
-table_of names (command.Drain leaf stop) = Nowhere
-table_of names (command.Kill leaf) = Nowhere
-table_of names (command.Start leaf) = Nowhere
-table_of names (command.Rollover percent) = Nowhere
+table_of names c = table_at names (aim_of c)
 
 -- the leaves whose stewards it tells what to do
 abbrev pub leaves_of : Command → Places
-leaves_of (command.Fleet machines per_machine tables) = Nowhere
-leaves_of (command.Add leaf table rows) = Nowhere
-leaves_of (command.Expire leaf table horizon) = Nowhere
-leaves_of (command.Keep leaf table n) = Nowhere
-leaves_of (command.Query q) = Nowhere
-leaves_of (command.Flush leaf table) = OnlyAt leaf
-leaves_of (command.Drain leaf stop) = OnlyAt leaf
-leaves_of (command.Kill leaf) = OnlyAt leaf
-leaves_of (command.Start leaf) = OnlyAt leaf
-leaves_of (command.Rollover percent) = Everywhere
+leaves_of c = leaves_at (aim_of c)
 
 -- this place is one of them
 abbrev pub IsAmong : Places → ℕ → Type 0

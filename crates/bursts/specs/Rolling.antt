@@ -6,16 +6,8 @@ use Rattle.script_text.specs.declared.command.Command.TheVariants as command
 use Rattle.rollover_watch.specs.Watches.{Held}
 
 abbrev pub is_rollover : Command → Bool
-is_rollover (command.Fleet machines per_machine tables) = false
-is_rollover (command.Add leaf table rows) = false
-is_rollover (command.Expire leaf table horizon) = false
-is_rollover (command.Keep leaf table n) = false
-is_rollover (command.Query q) = false
-is_rollover (command.Flush leaf table) = false
-is_rollover (command.Drain leaf stop) = false
-is_rollover (command.Kill leaf) = false
-is_rollover (command.Start leaf) = false
 is_rollover (command.Rollover percent) = true
+is_rollover _ = false
 
 -- one of these commands is a rollover
 abbrev pub has_rollover : List Command → Bool

@@ -8,7 +8,7 @@ ghost use Rattle.bursts.specs.Needs.{AreNeeds, HasPlaces, leaves_of, marked, tab
 use crate::plan::Needs;
 use berth_face::Berth;
 use player::Crew;
-use script_text::Command;
+use script_text::{Aim, Command};
 use std::alloc::{AllocError, Global};
 
 impl Needs {
@@ -32,26 +32,22 @@ impl Needs {
     }
 
     // Marks what one command needs.
+    #[tactic(auto, using(crate::proofs::Needed::tables_marked, crate::proofs::Needed::leaves_marked))]
     fn mark<'t, B: Berth>(&mut self, crew: &Crew<'t, B>, command: &Command)
         requires command { IsCommand (leaf_count crew.now.fleet) crew.now.fleet.names command.now }
         requires places { HasPlaces crew.now.fleet self.old }
         ensures tables { self.new.tables.items ≡ marked (table_of crew.now.fleet.names command.now) self.old.tables.items }
         ensures leaves { self.new.leaves.items ≡ marked (leaves_of command.now) self.old.leaves.items }
     {
-        match command {
-            Command::Fleet { .. } => {}
-            Command::Add { table, .. } => self.tables[*table as usize] = true,
-            Command::Expire { table, .. } => self.tables[*table as usize] = true,
-            Command::Keep { table, .. } => self.tables[*table as usize] = true,
-            Command::Query(query) => {
-                let table = crew.place_of(query.table.as_str());
+        match command.aim() {
+            Aim::Fleet => {}
+            Aim::Table(table) => self.tables[table as usize] = true,
+            Aim::Named(name) => {
+                let table = crew.place_of(name.as_str());
                 self.tables[table as usize] = true;
             }
-            Command::Flush { leaf, .. } => self.leaves[*leaf as usize] = true,
-            Command::Drain { leaf, .. } => self.leaves[*leaf as usize] = true,
-            Command::Kill(leaf) => self.leaves[*leaf as usize] = true,
-            Command::Start(leaf) => self.leaves[*leaf as usize] = true,
-            Command::Rollover(_) => mark_all(&mut self.leaves),
+            Aim::Leaf(leaf) => self.leaves[leaf as usize] = true,
+            Aim::Leaves => mark_all(&mut self.leaves),
         }
     }
 }

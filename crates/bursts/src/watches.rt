@@ -17,18 +17,7 @@ pub fn has_rollover(commands: &[Command]) -> bool
 fn is_rollover(command: &Command) -> bool
     ensures { result ≡ is_rollover command.now }
 {
-    match command {
-        Command::Rollover(_) => true,
-        Command::Fleet { .. }
-        | Command::Add { .. }
-        | Command::Expire { .. }
-        | Command::Keep { .. }
-        | Command::Query(_)
-        | Command::Flush { .. }
-        | Command::Drain { .. }
-        | Command::Kill(_)
-        | Command::Start(_) => false,
-    }
+    matches!(command, Command::Rollover(_))
 }
 
 /// The watches of a lane: all of them where it has a rollover, and else none.

@@ -48,15 +48,7 @@ pub data Goes {B : Type 0} (meaning : B → Meaning) : List (Hold B) → List Pi
 -- a command that such a fleet may play
 abbrev pub MayPlay : Fleet → Command → Type 0
 MayPlay fleet (command.Fleet machines per_machine tables) = ⊤
-MayPlay fleet (command.Add leaf table rows) = IsCommand (leaf_count fleet) fleet.names (command.Add leaf table rows)
-MayPlay fleet (command.Expire leaf table horizon) = IsCommand (leaf_count fleet) fleet.names (command.Expire leaf table horizon)
-MayPlay fleet (command.Keep leaf table n) = IsCommand (leaf_count fleet) fleet.names (command.Keep leaf table n)
-MayPlay fleet (command.Query q) = IsCommand (leaf_count fleet) fleet.names (command.Query q)
-MayPlay fleet (command.Flush leaf table) = IsCommand (leaf_count fleet) fleet.names (command.Flush leaf table)
-MayPlay fleet (command.Drain leaf stop) = IsCommand (leaf_count fleet) fleet.names (command.Drain leaf stop)
-MayPlay fleet (command.Kill leaf) = IsCommand (leaf_count fleet) fleet.names (command.Kill leaf)
-MayPlay fleet (command.Start leaf) = IsCommand (leaf_count fleet) fleet.names (command.Start leaf)
-MayPlay fleet (command.Rollover percent) = IsCommand (leaf_count fleet) fleet.names (command.Rollover percent)
+MayPlay fleet c = IsCommand (leaf_count fleet) fleet.names c
 
 -- What a command does. Its answer is over what the leaves hold then, however their histories go on.
 pub record Plays {B : Type 0} (meaning : B → Meaning) (fleet : Fleet) (c : Command) (xs : List (Hold B)) (pieces : List Piece) (ys : List (Hold B)) : Type 0 where

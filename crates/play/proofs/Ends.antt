@@ -67,15 +67,7 @@ pub plan_is : (items : List Item) → AreItems items → 0 < length items → (m
     → machines ≡ (script_fleet items).machines → per_machine ≡ (script_fleet items).per_machine → names ≡ (script_fleet items).names → IsFleetOf items machines per_machine names
 plan_is [] c some machines per_machine names e f h = absurd (omega (arith, some))
 plan_is (item.One (command.Fleet m p tables) ∷ more) c some machines per_machine names e f h = rw (e, f, h) (fleet_is m p tables more c)
-plan_is (item.One (command.Add leaf table rows) ∷ more) c some machines per_machine names e f h = absurd c
-plan_is (item.One (command.Expire leaf table horizon) ∷ more) c some machines per_machine names e f h = absurd c
-plan_is (item.One (command.Keep leaf table n) ∷ more) c some machines per_machine names e f h = absurd c
-plan_is (item.One (command.Query q) ∷ more) c some machines per_machine names e f h = absurd c
-plan_is (item.One (command.Flush leaf table) ∷ more) c some machines per_machine names e f h = absurd c
-plan_is (item.One (command.Drain leaf stop) ∷ more) c some machines per_machine names e f h = absurd c
-plan_is (item.One (command.Kill leaf) ∷ more) c some machines per_machine names e f h = absurd c
-plan_is (item.One (command.Start leaf) ∷ more) c some machines per_machine names e f h = absurd c
-plan_is (item.One (command.Rollover percent) ∷ more) c some machines per_machine names e f h = absurd c
+plan_is (item.One _ ∷ more) c some machines per_machine names e f h = absurd c
 plan_is (item.Burst lanes ∷ more) c some machines per_machine names e f h = absurd c
 
 -- ---- no item
@@ -273,15 +265,7 @@ room_again {B} olds rest old_xs xs leaves len capacity enough had left count is 
 few_leaves : (items : List Item) → AreItems items → leaves_in items ≤ 256
 few_leaves [] c = omega arith
 few_leaves (item.One (command.Fleet m p tables) ∷ more) c = c.0.few
-few_leaves (item.One (command.Add leaf table rows) ∷ more) c = absurd c
-few_leaves (item.One (command.Expire leaf table horizon) ∷ more) c = absurd c
-few_leaves (item.One (command.Keep leaf table n) ∷ more) c = absurd c
-few_leaves (item.One (command.Query q) ∷ more) c = absurd c
-few_leaves (item.One (command.Flush leaf table) ∷ more) c = absurd c
-few_leaves (item.One (command.Drain leaf stop) ∷ more) c = absurd c
-few_leaves (item.One (command.Kill leaf) ∷ more) c = absurd c
-few_leaves (item.One (command.Start leaf) ∷ more) c = absurd c
-few_leaves (item.One (command.Rollover percent) ∷ more) c = absurd c
+few_leaves (item.One _ ∷ more) c = absurd c
 few_leaves (item.Burst lanes ∷ more) c = absurd c
 
 more_leaves : {B : Type 0} (meaning : B → Meaning) (few many : ℕ) (olds news : List B) → few ≤ many → LeavesBerths meaning few olds news → LeavesBerths meaning many olds news

@@ -155,15 +155,7 @@ heard_on fleet (p ∷ ps) qs a b c first next = (first.0, first.1, heard_on flee
 -- a command behind the fleet may be played
 pub may_later : (fleet : Fleet) (c : Command) → IsCommand (leaf_count fleet) fleet.names c → MayPlay fleet c
 may_later fleet (command.Fleet m p ts) h = absurd h
-may_later fleet (command.Add leaf table rows) h = h
-may_later fleet (command.Expire leaf table horizon) h = h
-may_later fleet (command.Keep leaf table n) h = h
-may_later fleet (command.Query q) h = h
-may_later fleet (command.Flush leaf table) h = h
-may_later fleet (command.Drain leaf stop) h = h
-may_later fleet (command.Kill leaf) h = h
-may_later fleet (command.Start leaf) h = h
-may_later fleet (command.Rollover percent) h = h
+may_later fleet _ h = h
 
 -- each command of a burst's lanes may be played
 each_may : (fleet : Fleet) (x : Item) → MayPlayItem fleet x → sessions.MayPlayItem fleet x

@@ -8,12 +8,12 @@ use Rattle.leaf_table.specs.Calls.{SeatView}
 use Rattle.leaf_table.specs.Lists.{row}
 use Rattle.leaf_steward.specs.Seated.{Seated}
 use Rattle.script_text.specs.declared.command.Command.{Command}
-use Rattle.script_text.specs.declared.command.Command.TheVariants as command
 use Rattle.rollover_watch.specs.Watches.{Held}
 use Rattle.printed_lines.specs.declared.line.Line.{Line}
 use Rattle.printed_lines.specs.declared.line.Ending.{Ending}
 use Rattle.printed_lines.specs.Lines.{IsOf}
 use Rattle.script_text.specs.declared.fleet.Fleet.{Fleet}
+use Rattle.script_text.specs.Aims.{Aim, AtFleet, AtLeaf, AtLeaves, AtNamed, AtTable, aim_of}
 use Rattle.script_text.specs.Commands.{leaf_count}
 use Rattle.transcript.specs.Pieces.{Deed, Piece, lines_in, place_among}
 use Rattle.transcript.specs.Counts.{CountsRose, deeds_in}
@@ -60,18 +60,17 @@ HasSeats {B} xs table = (leaf : ℕ) (x : Hold B) → slice_get xs leaf ≡ Some
 abbrev pub HasLeaf : {B : Type 0} → List (Hold B) → ℕ → Type 0
 HasLeaf {B} xs leaf = (x : Hold B) → slice_get xs leaf ≡ Some x → is_some x.held ≡ true
 
+-- what a command needs that is for these: the fleet begins with leaves that are down
+abbrev pub HasAimed : {B : Type 0} → Fleet → List (Hold B) → Aim → Type 0
+HasAimed fleet xs AtFleet = (leaf : ℕ) → HasLeaf xs leaf
+HasAimed fleet xs (AtTable table) = HasSeats xs table
+HasAimed fleet xs (AtNamed name) = HasSeats xs (place_among name fleet.names)
+HasAimed fleet xs (AtLeaf leaf) = HasLeaf xs leaf
+HasAimed fleet xs AtLeaves = (leaf : ℕ) → leaf < leaf_count fleet → HasLeaf xs leaf
+
 -- what a command needs
 abbrev pub HasFor : {B : Type 0} → Fleet → List (Hold B) → Command → Type 0
-HasFor fleet xs (command.Fleet machines per_machine tables) = (leaf : ℕ) → HasLeaf xs leaf
-HasFor fleet xs (command.Add leaf table rows) = HasSeats xs table
-HasFor fleet xs (command.Expire leaf table horizon) = HasSeats xs table
-HasFor fleet xs (command.Keep leaf table n) = HasSeats xs table
-HasFor fleet xs (command.Query q) = HasSeats xs (place_among q.table fleet.names)
-HasFor fleet xs (command.Flush leaf table) = HasLeaf xs leaf
-HasFor fleet xs (command.Drain leaf stop) = HasLeaf xs leaf
-HasFor fleet xs (command.Kill leaf) = HasLeaf xs leaf
-HasFor fleet xs (command.Start leaf) = HasLeaf xs leaf
-HasFor fleet xs (command.Rollover percent) = (leaf : ℕ) → leaf < leaf_count fleet → HasLeaf xs leaf
+HasFor fleet xs c = HasAimed fleet xs (aim_of c)
 
 -- all of it, as the run has between two items
 pub record HasAll {B : Type 0} (fleet : Fleet) (xs : List (Hold B)) : Type 0 where

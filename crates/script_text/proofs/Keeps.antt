@@ -7,25 +7,26 @@ use Rattle.std.proofs.lemmas.List.Elements.{filter-append}
 use Rattle.std.specs.List.{AllByRecursion, filter, list_any}
 use Rattle.std.specs.Prelude.{IfOk, nat_lt}
 use Rattle.script_text.specs.declared.command.Command.{Command}
-use Rattle.script_text.specs.declared.command.Command.TheVariants as command
 use Rattle.script_text.specs.declared.fault.ScriptFault.{ScriptFault}
 use Rattle.script_text.specs.declared.fleet.Fleet.{Fleet}
 use Rattle.script_text.specs.declared.item.Item.{Item}
 use Rattle.script_text.specs.declared.item.Item.TheVariants as item
 use Rattle.script_text.specs.declared.reading.Reading.{Reading}
-use Rattle.script_text.specs.declared.reading.Standing.{Standing}
-use Rattle.script_text.specs.declared.reading.Standing.TheVariants as standing
+use Rattle.script_text.specs.declared.reading.Position.{Position}
+use Rattle.script_text.specs.declared.reading.Position.TheVariants as position
 use Rattle.script_text.specs.declared.reading.Step.{Step}
 use Rattle.script_text.specs.declared.script.Script.{Script}
-use Rattle.script_text.specs.declared.verb.Verb.{Verb}
-use Rattle.script_text.specs.declared.verb.Verb.TheVariants as verb
-use Rattle.script_text.specs.Bursts.{end_burst, inside, next_lane, stepped, verb_at, with_item}
+use Rattle.script_text.specs.declared.line_word.LineWord.{LineWord}
+use Rattle.script_text.specs.declared.line_word.LineWord.TheVariants as line_word
+use Rattle.script_text.specs.Aims.{Aim, AtLeaf, AtLeaves, aim_of, is_for_some_steward, is_for_steward, is_second_for}
+use Rattle.script_text.specs.Bursts.{end_burst, inside, next_lane, stepped, line_at, with_item}
 use Rattle.script_text.specs.Commands.{Fault, IsFleet, leaf_count}
 use Rattle.script_text.specs.Fits.{AreItems, IsBurst, IsCommand, IsItem, IsScript, OneSteward}
 use Rattle.script_text.specs.Lines.{is_blank}
 use Rattle.script_text.specs.Readings.{Begun, IsReading}
 use Rattle.script_text.specs.Script.{ParsesAs, closed}
 use Rattle.script_text.specs.Stewards.{has_steward, has_stewards, is_a_stewards, is_second, is_stewards}
+use Rattle.script_text.proofs.Aimed.{second_aim, some_stewards_aim, stewards_aim}
 use Rattle.script_text.proofs.Steps.{AllByRecursion-more}
 
 -- ---- lists
@@ -68,17 +69,13 @@ or_nones : (a b : Bool) → a ≡ false → b ≡ false → (a || b) ≡ false
 or_nones true b e f = absurd (true≢false e)
 or_nones false b e f = f
 
+not_his_aim : (leaf : ℕ) (aim : Aim) → is_for_some_steward aim ≡ false → is_for_steward leaf aim ≡ false
+not_his_aim leaf (AtLeaf number) e = absurd (true≢false e)
+not_his_aim leaf AtLeaves e = absurd (true≢false e)
+not_his_aim leaf _ e = refl
+
 not_his : (leaf : ℕ) (c : Command) → is_a_stewards c ≡ false → is_stewards leaf c ≡ false
-not_his leaf (command.Fleet machines per_machine tables) e = refl
-not_his leaf (command.Add number table rows) e = refl
-not_his leaf (command.Expire number table horizon) e = refl
-not_his leaf (command.Keep number table n) e = refl
-not_his leaf (command.Query query) e = refl
-not_his leaf (command.Flush number table) e = absurd (true≢false e)
-not_his leaf (command.Drain number stop) e = absurd (true≢false e)
-not_his leaf (command.Kill number) e = absurd (true≢false e)
-not_his leaf (command.Start number) e = absurd (true≢false e)
-not_his leaf (command.Rollover percent) e = absurd (true≢false e)
+not_his leaf c e = stewards_aim leaf c ∙ not_his_aim leaf (aim_of c) (sym (some_stewards_aim c) ∙ e)
 
 lane_none : (leaf : ℕ) (lane : List Command) → has_stewards lane ≡ false → has_steward leaf lane ≡ false
 lane_none leaf [] e = refl
@@ -93,17 +90,13 @@ lanes_none leaf (lane ∷ lanes) e =
     or_nones (has_steward leaf lane) (list_any (has_steward leaf) lanes) (lane_none leaf lane parts.0) (lanes_none leaf lanes parts.1)
 
 -- a steward's command of a leaf that is no second one stands behind lanes without such
+not_second_aim : (leaf : ℕ) (aim : Aim) (lanes : List (List Command)) → is_for_steward leaf aim ≡ true → is_second_for lanes aim ≡ false → list_any (has_steward leaf) lanes ≡ false
+not_second_aim leaf (AtLeaf number) lanes is not = sym (ap (λ l. list_any (has_steward l) lanes) (eqb-true number leaf is)) ∙ not
+not_second_aim leaf AtLeaves lanes is not = lanes_none leaf lanes not
+not_second_aim leaf _ lanes is not = absurd (true≢false (sym is))
+
 not_second : (leaf : ℕ) (c : Command) (lanes : List (List Command)) → is_stewards leaf c ≡ true → is_second lanes c ≡ false → list_any (has_steward leaf) lanes ≡ false
-not_second leaf (command.Fleet machines per_machine tables) lanes is not = absurd (true≢false (sym is))
-not_second leaf (command.Add number table rows) lanes is not = absurd (true≢false (sym is))
-not_second leaf (command.Expire number table horizon) lanes is not = absurd (true≢false (sym is))
-not_second leaf (command.Keep number table n) lanes is not = absurd (true≢false (sym is))
-not_second leaf (command.Query query) lanes is not = absurd (true≢false (sym is))
-not_second leaf (command.Flush number table) lanes is not = sym (ap (λ l. list_any (has_steward l) lanes) (eqb-true number leaf is)) ∙ not
-not_second leaf (command.Drain number stop) lanes is not = sym (ap (λ l. list_any (has_steward l) lanes) (eqb-true number leaf is)) ∙ not
-not_second leaf (command.Kill number) lanes is not = sym (ap (λ l. list_any (has_steward l) lanes) (eqb-true number leaf is)) ∙ not
-not_second leaf (command.Start number) lanes is not = sym (ap (λ l. list_any (has_steward l) lanes) (eqb-true number leaf is)) ∙ not
-not_second leaf (command.Rollover percent) lanes is not = lanes_none leaf lanes not
+not_second leaf c lanes is not = not_second_aim leaf (aim_of c) lanes (sym (stewards_aim leaf c) ∙ is) (sym (second_aim lanes c) ∙ not)
 
 one_if_few : (b : Bool) → one_if b ≤ 1
 one_if_few true = omega arith
@@ -168,18 +161,18 @@ begun_more fleet script one b fits = record { later = b.later ++ one ∷ []; all
 
 next_lane_by : (n : ℕ) (fleet : Fleet) (script : Script) (lanes : List (List Command)) (blank few : Bool) (words : List ℕ) (s : Step) → is_blank words ≡ blank → nat_lt (length lanes) 16 ≡ few → Begun fleet script.items → AllByRecursion (AllByRecursion (IsCommand (leaf_count fleet) fleet.names)) lanes → OneSteward lanes → next_lane n script lanes words ≡ Ok s → IsReading fleet s.reading
 next_lane_by n fleet script lanes true true words s is low b each one read =
-    let same : Ok (stepped script (standing.Lane lanes []) 0) ≡ Ok s = rw (is, low) at read in
-    let there : stepped script (standing.Lane lanes []) 0 ≡ s = cc in
+    let same : Ok (stepped script (position.Lane lanes []) 0) ≡ Ok s = rw (is, low) at read in
+    let there : stepped script (position.Lane lanes []) 0 ≡ s = cc in
     let below : length lanes < 16 = grind (arith, nat_tests, low) in
-    let now : IsReading fleet (stepped script (standing.Lane lanes []) 0).reading = record { items = b; standing = burst_lane (leaf_count fleet) fleet.names lanes below each one } in
+    let now : IsReading fleet (stepped script (position.Lane lanes []) 0).reading = record { items = b; position = burst_lane (leaf_count fleet) fleet.names lanes below each one } in
     subst (λ (t : Step). IsReading fleet t.reading) there now
 next_lane_by n fleet script lanes true false words s is low b each one read = absurd (grind (arith, read, is, low))
 next_lane_by n fleet script lanes false few words s is low b each one read = absurd (grind (arith, read, is))
 
-pub lane_keeps : (n : ℕ) (fleet : Fleet) (script : Script) (earlier : List (List Command)) (lane : List Command) (words : List ℕ) (s : Step) → IsReading fleet (record { script = script; standing = standing.Lane earlier lane }) → next_lane n script (earlier ++ lane ∷ []) words ≡ Ok s → IsReading fleet s.reading
+pub lane_keeps : (n : ℕ) (fleet : Fleet) (script : Script) (earlier : List (List Command)) (lane : List Command) (words : List ℕ) (s : Step) → IsReading fleet (record { script = script; position = position.Lane earlier lane }) → next_lane n script (earlier ++ lane ∷ []) words ≡ Ok s → IsReading fleet s.reading
 lane_keeps n fleet script earlier lane words s r read =
     let lanes = earlier ++ lane ∷ [] in
-    let b : IsBurst (leaf_count fleet) fleet.names lanes = r.standing in
+    let b : IsBurst (leaf_count fleet) fleet.names lanes = r.position in
     next_lane_by n fleet script lanes (is_blank words) (nat_lt (length lanes) 16) words s refl refl r.items b.each b.stewards read
 
 no_stewards : OneSteward []
@@ -189,55 +182,55 @@ inside_ok : (last : ℕ) (r : Result Step Fault) (s : Step) → inside last r �
 inside_ok last (Ok x) s is = is
 inside_ok last (Err found) s is = absurd (grind (arith, is))
 
-pub opened_keeps : (last n : ℕ) (fleet : Fleet) (script : Script) (words : List ℕ) (more : List (List ℕ)) (v : Verb) (s : Step) → IsReading fleet (record { script = script; standing = standing.Opened }) → verb_at last n fleet script standing.Opened words more v ≡ Ok s → IsReading fleet s.reading
-opened_keeps last n fleet script words more verb.Fleet s r read = absurd (grind (arith, read))
-opened_keeps last n fleet script words more verb.Burst s r read = absurd (grind (arith, read))
-opened_keeps last n fleet script words more verb.Lane s r read =
+pub opened_keeps : (last n : ℕ) (fleet : Fleet) (script : Script) (words : List ℕ) (more : List (List ℕ)) (v : LineWord) (s : Step) → IsReading fleet (record { script = script; position = position.Opened }) → line_at last n fleet script position.Opened words more v ≡ Ok s → IsReading fleet s.reading
+opened_keeps last n fleet script words more line_word.Fleet s r read = absurd (grind (arith, read))
+opened_keeps last n fleet script words more line_word.Burst s r read = absurd (grind (arith, read))
+opened_keeps last n fleet script words more line_word.Lane s r read =
     let lane : next_lane n script [] words ≡ Ok s = inside_ok last (next_lane n script [] words) s read in
     next_lane_by n fleet script [] (is_blank words) true words s refl refl r.items tt no_stewards lane
-opened_keeps last n fleet script words more verb.End s r read = absurd (grind (arith, read))
-opened_keeps last n fleet script words more (verb.Task task) s r read = absurd (grind (arith, read))
+opened_keeps last n fleet script words more line_word.End s r read = absurd (grind (arith, read))
+opened_keeps last n fleet script words more (line_word.Command word) s r read = absurd (grind (arith, read))
 
-pub command_keeps : (fleet : Fleet) (script : Script) (earlier : List (List Command)) (lane : List Command) (c : Command) (rows : ℕ) → is_second earlier c ≡ false → IsCommand (leaf_count fleet) fleet.names c → IsReading fleet (record { script = script; standing = standing.Lane earlier lane }) → IsReading fleet (stepped script (standing.Lane earlier (lane ++ c ∷ [])) rows).reading
-command_keeps fleet script earlier lane c rows not fits r = record { items = r.items; standing = burst_more (leaf_count fleet) fleet.names earlier lane c not fits r.standing }
+pub command_keeps : (fleet : Fleet) (script : Script) (earlier : List (List Command)) (lane : List Command) (c : Command) (rows : ℕ) → is_second earlier c ≡ false → IsCommand (leaf_count fleet) fleet.names c → IsReading fleet (record { script = script; position = position.Lane earlier lane }) → IsReading fleet (stepped script (position.Lane earlier (lane ++ c ∷ [])) rows).reading
+command_keeps fleet script earlier lane c rows not fits r = record { items = r.items; position = burst_more (leaf_count fleet) fleet.names earlier lane c not fits r.position }
 
 end_burst_by : (n : ℕ) (fleet : Fleet) (script : Script) (lanes : List (List Command)) (blank : Bool) (words : List ℕ) (s : Step) → is_blank words ≡ blank → Begun fleet script.items → IsBurst (leaf_count fleet) fleet.names lanes → end_burst n script lanes words ≡ Ok s → IsReading fleet s.reading
 end_burst_by n fleet script lanes true words s is begun_items b read =
-    let same : Ok (stepped (with_item script (item.Burst lanes)) standing.Outside 0) ≡ Ok s = rw is at read in
-    let there : stepped (with_item script (item.Burst lanes)) standing.Outside 0 ≡ s = cc in
-    let now : IsReading fleet (stepped (with_item script (item.Burst lanes)) standing.Outside 0).reading = record {
+    let same : Ok (stepped (with_item script (item.Burst lanes)) position.Outside 0) ≡ Ok s = rw is at read in
+    let there : stepped (with_item script (item.Burst lanes)) position.Outside 0 ≡ s = cc in
+    let now : IsReading fleet (stepped (with_item script (item.Burst lanes)) position.Outside 0).reading = record {
       items = begun_more fleet script (item.Burst lanes) begun_items b;
-      standing = tt;
+      position = tt;
     } in
     subst (λ (t : Step). IsReading fleet t.reading) there now
 end_burst_by n fleet script lanes false words s is begun_items b read = absurd (grind (arith, read, is))
 
-pub end_keeps : (n : ℕ) (fleet : Fleet) (script : Script) (earlier : List (List Command)) (lane : List Command) (words : List ℕ) (s : Step) → IsReading fleet (record { script = script; standing = standing.Lane earlier lane }) → end_burst n script (earlier ++ lane ∷ []) words ≡ Ok s → IsReading fleet s.reading
-end_keeps n fleet script earlier lane words s r read = end_burst_by n fleet script (earlier ++ lane ∷ []) (is_blank words) words s refl r.items r.standing read
+pub end_keeps : (n : ℕ) (fleet : Fleet) (script : Script) (earlier : List (List Command)) (lane : List Command) (words : List ℕ) (s : Step) → IsReading fleet (record { script = script; position = position.Lane earlier lane }) → end_burst n script (earlier ++ lane ∷ []) words ≡ Ok s → IsReading fleet s.reading
+end_keeps n fleet script earlier lane words s r read = end_burst_by n fleet script (earlier ++ lane ∷ []) (is_blank words) words s refl r.items r.position read
 
-pub end_keeps_as : (n : ℕ) (fleet : Fleet) (script : Script) (earlier : List (List Command)) (lane : List Command) (lanes : List (List Command)) (words : List ℕ) (r : Result Step ScriptFault) → IsReading fleet (record { script = script; standing = standing.Lane earlier lane }) → lanes ≡ earlier ++ lane ∷ [] → ParsesAs (λ step. step) r (end_burst n script lanes words) → IfOk r (λ step. IsReading fleet step.reading)
+pub end_keeps_as : (n : ℕ) (fleet : Fleet) (script : Script) (earlier : List (List Command)) (lane : List Command) (lanes : List (List Command)) (words : List ℕ) (r : Result Step ScriptFault) → IsReading fleet (record { script = script; position = position.Lane earlier lane }) → lanes ≡ earlier ++ lane ∷ [] → ParsesAs (λ step. step) r (end_burst n script lanes words) → IfOk r (λ step. IsReading fleet step.reading)
 end_keeps_as n fleet script earlier lane lanes words (Ok s) reading is exact = end_keeps n fleet script earlier lane words s reading (ap (λ ls. end_burst n script ls words) (sym is) ∙ exact)
 end_keeps_as n fleet script earlier lane lanes words (Err e) reading is exact = tt
 
-pub opened_keeps_as : (last n : ℕ) (fleet : Fleet) (script : Script) (words : List ℕ) (more : List (List ℕ)) (v : Verb) (r : Result Step ScriptFault) → IsReading fleet (record { script = script; standing = standing.Opened }) → ParsesAs (λ step. step) r (verb_at last n fleet script standing.Opened words more v) → IfOk r (λ step. IsReading fleet step.reading)
+pub opened_keeps_as : (last n : ℕ) (fleet : Fleet) (script : Script) (words : List ℕ) (more : List (List ℕ)) (v : LineWord) (r : Result Step ScriptFault) → IsReading fleet (record { script = script; position = position.Opened }) → ParsesAs (λ step. step) r (line_at last n fleet script position.Opened words more v) → IfOk r (λ step. IsReading fleet step.reading)
 opened_keeps_as last n fleet script words more v (Ok s) reading exact = opened_keeps last n fleet script words more v s reading exact
 opened_keeps_as last n fleet script words more v (Err e) reading exact = tt
 
 -- ---- the whole script
 
-fits_all : (fleet : Fleet) (script : Script) → IsFleet fleet → IsReading fleet (record { script = script; standing = standing.Outside }) → IsScript script
+fits_all : (fleet : Fleet) (script : Script) → IsFleet fleet → IsReading fleet (record { script = script; position = position.Outside }) → IsScript script
 fits_all fleet script f r = record {
   items = subst AreItems (sym r.items.all) (f.0, f.1, r.items.each);
 }
 
-closed_by : (last : ℕ) (fleet : Fleet) (script s : Script) (there : Standing) → IsFleet fleet → IsReading fleet (record { script = script; standing = there }) → closed last script there ≡ Ok s → IsScript s
-closed_by last fleet script s standing.Outside f r read = let same : script ≡ s = cc in subst IsScript same (fits_all fleet script f r)
-closed_by last fleet script s standing.Opened f r read = absurd (grind (arith, read))
-closed_by last fleet script s (standing.Lane earlier lane) f r read = absurd (grind (arith, read))
+closed_by : (last : ℕ) (fleet : Fleet) (script s : Script) (there : Position) → IsFleet fleet → IsReading fleet (record { script = script; position = there }) → closed last script there ≡ Ok s → IsScript s
+closed_by last fleet script s position.Outside f r read = let same : script ≡ s = cc in subst IsScript same (fits_all fleet script f r)
+closed_by last fleet script s position.Opened f r read = absurd (grind (arith, read))
+closed_by last fleet script s (position.Lane earlier lane) f r read = absurd (grind (arith, read))
 
-pub closed_fits : (last : ℕ) (fleet : Fleet) (reading : Reading) (s : Script) → IsFleet fleet → IsReading fleet reading → closed last reading.script reading.standing ≡ Ok s → IsScript s
-closed_fits last fleet reading s f r read = closed_by last fleet reading.script s reading.standing f r read
+pub closed_fits : (last : ℕ) (fleet : Fleet) (reading : Reading) (s : Script) → IsFleet fleet → IsReading fleet reading → closed last reading.script reading.position ≡ Ok s → IsScript s
+closed_fits last fleet reading s f r read = closed_by last fleet reading.script s reading.position f r read
 
-pub closed_fits_as : (last : ℕ) (fleet : Fleet) (reading : Reading) (r : Result Script ScriptFault) → IsFleet fleet → IsReading fleet reading → ParsesAs (λ s. s) r (closed last reading.script reading.standing) → IfOk r IsScript
+pub closed_fits_as : (last : ℕ) (fleet : Fleet) (reading : Reading) (r : Result Script ScriptFault) → IsFleet fleet → IsReading fleet reading → ParsesAs (λ s. s) r (closed last reading.script reading.position) → IfOk r IsScript
 closed_fits_as last fleet reading (Ok s) f is read = closed_fits last fleet reading s f is read
 closed_fits_as last fleet reading (Err e) f is read = tt

@@ -14,20 +14,20 @@ use Rattle.script_text.specs.declared.fault.Why.TheVariants as why
 use Rattle.script_text.specs.declared.fleet.Fleet.{Fleet}
 use Rattle.script_text.specs.declared.item.Item.TheVariants as item
 use Rattle.script_text.specs.declared.reading.Reading.{Reading}
-use Rattle.script_text.specs.declared.reading.Standing.{Standing}
-use Rattle.script_text.specs.declared.reading.Standing.TheVariants as standing
+use Rattle.script_text.specs.declared.reading.Position.{Position}
+use Rattle.script_text.specs.declared.reading.Position.TheVariants as position
 use Rattle.script_text.specs.declared.reading.Step.{Step}
 use Rattle.script_text.specs.declared.script.Script.{Script}
 use Rattle.script_text.specs.declared.target.Target.{Target}
-use Rattle.script_text.specs.declared.verb.Task.{Task}
-use Rattle.script_text.specs.declared.verb.Task.TheVariants as task
-use Rattle.script_text.specs.declared.verb.Verb.{Verb}
-use Rattle.script_text.specs.declared.verb.Verb.TheVariants as verb
+use Rattle.script_text.specs.declared.line_word.CommandWord.{CommandWord}
+use Rattle.script_text.specs.declared.line_word.CommandWord.TheVariants as command_word
+use Rattle.script_text.specs.declared.line_word.LineWord.{LineWord}
+use Rattle.script_text.specs.declared.line_word.LineWord.TheVariants as line_word
 use Rattle.script_text.specs.Lines.{lines_of, is_blank, is_skipped}
 use Rattle.script_text.specs.Words.{words_of, first_word, behind_word, trimmed, number_of, count_of, time_of, place_of}
-use Rattle.script_text.specs.Commands.{Fault, ◌>>=◌, on_line, or_words, fleet_of, leaf_count, leaf_in, table_in, target_in, TargetForm, target_words, of_target, within, rows_from, add_at, query_command, one_number, leaf_of, flush_words, DrainForm, drain_words, drain_of, rollover_words, first_command, command_of, row_count, verb_of}
+use Rattle.script_text.specs.Commands.{Fault, ◌>>=◌, on_line, or_words, fleet_of, leaf_count, leaf_in, table_in, target_in, TargetForm, target_words, of_target, within, rows_from, add_at, query_command, one_number, leaf_of, flush_words, DrainForm, drain_words, drain_of, rollover_words, first_command, command_of, row_count, line_word_of}
 use Rattle.script_text.specs.Script.{NumberedLine, begun, closed, read_from, next_line, script_at, script_of}
-use Rattle.script_text.specs.Bursts.{end_burst, inside, lane_more, next_burst, next_lane, one_more, step_of, stepped, verb_at, with_item}
+use Rattle.script_text.specs.Bursts.{end_burst, inside, lane_more, next_burst, next_lane, one_more, step_of, stepped, line_at, with_item}
 use Rattle.script_text.specs.Stewards.{is_second}
 
 -- a fault of a text alone
@@ -106,21 +106,21 @@ own_drain n fleet None = tt
 own_drain n fleet (Some form) = own_then (leaf_in n fleet form.leaf) (λ leaf. Ok (command.Drain leaf form.stop)) (own_leaf_in n fleet form.leaf) (λ leaf. tt)
 
 -- a command
-own_first_command : (n : ℕ) (line : List ℕ) (v : Option Verb) → Own (first_command n line v)
+own_first_command : (n : ℕ) (line : List ℕ) (v : Option LineWord) → Own (first_command n line v)
 own_first_command n line None = tt
-own_first_command n line (Some verb.Fleet) = own_words n (fleet_of (words_of (behind_word line)))
+own_first_command n line (Some line_word.Fleet) = own_words n (fleet_of (words_of (behind_word line)))
 own_first_command n line (Some _) = tt
 
-own_command : (n : ℕ) (fleet : Fleet) (work : Task) (words : List ℕ) (more : List (List ℕ)) → Own (command_of n fleet work words more)
-own_command n fleet task.Add words more = own_of_target n fleet (λ word. within 0 100000 (number_of word)) (add_at n more) (target_words (words_of words)) (own_add_at n more)
-own_command n fleet task.Expire words more = own_of_target n fleet time_of (λ target horizon. Ok (command.Expire target.leaf target.table horizon)) (target_words (words_of words)) (λ target horizon. tt)
-own_command n fleet task.Keep words more = own_of_target n fleet count_of (λ target rows. Ok (command.Keep target.leaf target.table rows)) (target_words (words_of words)) (λ target rows. tt)
-own_command n fleet task.Query words more = own_query n fleet (query_of (trimmed words))
-own_command n fleet task.Flush words more = own_of_target n fleet (λ word. Some word) (λ target last. Ok (command.Flush target.leaf target.table)) (flush_words (words_of words)) (λ target last. tt)
-own_command n fleet task.Drain words more = own_drain n fleet (drain_words (words_of words))
-own_command n fleet task.Kill words more = own_of_leaf n fleet (one_number (words_of words)) command.Kill
-own_command n fleet task.Start words more = own_of_leaf n fleet (one_number (words_of words)) command.Start
-own_command n fleet task.Rollover words more = own_words n (option_map command.Rollover (rollover_words (words_of words)))
+own_command : (n : ℕ) (fleet : Fleet) (work : CommandWord) (words : List ℕ) (more : List (List ℕ)) → Own (command_of n fleet work words more)
+own_command n fleet command_word.Add words more = own_of_target n fleet (λ word. within 0 100000 (number_of word)) (add_at n more) (target_words (words_of words)) (own_add_at n more)
+own_command n fleet command_word.Expire words more = own_of_target n fleet time_of (λ target horizon. Ok (command.Expire target.leaf target.table horizon)) (target_words (words_of words)) (λ target horizon. tt)
+own_command n fleet command_word.Keep words more = own_of_target n fleet count_of (λ target rows. Ok (command.Keep target.leaf target.table rows)) (target_words (words_of words)) (λ target rows. tt)
+own_command n fleet command_word.Query words more = own_query n fleet (query_of (trimmed words))
+own_command n fleet command_word.Flush words more = own_of_target n fleet (λ word. Some word) (λ target last. Ok (command.Flush target.leaf target.table)) (flush_words (words_of words)) (λ target last. tt)
+own_command n fleet command_word.Drain words more = own_drain n fleet (drain_words (words_of words))
+own_command n fleet command_word.Kill words more = own_of_leaf n fleet (one_number (words_of words)) command.Kill
+own_command n fleet command_word.Start words more = own_of_leaf n fleet (one_number (words_of words)) command.Start
+own_command n fleet command_word.Rollover words more = own_words n (option_map command.Rollover (rollover_words (words_of words)))
 
 -- a line
 own_why : (b : Bool) (w : Why) → IsOwn w → IsOwn (if b then why.Place else w)
@@ -137,43 +137,43 @@ own_one script (Err found) h = h
 
 own_lane_more : (n : ℕ) (script : Script) (earlier : List (List Command)) (lane : List Command) (r : Result Command Fault) → Own r → Own (lane_more n script earlier lane r)
 own_lane_more n script earlier lane (Ok c) h =
-    own_if {X = Step} (is_second earlier c) (Err (n, why.TwoStewards)) (Ok (stepped script (standing.Lane earlier (lane ++ c ∷ [])) (row_count c))) tt tt
+    own_if {X = Step} (is_second earlier c) (Err (n, why.TwoStewards)) (Ok (stepped script (position.Lane earlier (lane ++ c ∷ [])) (row_count c))) tt tt
 own_lane_more n script earlier lane (Err found) h = h
 
 own_burst : (n : ℕ) (script : Script) (words : List ℕ) → Own (next_burst n script words)
-own_burst n script words = own_if {X = Step} (is_blank words) (Ok (stepped script standing.Opened 0)) (Err (n, why.Words)) tt tt
+own_burst n script words = own_if {X = Step} (is_blank words) (Ok (stepped script position.Opened 0)) (Err (n, why.Words)) tt tt
 
 own_lane : (n : ℕ) (script : Script) (lanes : List (List Command)) (words : List ℕ) → Own (next_lane n script lanes words)
 own_lane n script lanes words =
-    let few : Result Step Fault = if nat_lt (length lanes) 16 then Ok (stepped script (standing.Lane lanes []) 0) else Err (n, why.Lanes) in
-    own_if {X = Step} (is_blank words) few (Err (n, why.Words)) (own_if {X = Step} (nat_lt (length lanes) 16) (Ok (stepped script (standing.Lane lanes []) 0)) (Err (n, why.Lanes)) tt tt) tt
+    let few : Result Step Fault = if nat_lt (length lanes) 16 then Ok (stepped script (position.Lane lanes []) 0) else Err (n, why.Lanes) in
+    own_if {X = Step} (is_blank words) few (Err (n, why.Words)) (own_if {X = Step} (nat_lt (length lanes) 16) (Ok (stepped script (position.Lane lanes []) 0)) (Err (n, why.Lanes)) tt tt) tt
 
 own_end : (n : ℕ) (script : Script) (lanes : List (List Command)) (words : List ℕ) → Own (end_burst n script lanes words)
-own_end n script lanes words = own_if {X = Step} (is_blank words) (Ok (stepped (with_item script (item.Burst lanes)) standing.Outside 0)) (Err (n, why.Words)) tt tt
+own_end n script lanes words = own_if {X = Step} (is_blank words) (Ok (stepped (with_item script (item.Burst lanes)) position.Outside 0)) (Err (n, why.Words)) tt tt
 
-own_verb : (last n : ℕ) (fleet : Fleet) (script : Script) (there : Standing) (words : List ℕ) (more : List (List ℕ)) (v : Verb) → Own (verb_at last n fleet script there words more v)
-own_verb last n fleet script standing.Outside words more verb.Burst = own_inside last (next_burst n script words) (own_burst n script words)
-own_verb last n fleet script standing.Outside words more (verb.Task work) = own_one script (command_of n fleet work words more) (own_command n fleet work words more)
-own_verb last n fleet script standing.Opened words more verb.Lane = own_inside last (next_lane n script [] words) (own_lane n script [] words)
-own_verb last n fleet script (standing.Lane earlier lane) words more verb.Lane = own_inside last (next_lane n script (earlier ++ lane ∷ []) words) (own_lane n script (earlier ++ lane ∷ []) words)
-own_verb last n fleet script (standing.Lane earlier lane) words more verb.End = own_end n script (earlier ++ lane ∷ []) words
-own_verb last n fleet script (standing.Lane earlier lane) words more (verb.Task work) =
+own_line : (last n : ℕ) (fleet : Fleet) (script : Script) (there : Position) (words : List ℕ) (more : List (List ℕ)) (v : LineWord) → Own (line_at last n fleet script there words more v)
+own_line last n fleet script position.Outside words more line_word.Burst = own_inside last (next_burst n script words) (own_burst n script words)
+own_line last n fleet script position.Outside words more (line_word.Command work) = own_one script (command_of n fleet work words more) (own_command n fleet work words more)
+own_line last n fleet script position.Opened words more line_word.Lane = own_inside last (next_lane n script [] words) (own_lane n script [] words)
+own_line last n fleet script (position.Lane earlier lane) words more line_word.Lane = own_inside last (next_lane n script (earlier ++ lane ∷ []) words) (own_lane n script (earlier ++ lane ∷ []) words)
+own_line last n fleet script (position.Lane earlier lane) words more line_word.End = own_end n script (earlier ++ lane ∷ []) words
+own_line last n fleet script (position.Lane earlier lane) words more (line_word.Command work) =
     let read = command_of n fleet work words more in
     own_inside last (lane_more n script earlier lane read) (own_lane_more n script earlier lane read (own_command n fleet work words more))
-own_verb last n fleet script _ words more _ = tt
+own_line last n fleet script _ words more _ = tt
 
 own_step : (last n : ℕ) (fleet : Fleet) (reading : Reading) (line : List ℕ) (more : List (List ℕ)) → Own (step_of last n fleet reading line more)
 own_step last n fleet reading line more =
-    let read = verb_at last n fleet reading.script reading.standing (behind_word line) more in
-    own_then (ok_or (verb_of (first_word line)) (n, why.Command)) read (own_or (verb_of (first_word line)) (n, why.Command) tt) (own_verb last n fleet reading.script reading.standing (behind_word line) more)
+    let read = line_at last n fleet reading.script reading.position (behind_word line) more in
+    own_then (ok_or (line_word_of (first_word line)) (n, why.Command)) read (own_or (line_word_of (first_word line)) (n, why.Command) tt) (own_line last n fleet reading.script reading.position (behind_word line) more)
 
 -- the whole script
-own_closed : (last : ℕ) (script : Script) (there : Standing) → Own (closed last script there)
-own_closed last script standing.Outside = tt
+own_closed : (last : ℕ) (script : Script) (there : Position) → Own (closed last script there)
+own_closed last script position.Outside = tt
 own_closed last script _ = tt
 
 own_read : (last : ℕ) (fleet : Fleet) (rows n : ℕ) (reading : Reading) (lines : List (List ℕ)) → Own (read_from last fleet rows n reading lines)
-own_read last fleet rows n reading [] = own_closed last reading.script reading.standing
+own_read last fleet rows n reading [] = own_closed last reading.script reading.position
 own_read last fleet (suc rows) n reading (line ∷ more) = own_read last fleet rows (n + 1) reading more
 own_read last fleet zero n reading (line ∷ more) =
     let r = step_of last n fleet reading line more in
@@ -184,8 +184,8 @@ own_read last fleet zero n reading (line ∷ more) =
 own_at : (last : ℕ) (line : Option NumberedLine) → Own (script_at last line)
 own_at last None = tt
 own_at last (Some line) =
-    let first = first_command line.number line.bytes (verb_of (first_word line.bytes)) in
-    own_then first (λ fleet. read_from last fleet 0 (line.number + 1) (begun line.number fleet) line.after) (own_first_command line.number line.bytes (verb_of (first_word line.bytes)))
+    let first = first_command line.number line.bytes (line_word_of (first_word line.bytes)) in
+    own_then first (λ fleet. read_from last fleet 0 (line.number + 1) (begun line.number fleet) line.after) (own_first_command line.number line.bytes (line_word_of (first_word line.bytes)))
     (λ fleet. own_read last fleet 0 (line.number + 1) (begun line.number fleet) line.after)
 
 own_script : (text : List ℕ) → Own (script_of text)

@@ -9,7 +9,7 @@ use Rattle.script_text.specs.declared.reading.Step.{Step}
 use Rattle.script_text.specs.declared.script.Script.{Script}
 use Rattle.script_text.specs.Words.{first_word}
 use Rattle.script_text.specs.Lines.{is_skipped}
-use Rattle.script_text.specs.Commands.{Fault, ◌>>=◌, first_command, verb_of}
+use Rattle.script_text.specs.Commands.{Fault, ◌>>=◌, first_command, line_word_of}
 use Rattle.script_text.specs.Bursts.{step_of}
 use Rattle.script_text.specs.Script.{NumberedLine, IfAt, ParsesAs, begun, closed, read_from, next_line, script_at, script_of}
 use Rattle.script_text.specs.Lines.{lines_of}
@@ -37,7 +37,7 @@ abbrev pub line_with : ℕ → Fleet → NumberedLine → Result Step Fault → 
 line_with last fleet line read = read >>= λ step. read_from last fleet step.rows (line.number + 1) step.reading line.after
 
 abbrev pub read_at : ℕ → Fleet → Reading → Option NumberedLine → Result Script Fault
-read_at last fleet reading None = closed last reading.script reading.standing
+read_at last fleet reading None = closed last reading.script reading.position
 read_at last fleet reading (Some line) = line_with last fleet line (step_of last line.number fleet reading line.bytes line.after)
 
 skipped_by : (last n : ℕ) (fleet : Fleet) (reading : Reading) (line : List ℕ) (more : List (List ℕ)) (is : Bool) → is_skipped line ≡ is → read_from last fleet 0 (n + 1) reading more ≡ read_at last fleet reading (next_line (n + 1) more) → read_from last fleet 0 n reading (line ∷ more) ≡ read_at last fleet reading (next_line n (line ∷ more))
@@ -72,7 +72,7 @@ refused_at last n fleet reading lines line whole (At at why) found is so_far =
 refused_at last n fleet reading lines line whole NoMemory found is so_far = tt
 
 -- no line is left
-pub read_end : (last n : ℕ) (fleet : Fleet) (reading : Reading) (lines : List (List ℕ)) (whole : Result Script Fault) → None ≡ next_line n lines → read_from last fleet 0 n reading lines ≡ whole → closed last reading.script reading.standing ≡ whole
+pub read_end : (last n : ℕ) (fleet : Fleet) (reading : Reading) (lines : List (List ℕ)) (whole : Result Script Fault) → None ≡ next_line n lines → read_from last fleet 0 n reading lines ≡ whole → closed last reading.script reading.position ≡ whole
 read_end last n fleet reading lines whole none so_far = ap (read_at last fleet reading) none ∙ sym (read_next last n fleet reading lines) ∙ so_far
 
 pub parses_as : (r : Result Script ScriptFault) (a b : Result Script Fault) → a ≡ b → ParsesAs (λ s. s) r a → ParsesAs (λ s. s) r b
@@ -86,18 +86,18 @@ pub script_none : (text : List ℕ) (script : Script) → None ≡ next_line 1 (
 unfolding script_of
 script_none text script none is = ap (script_at (length (lines_of text))) (sym none) ∙ ap Ok (sym is)
 
-pub script_fleet : (text : List ℕ) (line : NumberedLine) (fleet : Fleet) → Some line ≡ next_line 1 (lines_of text) → first_command line.number line.bytes (verb_of (first_word line.bytes)) ≡ Ok fleet → script_of text ≡ read_from (length (lines_of text)) fleet 0 (line.number + 1) (begun line.number fleet) line.after
+pub script_fleet : (text : List ℕ) (line : NumberedLine) (fleet : Fleet) → Some line ≡ next_line 1 (lines_of text) → first_command line.number line.bytes (line_word_of (first_word line.bytes)) ≡ Ok fleet → script_of text ≡ read_from (length (lines_of text)) fleet 0 (line.number + 1) (begun line.number fleet) line.after
 unfolding script_of
 script_fleet text line fleet found is =
     ap (script_at (length (lines_of text))) (sym found) ∙ ap (script_behind (length (lines_of text)) line) is
 
-pub script_first_fault : (text : List ℕ) (line : NumberedLine) (e : ScriptFault) → Some line ≡ next_line 1 (lines_of text) → IfAt e (λ at why. first_command line.number line.bytes (verb_of (first_word line.bytes)) ≡ Err (at, why)) → IfAt e (λ at why. script_of text ≡ Err (at, why))
+pub script_first_fault : (text : List ℕ) (line : NumberedLine) (e : ScriptFault) → Some line ≡ next_line 1 (lines_of text) → IfAt e (λ at why. first_command line.number line.bytes (line_word_of (first_word line.bytes)) ≡ Err (at, why)) → IfAt e (λ at why. script_of text ≡ Err (at, why))
 unfolding script_of
 script_first_fault text line (At at why) found is =
     ap (script_at (length (lines_of text))) (sym found) ∙ ap (script_behind (length (lines_of text)) line) is
 script_first_fault text line NoMemory found is = tt
 
-pub script_is : (text : List ℕ) (line : NumberedLine) (fleet : Fleet) (last : ℕ) (r : Result Script ScriptFault) → Some line ≡ next_line 1 (lines_of text) → last ≡ length (lines_of text) → first_command line.number line.bytes (verb_of (first_word line.bytes)) ≡ Ok fleet → ParsesAs (λ s. s) r (read_from last fleet 0 (line.number + 1) (begun line.number fleet) line.after) → ParsesAs (λ s. s) r (script_of text)
+pub script_is : (text : List ℕ) (line : NumberedLine) (fleet : Fleet) (last : ℕ) (r : Result Script ScriptFault) → Some line ≡ next_line 1 (lines_of text) → last ≡ length (lines_of text) → first_command line.number line.bytes (line_word_of (first_word line.bytes)) ≡ Ok fleet → ParsesAs (λ s. s) r (read_from last fleet 0 (line.number + 1) (begun line.number fleet) line.after) → ParsesAs (λ s. s) r (script_of text)
 script_is text line fleet last r found count is read =
     let whole : read_from last fleet 0 (line.number + 1) (begun line.number fleet) line.after ≡ script_of text =
     ap (λ n. read_from n fleet 0 (line.number + 1) (begun line.number fleet) line.after) count ∙ sym (script_fleet text line fleet found is) in

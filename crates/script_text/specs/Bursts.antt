@@ -8,24 +8,24 @@ use Rattle.script_text.specs.declared.fleet.Fleet.{Fleet}
 use Rattle.script_text.specs.declared.item.Item.{Item}
 use Rattle.script_text.specs.declared.item.Item.TheVariants as item
 use Rattle.script_text.specs.declared.reading.Reading.{Reading}
-use Rattle.script_text.specs.declared.reading.Standing.{Standing}
+use Rattle.script_text.specs.declared.reading.Position.{Position}
 use Rattle.script_text.specs.declared.reading.Step.{Step}
-use Rattle.script_text.specs.declared.reading.Standing.TheVariants as standing
+use Rattle.script_text.specs.declared.reading.Position.TheVariants as position
 use Rattle.script_text.specs.declared.script.Script.{Script}
-use Rattle.script_text.specs.declared.verb.Verb.{Verb}
-use Rattle.script_text.specs.declared.verb.Verb.TheVariants as verb
+use Rattle.script_text.specs.declared.line_word.LineWord.{LineWord}
+use Rattle.script_text.specs.declared.line_word.LineWord.TheVariants as line_word
 use Rattle.script_text.specs.Lines.{is_blank}
 use Rattle.script_text.specs.Stewards.{is_second}
 use Rattle.script_text.specs.Words.{first_word, behind_word}
-use Rattle.script_text.specs.Commands.{Fault, ◌>>=◌, command_of, row_count, verb_of}
+use Rattle.script_text.specs.Commands.{Fault, ◌>>=◌, command_of, row_count, line_word_of}
 
 -- the items of a script, and one more
 abbrev pub with_item : Script → Item → Script
 with_item script one = record { fleet_line = script.fleet_line; items = script.items ++ one ∷ [] }
 
 -- what was read, where the next line stands there, behind so many rows
-abbrev pub stepped : Script → Standing → ℕ → Step
-stepped script there rows = record { reading = record { script = script; standing = there }; rows = rows }
+abbrev pub stepped : Script → Position → ℕ → Step
+stepped script there rows = record { reading = record { script = script; position = there }; rows = rows }
 
 -- a fault of a line behind which a burst is open: on the text's last line it is Place, whatever it is
 abbrev pub fault_inside : ℕ → ScriptFault → ScriptFault
@@ -39,37 +39,37 @@ inside last (Err found) = Err (found.0, if found.0 == last then why.Place else f
 
 -- a command outside bursts
 abbrev pub one_more : Script → Result Command Fault → Result Step Fault
-one_more script read = read >>= λ c. Ok (stepped (with_item script (item.One c)) standing.Outside (row_count c))
+one_more script read = read >>= λ c. Ok (stepped (with_item script (item.One c)) position.Outside (row_count c))
 
 -- `burst`
 abbrev pub next_burst : ℕ → Script → List ℕ → Result Step Fault
-next_burst n script words = if is_blank words then Ok (stepped script standing.Opened 0) else Err (n, why.Words)
+next_burst n script words = if is_blank words then Ok (stepped script position.Opened 0) else Err (n, why.Words)
 
 -- `lane`, behind these lanes
 abbrev pub next_lane : ℕ → Script → List (List Command) → List ℕ → Result Step Fault
-next_lane n script lanes words = if is_blank words then (if nat_lt (length lanes) 16 then Ok (stepped script (standing.Lane lanes []) 0) else Err (n, why.Lanes))
+next_lane n script lanes words = if is_blank words then (if nat_lt (length lanes) 16 then Ok (stepped script (position.Lane lanes []) 0) else Err (n, why.Lanes))
     else Err (n, why.Words)
 
 -- `end`, behind these lanes
 abbrev pub end_burst : ℕ → Script → List (List Command) → List ℕ → Result Step Fault
-end_burst n script lanes words = if is_blank words then Ok (stepped (with_item script (item.Burst lanes)) standing.Outside 0) else Err (n, why.Words)
+end_burst n script lanes words = if is_blank words then Ok (stepped (with_item script (item.Burst lanes)) position.Outside 0) else Err (n, why.Words)
 
 -- a command of a lane that stands behind others
 abbrev pub lane_more : ℕ → Script → List (List Command) → List Command → Result Command Fault → Result Step Fault
-lane_more n script earlier lane read = read >>= λ c. if is_second earlier c then Err (n, why.TwoStewards) else Ok (stepped script (standing.Lane earlier (lane ++ c ∷ [])) (row_count c))
+lane_more n script earlier lane read = read >>= λ c. if is_second earlier c then Err (n, why.TwoStewards) else Ok (stepped script (position.Lane earlier (lane ++ c ∷ [])) (row_count c))
 
 -- A line by where it stands and what it is; all others are out of their place. A burst that begins on the last line is left open.
-abbrev pub verb_at : ℕ → ℕ → Fleet → Script → Standing → List ℕ → List (List ℕ) → Verb → Result Step Fault
-verb_at last n fleet script standing.Outside words more verb.Burst = inside last (next_burst n script words)
-verb_at last n fleet script standing.Outside words more (verb.Task task) = one_more script (command_of n fleet task words more)
-verb_at last n fleet script standing.Opened words more verb.Lane = inside last (next_lane n script [] words)
-verb_at last n fleet script (standing.Lane earlier lane) words more verb.Lane = inside last (next_lane n script (earlier ++ lane ∷ []) words)
-verb_at last n fleet script (standing.Lane earlier lane) words more verb.End = end_burst n script (earlier ++ lane ∷ []) words
-verb_at last n fleet script (standing.Lane earlier lane) words more (verb.Task task) = inside last (lane_more n script earlier lane (command_of n fleet task words more))
-verb_at last n fleet script _ words more _ = Err (n, why.Place)
+abbrev pub line_at : ℕ → ℕ → Fleet → Script → Position → List ℕ → List (List ℕ) → LineWord → Result Step Fault
+line_at last n fleet script position.Outside words more line_word.Burst = inside last (next_burst n script words)
+line_at last n fleet script position.Outside words more (line_word.Command word) = one_more script (command_of n fleet word words more)
+line_at last n fleet script position.Opened words more line_word.Lane = inside last (next_lane n script [] words)
+line_at last n fleet script (position.Lane earlier lane) words more line_word.Lane = inside last (next_lane n script (earlier ++ lane ∷ []) words)
+line_at last n fleet script (position.Lane earlier lane) words more line_word.End = end_burst n script (earlier ++ lane ∷ []) words
+line_at last n fleet script (position.Lane earlier lane) words more (line_word.Command word) = inside last (lane_more n script earlier lane (command_of n fleet word words more))
+line_at last n fleet script _ words more _ = Err (n, why.Place)
 
 -- Line n of a text with so many lines, behind this fleet and what was read, where those lines follow.
 abbrev pub step_of : ℕ → ℕ → Fleet → Reading → List ℕ → List (List ℕ) → Result Step Fault
 step_of last n fleet reading line more = do
-  verb ← ok_or (verb_of (first_word line)) (n, why.Command)
-  verb_at last n fleet reading.script reading.standing (behind_word line) more verb
+  word ← ok_or (line_word_of (first_word line)) (n, why.Command)
+  line_at last n fleet reading.script reading.position (behind_word line) more word

@@ -13,10 +13,10 @@ use Rattle.script_text.specs.declared.fault.Why.{Why}
 use Rattle.script_text.specs.declared.fault.Why.TheVariants as why
 use Rattle.script_text.specs.declared.fleet.Fleet.{Fleet}
 use Rattle.script_text.specs.declared.target.Target.{Target}
-use Rattle.script_text.specs.declared.verb.Task.{Task}
-use Rattle.script_text.specs.declared.verb.Task.TheVariants as task
-use Rattle.script_text.specs.declared.verb.Verb.{Verb}
-use Rattle.script_text.specs.declared.verb.Verb.TheVariants as verb
+use Rattle.script_text.specs.declared.line_word.CommandWord.{CommandWord}
+use Rattle.script_text.specs.declared.line_word.CommandWord.TheVariants as command_word
+use Rattle.script_text.specs.declared.line_word.LineWord.{LineWord}
+use Rattle.script_text.specs.declared.line_word.LineWord.TheVariants as line_word
 use Rattle.leaf_model.specs.Names.{is_table_name}
 use Rattle.script_text.specs.Fits.{AreLeaves, AreTables}
 use Rattle.script_text.specs.Words.{words_of, behind_word, trimmed, number_of, capped, count_of, time_of, are_tables, place_of}
@@ -40,25 +40,25 @@ on_line n cause (Err fault) = Err (n, cause fault)
 abbrev pub or_words : {A : Type 0} → ℕ → Option A → Result A Fault
 or_words n found = ok_or found (n, why.Words)
 
--- the task that a word is
-abbrev pub task_of : List ℕ → Option Task
-task_of word = if bytes_eq word (codes "add") then Some task.Add
-    else (if bytes_eq word (codes "expire") then Some task.Expire
-    else (if bytes_eq word (codes "keep") then Some task.Keep
-    else (if bytes_eq word (codes "query") then Some task.Query
-    else (if bytes_eq word (codes "flush") then Some task.Flush
-    else (if bytes_eq word (codes "drain") then Some task.Drain
-    else (if bytes_eq word (codes "kill") then Some task.Kill
-    else (if bytes_eq word (codes "start") then Some task.Start
-    else (if bytes_eq word (codes "rollover") then Some task.Rollover else None))))))))
+-- the command whose first word a word is
+abbrev pub command_word_of : List ℕ → Option CommandWord
+command_word_of word = if bytes_eq word (codes "add") then Some command_word.Add
+    else (if bytes_eq word (codes "expire") then Some command_word.Expire
+    else (if bytes_eq word (codes "keep") then Some command_word.Keep
+    else (if bytes_eq word (codes "query") then Some command_word.Query
+    else (if bytes_eq word (codes "flush") then Some command_word.Flush
+    else (if bytes_eq word (codes "drain") then Some command_word.Drain
+    else (if bytes_eq word (codes "kill") then Some command_word.Kill
+    else (if bytes_eq word (codes "start") then Some command_word.Start
+    else (if bytes_eq word (codes "rollover") then Some command_word.Rollover else None))))))))
 
--- the verb that a word is
-abbrev pub verb_of : List ℕ → Option Verb
-verb_of word = if bytes_eq word (codes "fleet") then Some verb.Fleet
-    else (if bytes_eq word (codes "burst") then Some verb.Burst
-    else (if bytes_eq word (codes "lane") then Some verb.Lane
-    else (if bytes_eq word (codes "end") then Some verb.End
-    else option_map verb.Task (task_of word))))
+-- the line whose first word a word is
+abbrev pub line_word_of : List ℕ → Option LineWord
+line_word_of word = if bytes_eq word (codes "fleet") then Some line_word.Fleet
+    else (if bytes_eq word (codes "burst") then Some line_word.Burst
+    else (if bytes_eq word (codes "lane") then Some line_word.Lane
+    else (if bytes_eq word (codes "end") then Some line_word.End
+    else option_map line_word.Command (command_word_of word))))
 
 -- as many leaves as the machines of a fleet have
 abbrev pub leaf_count : Fleet → ℕ
@@ -217,19 +217,19 @@ rollover_words (percent ∷ []) = within 1 100 (number_of percent)
 rollover_words _ = None
 
 -- the fleet of a line while none was read
-abbrev pub first_command : ℕ → List ℕ → Option Verb → Result Fleet Fault
+abbrev pub first_command : ℕ → List ℕ → Option LineWord → Result Fleet Fault
 first_command n line None = Err (n, why.Command)
-first_command n line (Some verb.Fleet) = or_words n (fleet_of (words_of (behind_word line)))
+first_command n line (Some line_word.Fleet) = or_words n (fleet_of (words_of (behind_word line)))
 first_command n line (Some _) = Err (n, why.NoFleet)
 
--- the command of these words behind a task and this fleet, where those lines follow
-abbrev pub command_of : ℕ → Fleet → Task → List ℕ → List (List ℕ) → Result Command Fault
-command_of n fleet task.Add words more = add_of n fleet (target_words (words_of words)) more
-command_of n fleet task.Expire words more = expire_of n fleet (target_words (words_of words))
-command_of n fleet task.Keep words more = keep_of n fleet (target_words (words_of words))
-command_of n fleet task.Query words more = query_command n fleet (query_of (trimmed words))
-command_of n fleet task.Flush words more = flush_of n fleet (flush_words (words_of words))
-command_of n fleet task.Drain words more = drain_of n fleet (drain_words (words_of words))
-command_of n fleet task.Kill words more = leaf_of n fleet (one_number (words_of words)) >>= λ leaf. Ok (Kill leaf)
-command_of n fleet task.Start words more = leaf_of n fleet (one_number (words_of words)) >>= λ leaf. Ok (Start leaf)
-command_of n fleet task.Rollover words more = or_words n (option_map Rollover (rollover_words (words_of words)))
+-- the command of this first word and the words behind it, behind this fleet, where those lines follow
+abbrev pub command_of : ℕ → Fleet → CommandWord → List ℕ → List (List ℕ) → Result Command Fault
+command_of n fleet command_word.Add words more = add_of n fleet (target_words (words_of words)) more
+command_of n fleet command_word.Expire words more = expire_of n fleet (target_words (words_of words))
+command_of n fleet command_word.Keep words more = keep_of n fleet (target_words (words_of words))
+command_of n fleet command_word.Query words more = query_command n fleet (query_of (trimmed words))
+command_of n fleet command_word.Flush words more = flush_of n fleet (flush_words (words_of words))
+command_of n fleet command_word.Drain words more = drain_of n fleet (drain_words (words_of words))
+command_of n fleet command_word.Kill words more = leaf_of n fleet (one_number (words_of words)) >>= λ leaf. Ok (Kill leaf)
+command_of n fleet command_word.Start words more = leaf_of n fleet (one_number (words_of words)) >>= λ leaf. Ok (Start leaf)
+command_of n fleet command_word.Rollover words more = or_words n (option_map Rollover (rollover_words (words_of words)))

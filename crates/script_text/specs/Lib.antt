@@ -2,6 +2,8 @@ pub mod Lines
 pub mod Words
 pub mod Commands
 pub mod Stewards
+pub mod Aims
+pub mod Marks
 pub mod Bursts
 pub mod Script
 pub mod Parts

@@ -5,15 +5,15 @@ use Rattle.script_text.specs.declared.fleet.Fleet.{Fleet}
 use Rattle.script_text.specs.declared.item.Item.{Item}
 use Rattle.script_text.specs.declared.item.Item.TheVariants as item
 use Rattle.script_text.specs.declared.reading.Reading.{Reading}
-use Rattle.script_text.specs.declared.reading.Standing.{Standing}
-use Rattle.script_text.specs.declared.reading.Standing.TheVariants as standing
+use Rattle.script_text.specs.declared.reading.Position.{Position}
+use Rattle.script_text.specs.declared.reading.Position.TheVariants as position
 use Rattle.script_text.specs.Commands.{fleet_command, leaf_count}
 use Rattle.script_text.specs.Fits.{IsBurst, IsItem}
 
 -- the lanes of a burst that is open are those of a burst
-abbrev pub IsStanding : Fleet → Standing → Type 0
-IsStanding fleet (standing.Lane earlier lane) = IsBurst (leaf_count fleet) fleet.names (earlier ++ lane ∷ [])
-IsStanding fleet _ = Unit {0}
+abbrev pub IsPosition : Fleet → Position → Type 0
+IsPosition fleet (position.Lane earlier lane) = IsBurst (leaf_count fleet) fleet.names (earlier ++ lane ∷ [])
+IsPosition fleet _ = Unit {0}
 
 -- a fleet, and items behind it
 pub record Begun (fleet : Fleet) (items : List Item) : Type 0 where
@@ -24,4 +24,4 @@ pub record Begun (fleet : Fleet) (items : List Item) : Type 0 where
 -- what was read behind this fleet
 pub record IsReading (fleet : Fleet) (reading : Reading) : Type 0 where
   pub items : Begun fleet reading.script.items
-  pub standing : IsStanding fleet reading.standing
+  pub position : IsPosition fleet reading.position

@@ -3,8 +3,8 @@ use Rattle.std.specs.Prelude.{◌≡◌, ℕ, zero, suc, ◌+◌, List, [], ◌�
 use Rattle.script_text.specs.declared.fleet.Fleet.{Fleet}
 use Rattle.script_text.specs.declared.item.Item.TheVariants as item
 use Rattle.script_text.specs.declared.reading.Reading.{Reading}
-use Rattle.script_text.specs.declared.reading.Standing.{Standing}
-use Rattle.script_text.specs.declared.reading.Standing.TheVariants as standing
+use Rattle.script_text.specs.declared.reading.Position.{Position}
+use Rattle.script_text.specs.declared.reading.Position.TheVariants as position
 use Rattle.script_text.specs.declared.script.Script.{Script}
 use Rattle.script_text.specs.declared.fault.Why.{Why}
 use Rattle.script_text.specs.declared.fault.Why.TheVariants as why
@@ -12,17 +12,17 @@ use Rattle.script_text.specs.declared.fault.ScriptFault.{ScriptFault}
 use Rattle.script_text.specs.declared.fault.ScriptFault.TheVariants.{At, NoMemory}
 use Rattle.script_text.specs.Lines.{lines_of, is_skipped}
 use Rattle.script_text.specs.Words.{first_word}
-use Rattle.script_text.specs.Commands.{Fault, ◌>>=◌, first_command, fleet_command, verb_of}
+use Rattle.script_text.specs.Commands.{Fault, ◌>>=◌, first_command, fleet_command, line_word_of}
 use Rattle.script_text.specs.Bursts.{step_of}
 
 -- a burst that the text's last line leaves open has its fault there
-abbrev pub closed : ℕ → Script → Standing → Result Script Fault
-closed last script standing.Outside = Ok script
+abbrev pub closed : ℕ → Script → Position → Result Script Fault
+closed last script position.Outside = Ok script
 closed last script _ = Err (last, why.Place)
 
 -- What is read of the lines to the text's last one, numbered from n on, behind so many rows of the add before them and behind what was read.
 abbrev pub read_from : ℕ → Fleet → ℕ → ℕ → Reading → List (List ℕ) → Result Script Fault
-read_from last fleet rows n reading [] = closed last reading.script reading.standing
+read_from last fleet rows n reading [] = closed last reading.script reading.position
 read_from last fleet (suc rows) n reading (line ∷ more) = read_from last fleet rows (n + 1) reading more
 read_from last fleet zero n reading (line ∷ more) = if is_skipped line then read_from last fleet 0 (n + 1) reading more
     else (step_of last n fleet reading line more >>= λ step. read_from last fleet step.rows (n + 1) step.reading more)
@@ -40,13 +40,13 @@ next_line n (line ∷ more) = if is_skipped line then next_line (n + 1) more els
 
 -- a fleet was read on line n, and nothing else
 abbrev pub begun : ℕ → Fleet → Reading
-begun n fleet = record { script = record { fleet_line = n; items = item.One (fleet_command fleet) ∷ [] }; standing = standing.Outside }
+begun n fleet = record { script = record { fleet_line = n; items = item.One (fleet_command fleet) ∷ [] }; position = position.Outside }
 
 -- the script whose first command stands on this line
 abbrev pub script_at : ℕ → Option NumberedLine → Result Script Fault
 script_at last None = Ok (record { fleet_line = 0; items = [] })
 script_at last (Some line) = do
-  fleet ← first_command line.number line.bytes (verb_of (first_word line.bytes))
+  fleet ← first_command line.number line.bytes (line_word_of (first_word line.bytes))
   read_from last fleet 0 (line.number + 1) (begun line.number fleet) line.after
 
 -- the script that a text is, or the first line that has a fault

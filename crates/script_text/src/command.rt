@@ -1,7 +1,8 @@
-// The commands of a script.
+// The commands of a script, and whom each is for.
 ghost use Rattle.std.specs.Prelude.{◌≡◌};
+ghost use Rattle.script_text.specs.Aims.{aim_in, aim_of};
 
-use leaf_model::{Names, Query, Rows};
+use leaf_model::{Names, Query, Rows, Text};
 use std::marker::Model;
 
 /// A command. A leaf is its number from 0, and a table its place among those of the fleet, from 0.
@@ -44,6 +45,41 @@ pub enum Command {
     Start(u32),
     /// Every leaf is restarted, in waves of at most so many percent of the leaves, and at most one of a machine.
     Rollover(u32),
+}
+
+/// Whom a command is for.
+#[derive(Clone, Copy)]
+pub enum Aim<'a> {
+    /// The whole fleet, which it begins.
+    Fleet,
+    /// Callers of the table in this place.
+    Table(u32),
+    /// Callers of the table of this name, at every leaf.
+    Named(&'a Text),
+    /// The steward of this leaf.
+    Leaf(u32),
+    /// The steward of each leaf.
+    Leaves,
+}
+
+impl Command {
+    /// Whom the command is for.
+    pub fn aim<'a>(&'a self) -> Aim<'a>
+        ensures { aim_in result ≡ aim_of self.now }
+    {
+        match self {
+            Command::Fleet { .. } => Aim::Fleet,
+            Command::Add { table, .. } => Aim::Table(*table),
+            Command::Expire { table, .. } => Aim::Table(*table),
+            Command::Keep { table, .. } => Aim::Table(*table),
+            Command::Query(query) => Aim::Named(&query.table),
+            Command::Flush { leaf, .. } => Aim::Leaf(*leaf),
+            Command::Drain { leaf, .. } => Aim::Leaf(*leaf),
+            Command::Kill(leaf) => Aim::Leaf(*leaf),
+            Command::Start(leaf) => Aim::Leaf(*leaf),
+            Command::Rollover(_) => Aim::Leaves,
+        }
+    }
 }
 
 /// The commands of a script, in their order. Contracts see them as the list.

@@ -8,8 +8,8 @@ ghost use Rattle.script_text.specs.Script.{ParsesAs};
 use crate::command::Command;
 use crate::fault::{ScriptFault, Why, fault_at};
 use crate::fleet::Fleet;
+use crate::line_word::is_word;
 use crate::target::leaf_in;
-use crate::verb::is_word;
 use crate::words::{next_word, number_of};
 
 /// The most steps after which a drain is stopped.

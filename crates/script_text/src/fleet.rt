@@ -3,12 +3,12 @@ ghost use Rattle.std.specs.Prelude.{◌≡◌, ◌&&◌, ◌<◌, ◌^◌, lengt
 ghost use Rattle.std.specs.Str.{IsUtf8};
 ghost use Rattle.leaf_model.specs.Names.{is_table_name, is_among};
 ghost use Rattle.script_text.specs.Words.{words_of, first_word, may_follow, are_tables};
-ghost use Rattle.script_text.specs.Commands.{IsFleet, first_command, fleet_of, leaf_count, leaves_in_range, or_words, verb_of};
+ghost use Rattle.script_text.specs.Commands.{IsFleet, first_command, fleet_of, leaf_count, leaves_in_range, or_words, line_word_of};
 ghost use Rattle.script_text.specs.Fits.{AreLeaves, AreTables};
 ghost use Rattle.script_text.specs.Script.{ParsesAs};
 
 use crate::fault::{ScriptFault, Why, fault_at};
-use crate::verb::{Verb, verb_of};
+use crate::line_word::{LineWord, line_word_of};
 use crate::words::{cut_word, next_word, number_of, place_of};
 use leaf_model::{Names, Text, is_table_name};
 use std::alloc::{AllocError, Global};
@@ -47,14 +47,14 @@ struct Sizes<'a> {
 
 /// The fleet that a line is, where no fleet was read before it.
 pub fn first_command(alloc: Global, line: &[u8], number: u64) -> Result<Fleet, ScriptFault>
-    ensures exact { ParsesAs (λ fleet. fleet) result (first_command number line.now (verb_of (first_word line.now))) }
+    ensures exact { ParsesAs (λ fleet. fleet) result (first_command number line.now (line_word_of (first_word line.now))) }
     ensures is_fleet { IfOk result IsFleet }
 {
     let (word, words) = cut_word(line);
-    match verb_of(word) {
+    match line_word_of(word) {
         None => Err(fault_at(number, Why::Command)),
-        Some(Verb::Fleet) => read_fleet(alloc, words, number),
-        Some(Verb::Burst | Verb::Lane | Verb::End | Verb::Task(_)) => {
+        Some(LineWord::Fleet) => read_fleet(alloc, words, number),
+        Some(LineWord::Burst | LineWord::Lane | LineWord::End | LineWord::Command(_)) => {
             Err(fault_at(number, Why::NoFleet))
         }
     }

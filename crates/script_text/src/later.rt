@@ -14,46 +14,46 @@ use crate::fault::{ScriptFault, Why, fault_at};
 use crate::fleet::Fleet;
 use crate::flush::flush;
 use crate::keep::keep;
+use crate::line_word::CommandWord;
 use crate::query::query;
 use crate::rollover::rollover;
 use crate::target::leaf_in;
-use crate::verb::Task;
 use crate::words::{next_word, number_of, trimmed};
 use std::alloc::Global;
 use std::thread::Threads;
 
-/// The command that a task is with the words behind it, on the line of this number, where this text follows.
+/// The command of this first word with the words behind it, on the line of this number, where this text follows.
 pub fn command<R: Threads + Sync>(
     rt: &R,
     alloc: Global,
     fleet: &Fleet,
-    task: Task,
+    word: CommandWord,
     words: &[u8],
     number: u64,
     after: &[u8],
 ) -> Result<Command, ScriptFault>
     requires fleet { IsFleet fleet.now }
     requires place { number + length after.now < 2 ^ 64 }
-    ensures exact { ParsesAs (λ c. c) result (command_of number fleet.now task words.now (lines_of after.now)) }
+    ensures exact { ParsesAs (λ c. c) result (command_of number fleet.now word words.now (lines_of after.now)) }
     ensures is_command { IfOk result (IsCommand (leaf_count fleet.now) fleet.now.names) }
     ensures enough { IfOk result (λ c. row_count c ≤ length (lines_of after.now)) }
 {
-    match task {
-        Task::Add => add(rt, alloc, fleet, words, number, after),
-        Task::Expire => expire(fleet, words, number),
-        Task::Keep => keep(fleet, words, number),
-        Task::Query => query(alloc, fleet, trimmed(words), number),
-        Task::Flush => flush(fleet, words, number),
-        Task::Drain => drain(fleet, words, number),
-        Task::Kill => {
+    match word {
+        CommandWord::Add => add(rt, alloc, fleet, words, number, after),
+        CommandWord::Expire => expire(fleet, words, number),
+        CommandWord::Keep => keep(fleet, words, number),
+        CommandWord::Query => query(alloc, fleet, trimmed(words), number),
+        CommandWord::Flush => flush(fleet, words, number),
+        CommandWord::Drain => drain(fleet, words, number),
+        CommandWord::Kill => {
             let leaf = leaf_of(fleet, words, number)?;
             Ok(Command::Kill(leaf))
         }
-        Task::Start => {
+        CommandWord::Start => {
             let leaf = leaf_of(fleet, words, number)?;
             Ok(Command::Start(leaf))
         }
-        Task::Rollover => rollover(words, number),
+        CommandWord::Rollover => rollover(words, number),
     }
 }
 

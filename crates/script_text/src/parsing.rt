@@ -11,7 +11,7 @@ use crate::fault::{ScriptFault, Why, fault_at};
 use crate::fleet::{Fleet, first_command};
 use crate::item::{Item, Items};
 use crate::lines::{cut_line, cut_lines, is_skipped, without_return};
-use crate::reading::{Reading, Standing, read_line};
+use crate::reading::{Position, Reading, read_line};
 use crate::script::Script;
 use std::alloc::{AllocError, Global};
 use std::thread::Threads;
@@ -100,17 +100,17 @@ fn begun(alloc: Global, fleet: &Fleet, fleet_line: u64) -> Result<Reading, Alloc
     };
     Ok(Reading {
         script,
-        standing: Standing::Outside,
+        position: Position::Outside,
     })
 }
 
 /// The script, where the last line leaves no burst open.
 fn closed(last: u64, reading: Reading) -> Result<Script, ScriptFault>
-    ensures exact { ParsesAs (λ script. script) result (closed last reading.script reading.standing) }
+    ensures exact { ParsesAs (λ script. script) result (closed last reading.script reading.position) }
 {
-    match reading.standing {
-        Standing::Outside => Ok(reading.script),
-        Standing::Opened | Standing::Lane { .. } => Err(fault_at(last, Why::Place)),
+    match reading.position {
+        Position::Outside => Ok(reading.script),
+        Position::Opened | Position::Lane { .. } => Err(fault_at(last, Why::Place)),
     }
 }
 

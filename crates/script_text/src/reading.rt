@@ -1,22 +1,22 @@
 // What was read of a script, and what one line more does to it.
 ghost use Rattle.std.specs.Prelude.{◌≡◌, ◌+◌, ◌++◌, ◌<◌, ◌≤◌, ◌^◌, [], ◌∷◌, IfOk, length};
 ghost use Rattle.script_text.specs.declared.fleet.Fleet.{Fleet};
-ghost use Rattle.script_text.specs.declared.reading.Standing.TheVariants as standing;
+ghost use Rattle.script_text.specs.declared.reading.Position.TheVariants as position;
 ghost use Rattle.script_text.specs.Lines.{lines_of};
 ghost use Rattle.script_text.specs.Commands.{IsFleet, command_of, row_count};
-ghost use Rattle.script_text.specs.Bursts.{fault_inside, next_burst, next_lane, end_burst, lane_more, step_of, stepped, verb_at, with_item};
+ghost use Rattle.script_text.specs.Bursts.{fault_inside, next_burst, next_lane, end_burst, lane_more, step_of, stepped, line_at, with_item};
 ghost use Rattle.script_text.specs.Readings.{IsReading};
 ghost use Rattle.script_text.specs.Script.{ParsesAs};
 
 use crate::command::{Command, Commands};
+use crate::earlier::EarlierLanes;
 use crate::fault::{ScriptFault, Why, fault_at};
 use crate::fleet::Fleet;
-use crate::item::{Item, Items, LaneList};
+use crate::item::{Item, Items};
 use crate::later::command;
+use crate::line_word::{CommandWord, LineWord, line_word_of};
 use crate::lines::is_blank;
 use crate::script::Script;
-use crate::steward::is_second;
-use crate::verb::{Task, Verb, verb_of};
 use crate::words::cut_word;
 use std::alloc::{AllocError, Global};
 use std::thread::Threads;
@@ -26,19 +26,22 @@ const MAX_LANES: usize = 16;
 
 /// Where a line stands.
 #[derive(Drop)]
-pub enum Standing {
+pub enum Position {
     Outside,
     /// In a burst before its first lane.
     Opened,
     /// In the last of a burst's lanes so far.
-    Lane { earlier: LaneList, lane: Commands },
+    Lane {
+        earlier: EarlierLanes,
+        lane: Commands,
+    },
 }
 
 /// What was read, and where the next line stands.
 #[derive(Drop)]
 pub struct Reading {
     pub script: Script,
-    pub standing: Standing,
+    pub position: Position,
 }
 
 /// What was read with a line, and how many rows the line takes from those after it.
@@ -48,11 +51,11 @@ pub struct Step {
     pub rows: u64,
 }
 
-/// A line with a command: its number, what it is, the words behind the first, and the text after the line.
+/// A line with a command: its number, its first word, the words behind that, and the text after the line.
 #[derive(Clone, Copy)]
 struct CommandLine<'a> {
     number: u64,
-    verb: Verb,
+    word: LineWord,
     words: &'a [u8],
     after: &'a [u8],
 }
@@ -75,21 +78,21 @@ pub fn read_line<'a, R: Threads + Sync>(
     ensures is_reading { IfOk result (λ step. IsReading fleet.now step.reading) }
     ensures enough { IfOk result (λ step. step.rows ≤ length (lines_of after.now)) }
 {
-    let (word, words) = cut_word(bytes);
-    let Some(verb) = verb_of(word) else {
+    let (first, words) = cut_word(bytes);
+    let Some(word) = line_word_of(first) else {
         return Err(fault_at(number, Why::Command));
     };
     let line = CommandLine {
         number,
-        verb,
+        word,
         words,
         after,
     };
-    let Reading { script, standing } = reading;
-    match standing {
-        Standing::Outside => outside(rt, alloc, fleet, last, script, &line),
-        Standing::Opened => opened(alloc, last, script, &line),
-        Standing::Lane { earlier, lane } => in_lane(
+    let Reading { script, position } = reading;
+    match position {
+        Position::Outside => outside(rt, alloc, fleet, last, script, &line),
+        Position::Opened => opened(alloc, last, script, &line),
+        Position::Lane { earlier, lane } => in_lane(
             rt, alloc, fleet, last, script, earlier, lane, &line,
         ),
     }
@@ -106,37 +109,37 @@ fn outside<R: Threads + Sync>(
 ) -> Result<Step, ScriptFault>
     requires fleet { IsFleet fleet.now }
     requires place { line.now.number + length line.now.after.now < 2 ^ 64 }
-    requires reading { IsReading fleet.now (record { script = script; standing = standing.Outside }) }
-    ensures exact { ParsesAs (λ step. step) result (verb_at last line.now.number fleet.now script standing.Outside line.now.words.now (lines_of line.now.after.now) line.now.verb) }
+    requires reading { IsReading fleet.now (record { script = script; position = position.Outside }) }
+    ensures exact { ParsesAs (λ step. step) result (line_at last line.now.number fleet.now script position.Outside line.now.words.now (lines_of line.now.after.now) line.now.word) }
     ensures is_reading { IfOk result (λ step. IsReading fleet.now step.reading) }
     ensures enough { IfOk result (λ step. step.rows ≤ length (lines_of line.now.after.now)) }
 {
-    match line.verb {
-        Verb::Fleet | Verb::Lane | Verb::End => Err(fault_at(line.number, Why::Place)),
-        Verb::Burst => match next_burst(line.number, script, line.words) {
+    match line.word {
+        LineWord::Fleet | LineWord::Lane | LineWord::End => Err(fault_at(line.number, Why::Place)),
+        LineWord::Burst => match next_burst(line.number, script, line.words) {
             Ok(step) => Ok(step),
             Err(fault) => Err(fault_inside(last, fault)),
         },
-        Verb::Task(task) => {
-            let command = command(rt, alloc, fleet, task, line.words, line.number, line.after)?;
+        LineWord::Command(word) => {
+            let command = command(rt, alloc, fleet, word, line.words, line.number, line.after)?;
             let rows = row_count(&command);
             let script = with_item(script, Item::One(command))?;
-            Ok(stepped(script, Standing::Outside, rows))
+            Ok(stepped(script, Position::Outside, rows))
         }
     }
 }
 
 /// What is read with a line of a burst before its first lane.
 fn opened(alloc: Global, last: u64, script: Script, line: &CommandLine) -> Result<Step, ScriptFault>
-    ensures exact { (fleet : Fleet) → ParsesAs (λ step. step) result (verb_at last line.now.number fleet script standing.Opened line.now.words.now (lines_of line.now.after.now) line.now.verb) }
+    ensures exact { (fleet : Fleet) → ParsesAs (λ step. step) result (line_at last line.now.number fleet script position.Opened line.now.words.now (lines_of line.now.after.now) line.now.word) }
     ensures no_rows { IfOk result (λ step. step.rows ≡ 0) }
 {
-    match line.verb {
-        Verb::Fleet | Verb::Burst | Verb::End | Verb::Task(_) => {
+    match line.word {
+        LineWord::Fleet | LineWord::Burst | LineWord::End | LineWord::Command(_) => {
             Err(fault_at(line.number, Why::Place))
         }
-        Verb::Lane => {
-            let lanes = LaneList::of(Vec::new(alloc));
+        LineWord::Lane => {
+            let lanes = EarlierLanes::new(alloc);
             match next_lane(alloc, line.number, script, lanes, line.words) {
                 Ok(step) => Ok(step),
                 Err(fault) => Err(fault_inside(last, fault)),
@@ -152,32 +155,32 @@ fn in_lane<R: Threads + Sync>(
     fleet: &Fleet,
     last: u64,
     script: Script,
-    earlier: LaneList,
+    earlier: EarlierLanes,
     lane: Commands,
     line: &CommandLine,
 ) -> Result<Step, ScriptFault>
     requires fleet { IsFleet fleet.now }
     requires place { line.now.number + length line.now.after.now < 2 ^ 64 }
-    requires reading { IsReading fleet.now (record { script = script; standing = standing.Lane earlier lane }) }
-    ensures exact { ParsesAs (λ step. step) result (verb_at last line.now.number fleet.now script (standing.Lane earlier lane) line.now.words.now (lines_of line.now.after.now) line.now.verb) }
+    requires reading { IsReading fleet.now (record { script = script; position = position.Lane earlier lane }) }
+    ensures exact { ParsesAs (λ step. step) result (line_at last line.now.number fleet.now script (position.Lane earlier lane) line.now.words.now (lines_of line.now.after.now) line.now.word) }
     ensures is_reading { IfOk result (λ step. IsReading fleet.now step.reading) }
     ensures enough { IfOk result (λ step. step.rows ≤ length (lines_of line.now.after.now)) }
 {
-    match line.verb {
-        Verb::Fleet | Verb::Burst => Err(fault_at(line.number, Why::Place)),
-        Verb::Lane => {
-            let lanes = with_lane(earlier, lane)?;
+    match line.word {
+        LineWord::Fleet | LineWord::Burst => Err(fault_at(line.number, Why::Place)),
+        LineWord::Lane => {
+            let lanes = earlier.with_lane(lane)?;
             match next_lane(alloc, line.number, script, lanes, line.words) {
                 Ok(step) => Ok(step),
                 Err(fault) => Err(fault_inside(last, fault)),
             }
         }
-        Verb::End => {
-            let lanes = with_lane(earlier, lane)?;
+        LineWord::End => {
+            let lanes = earlier.with_lane(lane)?;
             end_burst(line.number, script, lanes, line.words)
         }
-        Verb::Task(task) => {
-            match task_in_lane(rt, alloc, fleet, script, earlier, lane, task, line) {
+        LineWord::Command(word) => {
+            match command_in_lane(rt, alloc, fleet, script, earlier, lane, word, line) {
                 Ok(step) => Ok(step),
                 Err(fault) => Err(fault_inside(last, fault)),
             }
@@ -186,30 +189,30 @@ fn in_lane<R: Threads + Sync>(
 }
 
 /// What is read with a command of a burst's lane.
-fn task_in_lane<R: Threads + Sync>(
+fn command_in_lane<R: Threads + Sync>(
     rt: &R,
     alloc: Global,
     fleet: &Fleet,
     script: Script,
-    earlier: LaneList,
+    earlier: EarlierLanes,
     lane: Commands,
-    task: Task,
+    word: CommandWord,
     line: &CommandLine,
 ) -> Result<Step, ScriptFault>
     requires fleet { IsFleet fleet.now }
     requires place { line.now.number + length line.now.after.now < 2 ^ 64 }
-    requires reading { IsReading fleet.now (record { script = script; standing = standing.Lane earlier lane }) }
-    ensures exact { ParsesAs (λ step. step) result (lane_more line.now.number script earlier lane (command_of line.now.number fleet.now task line.now.words.now (lines_of line.now.after.now))) }
+    requires reading { IsReading fleet.now (record { script = script; position = position.Lane earlier lane }) }
+    ensures exact { ParsesAs (λ step. step) result (lane_more line.now.number script earlier lane (command_of line.now.number fleet.now word line.now.words.now (lines_of line.now.after.now))) }
     ensures is_reading { IfOk result (λ step. IsReading fleet.now step.reading) }
     ensures enough { IfOk result (λ step. step.rows ≤ length (lines_of line.now.after.now)) }
 {
-    let command = command(rt, alloc, fleet, task, line.words, line.number, line.after)?;
-    if is_second(earlier.as_slice(), &command) {
+    let command = command(rt, alloc, fleet, word, line.words, line.number, line.after)?;
+    if earlier.has_second(&command) {
         return Err(fault_at(line.number, Why::TwoStewards));
     }
     let rows = row_count(&command);
     let lane = with_command(lane, command)?;
-    Ok(stepped(script, Standing::Lane { earlier, lane }, rows))
+    Ok(stepped(script, Position::Lane { earlier, lane }, rows))
 }
 
 /// A burst that begins on the line of this number.
@@ -220,7 +223,7 @@ fn next_burst(number: u64, script: Script, words: &[u8]) -> Result<Step, ScriptF
     if !is_blank(words) {
         return Err(fault_at(number, Why::Words));
     }
-    Ok(stepped(script, Standing::Opened, 0))
+    Ok(stepped(script, Position::Opened, 0))
 }
 
 /// One more lane behind these.
@@ -228,7 +231,7 @@ fn next_lane(
     alloc: Global,
     number: u64,
     script: Script,
-    lanes: LaneList,
+    lanes: EarlierLanes,
     words: &[u8],
 ) -> Result<Step, ScriptFault>
     ensures exact { ParsesAs (λ step. step) result (next_lane number script lanes words.now) }
@@ -242,14 +245,14 @@ fn next_lane(
     }
     let lane = Commands::of(Vec::new(alloc));
     let earlier = lanes;
-    Ok(stepped(script, Standing::Lane { earlier, lane }, 0))
+    Ok(stepped(script, Position::Lane { earlier, lane }, 0))
 }
 
 /// The end of a burst of these lanes.
 fn end_burst(
     number: u64,
     script: Script,
-    lanes: LaneList,
+    lanes: EarlierLanes,
     words: &[u8],
 ) -> Result<Step, ScriptFault>
     ensures exact { ParsesAs (λ step. step) result (end_burst number script lanes words.now) }
@@ -258,16 +261,16 @@ fn end_burst(
     if !is_blank(words) {
         return Err(fault_at(number, Why::Words));
     }
-    let script = with_item(script, Item::Burst(lanes))?;
-    Ok(stepped(script, Standing::Outside, 0))
+    let script = with_item(script, Item::Burst(lanes.into_lanes()))?;
+    Ok(stepped(script, Position::Outside, 0))
 }
 
 /// What was read, where the next line stands there, behind so many rows.
-fn stepped(script: Script, standing: Standing, rows: u64) -> Step
-    ensures { result ≡ stepped script standing rows }
+fn stepped(script: Script, position: Position, rows: u64) -> Step
+    ensures { result ≡ stepped script position rows }
 {
     Step {
-        reading: Reading { script, standing },
+        reading: Reading { script, position },
         rows,
     }
 }
@@ -282,15 +285,6 @@ fn with_item(script: Script, item: Item) -> Result<Script, AllocError>
         fleet_line: script.fleet_line,
         items: Items::of(items),
     })
-}
-
-/// The lanes, and one more.
-fn with_lane(lanes: LaneList, lane: Commands) -> Result<LaneList, AllocError>
-    ensures { IfOk result (λ more. more ≡ lanes ++ lane ∷ []) }
-{
-    let mut lanes = lanes.into_inner();
-    lanes.push(lane)?;
-    Ok(LaneList::of(lanes))
 }
 
 /// The commands of a lane, and one more.
@@ -322,16 +316,8 @@ fn fault_inside(last: u64, fault: ScriptFault) -> ScriptFault
 fn row_count(command: &Command) -> u64
     ensures { result ≡ row_count command.now }
 {
-    match command {
-        Command::Add { rows, .. } => rows.as_slice().len() as u64,
-        Command::Fleet { .. } => 0,
-        Command::Expire { .. } => 0,
-        Command::Keep { .. } => 0,
-        Command::Query(_) => 0,
-        Command::Flush { .. } => 0,
-        Command::Drain { .. } => 0,
-        Command::Kill(_) => 0,
-        Command::Start(_) => 0,
-        Command::Rollover(_) => 0,
-    }
+    let Command::Add { rows, .. } = command else {
+        return 0;
+    };
+    rows.as_slice().len() as u64
 }

@@ -109,12 +109,4 @@ module _ {B : Type 0} (meaning : B → Meaning) (fleet : Fleet) (known : ℕ →
       (All-weaken (IsBelow (leaf_count fleet) table (length fleet.names)) (λ (l : ℕ × ℕ). grounds_in ys l.0 table ≡ grounds_of fleet known l.0 table)
       (λ l is. ground_is l.0 table is.0 is.1) (named pieces) (query_named fleet q pieces prints within)) in
       subst (λ (rows : List Row). AllByRecursion (AnswerIs q rows) pieces) same answers
-  answers_known (command.Fleet machines per_machine tables) histories prints within answers = tt
-  answers_known (command.Add leaf table rows) histories prints within answers = tt
-  answers_known (command.Expire leaf table horizon) histories prints within answers = tt
-  answers_known (command.Keep leaf table n) histories prints within answers = tt
-  answers_known (command.Flush leaf table) histories prints within answers = tt
-  answers_known (command.Drain leaf stop) histories prints within answers = tt
-  answers_known (command.Kill leaf) histories prints within answers = tt
-  answers_known (command.Start leaf) histories prints within answers = tt
-  answers_known (command.Rollover percent) histories prints within answers = tt
+  answers_known _ histories prints within answers = tt

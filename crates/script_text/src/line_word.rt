@@ -1,11 +1,11 @@
-// The first words of commands.
+// The first words of lines.
 ghost use Rattle.std.specs.Prelude.{◌≡◌};
 ghost use Rattle.std.specs.Str.{bytes_eq};
-ghost use Rattle.script_text.specs.Commands.{task_of, verb_of};
+ghost use Rattle.script_text.specs.Commands.{command_word_of, line_word_of};
 
-/// What a command behind a fleet is to do.
+/// The first word of a command behind a fleet.
 #[derive(Clone, Copy, PartialEq, Eq)]
-pub enum Task {
+pub enum CommandWord {
     Add,
     Expire,
     Keep,
@@ -17,58 +17,58 @@ pub enum Task {
     Rollover,
 }
 
-/// What a line with a command is.
+/// The first word of a line.
 #[derive(Clone, Copy, PartialEq, Eq)]
-pub enum Verb {
+pub enum LineWord {
     Fleet,
     Burst,
     Lane,
     End,
-    Task(Task),
+    Command(CommandWord),
 }
 
-/// The verb that a word is.
-pub fn verb_of(word: &[u8]) -> Option<Verb>
-    ensures { result ≡ verb_of word.now }
+/// The line whose first word a word is.
+pub fn line_word_of(word: &[u8]) -> Option<LineWord>
+    ensures { result ≡ line_word_of word.now }
 {
     if is_word(word, "fleet") {
-        Some(Verb::Fleet)
+        Some(LineWord::Fleet)
     } else if is_word(word, "burst") {
-        Some(Verb::Burst)
+        Some(LineWord::Burst)
     } else if is_word(word, "lane") {
-        Some(Verb::Lane)
+        Some(LineWord::Lane)
     } else if is_word(word, "end") {
-        Some(Verb::End)
+        Some(LineWord::End)
     } else {
-        match task_of(word) {
-            Some(task) => Some(Verb::Task(task)),
+        match command_word_of(word) {
+            Some(command) => Some(LineWord::Command(command)),
             None => None,
         }
     }
 }
 
-/// The task that a word is.
-fn task_of(word: &[u8]) -> Option<Task>
-    ensures { result ≡ task_of word.now }
+/// The command whose first word a word is.
+fn command_word_of(word: &[u8]) -> Option<CommandWord>
+    ensures { result ≡ command_word_of word.now }
 {
     if is_word(word, "add") {
-        Some(Task::Add)
+        Some(CommandWord::Add)
     } else if is_word(word, "expire") {
-        Some(Task::Expire)
+        Some(CommandWord::Expire)
     } else if is_word(word, "keep") {
-        Some(Task::Keep)
+        Some(CommandWord::Keep)
     } else if is_word(word, "query") {
-        Some(Task::Query)
+        Some(CommandWord::Query)
     } else if is_word(word, "flush") {
-        Some(Task::Flush)
+        Some(CommandWord::Flush)
     } else if is_word(word, "drain") {
-        Some(Task::Drain)
+        Some(CommandWord::Drain)
     } else if is_word(word, "kill") {
-        Some(Task::Kill)
+        Some(CommandWord::Kill)
     } else if is_word(word, "start") {
-        Some(Task::Start)
+        Some(CommandWord::Start)
     } else if is_word(word, "rollover") {
-        Some(Task::Rollover)
+        Some(CommandWord::Rollover)
     } else {
         None
     }

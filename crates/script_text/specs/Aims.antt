@@ -1,0 +1,63 @@
+-- Whom a command is for.
+use Rattle.std.specs.Prelude.{◌<◌, ◌==◌, ℕ, List, length, Bool, true, false, ⊤}
+use Rattle.std.specs.List.{Contains, list_any}
+use Rattle.script_text.specs.declared.command.Aim as lent
+use Rattle.script_text.specs.declared.command.Aim.TheVariants as aim
+use Rattle.script_text.specs.declared.command.Command.{Command}
+use Rattle.script_text.specs.declared.command.Command.TheVariants as command
+use Rattle.script_text.specs.Stewards.{has_steward, has_stewards}
+
+-- the fleet that it begins; callers of the table in this place; callers of the table of this name at every leaf; the steward of this leaf; the steward of each leaf
+pub data Aim : Type 0 where
+  AtFleet : Aim
+  AtTable : (table : ℕ) → Aim
+  AtNamed : (name : List ℕ) → Aim
+  AtLeaf : (leaf : ℕ) → Aim
+  AtLeaves : Aim
+
+-- the one place that tells whom each command is for
+abbrev pub aim_of : Command → Aim
+aim_of (command.Fleet machines per_machine tables) = AtFleet
+aim_of (command.Add leaf table rows) = AtTable table
+aim_of (command.Expire leaf table horizon) = AtTable table
+aim_of (command.Keep leaf table n) = AtTable table
+aim_of (command.Query q) = AtNamed q.table
+aim_of (command.Flush leaf table) = AtLeaf leaf
+aim_of (command.Drain leaf stop) = AtLeaf leaf
+aim_of (command.Kill leaf) = AtLeaf leaf
+aim_of (command.Start leaf) = AtLeaf leaf
+aim_of (command.Rollover percent) = AtLeaves
+
+-- the same, with a name that is lent
+abbrev pub aim_in : lent.Aim → Aim
+aim_in aim.Fleet = AtFleet
+aim_in (aim.Table table) = AtTable table
+aim_in (aim.Named name) = AtNamed name.now
+aim_in (aim.Leaf leaf) = AtLeaf leaf
+aim_in aim.Leaves = AtLeaves
+
+-- the leaf and the table are ones of a fleet of so many leaves with these tables, which stands already
+abbrev pub IsAim : ℕ → List (List ℕ) → Aim → Type 0
+IsAim leaves tables AtFleet = ⊥
+IsAim leaves tables (AtTable table) = table < length tables
+IsAim leaves tables (AtNamed name) = Contains tables name
+IsAim leaves tables (AtLeaf leaf) = leaf < leaves
+IsAim leaves tables AtLeaves = ⊤
+
+-- it is for this leaf's steward
+abbrev pub is_for_steward : ℕ → Aim → Bool
+is_for_steward leaf (AtLeaf number) = number == leaf
+is_for_steward leaf AtLeaves = true
+is_for_steward leaf _ = false
+
+-- it is for some leaf's steward
+abbrev pub is_for_some_steward : Aim → Bool
+is_for_some_steward (AtLeaf number) = true
+is_for_some_steward AtLeaves = true
+is_for_some_steward _ = false
+
+-- one of these lanes has another command for a steward that it is for
+abbrev pub is_second_for : List (List Command) → Aim → Bool
+is_second_for lanes (AtLeaf leaf) = list_any (has_steward leaf) lanes
+is_second_for lanes AtLeaves = list_any has_stewards lanes
+is_second_for lanes _ = false
