@@ -11,16 +11,16 @@ use Rattle.region_layout.proofs.Heads.{closed_head}
 use Rattle.region_directory.specs.declared.directory.TablePlaces.{TablePlaces}
 use Rattle.region_directory.specs.Region.{IsAdoptable, image_of_parts, parts_in}
 use Rattle.region_directory.proofs.Images.{same_directory}
-use Rattle.adopt.specs.Adopting.{HasNoStranger, IsStranger, stranger_of}
+use Rattle.adopt.specs.Adopting.{HasNoStranger, stranger_of}
 
 -- ---- images of tables with these names
 
+among : (before : List (List ℕ)) (name : List ℕ) (after : List (List ℕ)) → list_any (bytes_eq name) (before ++ name ∷ after) ≡ true
+among [] name after = or_left (bytes_eq name name) (list_any (bytes_eq name) after) ((bytes_eq-Decides name name).1 refl)
+among (n ∷ ns) name after = or_right (bytes_eq name n) (list_any (bytes_eq name) (ns ++ name ∷ after)) (among ns name after)
+
 is_among : (names before : List (List ℕ)) (name : List ℕ) (after : List (List ℕ)) → names ≡ before ++ name ∷ after → list_any (bytes_eq name) names ≡ true
-is_among names before name after is = subst (λ (ns : List (List ℕ)). list_any (bytes_eq name) ns ≡ true) (sym is) (among before)
-  where
-    among : (ns : List (List ℕ)) → list_any (bytes_eq name) (ns ++ name ∷ after) ≡ true
-    among [] = or_left (bytes_eq name name) (list_any (bytes_eq name) after) ((bytes_eq-Decides name name).1 refl)
-    among (n ∷ ns) = or_right (bytes_eq name n) (list_any (bytes_eq name) (ns ++ name ∷ after)) (among ns)
+is_among names before name after is = subst (λ (ns : List (List ℕ)). list_any (bytes_eq name) ns ≡ true) (sym is) (among before name after)
 
 known : (b : Bool) (name : List ℕ) (others : Option (List ℕ)) → b ≡ true → cond (not b) (Some name) others ≡ others
 known true name others e = refl

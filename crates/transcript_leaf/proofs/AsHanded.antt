@@ -2,7 +2,6 @@
 use Rattle.std.proofs.Common.{◌≡◌, ◌∙◌, inl, inr, ℕ, ◌≤◌, List, [], ◌∷◌, ◌++◌, length, take, min, refl, sym, ap, subst, arith, length-append}
 use Rattle.berth_face.specs.Berth.{Meaning}
 use Rattle.row_records.specs.Records.{LogRecord}
-use Rattle.region_layout.specs.Region.{IsClosed}
 use Rattle.region_layout.proofs.Heads.{closed_head}
 use Rattle.adopt.specs.Adopting.{IsBroken, IsLeftBehind, IsStranger}
 use Rattle.adopt.proofs.Heads.{untouched}

@@ -127,15 +127,13 @@ module _ (names : List (List ℕ)) (disk : List ℕ) (leaf : ℕ) (none more : L
 
   strangers_between : (region : List ℕ) (before : List Piece) → Strangers names disk leaf region (before ++ more) → Strangers names disk leaf region (before ++ (none ++ more))
   strangers_between region [] h = strangers_past region none apart h
-  strangers_between region (Acted l d ns e ∷ ps) h = by (l == leaf) h
+  strangers_between region (Acted l d ns e ∷ ps) h = by (l == leaf) h (λ now k. strangers_between now ps k)
     where
       by : (b : Bool) → MatchBool b (FitsStrangers names region disk e × Behind e region (λ now. Strangers names disk leaf now (ps ++ more))) (Strangers names disk leaf region (ps ++ more))
+          → ((now : List ℕ) → Strangers names disk leaf now (ps ++ more) → Strangers names disk leaf now (ps ++ (none ++ more)))
           → MatchBool b (FitsStrangers names region disk e × Behind e region (λ now. Strangers names disk leaf now (ps ++ (none ++ more)))) (Strangers names disk leaf region (ps ++ (none ++ more)))
-      by true g = (
-        g.0,
-        behind_on e region (λ now. Strangers names disk leaf now (ps ++ more)) (λ now. Strangers names disk leaf now (ps ++ (none ++ more))) (λ now k. strangers_between now ps k) g.1,
-      )
-      by false g = strangers_between region ps g
+      by true g go = (g.0, behind_on e region (λ now. Strangers names disk leaf now (ps ++ more)) (λ now. Strangers names disk leaf now (ps ++ (none ++ more))) go g.1)
+      by false g go = go region g
   strangers_between region (Called l t c n said ∷ ps) h = strangers_between region ps h
   strangers_between region (Worn l t ∷ ps) h = strangers_between region ps h
   strangers_between region (Says line ∷ ps) h = strangers_between region ps h

@@ -1,6 +1,6 @@
 -- What a leaf that was up owns stays its own, deed by deed.
-use Rattle.std.proofs.Common.{◌≡◌, ◌⊎◌, inl, inr, ◌∙◌, ℕ, zero, suc, Bool, true, false, List, [], ◌∷◌, length, map, Option, Some, None, refl, sym, ap, subst, arith}
-use Rattle.std.specs.Prelude.{◌≢◌, IfSome, IsTrue, is_some}
+use Rattle.std.proofs.Common.{◌≡◌, ◌⊎◌, inl, inr, ◌∙◌, ℕ, zero, suc, Bool, true, List, [], ◌∷◌, length, map, Option, refl, sym, ap, subst, arith}
+use Rattle.std.specs.Prelude.{◌≢◌, IsTrue}
 use Rattle.berth_face.specs.Berth.{Meaning, Pair}
 use Rattle.region_layout.proofs.Heads.{shut_head}
 use Rattle.adopt.specs.Adopting.{HasNoStranger, IsStranger}
@@ -23,12 +23,10 @@ use Rattle.printed_lines.specs.declared.line.Ending.{Ending}
 use Rattle.printed_lines.specs.declared.line.Ending.TheVariants as ending
 use Rattle.transcript.specs.Pieces.{Deed, Noted, Starts, Flushes, Drains, Kills}
 use Rattle.transcript.specs.Life.{Does, Life, OfStart}
-use Rattle.leaf_moves.specs.Stage.{IsDown, IsUp, Leaf, ServingStands, Stands, StandsOn, seated_of}
-use Rattle.leaf_moves.specs.Steps.{DrainMoves, FlushMoves, KillMoves, Moves, RefusalTold, RegionStopped, StartMoves, ending_of}
-use Rattle.transcript.specs.Transcript.{Known}
-use Rattle.transcript_leaf.specs.Session.{AreInPlace, IsOwn, StandsKnown}
+use Rattle.leaf_moves.specs.Stage.{IsDown, IsUp, Leaf, Stands, StandsOn, seated_of}
+use Rattle.leaf_moves.specs.Steps.{DrainMoves, FlushMoves, KillMoves, Moves, RefusalTold, RegionStopped, StartMoves}
+use Rattle.transcript_leaf.specs.Session.{AreInPlace, IsOwn}
 use Rattle.transcript_leaf.proofs.AsHanded.{read_named, refused_breaks}
-use Rattle.transcript_leaf.proofs.Lists.{clash_bool}
 use Rattle.transcript_leaf.proofs.Named.{begun_of, drain_begun, flush_begun, kill_begun, never_started}
 use Rattle.transcript_leaf.proofs.Owning.{broken_own, closed_own, no_stranger}
 use Rattle.transcript_leaf.proofs.Standing.{as_many}
