@@ -4,8 +4,8 @@ use Rattle.transcript.specs.Pieces.{place_among}
 use Rattle.bursts.proofs.Needed.{aimed_within, place_below}
 use Rattle.bursts.proofs.plan.Needs.mark.Goals as goal
 
-pub index_mut-requires-in-Table : goal.index_mut-requires-in-Table
-index_mut-requires-in-Table g c =
+pub index_mut-requires : goal.index_mut-requires
+index_mut-requires g c =
     let is : AtTable c.in-Table.table ≡ aim_of c.args.command.now = ap aim_in (sym c.in-Table.is) ∙ c.aim.ensures in
     let below = aimed_within c.args.crew.now.fleet c.args.command.now (AtTable c.in-Table.table) is c.requires.command in
     omega (arith, below, c.requires.places.tables, c.args.self.now.tables.ok.0)
