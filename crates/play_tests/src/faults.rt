@@ -10,7 +10,7 @@ use std::thread::Threads;
 const LOG: [u8; 41] = [
     1, // an open gate
     31, 0, 0, 0, 0, 0, 0, 0, // length of the record
-    1, 6, 0x65, 0x72, 0x72, 0x6f, 0x72, 0x73, // kind and name
+    2, 6, 0x65, 0x72, 0x72, 0x6f, 0x72, 0x73, // kind and name
     1, 0, 0, 0, 0, 0, 0, 0, // writes
     1, 1, 0, 0, 0, // an add of one row
     1, 0, 0, 0, 0, 0, 0, 0, 0, 0, // the row
@@ -119,8 +119,8 @@ fn each_failing_call_is_told(rt: HostRuntime) -> Result<(), Fail> {
                 &rt,
                 "a play that is done",
             );
-            assert_eq!(rt; lines.as_str(), want, "at {method:?} {count}");
-            assert_eq!(rt; left.disk(), disk, "at {method:?} {count}");
+            assert_eq!(rt; lines.as_str(), want, "at call {count} of its kind");
+            assert_eq!(rt; left.disk(), disk, "at call {count} of its kind");
         }
     }
     Ok(())

@@ -78,7 +78,7 @@ fn a_crash_leaves_no_image_before_the_last_step(rt: HostRuntime) -> Result<(), F
         let whole = whole_images(alloc, &berth, &names, from, *moments)?;
         // The flag that was written and the region afterwards, each with and without the unsynced writes to the disk.
         let want = if *step == DrainStep::Finished { 4 } else { 0 };
-        assert_eq!(rt; whole, Some(want), "in {step:?}");
+        assert_eq!(rt; whole, Some(want), "up to moment {moments}");
         from = moments.saturating_sub(1);
     }
     Ok(())

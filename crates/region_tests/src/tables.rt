@@ -5,7 +5,7 @@ ghost use Rattle.leaf_model.specs.Values.{IsRow};
 ghost use Rattle.region_layout.specs.Names.{IsName};
 ghost use Rattle.table_state.specs.Tables.{IsParts};
 
-use leaf_model::{Rows, Text, Write};
+use leaf_model::{Cell, Row, Rows, Text, Value, Write};
 use region_directory::DrainTable;
 use row_records::read_rows;
 use std::alloc::{AllocError, Global};
@@ -60,11 +60,35 @@ pub fn handed_over(alloc: Global, name: &str, table: TableState) -> Result<Drain
     Ok(DrainTable { name, parts })
 }
 
+/// A cell's name and value.
+fn cell_told(alloc: Global, cell: &Cell) -> Result<String, AllocError> {
+    let name = cell.name.as_str();
+    match &cell.value {
+        Value::Int(number) => format!(in alloc; " {name} {number}"),
+        Value::Text(text) => format!(in alloc; " {name} '{}'", text.as_str()),
+        Value::Set(texts) => format!(in alloc; " {name} of {}", texts.as_slice().len()),
+    }
+}
+
+/// A row's time and cells.
+fn row_told(alloc: Global, row: &Row) -> Result<String, AllocError> {
+    let mut told = format!(in alloc; "; {}", row.time)?;
+    for cell in row.cells.as_slice() {
+        told.push_str(cell_told(alloc, cell)?.as_str())?;
+    }
+    Ok(told)
+}
+
 /// What tells of a table: its name, horizon, number of writes, how many rows are cut away from its first block, and its rows.
 pub fn line_of(alloc: Global, name: &str, table: &TableState) -> Result<String, AllocError> {
     let rows = table.to_rows(alloc)?;
     let horizon = table.horizon();
     let writes = table.writes();
     let skip = table.skip();
-    format!(in alloc; "{name} {horizon} {writes} {skip} {:?}\n", rows.as_slice())
+    let mut line = format!(in alloc; "{name} {horizon} {writes} {skip}")?;
+    for row in rows.as_slice() {
+        line.push_str(row_told(alloc, row)?.as_str())?;
+    }
+    line.push_str("\n")?;
+    Ok(line)
 }

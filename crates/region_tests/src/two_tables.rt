@@ -72,8 +72,11 @@ fn region_and_heap_stay_below_the_image_in_a_drain(rt: HostRuntime) -> Result<()
     let mut berth = MemBerth::new(Vec::new(alloc), Vec::new(alloc));
     let seen = drain_all(alloc, drain, &mut berth)?;
     assert_eq!(rt; seen.len(), 9);
-    for (step, region, held, _moments) in seen.as_slice() {
-        assert!(rt; region.saturating_add(*held) <= whole, "behind {step:?}");
+    for (_step, region, held, moments) in seen.as_slice() {
+        assert!(rt;
+            region.saturating_add(*held) <= whole,
+            "behind moment {moments}"
+        );
     }
     assert_eq!(rt; berth.region().len() as u64, whole);
     Ok(())

@@ -16,7 +16,7 @@ const AT_FIVE: &[u8] = b"\x05\0\0\0\0\0\0\0\0\0";
 
 /// The region of a table `t` that one write gave this row, whose log ends at 35.
 pub const IMAGE: [u8; 128] = [
-    0x01, 0x53, 0x43, 0x42, 0x02, 0, 0, 0, 0x40, 0, 0, 0, 0, 0, 0, 0, 0x01, 0x01, 0, 0, 0x01, 0, 0,
+    0x01, 0x53, 0x43, 0x42, 0x03, 0, 0, 0, 0x40, 0, 0, 0, 0, 0, 0, 0, 0x01, 0x01, 0, 0, 0x01, 0, 0,
     0, 0x28, 0, 0, 0, 0, 0, 0, 0, 0x28, 0, 0, 0, 0, 0, 0, 0, 0x28, 0, 0, 0, 0, 0, 0, 0, 0x30, 0, 0,
     0, 0, 0, 0, 0, 0x05, 0, 0, 0, 0, 0, 0, 0, 0x23, 0, 0, 0, 0, 0, 0, 0, 0x01, 0x01, 0x74, 0, 0, 0,
     0, 0, 0, 0, 0, 0x01, 0, 0, 0, 0, 0, 0, 0, 0, 0, 0, 0, 0x01, 0, 0, 0, 0x01, 0, 0, 0, 0x01, 0, 0,
@@ -49,16 +49,13 @@ fn a_table_is_drained_into_the_worked_image(rt: HostRuntime) -> Result<(), Fail>
     assert_eq!(rt; drain.image_len(), 128);
     let mut berth = berth_on(alloc, &[0, 7])?;
     let seen = drain_all(alloc, drain, &mut berth)?;
-    assert_eq!(rt;
-        seen.as_slice(),
-        [
-            (DrainStep::Begun, 16, 48, 7),
-            (DrainStep::Column { bytes: 48 }, 64, 0, 9),
-            (DrainStep::Directory, 128, 0, 13),
-            (DrainStep::Finished, 128, 0, 15),
-        ]
-        .as_slice()
-    );
+    let wanted = [
+        (DrainStep::Begun, 16, 48, 7),
+        (DrainStep::Column { bytes: 48 }, 64, 0, 9),
+        (DrainStep::Directory, 128, 0, 13),
+        (DrainStep::Finished, 128, 0, 15),
+    ];
+    assert!(rt; seen.as_slice() == wanted.as_slice());
     assert_eq!(rt; berth.region(), IMAGE.as_slice());
     Ok(())
 }
@@ -96,10 +93,7 @@ fn the_worked_image_is_adopted(rt: HostRuntime) -> Result<(), Fail> {
     let (log_end, lines) = adopted(alloc, adopt, &mut berth, &mut seen)?.expect(&rt, "tables");
     assert_eq!(rt; seen.as_slice(), [(16, 48)].as_slice());
     assert_eq!(rt; log_end, LOG_END);
-    assert_eq!(rt;
-        lines.as_str(),
-        "t 0 1 0 [Row { time: 5, cells: Cells { inner: [] } }]\n"
-    );
+    assert_eq!(rt; lines.as_str(), "t 0 1 0; 5\n");
     assert_eq!(rt; shape(&berth), (16, Some(0)));
     Ok(())
 }

@@ -113,7 +113,7 @@ fn two_leaves_are_inside_their_turns_at_once(rt: HostRuntime) -> Result<(), Fail
     let gate = BothInside::new();
     let fanned = ask_both(&rt, rt.alloc(), &gate)?;
     let shut = [Named { leaf: 0, number: 1 }, Named { leaf: 1, number: 1 }];
-    assert_eq!(rt; fanned.shut.as_slice(), shut.as_slice());
+    assert!(rt; fanned.shut.as_slice() == shut.as_slice());
     assert_eq!(rt; fanned.named.as_slice().len(), 0);
     assert!(rt; !gate.was_alone());
     Ok(())
