@@ -7,7 +7,7 @@ use Rattle.std.proofs.lemmas.Slice.Eq.{bytes_eq-Decides}
 use Rattle.leaf_model.specs.declared.writes.Write.{Write}
 use Rattle.leaf_history.specs.History.{HistoryState}
 use Rattle.berth_face.specs.Berth.{Pair}
-use Rattle.row_records.specs.Records.{LogRecord}
+use Rattle.row_records.specs.Records.{LogRecord, new_record}
 use Rattle.disk_backup.specs.Logs.{writes_of}
 use Rattle.disk_backup.specs.Settling.{with_writes}
 use Rattle.disk_backup.specs.SoundLogs.{HasSoundLog}
@@ -20,7 +20,7 @@ least_of base name = take (base name).flushed (base name).writes
 
 -- the record behind those of one name
 abbrev pub next_of : NamedStates → List ℕ → LogRecord
-next_of base but = record { name = but; writes = drop (base but).flushed (base but).writes }
+next_of base but = new_record but (drop (base but).flushed (base but).writes)
 
 -- each log has what is flushed of this name or all, and of each other name all is flushed
 pub record OneVaries (may : Pair → Type 0) (base : NamedStates) (but : List ℕ) : Type 0 where
