@@ -53,6 +53,6 @@ image_own names region images log_end is none name s =
 -- what a copy of a leaf's tables leaves: a closed region, or their image
 pub copied_own : (names : List (List ℕ)) (tables : List Table) (image region : List ℕ) (log_end : ℕ) → IsAdoptable image (images_of names tables) log_end → IsClosed region ⊎ (region ≡ image)
     → HasNoStranger names region
-copied_own names tables image region log_end is (inl closed) name s = closed_head region closed s.0 s.3.head
+copied_own names tables image region log_end is (inl closed) = λ name s. closed_head region closed s.0 s.3.head
 copied_own names tables image region log_end is (inr whole) =
     subst (λ (r : List ℕ). HasNoStranger names r) (sym whole) (image_own names image (images_of names tables) log_end is (none_strange names [] names tables refl))
