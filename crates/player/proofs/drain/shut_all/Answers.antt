@@ -1,4 +1,7 @@
 use Rattle.std.proofs.Common.{◌≡◌, Ok, true, false, ap, subst, ◌∙◌, rules}
+use Rattle.berth_face.specs.Berth.{Passes}
+use Rattle.berth_face.proofs.Moments.{passes_on}
+use Rattle.leaf_machine.specs.Prepares.{berth_of_step}
 use Rattle.player.specs.Steps.{Spends}
 use Rattle.player.proofs.Drained.{Stepped, fewer_left, so_far_none, shut_stopped, shut_more, shut_ready, shut_halted, shut_starved, shut_roomless}
 use Rattle.player.proofs.drain.shut_all.Goals as goal
@@ -72,6 +75,13 @@ returns-in-Ok-Ready-clause-shuts g c =
     let spends = subst (λ taken. Spends left taken left') some c.spend.ensures in
     shut_ready c.args.number meaning c.args.leaf.0 (meaning c.args.leaf.1) c.args.steps.now.left left left' y c.loop-alloc.lines c.loop-alloc.invariant
     spends c.with_notes-lines.result notes c.with_notes-lines.ensures c.in-Ok-Ready.copying here
+
+pub returns-in-Ok-Ready-clause-time : goal.returns-in-Ok-Ready-clause-time
+returns-in-Ok-Ready-clause-time g c =
+    let meaning = g.B.Berth.meaning in
+    let y = c.loop-alloc.leaf in
+    let here = subst (λ r. Passes (meaning y.1) (meaning (berth_of_step r))) (c.in-Ok-Ready.is ∙ ap (λ s. Ok s) c.in-Ok-Ready.field-0-is) c.step-step.ensures.time in
+    passes_on (meaning c.args.leaf.1) (meaning y.1) (meaning c.in-Ok-Ready.copying.1) c.loop-alloc.invariant.far.passes here
 
 pub returns-in-Err-default-DiskFault-clause-shuts : goal.returns-in-Err-default-DiskFault-clause-shuts
 returns-in-Err-default-DiskFault-clause-shuts g c =
