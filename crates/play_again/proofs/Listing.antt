@@ -69,7 +69,7 @@ module _ (base : NamedStates) (m : Meaning) (is : IsBase base m) where
 
   -- ---- the writes of the longest log
 
-  longest : (records : List LogRecord) × ((name : List ℕ) → writes_of name records ≡ most name)
+  pub longest : (records : List LogRecord) × ((name : List ℕ) → writes_of name records ≡ most name)
   longest = by (rests.logs m.held rests.stands.reads)
     where
       by : HasSoundLog least m.held.disk ⊎ HasSoundLog most m.held.disk → (records : List LogRecord) × ((name : List ℕ) → writes_of name records ≡ most name)
