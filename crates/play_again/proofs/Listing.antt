@@ -82,14 +82,6 @@ module _ (base : NamedStates) (m : Meaning) (is : IsBase base m) where
   pub no_least : (name : List ℕ) → most name ≡ [] → least name ≡ []
   no_least name none = nil_from_length (least name) (omega (arith, ap (λ (l : List Write). length l) none, (with_owed next least name).no_less))
 
-  -- where a name that no log has has no writes in the base, the list is the base
-  pub same_kept : ((name : List ℕ) → most name ≡ [] → base name ≡ no_base) → (name : List ℕ) → states_of kept name ≡ base name
-  same_kept none name = by (listed base longest.0 name is.is)
-    where
-      by : (states_of kept name ≡ base name) ⊎ ((states_of kept name ≡ no_base) × (writes_of name longest.0 ≡ [])) → states_of kept name ≡ base name
-      by (inl e) = e
-      by (inr no) = no.0 ∙ sym (none name (sym (longest.1 name) ∙ no.1))
-
   -- what holds of a name in the base, and of no writes where no log has any, holds of it in the list
   carried : (P : HistoryState → Type 0) (name : List ℕ) → P (base name) → (most name ≡ [] → P no_base) → P (states_of kept name)
   carried P name here nowhere = by (listed base longest.0 name is.is)
