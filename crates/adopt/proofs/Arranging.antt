@@ -12,11 +12,11 @@ use Rattle.row_records.specs.Records.{LogRecord}
 use Rattle.table_state.specs.declared.parts.Parts.{Parts}
 use Rattle.table_state.specs.Tables.{IsPartsOf, Table, bare, no_store}
 use Rattle.region_layout.specs.Images.{TableImage}
-use Rattle.region_layout.specs.Region.{image_names}
+use Rattle.region_layout.specs.Head.{image_names}
 use Rattle.region_layout.specs.Images.{empty_image, is_named, table_named, table_of, tables_of}
-use Rattle.region_directory.specs.declared.drained.DrainTable.{DrainTable}
-use Rattle.region_directory.specs.Region.{image_of_parts}
-use Rattle.region_directory.specs.Drained.{images_of}
+use Rattle.region_layout.specs.declared.drained.DrainTable.{DrainTable}
+use Rattle.region_layout.specs.Region.{image_of_parts}
+use Rattle.region_layout.specs.Drained.{images_of}
 use Rattle.adopt.specs.Adopting.{stranger_of}
 use Rattle.adopt.specs.Tables.{has_name, without}
 use Rattle.adopt.proofs.Known.{no_place_by, place_by}

@@ -4,13 +4,13 @@ use Rattle.std.specs.List.{AllByRecursion, flat_map}
 use Rattle.std.specs.Prelude.{slice_range}
 use Rattle.std.proofs.lemmas.List.{length-append}
 use Rattle.column_bytes.specs.Coding.{joined}
-use Rattle.region_directory.specs.declared.directory.Place.{Place}
-use Rattle.region_directory.specs.declared.directory.BlockPlaces.{BlockPlaces}
-use Rattle.region_directory.specs.declared.directory.TablePlaces.{TablePlaces}
-use Rattle.region_directory.specs.declared.directory.Directory.{Directory}
-use Rattle.region_directory.specs.Directory.{Joined, columns_of}
-use Rattle.region_directory.proofs.Ending.{table_columns}
-use Rattle.region_directory.specs.Region.{column_in}
+use Rattle.region_layout.specs.declared.directory.Place.{Place}
+use Rattle.region_layout.specs.declared.directory.BlockPlaces.{BlockPlaces}
+use Rattle.region_layout.specs.declared.directory.TablePlaces.{TablePlaces}
+use Rattle.region_layout.specs.declared.directory.Directory.{Directory}
+use Rattle.region_layout.specs.Directory.{Joined, columns_of}
+use Rattle.region_layout.proofs.Ending.{table_columns}
+use Rattle.region_layout.specs.Region.{column_in}
 use Rattle.adopt.specs.declared.spans.Span.{Span}
 use Rattle.adopt.specs.Taken.{block_spans, span_bytes, span_of, spans_of, table_spans}
 

@@ -8,16 +8,16 @@ use Rattle.region_layout.specs.Images.{TableImage}
 use Rattle.column_bytes.specs.Column.{kind_in}
 use Rattle.row_blocks.specs.declared.column.BlockColumn.{BlockColumn}
 use Rattle.row_blocks.specs.Blocks.{Block}
-use Rattle.region_directory.specs.declared.drained.DrainTable.{DrainTable}
-use Rattle.region_directory.specs.declared.directory.Place.{Place}
-use Rattle.region_directory.specs.declared.directory.BlockPlaces.{BlockPlaces}
-use Rattle.region_directory.specs.declared.directory.TablePlaces.{TablePlaces}
-use Rattle.region_directory.specs.declared.directory.Directory.{Directory}
-use Rattle.region_directory.specs.Directory.{Joined, columns_of}
-use Rattle.region_directory.specs.Region.{IsTableIn, allows, block_in, column_in, directory_from, parts_in}
-use Rattle.region_directory.specs.Drained.{images_of}
-use Rattle.region_directory.proofs.Ending.{table_columns}
-use Rattle.region_directory.proofs.Images.{table_in}
+use Rattle.region_layout.specs.declared.drained.DrainTable.{DrainTable}
+use Rattle.region_layout.specs.declared.directory.Place.{Place}
+use Rattle.region_layout.specs.declared.directory.BlockPlaces.{BlockPlaces}
+use Rattle.region_layout.specs.declared.directory.TablePlaces.{TablePlaces}
+use Rattle.region_layout.specs.declared.directory.Directory.{Directory}
+use Rattle.region_layout.specs.Directory.{Joined, columns_of}
+use Rattle.region_layout.specs.Region.{IsTableIn, allows, block_in, column_in, directory_from, parts_in}
+use Rattle.region_layout.specs.Drained.{images_of}
+use Rattle.region_layout.proofs.Ending.{table_columns}
+use Rattle.region_layout.proofs.Images.{table_in}
 use Rattle.std.proofs.Common.{inl}
 use Rattle.table_state.specs.Tables.{IsParts}
 use Rattle.adopt.specs.declared.found.AdoptFault.{AdoptFault}

@@ -5,10 +5,10 @@ use Rattle.std.proofs.Math.Seq.{take-length}
 use Rattle.column_bytes.specs.Coding.{joined}
 use Rattle.region_layout.specs.declared.head.Head.{Head}
 use Rattle.region_layout.specs.declared.head.Head.TheVariants as head
-use Rattle.region_layout.specs.Region.{head_of}
-use Rattle.region_directory.specs.declared.directory.Place.{Place}
-use Rattle.region_directory.specs.Directory.{columns_of}
-use Rattle.region_directory.specs.Region.{HasDirectory, column_in, directory_from, reads}
+use Rattle.region_layout.specs.Head.{head_of}
+use Rattle.region_layout.specs.declared.directory.Place.{Place}
+use Rattle.region_layout.specs.Directory.{columns_of}
+use Rattle.region_layout.specs.Region.{HasDirectory, column_in, directory_from, reads}
 use Rattle.adopt.specs.declared.spans.Span.{Span}
 use Rattle.region_reading.specs.declared.looked.Looked.{Looked}
 use Rattle.adopt.specs.declared.found.Found.TheVariants as found

@@ -6,14 +6,14 @@ use Rattle.row_blocks.specs.declared.column.BlockColumn.{BlockColumn}
 use Rattle.column_bytes.specs.Column.{kind_in}
 use Rattle.region_layout.specs.declared.head.Head.{Head}
 use Rattle.region_layout.specs.declared.head.Head.TheVariants.{NoHead, Closed, Version}
-use Rattle.region_layout.specs.Region.{head_of}
+use Rattle.region_layout.specs.Head.{head_of}
 use Rattle.row_blocks.specs.Blocks.{Block, IsBlock, IsOther}
-use Rattle.region_directory.specs.declared.directory.Place.{Place}
-use Rattle.region_directory.specs.declared.directory.BlockPlaces.{BlockPlaces}
-use Rattle.region_directory.specs.declared.directory.TablePlaces.{TablePlaces}
-use Rattle.region_directory.specs.declared.directory.Directory.{Directory}
-use Rattle.region_directory.specs.Region.{HasDirectory, IsAdoptable, IsTableIn, MeanIn, allows, block_in, column_in}
-use Rattle.region_directory.proofs.Images.{same_directory}
+use Rattle.region_layout.specs.declared.directory.Place.{Place}
+use Rattle.region_layout.specs.declared.directory.BlockPlaces.{BlockPlaces}
+use Rattle.region_layout.specs.declared.directory.TablePlaces.{TablePlaces}
+use Rattle.region_layout.specs.declared.directory.Directory.{Directory}
+use Rattle.region_layout.specs.Region.{HasDirectory, IsAdoptable, IsTableIn, MeanIn, allows, block_in, column_in}
+use Rattle.region_layout.proofs.Images.{same_directory}
 use Rattle.adopt.specs.declared.spans.Span.{Span}
 use Rattle.adopt.specs.Adopting.{IsNoImage}
 use Rattle.adopt.specs.Taken.{block_spans, span_of, spans_of, table_spans}

@@ -5,7 +5,7 @@ use Rattle.berth_face.specs.Berth.{Pair, Meaning, Passes, Stays, Cut, Torn, Regi
 use Rattle.berth_face.specs.Moments.{EachNow, Throughout}
 use Rattle.berth_face.proofs.Moments.{started, goes_on, now_of, throughout_map, throughout_join}
 use Rattle.region_layout.specs.declared.head.Head.TheVariants.{Version}
-use Rattle.region_layout.specs.Region.{IsClosed, head_of, version_of}
+use Rattle.region_layout.specs.Head.{IsClosed, head_of, version_of}
 use Rattle.region_layout.proofs.Heads.{open_head}
 use Rattle.adopt.specs.Adopting.{AdoptsFrom, ClosedFrom, IsBroken, IsInImage, IsInRoom, IsNoLonger}
 use Rattle.adopt.specs.Finding.{IsOpenRegion, closed_flag}

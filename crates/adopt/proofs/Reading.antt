@@ -2,10 +2,10 @@
 use Rattle.std.proofs.Common.{◌≡◌, inl, inr, ℕ, ◌+◌, ◌≤◌, List, length, sym, ap, ◌∙◌, arith}
 use Rattle.std.proofs.lemmas.Bool.{cases_lt}
 use Rattle.std.proofs.lemmas.List.{drop_all}
-use Rattle.region_directory.specs.declared.directory.Directory.{Directory}
-use Rattle.region_directory.specs.Directory.{IsDirectory, columns_of}
-use Rattle.region_directory.specs.Region.{HasDirectory, directory_from}
-use Rattle.region_directory.proofs.Sizes.{directory_length}
+use Rattle.region_layout.specs.declared.directory.Directory.{Directory}
+use Rattle.region_layout.specs.Directory.{IsDirectory, columns_of}
+use Rattle.region_layout.specs.Region.{HasDirectory, directory_from}
+use Rattle.region_layout.proofs.Sizes.{directory_length}
 use Rattle.adopt.specs.Taken.{span_bytes, spans_of}
 use Rattle.adopt.proofs.Columns.{joined_total, same_all, same_joined}
 

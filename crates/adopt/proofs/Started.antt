@@ -5,10 +5,10 @@ use Rattle.berth_face.specs.Berth.{Meaning, Passes, Ended, SameDisk}
 use Rattle.berth_face.specs.Moments.{Throughout}
 use Rattle.berth_face.proofs.Moments.{passes_none, passes_on}
 use Rattle.table_state.specs.Tables.{Table}
-use Rattle.region_layout.specs.Region.{IsClosed}
+use Rattle.region_layout.specs.Head.{IsClosed}
 use Rattle.region_layout.proofs.Heads.{closed_head}
-use Rattle.region_directory.specs.Region.{IsAdoptable}
-use Rattle.region_directory.specs.Drained.{images_of}
+use Rattle.region_layout.specs.Region.{IsAdoptable}
+use Rattle.region_layout.specs.Drained.{images_of}
 use Rattle.adopt.specs.declared.found.AdoptFault.{AdoptFault}
 use Rattle.adopt.specs.declared.found.AdoptFault.TheVariants as fault
 use Rattle.adopt.specs.declared.found.AdoptStep.{AdoptStep}
@@ -19,9 +19,9 @@ use Rattle.adopt.specs.declared.found.Adopted.{Adopted}
 use Rattle.adopt.specs.declared.found.Adoption.TheVariants.{NoTables, Tables}
 use Rattle.adopt.specs.Adopting.{Adopting, AdoptsFrom, AdoptsOn, AreAdopted, ClosedFrom, Finds, HasNoStranger, KeepsOn, cut_at, stranger_of}
 use Rattle.adopt.specs.declared.found.Found.TheVariants as found
-use Rattle.region_directory.specs.declared.directory.Directory.{Directory}
-use Rattle.region_directory.specs.declared.directory.TablePlaces.{TablePlaces}
-use Rattle.region_directory.proofs.Images.{same_directory}
+use Rattle.region_layout.specs.declared.directory.Directory.{Directory}
+use Rattle.region_layout.specs.declared.directory.TablePlaces.{TablePlaces}
+use Rattle.region_layout.proofs.Images.{same_directory}
 use Rattle.adopt.specs.Finding.{closed_flag}
 use Rattle.adopt.specs.Starting.{Adopts, AreArranged, HasTables, IsDrained, TakesAll, TookSome}
 use Rattle.adopt.specs.Taken.{AdoptState}

@@ -3,10 +3,10 @@ use Rattle.std.proofs.Common.{◌≡◌, true, ℕ, suc, ◌+◌, ◌-◌, ◌�
 use Rattle.std.proofs.lemmas.List.{drop-take, take-take}
 use Rattle.column_bytes.specs.Coding.{joined}
 use Rattle.column_bytes.specs.Column.{kind_in}
-use Rattle.region_layout.specs.Region.{IsClosed}
-use Rattle.region_directory.specs.declared.directory.Place.{Place}
-use Rattle.region_directory.specs.Directory.{columns_of}
-use Rattle.region_directory.specs.Region.{MeanIn, allows, column_in, directory_from}
+use Rattle.region_layout.specs.Head.{IsClosed}
+use Rattle.region_layout.specs.declared.directory.Place.{Place}
+use Rattle.region_layout.specs.Directory.{columns_of}
+use Rattle.region_layout.specs.Region.{MeanIn, allows, column_in, directory_from}
 use Rattle.std.specs.Prelude.{IfSome, slice_get}
 use Rattle.std.proofs.Common.{inr, length-append, Option, Some}
 use Rattle.adopt.specs.Adopting.{BreaksNow, NextMeansCells, next_span}

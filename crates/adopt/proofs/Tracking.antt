@@ -3,7 +3,7 @@ use Rattle.std.proofs.Common.{◌≡◌, ℕ, suc, ◌+◌, ◌≤◌, List, [],
 use Rattle.std.proofs.lemmas.List.{length-append, reverse-append}
 use Rattle.std.proofs.Math.Seq.{take-append_seam}
 use Rattle.column_bytes.specs.Coding.{joined}
-use Rattle.region_directory.specs.declared.directory.Directory.{Directory}
+use Rattle.region_layout.specs.declared.directory.Directory.{Directory}
 use Rattle.adopt.specs.declared.spans.Span.{Span}
 use Rattle.adopt.specs.Taken.{KeepsTrack, span_bytes, spans_of}
 use Rattle.adopt.proofs.Columns.{bytes_last}

@@ -6,7 +6,7 @@ use Rattle.column_bytes.specs.Coding.{joined}
 use Rattle.column_bytes.specs.Column.{kind_in}
 use Rattle.region_layout.specs.declared.head.Head.TheVariants as head
 use Rattle.region_layout.specs.Images.{TableImage}
-use Rattle.region_layout.specs.Region.{IsClosed, head_of}
+use Rattle.region_layout.specs.Head.{IsClosed, head_of}
 use Rattle.leaf_model.specs.Names.{AreDistinct}
 use Rattle.adopt.specs.declared.found.WhyDisk.{WhyDisk}
 use Rattle.adopt.specs.declared.found.WhyDisk.TheVariants as why
@@ -16,14 +16,14 @@ use Rattle.adopt.specs.declared.found.Found.{Found}
 use Rattle.adopt.specs.declared.found.Found.TheVariants as found
 use Rattle.adopt.specs.declared.found.AdoptStep.{AdoptStep}
 use Rattle.adopt.specs.declared.found.AdoptStep.TheVariants.{More, NoImage, Finished}
-use Rattle.region_directory.specs.declared.directory.Place.{Place}
-use Rattle.region_directory.specs.declared.directory.TablePlaces.{TablePlaces}
-use Rattle.region_directory.specs.declared.directory.Directory.{Directory}
-use Rattle.region_directory.specs.declared.drained.DrainTable.{DrainTable}
+use Rattle.region_layout.specs.declared.directory.Place.{Place}
+use Rattle.region_layout.specs.declared.directory.TablePlaces.{TablePlaces}
+use Rattle.region_layout.specs.declared.directory.Directory.{Directory}
+use Rattle.region_layout.specs.declared.drained.DrainTable.{DrainTable}
 use Rattle.table_state.specs.Tables.{IsParts}
-use Rattle.region_directory.specs.Directory.{columns_of}
-use Rattle.region_directory.specs.Region.{HasDirectory, IsAdoptable, MeanIn, allows, column_in, directory_from, parts_in, reads}
-use Rattle.region_directory.specs.Drained.{images_of}
+use Rattle.region_layout.specs.Directory.{columns_of}
+use Rattle.region_layout.specs.Region.{HasDirectory, IsAdoptable, MeanIn, allows, column_in, directory_from, parts_in, reads}
+use Rattle.region_layout.specs.Drained.{images_of}
 use Rattle.adopt.specs.declared.spans.Span.{Span}
 use Rattle.adopt.specs.Finding.{bytes_at}
 use Rattle.adopt.specs.Taken.{spans_of}

@@ -1,9 +1,9 @@
 -- A region whose flag is closed, and how a column is taken off it.
 use Rattle.std.specs.Prelude.{◌≡◌, Bool, not, List, ℕ, ◌∷◌, take, drop, Option, Some, None, Result, Ok, Err, bytes_eq}
 use Rattle.std.specs.List.{list_any}
-use Rattle.region_layout.specs.Region.{IsClosed}
-use Rattle.region_directory.specs.declared.directory.TablePlaces.{TablePlaces}
-use Rattle.region_directory.specs.Region.{MeanIn}
+use Rattle.region_layout.specs.Head.{IsClosed}
+use Rattle.region_layout.specs.declared.directory.TablePlaces.{TablePlaces}
+use Rattle.region_layout.specs.Region.{MeanIn}
 use Rattle.adopt.specs.declared.spans.Span.{Span}
 use Rattle.adopt.specs.declared.found.AdoptFault.{AdoptFault}
 use Rattle.adopt.specs.declared.found.AdoptFault.TheVariants.{RegionFault, NoMemory}

@@ -4,12 +4,12 @@ use Rattle.std.specs.List.{AllByRecursion}
 use Rattle.row_blocks.specs.declared.column.BlockColumn.{BlockColumn}
 use Rattle.row_blocks.specs.Blocks.{Block}
 use Rattle.row_blocks.specs.Held.{blocks_held}
-use Rattle.region_directory.specs.declared.drained.DrainTable.{DrainTable}
+use Rattle.region_layout.specs.declared.drained.DrainTable.{DrainTable}
 use Rattle.table_state.specs.Tables.{IsParts}
-use Rattle.region_directory.specs.declared.directory.Place.{Place}
-use Rattle.region_directory.specs.declared.directory.BlockPlaces.{BlockPlaces}
-use Rattle.region_directory.specs.declared.directory.TablePlaces.{TablePlaces}
-use Rattle.region_directory.specs.declared.directory.Directory.{Directory}
+use Rattle.region_layout.specs.declared.directory.Place.{Place}
+use Rattle.region_layout.specs.declared.directory.BlockPlaces.{BlockPlaces}
+use Rattle.region_layout.specs.declared.directory.TablePlaces.{TablePlaces}
+use Rattle.region_layout.specs.declared.directory.Directory.{Directory}
 use Rattle.adopt.specs.declared.found.AdoptFault.{AdoptFault}
 use Rattle.adopt.specs.declared.found.AdoptFault.TheVariants as fault
 use Rattle.adopt.specs.declared.found.AdoptStep.{AdoptStep}

@@ -5,10 +5,10 @@ use Rattle.berth_face.specs.Berth.{Meaning, Passes, Ended, SameDisk}
 use Rattle.berth_face.specs.Moments.{Throughout}
 use Rattle.table_state.specs.Tables.{Table}
 use Rattle.region_layout.specs.Images.{TableImage}
-use Rattle.region_layout.specs.Region.{IsClosed, image_names}
+use Rattle.region_layout.specs.Head.{IsClosed, image_names}
 use Rattle.region_layout.specs.Images.{tables_of}
-use Rattle.region_directory.specs.Region.{IsAdoptable}
-use Rattle.region_directory.specs.Drained.{images_of}
+use Rattle.region_layout.specs.Region.{IsAdoptable}
+use Rattle.region_layout.specs.Drained.{images_of}
 use Rattle.adopt.specs.declared.found.AdoptFault.{AdoptFault}
 use Rattle.adopt.specs.declared.found.AdoptFault.TheVariants.{RegionFault, NoMemory}
 use Rattle.adopt.specs.declared.found.Drained.{Drained}

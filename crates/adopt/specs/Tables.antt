@@ -1,7 +1,7 @@
 -- What is left of the tables of an image while they are taken one by one, by their names.
 use Rattle.std.specs.Prelude.{ℕ, List, [], ◌∷◌, Bool, if◌then◌else◌}
 use Rattle.std.specs.Str.{bytes_eq}
-use Rattle.region_directory.specs.declared.drained.DrainTable.{DrainTable}
+use Rattle.region_layout.specs.declared.drained.DrainTable.{DrainTable}
 
 -- the table has this name
 abbrev pub has_name : List ℕ → DrainTable → Bool

@@ -6,7 +6,7 @@ ghost use Rattle.berth_face.specs.Causes.{Rose};
 ghost use Rattle.region_layout.specs.Names.{AreNames};
 ghost use Rattle.adopt.specs.declared.found.AdoptFault.TheVariants as fault;
 ghost use Rattle.region_layout.specs.declared.head.Head.TheVariants.{Version};
-ghost use Rattle.region_layout.specs.Region.{IsClosed, head_of};
+ghost use Rattle.region_layout.specs.Head.{IsClosed, head_of};
 ghost use Rattle.adopt.specs.Adopting.{Adopting, AdoptsFrom, AdoptsOn, AreAdopted, ClosedFrom, Finds, IsInRoom, IsNoLonger, KeepsNames, KeepsOn};
 ghost use Rattle.adopt.specs.Finding.{IsOpenRegion, TakesSpan};
 

@@ -2,12 +2,12 @@
 ghost use Rattle.std.specs.Prelude.{◌≡◌, ◌↔◌, ◌<◌, ℕ, List, length, Option, IfSome, IsSome, IsTrue};
 ghost use Rattle.leaf_model.specs.declared.rows.Value.{Value};
 ghost use Rattle.column_bytes.specs.Column.{HasCells};
-ghost use Rattle.region_directory.specs.Region.{MeanIn};
+ghost use Rattle.region_layout.specs.Region.{MeanIn};
 ghost use Rattle.adopt.specs.Cells.{TellsCells};
 
 use column_bytes::{ColumnView, Kind};
 use leaf_model::Steps;
-use region_directory::allows;
+use region_layout::allows;
 use std::marker::Brand;
 use std::sync::ledger::{Blank, Ledger};
 

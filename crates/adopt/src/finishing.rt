@@ -9,7 +9,7 @@ ghost use Rattle.adopt.specs.Finishing.{FinishesAs, IsCut, IsMade, after_block, 
 
 use crate::found::{AdoptFault, AdoptStep};
 use crate::lists::put;
-use region_directory::{BlockPlaces, Directory, DrainTable, DrainTables, Place, TablePlaces};
+use region_layout::{BlockPlaces, Directory, DrainTable, DrainTables, Place, TablePlaces};
 use row_blocks::{BlockColumn, BlockColumns, BlockFault, Blocks, ColumnBytes, RowBlock};
 use std::alloc::{AllocError, Global};
 use std::collections::VecDeque;

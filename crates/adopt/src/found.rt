@@ -6,7 +6,7 @@ ghost use Rattle.adopt.specs.Faults.{told_of_look};
 use crate::taken::Adopt;
 use berth_face::Failed;
 use leaf_model::Text;
-use region_directory::DrainTables;
+use region_layout::DrainTables;
 use region_reading::LookFault;
 use std::alloc::AllocError;
 use table_state::Tables;

@@ -3,7 +3,7 @@ ghost use Rattle.std.specs.Prelude.{◌≡◌, take, OnOk, OnErr, IsTrue};
 ghost use Rattle.berth_face.specs.Causes.{HasCause};
 ghost use Rattle.berth_face.specs.Berth.{Passes, Ended, SameDisk, Torn};
 ghost use Rattle.berth_face.specs.Moments.{Throughout};
-ghost use Rattle.region_layout.specs.Region.{IsClosed};
+ghost use Rattle.region_layout.specs.Head.{IsClosed};
 ghost use Rattle.adopt.specs.Adopting.{AdoptsFrom, ClosedFrom, IsNoLonger};
 ghost use Rattle.adopt.specs.Finding.{IsOpenRegion, closed_flag};
 

@@ -3,7 +3,7 @@ ghost use Rattle.std.specs.Prelude.{◌≡◌, ◌++◌, map, IfOk, OnOk};
 ghost use Rattle.std.specs.List.{flat_map};
 ghost use Rattle.adopt.specs.Taken.{block_spans, span_of, spans_of, table_spans};
 
-use region_directory::{BlockPlaces, Directory, Place, TablePlaces};
+use region_layout::{BlockPlaces, Directory, Place, TablePlaces};
 use std::alloc::{AllocError, Global};
 
 /// A column of the region: where its bytes begin, how many there are, and how many rows its block has.

@@ -1,12 +1,12 @@
 // Tables that the leaf does not have.
 ghost use Rattle.std.specs.Prelude.{◌≡◌, None, Some, map, bytes_eq, IfOk, IfErr, OnOk};
 ghost use Rattle.std.specs.List.{list_any, position};
-ghost use Rattle.region_directory.specs.declared.directory.TablePlaces.{TablePlaces};
+ghost use Rattle.region_layout.specs.declared.directory.TablePlaces.{TablePlaces};
 ghost use Rattle.adopt.specs.Adopting.{stranger_of};
 ghost use Rattle.adopt.specs.Finding.{is_stranger};
 
 use leaf_model::Text;
-use region_directory::{TablePlaces, TablePlacesList};
+use region_layout::{TablePlaces, TablePlacesList};
 
 /// Gives the tables back where each has one of the names, else the name of the first that has none.
 pub fn all_known(names: &[Text], tables: TablePlacesList) -> Result<TablePlacesList, Text>

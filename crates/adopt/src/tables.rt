@@ -4,13 +4,13 @@ ghost use Rattle.std.specs.List.{AllByRecursion, position};
 ghost use Rattle.leaf_model.specs.Names.{AreDistinct};
 ghost use Rattle.table_state.specs.Tables.{bare};
 ghost use Rattle.region_layout.specs.Images.{table_named, table_of, tables_of};
-ghost use Rattle.region_directory.specs.Region.{image_of_parts};
-ghost use Rattle.region_directory.specs.Drained.{images_of};
+ghost use Rattle.region_layout.specs.Region.{image_of_parts};
+ghost use Rattle.region_layout.specs.Drained.{images_of};
 ghost use Rattle.adopt.specs.Finishing.{IsMade};
 ghost use Rattle.adopt.specs.Tables.{has_name, without};
 
 use leaf_model::Text;
-use region_directory::DrainTable;
+use region_layout::DrainTable;
 use std::alloc::{AllocError, Global};
 use table_state::{TableState, Tables};
 

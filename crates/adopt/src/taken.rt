@@ -4,7 +4,7 @@ ghost use Rattle.column_bytes.specs.Coding.{joined};
 
 use crate::spans::Span;
 use leaf_model::Names;
-use region_directory::Directory;
+use region_layout::Directory;
 use row_blocks::ColumnBytes;
 use std::marker::Model;
 use std::snapshot::Snapshot;

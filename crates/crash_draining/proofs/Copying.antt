@@ -3,8 +3,8 @@ use Rattle.std.proofs.Common.{◌≡◌, ◌≢◌, ◌⊎◌, inl, inr, ◌∙�
 use Rattle.leaf_model.specs.declared.writes.Write.{Write}
 use Rattle.berth_face.specs.Berth.{Meaning}
 use Rattle.table_state.specs.Tables.{Table}
-use Rattle.region_layout.specs.Region.{IsClosed}
-use Rattle.region_directory.specs.Region.{IsAdoptable}
+use Rattle.region_layout.specs.Head.{IsClosed}
+use Rattle.region_layout.specs.Region.{IsAdoptable}
 use Rattle.region_layout.specs.Images.{images_of}
 use Rattle.disk_backup.specs.State.{LogState}
 use Rattle.drain_copy.specs.declared.step.Next.TheVariants as next

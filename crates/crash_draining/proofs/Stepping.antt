@@ -4,8 +4,8 @@ use Rattle.std.specs.List.{AllByRecursion}
 use Rattle.leaf_model.specs.declared.writes.Write.{Write}
 use Rattle.berth_face.specs.Berth.{Pair, Meaning}
 use Rattle.berth_face.specs.Moments.{EachNow}
-use Rattle.region_layout.specs.Region.{IsClosed}
-use Rattle.region_directory.specs.Region.{reads}
+use Rattle.region_layout.specs.Head.{IsClosed}
+use Rattle.region_layout.specs.Region.{reads}
 use Rattle.disk_backup.specs.Settling.{HasLog}
 use Rattle.drain_copy.specs.declared.step.Next.TheVariants as next
 use Rattle.drain_copy.specs.Draining.{DrainState, DrainsFrom, AllClosed}

@@ -11,8 +11,8 @@ use Rattle.region_layout.specs.declared.head.Head.TheVariants.{Version}
 use Rattle.region_layout.specs.Images.{TableImage}
 use Rattle.region_layout.specs.ImageWrites.{AreImagesOf}
 use Rattle.leaf_model.specs.Names.{AreDistinct}
-use Rattle.region_layout.specs.Region.{head_of}
-use Rattle.region_directory.specs.Region.{IsImage}
+use Rattle.region_layout.specs.Head.{head_of}
+use Rattle.region_layout.specs.Region.{IsImage}
 use Rattle.region_layout.proofs.Heads.{closed_head}
 use Rattle.row_records.specs.Records.{LogRecord}
 use Rattle.disk_backup.specs.Logs.{writes_of}

@@ -4,8 +4,8 @@ use Rattle.berth_face.specs.Berth.{Pair, Meaning}
 use Rattle.region_layout.specs.declared.head.Head.TheVariants.{Version}
 use Rattle.region_layout.specs.Images.{TableImage}
 use Rattle.leaf_model.specs.Names.{AreDistinct}
-use Rattle.region_layout.specs.Region.{IsClosed, head_of}
-use Rattle.region_directory.specs.Region.{IsImage}
+use Rattle.region_layout.specs.Head.{IsClosed, head_of}
+use Rattle.region_layout.specs.Region.{IsImage}
 use Rattle.crash_moments.specs.Left.{NamedStates}
 use Rattle.crash_moments.specs.Base.{IsReady}
 use Rattle.crash_events.specs.Machine.{Machine, Tracked, Hand, Down, RegionIs, Closed, Whole, Other}

@@ -4,7 +4,7 @@ use Rattle.berth_face.specs.Berth.{Pair, Meaning}
 use Rattle.leaf_model.specs.declared.writes.Write.{Write}
 use Rattle.leaf_history.specs.History.{HistoryState, base_of}
 use Rattle.region_layout.specs.Images.{TableImage}
-use Rattle.region_directory.specs.Region.{IsImage}
+use Rattle.region_layout.specs.Region.{IsImage}
 use Rattle.row_records.specs.Records.{LogRecord}
 use Rattle.disk_backup.specs.Logs.{IsLog, writes_of}
 use Rattle.disk_backup.specs.Settling.{HasLog}

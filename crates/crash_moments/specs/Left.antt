@@ -5,8 +5,8 @@ use Rattle.leaf_history.specs.History.{HistoryState}
 use Rattle.region_layout.specs.declared.head.Head.TheVariants.{Version}
 use Rattle.region_layout.specs.Images.{TableImage}
 use Rattle.region_layout.specs.ImageWrites.{AreImagesOf}
-use Rattle.region_layout.specs.Region.{IsClosed, head_of}
-use Rattle.region_directory.specs.Region.{IsImage}
+use Rattle.region_layout.specs.Head.{IsClosed, head_of}
+use Rattle.region_layout.specs.Region.{IsImage}
 use Rattle.row_records.specs.Records.{LogRecord}
 use Rattle.disk_backup.specs.Logs.{IsSound, writes_of}
 use Rattle.disk_backup.specs.Settling.{HasLog}

@@ -1,7 +1,7 @@
 -- What a call of a leaf tells of a crash at any moment of it.
 use Rattle.std.specs.Prelude.{◌≡◌, ℕ, ◌≤◌, List, ◌++◌}
 use Rattle.std.specs.List.{AllZip}
-use Rattle.region_directory.specs.Region.{reads}
+use Rattle.region_layout.specs.Region.{reads}
 use Rattle.berth_face.specs.Berth.{Pair, Meaning, Passes}
 use Rattle.leaf_history.specs.History.{Entry}
 use Rattle.crash_moments.specs.Left.{NamedStates, Left}

@@ -5,8 +5,8 @@ use Rattle.leaf_model.specs.declared.writes.Write.{Write}
 use Rattle.row_records.specs.Records.{LogRecord}
 use Rattle.berth_face.specs.Berth.{Pair, Meaning, Passes}
 use Rattle.berth_face.specs.Moments.{EachNow}
-use Rattle.region_layout.specs.Region.{IsClosed}
-use Rattle.region_directory.specs.Region.{reads}
+use Rattle.region_layout.specs.Head.{IsClosed}
+use Rattle.region_layout.specs.Region.{reads}
 use Rattle.disk_backup.specs.Logs.{ClosedLog}
 use Rattle.disk_backup.specs.State.{LogState}
 use Rattle.disk_backup.specs.Settling.{Comes, HasLog, HaveLog, HoldsOwing, HoldsLog, KeepsLog, Settled, WithOrWithout, WithOwed, end_with, with_writes}

@@ -12,9 +12,9 @@ use Rattle.region_layout.specs.declared.head.Head.TheVariants.{Version}
 use Rattle.region_layout.specs.Images.{TableImage, table_of, table_named}
 use Rattle.region_layout.specs.Images as layout
 use Rattle.region_layout.specs.ImageWrites.{AreImagesOf}
-use Rattle.region_layout.specs.Region.{IsClosed, image_names}
-use Rattle.region_directory.specs.Region.{IsAdoptable, reads}
-use Rattle.region_directory.proofs.Images.{one_tables, one_log_end}
+use Rattle.region_layout.specs.Head.{IsClosed, image_names}
+use Rattle.region_layout.specs.Region.{IsAdoptable, reads}
+use Rattle.region_layout.proofs.Images.{one_tables, one_log_end}
 use Rattle.adopt.specs.declared.found.WhyDisk.{WhyDisk}
 use Rattle.adopt.specs.Adopting.{IsLeftBehind, stranger_of}
 use Rattle.disk_backup.specs.Logs.{ClosedLog, writes_of}

@@ -8,8 +8,8 @@ use Rattle.row_records.specs.Records.{LogRecord}
 use Rattle.berth_face.specs.Berth.{Pair, Meaning, Ended, SameDisk}
 use Rattle.berth_face.specs.Moments.{EachNow}
 use Rattle.berth_face.proofs.Moments.{now_of}
-use Rattle.region_layout.specs.Region.{IsClosed}
-use Rattle.region_directory.specs.Region.{reads}
+use Rattle.region_layout.specs.Head.{IsClosed}
+use Rattle.region_layout.specs.Region.{reads}
 use Rattle.disk_backup.specs.Scanning.{FirstByte, BeginsScan}
 use Rattle.disk_backup.specs.Settling.{with_writes}
 use Rattle.leaf_opening.specs.declared.opening.Opened.{Opened}

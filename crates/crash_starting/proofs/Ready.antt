@@ -1,6 +1,6 @@
 -- Over a berth that is ready a leaf rests with its base.
 use Rattle.std.proofs.Common.{◌≡◌, ℕ, List, Option, Some, sym, ap, subst}
-use Rattle.region_directory.specs.Region.{reads}
+use Rattle.region_layout.specs.Region.{reads}
 use Rattle.std.specs.List.{AllByRecursion}
 use Rattle.leaf_model.specs.declared.writes.Write.{Write}
 use Rattle.leaf_history.specs.History.{HistoryState}

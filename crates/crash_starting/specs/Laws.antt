@@ -1,6 +1,6 @@
 -- Laws of a leaf that starts, as statements.
 use Rattle.std.specs.Prelude.{◌≡◌, ℕ, ◌<◌, List, [], length, slice_get, map, Option, Some, Result}
-use Rattle.region_directory.specs.Region.{reads}
+use Rattle.region_layout.specs.Region.{reads}
 use Rattle.leaf_model.specs.declared.writes.Write.{Write}
 use Rattle.leaf_model.specs.Content.{content}
 use Rattle.row_records.specs.Records.{LogRecord}

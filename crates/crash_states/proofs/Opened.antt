@@ -8,7 +8,7 @@ use Rattle.berth_face.specs.Berth.{Pair, Meaning, OpenedOn}
 use Rattle.leaf_history.specs.History.{base_of}
 use Rattle.region_layout.specs.Images.{table_named}
 use Rattle.region_layout.specs.ImageWrites.{IsImageOf}
-use Rattle.region_directory.specs.Region.{reads}
+use Rattle.region_layout.specs.Region.{reads}
 use Rattle.disk_backup.specs.Logs.{writes_of}
 use Rattle.disk_backup.specs.SoundLogs.{HasSoundLog}
 use Rattle.crash_moments.specs.Left.{NamedStates, Left, RegionLeft, closed, other_version, image}

@@ -3,8 +3,8 @@ use Rattle.std.proofs.Common.{◌≡◌, inl, inr, ℕ, List, [], length, sym, a
 use Rattle.leaf_model.specs.declared.writes.Write.{Write}
 use Rattle.berth_face.specs.Berth.{Pair, Meaning}
 use Rattle.region_layout.specs.Images.{TableImage}
-use Rattle.region_layout.specs.Region.{IsClosed}
-use Rattle.region_directory.specs.Region.{reads, IsAdoptable}
+use Rattle.region_layout.specs.Head.{IsClosed}
+use Rattle.region_layout.specs.Region.{reads, IsAdoptable}
 use Rattle.disk_backup.specs.Settling.{HasLog}
 use Rattle.region_layout.specs.ImageWrites.{AreImagesOf}
 use Rattle.disk_backup.specs.SoundLogs.{HasSoundLog}

@@ -1,6 +1,6 @@
 -- Laws of what stands, as statements.
 use Rattle.std.specs.Prelude.{ℕ, List, Option}
-use Rattle.region_directory.specs.Region.{reads}
+use Rattle.region_layout.specs.Region.{reads}
 use Rattle.leaf_model.specs.declared.writes.Write.{Write}
 use Rattle.row_records.specs.Records.{LogRecord}
 use Rattle.berth_face.specs.Berth.{Meaning}

@@ -8,7 +8,7 @@ use Rattle.leaf_history.specs.History.{HistoryState}
 use Rattle.berth_face.specs.Berth.{Meaning}
 use Rattle.berth_face.specs.Moments.{EachNow}
 use Rattle.region_layout.specs.Images.{TableImage}
-use Rattle.region_directory.specs.Region.{IsAdoptable, reads}
+use Rattle.region_layout.specs.Region.{IsAdoptable, reads}
 use Rattle.disk_backup.specs.State.{LogState}
 use Rattle.disk_backup.specs.Settling.{HasLog, HaveLog, with_writes}
 use Rattle.drain_copy.specs.Draining.{DrainState, Draining, AllClosed}

@@ -5,7 +5,7 @@ use Rattle.std.proofs.Math.Seq.{take-append_seam}
 use Rattle.std.specs.Prelude.{replicate, ◌-◌}
 use Rattle.std.proofs.lemmas.Bool.{cases_eq}
 use Rattle.berth_face.specs.Berth.{Torn, Cut, written}
-use Rattle.region_layout.specs.Region.{IsClosed}
+use Rattle.region_layout.specs.Head.{IsClosed}
 use Rattle.drain_copy.specs.Regions.{ClosedOrOpened, ClosedWithin, EndsAt}
 
 pub none_closed : IsClosed []

@@ -9,9 +9,9 @@ use Rattle.row_blocks.specs.Blocks.{Block, IsBlock, IsOther}
 use Rattle.row_blocks.specs.Held.{IsSkip}
 use Rattle.table_state.specs.Tables.{IsParts}
 use Rattle.region_layout.specs.Names.{IsName}
-use Rattle.region_directory.specs.declared.drained.DrainTable.{DrainTable}
-use Rattle.region_directory.specs.Drained.{is_wide}
-use Rattle.region_directory.specs.Written.{PlaceFits, BlockFits, TableFits, MayBeWritten}
+use Rattle.region_layout.specs.declared.drained.DrainTable.{DrainTable}
+use Rattle.region_layout.specs.Drained.{is_wide}
+use Rattle.region_layout.specs.Written.{PlaceFits, BlockFits, TableFits, MayBeWritten}
 use Rattle.drain_copy.specs.Planned.{columns_size, blocks_size, tables_size, places_from, blocks_from, tables_from, planned_directory}
 
 places_number : (columns : List BlockColumn) (at : ℕ) → length (places_from at columns) ≡ length columns

@@ -8,13 +8,13 @@ use Rattle.std.proofs.lemmas.Nat.{from_le_bytes-to_le_bytes_8}
 use Rattle.leaf_model.specs.Names.{AreDistinct}
 use Rattle.column_bytes.specs.Coding.{joined}
 use Rattle.region_layout.specs.declared.head.Head.TheVariants.{Version}
-use Rattle.region_layout.specs.Region.{head_bytes, head_of}
+use Rattle.region_layout.specs.Head.{head_bytes, head_of}
 use Rattle.table_state.specs.Tables.{IsParts}
-use Rattle.region_directory.specs.declared.drained.DrainTable.{DrainTable}
-use Rattle.region_directory.specs.Directory.{IsDirectory}
-use Rattle.region_directory.specs.Drained.{all_columns, images_of}
-use Rattle.region_directory.specs.Region.{layout, directory_from, IsAdoptable}
-use Rattle.region_directory.specs.Written.{MayBeWritten, directory_bytes}
+use Rattle.region_layout.specs.declared.drained.DrainTable.{DrainTable}
+use Rattle.region_layout.specs.Directory.{IsDirectory}
+use Rattle.region_layout.specs.Drained.{all_columns, images_of}
+use Rattle.region_layout.specs.Region.{layout, directory_from, IsAdoptable}
+use Rattle.region_layout.specs.Written.{MayBeWritten, directory_bytes}
 use Rattle.drain_copy.specs.Draining.{image_bytes, directory_of}
 use Rattle.drain_copy.specs.Planned.{tables_size, planned_directory}
 use Rattle.drain_copy.proofs.Laying.{tables_back, tables_length, is_directory}

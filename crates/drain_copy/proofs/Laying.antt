@@ -20,17 +20,17 @@ use Rattle.row_blocks.specs.Blocks.{Block, IsBlock, IsOther}
 use Rattle.row_blocks.specs.Headings.{heading, heading_cmp}
 use Rattle.row_blocks.specs.Held.{IsSkip}
 use Rattle.table_state.specs.Tables.{IsParts}
-use Rattle.region_directory.specs.declared.directory.Place.{Place}
-use Rattle.region_directory.specs.declared.directory.BlockPlaces.{BlockPlaces}
-use Rattle.region_directory.specs.declared.directory.TablePlaces.{TablePlaces}
-use Rattle.region_directory.specs.declared.drained.DrainTable.{DrainTable}
-use Rattle.region_directory.specs.Directory.{Joined, AreColumns, IsBlockPlaces, IsSkipOf, IsTablePlaces, IsDirectory}
-use Rattle.region_directory.specs.Drained.{all_columns, images_of}
-use Rattle.region_directory.specs.Region.{column_in, block_in, parts_in, allows, layout, IsTableIn, image_of_parts}
-use Rattle.region_directory.specs.Written.{BlockFits, TableFits, MayBeWritten}
-use Rattle.region_directory.proofs.Ending.{table_columns}
-use Rattle.region_directory.proofs.Following.{InOrder, none_in_order, one_in_order, more_in_order}
-use Rattle.region_directory.proofs.Images.{table_in}
+use Rattle.region_layout.specs.declared.directory.Place.{Place}
+use Rattle.region_layout.specs.declared.directory.BlockPlaces.{BlockPlaces}
+use Rattle.region_layout.specs.declared.directory.TablePlaces.{TablePlaces}
+use Rattle.region_layout.specs.declared.drained.DrainTable.{DrainTable}
+use Rattle.region_layout.specs.Directory.{Joined, AreColumns, IsBlockPlaces, IsSkipOf, IsTablePlaces, IsDirectory}
+use Rattle.region_layout.specs.Drained.{all_columns, images_of}
+use Rattle.region_layout.specs.Region.{column_in, block_in, parts_in, allows, layout, IsTableIn, image_of_parts}
+use Rattle.region_layout.specs.Written.{BlockFits, TableFits, MayBeWritten}
+use Rattle.region_layout.proofs.Ending.{table_columns}
+use Rattle.region_layout.proofs.Following.{InOrder, none_in_order, one_in_order, more_in_order}
+use Rattle.region_layout.proofs.Images.{table_in}
 use Rattle.drain_copy.specs.Planned.{columns_bytes, blocks_bytes, columns_size, blocks_size, tables_size, blocks_count, tables_count, places_from, blocks_from, table_from, tables_from, planned_directory}
 
 -- ---- lengths

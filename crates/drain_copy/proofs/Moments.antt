@@ -4,7 +4,7 @@ use Rattle.std.specs.Prelude.{Result, OnOk, OnErr}
 use Rattle.berth_face.specs.Berth.{Pair, Meaning, Passes, Torn, Cut, Inside, Ended, RegionStep, SameDisk, RegionWritten, RegionCut, written}
 use Rattle.berth_face.specs.Moments.{EachNow, Throughout}
 use Rattle.berth_face.proofs.Moments.{started, goes_on, now_of, throughout_map}
-use Rattle.region_layout.specs.Region.{IsClosed}
+use Rattle.region_layout.specs.Head.{IsClosed}
 use Rattle.drain_copy.specs.declared.step.Next.TheVariants as next
 use Rattle.drain_copy.specs.Draining.{DrainState, DrainsFrom, IsInRoom, AllClosed, held, longest}
 use Rattle.drain_copy.specs.Regions.{LeftFrom, ClosedOrOpened, ClosedWithin, EndsAt, IsWithin}

@@ -7,10 +7,10 @@ use Rattle.std.proofs.Math.Bool.{or-true}
 use Rattle.std.proofs.lemmas.List.Sums.{sum_by-cons}
 use Rattle.row_blocks.specs.declared.column.BlockColumn.{BlockColumn}
 use Rattle.row_blocks.specs.Blocks.{Block}
-use Rattle.region_directory.specs.declared.drained.DrainTable.{DrainTable}
-use Rattle.region_directory.specs.Drained.{column_entry, block_entry, table_entry, image_length, is_wide, has_no_room}
-use Rattle.region_directory.specs.Written.{directory_bytes}
-use Rattle.region_directory.proofs.Sizes.{place_size, block_size, table_size, directory_length as written_length}
+use Rattle.region_layout.specs.declared.drained.DrainTable.{DrainTable}
+use Rattle.region_layout.specs.Drained.{column_entry, block_entry, table_entry, image_length, is_wide, has_no_room}
+use Rattle.region_layout.specs.Written.{directory_bytes}
+use Rattle.region_layout.proofs.Sizes.{place_size, block_size, table_size, directory_length as written_length}
 use Rattle.drain_copy.specs.declared.sizes.Sizes.{Sizes}
 use Rattle.drain_copy.specs.Planned.{columns_entries, blocks_entries, tables_entries, blocks_count, tables_count, tables_size, capped, Grew, HasRoom, places_from, blocks_from, tables_from, columns_size, blocks_size, planned_directory}
 use Rattle.drain_copy.proofs.Laying.{tables_length}

@@ -3,12 +3,12 @@ use Rattle.std.specs.Prelude.{◌≡◌, ◌⊎◌, ℕ, suc, ◌+◌, ◌≤◌
 use Rattle.berth_face.specs.Berth.{Pair, Meaning}
 use Rattle.berth_face.specs.Moments.{EachNow}
 use Rattle.column_bytes.specs.Coding.{joined}
-use Rattle.region_layout.specs.Region.{IsClosed, head_bytes}
+use Rattle.region_layout.specs.Head.{IsClosed, head_bytes}
 use Rattle.drain_copy.specs.declared.step.Next.{Next}
 use Rattle.drain_copy.specs.declared.step.Next.TheVariants as next
 use Rattle.drain_copy.specs.declared.step.DrainStep.{DrainStep}
 use Rattle.drain_copy.specs.declared.step.DrainStep.TheVariants.{Begun, Column, Directory, Finished}
-use Rattle.region_directory.specs.Region.{directory_from, layout}
+use Rattle.region_layout.specs.Region.{directory_from, layout}
 
 -- The image that is copied, the step that comes next, and the columns that are still on the heap, in the order in which they are written.
 pub record DrainState : Type 0 where

@@ -1,7 +1,7 @@
 -- What a crash may leave of the region while a step calls on it.
 use Rattle.std.specs.Prelude.{◌≡◌, ◌⊎◌, ℕ, ◌≤◌, List, [], ◌∷◌, length, take}
 use Rattle.berth_face.specs.Berth.{Pair, Meaning}
-use Rattle.region_layout.specs.Region.{IsClosed}
+use Rattle.region_layout.specs.Head.{IsClosed}
 
 -- the pair comes from one before: the disk is the same, and the region has P
 pub record LeftFrom (P : List ℕ → Type 0) (old : Meaning) (p : Pair) : Type 0 where

@@ -1,10 +1,10 @@
 // Columns moved out of their tables. There is room for them, so that nothing can fail.
 ghost use Rattle.std.specs.Prelude.{◌≡◌, ◌+◌, ◌≤◌, ◌++◌, length};
 ghost use Rattle.std.specs.VecDeque.{deque_capacity, deque_len};
-ghost use Rattle.region_directory.specs.Drained.{all_columns};
+ghost use Rattle.region_layout.specs.Drained.{all_columns};
 ghost use Rattle.drain_copy.specs.Planned.{blocks_bytes, blocks_count, columns_bytes, tables_count};
 
-use region_directory::DrainTable;
+use region_layout::DrainTable;
 use row_blocks::{BlockColumn, ColumnBytes, RowBlock};
 use std::collections::VecDeque;
 

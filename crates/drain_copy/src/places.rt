@@ -2,7 +2,7 @@
 ghost use Rattle.std.specs.Prelude.{◌≡◌, ◌+◌, ◌<◌, ◌^◌, IfOk, OnOk};
 ghost use Rattle.drain_copy.specs.Planned.{block_from, blocks_from, blocks_size, columns_size, places_from, planned_directory, table_from, tables_from, tables_size};
 
-use region_directory::{
+use region_layout::{
     BlockPlaces, BlockPlacesList, Directory, DrainTable, Place, Places, TablePlaces,
     TablePlacesList,
 };

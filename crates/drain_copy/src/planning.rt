@@ -4,13 +4,13 @@ ghost use Rattle.std.specs.List.{AllByRecursion};
 ghost use Rattle.std.specs.VecDeque.{deque_capacity, deque_len};
 ghost use Rattle.region_layout.specs.Names.{IsName};
 ghost use Rattle.table_state.specs.Tables.{IsParts};
-ghost use Rattle.region_directory.specs.declared.drained.DrainTable.{DrainTable};
-ghost use Rattle.region_directory.specs.Written.{directory_bytes};
+ghost use Rattle.region_layout.specs.declared.drained.DrainTable.{DrainTable};
+ghost use Rattle.region_layout.specs.Written.{directory_bytes};
 ghost use Rattle.drain_copy.specs.Planned.{HasRoom, planned_directory, tables_count, tables_size};
 
 use crate::places::directory_of;
 use crate::sizes::Sizes;
-use region_directory::DrainTable;
+use region_layout::DrainTable;
 use row_blocks::ColumnBytes;
 use std::alloc::{AllocError, Global};
 use std::collections::VecDeque;

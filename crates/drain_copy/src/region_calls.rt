@@ -3,7 +3,7 @@ ghost use Rattle.std.specs.Prelude.{◌≡◌, ◌⊎◌, ◌+◌, ◌<◌, ◌^
 ghost use Rattle.berth_face.specs.Causes.{HasCause};
 ghost use Rattle.berth_face.specs.Berth.{Passes, Ended, SameDisk};
 ghost use Rattle.berth_face.specs.Moments.{Throughout};
-ghost use Rattle.region_layout.specs.Region.{IsClosed};
+ghost use Rattle.region_layout.specs.Head.{IsClosed};
 ghost use Rattle.drain_copy.specs.Draining.{AllClosed};
 ghost use Rattle.drain_copy.specs.Regions.{LeftFrom, ClosedOrOpened, ClosedWithin, EndsAt, IsWithin};
 

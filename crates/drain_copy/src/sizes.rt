@@ -1,10 +1,10 @@
 // How large an image will be, reckoned before it is made.
 ghost use Rattle.std.specs.Prelude.{◌≡◌, ◌+◌, ◌^◌, nat_le, length, IfSome, IfNone, IsTrue};
 ghost use Rattle.std.specs.List.{list_any};
-ghost use Rattle.region_directory.specs.Drained.{column_entry, has_no_room, is_wide};
+ghost use Rattle.region_layout.specs.Drained.{column_entry, has_no_room, is_wide};
 ghost use Rattle.drain_copy.specs.Planned.{Grew, HasRoom, blocks_count, blocks_entries, blocks_size, columns_entries, columns_size, tables_count, tables_entries, tables_size};
 
-use region_directory::DrainTable;
+use region_layout::DrainTable;
 use row_blocks::{BlockColumn, RowBlock};
 
 const TOO_MANY: u64 = 1 << 32;

@@ -1,6 +1,6 @@
 -- Names that a leaf does not have, once it has opened a table.
 use Rattle.std.proofs.Common.{◌≡◌, ℕ, Bool, true, false, List, sym, subst, refl, arith}
-use Rattle.region_directory.specs.Region.{reads}
+use Rattle.region_layout.specs.Region.{reads}
 use Rattle.berth_face.specs.Berth.{Meaning}
 use Rattle.leaf_history.specs.History.{no_base}
 use Rattle.disk_backup.proofs.SoundLogs.{none_short}

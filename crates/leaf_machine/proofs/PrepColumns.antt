@@ -9,8 +9,8 @@ use Rattle.row_blocks.specs.declared.column.BlockColumn.{BlockColumn}
 use Rattle.row_blocks.specs.Blocks.{Block, IsBlock}
 use Rattle.row_blocks.specs.Held.{IsSkip, rows_held}
 use Rattle.table_state.specs.Tables.{IsParts, Table, least_columns}
-use Rattle.region_directory.specs.declared.drained.DrainTable.{DrainTable}
-use Rattle.region_directory.specs.Drained.{all_columns, columns_in}
+use Rattle.region_layout.specs.declared.drained.DrainTable.{DrainTable}
+use Rattle.region_layout.specs.Drained.{all_columns, columns_in}
 use Rattle.leaf_history.specs.History.{held}
 use Rattle.leaf_table.specs.Turns.{Shared}
 use Rattle.leaf_table.specs.Calls.{SeatView, base_seen, state_seen}

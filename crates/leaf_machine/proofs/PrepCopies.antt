@@ -9,9 +9,9 @@ use Rattle.leaf_model.specs.Content.{Contents, content_from}
 use Rattle.berth_face.specs.Berth.{Meaning}
 use Rattle.leaf_history.specs.History.{HistoryState, write_count}
 use Rattle.table_state.specs.Tables.{IsParts, Table}
-use Rattle.region_directory.specs.declared.drained.DrainTable.{DrainTable}
-use Rattle.region_directory.specs.Drained.{all_columns, has_no_room, images_of as drained_images}
-use Rattle.region_directory.specs.Region.{IsAdoptable, image_of_parts}
+use Rattle.region_layout.specs.declared.drained.DrainTable.{DrainTable}
+use Rattle.region_layout.specs.Drained.{all_columns, has_no_room, images_of as drained_images}
+use Rattle.region_layout.specs.Region.{IsAdoptable, image_of_parts}
 use Rattle.region_layout.specs.Images.{TableImage, images_of}
 use Rattle.region_layout.specs.Names.{IsName}
 use Rattle.drain_copy.specs.declared.step.Next.TheVariants as next

@@ -1,6 +1,6 @@
 -- The open tables are shut, and the leaf rests.
 use Rattle.std.proofs.Common.{◌≡◌, ℕ, ◌+◌, ◌<◌, ◌≤◌, Bool, true, List, length, refl, sym, ap, subst, ◌∙◌, arith, inl, inr}
-use Rattle.region_directory.specs.Region.{reads}
+use Rattle.region_layout.specs.Region.{reads}
 use Rattle.std.specs.Prelude.{slice_get}
 use Rattle.std.proofs.lemmas.Bool.{cases_lt}
 use Rattle.leaf_model.specs.declared.writes.Write.{Write}

@@ -4,9 +4,9 @@ use Rattle.leaf_model.specs.declared.writes.Write.{Write}
 use Rattle.berth_face.specs.Berth.{Meaning}
 use Rattle.berth_face.specs.Causes.{Rose}
 use Rattle.table_state.specs.Tables.{Table}
-use Rattle.region_directory.specs.declared.drained.DrainTable.{DrainTable}
-use Rattle.region_directory.specs.Region.{IsAdoptable}
-use Rattle.region_directory.specs.Drained.{all_columns, has_no_room}
+use Rattle.region_layout.specs.declared.drained.DrainTable.{DrainTable}
+use Rattle.region_layout.specs.Region.{IsAdoptable}
+use Rattle.region_layout.specs.Drained.{all_columns, has_no_room}
 use Rattle.region_layout.specs.Images.{images_of}
 use Rattle.drain_copy.specs.declared.step.Next.TheVariants as next
 use Rattle.drain_copy.specs.declared.step.PlanFault.{PlanFault}

@@ -2,7 +2,7 @@
 use Rattle.std.specs.Prelude.{◌≡◌, ℕ, Bool, true, false, List, [], ◌∷◌, map, Option, Some, None}
 use Rattle.table_state.specs.declared.parts.Parts.{Parts}
 use Rattle.table_state.specs.Tables.{Table, bare, contents_of, no_store}
-use Rattle.region_directory.specs.declared.drained.DrainTable.{DrainTable}
+use Rattle.region_layout.specs.declared.drained.DrainTable.{DrainTable}
 
 -- what the parts of a table make, of which the disk is owed nothing
 abbrev pub table_of_parts : Parts → Table

@@ -1,6 +1,6 @@
 // Over which berths a leaf may begin.
 ghost use Rattle.crash_moments.specs.Base.{IsReady};
-ghost use Rattle.region_directory.specs.Region.{reads};
+ghost use Rattle.region_layout.specs.Region.{reads};
 ghost use Rattle.berth_face.specs.Berth.{OpenedOn, Pair};
 ghost use Rattle.crash_moments.specs.Left.{NamedStates, Left};
 ghost use Rattle.crash_states.specs.Beginning.{BeginsOnLog, MayBegin};

@@ -2,11 +2,11 @@
 ghost use Rattle.std.specs.Prelude.{◌≡◌, ◌<◌, ◌++◌, ◌∷◌, [], length, None, true, false, OnOk, OnErr, vec_len, vec_capacity};
 ghost use Rattle.std.specs.List.{AllByRecursion};
 ghost use Rattle.table_state.specs.Tables.{IsParts, bare};
-ghost use Rattle.region_directory.specs.declared.drained.DrainTable.{DrainTable};
+ghost use Rattle.region_layout.specs.declared.drained.DrainTable.{DrainTable};
 ghost use Rattle.leaf_machine.specs.Shut.{AreTablesOf, table_of_parts};
 
 use leaf_model::Text;
-use region_directory::{DrainTable, DrainTables};
+use region_layout::{DrainTable, DrainTables};
 use std::alloc::{AllocError, Global};
 use std::marker::Model;
 use table_state::TableState;
@@ -22,7 +22,7 @@ impl Model for ShutTables {
     ghost use Rattle.std.specs.Prelude.{◌≡◌, ◌++◌, None, map, IfSome};
     ghost use Rattle.std.specs.List.{AllByRecursion};
     ghost use Rattle.table_state.specs.Tables.{IsParts};
-    ghost use Rattle.region_directory.specs.declared.drained.DrainTable.{DrainTable};
+    ghost use Rattle.region_layout.specs.declared.drained.DrainTable.{DrainTable};
     ghost use Rattle.leaf_machine.specs.Shut.{ShutState, drained_table, last_table, is_there};
 
     ghost Value = { ShutState };

@@ -3,10 +3,10 @@ use Rattle.std.proofs.Common.{◌≡◌, inl, inr, ℕ, Bool, true, false, List,
 use Rattle.region_layout.specs.declared.head.Head.{Head}
 use Rattle.region_layout.specs.declared.head.Head.TheVariants as head
 use Rattle.region_layout.specs.Images.{TableImage}
-use Rattle.region_layout.specs.Region.{head_of, image_names}
-use Rattle.region_directory.specs.declared.directory.TablePlaces.{TablePlaces}
-use Rattle.region_directory.specs.Region.{IsAdoptable, image_of_parts, parts_in, reads}
-use Rattle.region_directory.proofs.Images.{same_directory}
+use Rattle.region_layout.specs.Head.{head_of, image_names}
+use Rattle.region_layout.specs.declared.directory.TablePlaces.{TablePlaces}
+use Rattle.region_layout.specs.Region.{IsAdoptable, image_of_parts, parts_in, reads}
+use Rattle.region_layout.proofs.Images.{same_directory}
 use Rattle.adopt.specs.declared.found.WhyDisk.{WhyDisk}
 use Rattle.adopt.specs.declared.found.WhyDisk.TheVariants as why
 use Rattle.adopt.specs.Adopting.{IsStranger, IsWhy, IsWhyFor, stranger_of}

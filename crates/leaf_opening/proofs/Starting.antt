@@ -4,7 +4,7 @@ use Rattle.std.specs.Prelude.{◌≢◌}
 use Rattle.berth_face.specs.Berth.{Pair, Meaning, Ended, SameDisk}
 use Rattle.berth_face.specs.Moments.{Throughout}
 use Rattle.berth_face.proofs.Moments.{throughout_map, throughout_join, now_of}
-use Rattle.region_layout.specs.Region.{IsClosed}
+use Rattle.region_layout.specs.Head.{IsClosed}
 use Rattle.adopt.specs.Adopting.{AdoptsFrom, IsBroken}
 use Rattle.adopt.specs.declared.found.AdoptFault.{AdoptFault}
 use Rattle.adopt.specs.declared.found.AdoptFault.TheVariants as adopting

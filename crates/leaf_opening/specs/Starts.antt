@@ -5,8 +5,8 @@ use Rattle.berth_face.specs.Berth.{Meaning, Pair, Ended, SameDisk}
 use Rattle.berth_face.specs.Moments.{EachNow}
 use Rattle.table_state.specs.Tables.{Table}
 use Rattle.region_layout.specs.Images.{TableImage}
-use Rattle.region_layout.specs.Region.{IsClosed, image_names}
-use Rattle.region_directory.specs.Region.{IsAdoptable}
+use Rattle.region_layout.specs.Head.{IsClosed, image_names}
+use Rattle.region_layout.specs.Region.{IsAdoptable}
 use Rattle.region_layout.specs.Images.{tables_of}
 use Rattle.adopt.specs.declared.found.WhyDisk.{WhyDisk}
 use Rattle.adopt.specs.declared.found.WhyDisk.TheVariants as why

@@ -12,7 +12,7 @@ use Rattle.berth_mem.specs.declared.berth.MemBerth.{MemBerth}
 use Rattle.berth_mem.specs.Forms.{FreshOn, meaning}
 use Rattle.berth_mem.specs.Record.{meaning_of, moments}
 use Rattle.disk_backup.specs.Logs.{is_short}
-use Rattle.region_layout.specs.Region.{IsClosed}
+use Rattle.region_layout.specs.Head.{IsClosed}
 use Rattle.disk_backup.specs.SoundLogs.{HasSoundLog}
 use Rattle.crash_moments.specs.Left.{NamedStates, closed}
 use Rattle.crash_states.specs.Standing.{Rests}

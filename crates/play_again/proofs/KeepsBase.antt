@@ -8,9 +8,9 @@ use Rattle.berth_face.specs.Berth.{Pair, Meaning}
 use Rattle.leaf_history.specs.History.{Entry}
 use Rattle.region_layout.specs.declared.head.Head.{Head}
 use Rattle.region_layout.specs.declared.head.Head.TheVariants as head
-use Rattle.region_layout.specs.Region.{IsClosed, head_of}
+use Rattle.region_layout.specs.Head.{IsClosed, head_of}
 use Rattle.region_layout.proofs.Heads.{closed_head}
-use Rattle.region_directory.specs.Region.{reads}
+use Rattle.region_layout.specs.Region.{reads}
 use Rattle.row_records.specs.Records.{LogRecord}
 use Rattle.disk_backup.specs.Logs.{IsLog, writes_of}
 use Rattle.disk_backup.specs.Settling.{with_writes}

@@ -8,7 +8,7 @@ use Rattle.leaf_model.specs.declared.writes.Write.{Write}
 use Rattle.row_records.specs.Records.{LogRecord}
 use Rattle.berth_face.specs.Berth.{Pair, Meaning}
 use Rattle.leaf_history.specs.History.{HistoryState, base_of, no_base}
-use Rattle.region_directory.specs.Region.{reads}
+use Rattle.region_layout.specs.Region.{reads}
 use Rattle.disk_backup.specs.Logs.{writes_of}
 use Rattle.disk_backup.specs.Settling.{HasLog, with_writes}
 use Rattle.disk_backup.specs.SoundLogs.{HasSoundLog}

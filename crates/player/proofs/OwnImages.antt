@@ -6,11 +6,11 @@ use Rattle.std.proofs.lemmas.Bool.{or_left, or_right}
 use Rattle.std.proofs.lemmas.Slice.Eq.{bytes_eq-Decides}
 use Rattle.table_state.specs.Tables.{Table}
 use Rattle.region_layout.specs.Images.{TableImage, images_of}
-use Rattle.region_layout.specs.Region.{IsClosed, image_names}
+use Rattle.region_layout.specs.Head.{IsClosed, image_names}
 use Rattle.region_layout.proofs.Heads.{closed_head}
-use Rattle.region_directory.specs.declared.directory.TablePlaces.{TablePlaces}
-use Rattle.region_directory.specs.Region.{IsAdoptable, image_of_parts, parts_in}
-use Rattle.region_directory.proofs.Images.{same_directory}
+use Rattle.region_layout.specs.declared.directory.TablePlaces.{TablePlaces}
+use Rattle.region_layout.specs.Region.{IsAdoptable, image_of_parts, parts_in}
+use Rattle.region_layout.proofs.Images.{same_directory}
 use Rattle.adopt.specs.Adopting.{HasNoStranger, stranger_of}
 
 -- ---- images of tables with these names

@@ -1,3 +1,13 @@
 pub mod Heads
 pub mod Numbers
 pub mod Answered
+pub mod Repeating
+pub mod Entries
+pub mod Sizes
+pub mod Putting
+pub mod Following
+pub mod Ending
+pub mod Tested
+pub mod Kept
+pub mod Found
+pub mod Images

@@ -1,5 +1,10 @@
-pub mod Region
+pub mod Head
 pub mod Names
 pub mod Images
 pub mod Reading
 pub mod ImageWrites
+pub mod Directory
+pub mod Written
+pub mod Tests
+pub mod Region
+pub mod Drained

@@ -1,28 +1,92 @@
--- A region: its head, and the image of its tables.
-use Rattle.std.specs.Prelude.{◌≢◌, ◌⊎◌, ℕ, ◌<◌, List, ◌∷◌, ◌++◌, length, take, drop, map, slice_index, if◌then◌else◌, nat_lt, ◌==◌, codes}
-use Rattle.std.specs.Int.{w32, from_le_bytes}
-use Rattle.row_records.specs.Bytes.{u32_bytes, u64_bytes}
-use Rattle.region_layout.specs.declared.head.Head.{Head}
-use Rattle.region_layout.specs.declared.head.Head.TheVariants.{NoHead, Closed, Version}
+-- What a region means, by its fields.
+use Rattle.std.specs.Prelude.{◌≡◌, ℕ, ◌+◌, ◌==◌, ◌||◌, Bool, true, nat_lt, List, [], map, take, drop, codes, slice_range}
+use Rattle.std.specs.List.{AllByRecursion}
+use Rattle.std.specs.Int.{w64, from_le_bytes}
+use Rattle.column_bytes.specs.declared.kind.Kind.{Kind}
+use Rattle.column_bytes.specs.declared.kind.Kind.TheVariants.{Ints, Texts, Sets}
+use Rattle.column_bytes.specs.Column.{kind_in}
+use Rattle.region_layout.specs.declared.head.Head.TheVariants.{Version}
 use Rattle.region_layout.specs.Images.{TableImage}
+use Rattle.region_layout.specs.Head.{head_of}
+use Rattle.row_blocks.specs.declared.column.BlockColumn.{BlockColumn}
+use Rattle.table_state.specs.declared.parts.Parts.{Parts}
+use Rattle.region_layout.specs.declared.directory.Place.{Place}
+use Rattle.region_layout.specs.declared.directory.BlockPlaces.{BlockPlaces}
+use Rattle.region_layout.specs.declared.directory.TablePlaces.{TablePlaces}
+use Rattle.region_layout.specs.declared.directory.Directory.{Directory}
+use Rattle.row_blocks.specs.Blocks.{Block}
+use Rattle.row_blocks.specs.Columns.{MeanCells}
+use Rattle.row_blocks.specs.Held.{rows_held}
+use Rattle.table_state.specs.Tables.{IsParts}
+use Rattle.region_layout.specs.Directory.{IsDirectory}
+use Rattle.region_layout.specs.Written.{directory_bytes}
 
--- shorter than a head, or its flag is not open
-abbrev pub IsClosed : List ℕ → Type 0
-IsClosed region = (length region < 16) ⊎ (slice_index region 0 ≢ 1)
+-- ---- versions: all that a newer layout changes
 
--- the four bytes after the flag and the letters
-abbrev pub version_of : List ℕ → ℕ
-version_of region = from_le_bytes w32 (take 4 (drop 4 region))
+-- the version that a drain writes
+abbrev pub layout : ℕ
+layout = 3
 
--- what the first 16 bytes say
-abbrev pub head_of : List ℕ → Head
-head_of region = if nat_lt (length region) 16 then NoHead
-    else (if slice_index region 0 == 1 then Version (version_of region) else Closed (slice_index region 0))
+-- the versions that a start adopts
+abbrev pub reads : ℕ → Bool
+reads version = version == 2 || version == 3
 
--- the 16 bytes of an open head: the flag, three letters, the version, and the place of the directory
-abbrev pub head_bytes : ℕ → ℕ → List ℕ
-head_bytes version place = 1 ∷ (codes "SCB" ++ u32_bytes version ++ u64_bytes place)
+-- the kinds of columns that an image of a version may have: sets stand in none before version 3
+abbrev pub allows : ℕ → Kind → Bool
+allows version Ints = true
+allows version Texts = true
+allows version Sets = nat_lt 2 version
 
--- the names of the tables of an image
-abbrev pub image_names : List TableImage → List (List ℕ)
-image_names tables = map (λ (t : TableImage). t.name) tables
+-- the bytes mean so many cells, of a kind that the version allows
+abbrev pub MeanIn : ℕ → List ℕ → ℕ → Type 0
+MeanIn version bytes n = MeanCells bytes n × (allows version (kind_in bytes) ≡ true)
+
+-- ---- the parts of a region
+
+-- where its directory stands
+abbrev pub directory_from : List ℕ → ℕ
+directory_from region = from_le_bytes w64 (take 8 (drop 8 region))
+
+-- the bytes that stand at a place of a region, under the column's name
+abbrev pub column_in : List ℕ → Place → BlockColumn
+column_in region p = record { name = p.name; bytes = slice_range region p.place (p.place + p.length) }
+
+-- a block of such columns
+abbrev pub block_in : List ℕ → BlockPlaces → Block
+block_in region b = record { rows = b.rows; columns = map (column_in region) b.columns }
+
+-- a table of such blocks
+abbrev pub parts_in : List ℕ → TablePlaces → Parts
+parts_in region t = record { horizon = t.horizon; writes = t.writes; skip = t.skip; blocks = map (block_in region) t.blocks }
+
+-- a table of this name with these parts
+abbrev pub image_of_parts : List ℕ → Parts → TableImage
+image_of_parts name p = record { name = name; horizon = p.horizon; writes = p.writes; rows = rows_held p.blocks [] p.skip p.horizon }
+
+-- its columns mean rows, and are of kinds that the version allows
+pub record IsTableIn (version : ℕ) (region : List ℕ) (t : TablePlaces) : Type 0 where
+  pub parts : IsParts (parts_in region t)
+  pub kinds : AllByRecursion (λ (b : Block). AllByRecursion (λ (c : BlockColumn). allows version (kind_in c.bytes) ≡ true) b.columns) (parts_in region t).blocks
+
+-- ---- an image of a version
+
+-- an open head of a version, the letters, and behind the columns the bytes of a directory that keeps its own rules
+pub record HasDirectory (version : ℕ) (region : List ℕ) (d : Directory) : Type 0 where
+  pub head : head_of region ≡ Version version
+  pub letters : take 3 (drop 1 region) ≡ codes "SCB"
+  pub bytes : drop (directory_from region) region ≡ directory_bytes d
+  pub itself : IsDirectory (directory_from region) d
+
+-- these tables and this end of the log
+pub record IsImage (version : ℕ) (region : List ℕ) (tables : List TableImage) (log_end : ℕ) : Type 0 where
+  pub directory : Directory
+  pub has : HasDirectory version region directory
+  pub each : AllByRecursion (IsTableIn version region) directory.tables
+  pub tables_are : tables ≡ map (λ (t : TablePlaces). image_of_parts t.name (parts_in region t)) directory.tables
+  pub log_end_is : log_end ≡ directory.log_end
+
+-- an image that a start adopts: the name that all crates above use
+pub record IsAdoptable (region : List ℕ) (tables : List TableImage) (log_end : ℕ) : Type 0 where
+  pub version : ℕ
+  pub reads_it : reads version ≡ true
+  pub is : IsImage version region tables log_end

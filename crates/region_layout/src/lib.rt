@@ -1,8 +1,19 @@
-//! The head of a region, and what the image of a leaf's tables says of each.
+//! What a region means: its head, the columns behind it, and behind these a directory of the tables, blocks and columns.
 #![tactic(auto)]
 
+mod directory;
+mod directory_reader;
+mod directory_writer;
+mod drained;
 mod head;
 mod laws;
+mod rules;
+mod version;
 
+pub use directory::{
+    BlockPlaces, BlockPlacesList, Directory, Place, Places, TablePlaces, TablePlacesList,
+};
+pub use drained::{DrainTable, DrainTables};
 pub use head::{Head, head_rest, read_head};
-pub use laws::one_head;
+pub use laws::{one_head, one_reading};
+pub use version::{LAYOUT, allows, reads};

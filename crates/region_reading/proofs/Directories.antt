@@ -6,13 +6,13 @@ use Rattle.std.specs.List.{AllByRecursion}
 use Rattle.std.proofs.lemmas.List.{drop-take, take-take}
 use Rattle.std.proofs.Math.Seq.{drop-nil}
 use Rattle.region_layout.specs.declared.head.Head.TheVariants.{NoHead, Closed, Version}
-use Rattle.region_layout.specs.Region.{head_of, version_of}
-use Rattle.region_directory.specs.declared.directory.Place.{Place}
-use Rattle.region_directory.specs.declared.directory.TablePlaces.{TablePlaces}
-use Rattle.region_directory.specs.declared.directory.Directory.{Directory}
-use Rattle.region_directory.specs.Directory.{IsDirectory, Joined, columns_of}
-use Rattle.region_directory.specs.Region.{HasDirectory, directory_from}
-use Rattle.region_directory.specs.Written.{MayBeWritten, TableFits}
+use Rattle.region_layout.specs.Head.{head_of, version_of}
+use Rattle.region_layout.specs.declared.directory.Place.{Place}
+use Rattle.region_layout.specs.declared.directory.TablePlaces.{TablePlaces}
+use Rattle.region_layout.specs.declared.directory.Directory.{Directory}
+use Rattle.region_layout.specs.Directory.{IsDirectory, Joined, columns_of}
+use Rattle.region_layout.specs.Region.{HasDirectory, directory_from}
+use Rattle.region_layout.specs.Written.{MayBeWritten, TableFits}
 use Rattle.region_reading.specs.declared.looked.Looked.{Looked}
 use Rattle.region_reading.specs.Reading.{IsRead, LooksAt, StandsAt, TellsPlace}
 

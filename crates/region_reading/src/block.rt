@@ -2,7 +2,7 @@
 ghost use Rattle.std.specs.Prelude.{◌≡◌, None, IfOk, IfSome, IsTrue, Err, map};
 ghost use Rattle.berth_face.specs.Causes.{Rose};
 ghost use Rattle.row_blocks.specs.Blocks.{IsBlock};
-ghost use Rattle.region_directory.specs.Region.{block_in, column_in};
+ghost use Rattle.region_layout.specs.Region.{block_in, column_in};
 ghost use Rattle.region_reading.specs.declared.fault.LookFault.TheVariants as fault;
 ghost use Rattle.region_reading.specs.Reading.{Untouched};
 
@@ -10,7 +10,7 @@ use crate::fault::LookFault;
 use crate::lists::put;
 use crate::region::read_piece;
 use berth_face::Berth;
-use region_directory::{BlockPlaces, Place};
+use region_layout::{BlockPlaces, Place};
 use row_blocks::{BlockColumn, BlockColumns, BlockFault, ColumnBytes, RowBlock};
 use std::alloc::Global;
 use std::collections::VecDeque;

@@ -3,7 +3,7 @@ ghost use Rattle.std.specs.Prelude.{◌≡◌, ◌↔◌, ℕ, List, length, tak
 ghost use Rattle.std.specs.Int.{w64, from_le_bytes};
 ghost use Rattle.berth_face.specs.Causes.{Rose};
 ghost use Rattle.region_layout.specs.declared.head.Head.TheVariants.{Version};
-ghost use Rattle.region_layout.specs.Region.{head_of};
+ghost use Rattle.region_layout.specs.Head.{head_of};
 ghost use Rattle.region_reading.specs.declared.fault.LookFault.TheVariants as fault;
 ghost use Rattle.region_reading.specs.Reading.{IsRead, IsThere, LooksAt, StandsAt, TellsPlace, Untouched};
 
@@ -11,7 +11,7 @@ use crate::fault::LookFault;
 use crate::looked::Looked;
 use crate::region::read_piece;
 use berth_face::Berth;
-use region_directory::Directory;
+use region_layout::Directory;
 use std::alloc::{AllocError, Global};
 
 fn has_letters(front: &[u8; 16]) -> bool

@@ -6,7 +6,7 @@ ghost use Rattle.drain_copy.specs.declared.step.Next.TheVariants as next;
 
 use drain_copy::Drain;
 use leaf_model::{Names, Text};
-use region_directory::{DrainTable, DrainTables};
+use region_layout::{DrainTable, DrainTables};
 use std::alloc::{AllocError, Global};
 
 /// The log ends here.

@@ -1,7 +1,7 @@
 // Drains and adoptions, step by step to their ends.
 ghost use Rattle.std.specs.Prelude.{◌≡◌, ◌≢◌, IfOk, IfSome, IsTrue};
 ghost use Rattle.std.specs.List.{AllByRecursion};
-ghost use Rattle.region_directory.specs.declared.drained.DrainTable.{DrainTable};
+ghost use Rattle.region_layout.specs.declared.drained.DrainTable.{DrainTable};
 ghost use Rattle.table_state.specs.Tables.{IsParts};
 ghost use Rattle.drain_copy.specs.declared.step.Next.TheVariants as next;
 
@@ -9,7 +9,7 @@ use crate::tables::line_of;
 use adopt::{Adopt, AdoptStep};
 use berth_mem::MemBerth;
 use drain_copy::{Drain, DrainStep, RegionFault};
-use region_directory::DrainTables;
+use region_layout::DrainTables;
 use std::alloc::{AllocError, Global};
 use std::collections::VecDeque;
 use table_state::TableState;

@@ -6,7 +6,7 @@ ghost use Rattle.region_layout.specs.Names.{IsName};
 ghost use Rattle.table_state.specs.Tables.{IsParts};
 
 use leaf_model::{Cell, Row, Rows, Text, Value, Write};
-use region_directory::DrainTable;
+use region_layout::DrainTable;
 use row_records::read_rows;
 use std::alloc::{AllocError, Global};
 use table_state::TableState;

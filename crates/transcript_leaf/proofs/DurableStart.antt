@@ -8,12 +8,12 @@ use Rattle.leaf_model.specs.declared.writes.Write.{Write}
 use Rattle.disk_backup.proofs.Logs.{closed_is_log}
 use Rattle.region_layout.specs.declared.head.Head.{Head}
 use Rattle.region_layout.specs.declared.head.Head.TheVariants.{Version}
-use Rattle.region_layout.specs.Region.{head_of}
+use Rattle.region_layout.specs.Head.{head_of}
 use Rattle.region_layout.specs.Images.{TableImage}
 use Rattle.region_layout.specs.Images as images
 use Rattle.region_layout.specs.ImageWrites.{AreImagesOf}
-use Rattle.region_directory.specs.Region.{reads}
-use Rattle.region_directory.proofs.Images.{one_tables}
+use Rattle.region_layout.specs.Region.{reads}
+use Rattle.region_layout.proofs.Images.{one_tables}
 use Rattle.log_recovery.specs.Recovery as recovery
 use Rattle.leaf_opening.specs.declared.ways.Way.{Way}
 use Rattle.leaf_opening.specs.declared.ways.Way.TheVariants.{Memory, Disk}

@@ -5,7 +5,7 @@ use Rattle.std.specs.List.{AllByRecursion}
 use Rattle.berth_face.specs.Berth.{Meaning}
 use Rattle.berth_face.specs.Moments.{EachNow}
 use Rattle.leaf_history.specs.History.{Entry, HistoryState}
-use Rattle.region_directory.specs.Region.{reads}
+use Rattle.region_layout.specs.Region.{reads}
 use Rattle.leaf_opening.specs.Starts.{IsWayOf}
 use Rattle.turnstile.specs.Seats.{unused_seat}
 use Rattle.crash_moments.specs.Left.{NamedStates, Left}

@@ -6,9 +6,9 @@ use Rattle.berth_face.specs.Berth.{Meaning, Pair}
 use Rattle.region_layout.specs.declared.head.Head.{Head}
 use Rattle.region_layout.specs.declared.head.Head.TheVariants as head
 use Rattle.region_layout.specs.Images.{TableImage}
-use Rattle.region_layout.specs.Region.{IsClosed, head_of, version_of}
+use Rattle.region_layout.specs.Head.{IsClosed, head_of, version_of}
 use Rattle.region_layout.proofs.Heads.{closed_head, shut_head}
-use Rattle.region_directory.specs.Region.{IsAdoptable, reads}
+use Rattle.region_layout.specs.Region.{IsAdoptable, reads}
 use Rattle.adopt.specs.declared.found.WhyDisk.{WhyDisk}
 use Rattle.adopt.specs.declared.found.WhyDisk.TheVariants as why
 use Rattle.adopt.specs.Adopting.{HasNoStranger, IsLeftBehind, IsNoImage, IsStranger, IsWhy}

@@ -1,6 +1,6 @@
 use Rattle.std.proofs.Common.{◌≡◌, rules, IsTrue, sym, subst}
 use Rattle.region_layout.specs.declared.head.Head.TheVariants.{Version}
-use Rattle.region_layout.specs.Region.{head_of}
+use Rattle.region_layout.specs.Head.{head_of}
 use Rattle.region_layout.proofs.Heads.{closed_head}
 use Rattle.adopt.specs.Finding.{IsOpenRegion}
 use Rattle.adopt.proofs.Ending.{ended_on, untouched_disks}

@@ -1,6 +1,6 @@
 use Rattle.std.proofs.Common.{IsTrue, sym, subst}
 use Rattle.berth_face.specs.Berth.{Pair}
-use Rattle.region_layout.specs.Region.{IsClosed}
+use Rattle.region_layout.specs.Head.{IsClosed}
 use Rattle.adopt.proofs.Ending.{ended_on, untouched_disks}
 use Rattle.adopt.proofs.Moments.{closed_after, short_after}
 use Rattle.adopt.proofs.adopting.take_span.Goals as goal

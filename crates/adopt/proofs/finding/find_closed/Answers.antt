@@ -1,7 +1,7 @@
 use Rattle.std.proofs.Common.{◌≡◌, true, drop, Option, IsTrue, rules, sym, ap, subst, ◌∙◌}
 use Rattle.berth_face.specs.Berth.{Pair}
-use Rattle.region_layout.specs.Region.{IsClosed}
-use Rattle.region_directory.specs.Region.{reads}
+use Rattle.region_layout.specs.Head.{IsClosed}
+use Rattle.region_layout.specs.Region.{reads}
 use Rattle.region_reading.specs.declared.looked.Looked.{Looked}
 use Rattle.region_reading.specs.Reading.{LooksAt}
 use Rattle.adopt.specs.Finding.{closed_flag}

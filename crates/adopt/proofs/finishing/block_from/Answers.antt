@@ -3,7 +3,7 @@ use Rattle.std.specs.Prelude.{IfOk, IfErr}
 use Rattle.row_blocks.specs.declared.column.BlockColumn.{BlockColumn}
 use Rattle.row_blocks.specs.declared.fault.BlockFault.TheVariants.{NoRows}
 use Rattle.row_blocks.specs.Blocks.{Block, IsBlock}
-use Rattle.region_directory.specs.declared.directory.BlockPlaces.{BlockPlaces}
+use Rattle.region_layout.specs.declared.directory.BlockPlaces.{BlockPlaces}
 use Rattle.adopt.specs.Finishing.{after_column, block_from, made_from, named_front}
 use Rattle.adopt.proofs.finishing.block_from.Goals as goal
 

@@ -1,6 +1,6 @@
 use Rattle.std.proofs.Common.{◌≡◌, List, rules, length, position, Some, None, option_map, refl, ap, subst, ◌∙◌}
 use Rattle.std.proofs.lemmas.Option.{slice_get_read}
-use Rattle.region_directory.specs.declared.directory.TablePlaces.{TablePlaces}
+use Rattle.region_layout.specs.declared.directory.TablePlaces.{TablePlaces}
 use Rattle.adopt.specs.Adopting.{stranger_of}
 use Rattle.adopt.specs.Finding.{is_stranger}
 use Rattle.adopt.proofs.Known.{names_of, no_stranger, stranger_at}

@@ -5,8 +5,8 @@ use Rattle.std.proofs.lemmas.List.{drop_more, map-append}
 use Rattle.table_state.specs.Tables.{Table, bare}
 use Rattle.leaf_model.specs.Names.{AreDistinct}
 use Rattle.region_layout.specs.Images.{tables_of}
-use Rattle.region_directory.specs.declared.drained.DrainTable.{DrainTable}
-use Rattle.region_directory.specs.Drained.{images_of}
+use Rattle.region_layout.specs.declared.drained.DrainTable.{DrainTable}
+use Rattle.region_layout.specs.Drained.{images_of}
 use Rattle.adopt.specs.Finishing.{IsMade}
 use Rattle.adopt.specs.Tables.{without}
 use Rattle.adopt.proofs.Arranging.{each_without, one_more}

@@ -3,7 +3,7 @@ use Rattle.std.specs.List.{AllByRecursion}
 use Rattle.table_state.specs.Tables.{bare}
 use Rattle.leaf_model.specs.Names.{AreDistinct}
 use Rattle.region_layout.specs.Images.{tables_of}
-use Rattle.region_directory.specs.Drained.{images_of}
+use Rattle.region_layout.specs.Drained.{images_of}
 use Rattle.adopt.specs.Finishing.{IsMade}
 use Rattle.adopt.proofs.tables.arranged.Given as goal
 

@@ -1,6 +1,6 @@
 use Rattle.std.proofs.Common.{◌≡◌, ◌+◌, ◌++◌}
 use Rattle.std.specs.VecDeque.{deque_capacity, deque_len}
-use Rattle.region_directory.specs.Drained.{all_columns}
+use Rattle.region_layout.specs.Drained.{all_columns}
 use Rattle.drain_copy.specs.Planned.{tables_count}
 use Rattle.drain_copy.proofs.moving.move_tables.Given as goal
 

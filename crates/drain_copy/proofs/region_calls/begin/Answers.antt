@@ -1,6 +1,6 @@
 use Rattle.std.proofs.Common.{◌≡◌, [], ◌∷◌, ◌∙◌, IsTrue, ap, sym, subst}
 use Rattle.berth_face.specs.Berth.{written}
-use Rattle.region_layout.specs.Region.{IsClosed}
+use Rattle.region_layout.specs.Head.{IsClosed}
 use Rattle.drain_copy.proofs.Moments.{emptied, flag_shut, behind_flag}
 use Rattle.drain_copy.proofs.region_calls.begin.Goals as goal
 

@@ -1,6 +1,6 @@
 use Rattle.std.specs.List.{AllByRecursion}
 use Rattle.std.specs.VecDeque.{deque_len}
-use Rattle.region_directory.specs.declared.drained.DrainTable.{DrainTable}
+use Rattle.region_layout.specs.declared.drained.DrainTable.{DrainTable}
 use Rattle.table_state.specs.Tables.{IsParts}
 use Rattle.region_tests.proofs.steps.lines_back.Given as goal
 

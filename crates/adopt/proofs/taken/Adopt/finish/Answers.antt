@@ -1,7 +1,7 @@
 use Rattle.std.proofs.Common.{ℕ, List, subst}
 use Rattle.std.specs.Prelude.{Contains}
 use Rattle.std.specs.List.{AllByRecursion}
-use Rattle.region_directory.specs.declared.directory.TablePlaces.{TablePlaces}
+use Rattle.region_layout.specs.declared.directory.TablePlaces.{TablePlaces}
 use Rattle.adopt.specs.Finishing.{FinishesAs}
 use Rattle.region_reading.specs.Reading.{IsRead}
 use Rattle.adopt.specs.Taken.{AdoptState}

@@ -1,8 +1,8 @@
 use Rattle.std.proofs.Common.{◌≡◌, ◌+◌, ◌<◌, ◌^◌, false, List, ℕ, sym, ap, ◌∙◌, subst, arith}
-use Rattle.region_directory.specs.declared.drained.DrainTable.{DrainTable}
-use Rattle.region_directory.specs.Drained.{has_no_room, images_of}
-use Rattle.region_directory.specs.Region.{IsAdoptable}
-use Rattle.region_directory.specs.Written.{directory_bytes}
+use Rattle.region_layout.specs.declared.drained.DrainTable.{DrainTable}
+use Rattle.region_layout.specs.Drained.{has_no_room, images_of}
+use Rattle.region_layout.specs.Region.{IsAdoptable}
+use Rattle.region_layout.specs.Written.{directory_bytes}
 use Rattle.drain_copy.specs.Planned.{planned_directory, tables_size}
 use Rattle.drain_copy.proofs.Fitting.{may_be_written}
 use Rattle.drain_copy.proofs.Imaging.{adoptable}

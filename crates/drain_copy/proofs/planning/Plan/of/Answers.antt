@@ -1,5 +1,5 @@
 use Rattle.std.proofs.Common.{◌+◌, ◌<◌, ◌^◌, sym, subst, arith}
-use Rattle.region_directory.specs.Written.{MayBeWritten}
+use Rattle.region_layout.specs.Written.{MayBeWritten}
 use Rattle.drain_copy.specs.Planned.{tables_size}
 use Rattle.drain_copy.proofs.Fitting.{may_be_written}
 use Rattle.drain_copy.proofs.Reckoned.{image_length_is, narrow_of, short_of}

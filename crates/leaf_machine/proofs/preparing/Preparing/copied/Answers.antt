@@ -1,7 +1,7 @@
 use Rattle.std.proofs.Common.{◌≡◌, ℕ, List, refl, sym, subst}
 use Rattle.leaf_model.specs.declared.writes.Write.{Write}
-use Rattle.region_directory.specs.declared.drained.DrainTable.{DrainTable}
-use Rattle.region_directory.specs.Region.{IsAdoptable}
+use Rattle.region_layout.specs.declared.drained.DrainTable.{DrainTable}
+use Rattle.region_layout.specs.Region.{IsAdoptable}
 use Rattle.region_layout.specs.Images.{images_of}
 use Rattle.drain_copy.specs.Draining.{DrainState}
 use Rattle.crash_states.specs.Standing.{Runs}

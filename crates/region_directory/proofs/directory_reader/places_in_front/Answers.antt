@@ -1,6 +1,0 @@
-use Rattle.std.proofs.Common.{arith}
-use Rattle.region_directory.proofs.Sizes.{few_for_places}
-use Rattle.region_directory.proofs.directory_reader.places_in_front.Goals as goal
-
-pub returns-then-count-bytes-clause-given : goal.returns-then-count-bytes-clause-given
-returns-then-count-bytes-clause-given c = few_for_places c.args.count c.args.bytes.now (λ i. omega (arith, c.type_inv.bytes i)) c.if-count-bytes.true

@@ -1,8 +1,0 @@
-use Rattle.std.proofs.Common.{◌≡◌, ◌-◌}
-use Rattle.row_records.proofs.Loop.{with_front}
-use Rattle.row_records.specs.Reading.{many_at}
-use Rattle.region_directory.specs.Directory.{table_at}
-use Rattle.region_directory.proofs.directory_reader.tables_of.Given as goal
-
-abbrev pub invariant-loop : goal.invariant-loop
-invariant-loop l = with_front l.tables.items (many_at table_at (l.count - l.counter) l.rest) ≡ many_at table_at l.count l.bytes

@@ -1,5 +1,0 @@
-pub mod Directory
-pub mod Written
-pub mod Tests
-pub mod Region
-pub mod Drained

@@ -1,0 +1,8 @@
+use Rattle.std.proofs.Common.{◌≡◌, ◌-◌}
+use Rattle.row_records.proofs.Loop.{with_front}
+use Rattle.row_records.specs.Reading.{many_at}
+use Rattle.region_layout.specs.Directory.{place_at}
+use Rattle.region_layout.proofs.directory_reader.places_of.Given as goal
+
+abbrev pub invariant-loop : goal.invariant-loop
+invariant-loop l = with_front l.places.items (many_at place_at (l.count - l.counter) l.rest) ≡ many_at place_at l.count l.bytes

@@ -1,0 +1,188 @@
+// The directory of a region.
+ghost use Rattle.std.specs.Prelude.{◌≡◌, Some, None, IfOk, IfSome, if◌then◌else◌};
+ghost use Rattle.region_layout.specs.Directory.{directory_at, IsDirectory};
+ghost use Rattle.region_layout.specs.Tests.{is_directory};
+ghost use Rattle.region_layout.specs.Written.{MayBeWritten, directory_bytes};
+
+use crate::directory_reader::directory_of;
+use crate::directory_writer::put_directory;
+use crate::rules::is_directory;
+use leaf_model::Text;
+use row_records::ReadError;
+use std::alloc::{AllocError, Global};
+use std::marker::Model;
+
+/// A column: its name, where its bytes begin in the region, and how many there are.
+#[derive(Drop)]
+pub struct Place {
+    pub name: Text,
+    pub place: u64,
+    pub length: u64,
+}
+
+/// The columns of a block in their order. Contracts see them as the list.
+#[derive(Drop)]
+pub struct Places {
+    inner: Vec<Place>,
+}
+
+impl Model for Places {
+    ghost use Rattle.std.specs.Prelude.{List};
+    ghost use Rattle.region_layout.specs.declared.directory.Place.{Place};
+
+    ghost Value = { List Place };
+
+    ghost view = { λ list. list.inner.items };
+}
+
+impl Places {
+    pub fn of(inner: Vec<Place>) -> Places
+        ensures { result ≡ inner.items }
+    {
+        Places { inner }
+    }
+
+    pub fn as_slice(&self) -> &[Place]
+        ensures { result.now ≡ self.now }
+    {
+        self.inner.as_slice()
+    }
+
+    pub fn into_inner(self) -> Vec<Place>
+        ensures { result.items ≡ self }
+    {
+        self.inner
+    }
+}
+
+/// A block: how many rows it has, 1 to 65,536, and its columns.
+#[derive(Drop)]
+pub struct BlockPlaces {
+    pub rows: u32,
+    pub columns: Places,
+}
+
+/// The blocks of a table in their order. Contracts see them as the list.
+#[derive(Drop)]
+pub struct BlockPlacesList {
+    inner: Vec<BlockPlaces>,
+}
+
+impl Model for BlockPlacesList {
+    ghost use Rattle.std.specs.Prelude.{List};
+    ghost use Rattle.region_layout.specs.declared.directory.BlockPlaces.{BlockPlaces};
+
+    ghost Value = { List BlockPlaces };
+
+    ghost view = { λ list. list.inner.items };
+}
+
+impl BlockPlacesList {
+    pub fn of(inner: Vec<BlockPlaces>) -> BlockPlacesList
+        ensures { result ≡ inner.items }
+    {
+        BlockPlacesList { inner }
+    }
+
+    pub fn as_slice(&self) -> &[BlockPlaces]
+        ensures { result.now ≡ self.now }
+    {
+        self.inner.as_slice()
+    }
+
+    pub fn into_inner(self) -> Vec<BlockPlaces>
+        ensures { result.items ≡ self }
+    {
+        self.inner
+    }
+}
+
+/// A table: its horizon from 0 to 2^63 - 1, how many writes it accepted, below 2^63, how many rows of the first block are cut away, and its blocks.
+#[derive(Drop)]
+pub struct TablePlaces {
+    pub name: Text,
+    pub horizon: i64,
+    pub writes: u64,
+    pub skip: u32,
+    pub blocks: BlockPlacesList,
+}
+
+/// The tables of a region in their order, at most 16. Contracts see them as the list.
+#[derive(Drop)]
+pub struct TablePlacesList {
+    inner: Vec<TablePlaces>,
+}
+
+impl Model for TablePlacesList {
+    ghost use Rattle.std.specs.Prelude.{List};
+    ghost use Rattle.region_layout.specs.declared.directory.TablePlaces.{TablePlaces};
+
+    ghost Value = { List TablePlaces };
+
+    ghost view = { λ list. list.inner.items };
+}
+
+impl TablePlacesList {
+    pub fn of(inner: Vec<TablePlaces>) -> TablePlacesList
+        ensures { result ≡ inner.items }
+    {
+        TablePlacesList { inner }
+    }
+
+    pub fn as_slice(&self) -> &[TablePlaces]
+        ensures { result.now ≡ self.now }
+    {
+        self.inner.as_slice()
+    }
+
+    pub fn into_inner(self) -> Vec<TablePlaces>
+        ensures { result.items ≡ self }
+    {
+        self.inner
+    }
+}
+
+/// The directory of a region: where the log ended, below 2^63, and the tables, whose names are distinct.
+#[derive(Drop)]
+pub struct Directory {
+    pub log_end: u64,
+    pub tables: TablePlacesList,
+}
+
+impl Directory {
+    /// The directory that the bytes are which stand at this place, or nothing where they are none.
+    pub fn read(alloc: Global, bytes: &[u8], place: u64) -> Result<Option<Directory>, AllocError>
+        ensures found { IfOk result (λ found. IfSome found (λ d. (bytes.now ≡ directory_bytes d) × IsDirectory place d)) }
+        ensures only { (d : Directory) → bytes.now ≡ directory_bytes d → IsDirectory place d → IfOk result (λ found. found ≡ Some d) }
+        // What is read has room in a directory.
+        ensures fits { IfOk result (λ found. IfSome found (λ d. MayBeWritten d)) }
+    {
+        match directory_of(alloc, bytes) {
+            Ok(directory) => Ok(kept(directory, place)),
+            Err(ReadError::Broken) => Ok(None),
+            Err(ReadError::Memory) => Err(AllocError),
+        }
+    }
+
+    /// Its bytes. All that `read` gives may be written.
+    pub fn write(&self, alloc: Global) -> Result<Vec<u8>, AllocError>
+        requires fits { MayBeWritten self.now }
+        ensures bytes { IfOk result (λ bytes. bytes.items ≡ directory_bytes self.now) }
+        ensures read { IfOk result (λ bytes. directory_at bytes.items ≡ Some self.now) }
+    {
+        let mut out = Vec::new(alloc);
+        put_directory(&mut out, self)?;
+        Ok(out)
+    }
+}
+
+/// The directory, where it keeps its rules at this place.
+fn kept(directory: Directory, place: u64) -> Option<Directory>
+    ensures { result ≡ (if is_directory place directory then Some directory else None) }
+{
+    if is_directory(&directory, place) {
+        Some(directory)
+    } else {
+        None
+    }
+}
