@@ -4,7 +4,7 @@ use Rattle.std.specs.Prelude.{Result, IfOk}
 use Rattle.std.proofs.lemmas.List.{take-append-le, length-take-le, drop-drop}
 use Rattle.std.proofs.Math.Seq.{take-append-add, take-add}
 use Rattle.std.specs.Io.{ReadsAtMost}
-use Rattle.berth_files.specs.Raw.{GivesSome}
+use Rattle.berth_files.specs.Files.{GivesSome}
 use borrow.Rule.Slice.PartMut.{put_mid, post_of}
 
 -- what stands in front of a part that was read, and the beginning of that part

@@ -1,108 +1,111 @@
-// A berth over two files of one folder.
-ghost use Rattle.std.specs.Prelude.{◌≡◌, ◌↔◌, ◌+◌, ◌-◌, ◌^◌, ◌<◌, ◌≤◌, length, min, IfOk, IsOk, IsErr, IsTrue};
-ghost use Rattle.std.proofs.lemmas.Bool.{false≢true};
+// A berth over the two files of a leaf.
+ghost use Rattle.std.specs.Prelude.{◌≡◌, ◌+◌, ◌-◌, ◌^◌, ◌≤◌, min, IfOk, IsOk, IsErr};
 ghost use Rattle.berth_face.specs.Causes.{Rose, HasCause};
-ghost use Rattle.berth_face.specs.Berth.{untold};
+ghost use Rattle.berth_files.specs.Files.{MeansFiles, counting};
 
-use crate::kept::Kept;
-use crate::whole::LIMIT;
+use crate::calls::FileCalls;
+use crate::folder::FolderFiles;
+use crate::leaf_file::LeafFile;
+use crate::whole::{read_whole, write_near};
 use berth_face::{Berth, Failed};
 use std::alloc::AllocError;
 
-/// A leaf's region and disk as two files of one folder, `leaf-L.region` and `leaf-L.disk`, each made
-/// at its first write. Nothing is told of what they hold; faults and reads of the disk are counted.
+/// A leaf's region and disk as two files. It tells what the files tell; faults and reads of the disk are counted.
 ///
-/// Each file is opened when it is first found, and stays open. A file that may not be both read and
-/// written is a fault at each call. One berth at a time serves a leaf of a folder.
+/// One berth at a time serves a leaf of a folder.
 #[derive(Drop)]
-pub struct FileBerth {
-    region: Kept,
-    disk: Kept,
+pub struct FileBerth<F> {
+    files: F,
     region_faults: u64,
     disk_faults: u64,
     disk_reads: u64,
 }
 
-impl FileBerth {
-    /// The files of a leaf in a folder. Neither is opened or made yet, and the folder need not be there.
-    pub fn new(rt: HostRuntime, folder: &str, leaf: u32) -> Result<FileBerth, AllocError>
-        ensures region_faults { IfOk result (λ b. (⟦<FileBerth as Berth>⟧.meaning b).region_faults ≡ 0) }
-        ensures disk_faults { IfOk result (λ b. (⟦<FileBerth as Berth>⟧.meaning b).disk_faults ≡ 0) }
-        ensures disk_reads { IfOk result (λ b. (⟦<FileBerth as Berth>⟧.meaning b).disk_reads ≡ 0) }
+impl<F: FileCalls + Send + Drop> FileBerth<F> {
+    /// A berth over these files.
+    pub fn over(files: F) -> FileBerth<F>
+        ensures files { MeansFiles (F.holds files) (⟦<FileBerth<F> as Berth>⟧.meaning result) }
+        ensures region_faults { (⟦<FileBerth<F> as Berth>⟧.meaning result).region_faults ≡ 0 }
+        ensures disk_faults { (⟦<FileBerth<F> as Berth>⟧.meaning result).disk_faults ≡ 0 }
+        ensures disk_reads { (⟦<FileBerth<F> as Berth>⟧.meaning result).disk_reads ≡ 0 }
     {
-        let region = format!(in rt.alloc(); "{folder}/leaf-{leaf}.region")?;
-        let disk = format!(in rt.alloc(); "{folder}/leaf-{leaf}.disk")?;
-        Ok(FileBerth {
-            region: Kept::new(rt, folder, region)?,
-            disk: Kept::new(rt, folder, disk)?,
+        FileBerth {
+            files,
             region_faults: 0,
             disk_faults: 0,
             disk_reads: 0,
-        })
+        }
     }
 }
 
-impl Berth for FileBerth {
-    ghost meaning = { λ b. untold b.region_faults b.disk_faults b.disk_reads };
+impl FileBerth<FolderFiles> {
+    /// A berth over the files of a leaf in a folder. Neither is opened or made yet, and the folder need not be there.
+    pub fn new(
+        rt: HostRuntime,
+        folder: &str,
+        leaf: u32,
+    ) -> Result<FileBerth<FolderFiles>, AllocError>
+        ensures region_faults { IfOk result (λ b. (⟦<FileBerth<FolderFiles> as Berth>⟧.meaning b).region_faults ≡ 0) }
+        ensures disk_faults { IfOk result (λ b. (⟦<FileBerth<FolderFiles> as Berth>⟧.meaning b).disk_faults ≡ 0) }
+        ensures disk_reads { IfOk result (λ b. (⟦<FileBerth<FolderFiles> as Berth>⟧.meaning b).disk_reads ≡ 0) }
+    {
+        Ok(FileBerth::over(FolderFiles::new(rt, folder, leaf)?))
+    }
+}
 
-    ghost stands = { λ b told. absurd (false≢true told) };
+impl<F: FileCalls + Send + Drop> Berth for FileBerth<F> {
+    ghost meaning = { λ b. counting (F.holds b.files) b.region_faults b.disk_faults b.disk_reads };
 
-    ghost keeps_region = { λ b p told left. absurd left };
+    ghost stands = { λ b told. F.stands b.files told };
 
-    ghost short = { λ b told. absurd (false≢true told) };
+    ghost keeps_region = { λ b p told left. F.keeps_region b.files p told left };
+
+    ghost short = { λ b told. F.short b.files told };
 
     fn region_len(&mut self) -> Result<u64, Failed> {
-        counted(self.region.len(), &mut self.region_faults)
+        counted(self.files.len(LeafFile::Region), &mut self.region_faults)
     }
 
     fn region_read(&mut self, at: u64, buf: &mut [u8]) -> Result<usize, Failed> {
-        counted(self.region.read(at, buf), &mut self.region_faults)
+        counted(
+            read_whole(&mut self.files, LeafFile::Region, at, buf),
+            &mut self.region_faults,
+        )
     }
 
     fn region_write(&mut self, at: u64, bytes: &[u8]) -> Result<(), Failed> {
         counted(
-            write_near(&mut self.region, at, bytes),
+            write_near(&mut self.files, LeafFile::Region, at, bytes),
             &mut self.region_faults,
         )
     }
 
     fn region_cut(&mut self, len: u64) -> Result<(), Failed> {
-        counted(self.region.cut(len), &mut self.region_faults)
+        counted(self.files.shorten_region(len), &mut self.region_faults)
     }
 
     fn disk_len(&mut self) -> Result<u64, Failed> {
-        counted(self.disk.len(), &mut self.disk_faults)
+        counted(self.files.len(LeafFile::Disk), &mut self.disk_faults)
     }
 
     fn disk_read(&mut self, at: u64, buf: &mut [u8]) -> Result<usize, Failed> {
         count(&mut self.disk_reads);
-        counted(self.disk.read(at, buf), &mut self.disk_faults)
+        counted(
+            read_whole(&mut self.files, LeafFile::Disk, at, buf),
+            &mut self.disk_faults,
+        )
     }
 
     fn disk_write(&mut self, at: u64, bytes: &[u8]) -> Result<(), Failed> {
-        counted(write_near(&mut self.disk, at, bytes), &mut self.disk_faults)
+        counted(
+            write_near(&mut self.files, LeafFile::Disk, at, bytes),
+            &mut self.disk_faults,
+        )
     }
 
     fn disk_sync(&mut self) -> Result<(), Failed> {
-        counted(self.disk.sync(), &mut self.disk_faults)
+        counted(self.files.sync_disk(), &mut self.disk_faults)
     }
-}
-
-/// Writes, unless the file would come to 2^63 bytes.
-fn write_near(kept: &mut Kept, at: u64, bytes: &[u8]) -> Result<(), Failed>
-    ensures too_far { 2 ^ 63 ≤ at + length bytes.now → IsErr result }
-{
-    if is_far(at, bytes.len()) {
-        return Err(Failed);
-    }
-    kept.write(at, bytes)
-}
-
-/// Whether so many bytes from `at` on come to 2^63 or past it.
-fn is_far(at: u64, len: usize) -> bool
-    ensures { IsTrue result ↔ 2 ^ 63 ≤ at + len }
-{
-    at >= LIMIT || len as u64 >= LIMIT - at
 }
 
 /// Counts a call that failed, and hands on what it gave.

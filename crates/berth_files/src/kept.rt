@@ -2,12 +2,12 @@
 ghost use Rattle.std.specs.Prelude.{◌+◌, ◌^◌, ◌<◌, length, IfOk};
 ghost use Rattle.std.specs.Io.{ReadsAtMost};
 
-use crate::raw::RawFile;
-use crate::whole::{LIMIT, cut, read_whole, sync, write_whole};
+use crate::whole::LIMIT;
 use berth_face::Failed;
 use std::alloc::AllocError;
 use std::fs::{File, OpenOptions};
 use std::io::ErrorKind;
+use std::os::unix::fs::FileExt;
 
 /// A file of a folder, which is made at its first write. One that is not there holds nothing.
 #[derive(Drop)]
@@ -38,32 +38,49 @@ impl Kept {
         let Some(file) = self.found()? else {
             return Ok(0);
         };
-        match file.len() {
+        match len_of(file) {
             Ok(len) if len < LIMIT => Ok(len),
             Ok(_) | Err(_) => Err(Failed),
         }
     }
 
-    pub(crate) fn read(&mut self, at: u64, buf: &mut [u8]) -> Result<usize, Failed>
+    pub(crate) fn read_some(&mut self, at: u64, buf: &mut [u8]) -> Result<usize, Failed>
         ensures bound { ReadsAtMost result buf.new }
     {
         match self.found()? {
-            Some(file) => read_whole(file, at, buf),
+            Some(file) => read_some(file, at, buf),
             None => Ok(0),
         }
     }
 
-    pub(crate) fn write(&mut self, at: u64, bytes: &[u8]) -> Result<(), Failed>
+    /// Writes all of a piece.
+    pub(crate) fn write_all(&mut self, at: u64, bytes: &[u8]) -> Result<(), Failed>
         requires { at + length bytes.now < 2 ^ 63 }
     {
-        write_whole(self.made()?, at, bytes)
+        self.made()?.write_all_at(bytes, at).map_err(|_| Failed)
     }
 
-    pub(crate) fn cut(&mut self, len: u64) -> Result<(), Failed> {
-        match self.found()? {
-            Some(file) => cut(file, len),
-            None => Ok(()),
+    /// Lengthens the file by zeros. A length not above the present one changes nothing.
+    pub(crate) fn lengthen(&mut self, len: u64) -> Result<(), Failed>
+        requires { len < 2 ^ 63 }
+    {
+        let file = self.made()?;
+        if len_of(file)? < len {
+            resize(file, len)?;
         }
+        Ok(())
+    }
+
+    /// Cuts the file. A length not below the present one changes nothing.
+    pub(crate) fn shorten(&mut self, len: u64) -> Result<(), Failed> {
+        let Some(file) = self.found()? else {
+            return Ok(());
+        };
+        let now = len_of(file)?;
+        if len < LIMIT && len < now {
+            resize(file, len)?;
+        }
+        Ok(())
     }
 
     /// Syncs the file, and the first time its folder too, without which the file itself may be lost.
@@ -95,6 +112,38 @@ impl Kept {
         };
         Ok(self.file.insert(file))
     }
+}
+
+fn len_of(file: &File) -> Result<u64, Failed> {
+    match file.metadata() {
+        Ok(found) => Ok(found.len()),
+        Err(_) => Err(Failed),
+    }
+}
+
+/// Reads once. A signal may interrupt a read again and again.
+fn read_some(file: &File, at: u64, buf: &mut [u8]) -> Result<usize, Failed>
+    ensures bound { ReadsAtMost result buf.new }
+{
+    for _ in 0..u64::MAX {
+        match file.read_at(buf, at) {
+            Ok(count) => return Ok(count),
+            Err(error) if error.kind() == ErrorKind::Interrupted => {}
+            Err(_) => return Err(Failed),
+        }
+    }
+    Err(Failed)
+}
+
+fn resize(file: &mut File, len: u64) -> Result<(), Failed>
+    requires { len < 2 ^ 63 }
+{
+    file.set_len(len).map_err(|_| Failed)
+}
+
+/// Gives the file's bytes and its length to the device.
+fn sync(file: &mut File) -> Result<(), Failed> {
+    file.sync_all().map_err(|_| Failed)
 }
 
 /// Opens a file for reads and writes. None is a file that is not there.

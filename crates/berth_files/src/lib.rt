@@ -1,11 +1,16 @@
-//! The edge to the system: a berth over two files of one folder, which tells nothing of what they hold; standard input and output.
+//! The edge to the system: a berth over the two files of a leaf, which tells what the files tell; standard input and output.
 #![tactic(auto)]
 
 mod berth;
+mod calls;
+mod folder;
 mod kept;
-mod raw;
+mod leaf_file;
 mod standard;
 mod whole;
 
 pub use berth::FileBerth;
+pub use calls::FileCalls;
+pub use folder::FolderFiles;
+pub use leaf_file::LeafFile;
 pub use standard::{StdSink, StdSource};

@@ -10,7 +10,7 @@ ghost use Rattle.scuba_cli.specs.Fresh.{IsEmptyBerth};
 mod command_line;
 
 use berth_face::{Berth, OpenGate};
-use berth_files::{FileBerth, StdSink, StdSource};
+use berth_files::{FileBerth, FolderFiles, StdSink, StdSource};
 use berth_mem::MemBerth;
 use command_line::{CommandLine, Refusal, split};
 use play::{Bases, EmptyBerths, Status, fault_text, run};
@@ -89,7 +89,7 @@ fn fresh_berth(alloc: Global) -> MemBerth
 }
 
 /// Berths over the files of a folder, which are made where a leaf writes.
-fn file_berths(rt: HostRuntime, folder: &str) -> Result<Vec<FileBerth>, AllocError> {
+fn file_berths(rt: HostRuntime, folder: &str) -> Result<Vec<FileBerth<FolderFiles>>, AllocError> {
     let mut berths = Vec::with_capacity(rt.alloc(), BERTHS as usize)?;
     for leaf in 0..BERTHS {
         berths.push(FileBerth::new(rt, folder, leaf)?)?;

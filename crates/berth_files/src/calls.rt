@@ -1,0 +1,61 @@
+// The six calls on the two files of a leaf, and what each keeps.
+ghost use Rattle.std.specs.Prelude.{◌≡◌, ◌⊎◌, ◌+◌, ◌^◌, ◌<◌, [], length, IfOk, IsTrue};
+ghost use Rattle.std.specs.Io.{ReadsAtMost};
+ghost use Rattle.berth_face.specs.Berth.{Pair, Meaning, Stays, RegionCut, DiskSynced};
+ghost use Rattle.berth_files.specs.Files.{GivesSome, FileWritten, GoesOn, content};
+
+use crate::leaf_file::LeafFile;
+use berth_face::Failed;
+
+/// The two files of a leaf, by six calls. Each clause says what a call gives and keeps where the
+/// files tell what they hold. That the system's files keep these clauses is trusted; all that is
+/// said of a `FileBerth` is proved over every pair of files that keep them.
+pub trait FileCalls {
+    /// What the files hold, and what a crash at each moment may leave of them. Its counts of faults and of reads say nothing.
+    ghost holds: { Self → Meaning };
+
+    /// How many bytes the file has. One that is not there has none.
+    fn len(&mut self, file: LeafFile) -> Result<u64, Failed>
+        ensures bound { IfOk result (λ n. n < 2 ^ 63) }
+        ensures told { IsTrue (holds self.old).tells → IfOk result (λ n. n ≡ length (content file (holds self.old))) × Stays (holds self.old) (holds self.new) }
+        ensures time { GoesOn (holds self.old) (holds self.new) };
+
+    /// Gives bytes from `at` on. It may give fewer than there are, but one at least where there is one and room for it.
+    fn read_some(&mut self, file: LeafFile, at: u64, buf: &mut [u8]) -> Result<usize, Failed>
+        requires { at + length buf.old < 2 ^ 63 }
+        ensures bound { ReadsAtMost result buf.new }
+        ensures told { IsTrue (holds self.old).tells → IfOk result (λ n. GivesSome at (content file (holds self.old)) buf.new n) × Stays (holds self.old) (holds self.new) }
+        ensures time { GoesOn (holds self.old) (holds self.new) };
+
+    /// Writes all of a piece that is not empty, and fills a gap before it with zeros. A file that is not there is made.
+    fn write_all(&mut self, file: LeafFile, at: u64, bytes: &[u8]) -> Result<(), Failed>
+        requires some { 0 < length bytes.now }
+        requires near { at + length bytes.now < 2 ^ 63 }
+        ensures told { IsTrue (holds self.old).tells → FileWritten file at bytes.now result (holds self.old) (holds self.new) }
+        ensures time { GoesOn (holds self.old) (holds self.new) };
+
+    /// Lengthens the file with zeros, as a write of no bytes at `len` does. A file that is as long stays as it is, and one that is not there is made.
+    fn lengthen(&mut self, file: LeafFile, len: u64) -> Result<(), Failed>
+        requires { len < 2 ^ 63 }
+        ensures told { IsTrue (holds self.old).tells → FileWritten file len [] result (holds self.old) (holds self.new) }
+        ensures time { GoesOn (holds self.old) (holds self.new) };
+
+    /// Cuts the region's file to `len` bytes. One that is no longer stays as it is.
+    fn shorten_region(&mut self, len: u64) -> Result<(), Failed>
+        ensures told { IsTrue (holds self.old).tells → RegionCut len result (holds self.old) (holds self.new) }
+        ensures time { GoesOn (holds self.old) (holds self.new) };
+
+    /// Gives the disk's file to the device, and its entry in the folder. After it, a crash leaves the disk that a read gives.
+    fn sync_disk(&mut self) -> Result<(), Failed>
+        ensures told { IsTrue (holds self.old).tells → DiskSynced result (holds self.old) (holds self.new) }
+        ensures time { GoesOn (holds self.old) (holds self.new) };
+
+    /// A crash now may leave what reads give.
+    ghost stands: { (f : Self) → IsTrue (holds f).tells → (holds f).leaves (holds f).clock (holds f).held };
+
+    /// A crash now leaves the region that reads give, or with the machine loses it.
+    ghost keeps_region: { (f : Self) (p : Pair) → IsTrue (holds f).tells → (holds f).leaves (holds f).clock p → (p.region ≡ (holds f).held.region) ⊎ (p.region ≡ []) };
+
+    /// A file is shorter than 2^63 bytes.
+    ghost short: { (f : Self) → IsTrue (holds f).tells → (length (holds f).held.region < 2 ^ 63) × (length (holds f).held.disk < 2 ^ 63) };
+}

@@ -1,0 +1,79 @@
+// The files of a leaf as the system has them: this is the trusted edge.
+ghost use Rattle.std.specs.Prelude.{◌+◌, ◌^◌, ◌<◌, length, IfOk};
+ghost use Rattle.std.specs.Io.{ReadsAtMost};
+ghost use Rattle.std.proofs.lemmas.Bool.{false≢true};
+ghost use Rattle.berth_face.specs.Berth.{untold};
+
+use crate::calls::FileCalls;
+use crate::kept::Kept;
+use crate::leaf_file::LeafFile;
+use berth_face::Failed;
+use std::alloc::AllocError;
+
+/// Two files of one folder, `leaf-L.region` and `leaf-L.disk`, each made at its first write. They tell nothing of what they hold.
+///
+/// Each file is opened when it is first found, and stays open. A file that may not be both read and
+/// written is a fault at each call.
+#[derive(Drop)]
+pub struct FolderFiles {
+    region: Kept,
+    disk: Kept,
+}
+
+impl FolderFiles {
+    /// The files of a leaf in a folder. Neither is opened or made yet, and the folder need not be there.
+    pub fn new(rt: HostRuntime, folder: &str, leaf: u32) -> Result<FolderFiles, AllocError> {
+        let region = format!(in rt.alloc(); "{folder}/leaf-{leaf}.region")?;
+        let disk = format!(in rt.alloc(); "{folder}/leaf-{leaf}.disk")?;
+        Ok(FolderFiles {
+            region: Kept::new(rt, folder, region)?,
+            disk: Kept::new(rt, folder, disk)?,
+        })
+    }
+}
+
+impl FileCalls for FolderFiles {
+    ghost holds = { λ files. untold 0 0 0 };
+
+    ghost stands = { λ files told. absurd (false≢true told) };
+
+    ghost keeps_region = { λ files p told left. absurd left };
+
+    ghost short = { λ files told. absurd (false≢true told) };
+
+    fn len(&mut self, file: LeafFile) -> Result<u64, Failed> {
+        match file {
+            LeafFile::Region => self.region.len(),
+            LeafFile::Disk => self.disk.len(),
+        }
+    }
+
+    fn read_some(&mut self, file: LeafFile, at: u64, buf: &mut [u8]) -> Result<usize, Failed> {
+        match file {
+            LeafFile::Region => self.region.read_some(at, buf),
+            LeafFile::Disk => self.disk.read_some(at, buf),
+        }
+    }
+
+    fn write_all(&mut self, file: LeafFile, at: u64, bytes: &[u8]) -> Result<(), Failed> {
+        match file {
+            LeafFile::Region => self.region.write_all(at, bytes),
+            LeafFile::Disk => self.disk.write_all(at, bytes),
+        }
+    }
+
+    fn lengthen(&mut self, file: LeafFile, len: u64) -> Result<(), Failed> {
+        match file {
+            LeafFile::Region => self.region.lengthen(len),
+            LeafFile::Disk => self.disk.lengthen(len),
+        }
+    }
+
+    fn shorten_region(&mut self, len: u64) -> Result<(), Failed> {
+        self.region.shorten(len)
+    }
+
+    fn sync_disk(&mut self) -> Result<(), Failed> {
+        self.disk.sync()
+    }
+}

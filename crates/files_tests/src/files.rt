@@ -1,0 +1,87 @@
+// The two files of a leaf in memory, which tell what they hold.
+ghost use Rattle.std.specs.Prelude.{◌≤◌, length, IfOk, IsTrue};
+ghost use Rattle.std.specs.Io.{ReadsAtMost};
+ghost use Rattle.berth_face.specs.Berth.{Gives, OpenedOn, Stays};
+ghost use Rattle.berth_files.specs.Files.{GoesOn, content};
+ghost use Rattle.files_tests.specs.Laws.{keeps_region, short, stands};
+
+use berth_face::{Berth, Failed};
+use berth_files::{FileCalls, LeafFile};
+use berth_mem::MemBerth;
+
+/// A read gives so many bytes at most.
+const SOME: usize = 3;
+
+/// Two files in memory. A crash leaves of them what it leaves of a berth in memory: within a call any bytes in the range that it
+/// writes, and of the disk each write since the last sync whole, cut short or not at all.
+#[derive(Drop)]
+pub struct MemFiles {
+    kept: MemBerth,
+}
+
+impl MemFiles {
+    pub fn new(region: Vec<u8>, disk: Vec<u8>) -> MemFiles
+        ensures { OpenedOn region.items disk.items (⟦<MemFiles as FileCalls>⟧.holds result) }
+    {
+        MemFiles {
+            kept: MemBerth::new(region, disk),
+        }
+    }
+}
+
+impl FileCalls for MemFiles {
+    ghost holds = { λ f. ⟦<MemBerth as Berth>⟧.meaning f.kept };
+
+    ghost stands = { λ f told. stands f.kept };
+
+    ghost keeps_region = { λ f p told left. keeps_region f.kept p left };
+
+    ghost short = { λ f told. short f.kept };
+
+    fn len(&mut self, file: LeafFile) -> Result<u64, Failed> {
+        match file {
+            LeafFile::Region => self.kept.region_len(),
+            LeafFile::Disk => self.kept.disk_len(),
+        }
+    }
+
+    fn read_some(&mut self, file: LeafFile, at: u64, buf: &mut [u8]) -> Result<usize, Failed> {
+        let some = buf.len().min(SOME);
+        read_part(&mut self.kept, file, at, &mut buf[..some])
+    }
+
+    fn write_all(&mut self, file: LeafFile, at: u64, bytes: &[u8]) -> Result<(), Failed> {
+        match file {
+            LeafFile::Region => self.kept.region_write(at, bytes),
+            LeafFile::Disk => self.kept.disk_write(at, bytes),
+        }
+    }
+
+    fn lengthen(&mut self, file: LeafFile, len: u64) -> Result<(), Failed> {
+        match file {
+            LeafFile::Region => self.kept.region_write(len, &[]),
+            LeafFile::Disk => self.kept.disk_write(len, &[]),
+        }
+    }
+
+    fn shorten_region(&mut self, len: u64) -> Result<(), Failed> {
+        self.kept.region_cut(len)
+    }
+
+    fn sync_disk(&mut self) -> Result<(), Failed> {
+        self.kept.disk_sync()
+    }
+}
+
+/// Reads until the part is full or the file ends.
+fn read_part(kept: &mut MemBerth, file: LeafFile, at: u64, part: &mut [u8]) -> Result<usize, Failed>
+    ensures bound { ReadsAtMost result part.new }
+    ensures told { IsTrue (⟦<MemBerth as Berth>⟧.meaning kept.old).tells → Gives at (content file (⟦<MemBerth as Berth>⟧.meaning kept.old)) result part.new
+        × Stays (⟦<MemBerth as Berth>⟧.meaning kept.old) (⟦<MemBerth as Berth>⟧.meaning kept.new) }
+    ensures time { GoesOn (⟦<MemBerth as Berth>⟧.meaning kept.old) (⟦<MemBerth as Berth>⟧.meaning kept.new) }
+{
+    match file {
+        LeafFile::Region => kept.region_read(at, part),
+        LeafFile::Disk => kept.disk_read(at, part),
+    }
+}
