@@ -41,7 +41,7 @@ module _ (names : List (List ℕ)) (region disk : List ℕ) where
       inr ((w, is), subst (λ (d : List ℕ). IsRecoveryRefusal names d (recovery.Stranger name)) (read ∙ ap begun same) refusal)
   exact_log w now mid recovery.DiskDamaged is refusal read same =
       ((w, is), subst (λ (d : List ℕ). IsRecoveryRefusal names d recovery.DiskDamaged) (read ∙ ap begun same) refusal)
-  exact_log w now mid recovery.DiskFault is refusal read same = tt
+  exact_log w now mid recovery.DiskFault is refusal read same = (w, is)
   exact_log w now mid recovery.NoMemory is refusal read same = tt
 
   pub exact_ok : (way w : Way) → way ≡ w → IsAnswer names region disk (Ok w) → IsExact names region disk (Ok way)

@@ -17,6 +17,7 @@ use Rattle.leaf_opening.specs.declared.ways.Way.TheVariants.{Memory, Disk}
 use Rattle.leaf_opening.specs.declared.ways.OpenFault.{OpenFault}
 use Rattle.leaf_opening.specs.declared.ways.OpenFault.TheVariants.{RegionFault, DiskFault, DiskDamaged, Stranger, NoMemory}
 use Rattle.leaf_opening.specs.Answers.{OneAnswer}
+use Rattle.leaf_opening.proofs.Exact.{why_alone}
 
 -- ---- heads
 
@@ -86,11 +87,15 @@ adoptable_read region images log_end is = (is.version, is.is.has.head, is.reads_
 stranger_read : (names : List (List ℕ)) (region name : List ℕ) → IsStranger names region name → IsRead region
 stranger_read names region name s = (s.0, s.3.head, s.2)
 
-image_why : (names : List (List ℕ)) (region : List ℕ) (images : List TableImage) (log_end : ℕ) (w : WhyDisk) → IsAdoptable region images log_end → IsWhyFor names region w → ⊥
-image_why names region images log_end why.NoHead is w = not_read region why.NoHead (λ e. cc) w (adoptable_read region images log_end is)
-image_why names region images log_end (why.Closed flag) is w = not_read region (why.Closed flag) (λ e. cc) w (adoptable_read region images log_end is)
-image_why names region images log_end (why.OtherVersion v) is w = not_read region (why.OtherVersion v) (λ e. cc) w (adoptable_read region images log_end is)
-image_why names region images log_end why.NoImage is w = w.0.3 images log_end is
+-- an image is never given up for a reason
+pub image_alone : (region : List ℕ) (images : List TableImage) (log_end : ℕ) (w : WhyDisk) → IsAdoptable region images log_end → IsWhy region w → ⊥
+image_alone region images log_end why.NoHead is w = not_read region why.NoHead (λ e. cc) w (adoptable_read region images log_end is)
+image_alone region images log_end (why.Closed flag) is w = not_read region (why.Closed flag) (λ e. cc) w (adoptable_read region images log_end is)
+image_alone region images log_end (why.OtherVersion v) is w = not_read region (why.OtherVersion v) (λ e. cc) w (adoptable_read region images log_end is)
+image_alone region images log_end why.NoImage is w = w.3 images log_end is
+
+pub image_why : (names : List (List ℕ)) (region : List ℕ) (images : List TableImage) (log_end : ℕ) (w : WhyDisk) → IsAdoptable region images log_end → IsWhyFor names region w → ⊥
+image_why names region images log_end w is told = image_alone region images log_end w is (why_alone names region w told)
 
 stranger_why : (names : List (List ℕ)) (region name : List ℕ) (w : WhyDisk) → IsStranger names region name → IsWhyFor names region w → ⊥
 stranger_why names region name why.NoHead s w = not_read region why.NoHead (λ e. cc) w (stranger_read names region name s)

@@ -35,16 +35,12 @@ abbrev pub way_of : Result Opened OpenFault → Result Way OpenFault
 way_of (Ok o) = Ok o.way
 way_of (Err e) = Err e
 
--- an answer yields to faults of the outside and to want of memory
-abbrev pub UnlessFailed : Result Way OpenFault → Type 0 → Type 0
-UnlessFailed (Err RegionFault) P = Unit {0}
-UnlessFailed (Err DiskFault) P = Unit {0}
-UnlessFailed (Err NoMemory) P = Unit {0}
-UnlessFailed _ P = P
-
--- what a start answers is what the bytes decide
+-- What a start answers is what the bytes decide, unless memory runs out or the berth fails: its disk only where the region gave no tables.
 abbrev pub IsExact : List (List ℕ) → List ℕ → List ℕ → Result Way OpenFault → Type 0
-IsExact names region disk answer = UnlessFailed answer (IsAnswer names region disk answer)
+IsExact names region disk (Err RegionFault) = Unit {0}
+IsExact names region disk (Err DiskFault) = GoesToLog names region
+IsExact names region disk (Err NoMemory) = Unit {0}
+IsExact names region disk answer = IsAnswer names region disk answer
 
 -- bytes decide one answer
 abbrev pub OneAnswer : Type 0

@@ -44,7 +44,7 @@ pub fn open_tables<B: Berth>(
     ensures told { IsTrue (B.meaning berth.old).tells → IfOk result (λ o. Started names.now (B.meaning berth.old) (B.meaning berth.new) (opened_leaf names.now o) o.way) }
     ensures way { IsTrue (B.meaning berth.old).tells → IfOk result (λ o. IsWayOf (B.meaning berth.old).held.region o.way) }
     ensures refused { IsTrue (B.meaning berth.old).tells → IfErr result (IsOpeningRefusal names.now (B.meaning berth.old) (B.meaning berth.new)) }
-    // What it answers is what the bytes of region and disk decide, unless the berth fails or memory runs out.
+    // What it answers is what the bytes of region and disk decide, unless the berth fails or memory runs out. A fault of the disk comes only where the region gave no tables.
     ensures exact { IsTrue (B.meaning berth.old).tells → IsExact names.now (B.meaning berth.old).held.region (B.meaning berth.old).held.disk (way_of result) }
     // A log that is sound is never damaged.
     ensures sound { IsTrue (B.meaning berth.old).tells → IsSound (B.meaning berth.old).held.disk → result ≢ Err fault.DiskDamaged }
