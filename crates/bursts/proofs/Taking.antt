@@ -13,7 +13,8 @@ use Rattle.printed_lines.specs.declared.line.Line.{Line}
 use Rattle.printed_lines.specs.declared.line.Line.TheVariants.{Lane}
 use Rattle.printed_lines.specs.Lines.{IsOf}
 use Rattle.script_text.specs.declared.fleet.Fleet.{Fleet}
-use Rattle.transcript.specs.Pieces.{Deed, Piece, Played, commands_in, lane_lines, lines_in, pieces_in}
+use Rattle.printed_lines.specs.declared.line.Deed.{Deed}
+use Rattle.transcript.specs.Pieces.{Piece, Played, commands_in, lane_lines, lines_in, pieces_in}
 use Rattle.transcript.specs.Counts.{deeds_in}
 use Rattle.leaf_moves.specs.Holds.{Hold, caller_in}
 use Rattle.leaf_moves.specs.Stage.{Leaf}

@@ -5,6 +5,7 @@ use Rattle.row_records.specs.Records.{LogRecord}
 use Rattle.berth_face.specs.Berth.{Meaning}
 use Rattle.leaf_history.specs.History.{HistoryState, base_of}
 use Rattle.crash_moments.specs.Left.{NamedStates}
+use Rattle.disk_backup.specs.Settling.{with_writes}
 use Rattle.disk_backup.specs.SoundLogs.{HasSoundLog}
 use Rattle.crash_states.specs.Standing.{Rests}
 
@@ -17,11 +18,13 @@ pub record IsFrontOf (s b : HistoryState) : Type 0 where
   pub front : b.writes ≡ take (length b.writes) s.writes
   pub flushed : s.flushed ≤ b.flushed
 
--- a leaf may begin over the berth, with a base that has a front of the writes of each table
+-- A leaf may begin over the berth, with a base that has a front of the writes of each table. It is the tight one: each name has the writes of the longest log that a crash may leave, and
+-- those of the shortest count as flushed.
 pub record BeginsAgain (tables : NamedStates) (m : Meaning) : Type 0 where
   pub base : NamedStates
   pub is : (name : List ℕ) → base name ≡ base_of (base name).writes (base name).flushed
   pub begins : MayBegin base m
+  pub tight : (name : List ℕ) → base name ≡ base_of (with_writes begins.1.1 begins.1.0 name) (length (begins.1.0 name))
   pub front : (name : List ℕ) → IsFrontOf (tables name) (base name)
 
 -- a leaf may begin over a berth that was opened on this disk: its base is what the log has, all of it flushed, which is a front of the writes of each table

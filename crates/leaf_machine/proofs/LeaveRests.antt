@@ -112,5 +112,6 @@ module _ (ws : List Watched) (others : NamedStates) (least : List ℕ → List W
         },
       ),
     );
+    tight = λ name. refl;
     front = λ name. record { front = (rests.each name).longest; flushed = (rests.each name).flushed };
   }

@@ -107,5 +107,6 @@ module _ (ws : List Watched) (others : NamedStates) (owner : ℕ) (log : LogStat
         base = begun.base;
         is = begun.is;
         begins = begun.begins;
+        tight = begun.tight;
         front = λ name. front_alike (tables_of others ws m name) (tables_of others ws' m name) (begun.base name) (tables_alike name) (begun.front name);
       }

@@ -44,10 +44,10 @@ module _ (x : Seated) (sits : AreSeated x) (place : ℕ) (t : Shared) (v u w : S
   met_room None owner n is = tt
   met_room (Some r) owner n is = place_set (Spares n) x place t v w at was (met_spares t v u w (sits.each place t v at was) met learns legal n) owner is
 
-  pub met_is : (o : Owing) (closed : List Table) (shut : Bool) (m : Meaning) → IsShutting (record { serving = record { seated = x; owing = o }; closed = closed; shut = shut }) m
-      → IsShutting (record { serving = record { seated = with_seat x place w; owing = o }; closed = closed; shut = shut }) m
+  pub met_is : (o : Owing) (closed : List Table) (shut : Bool) (m : Meaning) → IsShutting (record { serving = record { seated = x; owing = o }; closed = closed; waits = shut }) m
+      → IsShutting (record { serving = record { seated = with_seat x place w; owing = o }; closed = closed; waits = shut }) m
   met_is o closed shut m is =
-      let holds : Holds closed (with_seat x place w) = met_holds closed x (holds_of (record { serving = record { seated = x; owing = o }; closed = closed; shut = shut }) m is) sits place t v u w at was met learns legal in
+      let holds : Holds closed (with_seat x place w) = met_holds closed x (holds_of (record { serving = record { seated = x; owing = o }; closed = closed; waits = shut }) m is) sits place t v u w at was met learns legal in
       record {
         few = holds.few;
         opened = holds.opened;

@@ -14,21 +14,21 @@ use Rattle.leaf_machine.proofs.PrepHolds.{Holds, holds_of}
 use Rattle.leaf_machine.proofs.PrepSettles.{quiet_is}
 
 -- how many are treated, where the last waits, and where none does
-treated_waits : (x : Shutting) → x.shut ≡ true → treated x ≡ length x.closed - 1
+treated_waits : (x : Shutting) → x.waits ≡ true → treated x ≡ length x.closed - 1
 treated_waits x waits = ap (λ (b : Bool). if b then length x.closed - 1 else length x.closed) waits
 
-pub treated_all : (x : Shutting) → x.shut ≡ false → treated x ≡ length x.closed
+pub treated_all : (x : Shutting) → x.waits ≡ false → treated x ≡ length x.closed
 treated_all x none = ap (λ (b : Bool). if b then length x.closed - 1 else length x.closed) none
 
 -- a table is shut behind those that are sealed
-pub treated_put : (x y : Shutting) (content : Table) → x.shut ≡ false → y.shut ≡ true → y.closed ≡ x.closed ++ content ∷ [] → treated y ≡ treated x
+pub treated_put : (x y : Shutting) (content : Table) → x.waits ≡ false → y.waits ≡ true → y.closed ≡ x.closed ++ content ∷ [] → treated y ≡ treated x
 treated_put x y content none waits closed =
     let size : length y.closed ≡ length x.closed + 1 = ap (λ (l : List Table). length l) closed ∙ length-append x.closed (content ∷ []) in
     let less : length y.closed - 1 ≡ length x.closed = omega (arith, size) in
     treated_waits y waits ∙ less ∙ sym (treated_all x none)
 
 -- the last is sealed
-names_sealed : (x y : Shutting) (all : List (List ℕ)) (d : List ℕ) → x.shut ≡ true → y.shut ≡ false → y.closed ≡ x.closed → 0 < length x.closed → length x.closed ≤ length all
+names_sealed : (x y : Shutting) (all : List (List ℕ)) (d : List ℕ) → x.waits ≡ true → y.waits ≡ false → y.closed ≡ x.closed → 0 < length x.closed → length x.closed ≤ length all
     → take (treated x) all ++ slice_index_or all (length x.closed - 1) d ∷ [] ≡ take (treated y) all
 names_sealed x y all d waits none closed some few =
     let place : ℕ = length x.closed - 1 in
@@ -42,16 +42,16 @@ names_sealed x y all d waits none closed some few =
 -- a leaf with these tables
 abbrev pub IsWith : Seated → Owing → Meaning → ShutState → Type 0
 IsWith x o m t =
-    IsShutting (record { serving = record { seated = x; owing = o }; closed = t.closed; shut = t.waits }) m
-    × (t.names ≡ take (treated (record { serving = record { seated = x; owing = o }; closed = t.closed; shut = t.waits })) x.names)
+    IsShutting (record { serving = record { seated = x; owing = o }; closed = t.closed; waits = t.waits }) m
+    × (t.names ≡ take (treated (record { serving = record { seated = x; owing = o }; closed = t.closed; waits = t.waits })) x.names)
 
 module _ (x : Seated) (o : Owing) (m : Meaning) (old new : ShutState) (is : IsWith x o m old) (sits : AreSeated x) (none : o.log.owed ≡ None) (waits : old.waits ≡ true) (closed : new.closed ≡ old.closed)
     (d name : List ℕ) (slice : List (List ℕ)) (n : ℕ) (at : name ≡ slice_index_or slice (n - 1) d) (all : slice ≡ x.names) (len : n ≡ length old.closed) where
   abbrev before : Shutting
-  before = record { serving = record { seated = x; owing = o }; closed = old.closed; shut = old.waits }
+  before = record { serving = record { seated = x; owing = o }; closed = old.closed; waits = old.waits }
 
   abbrev behind : Shutting
-  behind = record { serving = record { seated = x; owing = o }; closed = new.closed; shut = new.waits }
+  behind = record { serving = record { seated = x; owing = o }; closed = new.closed; waits = new.waits }
 
   some : 0 < length old.closed
   some = is.0.last waits
@@ -76,8 +76,8 @@ module _ (x : Seated) (o : Owing) (m : Meaning) (old new : ShutState) (is : IsWi
   )
   seal_is (Err e) done failed =
       let same : new.waits ≡ old.waits = failed.1 ∙ sym waits in (
-        subst (λ (b : Bool). IsShutting (record { serving = record { seated = x; owing = o }; closed = new.closed; shut = b }) m) (sym same)
-            (subst (λ (l : List Table). IsShutting (record { serving = record { seated = x; owing = o }; closed = l; shut = old.waits }) m) (sym closed) is.0),
+        subst (λ (b : Bool). IsShutting (record { serving = record { seated = x; owing = o }; closed = new.closed; waits = b }) m) (sym same)
+            (subst (λ (l : List Table). IsShutting (record { serving = record { seated = x; owing = o }; closed = l; waits = old.waits }) m) (sym closed) is.0),
         failed.0 ∙ is.1 ∙ ap₂ (λ (l : List Table) (b : Bool). take (if b then length l - 1 else length l) x.names) (sym closed) (sym same),
       )
 

@@ -27,7 +27,7 @@ pub if_none : (o : Option LogRecord) (P : LogRecord → Type 0) → o ≡ None �
 if_none o P none = subst (λ (p : Option LogRecord). IfSome p P) (sym none) tt
 
 pub quiet_is : (closed : List Table) (shut : Bool) (y : Seated) (o : Owing) (m : Meaning) → Holds closed y → o.log.owed ≡ None → (IsTrue shut → 0 < length closed)
-    → UpStands (record { seated = y; owing = o }) m → IsShutting (record { serving = record { seated = y; owing = o }; closed = closed; shut = shut }) m
+    → UpStands (record { seated = y; owing = o }) m → IsShutting (record { serving = record { seated = y; owing = o }; closed = closed; waits = shut }) m
 quiet_is closed shut y o m holds none last stands = record {
   few = holds.few;
   opened = holds.opened;
@@ -63,7 +63,7 @@ still_owed x o o' owed owner count is =
     (subst (λ (k : ℕ). OwesAs x o.log.owed k o'.count) (sym owner) (subst (λ (k : ℕ). OwesAs x o.log.owed o.owner k) (sym count) is))
 
 still_owes : (x : Shutting) (m m' : Meaning) (o : Owing) → IsShutting x m → o.log.owed ≡ x.serving.owing.log.owed → o.owner ≡ x.serving.owing.owner → o.count ≡ x.serving.owing.count
-    → UpStands (record { seated = x.serving.seated; owing = o }) m' → IsShutting (record { serving = record { seated = x.serving.seated; owing = o }; closed = x.closed; shut = x.shut }) m'
+    → UpStands (record { seated = x.serving.seated; owing = o }) m' → IsShutting (record { serving = record { seated = x.serving.seated; owing = o }; closed = x.closed; waits = x.waits }) m'
 still_owes x m m' o is owed owner count stands = record {
   few = is.few;
   opened = is.opened;
@@ -111,12 +111,12 @@ module _ (x : Shutting) (m : Meaning) (is : IsShutting x m) (sits : AreSeated x.
 module _ (x : Shutting) (m m' : Meaning) (is : IsShutting x m) (sits : AreSeated x.serving.seated) {T E : Type 0} (clock : ℕ) (before : List Note) (result : Result T E)
     (y : Seated) (o : Owing) (after : List Note) where
   pub settled_is : SettlesOwed clock x.serving.seated x.serving.owing before result y o after → UpStands (record { seated = y; owing = o }) m'
-      → IsShutting (record { serving = record { seated = y; owing = o }; closed = x.closed; shut = x.shut }) m'
+      → IsShutting (record { serving = record { seated = y; owing = o }; closed = x.closed; waits = x.waits }) m'
   settled_is (nothing none good same_seats same notes) stands =
-      quiet_is x.closed x.shut y o m' (subst (Holds x.closed) (sym same_seats) (holds_of x m is)) (ap (λ (p : Owing). p.log.owed) same ∙ none) is.last stands
-  settled_is (done r number owes good one notes settled) stands = quiet_is x.closed x.shut y o m' (settled_holds x m is sits r owes clock number y one) settled.0 is.last stands
+      quiet_is x.closed x.waits y o m' (subst (Holds x.closed) (sym same_seats) (holds_of x m is)) (ap (λ (p : Owing). p.log.owed) same ∙ none) is.last stands
+  settled_is (done r number owes good one notes settled) stands = quiet_is x.closed x.waits y o m' (settled_holds x m is sits r owes clock number y one) settled.0 is.last stands
   settled_is (failed r owes bad same_seats notes owing owner count) stands =
-      subst (λ (s : Seated). UpStands (record { seated = s; owing = o }) m' → IsShutting (record { serving = record { seated = s; owing = o }; closed = x.closed; shut = x.shut }) m') (sym same_seats)
+      subst (λ (s : Seated). UpStands (record { seated = s; owing = o }) m' → IsShutting (record { serving = record { seated = s; owing = o }; closed = x.closed; waits = x.waits }) m') (sym same_seats)
       (still_owes x m m' o is owing.0 owner count) stands
 
 -- the names stay

@@ -181,7 +181,7 @@ module _ (x : Shutting) (m : Meaning) (is : IsShutting x m) (sits : AreSeated x.
     brought_names = names_still brings
 
     halted : (r : LogRecord) → pending ≡ Some r → o.log.owed ≡ Some r → o.owner ≡ place → o.count ≡ t.writes → UpStands (record { seated = y; owing = o }) m'
-        → IsShutting (record { serving = record { seated = y; owing = o }; closed = closed; shut = true }) m'
+        → IsShutting (record { serving = record { seated = y; owing = o }; closed = closed; waits = true }) m'
     halted r is_pending owed owner count stands_there = record {
       few = holds_then.few;
       opened = holds_then.opened;
@@ -203,7 +203,7 @@ module _ (x : Shutting) (m : Meaning) (is : IsShutting x m) (sits : AreSeated x.
       stands = stands_there;
     }
 
-    brought : Brings m'.clock y x.serving.owing place t.writes pending mid result z o new → IsShutting (record { serving = record { seated = z; owing = o }; closed = closed; shut = true }) m'
+    brought : Brings m'.clock y x.serving.owing place t.writes pending mid result z o new → IsShutting (record { serving = record { seated = z; owing = o }; closed = closed; waits = true }) m'
     brought (done n good then notes owed) =
         quiet_is closed true z o m'
         (subst (Holds closed) (sym then.now)
@@ -211,16 +211,16 @@ module _ (x : Shutting) (m : Meaning) (is : IsShutting x m) (sits : AreSeated x.
         (λ past. absurd (omega (arith, past, size, next))) (λ before. room_then then.table then.before then.at then.was)))
         owed (λ last. omega (arith, size)) stands
     brought (failed r owes bad same notes owed owner count) =
-        subst (λ (s : Seated). UpStands (record { seated = s; owing = o }) m' → IsShutting (record { serving = record { seated = s; owing = o }; closed = closed; shut = true }) m') (sym same)
+        subst (λ (s : Seated). UpStands (record { seated = s; owing = o }) m' → IsShutting (record { serving = record { seated = s; owing = o }; closed = closed; waits = true }) m') (sym same)
         (halted r owes owed owner count) stands
 
-    pub brought_is : IsShutting (record { serving = record { seated = z; owing = o }; closed = closed; shut = true }) m'
+    pub brought_is : IsShutting (record { serving = record { seated = z; owing = o }; closed = closed; waits = true }) m'
     brought_is = brought brings
 
     -- ---- what happened
 
     abbrev there : Shutting
-    there = record { serving = record { seated = z; owing = o }; closed = closed; shut = true }
+    there = record { serving = record { seated = z; owing = o }; closed = closed; waits = true }
 
     next_ok : {A B : Type 0} (made : List Note) (r : Result A B) → IsOk r → Shuts x there made → ShutsNext x there made r
     next_ok made (Ok v) good shuts = shuts
@@ -230,7 +230,7 @@ module _ (x : Shutting) (m : Meaning) (is : IsShutting x m) (sits : AreSeated x.
     next_err made (Ok v) bad halts = absurd (false≢true bad)
     next_err made (Err e) bad halts = halts
 
-    brings_next : Brings m'.clock y x.serving.owing place t.writes pending mid result z o new → x.shut ≡ false → (made : List Note) × (new ≡ old ++ made) × ShutsNext x there made result
+    brings_next : Brings m'.clock y x.serving.owing place t.writes pending mid result z o new → x.waits ≡ false → (made : List Note) × (new ≡ old ++ made) × ShutsNext x there made result
     brings_next (done n good then notes owed) open_ = (
       closing place ∷ flushing n ∷ [],
       all_notes n notes,
@@ -255,5 +255,5 @@ module _ (x : Shutting) (m : Meaning) (is : IsShutting x m) (sits : AreSeated x.
           (subst (λ (p : Option LogRecord). IsSome p) (sym owed) refl) (owner ∙ next) count),
     )
 
-    pub brought_next : x.shut ≡ false → (made : List Note) × (new ≡ old ++ made) × ShutsNext x there made result
+    pub brought_next : x.waits ≡ false → (made : List Note) × (new ≡ old ++ made) × ShutsNext x there made result
     brought_next open_ = brings_next brings open_

@@ -21,13 +21,13 @@ noted_none : (o : Option LogRecord) (by : Owing) (notes : List Note) → o ≡ N
 noted_none o by notes none noted = subst (λ (p : Option LogRecord). OwedNotes p by notes) none noted
 
 -- where no table waits, all that are shut are treated
-pub more_open : (x : Shutting) (n : ℕ) → x.shut ≡ false → treated x < n → length x.closed < n
+pub more_open : (x : Shutting) (n : ℕ) → x.waits ≡ false → treated x < n → length x.closed < n
 more_open x n open_ more = subst (λ (b : Bool). (if b then length x.closed - 1 else length x.closed) < n) open_ more
 
 -- ---- a leaf whose last table is sealed, or is not
 
 abbrev sealed : {B : Type 0} → Shutting × B → Shutting × B
-sealed x = (record { serving = x.0.serving; closed = x.0.closed; shut = false }, x.1)
+sealed x = (record { serving = x.0.serving; closed = x.0.closed; waits = false }, x.1)
 
 module _ {B : Type 0} (x y : Shutting × B) where
   pub seal_serving : {T E : Type 0} (r : Result T E) → OnOk r (y ≡ sealed x) → OnErr r (y ≡ x) → y.0.serving ≡ x.0.serving
@@ -53,7 +53,7 @@ shut_ok x y made (Err e) good next = absurd (false≢true good)
 module _ (x mid : Shutting) (first : List Note) (settles : Settles x mid first) where
   -- ---- the next table
 
-  module _ (new made : List Note) (open_ : x.shut ≡ false) (all : new ≡ first ++ made) where
+  module _ (new made : List Note) (open_ : x.waits ≡ false) (all : new ≡ first ++ made) where
     -- the notes of the next table stand behind those of what was settled
     further : (notes : ℕ → List Note) → made ≡ notes (length mid.closed) → new ≡ first ++ notes (length x.closed)
     further notes is = all ∙ ap (λ (l : List Note). first ++ l) (is ∙ ap (λ (c : List Table). notes (length c)) settles.closed)
@@ -82,10 +82,10 @@ module _ (x mid : Shutting) (first : List Note) (settles : Settles x mid first) 
 
       pub sealed_behind : {T : Type 0} (r : Result T PrepareFault) → OnOk r (z ≡ sealed y) → OnErr r (z ≡ y) → IfErr r (λ e. e ≡ NoMemory) → IsNextTreated x z.0 new r
       sealed_behind (Ok v) done failed fault =
-          whole first shuts.closing shuts.flushing shuts.count shuts.content open_ settles.noted both (ap (λ (w : Shutting × B). w.0.closed) done ∙ closed_now) (ap (λ (w : Shutting × B). w.0.shut) done)
+          whole first shuts.closing shuts.flushing shuts.count shuts.content open_ settles.noted both (ap (λ (w : Shutting × B). w.0.closed) done ∙ closed_now) (ap (λ (w : Shutting × B). w.0.waits) done)
           (ap (λ (w : Shutting × B). w.0.serving.owing.log.owed) done ∙ shuts.owed)
       sealed_behind (Err DiskFault) done failed fault = absurd cc
       sealed_behind (Err NoRoom) done failed fault = absurd cc
       sealed_behind (Err NoMemory) done failed fault =
           behind first shuts.closing shuts.flushing shuts.count shuts.content open_ more settles.noted both (ap (λ (w : Shutting × B). w.0.closed) failed ∙ closed_now)
-          (ap (λ (w : Shutting × B). w.0.shut) failed ∙ shuts.shut) (ap (λ (w : Shutting × B). w.0.serving.owing.log.owed) failed ∙ shuts.owed)
+          (ap (λ (w : Shutting × B). w.0.waits) failed ∙ shuts.shut) (ap (λ (w : Shutting × B). w.0.serving.owing.log.owed) failed ∙ shuts.owed)

@@ -37,7 +37,7 @@ RoseNext before now (Err NoMemory) = ⊤
 
 -- no table is left to be treated, and nothing is owed
 pub record IsAllTreated (x : Shutting) : Type 0 where
-  pub shut : x.shut ≡ false
+  pub shut : x.waits ≡ false
   pub all : length x.closed ≡ length x.serving.seated.tables
   pub none : x.serving.owing.log.owed ≡ None
 
@@ -45,7 +45,7 @@ pub record IsAllTreated (x : Shutting) : Type 0 where
 pub record Settles (old new : Shutting) (notes : List Note) : Type 0 where
   pub noted : OwedNotes old.serving.owing.log.owed old.serving.owing notes
   pub closed : new.closed ≡ old.closed
-  pub shut : new.shut ≡ old.shut
+  pub shut : new.waits ≡ old.waits
   pub owed : new.serving.owing.log.owed ≡ None
 
 -- the next table is shut, all of it is in the log, and it is noted as closed and as flushed; its tail is not sealed
@@ -56,7 +56,7 @@ pub record Shuts (old new : Shutting) (notes : List Note) : Type 0 where
   pub content : Table
   pub noted : notes ≡ record { table = length old.closed; number = closing; what = what.Closed count } ∷ record { table = length old.closed; number = flushing; what = what.Flushed count } ∷ []
   pub closed : new.closed ≡ old.closed ++ content ∷ []
-  pub shut : new.shut ≡ true
+  pub shut : new.waits ≡ true
   pub owed : new.serving.owing.log.owed ≡ None
 
 -- the next table is shut, or the disk fails behind that

@@ -25,7 +25,7 @@ use Rattle.leaf_machine.specs.Shut.{AreTablesOf}
 
 -- a leaf that serves and is told to shut
 abbrev pub begins : Serving → Shutting
-begins x = record { serving = x; closed = []; shut = false }
+begins x = record { serving = x; closed = []; waits = false }
 
 -- all tables are treated
 abbrev pub AllTreated : Shutting → Type 0
@@ -35,28 +35,28 @@ AllTreated x = treated x ≡ length x.serving.seated.tables
 -- its tail is sealed. Of a table that was shut before, what was left is done.
 pub data Treats (old new : Shutting) (notes : List Note) : Type 0 where
   whole : (first : List Note) (closing flushing n : ℕ) (content : Table)
-      → old.shut ≡ false
+      → old.waits ≡ false
       → OwedNotes old.serving.owing.log.owed old.serving.owing first
       → notes ≡ first ++ (record { table = length old.closed; number = closing; what = what.Closed n } ∷ record { table = length old.closed; number = flushing; what = what.Flushed n } ∷ [])
       → new.closed ≡ old.closed ++ content ∷ []
-      → new.shut ≡ false
+      → new.waits ≡ false
       → new.serving.owing.log.owed ≡ None
       → Treats old new notes
-  rest : old.shut ≡ true
+  rest : old.waits ≡ true
       → OwedNotes old.serving.owing.log.owed old.serving.owing notes
       → new.closed ≡ old.closed
-      → new.shut ≡ false
+      → new.waits ≡ false
       → new.serving.owing.log.owed ≡ None
       → Treats old new notes
 
 -- The disk fails: at what was owed, and nothing was noted; or behind the shutting of the next table, whose record is owed.
 pub data Halts (old new : Shutting) (notes : List Note) : Type 0 where
   half : (first : List Note) (closing n : ℕ) (content : Table)
-      → old.shut ≡ false
+      → old.waits ≡ false
       → OwedNotes old.serving.owing.log.owed old.serving.owing first
       → notes ≡ first ++ record { table = length old.closed; number = closing; what = what.Closed n } ∷ []
       → new.closed ≡ old.closed ++ content ∷ []
-      → new.shut ≡ true
+      → new.waits ≡ true
       → IsSome new.serving.owing.log.owed
       → new.serving.owing.owner ≡ length old.closed
       → new.serving.owing.count ≡ n
@@ -68,30 +68,30 @@ pub data Halts (old new : Shutting) (notes : List Note) : Type 0 where
       → new.serving.owing.owner ≡ old.serving.owing.owner
       → new.serving.owing.count ≡ old.serving.owing.count
       → new.closed ≡ old.closed
-      → new.shut ≡ old.shut
+      → new.waits ≡ old.waits
       → Halts old new notes
 
 -- There was no memory, and nothing is owed: for the copy, before a table is shut; or to seal the next table, which is shut and whole in the log; or one that was shut before.
 pub data Starves (old new : Shutting) (notes : List Note) : Type 0 where
-  before : old.shut ≡ false
+  before : old.waits ≡ false
       → OwedNotes old.serving.owing.log.owed old.serving.owing notes
       → new.closed ≡ old.closed
-      → new.shut ≡ false
+      → new.waits ≡ false
       → new.serving.owing.log.owed ≡ None
       → Starves old new notes
   behind : (first : List Note) (closing flushing n : ℕ) (content : Table)
-      → old.shut ≡ false
+      → old.waits ≡ false
       → length old.closed < length old.serving.seated.tables
       → OwedNotes old.serving.owing.log.owed old.serving.owing first
       → notes ≡ first ++ (record { table = length old.closed; number = closing; what = what.Closed n } ∷ record { table = length old.closed; number = flushing; what = what.Flushed n } ∷ [])
       → new.closed ≡ old.closed ++ content ∷ []
-      → new.shut ≡ true
+      → new.waits ≡ true
       → new.serving.owing.log.owed ≡ None
       → Starves old new notes
-  still : old.shut ≡ true
+  still : old.waits ≡ true
       → OwedNotes old.serving.owing.log.owed old.serving.owing notes
       → new.closed ≡ old.closed
-      → new.shut ≡ true
+      → new.waits ≡ true
       → new.serving.owing.log.owed ≡ None
       → Starves old new notes
 

@@ -21,12 +21,12 @@ pub record Serving : Type 0 where
   pub seated : Seated
   pub owing : Owing
 
--- A leaf that shuts its tables. So many of them, from the first on, are shut, with this content; where `shut`, the last of those is not treated yet: its record is owed, or its tail is not
+-- A leaf that shuts its tables. So many of them, from the first on, are shut, with this content; where it waits, the last of those is not treated yet: its record is owed, or its tail is not
 -- sealed.
 pub record Shutting : Type 0 where
   pub serving : Serving
   pub closed : List Table
-  pub shut : Bool
+  pub waits : Bool
 
 -- a leaf that copies its tables
 pub record Copying : Type 0 where
@@ -35,7 +35,7 @@ pub record Copying : Type 0 where
 
 -- how many tables are shut, whole in the log and sealed
 abbrev pub treated : Shutting → ℕ
-treated x = if x.shut then length x.closed - 1 else length x.closed
+treated x = if x.waits then length x.closed - 1 else length x.closed
 
 -- ---- how many columns tables have at least
 
@@ -94,11 +94,11 @@ pub record IsShutting (x : Shutting) (m : Meaning) : Type 0 where
   pub spares : AtEach (λ place t v. length x.closed ≤ place → Spares 3 t v) x.serving.seated
   pub spares_closed : AtEach (λ place t v. place < length x.closed → Spares 1 t v) x.serving.seated
   pub spares_owed : x.closed ≡ [] → SparesOwed x.serving.seated x.serving.owing 4
-  pub spares_shut : IsTrue x.shut → SparesOwed x.serving.seated x.serving.owing 2
+  pub spares_shut : IsTrue x.waits → SparesOwed x.serving.seated x.serving.owing 2
   pub owed : IsOwed x.serving.seated x.serving.owing
-  pub last : IsTrue x.shut → 0 < length x.closed
-  pub owner : IsTrue x.shut → IsSome x.serving.owing.log.owed → suc x.serving.owing.owner ≡ length x.closed
-  pub owes : IsSome x.serving.owing.log.owed → IsTrue x.shut ⊎ (x.closed ≡ [])
+  pub last : IsTrue x.waits → 0 < length x.closed
+  pub owner : IsTrue x.waits → IsSome x.serving.owing.log.owed → suc x.serving.owing.owner ≡ length x.closed
+  pub owes : IsSome x.serving.owing.log.owed → IsTrue x.waits ⊎ (x.closed ≡ [])
   pub stands : UpStands x.serving m
 
 -- each table is shut

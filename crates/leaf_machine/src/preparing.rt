@@ -74,18 +74,21 @@ impl<'t, B: Berth> Model for Preparing<'t, B> {
 
     ghost Value = { Shutting × B };
 
-    ghost view = { λ leaf. (record { serving = record { seated = leaf.seats; owing = leaf.log }; closed = leaf.tables.closed; shut = leaf.tables.waits }, leaf.berth) };
+    ghost view = { λ leaf. (record { serving = record { seated = leaf.seats; owing = leaf.log }; closed = leaf.tables.closed; waits = leaf.tables.waits }, leaf.berth) };
 
     ghost invariant = { λ leaf.
-        IsShutting (record { serving = record { seated = leaf.seats; owing = leaf.log }; closed = leaf.tables.closed; shut = leaf.tables.waits }) (B.meaning leaf.berth)
-        × (leaf.tables.names ≡ take (treated (record { serving = record { seated = leaf.seats; owing = leaf.log }; closed = leaf.tables.closed; shut = leaf.tables.waits })) leaf.seats.names) };
+        IsShutting (record { serving = record { seated = leaf.seats; owing = leaf.log }; closed = leaf.tables.closed; waits = leaf.tables.waits }) (B.meaning leaf.berth)
+        × (leaf.tables.names ≡ take (treated (record { serving = record { seated = leaf.seats; owing = leaf.log }; closed = leaf.tables.closed; waits = leaf.tables.waits })) leaf.seats.names) };
 }
 
 impl<'t, B: Berth> Preparing<'t, B> {
-    /// Does nothing. It says that a leaf with a shut table that is not treated has shut one.
+    /// Does nothing. It says what always holds of a leaf's seats, that no more tables are shut than there are, and that a leaf with a shut table that is not treated has shut one.
     pub fn shuts(&self)
-        ensures { IsTrue self.now.0.shut → 0 < length self.now.0.closed }
+        ensures some { IsTrue self.now.0.waits → 0 < length self.now.0.closed }
+        ensures within { length self.now.0.closed ≤ length self.now.0.serving.seated.tables }
+        ensures seated { AreSeated self.now.0.serving.seated }
     {
+        self.seats.sits();
         let _tables = &self.tables;
     }
 
@@ -97,7 +100,7 @@ impl<'t, B: Berth> Preparing<'t, B> {
           record {
             serving = record { seated = with_seat self.old.0.serving.seated table w; owing = self.old.0.serving.owing };
             closed = self.old.0.closed;
-            shut = self.old.0.shut;
+            waits = self.old.0.waits;
           },
           self.old.1,
         )) × Told v seat.old w × LearnsOthers v w × LegalFrom (is_founded (base_seen t)) (start_of (base_seen t)) (seen_of w)) self.old.0.serving.seated table }
@@ -255,9 +258,9 @@ impl<'t, B: Berth> Preparing<'t, B> {
 
     // Seals the table that was shut last.
     fn seal_last(&mut self) -> Result<(), PrepareFault>
-        requires shut { self.old.0.shut ≡ true }
+        requires shut { self.old.0.waits ≡ true }
         requires none { self.old.0.serving.owing.log.owed ≡ None }
-        ensures done { OnOk result (self.new ≡ (record { serving = self.old.0.serving; closed = self.old.0.closed; shut = false }, self.old.1)) }
+        ensures done { OnOk result (self.new ≡ (record { serving = self.old.0.serving; closed = self.old.0.closed; waits = false }, self.old.1)) }
         ensures failed { OnErr result (self.new ≡ self.old) }
         ensures fault { IfErr result (λ e. e ≡ prepare_fault.NoMemory) }
     {
@@ -296,7 +299,7 @@ impl<'t, B: Berth> Preparing<'t, B> {
         notes: &mut Notes,
     ) -> Result<(), DiskFault>
         requires more { length self.old.0.closed < length self.old.0.serving.seated.tables }
-        requires rests { self.old.0.shut ≡ false }
+        requires rests { self.old.0.waits ≡ false }
         requires none { self.old.0.serving.owing.log.owed ≡ None }
         requires room { length notes.old ≤ 1 }
         ensures next { (made : List Note) × (notes.new ≡ notes.old ++ made) × ShutsNext self.old.0 self.new.0 made result }

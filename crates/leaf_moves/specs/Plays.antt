@@ -10,7 +10,8 @@ use Rattle.script_text.specs.declared.command.Command.TheVariants as command
 use Rattle.script_text.specs.Fits.{IsCommand}
 use Rattle.script_text.specs.declared.fleet.Fleet.{Fleet}
 use Rattle.script_text.specs.Commands.{leaf_count}
-use Rattle.transcript.specs.Pieces.{Piece, Says, Deed}
+use Rattle.printed_lines.specs.declared.line.Deed.{Deed}
+use Rattle.transcript.specs.Pieces.{Piece, Says}
 use Rattle.transcript.specs.Shapes.{Prints}
 use Rattle.transcript.specs.Answers.{Answers}
 use Rattle.leaf_moves.specs.Holds.{Hold, GoOn, grounds_in, with_callers, with_leaf}

@@ -37,7 +37,7 @@ serving_with x seats = record { seated = seated_with x.seated seats; owing = x.o
 abbrev pub with_seats : Leaf → List SeatView → Leaf
 with_seats (IsDown x) seats = IsDown (seated_with x seats)
 with_seats (IsUp x) seats = IsUp (serving_with x seats)
-with_seats (IsPreparing x) seats = IsPreparing (record { serving = serving_with x.serving seats; closed = x.closed; shut = x.shut })
+with_seats (IsPreparing x) seats = IsPreparing (record { serving = serving_with x.serving seats; closed = x.closed; waits = x.waits })
 
 -- ---- what stands of it
 

@@ -31,7 +31,9 @@ use Rattle.printed_lines.specs.declared.line.Said.{Said}
 use Rattle.printed_lines.specs.declared.line.Said.TheVariants as said
 use Rattle.printed_lines.specs.declared.line.Ending.{Ending}
 use Rattle.printed_lines.specs.declared.line.Ending.TheVariants as ending
-use Rattle.transcript.specs.Pieces.{Piece, Called, Worn, Acted, Deed, Starts, Flushes, Drains, Kills, Noted}
+use Rattle.printed_lines.specs.declared.line.Deed.{Deed}
+use Rattle.printed_lines.specs.declared.line.Deed.TheVariants.{Start, Flush, Drain, Kill}
+use Rattle.transcript.specs.Pieces.{Piece, Called, Worn, Acted, Noted}
 use Rattle.transcript.specs.Life.{MayMake}
 use Rattle.leaf_moves.specs.Stage.{Leaf, IsDown, IsUp, IsPreparing, seated_of, Stands, ServingStands, AreHandedNothing, Carries, MeetAll}
 
@@ -347,10 +349,10 @@ pub data DrainMoves (m m' : Meaning) (leaf : Leaf) (stop : Option ℕ) (notes : 
 
 -- what a deed does to a leaf, with its notes and how it ended
 abbrev pub Moves : Deed → Meaning → Meaning → Leaf → List Note → Ending → Leaf → Type 0
-Moves Starts m m' leaf notes ends leaf' = StartMoves m m' leaf notes ends leaf'
-Moves (Flushes table) m m' leaf notes ends leaf' = FlushMoves table m m' leaf notes ends leaf'
-Moves (Drains stop) m m' leaf notes ends leaf' = DrainMoves m m' leaf stop notes ends leaf'
-Moves Kills m m' leaf notes ends leaf' = KillMoves m m' leaf notes ends leaf'
+Moves Start m m' leaf notes ends leaf' = StartMoves m m' leaf notes ends leaf'
+Moves (Flush table) m m' leaf notes ends leaf' = FlushMoves table m m' leaf notes ends leaf'
+Moves (Drain stop) m m' leaf notes ends leaf' = DrainMoves m m' leaf stop notes ends leaf'
+Moves Kill m m' leaf notes ends leaf' = KillMoves m m' leaf notes ends leaf'
 
 -- a deed of the steward of the leaf with this number, between two meetings of all seats
 pub record DeedStep (number : ℕ) (deed : Deed) (m m' : Meaning) (leaf : Leaf) (callers : List (Option SeatView)) (p : Piece) (leaf' : Leaf) (callers' : List (Option SeatView)) : Type 0 where

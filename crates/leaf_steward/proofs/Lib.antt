@@ -1,3 +1,4 @@
+pub mod Appending
 pub mod WatchPlaces
 pub mod WatchEntries
 pub mod WatchMakes

@@ -1,5 +1,5 @@
 // The entries that a call makes.
-ghost use Rattle.std.specs.Prelude.{◌≡◌, ◌<◌, ◌≤◌, ◌++◌, ◌∷◌, [], length, slice_get, Some};
+ghost use Rattle.std.specs.Prelude.{◌≡◌, ◌+◌, ◌<◌, ◌≤◌, ◌++◌, ◌∷◌, [], length, slice_get, Some};
 
 use std::marker::Model;
 
@@ -21,10 +21,10 @@ pub struct Note {
     pub what: What,
 }
 
-/// At most 32 notes, in the order of their making. Contracts see them as the list.
+/// At most 80 notes, in the order of their making. Contracts see them as the list. (A drain of 16 tables makes 49 at most.)
 #[derive(Drop)]
 pub struct Notes {
-    inner: [Note; 32],
+    inner: [Note; 80],
     len: u32,
 }
 
@@ -36,7 +36,7 @@ impl Model for Notes {
 
     ghost view = { λ notes. take notes.len notes.inner };
 
-    ghost invariant = { λ notes. (notes.len ≤ 32) × (length notes.inner ≡ 32) };
+    ghost invariant = { λ notes. (notes.len ≤ 80) × (length notes.inner ≡ 80) };
 }
 
 impl Notes {
@@ -49,7 +49,7 @@ impl Notes {
             what: What::Handed,
         };
         Notes {
-            inner: [none; 32],
+            inner: [none; 80],
             len: 0,
         }
     }
@@ -78,11 +78,21 @@ impl Notes {
 
     /// Puts one behind the others.
     pub fn push(&mut self, note: Note)
-        requires { length self.old < 32 }
+        requires { length self.old < 80 }
         ensures { self.new ≡ self.old ++ note ∷ [] }
     {
         self.inner[self.len as usize] = note;
         self.len += 1;
+    }
+
+    /// Puts all of others behind these.
+    pub fn append(&mut self, others: &Notes)
+        requires { length self.old + length others.now ≤ 80 }
+        ensures { self.new ≡ self.old ++ others.now }
+    {
+        for i in 0..others.len() {
+            self.push(others.get(i));
+        }
     }
 
     // Puts the note of an entry of this number behind the others.

@@ -2,7 +2,7 @@
 ghost use Rattle.std.specs.Prelude.{◌≡◌, length, IfOk};
 
 use leaf_model::{Names, Text};
-use printed_lines::{Ending, Line, Said, Verb, put_lines};
+use printed_lines::{Deed, Ending, Line, Said, put_lines};
 use std::alloc::{AllocError, Global};
 use std::test::Fail;
 
@@ -42,27 +42,27 @@ fn what_no_run_reaches_has_its_line(rt: HostRuntime) -> Result<(), Fail> {
             said: Said::RefusedMemory,
         },
         Line::Ended {
-            verb: Verb::Flush,
+            deed: Deed::Flush(1),
             leaf: 0,
             ending: Ending::Worn,
         },
         Line::Ended {
-            verb: Verb::Drain,
+            deed: Deed::Drain(None),
             leaf: 0,
             ending: Ending::FaultRoom,
         },
         Line::Ended {
-            verb: Verb::Drain,
+            deed: Deed::Drain(None),
             leaf: 0,
             ending: Ending::FaultMemory,
         },
         Line::Ended {
-            verb: Verb::Start,
+            deed: Deed::Start,
             leaf: 0,
             ending: Ending::FaultMemory,
         },
         Line::Ended {
-            verb: Verb::Start,
+            deed: Deed::Start,
             leaf: 0,
             ending: Ending::FaultWorn(1),
         },

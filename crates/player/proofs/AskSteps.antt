@@ -16,7 +16,8 @@ use Rattle.aggregator.specs.Sorts.{by_leaf}
 use Rattle.printed_lines.specs.declared.line.Ending.{Ending}
 use Rattle.printed_lines.specs.declared.line.Line.{Line}
 use Rattle.printed_lines.specs.Lines.{IsOf}
-use Rattle.transcript.specs.Pieces.{Deed, Piece, lines_in}
+use Rattle.printed_lines.specs.declared.line.Deed.{Deed}
+use Rattle.transcript.specs.Pieces.{Piece, lines_in}
 use Rattle.transcript.specs.Shapes.{CallPiece, named, named_in}
 use Rattle.transcript.specs.Counts.{deeds_in}
 use Rattle.transcript.specs.Answers.{AnswerIs}

@@ -35,7 +35,8 @@ use Rattle.printed_lines.specs.declared.line.Line.{Line}
 use Rattle.printed_lines.specs.declared.line.Line.TheVariants as line
 use Rattle.printed_lines.specs.Lines.{IsOf}
 use Rattle.script_text.specs.Commands.{leaf_count}
-use Rattle.transcript.specs.Pieces.{Deed, Piece, Says, lines_in, place_among}
+use Rattle.printed_lines.specs.declared.line.Deed.{Deed}
+use Rattle.transcript.specs.Pieces.{Piece, Says, lines_in, place_among}
 use Rattle.transcript.specs.Shapes.{named, named_in}
 use Rattle.transcript.specs.Counts.{deeds_in}
 use Rattle.transcript.specs.Answers.{AnswerIs, partial, rows_before}
@@ -43,7 +44,7 @@ use Rattle.leaf_moves.specs.Holds.{GoOn, Hold, caller_in, grounds_in, histories_
 use Rattle.leaf_moves.specs.Stage.{Leaf}
 use Rattle.leaf_moves.specs.Plays as going
 use Rattle.leaf_moves.specs.Plays.{Goes}
-use Rattle.player.specs.declared.leaf.OneLeaf.{OneLeaf}
+use Rattle.leaf_deeds.specs.declared.leaf.OneLeaf.{OneLeaf}
 use Rattle.player.specs.declared.members.Members.{Members}
 use Rattle.player.specs.Crew.{CountedIf, HasSeats, PassesIf, column}
 use Rattle.player.specs.Rows.{AreCalled, AreRows, HasSeat, IsColumn, called_at}

@@ -19,7 +19,7 @@ use Rattle.crash_states.specs.Beginning.{MayBegin}
 use Rattle.script_text.specs.Commands.{leaf_count}
 use Rattle.leaf_moves.specs.Stage.{Leaf, IsDown, Stands, seated_of}
 use Rattle.leaf_moves.specs.Holds.{Hold, caller_in}
-use Rattle.player.specs.declared.leaf.OneLeaf.{OneLeaf}
+use Rattle.leaf_deeds.specs.declared.leaf.OneLeaf.{OneLeaf}
 use Rattle.player.specs.declared.members.Members.{Members}
 use Rattle.player.specs.Crew.{HasLeaf, HasSeats, column, new_holds, seated_at}
 use Rattle.player.specs.Rows.{AreRows, IsCallersAt, IsColumn}

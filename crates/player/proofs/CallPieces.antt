@@ -13,7 +13,8 @@ use Rattle.printed_lines.specs.declared.line.Line.{Line}
 use Rattle.printed_lines.specs.declared.line.Line.TheVariants as line
 use Rattle.printed_lines.specs.Lines.{IsOf}
 use Rattle.transcript.specs.Pieces as printed
-use Rattle.transcript.specs.Pieces.{Piece, Deed, lines_in, piece_lines}
+use Rattle.printed_lines.specs.declared.line.Deed.{Deed}
+use Rattle.transcript.specs.Pieces.{Piece, lines_in, piece_lines}
 use Rattle.transcript.specs.Shapes.{CallPiece}
 use Rattle.transcript.specs.Counts.{deeds_in}
 use Rattle.leaf_moves.specs.Steps.{CallStep, IsReplyPiece}

@@ -13,8 +13,8 @@ use Rattle.leaf_steward.specs.Seated.{Seated, AtPlace}
 use Rattle.leaf_steward.proofs.Seating.{same_at, set_either, some_same}
 use Rattle.leaf_moves.specs.Stage.{Leaf, seated_of, with_seats}
 use Rattle.player.specs.Rows.{Called, AreCalled, Calls, IsCallersAt}
-use Rattle.player.specs.Moves.{MeetsAt}
-use Rattle.player.proofs.Meetings.{IsMetSeat, IsThere, is_there}
+use Rattle.player.specs.Meeting.{MeetsAt}
+use Rattle.leaf_deeds.proofs.Meetings.{IsMetSeat, IsThere, is_there}
 
 -- ---- what stands in a place
 

@@ -11,7 +11,8 @@ use Rattle.leaf_steward.proofs.Seating.{same_at, set_either}
 use Rattle.printed_lines.specs.declared.line.Ending.{Ending}
 use Rattle.printed_lines.specs.declared.line.Line.{Line}
 use Rattle.printed_lines.specs.Lines.{IsOf}
-use Rattle.transcript.specs.Pieces.{Acted, Called, Deed, Piece, Says, Worn, lines_in, piece_lines}
+use Rattle.printed_lines.specs.declared.line.Deed.{Deed}
+use Rattle.transcript.specs.Pieces.{Acted, Called, Piece, Says, Worn, lines_in, piece_lines}
 use Rattle.transcript.specs.Counts.{Counted, CountsRose, deeds_in, is_disk_fault, is_region_fault, reads_disk}
 use Rattle.leaf_moves.specs.Holds.{Hold, caller_in, with_callers, with_leaf}
 use Rattle.leaf_moves.specs.Steps as step

@@ -5,31 +5,23 @@ use Rattle.std.specs.List.{AllByRecursion}
 use Rattle.std.proofs.lemmas.Bool.{eq-eqb, ne_eqb}
 use Rattle.berth_face.specs.Berth.{Meaning, Passes}
 use Rattle.leaf_steward.specs.declared.notes.Note.{Note}
-use Rattle.printed_lines.specs.declared.line.Verb.{Verb}
 use Rattle.printed_lines.specs.declared.line.Ending.{Ending}
 use Rattle.printed_lines.specs.declared.line.Ending.TheVariants.{Done, Stopped, NotUp, NotDown, Started, FaultRegion, FaultRoom, FaultDisk, FaultDamaged, FaultMemory, FaultStranger, FaultWorn}
 use Rattle.printed_lines.specs.declared.line.Ending.TheVariants as ending
 use Rattle.printed_lines.specs.declared.line.Line.{Line}
 use Rattle.printed_lines.specs.declared.line.Line.TheVariants as line
 use Rattle.printed_lines.specs.Lines.{EndsOf, IsOf}
-use Rattle.transcript.specs.Pieces.{Piece, Acted, Deed, Noted, lines_in, piece_lines, deed_verb}
+use Rattle.printed_lines.specs.declared.line.Deed.{Deed}
+use Rattle.transcript.specs.Pieces.{Piece, Acted, Noted, lines_in, piece_lines}
 use Rattle.transcript.specs.Counts.{Counted, CountsRose, deeds_in, is_disk_fault, is_region_fault, reads_disk}
 use Rattle.leaf_moves.specs.Steps.{noted_all}
-use Rattle.player.specs.Lines.{AreEnded, AreTold, note_lines}
-use Rattle.player.specs.Moves.{ArePlaces, FaultRose}
+use Rattle.player.specs.Lines.{note_lines}
+use Rattle.leaf_deeds.specs.Moves.{FaultRose}
+use Rattle.player.specs.Meeting.{ArePlaces}
 
 -- ---- the lines of a deed
 
 -- lines that were told, with the ending behind them
-pub ended_result : {E : Type 0} (number : ℕ) (verb : Verb) (notes : List Note) (ends : Ending) (before after : Result (Vec Line Global) E)
-    → AreTold number notes before
-    → IfOk after (λ lines. MatchResult before (λ these. lines.items ≡ these.items ++ line.Ended verb number ends ∷ []) (λ refused. ⊥))
-    → IfOk after (λ lines. AreEnded number verb notes ends lines.items)
-ended_result number verb notes ends (Ok before) (Ok after) told is = is ∙ ap (λ (ls : List Line). ls ++ line.Ended verb number ends ∷ []) told
-ended_result number verb notes ends (Err e) (Ok after) told is = absurd is
-ended_result number verb notes ends (Ok before) (Err f) told is = tt
-ended_result number verb notes ends (Err e) (Err f) told is = tt
-
 pub one_piece : (p : Piece) → lines_in (p ∷ []) ≡ piece_lines p
 one_piece p = append-nil (piece_lines p)
 
@@ -105,12 +97,12 @@ calm_other number other deed notes ends test apart = other_such number other (te
 
 -- ---- tables
 
-fit_all : (number : ℕ) (names : List (List ℕ)) (verb : Verb) (ends : Ending) (notes : List Note) → ArePlaces (length names) notes → EndsOf names ends
-    → AllByRecursion (IsOf names) (note_lines number notes ++ line.Ended verb number ends ∷ [])
-fit_all number names verb ends [] places ended = (ended, tt)
-fit_all number names verb ends (n ∷ ns) places ended = (places.0, fit_all number names verb ends ns places.1 ended)
+fit_all : (number : ℕ) (names : List (List ℕ)) (deed : Deed) (ends : Ending) (notes : List Note) → ArePlaces (length names) notes → EndsOf names ends
+    → AllByRecursion (IsOf names) (note_lines number notes ++ line.Ended deed number ends ∷ [])
+fit_all number names deed ends [] places ended = (ended, tt)
+fit_all number names deed ends (n ∷ ns) places ended = (places.0, fit_all number names deed ends ns places.1 ended)
 
 pub deed_fits : (number : ℕ) (names : List (List ℕ)) (deed : Deed) (notes : List Note) (ends : Ending) → ArePlaces (length names) notes → EndsOf names ends
     → AllByRecursion (IsOf names) (lines_in (Acted number deed (noted_all notes) ends ∷ []))
 deed_fits number names deed notes ends places ended =
-    subst (AllByRecursion (IsOf names)) (sym (one_piece (Acted number deed (noted_all notes) ends))) (fit_all number names (deed_verb deed) ends notes places ended)
+    subst (AllByRecursion (IsOf names)) (sym (one_piece (Acted number deed (noted_all notes) ends))) (fit_all number names deed ends notes places ended)

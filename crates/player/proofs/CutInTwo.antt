@@ -12,7 +12,7 @@ use Rattle.leaf_steward.proofs.Seating.{same_at}
 use Rattle.script_text.specs.Commands.{leaf_count}
 use Rattle.leaf_moves.specs.Holds.{Hold}
 use Rattle.leaf_moves.specs.Lanes.{CutsOff, CutsOffAt}
-use Rattle.player.specs.declared.leaf.OneLeaf.{OneLeaf}
+use Rattle.leaf_deeds.specs.declared.leaf.OneLeaf.{OneLeaf}
 use Rattle.player.specs.declared.members.Members.{Members}
 use Rattle.player.specs.Crew.{Spares}
 use Rattle.player.specs.Rows.{AreRows, IsCallersAt, IsColumn}

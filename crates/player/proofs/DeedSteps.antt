@@ -14,16 +14,20 @@ use Rattle.leaf_machine.specs.declared.up.FlushReply.TheVariants as reply
 use Rattle.printed_lines.specs.declared.line.Ending.{Ending}
 use Rattle.printed_lines.specs.declared.line.Line.{Line}
 use Rattle.printed_lines.specs.Lines.{EndsOf}
-use Rattle.transcript.specs.Pieces.{Acted, Deed, Starts, Flushes, Drains, Kills, lines_in, deed_verb}
+use Rattle.printed_lines.specs.declared.line.Deed.{Deed}
+use Rattle.printed_lines.specs.declared.line.Deed.TheVariants.{Start, Flush, Drain, Kill}
+use Rattle.transcript.specs.Pieces.{Acted, lines_in}
 use Rattle.transcript.specs.Counts.{reads_disk}
 use Rattle.leaf_moves.specs.Stage.{Leaf, seated_of, Carries, MeetAll}
 use Rattle.leaf_moves.specs.Steps as step
 use Rattle.leaf_moves.specs.Steps.{Moves, StartMoves, FlushMoves, KillMoves, DrainMoves, IsWornFor, ending_of, ending_of_flush, noted_all}
-use Rattle.player.specs.Stage.{IsMember, KeepsSeats}
+use Rattle.leaf_deeds.specs.Held.{KeepsSeats}
+use Rattle.player.specs.Stage.{IsMember}
 use Rattle.player.specs.Lines.{AreEnded}
 use Rattle.player.specs.declared.answer.Answer.{Answer}
 use Rattle.player.specs.Commands.{ActsWith, answer_of}
-use Rattle.player.specs.Moves.{ArePlaces, FaultRose}
+use Rattle.leaf_deeds.specs.Moves.{FaultRose}
+use Rattle.player.specs.Meeting.{ArePlaces}
 use Rattle.player.proofs.NoteTables.{notes_at, count_of}
 use Rattle.player.proofs.CommandLines.{counted, deed_fits, one_piece}
 
@@ -71,10 +75,10 @@ drain_ends names m m' leaf stop notes ends leaf' (step.not_up down empty held en
 
 deed_ends : (names : List (List ℕ)) (deed : Deed) (m m' : Meaning) (x : Seated) (leaf : Leaf) (notes : List Note) (ends : Ending) (leaf' : Leaf)
     → length x.seats ≡ length names → KeepsSeats x (seated_of leaf) → Moves deed m m' leaf notes ends leaf' → EndsOf names ends
-deed_ends names Starts m m' x leaf notes ends leaf' fits keeps moves = start_ends names m m' x leaf notes ends leaf' fits keeps moves
-deed_ends names (Flushes table) m m' x leaf notes ends leaf' fits keeps moves = flush_ends names table m m' leaf notes ends leaf' moves
-deed_ends names (Drains stop) m m' x leaf notes ends leaf' fits keeps moves = drain_ends names m m' leaf stop notes ends leaf' moves
-deed_ends names Kills m m' x leaf notes ends leaf' fits keeps moves = kill_ends names m m' leaf notes ends leaf' moves
+deed_ends names Start m m' x leaf notes ends leaf' fits keeps moves = start_ends names m m' x leaf notes ends leaf' fits keeps moves
+deed_ends names (Flush table) m m' x leaf notes ends leaf' fits keeps moves = flush_ends names table m m' leaf notes ends leaf' moves
+deed_ends names (Drain stop) m m' x leaf notes ends leaf' fits keeps moves = drain_ends names m m' leaf stop notes ends leaf' moves
+deed_ends names Kill m m' x leaf notes ends leaf' fits keeps moves = kill_ends names m m' leaf notes ends leaf' moves
 
 -- ---- a deed between two meetings, which do not touch the berth
 
@@ -97,7 +101,7 @@ module _ {B E : Type 0} (number : ℕ) (meaning : B → Meaning) (b b1 b2 b3 : B
       → Passes (meaning b1) (meaning b2)
       → FaultRose ends (meaning b1) (meaning b2)
       → (reads_disk deed ends ≡ false → (meaning b2).disk_reads ≡ (meaning b1).disk_reads)
-      → IfOk result (λ lines. AreEnded number (deed_verb deed) notes ends lines.items)
+      → IfOk result (λ lines. AreEnded number deed notes ends lines.items)
       → answer ≡ answer_of ends
       → ActsWith meaning names number deed leaf callers b answer result after after_callers b3
   acts fits keeps first second moves carries time cause reads told answered = record {
@@ -119,6 +123,6 @@ module _ {B E : Type 0} (number : ℕ) (meaning : B → Meaning) (b b1 b2 b3 : B
     fit = deed_fits number names deed notes ends (places fits keeps carries)
         (deed_ends names deed (meaning b1) (meaning b2) (seated_of leaf) met notes ends moved fits.seats keeps moves);
     answered = answered;
-    lines_are = IfOk-weaker result (λ lines. AreEnded number (deed_verb deed) notes ends lines.items) (λ lines. lines.items ≡ lines_in (Acted number deed (noted_all notes) ends ∷ []))
+    lines_are = IfOk-weaker result (λ lines. AreEnded number deed notes ends lines.items) (λ lines. lines.items ≡ lines_in (Acted number deed (noted_all notes) ends ∷ []))
         (λ lines are. are ∙ sym (one_piece (Acted number deed (noted_all notes) ends))) told;
   }

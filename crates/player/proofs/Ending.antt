@@ -11,10 +11,11 @@ use Rattle.leaf_steward.specs.Seated.{Seated}
 use Rattle.leaf_steward.proofs.Seating.{same_at}
 use Rattle.leaf_moves.specs.Holds.{HasMet, Hold}
 use Rattle.leaf_moves.specs.Stage.{Leaf, MeetAll}
-use Rattle.player.specs.declared.leaf.OneLeaf.{OneLeaf}
+use Rattle.leaf_deeds.specs.declared.leaf.OneLeaf.{OneLeaf}
 use Rattle.player.specs.Crew.{berth_in, column}
 use Rattle.player.specs.Rows.{AreCalled, AreRows, MayMeet, OnlyColumn}
-use Rattle.player.specs.Stage.{berth_of, hold_at, own_berth, seats_of, state_of}
+use Rattle.leaf_deeds.specs.Held.{berth_of, seats_of, state_of}
+use Rattle.player.specs.Stage.{hold_at, own_berth}
 use Rattle.player.specs.Members.{holds_from}
 use Rattle.player.proofs.Columns.{only_rows}
 

@@ -5,7 +5,7 @@ use Rattle.leaf_table.specs.Turns.{Shared}
 use Rattle.leaf_table.specs.Calls.{SeatView}
 use Rattle.leaf_table.specs.Lists.{place}
 use Rattle.leaf_moves.specs.Holds.{Hold}
-use Rattle.player.specs.declared.leaf.OneLeaf.{OneLeaf}
+use Rattle.leaf_deeds.specs.declared.leaf.OneLeaf.{OneLeaf}
 use Rattle.player.specs.Crew.{HasLeaf, HasSeats, StillHas, column}
 use Rattle.player.specs.Rows.{HasSeat}
 use Rattle.player.specs.Stage.{held_of, hold_at}

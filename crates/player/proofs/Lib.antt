@@ -1,17 +1,8 @@
-pub mod Carrying
-pub mod Moved
 pub mod Columns
-pub mod Meetings
 pub mod Calling
 pub mod MetFirst
 pub mod SeatRows
 pub mod NoteLines
-pub mod Counted
-pub mod Treated
-pub mod Copied
-pub mod Drained
-pub mod OwnImages
-pub mod Joined
 pub mod NamePlaces
 pub mod NoteTables
 pub mod CommandLines

@@ -10,11 +10,12 @@ use Rattle.leaf_table.specs.Lists.{lists_in, row}
 use Rattle.leaf_steward.proofs.Seating.{same_at, set_either}
 use Rattle.leaf_moves.specs.Stage.{Leaf, MeetAll, MeetsIf, seated_of}
 use Rattle.leaf_moves.specs.Holds.{AllMeet, Hold, HoldMeets, caller_in, with_leaf}
-use Rattle.player.specs.declared.leaf.OneLeaf.{OneLeaf}
+use Rattle.leaf_deeds.specs.declared.leaf.OneLeaf.{OneLeaf}
 use Rattle.player.specs.declared.members.Members.{Members}
 use Rattle.player.specs.Crew.{AllPass, PassesIf, Spares, StillHas, column}
 use Rattle.player.specs.Rows.{OnlyColumn}
-use Rattle.player.specs.Stage.{berth_of, hold_at, state_of}
+use Rattle.leaf_deeds.specs.Held.{berth_of, state_of}
+use Rattle.player.specs.Stage.{hold_at}
 use Rattle.player.specs.Members.{AreMembers, holds_in}
 use Rattle.player.specs.Lending.{MeetLeaves, MeetsLeaf}
 use Rattle.player.proofs.Calling.{stands_at}

@@ -9,16 +9,17 @@ use Rattle.leaf_table.specs.Lists.{lists_in, row}
 use Rattle.leaf_steward.proofs.Seating.{same_at, set_either, set_same, some_same}
 use Rattle.printed_lines.specs.declared.line.Line.{Line}
 use Rattle.script_text.specs.Commands.{leaf_count}
-use Rattle.transcript.specs.Pieces.{Deed}
+use Rattle.printed_lines.specs.declared.line.Deed.{Deed}
 use Rattle.leaf_moves.specs.Holds.{Hold, caller_in, with_callers, with_leaf}
 use Rattle.leaf_moves.specs.Steps.{noted_all}
-use Rattle.player.specs.declared.leaf.OneLeaf.{OneLeaf}
+use Rattle.leaf_deeds.specs.declared.leaf.OneLeaf.{OneLeaf}
 use Rattle.player.specs.declared.members.Members.{Members}
 use Rattle.player.specs.declared.answer.Answer.{Answer}
 use Rattle.player.specs.declared.call.Request.{Request}
 use Rattle.player.specs.Crew.{HasLeaf, column}
 use Rattle.player.specs.Rows.{AreCalled, IsColumn, OnlyColumn}
-use Rattle.player.specs.Stage.{IsMember, berth_of, hold_at, seats_of, state_of}
+use Rattle.leaf_deeds.specs.Held.{berth_of, seats_of, state_of}
+use Rattle.player.specs.Stage.{IsMember, hold_at}
 use Rattle.player.specs.Lines.{CallsWith}
 use Rattle.player.specs.Members.{AreMembers, IsLeafOf, fleet_in, holds_from, holds_in}
 use Rattle.player.specs.Commands.{ActsWith, CallsAt, DeedAt, call_of}

@@ -9,9 +9,9 @@ use Rattle.leaf_table.specs.Calls.{SeatView}
 use Rattle.leaf_steward.specs.Seated.{Seated, AreFounded}
 use Rattle.leaf_steward.proofs.Seating.{same_at, set_either, set_other, set_same}
 use Rattle.leaf_moves.specs.Stage.{Leaf, IsDown, IsUp, IsPreparing, Stands, MeetsIf, MeetAll, seated_of, seated_with, with_seats}
-use Rattle.player.specs.Stage.{KeepsSeats}
-use Rattle.player.specs.Moves.{MeetFirst, MeetsAt}
-use Rattle.player.proofs.Carrying.{founded_on}
+use Rattle.leaf_deeds.specs.Held.{KeepsSeats}
+use Rattle.player.specs.Meeting.{MeetFirst, MeetsAt}
+use Rattle.leaf_deeds.proofs.Carrying.{founded_on}
 
 -- a leaf with other seats has those
 seats_become : (leaf : Leaf) (seats : List SeatView) → seated_of (with_seats leaf seats) ≡ seated_with (seated_of leaf) seats

@@ -7,7 +7,7 @@ use Rattle.leaf_table.specs.Calls.{name_of}
 use Rattle.leaf_steward.specs.declared.notes.Note.{Note}
 use Rattle.leaf_steward.specs.Seated.{Seated}
 use Rattle.leaf_steward.specs.Making.{Makes, OneEntry}
-use Rattle.player.specs.Moves.{ArePlaces}
+use Rattle.player.specs.Meeting.{ArePlaces}
 
 same_count : (clock : ℕ) (x y : Seated) (note : Note) → OneEntry clock x note y → length y.tables ≡ length x.tables
 same_count clock x y note one = ap (λ (z : Seated). length z.tables) one.now

@@ -11,7 +11,7 @@ use Rattle.leaf_steward.proofs.Seating.{same_at, set_either, set_other}
 use Rattle.leaf_moves.specs.Stage.{Leaf, MeetAll}
 use Rattle.leaf_moves.specs.Holds.{Hold, HoldMeets, caller_in}
 use Rattle.leaf_moves.specs.Lanes.{ComesBack}
-use Rattle.player.specs.declared.leaf.OneLeaf.{OneLeaf}
+use Rattle.leaf_deeds.specs.declared.leaf.OneLeaf.{OneLeaf}
 use Rattle.player.specs.Crew.{SameSeats, StillHas}
 use Rattle.player.specs.Stage.{held_of}
 use Rattle.player.specs.Members.{holds_from}

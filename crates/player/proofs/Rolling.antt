@@ -11,7 +11,9 @@ use Rattle.rollover_driver.specs.Drives.{WavesGo}
 use Rattle.printed_lines.specs.declared.line.Line.{Line}
 use Rattle.printed_lines.specs.declared.line.Line.TheVariants as line
 use Rattle.printed_lines.specs.Lines.{IsOf}
-use Rattle.transcript.specs.Pieces.{Deed, Drains, Piece, Says, Starts, lines_in, piece_lines}
+use Rattle.printed_lines.specs.declared.line.Deed.{Deed}
+use Rattle.printed_lines.specs.declared.line.Deed.TheVariants.{Drain, Start}
+use Rattle.transcript.specs.Pieces.{Piece, Says, lines_in, piece_lines}
 use Rattle.transcript.specs.Shapes.{EachActs, WavesPieces}
 use Rattle.transcript.specs.Watching.{calls_in, drained_by, piece_calls, started_by}
 use Rattle.player.specs.Restarts.{AreAnswered}
@@ -59,7 +61,7 @@ apart (call.Starts leaf got ∷ cs) ds (p ∷ ps) are =
     record { front = p ∷ rest.front; back = rest.back; is = ap (λ (qs : List Piece). p ∷ qs) rest.is; first = (are.0, rest.first); second = rest.second }
 
 -- the drains of these leaves
-drains_act : (leaves : List ℕ) (cs : List FleetCall) (ps : List Piece) → AreOfEach call.Drains leaves cs → AreAnswered cs ps → EachActs (Drains None) leaves ps
+drains_act : (leaves : List ℕ) (cs : List FleetCall) (ps : List Piece) → AreOfEach call.Drains leaves cs → AreAnswered cs ps → EachActs (Drain None) leaves ps
 drains_act [] [] [] are answered = tt
 drains_act [] [] (p ∷ ps) are answered = absurd answered
 drains_act [] (c ∷ cs) ps are answered = absurd are
@@ -70,7 +72,7 @@ drains_act (leaf ∷ leaves) (c ∷ cs) (p ∷ ps) are answered =
     ((all.0.0, all.0.1, all.0.2), drains_act leaves cs ps are.1 all.1)
 
 -- and their starts
-starts_act : (leaves : List ℕ) (cs : List FleetCall) (ps : List Piece) → AreOfEach call.Starts leaves cs → AreAnswered cs ps → EachActs Starts leaves ps
+starts_act : (leaves : List ℕ) (cs : List FleetCall) (ps : List Piece) → AreOfEach call.Starts leaves cs → AreAnswered cs ps → EachActs Start leaves ps
 starts_act [] [] [] are answered = tt
 starts_act [] [] (p ∷ ps) are answered = absurd answered
 starts_act [] (c ∷ cs) ps are answered = absurd are
@@ -151,12 +153,12 @@ no_more total begun waves rolled deeds none is = record {
 }
 
 -- a wave, and those behind it
-one_wave : (total begun : ℕ) (first : List ℕ) (others : List (List ℕ)) (rolled : Rolled) (fd fs fr deeds : List Piece) → deeds ≡ (fd ++ fs) ++ fr → EachActs (Drains None) first fd → EachActs Starts first fs
+one_wave : (total begun : ℕ) (first : List ℕ) (others : List (List ℕ)) (rolled : Rolled) (fd fs fr deeds : List Piece) → deeds ≡ (fd ++ fs) ++ fr → EachActs (Drain None) first fd → EachActs Start first fs
     → Rolling total (suc begun) others rolled fr → Rolling total begun (first ∷ others) rolled deeds
 one_wave total begun first others rolled fd fs fr deeds joined drained started sub =
     let l : Line = line.Wave (suc begun) total first in
     let rest : List Piece = flat_map (λ (wave : List Piece). wave) sub.pieces in
-    let size : deed_count first ≡ length (map piece_lines (fd ++ fs)) = both_counts first fd fs (acts_count (Drains None) first fd drained) (acts_count Starts first fs started) in
+    let size : deed_count first ≡ length (map piece_lines (fd ++ fs)) = both_counts first fd fs (acts_count (Drain None) first fd drained) (acts_count Start first fs started) in
     let parts : map piece_lines deeds ≡ map piece_lines (fd ++ fs) ++ map piece_lines fr = ap (λ (ps : List Piece). map piece_lines ps) joined ∙ map-append piece_lines (fd ++ fs) fr in
     record {
       pieces = (Says l ∷ (fd ++ fs)) ∷ sub.pieces;

@@ -11,7 +11,8 @@ use Rattle.leaf_table.specs.Lists.{lists_in, row}
 use Rattle.leaf_steward.specs.Seated.{Seated}
 use Rattle.player.specs.Crew.{column}
 use Rattle.player.specs.Rows.{AreCalled, HasSeat, IsColumn, MayMeet, OnlyColumn, with_place}
-use Rattle.player.specs.Stage.{IsMember, KeepsSeats}
+use Rattle.leaf_deeds.specs.Held.{KeepsSeats}
+use Rattle.player.specs.Stage.{IsMember}
 use Rattle.player.proofs.Calling.{stands_at}
 use Rattle.player.proofs.Columns.{column_get, column_with, element_at, lists_count, lists_with, only_rows, only_with, row_is}
 

@@ -5,7 +5,9 @@ use Rattle.std.specs.List.{range_with_len}
 use Rattle.berth_face.specs.Berth.{Meaning}
 use Rattle.printed_lines.specs.declared.line.Line.{Line}
 use Rattle.script_text.specs.declared.fleet.Fleet.{Fleet}
-use Rattle.transcript.specs.Pieces.{Deed, Piece, Starts}
+use Rattle.printed_lines.specs.declared.line.Deed.{Deed}
+use Rattle.printed_lines.specs.declared.line.Deed.TheVariants.{Start}
+use Rattle.transcript.specs.Pieces.{Piece}
 use Rattle.transcript.specs.Shapes.{ActPiece, EachActs}
 use Rattle.player.specs.declared.members.Members.{Members}
 use Rattle.player.specs.Lines.{AreJoined}
@@ -25,12 +27,12 @@ module _ {B E : Type 0} (meaning : B → Meaning) where
   pub started_none : (x : Members B) (lines : Vec Line Global) → lines.items ≡ [] → StartsFirst {E = E} meaning 0 x (Ok lines) x
   started_none x lines empty = record { pieces = []; prints = tt; goes = goes_with_none meaning x.names (holds_in x) (Ok lines) empty }
 
-  pub started_more : (k next : ℕ) (x y z : Members B) (first one both : Result (Vec Line Global) E) → next ≡ suc k → SameFleet x y → StartsFirst meaning k x first y → ActsAt meaning k Starts y one z
+  pub started_more : (k next : ℕ) (x y z : Members B) (first one both : Result (Vec Line Global) E) → next ≡ suc k → SameFleet x y → StartsFirst meaning k x first y → ActsAt meaning k Start y one z
       → IfOk both (λ lines. AreJoined first one lines.items) → StartsFirst meaning next x both z
   started_more k next x y z first one both is same so_far acts joined =
       subst (λ (n : ℕ). StartsFirst meaning n x both z) (sym is) (record {
         pieces = so_far.pieces ++ acts.piece ∷ [];
-        prints = one_more 0 k k Starts so_far.pieces acts.piece (omega arith) so_far.prints acts.prints;
+        prints = one_more 0 k k Start so_far.pieces acts.piece (omega arith) so_far.prints acts.prints;
         goes = goes_with_more meaning x.names (holds_in x) (holds_in y) (holds_in z) so_far.pieces (acts.piece ∷ []) first one both so_far.goes
             (subst (λ (names : List (List ℕ)). GoesWith meaning names (holds_in y) one (acts.piece ∷ []) (holds_in z)) (ap (λ (f : Fleet). f.names) same.fleet) acts.goes) joined;
       })

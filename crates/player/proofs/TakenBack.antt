@@ -12,11 +12,12 @@ use Rattle.script_text.specs.declared.fleet.Fleet.{Fleet}
 use Rattle.script_text.specs.Commands.{leaf_count}
 use Rattle.leaf_moves.specs.Holds.{Hold, HoldMeets, caller_in}
 use Rattle.leaf_moves.specs.Lanes.{JoinsIf, JoinsTo, TakesBack, TakesBackAt}
-use Rattle.player.specs.declared.leaf.OneLeaf.{OneLeaf}
+use Rattle.leaf_deeds.specs.declared.leaf.OneLeaf.{OneLeaf}
 use Rattle.player.specs.declared.members.Members.{Members}
 use Rattle.player.specs.Crew.{HasLeaf, HasSeats, SameSeats, column}
 use Rattle.player.specs.Rows.{AreRows, IsCallersAt}
-use Rattle.player.specs.Stage.{berth_of, held_of, hold_at, state_of}
+use Rattle.leaf_deeds.specs.Held.{berth_of, state_of}
+use Rattle.player.specs.Stage.{held_of, hold_at}
 use Rattle.player.specs.Members.{AreMembers, IsLeafOf, SameFleet, fleet_in, holds_from, holds_in}
 use Rattle.player.specs.Lending.{MeetsLeaf}
 use Rattle.player.specs.Returning.{JoinsFrom, LeafBack, LeavesBack, MayJoin}

@@ -9,8 +9,8 @@ use Rattle.leaf_table.specs.Lists.{row}
 use Rattle.leaf_steward.specs.Seated.{Seated, AreAlike, AreFounded, AtEach, IsUnused}
 use Rattle.crash_states.specs.Beginning.{MayBegin}
 use Rattle.leaf_moves.specs.Stage.{IsDown, Stands}
-use Rattle.player.specs.declared.leaf.OneLeaf.{OneLeaf}
-use Rattle.player.specs.declared.leaf.OneLeaf.TheVariants as one
+use Rattle.leaf_deeds.specs.declared.leaf.OneLeaf.{OneLeaf}
+use Rattle.leaf_deeds.specs.declared.leaf.OneLeaf.TheVariants as one
 use Rattle.player.specs.Crew.{seated_at}
 
 -- the tables begin with what the names had

@@ -22,7 +22,9 @@ use Rattle.printed_lines.specs.declared.line.Ending.{Ending}
 use Rattle.printed_lines.specs.declared.line.Line.{Line}
 use Rattle.printed_lines.specs.declared.line.Line.TheVariants as line
 use Rattle.printed_lines.specs.Lines.{IsOf}
-use Rattle.transcript.specs.Pieces.{Deed, Drains, Flushes, Kills, Piece, Starts, lines_in, deed_verb}
+use Rattle.printed_lines.specs.declared.line.Deed.{Deed}
+use Rattle.printed_lines.specs.declared.line.Deed.TheVariants.{Drain, Flush, Kill, Start}
+use Rattle.transcript.specs.Pieces.{Piece, lines_in}
 use Rattle.transcript.specs.Shapes.{ActPiece, CallPiece, EachActs, QueryPieces}
 use Rattle.transcript.specs.Counts.{CountsRose, reads_disk}
 use Rattle.transcript.specs.Answers.{Answers}
@@ -31,14 +33,14 @@ use Rattle.leaf_moves.specs.Stage.{Leaf, Carries}
 use Rattle.leaf_moves.specs.Steps.{DeedStep, Moves}
 use Rattle.transcript.specs.Watching.{drained_by, started_by}
 use Rattle.player.specs.declared.answer.Answer.{Answer}
-use Rattle.player.specs.declared.act.Task.{Task}
-use Rattle.player.specs.declared.act.Task.TheVariants as task
+use Rattle.printed_lines.specs.declared.line.Deed.{Deed}
+use Rattle.printed_lines.specs.declared.line.Deed.TheVariants as deed
 use Rattle.player.specs.declared.call.Request.{Request}
 use Rattle.player.specs.declared.call.Request.TheVariants as request
 use Rattle.player.specs.declared.members.Members.{Members}
 use Rattle.player.specs.Lines.{AreEnded}
 use Rattle.player.specs.Members.{GoesWith, fleet_in, holds_in}
-use Rattle.player.specs.Moves.{FaultRose}
+use Rattle.leaf_deeds.specs.Moves.{FaultRose}
 
 -- ---- deeds
 
@@ -46,32 +48,7 @@ use Rattle.player.specs.Moves.{FaultRose}
 abbrev pub answer_of : Ending → Answer
 answer_of ends = record { drained = drained_by ends; started = started_by ends }
 
--- what a leaf's steward is told to do
-abbrev pub deed_of : Task → Deed
-deed_of task.Start = Starts
-deed_of (task.Flush table) = Flushes table
-deed_of (task.Drain stop) = Drains stop
-deed_of task.Kill = Kills
-
--- a table that it is told of is one of these names'
-abbrev pub IsTask : List (List ℕ) → Task → Type 0
-IsTask names task.Start = ⊤
-IsTask names (task.Flush table) = table < length names
-IsTask names (task.Drain stop) = ⊤
-IsTask names task.Kill = ⊤
-
--- what the steward of the leaf with this number did, by its notes and its ending, with their lines
-pub record Does {E : Type 0} (number : ℕ) (deed : Deed) (m m' : Meaning) (leaf : Leaf) (answer : Answer) (lines : Result (Vec Line Global) E) (leaf' : Leaf) : Type 0 where
-  pub notes : List Note
-  pub ends : Ending
-  pub moves : Moves deed m m' leaf notes ends leaf'
-  pub carries : Carries leaf leaf' notes m m'
-  pub cause : FaultRose ends m m'
-  pub reads : reads_disk deed ends ≡ false → m'.disk_reads ≡ m.disk_reads
-  pub told : IfOk lines (λ lines. AreEnded number (deed_verb deed) notes ends lines.items)
-  pub answered : answer ≡ answer_of ends
-
--- the same between two meetings of all seats, with its piece
+-- what the steward of the leaf with this number did between two meetings of all seats, with its piece
 pub record ActsWith {B E : Type 0} (meaning : B → Meaning) (names : List (List ℕ)) (number : ℕ) (deed : Deed) (leaf : Leaf) (callers : List (Option SeatView)) (b : B)
     (answer : Answer) (result : Result (Vec Line Global) E) (leaf' : Leaf) (callers' : List (Option SeatView)) (b' : B) : Type 0 where
   pub piece : Piece
@@ -97,7 +74,7 @@ pub record DeedAt {B E : Type 0} (meaning : B → Meaning) (number : ℕ) (deed 
 -- the first k leaves were started
 pub record StartsFirst {B E : Type 0} (meaning : B → Meaning) (k : ℕ) (x : Members B) (result : Result (Vec Line Global) E) (y : Members B) : Type 0 where
   pub pieces : List Piece
-  pub prints : EachActs Starts (range_with_len 0 k) pieces
+  pub prints : EachActs Start (range_with_len 0 k) pieces
   pub goes : GoesWith meaning x.names (holds_in x) result pieces (holds_in y)
 
 -- ---- calls

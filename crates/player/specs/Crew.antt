@@ -15,7 +15,8 @@ use Rattle.printed_lines.specs.Lines.{IsOf}
 use Rattle.script_text.specs.declared.fleet.Fleet.{Fleet}
 use Rattle.script_text.specs.Aims.{Aim, AtFleet, AtLeaf, AtLeaves, AtNamed, AtTable, aim_of}
 use Rattle.script_text.specs.Commands.{leaf_count}
-use Rattle.transcript.specs.Pieces.{Deed, Piece, lines_in, place_among}
+use Rattle.printed_lines.specs.declared.line.Deed.{Deed}
+use Rattle.transcript.specs.Pieces.{Piece, lines_in, place_among}
 use Rattle.transcript.specs.Counts.{CountsRose, deeds_in}
 use Rattle.leaf_moves.specs.Holds.{Hold, caller_in}
 use Rattle.leaf_moves.specs.Stage.{Leaf, IsDown}

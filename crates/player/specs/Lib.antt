@@ -1,9 +1,8 @@
-pub mod Steps
 pub mod Crew
 pub mod Rows
 pub mod Stage
 pub mod Lines
-pub mod Moves
+pub mod Meeting
 pub mod Members
 pub mod Restarts
 pub mod Rolled

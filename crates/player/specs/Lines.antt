@@ -9,12 +9,12 @@ use Rattle.leaf_table.specs.Turns.{Shared}
 use Rattle.leaf_table.specs.Calls.{SeatView}
 use Rattle.leaf_steward.specs.declared.notes.Note.{Note}
 use Rattle.printed_lines.specs.declared.line.Said.TheVariants as said
-use Rattle.printed_lines.specs.declared.line.Verb.{Verb}
 use Rattle.printed_lines.specs.declared.line.Ending.{Ending}
 use Rattle.printed_lines.specs.declared.line.Line.{Line}
 use Rattle.printed_lines.specs.declared.line.Line.TheVariants as line
 use Rattle.printed_lines.specs.Lines.{IsOf}
-use Rattle.transcript.specs.Pieces.{Piece, Deed, lines_in, noted_line}
+use Rattle.printed_lines.specs.declared.line.Deed.{Deed}
+use Rattle.transcript.specs.Pieces.{Piece, lines_in, noted_line}
 use Rattle.transcript.specs.Counts.{deeds_in}
 use Rattle.leaf_moves.specs.Steps.{CallStep, noted, noted_all}
 
@@ -47,19 +47,9 @@ note_line leaf n = noted_line leaf (noted n)
 abbrev pub note_lines : ℕ → List Note → List Line
 note_lines leaf notes = map (noted_line leaf) (noted_all notes)
 
--- the lines are those of the notes, unless there was no memory for a line
-abbrev pub AreTold : {E : Type 0} → ℕ → List Note → Result (Vec Line Global) E → Type 0
-AreTold leaf notes (Ok lines) = lines.items ≡ note_lines leaf notes
-AreTold leaf notes (Err e) = ⊤
-
--- the lines of the notes stand behind those that there were, which were not refused
-abbrev pub AreAdded : {E : Type 0} → ℕ → Result (Vec Line Global) E → List Note → List Line → Type 0
-AreAdded leaf (Ok before) notes lines = lines ≡ before.items ++ note_lines leaf notes
-AreAdded leaf (Err e) notes lines = ⊥
-
 -- one line for each note, and how the deed ended
-abbrev pub AreEnded : ℕ → Verb → List Note → Ending → List Line → Type 0
-AreEnded leaf verb notes ends lines = lines ≡ note_lines leaf notes ++ line.Ended verb leaf ends ∷ []
+abbrev pub AreEnded : ℕ → Deed → List Note → Ending → List Line → Type 0
+AreEnded leaf deed notes ends lines = lines ≡ note_lines leaf notes ++ line.Ended deed leaf ends ∷ []
 
 -- the lines that were not refused stand one behind the other
 abbrev pub AreJoined : {E : Type 0} → Result (Vec Line Global) E → Result (Vec Line Global) E → List Line → Type 0

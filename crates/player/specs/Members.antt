@@ -15,11 +15,12 @@ use Rattle.script_text.specs.Commands.{leaf_count}
 use Rattle.transcript.specs.Pieces.{Piece, lines_in}
 use Rattle.leaf_moves.specs.Holds.{Hold}
 use Rattle.leaf_moves.specs.Plays.{Goes}
-use Rattle.player.specs.declared.leaf.OneLeaf.{OneLeaf}
+use Rattle.leaf_deeds.specs.declared.leaf.OneLeaf.{OneLeaf}
 use Rattle.player.specs.declared.members.Members.{Members}
 use Rattle.player.specs.Crew.{AllCounted, AllPass, StillHas}
 use Rattle.player.specs.Rows.{AreRows, IsColumn}
-use Rattle.player.specs.Stage.{hold_at, seats_of}
+use Rattle.leaf_deeds.specs.Held.{seats_of}
+use Rattle.player.specs.Stage.{hold_at}
 
 -- what is held of the leaves, from the one with this number on
 abbrev pub holds_from : {B : Type 0} → ℕ → List (List Shared) → List (Option (OneLeaf B)) → List (List SeatView) → List (Hold B)

@@ -11,24 +11,26 @@ use Rattle.rollover_driver.specs.Calls as call
 use Rattle.printed_lines.specs.declared.line.Ending.{Ending}
 use Rattle.printed_lines.specs.declared.line.Line.{Line}
 use Rattle.script_text.specs.Commands.{leaf_count}
-use Rattle.transcript.specs.Pieces.{Acted, Deed, Drains, Noted, Piece, Starts, piece_lines}
+use Rattle.printed_lines.specs.declared.line.Deed.{Deed}
+use Rattle.printed_lines.specs.declared.line.Deed.TheVariants.{Drain, Start}
+use Rattle.transcript.specs.Pieces.{Acted, Noted, Piece, piece_lines}
 use Rattle.transcript.specs.Watching.{drained_by, started_by}
 use Rattle.player.specs.declared.answer.Answer.{Answer}
-use Rattle.player.specs.declared.act.Task.{Task}
-use Rattle.player.specs.declared.act.Task.TheVariants as task
+use Rattle.printed_lines.specs.declared.line.Deed.{Deed}
+use Rattle.printed_lines.specs.declared.line.Deed.TheVariants as deed
 use Rattle.player.specs.declared.members.Members.{Members}
 use Rattle.player.specs.Crew.{HasLeaf}
 use Rattle.player.specs.Members.{AreMembers, GoesWith, SameFleet, fleet_in, holds_in}
-use Rattle.player.specs.Commands.{DeedAt, deed_of}
+use Rattle.player.specs.Commands.{DeedAt}
 
 -- ---- deeds
 
 -- a drain to its end, or a start
-abbrev pub IsRestart : Task → Type 0
-IsRestart task.Start = ⊤
-IsRestart (task.Flush table) = ⊥
-IsRestart (task.Drain stop) = stop ≡ None
-IsRestart task.Kill = ⊥
+abbrev pub IsRestart : Deed → Type 0
+IsRestart deed.Start = ⊤
+IsRestart (deed.Flush table) = ⊥
+IsRestart (deed.Drain stop) = stop ≡ None
+IsRestart deed.Kill = ⊥
 
 -- a leaf of a crew that has all its leaves may be drained and started
 pub record MayDo {B : Type 0} (x : Members B) (number : ℕ) : Type 0 where
@@ -37,18 +39,18 @@ pub record MayDo {B : Type 0} (x : Members B) (number : ℕ) : Type 0 where
   pub held : (leaf : ℕ) → HasLeaf (holds_in x) leaf
 
 -- a leaf was drained or started
-pub record HasDone {B E : Type 0} (meaning : B → Meaning) (number : ℕ) (task : Task) (x : Members B) (result : Answer × Result (Vec Line Global) E) (y : Members B) : Type 0 where
+pub record HasDone {B E : Type 0} (meaning : B → Meaning) (number : ℕ) (deed : Deed) (x : Members B) (result : Answer × Result (Vec Line Global) E) (y : Members B) : Type 0 where
   pub members : AreMembers y
   pub same : SameFleet x y
-  pub deed : DeedAt meaning number (deed_of task) x result.0 result.1 y
+  pub acted : DeedAt meaning number deed x result.0 result.1 y
 
-module _ {F T E : Type 0} (g : Shared F (MutBor T × (ℕ × (Task × Unit {0}))) ((Answer × Result (Vec Line Global) E) × (MutBor T × Unit {0}))) (f : F)
-    (may : T → ℕ → Type 0) (did : T → ℕ → Task → Answer × Result (Vec Line Global) E → T → Type 0) where
+module _ {F T E : Type 0} (g : Shared F (MutBor T × (ℕ × (Deed × Unit {0}))) ((Answer × Result (Vec Line Global) E) × (MutBor T × Unit {0}))) (f : F)
+    (may : T → ℕ → Type 0) (did : T → ℕ → Deed → Answer × Result (Vec Line Global) E → T → Type 0) where
   -- a closure that drains and starts leaves, and what may be done of a leaf then
   pub record DoesDeeds : Type 0 where
-    pub may_call : (p : MutBor T) (number : ℕ) (task : Task) → may p.now number → IsRestart task → g.pre f (p, (number, (task, tt)))
-    pub does : (p q : MutBor T) (number : ℕ) (task : Task) (r : Answer × Result (Vec Line Global) E) → g.post f (p, (number, (task, tt))) (r, (q, tt)) → did p.now number task r q.now
-    pub keeps : (x y : T) (number : ℕ) (task : Task) (r : Answer × Result (Vec Line Global) E) (other : ℕ) → did x number task r y → may x other → may y other
+    pub may_call : (p : MutBor T) (number : ℕ) (deed : Deed) → may p.now number → IsRestart deed → g.pre f (p, (number, (deed, tt)))
+    pub does : (p q : MutBor T) (number : ℕ) (deed : Deed) (r : Answer × Result (Vec Line Global) E) → g.post f (p, (number, (deed, tt))) (r, (q, tt)) → did p.now number deed r q.now
+    pub keeps : (x y : T) (number : ℕ) (deed : Deed) (r : Answer × Result (Vec Line Global) E) (other : ℕ) → did x number deed r y → may x other → may y other
 
   -- and a leaf that it may drain and start
   pub record MayRestart (x : T) (leaf : ℕ) : Type 0 where
@@ -76,11 +78,11 @@ ArePartsOf (Err e) pieces after = ⊥
 
 -- the piece of a drain that was answered so
 abbrev pub IsDrained : ℕ → Drained → Piece → Type 0
-IsDrained leaf got p = (notes : List Noted) × (ending : Ending) × (p ≡ Acted leaf (Drains None) notes ending) × (got ≡ drained_by ending)
+IsDrained leaf got p = (notes : List Noted) × (ending : Ending) × (p ≡ Acted leaf (Drain None) notes ending) × (got ≡ drained_by ending)
 
 -- the piece of a start that was answered so
 abbrev pub IsStarted : ℕ → Started → Piece → Type 0
-IsStarted leaf got p = (notes : List Noted) × (ending : Ending) × (p ≡ Acted leaf Starts notes ending) × (got ≡ started_by ending)
+IsStarted leaf got p = (notes : List Noted) × (ending : Ending) × (p ≡ Acted leaf Start notes ending) × (got ≡ started_by ending)
 
 -- the pieces of calls, one for each
 abbrev pub AreAnswered : List FleetCall → List Piece → Type 0
@@ -96,7 +98,7 @@ abbrev pub no_lines : Result (Vec Line Global) (Unit {0})
 no_lines = Err tt
 
 -- calls one after another, with the lines of each
-pub data Chain {T E : Type 0} (did : T → ℕ → Task → Answer × Result (Vec Line Global) E → T → Type 0) (x : T) (told : Result (Vec (Vec Line Global) Global) E) : (calls : List FleetCall) (y : T) (told' : Result (Vec (Vec Line Global) Global) E) → Type 0 where
+pub data Chain {T E : Type 0} (did : T → ℕ → Deed → Answer × Result (Vec Line Global) E → T → Type 0) (x : T) (told : Result (Vec (Vec Line Global) Global) E) : (calls : List FleetCall) (y : T) (told' : Result (Vec (Vec Line Global) Global) E) → Type 0 where
   none : (calls : List FleetCall) (y : T) (told' : Result (Vec (Vec Line Global) Global) E)
       → calls ≡ []
       → y ≡ x
@@ -105,14 +107,14 @@ pub data Chain {T E : Type 0} (did : T → ℕ → Task → Answer × Result (Ve
   drained : (calls : List FleetCall) (y : T) (told' : Result (Vec (Vec Line Global) Global) E) (earlier : List FleetCall) (mid : T) (told_mid : Result (Vec (Vec Line Global) Global) E)
       (leaf : ℕ) (answer : Answer) (lines : Result (Vec Line Global) E)
       → Chain did x told earlier mid told_mid
-      → did mid leaf (task.Drain None) (answer, lines) y
+      → did mid leaf (deed.Drain None) (answer, lines) y
       → IfOk told' (λ parts. PartJoins told_mid lines parts.items)
       → calls ≡ earlier ++ call.Drains leaf answer.drained ∷ []
       → Chain did x told calls y told'
   started : (calls : List FleetCall) (y : T) (told' : Result (Vec (Vec Line Global) Global) E) (earlier : List FleetCall) (mid : T) (told_mid : Result (Vec (Vec Line Global) Global) E)
       (leaf : ℕ) (answer : Answer) (lines : Result (Vec Line Global) E)
       → Chain did x told earlier mid told_mid
-      → did mid leaf task.Start (answer, lines) y
+      → did mid leaf deed.Start (answer, lines) y
       → IfOk told' (λ parts. PartJoins told_mid lines parts.items)
       → calls ≡ earlier ++ call.Starts leaf answer.started ∷ []
       → Chain did x told calls y told'

@@ -8,7 +8,7 @@ use Rattle.leaf_table.specs.Lists.{place, row}
 use Rattle.leaf_moves.specs.Stage.{Leaf}
 use Rattle.leaf_moves.specs.Holds.{Hold}
 use Rattle.leaf_moves.specs.Lanes.{ComesBack, JoinsIf}
-use Rattle.player.specs.declared.leaf.OneLeaf.{OneLeaf}
+use Rattle.leaf_deeds.specs.declared.leaf.OneLeaf.{OneLeaf}
 use Rattle.player.specs.Stage.{held_of}
 
 -- ---- seats

@@ -6,31 +6,16 @@ use Rattle.leaf_table.specs.Calls.{SeatView, name_of}
 use Rattle.leaf_table.specs.Lists.{row}
 use Rattle.leaf_steward.specs.Seated.{Seated}
 use Rattle.leaf_moves.specs.Holds.{Hold}
-use Rattle.leaf_moves.specs.Stage.{Leaf, IsDown, IsUp, IsPreparing, seated_of}
-use Rattle.player.specs.declared.leaf.OneLeaf.{OneLeaf}
-use Rattle.player.specs.declared.leaf.OneLeaf.TheVariants as one
+use Rattle.leaf_moves.specs.Stage.{Leaf}
+use Rattle.leaf_deeds.specs.declared.leaf.OneLeaf.{OneLeaf}
+use Rattle.leaf_deeds.specs.Held.{berth_of, state_of}
 use Rattle.player.specs.Crew.{column}
 use Rattle.player.specs.Rows.{MayMeet}
-
--- what the leaf is, but for its berth
-abbrev pub state_of : {B : Type 0} → OneLeaf B → Leaf
-state_of (one.Down leaf) = IsDown leaf.0
-state_of (one.Up leaf) = IsUp leaf.0
-state_of (one.Preparing leaf) = IsPreparing leaf.0
-
-abbrev pub berth_of : {B : Type 0} → OneLeaf B → B
-berth_of (one.Down leaf) = leaf.1
-berth_of (one.Up leaf) = leaf.1
-berth_of (one.Preparing leaf) = leaf.1
 
 -- the berth of a leaf that is held
 abbrev pub own_berth : {B : Type 0} → Option (OneLeaf B) → Option B
 own_berth None = None
 own_berth (Some x) = Some (berth_of x)
-
--- its tables, and its steward's seats at them
-abbrev pub seats_of : {B : Type 0} → OneLeaf B → Seated
-seats_of leaf = seated_of (state_of leaf)
 
 -- the leaf with its berth, where it is held
 abbrev pub held_of : {B : Type 0} → Option (OneLeaf B) → Option (Leaf × B)
@@ -40,12 +25,6 @@ held_of (Some x) = Some (state_of x, berth_of x)
 -- what is held of the leaf with this number: its callers' seats, and this
 abbrev pub hold_at : {B : Type 0} → ℕ → List (List Shared) → List (List SeatView) → Option (OneLeaf B) → Hold B
 hold_at leaf tables rows x = record { tables = row tables leaf; callers = column leaf rows; held = held_of x }
-
--- the steward's seats are at the same tables still
-pub record KeepsSeats (x y : Seated) : Type 0 where
-  pub names : y.names ≡ x.names
-  pub tables : y.tables ≡ x.tables
-  pub seats : length y.seats ≡ length x.seats
 
 -- the leaf with this number has tables of these names, a seat of its steward at each, and the callers' seats of its column are at them
 pub record IsMember (names : List (List ℕ)) (number : ℕ) (x : Seated) (rows : List (List SeatView)) : Type 0 where

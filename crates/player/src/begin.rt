@@ -13,8 +13,8 @@ ghost use Rattle.crash_states.specs.Beginning.{MayBegin};
 ghost use Rattle.player.specs.Crew.{seated_at};
 ghost use Rattle.player.specs.Beginning.{AreBegun, IsBegun, IsReady};
 
-use crate::leaf::OneLeaf;
 use berth_face::Berth;
+use leaf_deeds::OneLeaf;
 use leaf_machine::Down;
 use leaf_model::Names;
 use leaf_table::{FleetTables, Seat, SharedTable};

@@ -4,11 +4,10 @@ ghost use Rattle.leaf_moves.specs.Plays.{MayPlay};
 ghost use Rattle.player.specs.Crew.{AllPass, HasFor, PlaysWith, StillHas};
 ghost use Rattle.player.specs.Members.{AreMembers, SameFleet, fleet_in, holds_in};
 
-use crate::act::Task;
 use crate::call::Request;
 use crate::members::Members;
 use berth_face::{Berth, Gate};
-use printed_lines::Line;
+use printed_lines::{Deed, Line};
 use rollover_watch::Watch;
 use script_text::Command;
 use std::alloc::{AllocError, Global};
@@ -41,10 +40,10 @@ impl<'t, B: Berth> Members<'t, B> {
                 per_machine: _per_machine,
                 tables: _tables,
             } => self.start_all(rt, alloc, gate),
-            Command::Start(leaf) => self.act(rt, alloc, gate, leaf, Task::Start),
-            Command::Kill(leaf) => self.act(rt, alloc, gate, leaf, Task::Kill),
-            Command::Drain { leaf, stop } => self.act(rt, alloc, gate, leaf, Task::Drain(stop)),
-            Command::Flush { leaf, table } => self.act(rt, alloc, gate, leaf, Task::Flush(table)),
+            Command::Start(leaf) => self.act(rt, alloc, gate, leaf, Deed::Start),
+            Command::Kill(leaf) => self.act(rt, alloc, gate, leaf, Deed::Kill),
+            Command::Drain { leaf, stop } => self.act(rt, alloc, gate, leaf, Deed::Drain(stop)),
+            Command::Flush { leaf, table } => self.act(rt, alloc, gate, leaf, Deed::Flush(table)),
             Command::Add { leaf, table, rows } => self.call(
                 rt,
                 alloc,

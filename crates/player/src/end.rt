@@ -4,16 +4,17 @@ ghost use Rattle.leaf_table.specs.Turns.{Shared};
 ghost use Rattle.leaf_table.specs.Lists.{lists_in};
 ghost use Rattle.leaf_moves.specs.Holds.{Hold, HasMet};
 ghost use Rattle.leaf_moves.specs.Stage.{Leaf, MeetAll};
-ghost use Rattle.player.specs.declared.leaf.OneLeaf.{OneLeaf};
+ghost use Rattle.leaf_deeds.specs.declared.leaf.OneLeaf.{OneLeaf};
 ghost use Rattle.player.specs.Crew.{HasLeaf, berth_in, column};
 ghost use Rattle.player.specs.Rows.{MayMeet, OnlyColumn};
-ghost use Rattle.player.specs.Stage.{berth_of, hold_at, own_berth, seats_of, state_of};
+ghost use Rattle.leaf_deeds.specs.Held.{berth_of, seats_of, state_of};
+ghost use Rattle.player.specs.Stage.{hold_at, own_berth};
 ghost use Rattle.player.specs.Members.{AreMembers, holds_in};
 
-use crate::leaf::OneLeaf;
 use crate::meet::meet;
 use crate::members::{Members, put_in};
 use berth_face::Berth;
+use leaf_deeds::OneLeaf;
 use leaf_table::Seat;
 
 impl<'t, B: Berth> Members<'t, B> {

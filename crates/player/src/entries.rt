@@ -1,12 +1,12 @@
 // The lines of calls and of what a steward's command did.
-ghost use Rattle.std.specs.Prelude.{◌≡◌, ◌∷◌, ◌++◌, [], IfOk, OnOk, MatchResult};
-ghost use Rattle.printed_lines.specs.declared.line.Line.TheVariants.{Ended, Entry};
+ghost use Rattle.std.specs.Prelude.{◌≡◌, ◌∷◌, ◌++◌, [], IfOk, OnOk};
+ghost use Rattle.printed_lines.specs.declared.line.Line.TheVariants.{Entry};
 ghost use Rattle.leaf_moves.specs.Steps.{said_of_note};
-ghost use Rattle.player.specs.Lines.{AreAdded, AreEnded, AreJoined, note_line, note_lines, reply_line};
+ghost use Rattle.player.specs.Lines.{AreEnded, AreJoined, note_line, note_lines, reply_line};
 
 use leaf_machine::{Note, Notes, What};
 use leaf_table::Reply;
-use printed_lines::{Ending, Line, Said, Verb};
+use printed_lines::{Deed, Ending, Line, Said};
 use std::alloc::{AllocError, Global};
 
 /// The one line of a call of that leaf's table that had this reply.
@@ -59,43 +59,18 @@ pub fn entry(leaf: u32, table: u32, number: u64, said: Said) -> Line
 }
 
 /// The lines of a leaf's deed that made these notes: one for each, and how it ended.
-pub fn steward_lines(
+pub fn deed_lines(
     alloc: Global,
     leaf: u32,
     notes: &Notes,
-    verb: Verb,
+    deed: Deed,
     ending: Ending,
 ) -> Result<Vec<Line>, AllocError>
-    ensures { IfOk result (λ lines. AreEnded leaf verb notes.now ending lines.items) }
+    ensures { IfOk result (λ lines. AreEnded leaf deed notes.now ending lines.items) }
 {
-    let lines = with_notes(Ok(Vec::new(alloc)), leaf, notes);
-    with_ending(lines, leaf, verb, ending)
-}
-
-/// The lines with those of these notes behind them. Where the lines were refused for want of memory, so are these.
-pub fn with_notes(
-    lines: Result<Vec<Line>, AllocError>,
-    number: u32,
-    notes: &Notes,
-) -> Result<Vec<Line>, AllocError>
-    ensures { IfOk result (λ after. AreAdded number lines notes.now after.items) }
-{
-    let mut lines = lines?;
-    put_notes(&mut lines, number, notes)?;
-    Ok(lines)
-}
-
-/// The lines with how the command ended behind them. Where the lines were refused, so are these.
-pub fn with_ending(
-    lines: Result<Vec<Line>, AllocError>,
-    leaf: u32,
-    verb: Verb,
-    ending: Ending,
-) -> Result<Vec<Line>, AllocError>
-    ensures { IfOk result (λ after. MatchResult lines (λ before. after.items ≡ before.items ++ Ended verb leaf ending ∷ []) (λ refused. ⊥)) }
-{
-    let mut lines = lines?;
-    lines.push(Line::Ended { verb, leaf, ending })?;
+    let mut lines = Vec::new(alloc);
+    put_notes(&mut lines, leaf, notes)?;
+    lines.push(Line::Ended { deed, leaf, ending })?;
     Ok(lines)
 }
 

@@ -8,9 +8,9 @@ ghost use Rattle.player.specs.Crew.{Spares, is_set};
 ghost use Rattle.player.specs.Members.{AreMembers, SameFleet, fleet_in, holds_in};
 ghost use Rattle.player.specs.Lending.{AreRoomy, MaySplit, RowSplits, RowsSplit, SlotSplits, SlotsSplit, SplitsFirst};
 
-use crate::leaf::OneLeaf;
 use crate::members::Members;
 use berth_face::Berth;
+use leaf_deeds::OneLeaf;
 use leaf_table::{FleetTables, Seat, SharedTable};
 use std::alloc::{AllocError, Global};
 

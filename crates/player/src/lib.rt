@@ -8,10 +8,8 @@ mod begin;
 mod call;
 mod commands;
 mod crew;
-mod drain;
 mod end;
 mod entries;
-mod leaf;
 mod lend;
 mod meet;
 mod meet_all;
@@ -20,7 +18,6 @@ mod restarts;
 mod rolled;
 mod rollover;
 mod slots;
-mod steps;
 mod take_back;
 
 pub use crew::Crew;

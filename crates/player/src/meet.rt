@@ -6,11 +6,11 @@ ghost use Rattle.leaf_steward.specs.Seated.{AreFounded};
 ghost use Rattle.leaf_moves.specs.Stage.{MeetAll, Stands};
 ghost use Rattle.player.specs.Crew.{column};
 ghost use Rattle.player.specs.Rows.{HasSeat, MayMeet, OnlyColumn};
-ghost use Rattle.player.specs.Stage.{KeepsSeats, berth_of, seats_of, state_of};
-ghost use Rattle.player.specs.Moves.{MeetsAt};
+ghost use Rattle.leaf_deeds.specs.Held.{KeepsSeats, berth_of, seats_of, state_of};
+ghost use Rattle.player.specs.Meeting.{MeetsAt};
 
-use crate::leaf::OneLeaf;
 use berth_face::Berth;
+use leaf_deeds::OneLeaf;
 use leaf_table::Seat;
 
 /// Lets the seat of callers at each table of the leaf with this number and the steward's see what the other has seen.

@@ -2,9 +2,9 @@
 ghost use Rattle.std.specs.Prelude.{◌≡◌, ◌+◌, ◌<◌, ◌≤◌, vec_len, vec_capacity};
 ghost use Rattle.std.specs.List.{insert};
 
-use crate::leaf::OneLeaf;
 use crate::restarts::Leaves;
 use berth_face::Berth;
+use leaf_deeds::OneLeaf;
 use leaf_model::Names;
 use leaf_table::{FleetTables, Seat};
 
@@ -24,7 +24,7 @@ impl<'t, B: Berth> Leaves for Members<'t, B> {
 
     ghost may = { λ x leaf. MayDo x leaf };
 
-    ghost did = { λ x leaf task result y. HasDone B.meaning leaf task x result y };
+    ghost did = { λ x leaf deed result y. HasDone B.meaning leaf deed x result y };
 }
 
 /// Puts an item in a place of the list, where room was left for it.

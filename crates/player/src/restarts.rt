@@ -2,9 +2,8 @@
 ghost use Rattle.std.specs.Prelude.{◌≡◌, [], ◌∷◌, ◌++◌, IfOk, IsOkAnd, OnOk, MatchResult};
 ghost use Rattle.player.specs.Restarts.{DoesDeeds, IsRestart, MayRestart, PartJoins};
 
-use crate::act::Task;
 use crate::answer::Answer;
-use printed_lines::Line;
+use printed_lines::{Deed, Line};
 use rollover_driver::Fleet;
 use rollover_watch::{Drained, Started};
 use std::alloc::{AllocError, Global};
@@ -16,13 +15,13 @@ pub trait Leaves {
     ghost use Rattle.std.specs.declared.alloc.AllocError.{AllocError};
     ghost use Rattle.printed_lines.specs.declared.line.Line.{Line};
     ghost use Rattle.player.specs.declared.answer.Answer.{Answer};
-    ghost use Rattle.player.specs.declared.act.Task.{Task};
+    ghost use Rattle.printed_lines.specs.declared.line.Deed.{Deed};
 
     /// When a leaf may be drained and started.
     ghost may: { Self → ℕ → Type 0 };
 
     /// What such a deed did, with its answer and its lines.
-    ghost did: { Self → ℕ → Task → Answer × Result (Vec Line Global) AllocError → Self → Type 0 };
+    ghost did: { Self → ℕ → Deed → Answer × Result (Vec Line Global) AllocError → Self → Type 0 };
 }
 
 /// The leaves, the lines of each deed, and what does the deeds: a closure, since a method of a trait may not need the gate.
@@ -32,7 +31,7 @@ pub struct Restarts<'f, T, F> {
     pub act: &'f F,
 }
 
-impl<'f, T: Leaves, F: Fn(&mut T, u32, Task) -> (Answer, Result<Vec<Line>, AllocError>)> Restarts<
+impl<'f, T: Leaves, F: Fn(&mut T, u32, Deed) -> (Answer, Result<Vec<Line>, AllocError>)> Restarts<
     'f,
     T,
     F,
@@ -51,19 +50,19 @@ impl<'f, T: Leaves, F: Fn(&mut T, u32, Task) -> (Answer, Result<Vec<Line>, Alloc
     }
 
     // Drains or starts a leaf, and keeps its lines.
-    fn restart(&mut self, leaf: u32, task: Task) -> Answer
+    fn restart(&mut self, leaf: u32, deed: Deed) -> Answer
         requires may { MayRestart F.Fn self.old.act.now T.may T.did self.old.leaves leaf }
-        requires task { IsRestart task }
+        requires deed { IsRestart deed }
         ensures act { self.new.act ≡ self.old.act }
-        ensures done { (lines : _) × T.did self.old.leaves leaf task (result, lines) self.new.leaves × IfOk self.new.told (λ parts. PartJoins self.old.told lines parts.items) }
+        ensures done { (lines : _) × T.did self.old.leaves leaf deed (result, lines) self.new.leaves × IfOk self.new.told (λ parts. PartJoins self.old.told lines parts.items) }
     {
-        let (answer, lines) = (self.act)(&mut self.leaves, leaf, task);
+        let (answer, lines) = (self.act)(&mut self.leaves, leaf, deed);
         put_part(&mut self.told, lines);
         answer
     }
 }
 
-impl<'f, T: Leaves, F: Fn(&mut T, u32, Task) -> (Answer, Result<Vec<Line>, AllocError>)> Fleet
+impl<'f, T: Leaves, F: Fn(&mut T, u32, Deed) -> (Answer, Result<Vec<Line>, AllocError>)> Fleet
     for Restarts<'f, T, F> {
     ghost use Rattle.std.specs.Prelude.{[], refl};
     ghost use Rattle.player.specs.Restarts.{Chain, MayRestart};
@@ -74,11 +73,11 @@ impl<'f, T: Leaves, F: Fn(&mut T, u32, Task) -> (Answer, Result<Vec<Line>, Alloc
     ghost stands = { λ first calls now. Chain T.did first.leaves first.told calls now.leaves now.told };
 
     fn drain(&mut self, leaf: u32) -> Drained {
-        self.restart(leaf, Task::Drain(None)).drained
+        self.restart(leaf, Deed::Drain(None)).drained
     }
 
     fn start(&mut self, leaf: u32) -> Started {
-        self.restart(leaf, Task::Start).started
+        self.restart(leaf, Deed::Start).started
     }
 
     ghost stays = { λ fleet. restart.none [] fleet.leaves fleet.told refl refl refl };

@@ -8,13 +8,12 @@ ghost use Rattle.player.specs.Members.{AreMembers, SameFleet, fleet_in, holds_in
 ghost use Rattle.player.specs.Restarts.{HasDone, IsRestart, MayDo};
 ghost use Rattle.player.specs.Rolled.{RollsThrough};
 
-use crate::act::Task;
 use crate::members::Members;
 use crate::restarts::Restarts;
 use crate::rolled::rolled_lines;
 use berth_face::{Berth, Gate};
 use leaf_model::Names;
-use printed_lines::Line;
+use printed_lines::{Deed, Line};
 use rollover_driver::{Rolled, drive};
 use rollover_plan::{Waves, waves};
 use rollover_watch::Watch;
@@ -65,10 +64,10 @@ impl<'t, B: Berth> Members<'t, B> {
         requires known { AllByRecursion (λ wave. AllByRecursion (λ leaf. leaf < leaf_count (fleet_in self.old)) wave) plan.now }
         ensures { RollsThrough B.meaning plan.now self.old (map (λ watch. held watch) watches.old.items) result.0 result.1 self.new (map (λ watch. held watch) watches.new.items) }
     {
-        let act = |members: &mut Members<B>, number: u32, task: Task|
-            requires { MayDo members.old number × IsRestart task }
-            ensures { HasDone B.meaning number task members.old result members.new }
-        { members.deed(rt, alloc, gate, number, task) };
+        let act = |members: &mut Members<B>, number: u32, deed: Deed|
+            requires { MayDo members.old number × IsRestart deed }
+            ensures { HasDone B.meaning number deed members.old result members.new }
+        { members.deed(rt, alloc, gate, number, deed) };
         let mut fleet = Restarts::of(alloc, self.taken(alloc), &act);
         let rolled = drive(&mut fleet, plan, watches);
         let Restarts {

@@ -5,16 +5,17 @@ ghost use Rattle.leaf_table.specs.Lists.{lists_in, row};
 ghost use Rattle.script_text.specs.Commands.{leaf_count};
 ghost use Rattle.leaf_moves.specs.Holds.{Hold};
 ghost use Rattle.leaf_moves.specs.Lanes.{JoinsTo, TakesBack};
-ghost use Rattle.player.specs.declared.leaf.OneLeaf.{OneLeaf};
+ghost use Rattle.leaf_deeds.specs.declared.leaf.OneLeaf.{OneLeaf};
 ghost use Rattle.player.specs.Crew.{HasSeats, SameSeats};
-ghost use Rattle.player.specs.Stage.{berth_of, held_of, state_of};
+ghost use Rattle.leaf_deeds.specs.Held.{berth_of, state_of};
+ghost use Rattle.player.specs.Stage.{held_of};
 ghost use Rattle.player.specs.Members.{AreMembers, IsLeafOf, SameFleet, fleet_in, holds_in};
 ghost use Rattle.player.specs.Returning.{JoinsFrom, LeafBack, LeavesBack, MayJoin, RowsJoined};
 
-use crate::leaf::OneLeaf;
 use crate::members::Members;
 use crate::slots::put;
 use berth_face::Berth;
+use leaf_deeds::OneLeaf;
 use leaf_table::{FleetTables, Seat, SharedTable};
 
 impl<'t, B: Berth> Members<'t, B> {

@@ -6,8 +6,8 @@ use Rattle.leaf_opening.specs.declared.ways.Way.TheVariants.{Memory, Disk}
 use Rattle.adopt.specs.declared.found.WhyDisk.TheVariants as why
 use Rattle.printed_lines.specs.declared.line.Said.{Said}
 use Rattle.printed_lines.specs.declared.line.Said.TheVariants.{Added, Removed, Asked, RefusedShut, RefusedFull, RefusedMemory, Opened, Took, Flushed, Closed, Handed}
-use Rattle.printed_lines.specs.declared.line.Verb.{Verb}
-use Rattle.printed_lines.specs.declared.line.Verb.TheVariants.{Flush, Drain, Kill, Start}
+use Rattle.printed_lines.specs.declared.line.Deed.{Deed}
+use Rattle.printed_lines.specs.declared.line.Deed.TheVariants.{Flush, Drain, Kill, Start}
 use Rattle.printed_lines.specs.declared.line.Ending.{Ending}
 use Rattle.printed_lines.specs.declared.line.Ending.TheVariants.{Done, Stopped, NotUp, NotDown, Started, FaultRegion, FaultRoom, FaultDisk, FaultDamaged, FaultMemory, FaultStranger, FaultWorn}
 use Rattle.printed_lines.specs.declared.line.Ending.TheVariants as ends
@@ -36,11 +36,11 @@ way_text (Disk (why.Closed byte)) = codes "disk closed " ++ decimal byte
 way_text (Disk (why.OtherVersion version)) = codes "disk version " ++ decimal version
 way_text (Disk why.NoImage) = codes "disk noimage"
 
-abbrev pub verb_text : Verb → List ℕ
-verb_text Flush = codes "flush"
-verb_text Drain = codes "drain"
-verb_text Kill = codes "kill"
-verb_text Start = codes "start"
+abbrev pub deed_text : Deed → List ℕ
+deed_text Start = codes "start"
+deed_text (Flush table) = codes "flush"
+deed_text (Drain stop) = codes "drain"
+deed_text Kill = codes "kill"
 
 -- the name of a table of the fleet, by its place
 abbrev pub name_at : List (List ℕ) → ℕ → List ℕ
@@ -86,8 +86,8 @@ abbrev pub answer_text : ℕ → ℕ → List (List ℕ) → List ℕ
 answer_text named leaves rows = answer_head named leaves (length rows) ++ flat_map row_line rows
 
 -- the line of a command of a leaf's steward
-abbrev pub ended_text : List (List ℕ) → Verb → ℕ → Ending → List ℕ
-ended_text names verb leaf ending = verb_text verb ++ (32 ∷ (decimal leaf ++ (32 ∷ (ending_text names ending ++ 10 ∷ []))))
+abbrev pub ended_text : List (List ℕ) → Deed → ℕ → Ending → List ℕ
+ended_text names deed leaf ending = deed_text deed ++ (32 ∷ (decimal leaf ++ (32 ∷ (ending_text names ending ++ 10 ∷ []))))
 
 -- the line before those of a lane
 abbrev pub lane_text : ℕ → List ℕ
@@ -118,7 +118,7 @@ abbrev pub line_text : List (List ℕ) → Line → List ℕ
 line_text names (Entry leaf table number said) = entry_text leaf (name_at names table) number said
 line_text names (Worn leaf table) = worn_text leaf (name_at names table)
 line_text names (Answer named leaves rows) = answer_text named leaves rows
-line_text names (Ended verb leaf ending) = ended_text names verb leaf ending
+line_text names (Ended deed leaf ending) = ended_text names deed leaf ending
 line_text names (Lane number) = lane_text number
 line_text names (Wave number total leaves) = wave_text number total leaves
 line_text names (Rolled halted waves total) = rolled_text halted waves total
@@ -148,7 +148,7 @@ abbrev pub IsOf : List (List ℕ) → Line → Type 0
 IsOf names (Entry leaf table number said) = table < length names
 IsOf names (Worn leaf table) = table < length names
 IsOf names (Answer named leaves rows) = ⊤
-IsOf names (Ended verb leaf ending) = EndsOf names ending
+IsOf names (Ended deed leaf ending) = EndsOf names ending
 IsOf names (Lane number) = ⊤
 IsOf names (Wave number total leaves) = ⊤
 IsOf names (Rolled halted waves total) = ⊤

@@ -6,5 +6,5 @@ mod line;
 mod parts;
 mod put;
 
-pub use line::{Ending, Line, Said, Verb};
+pub use line::{Deed, Ending, Line, Said};
 pub use put::{put_line, put_lines};

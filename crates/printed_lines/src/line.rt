@@ -26,16 +26,18 @@ pub enum Said {
     Handed,
 }
 
-/// The commands of a leaf's steward.
+/// What a leaf's steward is told to do.
 #[derive(Clone, Copy, PartialEq, Eq)]
-pub enum Verb {
-    Flush,
-    Drain,
-    Kill,
+pub enum Deed {
     Start,
+    /// Of the table in that place.
+    Flush(u32),
+    /// Stopped after so many steps, where a number is told.
+    Drain(Option<u32>),
+    Kill,
 }
 
-/// How a command of a leaf's steward ended.
+/// How such a deed ended.
 #[derive(Drop)]
 pub enum Ending {
     Done,
@@ -79,7 +81,7 @@ pub enum Line {
         rows: Texts,
     },
     Ended {
-        verb: Verb,
+        deed: Deed,
         leaf: u32,
         ending: Ending,
     },

@@ -1,8 +1,8 @@
 // The texts that lines are made of.
 ghost use Rattle.std.specs.Prelude.{◌≡◌, ◌<◌, length, IfOk, string_bytes};
-ghost use Rattle.printed_lines.specs.Lines.{EndsOf, way_text, ending_text, verb_text, name_at};
+ghost use Rattle.printed_lines.specs.Lines.{EndsOf, way_text, ending_text, deed_text, name_at};
 
-use crate::line::{Ending, Verb};
+use crate::line::{Deed, Ending};
 use adopt::WhyDisk;
 use leaf_model::Names;
 use leaf_opening::Way;
@@ -49,14 +49,14 @@ fn way_string(alloc: Global, way: Way) -> Result<String, AllocError>
     }
 }
 
-pub fn verb_str(verb: Verb) -> &'static str
-    ensures { result.now ≡ verb_text verb }
+pub fn deed_str(deed: Deed) -> &'static str
+    ensures { result.now ≡ deed_text deed }
 {
-    match verb {
-        Verb::Flush => "flush",
-        Verb::Drain => "drain",
-        Verb::Kill => "kill",
-        Verb::Start => "start",
+    match deed {
+        Deed::Start => "start",
+        Deed::Flush(_) => "flush",
+        Deed::Drain(_) => "drain",
+        Deed::Kill => "kill",
     }
 }
 

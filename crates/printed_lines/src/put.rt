@@ -4,8 +4,8 @@ ghost use Rattle.std.specs.List.{flat_map, AllByRecursion};
 ghost use Rattle.printed_lines.specs.Lines.{EndsOf, IsOf, row_line, worn_text, answer_head, answer_text, ended_text, lane_text, leaf_text, line_text, lines_text, rolled_text, rolled_word, watch_text, wave_text};
 
 use crate::entry::append_entry;
-use crate::line::{Ending, Line, Verb};
-use crate::parts::{ending_string, name_of, verb_str};
+use crate::line::{Deed, Ending, Line};
+use crate::parts::{deed_str, ending_string, name_of};
 use leaf_model::{Names, Text};
 use std::alloc::{AllocError, Global};
 
@@ -28,7 +28,7 @@ pub fn put_line(out: &mut Vec<u8>, names: &Names, line: &Line) -> Result<(), All
             leaves,
             rows,
         } => append_answer(out, *named, *leaves, rows.as_slice()),
-        Line::Ended { verb, leaf, ending } => append_ended(out, names, *verb, *leaf, ending),
+        Line::Ended { deed, leaf, ending } => append_ended(out, names, *deed, *leaf, ending),
         Line::Lane(number) => append_lane(out, *number),
         Line::Wave { number, of, leaves } => append_wave(out, *number, *of, leaves.as_slice()),
         Line::Rolled { halted, waves, of } => append_rolled(out, *halted, *waves, *of),
@@ -95,18 +95,18 @@ fn head_bytes(alloc: Global, named: u64, leaves: u32, count: usize) -> Result<Ve
 fn append_ended(
     out: &mut Vec<u8>,
     names: &Names,
-    verb: Verb,
+    deed: Deed,
     leaf: u32,
     ending: &Ending,
 ) -> Result<(), AllocError>
     requires { EndsOf names.now ending.now }
-    ensures put { OnOk result (out.new.items ≡ out.old.items ++ ended_text names.now verb leaf ending.now) }
+    ensures put { OnOk result (out.new.items ≡ out.old.items ++ ended_text names.now deed leaf ending.now) }
     ensures unchanged { OnErr result (out.new.items ≡ out.old.items) }
 {
     let alloc = *out.allocator();
-    let verb = verb_str(verb);
+    let deed = deed_str(deed);
     let ending = ending_string(alloc, names, ending)?;
-    let text = format!(in alloc; "{verb} {leaf} {ending}\n")?;
+    let text = format!(in alloc; "{deed} {leaf} {ending}\n")?;
     out.extend_from_slice(text.as_bytes())
 }
 

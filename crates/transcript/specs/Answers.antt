@@ -13,7 +13,9 @@ use Rattle.printed_lines.specs.declared.line.Ending.{Ending}
 use Rattle.printed_lines.specs.declared.line.Ending.TheVariants as ends
 use Rattle.printed_lines.specs.declared.line.Line.TheVariants as line
 use Rattle.script_text.specs.declared.fleet.Fleet.{Fleet}
-use Rattle.transcript.specs.Pieces.{Piece, Worn, Acted, Says, Deed, Flushes, Noted, Played, place_among}
+use Rattle.printed_lines.specs.declared.line.Deed.{Deed}
+use Rattle.printed_lines.specs.declared.line.Deed.TheVariants.{Flush}
+use Rattle.transcript.specs.Pieces.{Piece, Worn, Acted, Says, Noted, Played, place_among}
 use Rattle.transcript.specs.Shapes.{named}
 use Rattle.transcript.specs.Histories.{Ground}
 
@@ -42,7 +44,7 @@ Answers fleet grounds histories p = by_command p.command
 -- ---- worn seats
 
 abbrev pub flushed_table : ℕ → Deed → Option (ℕ × ℕ)
-flushed_table leaf (Flushes table) = Some (leaf, table)
+flushed_table leaf (Flush table) = Some (leaf, table)
 flushed_table leaf _ = None
 
 abbrev pub worn_ending : ℕ → Deed → Ending → Option (ℕ × ℕ)

@@ -4,7 +4,9 @@ use Rattle.berth_face.specs.Berth.{Meaning}
 use Rattle.leaf_opening.specs.declared.ways.Way.TheVariants.{Memory}
 use Rattle.printed_lines.specs.declared.line.Ending.{Ending}
 use Rattle.printed_lines.specs.declared.line.Ending.TheVariants as ends
-use Rattle.transcript.specs.Pieces.{Piece, Acted, Deed, Starts}
+use Rattle.printed_lines.specs.declared.line.Deed.{Deed}
+use Rattle.printed_lines.specs.declared.line.Deed.TheVariants.{Start}
+use Rattle.transcript.specs.Pieces.{Piece, Acted}
 
 abbrev pub is_region_fault : Ending → Bool
 is_region_fault ends.FaultRegion = true
@@ -16,9 +18,9 @@ is_disk_fault _ = false
 
 -- a start that did not come from memory
 abbrev pub reads_disk : Deed → Ending → Bool
-reads_disk Starts (ends.Started Memory) = false
-reads_disk Starts ends.NotDown = false
-reads_disk Starts _ = true
+reads_disk Start (ends.Started Memory) = false
+reads_disk Start ends.NotDown = false
+reads_disk Start _ = true
 reads_disk _ ending = false
 
 -- how many of a leaf's deeds are such

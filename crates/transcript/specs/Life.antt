@@ -9,7 +9,9 @@ use Rattle.printed_lines.specs.declared.line.Said.{Said}
 use Rattle.printed_lines.specs.declared.line.Said.TheVariants.{Opened, Took, Flushed, Closed, Handed}
 use Rattle.printed_lines.specs.declared.line.Ending.{Ending}
 use Rattle.printed_lines.specs.declared.line.Ending.TheVariants as ends
-use Rattle.transcript.specs.Pieces.{Noted, Deed, Starts, Flushes, Drains, Kills, Piece, Acted}
+use Rattle.printed_lines.specs.declared.line.Deed.{Deed}
+use Rattle.printed_lines.specs.declared.line.Deed.TheVariants.{Start, Flush, Drain, Kill}
+use Rattle.transcript.specs.Pieces.{Noted, Piece, Acted}
 
 -- what the log is owed: a table's place, and how many writes were taken of it up to then
 pub record Owed : Type 0 where
@@ -17,11 +19,11 @@ pub record Owed : Type 0 where
   pub count : ℕ
 
 -- How far a leaf has come that shuts its tables: what is owed; how many tables, from the first on, are shut, flushed and sealed since then; and whether the next
--- one is shut, so that its record is owed or its tail is not sealed.
+-- one is shut and waits, since its record is owed or its tail is not sealed.
 pub record Progress : Type 0 where
   pub owed : Option Owed
   pub treated : ℕ
-  pub shut : Bool
+  pub waits : Bool
 
 pub data Mode : Type 0 where
   Down : Mode
@@ -178,21 +180,21 @@ pub data Stage : Type 0 where
 -- where a drain of such a leaf begins
 abbrev pub BeginsAt : Mode → Progress → Type 0
 BeginsAt Down p = ⊥
-BeginsAt (Up owed) p = p ≡ record { owed = owed; treated = 0; shut = false }
+BeginsAt (Up owed) p = p ≡ record { owed = owed; treated = 0; waits = false }
 BeginsAt (Preparing at) p = p ≡ at
 
 -- one table more is treated: what was owed is flushed; then the next table is closed and flushed with one number of writes, where it was not shut before
 pub data Treats (p : Progress) (notes : List Noted) (q : Progress) : Type 0 where
   whole : (first own : List Noted) (count : ℕ)
-      → p.shut ≡ false
+      → p.waits ≡ false
       → OwedNote p.owed first
       → TwoNotes p.treated (Closed count) (Flushed count) own
       → notes ≡ first ++ own
-      → q ≡ record { owed = None; treated = suc p.treated; shut = false }
+      → q ≡ record { owed = None; treated = suc p.treated; waits = false }
       → Treats p notes q
-  rest : p.shut ≡ true
+  rest : p.waits ≡ true
       → OwedNote p.owed notes
-      → q ≡ record { owed = None; treated = suc p.treated; shut = false }
+      → q ≡ record { owed = None; treated = suc p.treated; waits = false }
       → Treats p notes q
 
 -- One step that neither ends the drain nor fails, of tables so many, and of a copy that takes so many steps.
@@ -218,36 +220,36 @@ IsCopyLength columns copy = columns + 3 ≤ copy
 -- the disk fails: before anything was flushed, or when the next table was closed
 pub data Halts (p : Progress) (notes : List Noted) (q : Progress) : Type 0 where
   half : (first own : List Noted) (count : ℕ)
-      → p.shut ≡ false
+      → p.waits ≡ false
       → OwedNote p.owed first
       → Note p.treated (Closed count) own
       → notes ≡ first ++ own
-      → q ≡ record { owed = Some (record { table = p.treated; count = count }); treated = p.treated; shut = true }
+      → q ≡ record { owed = Some (record { table = p.treated; count = count }); treated = p.treated; waits = true }
       → Halts p notes q
   stuck : (o : Owed) → p.owed ≡ Some o → notes ≡ [] → q ≡ p → Halts p notes q
 
 -- There is no memory, and what was owed is flushed: for the next table's place or the copy; or to seal the next table, which is closed and flushed; or one that was shut before.
 pub data Starves (tables : ℕ) (p : Progress) (notes : List Noted) (q : Progress) : Type 0 where
-  before : p.shut ≡ false
+  before : p.waits ≡ false
       → OwedNote p.owed notes
-      → q ≡ record { owed = None; treated = p.treated; shut = false }
+      → q ≡ record { owed = None; treated = p.treated; waits = false }
       → Starves tables p notes q
   behind : (first own : List Noted) (count : ℕ)
-      → p.shut ≡ false
+      → p.waits ≡ false
       → p.treated < tables
       → OwedNote p.owed first
       → TwoNotes p.treated (Closed count) (Flushed count) own
       → notes ≡ first ++ own
-      → q ≡ record { owed = None; treated = p.treated; shut = true }
+      → q ≡ record { owed = None; treated = p.treated; waits = true }
       → Starves tables p notes q
-  still : p.shut ≡ true
+  still : p.waits ≡ true
       → OwedNote p.owed notes
-      → q ≡ record { owed = None; treated = p.treated; shut = true }
+      → q ≡ record { owed = None; treated = p.treated; waits = true }
       → Starves tables p notes q
 
 -- each table that is open is closed
 abbrev pub first_open : Progress → ℕ
-first_open p = if p.shut then suc p.treated else p.treated
+first_open p = if p.waits then suc p.treated else p.treated
 
 abbrev pub ClosesFrom : ℕ → ℕ → List Noted → Type 0
 ClosesFrom tables place notes = (counts : List ℕ) × (place + length counts ≡ tables) × Notes place (map Closed counts) notes
@@ -329,10 +331,10 @@ pub data OfKill (tables : ℕ) (life : Life) (notes : List Noted) (ending : Endi
 
 -- what a deed prints and leaves, of a leaf of so many tables, whose berth's base is known or not
 abbrev pub Does : Bool → ℕ → (List Noted → ℕ) → Deed → Life → List Noted → Ending → Life → Type 0
-Does told tables columns Starts life notes ending next = OfStart told tables life notes ending next
-Does told tables columns (Flushes table) life notes ending next = OfFlush table life notes ending next
-Does told tables columns (Drains stop) life notes ending next = OfDrain told tables columns stop life notes ending next
-Does told tables columns Kills life notes ending next = OfKill tables life notes ending next
+Does told tables columns Start life notes ending next = OfStart told tables life notes ending next
+Does told tables columns (Flush table) life notes ending next = OfFlush table life notes ending next
+Does told tables columns (Drain stop) life notes ending next = OfDrain told tables columns stop life notes ending next
+Does told tables columns Kill life notes ending next = OfKill tables life notes ending next
 
 -- The deeds among the pieces that are this leaf's, one after another. In a burst they stand in one lane.
 abbrev pub Lives : Bool → ℕ → (List Noted → ℕ) → ℕ → Life → List Piece → Life → Type 0

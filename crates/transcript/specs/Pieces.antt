@@ -8,8 +8,7 @@ use Rattle.script_text.specs.declared.command.Command.TheVariants as command
 use Rattle.script_text.specs.declared.item.Item.{Item}
 use Rattle.script_text.specs.declared.item.Item.TheVariants as item
 use Rattle.printed_lines.specs.declared.line.Said.{Said}
-use Rattle.printed_lines.specs.declared.line.Verb.{Verb}
-use Rattle.printed_lines.specs.declared.line.Verb.TheVariants.{Flush, Drain, Kill, Start}
+use Rattle.printed_lines.specs.declared.line.Deed.{Deed}
 use Rattle.printed_lines.specs.declared.line.Ending.{Ending}
 use Rattle.printed_lines.specs.declared.line.Line.{Line}
 use Rattle.printed_lines.specs.declared.line.Line.TheVariants as line
@@ -20,13 +19,6 @@ pub record Noted : Type 0 where
   pub number : ℕ
   pub said : Said
 
--- what a leaf's steward is told to do
-pub data Deed : Type 0 where
-  Starts : Deed
-  Flushes : (table : ℕ) → Deed
-  Drains : (stop : Option ℕ) → Deed
-  Kills : Deed
-
 -- A piece of what a command prints: a caller's call that made an entry; one whose seat is worn, which made none; what a leaf's steward did, with its entries
 -- and how it ended; or a line that tells of no entry.
 pub data Piece : Type 0 where
@@ -35,19 +27,13 @@ pub data Piece : Type 0 where
   Acted : (leaf : ℕ) (deed : Deed) (notes : List Noted) (ending : Ending) → Piece
   Says : (line : Line) → Piece
 
-abbrev pub deed_verb : Deed → Verb
-deed_verb Starts = Start
-deed_verb (Flushes table) = Flush
-deed_verb (Drains stop) = Drain
-deed_verb Kills = Kill
-
 abbrev pub noted_line : ℕ → Noted → Line
 noted_line leaf n = line.Entry leaf n.table n.number n.said
 
 abbrev pub piece_lines : Piece → List Line
 piece_lines (Called leaf table call number said) = line.Entry leaf table number said ∷ []
 piece_lines (Worn leaf table) = line.Worn leaf table ∷ []
-piece_lines (Acted leaf deed notes ending) = map (noted_line leaf) notes ++ line.Ended (deed_verb deed) leaf ending ∷ []
+piece_lines (Acted leaf deed notes ending) = map (noted_line leaf) notes ++ line.Ended deed leaf ending ∷ []
 piece_lines (Says l) = l ∷ []
 
 abbrev pub lines_in : List Piece → List Line

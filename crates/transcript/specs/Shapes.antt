@@ -13,7 +13,9 @@ use Rattle.printed_lines.specs.declared.line.Line.TheVariants as line
 use Rattle.rollover_plan.specs.Plan.{IsPlan}
 use Rattle.script_text.specs.declared.fleet.Fleet.{Fleet}
 use Rattle.script_text.specs.Commands.{leaf_count}
-use Rattle.transcript.specs.Pieces.{Piece, Called, Worn, Acted, Says, Deed, Starts, Flushes, Drains, Kills, Noted, place_among}
+use Rattle.printed_lines.specs.declared.line.Deed.{Deed}
+use Rattle.printed_lines.specs.declared.line.Deed.TheVariants.{Start, Flush, Drain, Kill}
+use Rattle.transcript.specs.Pieces.{Piece, Called, Worn, Acted, Says, Noted, place_among}
 
 -- A caller's call of a table. What it may be told, the table's history says, of which its line shows an entry.
 abbrev pub CallPiece : ℕ → ℕ → Call → Piece → Type 0
@@ -53,8 +55,8 @@ pub record QueryPieces (fleet : Fleet) (q : Query) (pieces : List Piece) : Type 
 pub record WavePieces (number total : ℕ) (leaves : List ℕ) (pieces : List Piece) : Type 0 where
   pub drains : List Piece
   pub starts : List Piece
-  pub drained : EachActs (Drains None) leaves drains
-  pub started : EachActs Starts leaves starts
+  pub drained : EachActs (Drain None) leaves drains
+  pub started : EachActs Start leaves starts
   pub are : pieces ≡ Says (line.Wave number total leaves) ∷ (drains ++ starts)
 
 -- the first of these waves, which are numbered from there on
@@ -80,13 +82,13 @@ pub record Rolls (fleet : Fleet) (percent : ℕ) (pieces : List Piece) : Type 0 
 
 -- One case a command. A new command adds a case.
 abbrev pub Prints : Fleet → Command → List Piece → Type 0
-Prints fleet (command.Fleet machines per_machine tables) pieces = EachActs Starts (range_with_len 0 (leaf_count fleet)) pieces
+Prints fleet (command.Fleet machines per_machine tables) pieces = EachActs Start (range_with_len 0 (leaf_count fleet)) pieces
 Prints fleet (command.Add leaf table rows) pieces = OnePiece (CallPiece leaf table (call.Add rows)) pieces
 Prints fleet (command.Expire leaf table horizon) pieces = OnePiece (CallPiece leaf table (call.Expire horizon)) pieces
 Prints fleet (command.Keep leaf table n) pieces = OnePiece (CallPiece leaf table (call.Keep n)) pieces
 Prints fleet (command.Query q) pieces = QueryPieces fleet q pieces
-Prints fleet (command.Flush leaf table) pieces = OnePiece (ActPiece leaf (Flushes table)) pieces
-Prints fleet (command.Drain leaf stop) pieces = OnePiece (ActPiece leaf (Drains stop)) pieces
-Prints fleet (command.Kill leaf) pieces = OnePiece (ActPiece leaf Kills) pieces
-Prints fleet (command.Start leaf) pieces = OnePiece (ActPiece leaf Starts) pieces
+Prints fleet (command.Flush leaf table) pieces = OnePiece (ActPiece leaf (Flush table)) pieces
+Prints fleet (command.Drain leaf stop) pieces = OnePiece (ActPiece leaf (Drain stop)) pieces
+Prints fleet (command.Kill leaf) pieces = OnePiece (ActPiece leaf Kill) pieces
+Prints fleet (command.Start leaf) pieces = OnePiece (ActPiece leaf Start) pieces
 Prints fleet (command.Rollover percent) pieces = Rolls fleet percent pieces

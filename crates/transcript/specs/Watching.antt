@@ -16,7 +16,9 @@ use Rattle.script_text.specs.declared.command.Command.TheVariants as command
 use Rattle.printed_lines.specs.declared.line.Ending.{Ending}
 use Rattle.printed_lines.specs.declared.line.Ending.TheVariants as ends
 use Rattle.script_text.specs.declared.fleet.Fleet.{Fleet}
-use Rattle.transcript.specs.Pieces.{Piece, Acted, Deed, Starts, Drains, Played}
+use Rattle.printed_lines.specs.declared.line.Deed.{Deed}
+use Rattle.printed_lines.specs.declared.line.Deed.TheVariants.{Start, Drain}
+use Rattle.transcript.specs.Pieces.{Piece, Acted, Played}
 use Rattle.transcript.specs.Shapes.{Rolls}
 
 -- ---- what the leaves answered
@@ -41,8 +43,8 @@ started_by _ = started.Fault
 
 -- a deed as a call of a fleet, with its answer
 abbrev pub deed_calls : ℕ → Deed → Ending → List FleetCall
-deed_calls leaf Starts ending = call.Starts leaf (started_by ending) ∷ []
-deed_calls leaf (Drains stop) ending = call.Drains leaf (drained_by ending) ∷ []
+deed_calls leaf Start ending = call.Starts leaf (started_by ending) ∷ []
+deed_calls leaf (Drain stop) ending = call.Drains leaf (drained_by ending) ∷ []
 deed_calls leaf _ ending = []
 
 abbrev pub piece_calls : Piece → List FleetCall

@@ -13,7 +13,8 @@ use Rattle.printed_lines.specs.declared.line.Line.{Line}
 use Rattle.printed_lines.specs.declared.line.Said.{Said}
 use Rattle.script_text.specs.declared.fleet.Fleet.{Fleet}
 use Rattle.script_text.specs.Commands.{leaf_count}
-use Rattle.transcript.specs.Pieces.{Acted, Called, Deed, Piece, PlayedItem, Says, Worn}
+use Rattle.printed_lines.specs.declared.line.Deed.{Deed}
+use Rattle.transcript.specs.Pieces.{Acted, Called, Piece, PlayedItem, Says, Worn}
 use Rattle.transcript.specs.Answers.{WornIsLong}
 use Rattle.transcript.specs.Transcript.{Known}
 use Rattle.leaf_moves.specs.Stage.{Leaf}

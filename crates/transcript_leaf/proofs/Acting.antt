@@ -9,7 +9,8 @@ use Rattle.leaf_table.specs.Calls.{SeatView, base_seen, name_of, seen_of}
 use Rattle.leaf_steward.specs.declared.notes.Note.{Note}
 use Rattle.leaf_steward.proofs.Keeping.{makes_tables}
 use Rattle.printed_lines.specs.declared.line.Ending.{Ending}
-use Rattle.transcript.specs.Pieces.{Acted, Deed, Piece, PlayedItem, all_pieces}
+use Rattle.printed_lines.specs.declared.line.Deed.{Deed}
+use Rattle.transcript.specs.Pieces.{Acted, Piece, PlayedItem, all_pieces}
 use Rattle.transcript.specs.Histories.{Ground}
 use Rattle.transcript.specs.Transcript.{Known, ground_of}
 use Rattle.leaf_moves.specs.Stage.{Leaf, Carries, MeetAll, MeetsIf, seated_of}

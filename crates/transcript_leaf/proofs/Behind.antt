@@ -39,7 +39,7 @@ fits_seats (Up owed) (IsUp x) seats h = h
 fits_seats (Up owed) (IsPreparing x) seats h = absurd h
 fits_seats (Preparing p) (IsDown x) seats h = absurd h
 fits_seats (Preparing p) (IsUp x) seats h = absurd h
-fits_seats (Preparing p) (IsPreparing x) seats h = record { owed = h.owed; treated_are = h.treated_are; shut = h.shut; closed = h.closed }
+fits_seats (Preparing p) (IsPreparing x) seats h = record { owed = h.owed; treated_are = h.treated_are; waits = h.waits; closed = h.closed }
 
 -- its tables, and the seats that it has then
 pub met_seated : (known : Option Known) (leaf leaf' : Leaf) (m : Meaning) → (met : LeafMeets known leaf leaf' m) → seated_of leaf' ≡ seated_with (seated_of leaf) met.seats

@@ -22,7 +22,8 @@ use Rattle.leaf_machine.specs.States.{Serving}
 use Rattle.leaf_machine.specs.Starts.{IsOpenedNote}
 use Rattle.leaf_machine.specs.Flushes.{OwedNotes}
 use Rattle.leaf_machine.specs.Flushes as flushing
-use Rattle.transcript.specs.Pieces.{Deed, Starts, Flushes, Drains, Kills}
+use Rattle.printed_lines.specs.declared.line.Deed.{Deed}
+use Rattle.printed_lines.specs.declared.line.Deed.TheVariants.{Start, Flush, Drain, Kill}
 use Rattle.transcript.specs.Life.{Life, Mode, Down, Up, MayCome, Notes, Owed, Progress, BeginsAt, IsStartRefusal, claimed, durable_after, durable_by, durable_with, failed, first_open, on, way_refused}
 use Rattle.transcript.specs.Life as lives
 use Rattle.transcript.specs.Counts.{is_disk_fault}
@@ -105,7 +106,7 @@ start_opened : (known : Option Known) (tables : ℕ) (life : Life) (m m' : Meani
     → length x.tables ≡ tables → FitsMode life.mode (IsDown x) → MayCome (is_some known) way → FitsNext known life leaf m → OpensCounts known life m m' leaf notes → leaf ≡ IsDown x
     → s.owing.log.owed ≡ None → EachNoted IsOpenedNote 0 (length x.tables) notes → IfSome known (λ (k : Known). StartsTold x m m' s notes way)
     → ends ≡ ending.Started way → leaf' ≡ IsUp s
-    → Lived known tables Starts life (noted_all notes) ends leaf' m'
+    → Lived known tables Start life (noted_all notes) ends leaf' m'
 start_opened known tables life m m' leaf x s notes way ends leaf' size mode may fits opens is none each told ends_are now =
     let o = opening life.durable (length x.tables) notes (counts_opened known life m m' leaf x s notes way fits opens is told) each in record {
       next = opened_life (is_some known) way o.counts;
@@ -190,7 +191,7 @@ pub start_lives : (names : List (List ℕ)) (known : Option Known) (life : Life)
     → AreInPlace names (seated_of leaf) → AreGrounded known (seated_of leaf) → IfSome known (λ (k : Known). StandsKnown k leaf m)
     → IfSome known (λ (k : Known). life.begun ≡ true → IsOwn names (seated_of leaf) m)
     → FitsMode life.mode leaf → FitsNext known life leaf m → OpensCounts known life m m' leaf notes
-    → StartMoves m m' leaf notes ends leaf' → Lived known (length names) Starts life (noted_all notes) ends leaf' m'
+    → StartMoves m m' leaf notes ends leaf' → Lived known (length names) Start life (noted_all notes) ends leaf' m'
 start_lives names known life m m' leaf notes ends leaf' in_place grounded stands own mode fits opens (steps.opened x s way is none each told ends_are now) =
     start_opened known (length names) life m m' leaf x s notes way ends leaf'
     (ap (λ (l : Leaf). length (seated_of l).tables) (sym is) ∙ as_many names (seated_of leaf) in_place)
@@ -244,7 +245,7 @@ owed_told (Some o) s owes some = (o, refl)
 up_flushed : (known : Option Known) (tables table : ℕ) (life : Life) (m m' : Meaning) (leaf : Leaf) (owed : Option Owed) (s s' : Serving) (notes : List Note) (r : FlushReply) (ends : Ending) (leaf' : Leaf)
     → life.mode ≡ Up owed → IsOwedAs owed s.owing → FitsNext known life leaf m → IfSome known (λ (k : Known). m'.held.region ≡ m.held.region)
     → ends ≡ ending_of_flush r → leaf' ≡ IsUp s' → flushing.Flushes table s s' notes r
-    → Lived known tables (Flushes table) life (noted_all notes) ends leaf' m'
+    → Lived known tables (Flush table) life (noted_all notes) ends leaf' m'
 up_flushed known tables table life m m' leaf owed s s' notes r ends leaf' mode owes fits same ends_are now (flushing.done first taking flushed n noted notes_are reply_is none) =
     let is : ends ≡ ending.Done = ends_are ∙ ap (λ (q : FlushReply). ending_of_flush q) reply_is in record {
       next = on life (Up None) life.way (noted_all notes);
@@ -288,7 +289,7 @@ up_flushed known tables table life m m' leaf owed s s' notes r ends leaf' mode o
 
 pub flush_lives : (known : Option Known) (tables table : ℕ) (life : Life) (m m' : Meaning) (leaf : Leaf) (notes : List Note) (ends : Ending) (leaf' : Leaf)
     → IfSome known (λ (k : Known). StandsKnown k leaf m) → FitsMode life.mode leaf → FitsNext known life leaf m
-    → FlushMoves table m m' leaf notes ends leaf' → Lived known tables (Flushes table) life (noted_all notes) ends leaf' m'
+    → FlushMoves table m m' leaf notes ends leaf' → Lived known tables (Flush table) life (noted_all notes) ends leaf' m'
 flush_lives known tables table life m m' leaf notes ends leaf' stands mode fits (steps.flushed s s' r is flushes region ends_are now) =
     let u = up_mode life.mode s (subst (λ (l : Leaf). FitsMode life.mode l) is mode) in
     up_flushed known tables table life m m' leaf u.0 s s' notes r ends leaf' u.1 u.2 fits (where_known known leaf m (m'.held.region ≡ m.held.region) stands region) ends_are now flushes
@@ -324,7 +325,7 @@ counts_closed (Some cs) place count notes h = ap (λ (ds : List ℕ). Some ds) (
 killed : (known : Option Known) (tables : ℕ) (life : Life) (m m' : Meaning) (leaf : Leaf) (p : Progress) (place count : ℕ) (notes : List Note) (ends : Ending) (leaf' : Leaf) (y : Seated)
     → BeginsAt life.mode p → first_open p ≡ place → place + count ≡ tables → EachNoted IsClosedNote place count notes
     → FitsNext known life leaf m → IfSome known (λ (k : Known). m'.held.region ≡ m.held.region) → ends ≡ ending.Done → leaf' ≡ IsDown y
-    → Lived known tables Kills life (noted_all notes) ends leaf' m'
+    → Lived known tables Kill life (noted_all notes) ends leaf' m'
 killed known tables life m m' leaf p place count notes ends leaf' y begins from size each fits same ends_are now =
     let c = closed_noted place count notes each in record {
       next = on life Down life.way [];
@@ -339,10 +340,10 @@ killed known tables life m m' leaf p place count notes ends leaf' y begins from 
 
 pub kill_lives : (names : List (List ℕ)) (known : Option Known) (life : Life) (m m' : Meaning) (leaf : Leaf) (notes : List Note) (ends : Ending) (leaf' : Leaf)
     → AreInPlace names (seated_of leaf) → IfSome known (λ (k : Known). StandsKnown k leaf m) → FitsMode life.mode leaf → FitsNext known life leaf m
-    → KillMoves m m' leaf notes ends leaf' → Lived known (length names) Kills life (noted_all notes) ends leaf' m'
+    → KillMoves m m' leaf notes ends leaf' → Lived known (length names) Kill life (noted_all notes) ends leaf' m'
 kill_lives names known life m m' leaf notes ends leaf' in_place stands mode fits (steps.up s y is each same ends_are now) =
     let u = up_mode life.mode s (subst (λ (l : Leaf). FitsMode life.mode l) is mode) in
-    let p : Progress = record { owed = u.0; treated = 0; shut = false } in
+    let p : Progress = record { owed = u.0; treated = 0; waits = false } in
     let size : length s.seated.tables ≡ length names = ap (λ (l : Leaf). length (seated_of l).tables) (sym is) ∙ as_many names (seated_of leaf) in_place in
     killed known (length names) life m m' leaf p 0 (length s.seated.tables) notes ends leaf' y (subst (λ (k : Mode). BeginsAt k p) (sym u.1) refl) refl (omega (arith, size)) each
     fits (same_held known leaf m m' stands same) ends_are now
@@ -367,11 +368,11 @@ pub deed_lives : (names : List (List ℕ)) (known : Option Known) (deed : Deed) 
     → IfSome known (λ (k : Known). life.begun ≡ true → IsOwn names (seated_of leaf) m)
     → FitsMode life.mode leaf → FitsNext known life leaf m → OpensCounts known life m m' leaf notes
     → Moves deed m m' leaf notes ends leaf' → Lived known (length names) deed life (noted_all notes) ends leaf' m'
-deed_lives names known Starts life m m' leaf notes ends leaf' in_place grounded stewards stands own mode fits opens moves =
+deed_lives names known Start life m m' leaf notes ends leaf' in_place grounded stewards stands own mode fits opens moves =
     start_lives names known life m m' leaf notes ends leaf' in_place grounded stands own mode fits opens moves
-deed_lives names known (Flushes table) life m m' leaf notes ends leaf' in_place grounded stewards stands own mode fits opens moves =
+deed_lives names known (Flush table) life m m' leaf notes ends leaf' in_place grounded stewards stands own mode fits opens moves =
     flush_lives known (length names) table life m m' leaf notes ends leaf' stands mode fits moves
-deed_lives names known (Drains stop) life m m' leaf notes ends leaf' in_place grounded stewards stands own mode fits opens moves =
+deed_lives names known (Drain stop) life m m' leaf notes ends leaf' in_place grounded stewards stands own mode fits opens moves =
     drain_lives names known stop life m m' leaf notes ends leaf' in_place grounded stewards stands mode fits moves
-deed_lives names known Kills life m m' leaf notes ends leaf' in_place grounded stewards stands own mode fits opens moves =
+deed_lives names known Kill life m m' leaf notes ends leaf' in_place grounded stewards stands own mode fits opens moves =
     kill_lives names known life m m' leaf notes ends leaf' in_place stands mode fits moves

@@ -25,21 +25,21 @@ use Rattle.transcript_leaf.proofs.NoteLines.{noted_none, noted_split, owed_noted
 -- ---- how many tables are treated, and the first that is open
 
 -- each that is shut, where none of them is half
-treated_whole : (x : Shutting) → x.shut ≡ false → treated x ≡ length x.closed
+treated_whole : (x : Shutting) → x.waits ≡ false → treated x ≡ length x.closed
 treated_whole x e = ap (λ (b : Bool). if b then length x.closed - 1 else length x.closed) e
 
 -- all but the last, which is half
-treated_half : (x : Shutting) → x.shut ≡ true → treated x ≡ length x.closed - 1
+treated_half : (x : Shutting) → x.waits ≡ true → treated x ≡ length x.closed - 1
 treated_half x e = ap (λ (b : Bool). if b then length x.closed - 1 else length x.closed) e
 
-treated_same : (x y : Shutting) → y.closed ≡ x.closed → y.shut ≡ x.shut → treated y ≡ treated x
+treated_same : (x y : Shutting) → y.closed ≡ x.closed → y.waits ≡ x.waits → treated y ≡ treated x
 treated_same x y closed shut =
-    ap (λ (b : Bool). if b then length y.closed - 1 else length y.closed) shut ∙ ap (λ (ts : List Table). if x.shut then length ts - 1 else length ts) closed
+    ap (λ (b : Bool). if b then length y.closed - 1 else length y.closed) shut ∙ ap (λ (ts : List Table). if x.waits then length ts - 1 else length ts) closed
 
-open_whole : (p : Progress) → p.shut ≡ false → first_open p ≡ p.treated
+open_whole : (p : Progress) → p.waits ≡ false → first_open p ≡ p.treated
 open_whole p e = ap (λ (b : Bool). if b then suc p.treated else p.treated) e
 
-open_half : (p : Progress) → p.shut ≡ true → first_open p ≡ suc p.treated
+open_half : (p : Progress) → p.waits ≡ true → first_open p ≡ suc p.treated
 open_half p e = ap (λ (b : Bool). if b then suc p.treated else p.treated) e
 
 -- one table more is shut
@@ -49,18 +49,18 @@ one_closed x y content e =
     omega (arith, count)
 
 -- where nothing is owed, and so many tables are shut
-settled : (y : Shutting) (n : ℕ) → y.serving.owing.log.owed ≡ None → y.shut ≡ false → length y.closed ≡ n → IsProgressOf y (record { owed = None; treated = n; shut = false })
+settled : (y : Shutting) (n : ℕ) → y.serving.owing.log.owed ≡ None → y.waits ≡ false → length y.closed ≡ n → IsProgressOf y (record { owed = None; treated = n; waits = false })
 settled y n none shut count = record {
   owed = none;
   treated_are = sym (treated_whole y shut ∙ count);
-  shut = sym shut;
+  waits = sym shut;
   closed = count;
 }
 
 -- ---- one table
 
 abbrev pub next_progress : Progress → Progress
-next_progress p = record { owed = None; treated = suc p.treated; shut = false }
+next_progress p = record { owed = None; treated = suc p.treated; waits = false }
 
 -- the entries of the table in that place
 abbrev closed_alone : ℕ → ℕ → ℕ → List Noted
@@ -71,14 +71,14 @@ closed_and_flushed closing flushing n place = record { table = place; number = c
 
 treats : (x y : Shutting) (ns : List Note) (p : Progress) → IsProgressOf x p → Treats x y ns → life.Treats p (noted_all ns) (next_progress p) × IsProgressOf y (next_progress p)
 treats x y ns p at (prepares.whole first closing flushing n content open_ noted ns_are closed shut none) =
-    let place : length x.closed ≡ p.treated = at.closed ∙ open_whole p (at.shut ∙ open_) in (
-      life.whole (noted_all first) (closed_and_flushed closing flushing n (length x.closed)) n (at.shut ∙ open_) (owed_noted p.owed x.serving.owing first at.owed noted)
+    let place : length x.closed ≡ p.treated = at.closed ∙ open_whole p (at.waits ∙ open_) in (
+      life.whole (noted_all first) (closed_and_flushed closing flushing n (length x.closed)) n (at.waits ∙ open_) (owed_noted p.owed x.serving.owing first at.owed noted)
           (closing, flushing, ap (λ (k : ℕ). closed_and_flushed closing flushing n k) place) (noted_split ns first _ ns_are) refl,
       settled y (suc p.treated) none shut (one_closed x y content closed ∙ ap suc place),
     )
 treats x y ns p at (prepares.rest half noted closed shut none) = (
-  life.rest (at.shut ∙ half) (owed_noted p.owed x.serving.owing ns at.owed noted) refl,
-  settled y (suc p.treated) none shut (ap (λ (ts : List Table). length ts) closed ∙ (at.closed ∙ open_half p (at.shut ∙ half))),
+  life.rest (at.waits ∙ half) (owed_noted p.owed x.serving.owing ns at.owed noted) refl,
+  settled y (suc p.treated) none shut (ap (λ (ts : List Table). length ts) closed ∙ (at.closed ∙ open_half p (at.waits ∙ half))),
 )
 
 -- ---- the steps that neither end the drain nor fail
@@ -252,16 +252,16 @@ owed_same (Some w) o o' log owner count is = (is.0, log ∙ is.1, owner ∙ is.2
 
 pub halts : (y z : Shutting) (ns : List Note) (q : Progress) → IsProgressOf y q → Halts y z ns → (r : Progress) × life.Halts q (noted_all ns) r × IsProgressOf z r
 halts y z ns q at (prepares.half first closing n content open_ noted ns_are closed half owes owner count) =
-    let place : length y.closed ≡ q.treated = at.closed ∙ open_whole q (at.shut ∙ open_) in
+    let place : length y.closed ≡ q.treated = at.closed ∙ open_whole q (at.waits ∙ open_) in
     let more = one_closed y z content closed in
     let owed = some_record z.serving.owing.log.owed owes in (
-      record { owed = Some (record { table = q.treated; count = n }); treated = q.treated; shut = true },
-      life.half (noted_all first) (closed_alone closing n (length y.closed)) n (at.shut ∙ open_) (owed_noted q.owed y.serving.owing first at.owed noted)
+      record { owed = Some (record { table = q.treated; count = n }); treated = q.treated; waits = true },
+      life.half (noted_all first) (closed_alone closing n (length y.closed)) n (at.waits ∙ open_) (owed_noted q.owed y.serving.owing first at.owed noted)
           (closing, ap (λ (k : ℕ). closed_alone closing n k) place) (noted_split ns first _ ns_are) refl,
       record {
         owed = (owed.0, owed.1, owner ∙ place, count);
         treated_are = omega (arith, treated_half z half, more, place);
-        shut = sym half;
+        waits = sym half;
         closed = more ∙ ap suc place;
       },
     )
@@ -272,7 +272,7 @@ halts y z ns q at (prepares.stuck ns_are owes seated log owner count closed shut
       record {
         owed = owed_same q.owed y.serving.owing z.serving.owing log owner count at.owed;
         treated_are = at.treated_are ∙ sym (treated_same y z closed shut);
-        shut = at.shut ∙ sym shut;
+        waits = at.waits ∙ sym shut;
         closed = ap (λ (ts : List Table). length ts) closed ∙ at.closed;
       },
     )
@@ -280,27 +280,27 @@ halts y z ns q at (prepares.stuck ns_are owes seated log owner count closed shut
 pub starves : (tables : ℕ) (y z : Shutting) (ns : List Note) (q : Progress) → length y.serving.seated.tables ≡ tables → IsProgressOf y q → Starves y z ns
     → (r : Progress) × life.Starves tables q (noted_all ns) r × IsProgressOf z r
 starves tables y z ns q size at (prepares.before open_ noted closed shut none) = (
-  record { owed = None; treated = q.treated; shut = false },
-  life.before (at.shut ∙ open_) (owed_noted q.owed y.serving.owing ns at.owed noted) refl,
-  settled z q.treated none shut (ap (λ (ts : List Table). length ts) closed ∙ (at.closed ∙ open_whole q (at.shut ∙ open_))),
+  record { owed = None; treated = q.treated; waits = false },
+  life.before (at.waits ∙ open_) (owed_noted q.owed y.serving.owing ns at.owed noted) refl,
+  settled z q.treated none shut (ap (λ (ts : List Table). length ts) closed ∙ (at.closed ∙ open_whole q (at.waits ∙ open_))),
 )
 starves tables y z ns q size at (prepares.behind first closing flushing n content open_ few noted ns_are closed half none) =
-    let place : length y.closed ≡ q.treated = at.closed ∙ open_whole q (at.shut ∙ open_) in
+    let place : length y.closed ≡ q.treated = at.closed ∙ open_whole q (at.waits ∙ open_) in
     let more = one_closed y z content closed in (
-      record { owed = None; treated = q.treated; shut = true },
-      life.behind (noted_all first) (closed_and_flushed closing flushing n (length y.closed)) n (at.shut ∙ open_) (omega (arith, few, place, size))
+      record { owed = None; treated = q.treated; waits = true },
+      life.behind (noted_all first) (closed_and_flushed closing flushing n (length y.closed)) n (at.waits ∙ open_) (omega (arith, few, place, size))
           (owed_noted q.owed y.serving.owing first at.owed noted)
           (closing, flushing, ap (λ (k : ℕ). closed_and_flushed closing flushing n k) place) (noted_split ns first _ ns_are) refl,
-      record { owed = none; treated_are = omega (arith, treated_half z half, more, place); shut = sym half; closed = more ∙ ap suc place },
+      record { owed = none; treated_are = omega (arith, treated_half z half, more, place); waits = sym half; closed = more ∙ ap suc place },
     )
 starves tables y z ns q size at (prepares.still was noted closed half none) = (
-  record { owed = None; treated = q.treated; shut = true },
-  life.still (at.shut ∙ was) (owed_noted q.owed y.serving.owing ns at.owed noted) refl,
+  record { owed = None; treated = q.treated; waits = true },
+  life.still (at.waits ∙ was) (owed_noted q.owed y.serving.owing ns at.owed noted) refl,
   record {
     owed = none;
     treated_are = at.treated_are ∙ sym (treated_same y z closed (half ∙ sym was));
-    shut = sym half;
-    closed = ap (λ (ts : List Table). length ts) closed ∙ (at.closed ∙ open_half q (at.shut ∙ was));
+    waits = sym half;
+    closed = ap (λ (ts : List Table). length ts) closed ∙ (at.closed ∙ open_half q (at.waits ∙ was));
   },
 )
 

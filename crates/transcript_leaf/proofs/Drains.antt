@@ -16,7 +16,8 @@ use Rattle.leaf_steward.specs.Seated.{Seated, AreFounded}
 use Rattle.leaf_steward.specs.Making.{EachNoted, IsClosedNote, IsHandedNote}
 use Rattle.leaf_machine.specs.States.{Shutting, columns_seen, treated}
 use Rattle.leaf_machine.specs.Prepares.{Halts, Starves, AllTreated}
-use Rattle.transcript.specs.Pieces.{Drains, Noted}
+use Rattle.printed_lines.specs.declared.line.Deed.TheVariants.{Drain}
+use Rattle.transcript.specs.Pieces.{Noted}
 use Rattle.transcript.specs.Transcript.{Known}
 use Rattle.transcript.specs.Life.{Life, Mode, Down, Up, Preparing, Progress, OfDrain, BeginsAt, ClosesRest, MayMake, claimed, durable_with, failed, first_open, on, way_stopped}
 use Rattle.transcript.specs.Life as life
@@ -97,9 +98,9 @@ begun Down (IsUp s) x fits shuts = absurd fits
 begun Down (IsPreparing y) x fits shuts = absurd fits
 begun (Up owed) (IsDown y) x fits shuts = absurd fits
 begun (Up owed) (IsUp s) x fits shuts = subst (λ (y : Shutting). Begun (Up owed) (IsUp s) y) (sym shuts) (record {
-  at = record { owed = owed; treated = 0; shut = false };
+  at = record { owed = owed; treated = 0; waits = false };
   begins = refl;
-  progress = record { owed = fits; treated_are = refl; shut = refl; closed = refl };
+  progress = record { owed = fits; treated_are = refl; waits = refl; closed = refl };
   tables = refl;
 })
 begun (Up owed) (IsPreparing y) x fits shuts = absurd fits
@@ -120,7 +121,7 @@ module _ (known : Option Known) (tables : ℕ) (stop : Option ℕ) (old : Life) 
   drained : (y : Shutting) (z : Seated) (treating handing notes : List Note) (n copy made : ℕ)
       → AreStewards x.serving.seated → MakesSteps n (moves.Shuts x) treating (moves.Copies y copy made) → suc made ≡ copy → MayMake stop (suc n) → Part y.serving.seated handing z
       → EachNoted IsHandedNote 0 (length x.serving.seated.tables) handing → notes ≡ treating ++ handing → IfSome known (λ (k : Known). IsWayOf m'.held.region Memory)
-      → Lived known tables (Drains stop) old (noted_all notes) ending.Done (IsDown z) m'
+      → Lived known tables (Drain stop) old (noted_all notes) ending.Done (IsDown z) m'
   drained y z treating handing notes n copy made stewards steps last may part noted notes_are memory =
       let split = noted_split notes treating handing notes_are in
       let hand : life.Notes 0 (replicate tables said.Handed) (noted_all handing) =
@@ -147,7 +148,7 @@ module _ (known : Option Known) (tables : ℕ) (stop : Option ℕ) (old : Life) 
 
   -- the region failed
   region_failed : (y : Shutting) (notes : List Note) (n copy made : ℕ) → MakesSteps n (moves.Shuts x) notes (moves.Copies y copy made) → MayMake stop (suc n)
-      → Lived known tables (Drains stop) old (noted_all notes) ending.FaultRegion (IsDown y.serving.seated) m'
+      → Lived known tables (Drain stop) old (noted_all notes) ending.FaultRegion (IsDown y.serving.seated) m'
   region_failed y notes n copy made steps may =
       let next : Life = on old Down None (noted_all notes) in
       let does : (least : List Noted → ℕ) → OfDrain (is_some known) tables least stop old (noted_all notes) ending.FaultRegion next =
@@ -163,7 +164,7 @@ module _ (known : Option Known) (tables : ℕ) (stop : Option ℕ) (old : Life) 
   -- the copy has no room
   roomless : (y : Shutting) (notes : List Note) (n : ℕ) → MakesSteps n (moves.Shuts x) notes (moves.Shuts y) → AllTreated y → MayMake stop (suc n)
       → (IsTrue m.tells → m'.held.region ≡ m.held.region)
-      → Lived known tables (Drains stop) old (noted_all notes) ending.FaultRoom (IsPreparing y) m'
+      → Lived known tables (Drain stop) old (noted_all notes) ending.FaultRoom (IsPreparing y) m'
   roomless y notes n steps all may same =
       let th = through tables 3 n x y notes b.at b.progress size steps in
       let next : Life = on old (Preparing th.q) old.way (noted_all notes) in
@@ -180,7 +181,7 @@ module _ (known : Option Known) (tables : ℕ) (stop : Option ℕ) (old : Life) 
   -- there is no memory
   starved : (y z : Shutting) (treating starving notes : List Note) (n : ℕ) → MakesSteps n (moves.Shuts x) treating (moves.Shuts y) → MayMake stop (suc n) → Starves y z starving
       → notes ≡ treating ++ starving → (IsTrue m.tells → m'.held.region ≡ m.held.region)
-      → Lived known tables (Drains stop) old (noted_all notes) ending.FaultMemory (IsPreparing z) m'
+      → Lived known tables (Drain stop) old (noted_all notes) ending.FaultMemory (IsPreparing z) m'
   starved y z treating starving notes n steps may s notes_are same =
       let th = through tables 3 n x y treating b.at b.progress size steps in
       let st = starves tables y z starving th.q th.size th.progress s in
@@ -199,7 +200,7 @@ module _ (known : Option Known) (tables : ℕ) (stop : Option ℕ) (old : Life) 
   halted : (y z : Shutting) (treating halting notes : List Note) (n : ℕ)
       → MakesSteps n (moves.Shuts x) treating (moves.Shuts y) → MayMake stop (suc n) → treated y < length y.serving.seated.tables → Halts y z halting
       → notes ≡ treating ++ halting → (IsTrue m.tells → m'.held.region ≡ m.held.region)
-      → Lived known tables (Drains stop) old (noted_all notes) ending.FaultDisk (IsPreparing z) m'
+      → Lived known tables (Drain stop) old (noted_all notes) ending.FaultDisk (IsPreparing z) m'
   halted y z treating halting notes n steps may few h notes_are same =
       let th = through tables 3 n x y treating b.at b.progress size steps in
       let hl = halts y z halting th.q th.progress h in
@@ -220,7 +221,7 @@ module _ (known : Option Known) (tables : ℕ) (stop : Option ℕ) (old : Life) 
       → stop ≡ Some n → MakesSteps n (moves.Shuts x) treating (moves.Shuts y)
       → length y.closed + count ≡ length y.serving.seated.tables → EachNoted IsClosedNote (length y.closed) count closing
       → notes ≡ treating ++ closing → (IsTrue m.tells → m'.held.region ≡ m.held.region)
-      → Lived known tables (Drains stop) old (noted_all notes) ending.Stopped (IsDown z) m'
+      → Lived known tables (Drain stop) old (noted_all notes) ending.Stopped (IsDown z) m'
   stopped y z treating closing notes n count stop_is steps count_is noted notes_are same =
       let th = through tables 3 n x y treating b.at b.progress size steps in
       let shut = closed_noted (length y.closed) count closing noted in
@@ -247,7 +248,7 @@ module _ (known : Option Known) (tables : ℕ) (stop : Option ℕ) (old : Life) 
   -- behind steps of the copy
   stopped_copying : (y : Shutting) (notes : List Note) (n copy made : ℕ)
       → stop ≡ Some n → MakesSteps n (moves.Shuts x) notes (moves.Copies y copy made) → IfSome known (λ (k : Known). RegionStopped made m m')
-      → Lived known tables (Drains stop) old (noted_all notes) ending.Stopped (IsDown y.serving.seated) m'
+      → Lived known tables (Drain stop) old (noted_all notes) ending.Stopped (IsDown y.serving.seated) m'
   stopped_copying y notes n copy made stop_is steps region =
       let next : Life = on old Down (way_stopped (life.Copying made) old.way) (noted_all notes) in
       let does : (least : List Noted → ℕ) → OfDrain (is_some known) tables least stop old (noted_all notes) ending.Stopped next =
@@ -264,7 +265,7 @@ module _ (known : Option Known) (tables : ℕ) (stop : Option ℕ) (old : Life) 
 -- the leaf is down
 not_up : (known : Option Known) (tables : ℕ) (stop : Option ℕ) (old : Life) (m m' : Meaning) (leaf : Leaf)
     → IfSome known (λ (k : Known). StandsKnown k leaf m) → FitsMode old.mode leaf → FitsNext known old leaf m → IsDownLeaf leaf → m'.held ≡ m.held
-    → Lived known tables (Drains stop) old [] ending.NotUp leaf m'
+    → Lived known tables (Drain stop) old [] ending.NotUp leaf m'
 not_up known tables stop old m m' leaf stands mode fits down held =
     let does : (least : List Noted → ℕ) → OfDrain (is_some known) tables least stop old [] ending.NotUp old = λ least. life.not_up (resting_mode leaf old.mode mode down) refl refl refl in record {
       next = old;
@@ -280,7 +281,7 @@ not_up known tables stop old m m' leaf stands mode fits down held =
 pub drain_lives : (names : List (List ℕ)) (known : Option Known) (stop : Option ℕ) (life : Life) (m m' : Meaning) (leaf : Leaf) (notes : List Note) (ends : Ending) (leaf' : Leaf)
     → AreInPlace names (seated_of leaf) → AreGrounded known (seated_of leaf) → AreStewards (seated_of leaf) → IfSome known (λ k. StandsKnown k leaf m)
     → FitsMode life.mode leaf → FitsNext known life leaf m
-    → DrainMoves m m' leaf stop notes ends leaf' → Lived known (length names) (Drains stop) life (noted_all notes) ends leaf' m'
+    → DrainMoves m m' leaf stop notes ends leaf' → Lived known (length names) (Drain stop) life (noted_all notes) ends leaf' m'
 drain_lives names known stop old m m' leaf notes ends leaf' place grounded stewards stands mode fits (moves.done x y z treating handing n copy made shuts steps last may part noted notes_are region own ends_are leaf_is) =
     let b = begun old.mode leaf x mode shuts in
     rw (ends_are, leaf_is)

@@ -10,7 +10,8 @@ use Rattle.leaf_steward.specs.declared.notes.Note.{Note}
 use Rattle.leaf_steward.specs.Seated.{Seated}
 use Rattle.printed_lines.specs.declared.line.Ending.{Ending}
 use Rattle.transcript.specs.Base.{LogHas}
-use Rattle.transcript.specs.Pieces.{Deed, Starts, Flushes, Drains, Kills}
+use Rattle.printed_lines.specs.declared.line.Deed.{Deed}
+use Rattle.printed_lines.specs.declared.line.Deed.TheVariants.{Start, Flush, Drain, Kill}
 use Rattle.transcript.specs.Life.{durable_after}
 use Rattle.transcript.specs.Transcript.{Known}
 use Rattle.leaf_moves.specs.Stage.{Leaf, IsDown, IsUp, IsPreparing, Carries, seated_of, with_seats}
@@ -91,11 +92,11 @@ durable_met k counts leaf leaf' m met durable =
 moves_by : (names : List (List ℕ)) (k : Known) (counts : List ℕ) (deed : Deed) (m m' : Meaning) (leaf : Leaf) (notes : List Note) (ends : Ending) (leaf' : Leaf)
     → Moves deed m m' leaf notes ends leaf' → loses_counts deed ends ≡ false → Given names k counts m m' notes leaf leaf'
     → IsDurable k.base (durable_after counts (noted_all notes)) leaf' m'
-moves_by names k counts Starts m m' leaf notes ends leaf' moves calm g = start_moves names k counts m m' notes leaf ends leaf' moves g
-moves_by names k counts (Flushes table) m m' leaf notes ends leaf' moves calm g = flush_moves names k counts m m' notes table leaf ends leaf' moves calm g
-moves_by names k counts (Drains stop) m m' leaf notes ends leaf' moves calm g =
+moves_by names k counts Start m m' leaf notes ends leaf' moves calm g = start_moves names k counts m m' notes leaf ends leaf' moves g
+moves_by names k counts (Flush table) m m' leaf notes ends leaf' moves calm g = flush_moves names k counts m m' notes table leaf ends leaf' moves calm g
+moves_by names k counts (Drain stop) m m' leaf notes ends leaf' moves calm g =
     drain_durable names k counts stop m m' leaf notes ends leaf' g.in_place g.grounded g.stewards g.known g.carries moves calm g.durable
-moves_by names k counts Kills m m' leaf notes ends leaf' moves calm g = kill_moves names k counts m m' notes leaf ends leaf' moves g
+moves_by names k counts Kill m m' leaf notes ends leaf' moves calm g = kill_moves names k counts m m' notes leaf ends leaf' moves g
 
 pub durable_moves : (names : List (List ℕ)) (k : Known) (counts : List ℕ) (deed : Deed) (m m' : Meaning) (leaf : Leaf) (notes : List Note) (ends : Ending) (leaf' : Leaf)
     → AreInPlace names (seated_of leaf) → AreGrounded (Some k) (seated_of leaf) → AreStewards (seated_of leaf) → StandsKnown k leaf m → Carries leaf leaf' notes m m'

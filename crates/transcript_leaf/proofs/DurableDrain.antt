@@ -142,7 +142,7 @@ AreDone base counts x = AtCounts (IsSettled base) x counts × AtEach (λ place t
 
 all_done : (base : NamedStates) (counts : List ℕ) (y : Shutting) → IsClean base counts y → AllTreated y → AreDone base counts y.serving.seated
 all_done base counts y clean all =
-    (clean.1, λ place t v at was. clean.2 place t v at was (omega (arith, slice_get_within y.serving.seated.tables place t at, all, no_more (length y.closed) y.shut)))
+    (clean.1, λ place t v at was. clean.2 place t v at was (omega (arith, slice_get_within y.serving.seated.tables place t at, all, no_more (length y.closed) y.waits)))
   where
     no_more : (n : ℕ) (b : Bool) → (if b then n - 1 else n) ≤ n
     no_more n true = omega arith

@@ -4,7 +4,8 @@ use Rattle.std.specs.Prelude.{IfSome, is_some}
 use Rattle.berth_face.specs.Berth.{Meaning}
 use Rattle.leaf_steward.specs.declared.notes.Note.{Note}
 use Rattle.printed_lines.specs.declared.line.Ending.{Ending}
-use Rattle.transcript.specs.Pieces.{Acted, Deed, Noted, Piece}
+use Rattle.printed_lines.specs.declared.line.Deed.{Deed}
+use Rattle.transcript.specs.Pieces.{Acted, Noted, Piece}
 use Rattle.transcript.specs.Answers.{columns_handed}
 use Rattle.transcript.specs.Transcript.{Known, first_life}
 use Rattle.leaf_moves.specs.Stage.{Leaf, Carries, seated_of}

@@ -12,7 +12,8 @@ use Rattle.crash_moments.specs.Left.{NamedStates}
 use Rattle.script_text.specs.declared.command.Command.{Command}
 use Rattle.printed_lines.specs.declared.line.Said.{Said}
 use Rattle.printed_lines.specs.Lines.{name_at}
-use Rattle.transcript.specs.Pieces.{Called, Deed, Piece, Played, PlayedItem, One, Burst, Worn, all_pieces, pieces_in}
+use Rattle.printed_lines.specs.declared.line.Deed.{Deed}
+use Rattle.transcript.specs.Pieces.{Called, Piece, Played, PlayedItem, One, Burst, Worn, all_pieces, pieces_in}
 use Rattle.transcript.specs.Histories.{InOrder, IsHistoryOf, shown}
 use Rattle.transcript.specs.Answers.{WornIsLong, columns_handed}
 use Rattle.transcript.specs.Life.{Lives}

@@ -2,7 +2,8 @@
 use Rattle.std.proofs.Common.{ℕ, ◌==◌, Bool, true, false, List, [], ◌∷◌, ◌++◌, refl, subst, MatchBool}
 use Rattle.std.proofs.lemmas.Bool.{eq-eqb}
 use Rattle.printed_lines.specs.declared.line.Ending.{Ending}
-use Rattle.transcript.specs.Pieces.{Acted, Called, Deed, Noted, Piece, Says, Worn}
+use Rattle.printed_lines.specs.declared.line.Deed.{Deed}
+use Rattle.transcript.specs.Pieces.{Acted, Called, Noted, Piece, Says, Worn}
 use Rattle.transcript.specs.Life.{Does, Life, Lives}
 use Rattle.transcript_leaf.specs.Session.{HasNoDeed}
 

@@ -21,7 +21,9 @@ use Rattle.printed_lines.specs.declared.line.Said.{Said}
 use Rattle.printed_lines.specs.declared.line.Said.TheVariants.{Opened}
 use Rattle.printed_lines.specs.declared.line.Ending.{Ending}
 use Rattle.printed_lines.specs.declared.line.Ending.TheVariants as ends_as
-use Rattle.transcript.specs.Pieces.{Acted, Deed, Drains, Flushes, Kills, Noted, Piece, Starts}
+use Rattle.printed_lines.specs.declared.line.Deed.{Deed}
+use Rattle.printed_lines.specs.declared.line.Deed.TheVariants.{Drain, Flush, Kill, Start}
+use Rattle.transcript.specs.Pieces.{Acted, Noted, Piece}
 use Rattle.transcript.specs.Life.{Life, Notes, durable_with}
 use Rattle.transcript.specs.Transcript.{Known}
 use Rattle.leaf_moves.specs.Stage.{Carries, IsDown, IsUp, Leaf, seated_of}
@@ -130,7 +132,7 @@ no_opening ends way f e = clash_bool (is_started ends) (ap is_started e) f
 
 started : (deed : Deed) (m m' : Meaning) (leaf : Leaf) (notes : List Note) (ends : Ending) (leaf' : Leaf) (way : Way)
     → Moves deed m m' leaf notes ends leaf' → ends ≡ ends_as.Started way → Opening m m' leaf notes way leaf'
-started Starts m m' leaf notes ends leaf' way (StartMoves.opened x s w was owed each came ends_are now) e = record {
+started Start m m' leaf notes ends leaf' way (StartMoves.opened x s w was owed each came ends_are now) e = record {
   x = x;
   s = s;
   down = was;
@@ -139,11 +141,11 @@ started Starts m m' leaf notes ends leaf' way (StartMoves.opened x s w was owed 
   came = λ tells. subst (λ (v : Way). StartsTold x m m' s notes v) (same_way w way (sym ends_are ∙ e)) (came tells);
   up = now;
 }
-started Starts m m' leaf notes ends leaf' way (StartMoves.refused x f was worn damaged heard none ends_are now) e = absurd (no_opening ends way (ap is_started ends_are ∙ fault_no_start f) e)
-started Starts m m' leaf notes ends leaf' way (StartMoves.not_down up none held_is ends_are now) e = absurd (no_opening ends way (ap is_started ends_are) e)
-started (Flushes table) m m' leaf notes ends leaf' way moves e = absurd (no_opening ends way (flushes_no_start table m m' leaf notes ends leaf' moves) e)
-started (Drains stop) m m' leaf notes ends leaf' way moves e = absurd (no_opening ends way (drains_no_start stop m m' leaf notes ends leaf' moves) e)
-started Kills m m' leaf notes ends leaf' way moves e = absurd (no_opening ends way (kills_no_start m m' leaf notes ends leaf' moves) e)
+started Start m m' leaf notes ends leaf' way (StartMoves.refused x f was worn damaged heard none ends_are now) e = absurd (no_opening ends way (ap is_started ends_are ∙ fault_no_start f) e)
+started Start m m' leaf notes ends leaf' way (StartMoves.not_down up none held_is ends_are now) e = absurd (no_opening ends way (ap is_started ends_are) e)
+started (Flush table) m m' leaf notes ends leaf' way moves e = absurd (no_opening ends way (flushes_no_start table m m' leaf notes ends leaf' moves) e)
+started (Drain stop) m m' leaf notes ends leaf' way moves e = absurd (no_opening ends way (drains_no_start stop m m' leaf notes ends leaf' moves) e)
+started Kill m m' leaf notes ends leaf' way moves e = absurd (no_opening ends way (kills_no_start m m' leaf notes ends leaf' moves) e)
 
 -- ---- what the next start opens
 

@@ -19,7 +19,9 @@ use Rattle.leaf_machine.specs.States.{Serving, Shutting}
 use Rattle.leaf_machine.specs.Starts.{IsExactRefusal}
 use Rattle.printed_lines.specs.declared.line.Ending.{Ending}
 use Rattle.printed_lines.specs.declared.line.Ending.TheVariants as ending
-use Rattle.transcript.specs.Pieces.{Piece, Acted, Deed, Starts, Flushes, Drains, Kills, Noted}
+use Rattle.printed_lines.specs.declared.line.Deed.{Deed}
+use Rattle.printed_lines.specs.declared.line.Deed.TheVariants.{Start, Flush, Drain, Kill}
+use Rattle.transcript.specs.Pieces.{Piece, Acted, Noted}
 use Rattle.transcript.specs.Life.{Life, Mode, Down, Up, Owed, Does, OfStart, OfFlush, OfDrain, OfKill, BeginsAt, IsStartRefusal, Progress}
 use Rattle.transcript.specs.Strangers.{Behind, FitsStrangers, Strangers}
 use Rattle.transcript.specs.Transcript.{Known, first_life}
@@ -65,10 +67,10 @@ kill_begun tables life notes ends next (OfKill.not_up down none ended now) = beg
 
 does_begun : (told : Bool) (tables : ℕ) (columns : List Noted → ℕ) (deed : Deed) (life : Life) (notes : List Noted) (ends : Ending) (next : Life) → Does told tables columns deed life notes ends next
     → life.begun ≡ true → next.begun ≡ true
-does_begun told tables columns Starts life notes ends next does begun = start_begun told tables life notes ends next does begun
-does_begun told tables columns (Flushes table) life notes ends next does begun = flush_begun table life notes ends next does ∙ begun
-does_begun told tables columns (Drains stop) life notes ends next does begun = drain_begun told tables columns stop life notes ends next does ∙ begun
-does_begun told tables columns Kills life notes ends next does begun = kill_begun tables life notes ends next does ∙ begun
+does_begun told tables columns Start life notes ends next does begun = start_begun told tables life notes ends next does begun
+does_begun told tables columns (Flush table) life notes ends next does begun = flush_begun table life notes ends next does ∙ begun
+does_begun told tables columns (Drain stop) life notes ends next does begun = drain_begun told tables columns stop life notes ends next does ∙ begun
+does_begun told tables columns Kill life notes ends next does begun = kill_begun tables life notes ends next does ∙ begun
 
 -- a refused start does not open the tables
 pub never_started : (f : StartFault) (way : Way) → ending_of f ≡ ending.Started way → ⊥
@@ -295,13 +297,13 @@ module _ (number : ℕ) (names : List (List ℕ)) (held : Pair) where
   -- a deed of a leaf that was never up
   fresh_goes : (tables : ℕ) (columns : List Noted → ℕ) (deed : Deed) (life : Life) (m m' : Meaning) (leaf : Leaf) (notes : List Note) (ends : Ending) (leaf' : Leaf) (next : Life) → IsTrue m.tells → IsDownLeaf leaf
       → (seated_of leaf).names ≡ names → life.mode ≡ Down → IsRead m → Moves deed m m' leaf notes ends leaf' → Does true tables columns deed life (noted_all notes) ends next → Goes life ends next m m'
-  fresh_goes tables columns Starts life m m' leaf notes ends leaf' next tells down same_names mode read moves does =
+  fresh_goes tables columns Start life m m' leaf notes ends leaf' next tells down same_names mode read moves does =
       start_goes tables life m m' leaf notes ends leaf' next tells down same_names mode read moves does
-  fresh_goes tables columns (Flushes table) life m m' leaf notes ends leaf' next tells down same_names mode read moves does =
+  fresh_goes tables columns (Flush table) life m m' leaf notes ends leaf' next tells down same_names mode read moves does =
       rests_goes life ends next m m' mode read (flush_rests table life (noted_all notes) ends next mode does) (flush_held table m m' leaf notes ends leaf' down moves)
-  fresh_goes tables columns (Drains stop) life m m' leaf notes ends leaf' next tells down same_names mode read moves does =
+  fresh_goes tables columns (Drain stop) life m m' leaf notes ends leaf' next tells down same_names mode read moves does =
       rests_goes life ends next m m' mode read (drain_rests true tables columns stop life (noted_all notes) ends next mode does) (drain_held stop m m' leaf notes ends leaf' down moves)
-  fresh_goes tables columns Kills life m m' leaf notes ends leaf' next tells down same_names mode read moves does =
+  fresh_goes tables columns Kill life m m' leaf notes ends leaf' next tells down same_names mode read moves does =
       rests_goes life ends next m m' mode read (kill_rests tables life (noted_all notes) ends next mode does) (kill_held m m' leaf notes ends leaf' down moves)
 
 -- ---- a run

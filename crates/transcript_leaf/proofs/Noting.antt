@@ -17,7 +17,8 @@ use Rattle.leaf_steward.specs.declared.notes.What.{What}
 use Rattle.leaf_steward.specs.declared.notes.What.TheVariants as what
 use Rattle.leaf_steward.specs.Seated.{Seated}
 use Rattle.leaf_steward.specs.Making.{Makes, MadeAs, OneEntry}
-use Rattle.transcript.specs.Pieces.{Acted, Deed}
+use Rattle.printed_lines.specs.declared.line.Deed.{Deed}
+use Rattle.transcript.specs.Pieces.{Acted}
 use Rattle.transcript.specs.Histories.{Shown, Shows, shown, shown_notes}
 use Rattle.leaf_moves.specs.Steps.{noted_all, said_of_note}
 use Rattle.transcript_leaf.specs.Session.{IsStewards, OwnedBy, TellsOf}

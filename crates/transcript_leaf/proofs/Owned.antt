@@ -21,7 +21,9 @@ use Rattle.leaf_machine.specs.States.{Serving}
 use Rattle.leaf_machine.specs.Starts.{IsExactRefusal}
 use Rattle.printed_lines.specs.declared.line.Ending.{Ending}
 use Rattle.printed_lines.specs.declared.line.Ending.TheVariants as ending
-use Rattle.transcript.specs.Pieces.{Deed, Noted, Starts, Flushes, Drains, Kills}
+use Rattle.printed_lines.specs.declared.line.Deed.{Deed}
+use Rattle.printed_lines.specs.declared.line.Deed.TheVariants.{Start, Flush, Drain, Kill}
+use Rattle.transcript.specs.Pieces.{Noted}
 use Rattle.transcript.specs.Life.{Does, Life, OfStart}
 use Rattle.leaf_moves.specs.Stage.{IsDown, IsUp, Leaf, Stands, StandsOn, seated_of}
 use Rattle.leaf_moves.specs.Steps.{DrainMoves, FlushMoves, KillMoves, Moves, RefusalTold, RegionStopped, StartMoves}
@@ -119,10 +121,10 @@ module _ (names : List (List ℕ)) (base : NamedStates) (m m' : Meaning) (met mo
 
     pub owned : (told : Bool) (tables : ℕ) (columns : List Noted → ℕ) (deed : Deed) (noted : List Noted) → Moves deed m m' met notes ends moved → Does told tables columns deed life noted ends next
         → IsOwn names (seated_of moved) m'
-    owned told tables columns Starts noted moves does = start_owned told tables noted moves does
-    owned told tables columns (Flushes table) noted moves does = stays (flush_region table moves) (flush_begun table life noted ends next does)
-    owned told tables columns (Drains stop) noted moves does = stays (drain_region stop moves) (drain_begun told tables columns stop life noted ends next does)
-    owned told tables columns Kills noted moves does = stays (kill_region moves) (kill_begun tables life noted ends next does)
+    owned told tables columns Start noted moves does = start_owned told tables noted moves does
+    owned told tables columns (Flush table) noted moves does = stays (flush_region table moves) (flush_begun table life noted ends next does)
+    owned told tables columns (Drain stop) noted moves does = stays (drain_region stop moves) (drain_begun told tables columns stop life noted ends next does)
+    owned told tables columns Kill noted moves does = stays (kill_region moves) (kill_begun tables life noted ends next does)
 
 -- ---- a meeting
 

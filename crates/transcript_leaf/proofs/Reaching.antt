@@ -6,7 +6,8 @@ use Rattle.berth_face.specs.Berth.{Meaning}
 use Rattle.leaf_history.specs.History.{Entry}
 use Rattle.leaf_table.specs.Calls.{SeatView, seen_of}
 use Rattle.script_text.specs.declared.command.Command.{Command}
-use Rattle.transcript.specs.Pieces.{Deed, Piece, PlayedItem}
+use Rattle.printed_lines.specs.declared.line.Deed.{Deed}
+use Rattle.transcript.specs.Pieces.{Piece, PlayedItem}
 use Rattle.transcript.specs.Answers.{WornIsLong}
 use Rattle.transcript.specs.Transcript.{Known}
 use Rattle.leaf_moves.specs.Stage.{Leaf, seated_of}

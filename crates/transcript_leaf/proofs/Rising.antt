@@ -13,7 +13,8 @@ use Rattle.leaf_steward.specs.declared.notes.What.TheVariants as what
 use Rattle.leaf_steward.specs.Seated.{Seated}
 use Rattle.leaf_steward.specs.Making.{MadeAs, Makes, OneEntry}
 use Rattle.printed_lines.specs.declared.line.Ending.{Ending}
-use Rattle.transcript.specs.Pieces.{Acted, Called, Deed, Noted, Piece, Says, Worn}
+use Rattle.printed_lines.specs.declared.line.Deed.{Deed}
+use Rattle.transcript.specs.Pieces.{Acted, Called, Noted, Piece, Says, Worn}
 use Rattle.transcript.specs.Histories.{Ground}
 use Rattle.transcript.specs.Moments.{MomentsRise, moment_of, notes_in, notes_told}
 use Rattle.leaf_moves.specs.Steps.{noted, noted_all}

@@ -11,7 +11,8 @@ use Rattle.leaf_table.specs.Calls.{SeatView, seen_of}
 use Rattle.leaf_steward.specs.declared.notes.Note.{Note}
 use Rattle.printed_lines.specs.declared.line.Ending.{Ending}
 use Rattle.script_text.specs.declared.command.Command.{Command}
-use Rattle.transcript.specs.Pieces.{Acted, Deed, Piece, PlayedItem, all_pieces}
+use Rattle.printed_lines.specs.declared.line.Deed.{Deed}
+use Rattle.transcript.specs.Pieces.{Acted, Piece, PlayedItem, all_pieces}
 use Rattle.transcript.specs.Histories.{Ground, Rises, Shown, shown, shown_notes}
 use Rattle.leaf_moves.specs.Stage.{Meets, MeetsIf}
 use Rattle.leaf_moves.specs.Steps.{noted_all}

@@ -19,7 +19,9 @@ use Rattle.leaf_machine.specs.declared.up.FlushReply.{FlushReply}
 use Rattle.leaf_machine.specs.States.{Serving}
 use Rattle.leaf_machine.specs.Flushes.{Flushes as Flushing}
 use Rattle.printed_lines.specs.declared.line.Ending.{Ending}
-use Rattle.transcript.specs.Pieces.{Acted, Deed, Drains, Flushes, Kills, Noted, Piece, Starts}
+use Rattle.printed_lines.specs.declared.line.Deed.{Deed}
+use Rattle.printed_lines.specs.declared.line.Deed.TheVariants.{Drain, Flush, Kill, Start}
+use Rattle.transcript.specs.Pieces.{Acted, Noted, Piece}
 use Rattle.transcript.specs.Answers.{WornIsLong}
 use Rattle.leaf_moves.specs.Holds.{Hold, caller_in, seen_by, seen_in, steward_in, with_callers}
 use Rattle.leaf_moves.specs.Stage.{Leaf, IsUp, seated_of}
@@ -75,48 +77,48 @@ abbrev DeedIsLong : ℕ → (ℕ → ℕ → List Entry) → Deed → List Noted
 DeedIsLong number histories deed notes ends = WornIsLong histories (Acted number deed notes ends)
 
 refused_worn : (number : ℕ) (histories : ℕ → ℕ → List Entry) (notes : List Noted) (leaf : Leaf) (x : Seated) (f : StartFault) → seated_of leaf ≡ x → IsWornFor x f → Reach number leaf histories
-    → DeedIsLong number histories Starts notes (ending_of f)
+    → DeedIsLong number histories Start notes (ending_of f)
 refused_worn number histories notes leaf x (fault.Worn table) is worn reach = reached number histories leaf x table is reach worn
 refused_worn number histories notes leaf x f is worn reach = tt
 
 start_worn : (number : ℕ) (histories : ℕ → ℕ → List Entry) (m m' : Meaning) (leaf : Leaf) (notes : List Note) (ends : Ending) (leaf' : Leaf)
-    → StartMoves m m' leaf notes ends leaf' → Reach number leaf' histories → DeedIsLong number histories Starts (noted_all notes) ends
+    → StartMoves m m' leaf notes ends leaf' → Reach number leaf' histories → DeedIsLong number histories Start (noted_all notes) ends
 start_worn number histories m m' leaf notes ends leaf' (StartMoves.opened x s way was owed each came ends_are now) reach =
-    subst (λ (e : Ending). DeedIsLong number histories Starts (noted_all notes) e) (sym ends_are) tt
+    subst (λ (e : Ending). DeedIsLong number histories Start (noted_all notes) e) (sym ends_are) tt
 start_worn number histories m m' leaf notes ends leaf' (StartMoves.refused x f was worn damaged heard none ends_are now) reach =
-    subst (λ (e : Ending). DeedIsLong number histories Starts (noted_all notes) e) (sym ends_are)
+    subst (λ (e : Ending). DeedIsLong number histories Start (noted_all notes) e) (sym ends_are)
     (refused_worn number histories (noted_all notes) leaf' x f (ap seated_of (now ∙ was)) worn reach)
 start_worn number histories m m' leaf notes ends leaf' (StartMoves.not_down up none held_is ends_are now) reach =
-    subst (λ (e : Ending). DeedIsLong number histories Starts (noted_all notes) e) (sym ends_are) tt
+    subst (λ (e : Ending). DeedIsLong number histories Start (noted_all notes) e) (sym ends_are) tt
 
 -- how a flush ends
 flush_ends : (number : ℕ) (table : ℕ) (histories : ℕ → ℕ → List Entry) (heard : List Noted) (s s' : Serving) (notes : List Note) (r : FlushReply) (leaf' : Leaf)
-    → leaf' ≡ IsUp s' → Flushing table s s' notes r → Reach number leaf' histories → DeedIsLong number histories (Flushes table) heard (ending_of_flush r)
+    → leaf' ≡ IsUp s' → Flushing table s s' notes r → Reach number leaf' histories → DeedIsLong number histories (Flush table) heard (ending_of_flush r)
 flush_ends number table histories heard s s' notes r leaf' now (Flushing.done first taking flushing n owed notes_are reply_is none) reach =
-    subst (λ (x : FlushReply). DeedIsLong number histories (Flushes table) heard (ending_of_flush x)) (sym reply_is) tt
+    subst (λ (x : FlushReply). DeedIsLong number histories (Flush table) heard (ending_of_flush x)) (sym reply_is) tt
 flush_ends number table histories heard s s' notes r leaf' now (Flushing.half first taking n owed notes_are reply_is some owner count) reach =
-    subst (λ (x : FlushReply). DeedIsLong number histories (Flushes table) heard (ending_of_flush x)) (sym reply_is) tt
+    subst (λ (x : FlushReply). DeedIsLong number histories (Flush table) heard (ending_of_flush x)) (sym reply_is) tt
 flush_ends number table histories heard s s' notes r leaf' now (Flushing.worn first owed notes_are reply_is worn none) reach =
-    subst (λ (x : FlushReply). DeedIsLong number histories (Flushes table) heard (ending_of_flush x)) (sym reply_is) (reached number histories leaf' s'.seated table (ap seated_of now) reach worn)
+    subst (λ (x : FlushReply). DeedIsLong number histories (Flush table) heard (ending_of_flush x)) (sym reply_is) (reached number histories leaf' s'.seated table (ap seated_of now) reach worn)
 flush_ends number table histories heard s s' notes r leaf' now (Flushing.stuck none reply_is some seated owed owner count) reach =
-    subst (λ (x : FlushReply). DeedIsLong number histories (Flushes table) heard (ending_of_flush x)) (sym reply_is) tt
+    subst (λ (x : FlushReply). DeedIsLong number histories (Flush table) heard (ending_of_flush x)) (sym reply_is) tt
 
 flush_worn : (number : ℕ) (table : ℕ) (histories : ℕ → ℕ → List Entry) (m m' : Meaning) (leaf : Leaf) (notes : List Note) (ends : Ending) (leaf' : Leaf)
-    → FlushMoves table m m' leaf notes ends leaf' → Reach number leaf' histories → DeedIsLong number histories (Flushes table) (noted_all notes) ends
+    → FlushMoves table m m' leaf notes ends leaf' → Reach number leaf' histories → DeedIsLong number histories (Flush table) (noted_all notes) ends
 flush_worn number table histories m m' leaf notes ends leaf' (FlushMoves.flushed s s' r was flushes region ends_are now) reach =
-    subst (λ (e : Ending). DeedIsLong number histories (Flushes table) (noted_all notes) e) (sym ends_are) (flush_ends number table histories (noted_all notes) s s' notes r leaf' now flushes reach)
+    subst (λ (e : Ending). DeedIsLong number histories (Flush table) (noted_all notes) e) (sym ends_are) (flush_ends number table histories (noted_all notes) s s' notes r leaf' now flushes reach)
 flush_worn number table histories m m' leaf notes ends leaf' (FlushMoves.not_up down none held_is ends_are now) reach =
-    subst (λ (e : Ending). DeedIsLong number histories (Flushes table) (noted_all notes) e) (sym ends_are) tt
+    subst (λ (e : Ending). DeedIsLong number histories (Flush table) (noted_all notes) e) (sym ends_are) tt
 
 -- kills and drains tell of no worn seat
 kill_worn : (number : ℕ) (histories : ℕ → ℕ → List Entry) (heard : List Noted) (m m' : Meaning) (leaf : Leaf) (notes : List Note) (ends : Ending) (leaf' : Leaf)
-    → KillMoves m m' leaf notes ends leaf' → DeedIsLong number histories Kills heard ends
+    → KillMoves m m' leaf notes ends leaf' → DeedIsLong number histories Kill heard ends
 kill_worn number histories heard m m' leaf notes ends leaf' (KillMoves.up s y was each held_is ends_are now) = rw ends_are tt
 kill_worn number histories heard m m' leaf notes ends leaf' (KillMoves.preparing x y count was all each held_is ends_are now) = rw ends_are tt
 kill_worn number histories heard m m' leaf notes ends leaf' (KillMoves.not_up down none held_is ends_are now) = rw ends_are tt
 
 drain_worn : (number : ℕ) (histories : ℕ → ℕ → List Entry) (heard : List Noted) (stop : Option ℕ) (m m' : Meaning) (leaf : Leaf) (notes : List Note) (ends : Ending) (leaf' : Leaf)
-    → DrainMoves m m' leaf stop notes ends leaf' → DeedIsLong number histories (Drains stop) heard ends
+    → DrainMoves m m' leaf stop notes ends leaf' → DeedIsLong number histories (Drain stop) heard ends
 drain_worn number histories heard stop m m' leaf notes ends leaf' (DrainMoves.done x y z treating handing n copy made shuts steps last may part each notes_are memory own ends_are now) = rw ends_are tt
 drain_worn number histories heard stop m m' leaf notes ends leaf' (DrainMoves.failed x y n copy made shuts steps may own ends_are now) = rw ends_are tt
 drain_worn number histories heard stop m m' leaf notes ends leaf' (DrainMoves.roomless x y n shuts steps all may region ends_are now) = rw ends_are tt
@@ -128,7 +130,7 @@ drain_worn number histories heard stop m m' leaf notes ends leaf' (DrainMoves.no
 
 pub acted_worn : (number : ℕ) (deed : Deed) (histories : ℕ → ℕ → List Entry) (m m' : Meaning) (leaf : Leaf) (notes : List Note) (ends : Ending) (leaf' : Leaf)
     → Moves deed m m' leaf notes ends leaf' → Reach number leaf' histories → WornIsLong histories (Acted number deed (noted_all notes) ends)
-acted_worn number Starts histories m m' leaf notes ends leaf' moves reach = start_worn number histories m m' leaf notes ends leaf' moves reach
-acted_worn number (Flushes table) histories m m' leaf notes ends leaf' moves reach = flush_worn number table histories m m' leaf notes ends leaf' moves reach
-acted_worn number (Drains stop) histories m m' leaf notes ends leaf' moves reach = drain_worn number histories (noted_all notes) stop m m' leaf notes ends leaf' moves
-acted_worn number Kills histories m m' leaf notes ends leaf' moves reach = kill_worn number histories (noted_all notes) m m' leaf notes ends leaf' moves
+acted_worn number Start histories m m' leaf notes ends leaf' moves reach = start_worn number histories m m' leaf notes ends leaf' moves reach
+acted_worn number (Flush table) histories m m' leaf notes ends leaf' moves reach = flush_worn number table histories m m' leaf notes ends leaf' moves reach
+acted_worn number (Drain stop) histories m m' leaf notes ends leaf' moves reach = drain_worn number histories (noted_all notes) stop m m' leaf notes ends leaf' moves
+acted_worn number Kill histories m m' leaf notes ends leaf' moves reach = kill_worn number histories (noted_all notes) m m' leaf notes ends leaf' moves

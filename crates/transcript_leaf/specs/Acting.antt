@@ -6,7 +6,9 @@ use Rattle.leaf_opening.specs.Starts.{IsWayOf}
 use Rattle.printed_lines.specs.declared.line.Ending.{Ending}
 use Rattle.printed_lines.specs.declared.line.Ending.TheVariants as ends
 use Rattle.printed_lines.specs.declared.line.Said.TheVariants.{Opened}
-use Rattle.transcript.specs.Pieces.{Deed, Noted, Starts}
+use Rattle.printed_lines.specs.declared.line.Deed.{Deed}
+use Rattle.printed_lines.specs.declared.line.Deed.TheVariants.{Start}
+use Rattle.transcript.specs.Pieces.{Noted}
 use Rattle.transcript.specs.Life.{Life, Does, Notes, claimed, durable_with}
 use Rattle.transcript.specs.Counts.{is_disk_fault}
 use Rattle.leaf_history.specs.History.{Entry}
@@ -18,7 +20,7 @@ use Rattle.transcript_leaf.specs.Session.{AreToldOn, FitsMode}
 
 -- a fault of the disk at a flush or a drain loses what was claimed of the counts; one at a start touches no record of the log
 abbrev pub loses_counts : Deed → Ending → Bool
-loses_counts Starts ending = false
+loses_counts Start ending = false
 loses_counts _ ending = is_disk_fault ending
 
 -- how the claim on the counts goes on: by the notes; or it is lost where the disk failed; or a start has made it anew

@@ -92,7 +92,7 @@ IsOwedAs (Some told) o = (r : LogRecord) × (o.log.owed ≡ Some r) × (o.owner 
 pub record IsProgressOf (x : Shutting) (p : Progress) : Type 0 where
   pub owed : IsOwedAs p.owed x.serving.owing
   pub treated_are : p.treated ≡ treated x
-  pub shut : p.shut ≡ x.shut
+  pub waits : p.waits ≡ x.waits
   pub closed : length x.closed ≡ first_open p
 
 -- the leaf is in this mode

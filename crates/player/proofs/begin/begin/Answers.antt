@@ -1,7 +1,7 @@
 use Rattle.std.proofs.Common.{Some, sym, subst, ap}
 use Rattle.leaf_steward.specs.Seated.{AreFounded}
 use Rattle.leaf_moves.specs.Stage.{IsDown, Stands}
-use Rattle.player.specs.declared.leaf.OneLeaf.TheVariants as one
+use Rattle.leaf_deeds.specs.declared.leaf.OneLeaf.TheVariants as one
 use Rattle.player.specs.Beginning.{BeginsWith}
 use Rattle.player.proofs.begin.begin.Goals as goal
 

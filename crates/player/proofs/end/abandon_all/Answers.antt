@@ -4,7 +4,7 @@ use Rattle.leaf_table.specs.Lists.{lists_in}
 use Rattle.leaf_moves.specs.Stage.{MeetAll}
 use Rattle.player.specs.Crew.{column}
 use Rattle.player.specs.Rows.{MayMeet, OnlyColumn}
-use Rattle.player.specs.Stage.{berth_of, seats_of, state_of}
+use Rattle.leaf_deeds.specs.Held.{berth_of, seats_of, state_of}
 use Rattle.player.proofs.Ending.{abandoned_more, abandoned_none, last_at, longer, may_now, no_one, there}
 use Rattle.player.proofs.end.abandon_all.Goals as goal
 

@@ -4,8 +4,8 @@ use Rattle.leaf_table.specs.Lists.{lists_in}
 use Rattle.leaf_steward.specs.Seated.{AreFounded}
 use Rattle.leaf_moves.specs.Stage.{Stands}
 use Rattle.player.specs.Crew.{column}
-use Rattle.player.specs.Stage.{berth_of, seats_of, state_of}
-use Rattle.player.proofs.Carrying.{keeps_on}
+use Rattle.leaf_deeds.specs.Held.{berth_of, seats_of, state_of}
+use Rattle.leaf_deeds.proofs.Carrying.{keeps_on}
 use Rattle.player.proofs.Columns.{lists_count, only_more, only_none}
 use Rattle.player.proofs.MetFirst.{meet_all, meet_more, meet_none, meets_keep}
 use Rattle.player.proofs.meet.meet.Goals as goal

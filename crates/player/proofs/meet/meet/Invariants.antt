@@ -1,9 +1,9 @@
 use Rattle.std.proofs.Common.{◌≡◌}
 use Rattle.leaf_table.specs.Lists.{lists_in}
 use Rattle.player.specs.Crew.{column}
-use Rattle.player.specs.Moves.{MeetFirst}
+use Rattle.player.specs.Meeting.{MeetFirst}
 use Rattle.player.specs.Rows.{MayMeet, OnlyColumn}
-use Rattle.player.specs.Stage.{KeepsSeats, berth_of, seats_of, state_of}
+use Rattle.leaf_deeds.specs.Held.{KeepsSeats, berth_of, seats_of, state_of}
 use Rattle.player.proofs.meet.meet.Given as goal
 
 -- the seats before the place have met

@@ -1,7 +1,7 @@
 use Rattle.std.proofs.Common.{◌<◌, length, arith}
 use Rattle.leaf_table.specs.Lists.{lists_in}
 use Rattle.player.specs.Crew.{column}
-use Rattle.player.specs.Stage.{seats_of, state_of}
+use Rattle.leaf_deeds.specs.Held.{seats_of, state_of}
 use Rattle.player.proofs.Columns.{element_at, lists_count}
 use Rattle.player.proofs.MetFirst.{meets_none}
 use Rattle.player.proofs.SeatRows.{seat_none, seat_there}

@@ -2,8 +2,8 @@ use Rattle.std.proofs.Common.{◌<◌, List, length, Option, refl, sym, subst, a
 use Rattle.leaf_table.specs.Calls.{SeatView}
 use Rattle.leaf_table.specs.Lists.{lists_in}
 use Rattle.player.specs.Rows.{Called, called_at}
-use Rattle.player.specs.Moves.{MeetsAt}
-use Rattle.player.specs.Stage.{seats_of, state_of}
+use Rattle.player.specs.Meeting.{MeetsAt}
+use Rattle.leaf_deeds.specs.Held.{seats_of, state_of}
 use Rattle.player.proofs.Calling.{called_met, meets_at, meets_legal}
 use Rattle.player.proofs.Columns.{lists_count}
 use Rattle.player.proofs.MetFirst.{meets_keep}

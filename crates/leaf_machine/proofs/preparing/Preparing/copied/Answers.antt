@@ -15,7 +15,7 @@ use Rattle.leaf_machine.proofs.preparing.Preparing.copied.Goals as goal
 
 pub plan-requires-clause-names : goal.plan-requires-clause-names
 plan-requires-clause-names g c =
-    let x : Shutting = record { serving = record { seated = c.self.inside.seats; owing = c.self.inside.log }; closed = c.self.inside.tables.closed; shut = c.self.inside.tables.waits } in
+    let x : Shutting = record { serving = record { seated = c.self.inside.seats; owing = c.self.inside.log }; closed = c.self.inside.tables.closed; waits = c.self.inside.tables.waits } in
     let m = g.B.Berth.meaning c.self.inside.berth in
     let whole : IsAllTreated x = subst (λ v. IsAllTreated v.0) (sym c.self.view_is) c.requires.all in
     let names : c.self.inside.tables.names ≡ x.serving.seated.names = all_names x c.self.inside.tables.names c.sits.ensures whole c.self.invariant.1 in
@@ -25,7 +25,7 @@ plan-requires-clause-names g c =
 
 pub invariant_of-result : goal.invariant_of-result
 invariant_of-result g c =
-    let x : Shutting = record { serving = record { seated = c.self.inside.seats; owing = c.self.inside.log }; closed = c.self.inside.tables.closed; shut = c.self.inside.tables.waits } in
+    let x : Shutting = record { serving = record { seated = c.self.inside.seats; owing = c.self.inside.log }; closed = c.self.inside.tables.closed; waits = c.self.inside.tables.waits } in
     let m = g.B.Berth.meaning c.self.inside.berth in
     let whole : IsAllTreated x = subst (λ v. IsAllTreated v.0) (sym c.self.view_is) c.requires.all in
     let names : c.self.inside.tables.names ≡ x.serving.seated.names = all_names x c.self.inside.tables.names c.sits.ensures whole c.self.invariant.1 in
@@ -37,7 +37,7 @@ invariant_of-result g c =
 
 pub returns-in-Ok-clause-step : goal.returns-in-Ok-clause-step
 returns-in-Ok-clause-step g c =
-    let x : Shutting = record { serving = record { seated = c.self.inside.seats; owing = c.self.inside.log }; closed = c.self.inside.tables.closed; shut = c.self.inside.tables.waits } in
+    let x : Shutting = record { serving = record { seated = c.self.inside.seats; owing = c.self.inside.log }; closed = c.self.inside.tables.closed; waits = c.self.inside.tables.waits } in
     let m = g.B.Berth.meaning c.self.inside.berth in
     let whole : IsAllTreated x = subst (λ v. IsAllTreated v.0) (sym c.self.view_is) c.requires.all in
     let names : c.self.inside.tables.names ≡ x.serving.seated.names = all_names x c.self.inside.tables.names c.sits.ensures whole c.self.invariant.1 in
@@ -54,7 +54,7 @@ returns-in-Ok-clause-step g c =
 
 pub returns-in-Ok-clause-crash : goal.returns-in-Ok-clause-crash
 returns-in-Ok-clause-crash g c =
-    let x : Shutting = record { serving = record { seated = c.self.inside.seats; owing = c.self.inside.log }; closed = c.self.inside.tables.closed; shut = c.self.inside.tables.waits } in
+    let x : Shutting = record { serving = record { seated = c.self.inside.seats; owing = c.self.inside.log }; closed = c.self.inside.tables.closed; waits = c.self.inside.tables.waits } in
     let m = g.B.Berth.meaning c.self.inside.berth in
     let whole : IsAllTreated x = subst (λ v. IsAllTreated v.0) (sym c.self.view_is) c.requires.all in
     let names : c.self.inside.tables.names ≡ x.serving.seated.names = all_names x c.self.inside.tables.names c.sits.ensures whole c.self.invariant.1 in
@@ -69,6 +69,6 @@ returns-in-Ok-clause-crash g c =
 
 pub returns-clause-crash : goal.returns-clause-crash
 returns-clause-crash g c =
-    let x : Shutting = record { serving = record { seated = c.self.inside.seats; owing = c.self.inside.log }; closed = c.self.inside.tables.closed; shut = c.self.inside.tables.waits } in
+    let x : Shutting = record { serving = record { seated = c.self.inside.seats; owing = c.self.inside.log }; closed = c.self.inside.tables.closed; waits = c.self.inside.tables.waits } in
     let m = g.B.Berth.meaning c.self.inside.berth in
     subst (λ v. AreFounded v.0.serving.seated → GoesOn v.0.serving x.serving (g.B.Berth.meaning v.1) m) c.self.view_is (λ founded. goes_none x.serving m)

@@ -7,7 +7,7 @@ use Rattle.leaf_machine.proofs.preparing.Preparing.kill.Goals as goal
 
 pub invariant_of-result : goal.invariant_of-result
 invariant_of-result g c =
-    let x : Shutting = record { serving = record { seated = c.self.inside.seats; owing = c.self.inside.log }; closed = c.self.inside.tables.closed; shut = c.self.inside.tables.waits } in
+    let x : Shutting = record { serving = record { seated = c.self.inside.seats; owing = c.self.inside.log }; closed = c.self.inside.tables.closed; waits = c.self.inside.tables.waits } in
     let m = g.B.Berth.meaning c.self.inside.berth in
     let first : ℕ = c.first_open-first.result in
     let sits : AreSeated x.serving.seated = subst (λ v. AreSeated v.0.serving.seated) (sym c.self.view_is) c.first_open-first.ensures.seated in
@@ -17,7 +17,7 @@ invariant_of-result g c =
 
 pub returns-clause-crash : goal.returns-clause-crash
 returns-clause-crash g c = λ writes.
-    let x : Shutting = record { serving = record { seated = c.self.inside.seats; owing = c.self.inside.log }; closed = c.self.inside.tables.closed; shut = c.self.inside.tables.waits } in
+    let x : Shutting = record { serving = record { seated = c.self.inside.seats; owing = c.self.inside.log }; closed = c.self.inside.tables.closed; waits = c.self.inside.tables.waits } in
     let m = g.B.Berth.meaning c.self.inside.berth in
     let first : ℕ = c.first_open-first.result in
     let sits : AreSeated x.serving.seated = subst (λ v. AreSeated v.0.serving.seated) (sym c.self.view_is) c.first_open-first.ensures.seated in

@@ -27,8 +27,8 @@ invariant_of-self g c =
     let closed = c.self.inside.tables.closed in
     let shut = c.self.inside.tables.waits in
     subst
-    (λ (s : Seated). IsShutting (record { serving = record { seated = s; owing = c.self.inside.log }; closed = closed; shut = shut }) m
-    × (c.self.inside.tables.names ≡ take (treated (record { serving = record { seated = s; owing = c.self.inside.log }; closed = closed; shut = shut })) s.names))
+    (λ (s : Seated). IsShutting (record { serving = record { seated = s; owing = c.self.inside.log }; closed = closed; waits = shut }) m
+    × (c.self.inside.tables.names ≡ take (treated (record { serving = record { seated = s; owing = c.self.inside.log }; closed = closed; waits = shut })) s.names))
     (sym l.1) (met_is x c.sits.ensures place at.0 at.1 c.args.seat.now l.0 at.2 at.3 l.2 l.3 l.4 c.self.inside.log closed shut m c.self.invariant.0, c.self.invariant.1)
 
 pub returns-clause-learns : goal.returns-clause-learns
@@ -36,9 +36,9 @@ returns-clause-learns g c =
     let place = c.args.table in
     let seat = c.args.seat.now in
     let berth = c.self.inside.berth in
-    let with : Seated → Shutting × g.row.B.Denot = λ s. (record { serving = record { seated = s; owing = c.self.inside.log }; closed = c.self.inside.tables.closed; shut = c.self.inside.tables.waits }, berth) in
+    let with : Seated → Shutting × g.row.B.Denot = λ s. (record { serving = record { seated = s; owing = c.self.inside.log }; closed = c.self.inside.tables.closed; waits = c.self.inside.tables.waits }, berth) in
     subst
-    (λ v. AtPlace (λ t s. (w : SeatView) × (with c.meet.new.self ≡ (record { serving = record { seated = with_seat v.0.serving.seated place w; owing = v.0.serving.owing }; closed = v.0.closed; shut = v.0.shut }, v.1))
+    (λ v. AtPlace (λ t s. (w : SeatView) × (with c.meet.new.self ≡ (record { serving = record { seated = with_seat v.0.serving.seated place w; owing = v.0.serving.owing }; closed = v.0.closed; waits = v.0.waits }, v.1))
     × Told s seat w × LearnsOthers s w × LegalFrom (is_founded (base_seen t)) (start_of (base_seen t)) (seen_of w)) v.0.serving.seated place)
     c.self.view_is (λ t s at was. let l = c.meet.ensures.learns t s at was in (l.0, ap with l.1, l.2, l.3, l.4))
 

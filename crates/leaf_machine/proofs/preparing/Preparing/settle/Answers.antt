@@ -7,7 +7,7 @@ use Rattle.leaf_machine.proofs.preparing.Preparing.settle.Goals as goal
 
 pub invariant_of-self : goal.invariant_of-self
 invariant_of-self g c =
-    let x : Shutting = record { serving = record { seated = c.self.inside.seats; owing = c.self.inside.log }; closed = c.self.inside.tables.closed; shut = c.self.inside.tables.waits } in
+    let x : Shutting = record { serving = record { seated = c.self.inside.seats; owing = c.self.inside.log }; closed = c.self.inside.tables.closed; waits = c.self.inside.tables.waits } in
     let m = g.B.Berth.meaning c.self.inside.berth in
     let m' = g.B.Berth.meaning c.settle_owed.new.berth in
     let says = c.settle_owed.ensures in

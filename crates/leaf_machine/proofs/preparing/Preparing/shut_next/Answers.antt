@@ -13,7 +13,7 @@ use Rattle.leaf_machine.proofs.preparing.Preparing.shut_next.Goals as goal
 
 pub bring-requires-clause-taken : goal.bring-requires-clause-taken
 bring-requires-clause-taken g c κs within =
-    let x : Shutting = record { serving = record { seated = c.self.inside.seats; owing = c.self.inside.log }; closed = c.self.inside.tables.closed; shut = c.self.inside.tables.waits } in
+    let x : Shutting = record { serving = record { seated = c.self.inside.seats; owing = c.self.inside.log }; closed = c.self.inside.tables.closed; waits = c.self.inside.tables.waits } in
     let m = g.B.Berth.meaning c.self.inside.berth in
     let sits : AreSeated x.serving.seated = subst (λ v. AreSeated v.0.serving.seated) (sym c.self.view_is) c.first_open-place.ensures.seated in
     let none : x.serving.owing.log.owed ≡ None = subst (λ v. v.0.serving.owing.log.owed ≡ None) (sym c.self.view_is) c.requires.none in
@@ -29,7 +29,7 @@ bring-requires-clause-taken g c κs within =
 
 pub bring-requires-clause-spares : goal.bring-requires-clause-spares
 bring-requires-clause-spares g c κs within =
-    let x : Shutting = record { serving = record { seated = c.self.inside.seats; owing = c.self.inside.log }; closed = c.self.inside.tables.closed; shut = c.self.inside.tables.waits } in
+    let x : Shutting = record { serving = record { seated = c.self.inside.seats; owing = c.self.inside.log }; closed = c.self.inside.tables.closed; waits = c.self.inside.tables.waits } in
     let m = g.B.Berth.meaning c.self.inside.berth in
     let sits : AreSeated x.serving.seated = subst (λ v. AreSeated v.0.serving.seated) (sym c.self.view_is) c.first_open-place.ensures.seated in
     let none : x.serving.owing.log.owed ≡ None = subst (λ v. v.0.serving.owing.log.owed ≡ None) (sym c.self.view_is) c.requires.none in
@@ -44,7 +44,7 @@ bring-requires-clause-spares g c κs within =
 
 pub invariant_of-self : goal.invariant_of-self
 invariant_of-self g c =
-    let x : Shutting = record { serving = record { seated = c.self.inside.seats; owing = c.self.inside.log }; closed = c.self.inside.tables.closed; shut = c.self.inside.tables.waits } in
+    let x : Shutting = record { serving = record { seated = c.self.inside.seats; owing = c.self.inside.log }; closed = c.self.inside.tables.closed; waits = c.self.inside.tables.waits } in
     let m = g.B.Berth.meaning c.self.inside.berth in
     let sits : AreSeated x.serving.seated = subst (λ v. AreSeated v.0.serving.seated) (sym c.self.view_is) c.first_open-place.ensures.seated in
     let none : x.serving.owing.log.owed ≡ None = subst (λ v. v.0.serving.owing.log.owed ≡ None) (sym c.self.view_is) c.requires.none in
@@ -63,20 +63,20 @@ invariant_of-self g c =
     let mid : List Note = c.shut-table.new.notes in
     let new : List Note = c.bring.new.notes in
     let brings = subst (λ (n : ℕ). Brings m'.clock y x.serving.owing place n taken mid result z o new) c.writes-writes.ensures c.bring.ensures.brings in
-    let open_ : x.shut ≡ false = subst (λ v. v.0.shut ≡ false) (sym c.self.view_is) c.requires.rests in
+    let open_ : x.waits ≡ false = subst (λ v. v.0.waits ≡ false) (sym c.self.view_is) c.requires.rests in
     let tables = c.put.new.self in
     let closed : List Table = x.closed ++ bare now ∷ [] in
-    let there : Shutting = record { serving = record { seated = z; owing = o }; closed = tables.closed; shut = tables.waits } in
+    let there : Shutting = record { serving = record { seated = z; owing = o }; closed = tables.closed; waits = tables.waits } in
     let names = brought_names x m c.self.invariant.0 sits none place shut.0 next t now taken y shut.1 c.take_pending-pending.ensures m' z o result old mid new shut.2 brings c.bring.ensures.time c.bring.ensures.runs in
     let treats : treated there ≡ treated x = treated_put x there (bare now) open_ c.put.ensures.waits c.put.ensures.closed in (
-      as_put (λ l b. IsShutting (record { serving = record { seated = z; owing = o }; closed = l; shut = b }) m') closed tables.closed tables.waits c.put.ensures.closed c.put.ensures.waits
+      as_put (λ l b. IsShutting (record { serving = record { seated = z; owing = o }; closed = l; waits = b }) m') closed tables.closed tables.waits c.put.ensures.closed c.put.ensures.waits
           (brought_is x m c.self.invariant.0 sits none place shut.0 next t now taken y shut.1 c.take_pending-pending.ensures m' z o result old mid new shut.2 brings c.bring.ensures.time c.bring.ensures.runs),
       c.put.ensures.names ∙ c.self.invariant.1 ∙ ap₂ (λ n l. take n l) (sym treats) (sym names),
     )
 
 pub returns-clause-next : goal.returns-clause-next
 returns-clause-next g c =
-    let x : Shutting = record { serving = record { seated = c.self.inside.seats; owing = c.self.inside.log }; closed = c.self.inside.tables.closed; shut = c.self.inside.tables.waits } in
+    let x : Shutting = record { serving = record { seated = c.self.inside.seats; owing = c.self.inside.log }; closed = c.self.inside.tables.closed; waits = c.self.inside.tables.waits } in
     let m = g.B.Berth.meaning c.self.inside.berth in
     let sits : AreSeated x.serving.seated = subst (λ v. AreSeated v.0.serving.seated) (sym c.self.view_is) c.first_open-place.ensures.seated in
     let none : x.serving.owing.log.owed ≡ None = subst (λ v. v.0.serving.owing.log.owed ≡ None) (sym c.self.view_is) c.requires.none in
@@ -95,16 +95,16 @@ returns-clause-next g c =
     let mid : List Note = c.shut-table.new.notes in
     let new : List Note = c.bring.new.notes in
     let brings = subst (λ (n : ℕ). Brings m'.clock y x.serving.owing place n taken mid result z o new) c.writes-writes.ensures c.bring.ensures.brings in
-    let open_ : x.shut ≡ false = subst (λ v. v.0.shut ≡ false) (sym c.self.view_is) c.requires.rests in
+    let open_ : x.waits ≡ false = subst (λ v. v.0.waits ≡ false) (sym c.self.view_is) c.requires.rests in
     let tables = c.put.new.self in
     let closed : List Table = x.closed ++ bare now ∷ [] in
-    subst (λ v. (made : List Note) × (new ≡ old ++ made) × ShutsNext v.0 (record { serving = record { seated = z; owing = o }; closed = tables.closed; shut = tables.waits }) made result) c.self.view_is
-    (as_put (λ l b. (made : List Note) × (new ≡ old ++ made) × ShutsNext x (record { serving = record { seated = z; owing = o }; closed = l; shut = b }) made result) closed tables.closed tables.waits
+    subst (λ v. (made : List Note) × (new ≡ old ++ made) × ShutsNext v.0 (record { serving = record { seated = z; owing = o }; closed = tables.closed; waits = tables.waits }) made result) c.self.view_is
+    (as_put (λ l b. (made : List Note) × (new ≡ old ++ made) × ShutsNext x (record { serving = record { seated = z; owing = o }; closed = l; waits = b }) made result) closed tables.closed tables.waits
     c.put.ensures.closed c.put.ensures.waits (brought_next x m c.self.invariant.0 sits none place shut.0 next t now taken y shut.1 c.take_pending-pending.ensures m' z o result old mid new shut.2 brings c.bring.ensures.time c.bring.ensures.runs open_))
 
 pub returns-clause-part : goal.returns-clause-part
 returns-clause-part g c =
-    let x : Shutting = record { serving = record { seated = c.self.inside.seats; owing = c.self.inside.log }; closed = c.self.inside.tables.closed; shut = c.self.inside.tables.waits } in
+    let x : Shutting = record { serving = record { seated = c.self.inside.seats; owing = c.self.inside.log }; closed = c.self.inside.tables.closed; waits = c.self.inside.tables.waits } in
     let m = g.B.Berth.meaning c.self.inside.berth in
     let sits : AreSeated x.serving.seated = subst (λ v. AreSeated v.0.serving.seated) (sym c.self.view_is) c.first_open-place.ensures.seated in
     let none : x.serving.owing.log.owed ≡ None = subst (λ v. v.0.serving.owing.log.owed ≡ None) (sym c.self.view_is) c.requires.none in

@@ -1,6 +1,5 @@
 use Rattle.std.proofs.Common.{Some, sym, ap, ◌∙◌}
 use Rattle.std.specs.Prelude.{slice_set}
-use Rattle.player.specs.Commands.{deed_of}
 use Rattle.player.proofs.MemberSteps.{deed_at, member_at, members_then, none_is_not, set_twice, slot_at, slot_held}
 use Rattle.player.proofs.members.Members.deed.Goals as goal
 
@@ -29,4 +28,4 @@ returns-clause-deed g c =
     let at = slot_at x c.args.number c.index_mut.result.now c.in-Some.leaf c.requires.members c.requires.leaf c.index_mut.ensures.value (sym c.take.ensures.value ∙ c.in-Some.is) in
     let then = c.act_on-moved in
     let now = ap (λ o. slice_set (slice_set x.leaves.items c.args.number c.take.new.self) c.args.number o) c.put.ensures ∙ set_twice x.leaves.items c.args.number c.take.new.self (Some then.result.0) in
-    deed_at x c.args.number c.in-Some.leaf then.result.0 _ then.new.rows c.requires.members at now then.ensures.only g.B.Berth.meaning (deed_of c.args.task) then.result.1 then.result.2 then.ensures.acts then.ensures.time
+    deed_at x c.args.number c.in-Some.leaf then.result.0 _ then.new.rows c.requires.members at now then.ensures.only g.B.Berth.meaning c.args.deed then.result.1 then.result.2 then.ensures.acts then.ensures.time

@@ -11,7 +11,7 @@ use Rattle.player.proofs.members.Members.roll.Goals as goal
 
 pub of-fleet-requires : goal.of-fleet-requires
 of-fleet-requires g c = record {
-  may_call = λ p number task may is. (
+  may_call = λ p number deed may is. (
     (may, is),
     (
       record { owned = c.type_bounds.send-B.owned; leaving = λ k. Quiet-if {D = g.row.B.Denot} (k (of_param 0)) unseen unseen (λ x w. tt) (λ x w. tt) },
@@ -19,8 +19,8 @@ of-fleet-requires g c = record {
       record { shared = c.type_bounds.sync-G.shared },
     ),
   );
-  does = λ p q number task r done. done.1;
-  keeps = λ x y number task r other done may. may_still g.B.Berth.meaning number task x y r done other may;
+  does = λ p q number deed r done. done.1;
+  keeps = λ x y number deed r other done may. may_still g.B.Berth.meaning number deed x y r done other may;
 }
 
 pub drive-rolled-requires-clause-known : goal.drive-rolled-requires-clause-known

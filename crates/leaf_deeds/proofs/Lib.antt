@@ -1,0 +1,10 @@
+pub mod Carrying
+pub mod Moved
+pub mod Meetings
+pub mod Counted
+pub mod Treated
+pub mod Fewer
+pub mod Copied
+pub mod Drained
+pub mod OwnImages
+pub mod Joined

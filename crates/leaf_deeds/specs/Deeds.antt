@@ -1,0 +1,23 @@
+-- What a deed of one leaf does.
+use Rattle.std.specs.Prelude.{◌≡◌, ℕ, ◌<◌, false, List, ⊤}
+use Rattle.berth_face.specs.Berth.{Meaning}
+use Rattle.leaf_steward.specs.declared.notes.Note.{Note}
+use Rattle.printed_lines.specs.declared.line.Deed.{Deed}
+use Rattle.printed_lines.specs.declared.line.Deed.TheVariants.{Flush}
+use Rattle.printed_lines.specs.declared.line.Ending.{Ending}
+use Rattle.transcript.specs.Counts.{reads_disk}
+use Rattle.leaf_moves.specs.Stage.{Leaf, Carries}
+use Rattle.leaf_moves.specs.Steps.{Moves}
+use Rattle.leaf_deeds.specs.Moves.{FaultRose}
+
+-- a table that it is told of is one of so many
+abbrev pub IsOfTables : ℕ → Deed → Type 0
+IsOfTables tables (Flush table) = table < tables
+IsOfTables tables _ = ⊤
+
+-- what it does to a leaf and its berth, by its notes and how it ended
+pub record Does (deed : Deed) (m m' : Meaning) (leaf : Leaf) (notes : List Note) (ends : Ending) (leaf' : Leaf) : Type 0 where
+  pub moves : Moves deed m m' leaf notes ends leaf'
+  pub carries : Carries leaf leaf' notes m m'
+  pub cause : FaultRose ends m m'
+  pub reads : reads_disk deed ends ≡ false → m'.disk_reads ≡ m.disk_reads

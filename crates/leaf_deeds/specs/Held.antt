@@ -1,0 +1,27 @@
+-- One leaf as somebody holds it.
+use Rattle.std.specs.Prelude.{◌≡◌, length}
+use Rattle.leaf_steward.specs.Seated.{Seated}
+use Rattle.leaf_moves.specs.Stage.{Leaf, IsDown, IsUp, IsPreparing, seated_of}
+use Rattle.leaf_deeds.specs.declared.leaf.OneLeaf.{OneLeaf}
+use Rattle.leaf_deeds.specs.declared.leaf.OneLeaf.TheVariants as one
+
+-- what the leaf is, but for its berth
+abbrev pub state_of : {B : Type 0} → OneLeaf B → Leaf
+state_of (one.Down leaf) = IsDown leaf.0
+state_of (one.Up leaf) = IsUp leaf.0
+state_of (one.Preparing leaf) = IsPreparing leaf.0
+
+abbrev pub berth_of : {B : Type 0} → OneLeaf B → B
+berth_of (one.Down leaf) = leaf.1
+berth_of (one.Up leaf) = leaf.1
+berth_of (one.Preparing leaf) = leaf.1
+
+-- its tables, and its steward's seats at them
+abbrev pub seats_of : {B : Type 0} → OneLeaf B → Seated
+seats_of leaf = seated_of (state_of leaf)
+
+-- the steward's seats are at the same tables still
+pub record KeepsSeats (x y : Seated) : Type 0 where
+  pub names : y.names ≡ x.names
+  pub tables : y.tables ≡ x.tables
+  pub seats : length y.seats ≡ length x.seats

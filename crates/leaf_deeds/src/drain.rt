@@ -1,0 +1,141 @@
+// A drain of a leaf, step by step.
+ghost use Rattle.std.specs.Prelude.{◌≡◌, ◌≤◌, [], length};
+ghost use Rattle.berth_face.specs.Berth.{Passes};
+ghost use Rattle.leaf_moves.specs.Stage.{Leaf};
+ghost use Rattle.leaf_moves.specs.Steps as step;
+ghost use Rattle.leaf_deeds.specs.Held.{KeepsSeats, berth_of, seats_of, state_of};
+ghost use Rattle.leaf_deeds.specs.Moves as move;
+ghost use Rattle.leaf_deeds.specs.Moves.{CopyEnds, CopyRests, Drains, FaultRose, IsKilled, RoseShut, berth_left};
+
+use crate::leaf::OneLeaf;
+use crate::steps::Steps;
+use berth_face::{Berth, Gate};
+use leaf_machine::{Copied, Copying, Down, Notes, PrepareFault, Prepared, Preparing};
+use printed_lines::Ending;
+use std::alloc::Global;
+use std::sync::Wait;
+use std::thread::Threads;
+
+/// How the shutting of a leaf's tables ended.
+#[derive(Drop)]
+pub enum Shut<'t, B: Berth> {
+    /// All are treated, and the copy of them is planned.
+    Ready(Copying<'t, B>),
+    /// No step was left.
+    Stopped(Preparing<'t, B>),
+    /// The disk failed.
+    Halted(Preparing<'t, B>),
+    /// There was no memory to seal a table, or for the copy.
+    Starved(Preparing<'t, B>),
+    /// The copy has no room.
+    Roomless(Preparing<'t, B>),
+}
+
+/// Treats the tables that are left, and copies them all into the region. Where that has not ended after so many steps, it kills the leaf.
+pub fn drain<'t, R: Wait + Threads + Sync, B: Berth, G: Gate>(
+    rt: &R,
+    alloc: Global,
+    gate: &G,
+    leaf: Preparing<'t, B>,
+    stop: Option<u32>,
+    notes: &mut Notes,
+) -> (OneLeaf<'t, B>, Ending)
+    requires none { notes.old ≡ [] }
+    ensures drains { (before : Leaf) → step.BeginsShutting before leaf.entry.0 → Drains (B.meaning leaf.entry.1) (B.meaning (berth_of result.0)) before stop notes.new result.1 (state_of result.0) }
+    ensures keeps { KeepsSeats leaf.entry.0.serving.seated (seats_of result.0) }
+    ensures time { Passes (B.meaning leaf.entry.1) (B.meaning (berth_of result.0)) }
+    ensures cause { FaultRose result.1 (B.meaning leaf.entry.1) (B.meaning (berth_of result.0)) }
+{
+    leaf.shuts();
+    let mut steps = Steps { left: stop };
+    let mut last = Notes::new();
+    match shut_all(rt, alloc, gate, leaf, &mut steps, notes) {
+        Shut::Ready(leaf) => {
+            let (down, ending) = copy_all(rt, gate, leaf, &mut steps, &mut last);
+            notes.append(&last);
+            (OneLeaf::Down(down), ending)
+        }
+        Shut::Stopped(leaf) => {
+            let down = killed(rt, gate, leaf, &mut last);
+            notes.append(&last);
+            (OneLeaf::Down(down), Ending::Stopped)
+        }
+        Shut::Halted(leaf) => (OneLeaf::Preparing(leaf), Ending::FaultDisk),
+        Shut::Starved(leaf) => (OneLeaf::Preparing(leaf), Ending::FaultMemory),
+        Shut::Roomless(leaf) => (OneLeaf::Preparing(leaf), Ending::FaultRoom),
+    }
+}
+
+/// Treats one table after another until the copy of all is planned, or no step is left, or one fails.
+fn shut_all<'t, R: Wait + Threads + Sync, B: Berth, G: Gate>(
+    rt: &R,
+    alloc: Global,
+    gate: &G,
+    leaf: Preparing<'t, B>,
+    steps: &mut Steps,
+    notes: &mut Notes,
+) -> Shut<'t, B>
+    requires none { notes.old ≡ [] }
+    ensures shuts { move.ShutsTables B.meaning leaf.entry.0 (B.meaning leaf.entry.1) steps.old.left notes.new result steps.new.left }
+    ensures few { length notes.new ≤ 51 }
+    ensures time { Passes (B.meaning leaf.entry.1) (B.meaning (berth_left result)) }
+    ensures cause { RoseShut (B.meaning leaf.entry.1).disk_faults (B.meaning (berth_left result)).disk_faults result }
+{
+    let mut leaf = leaf;
+    let mut own = Notes::new();
+    loop {
+        leaf.shuts();
+        if !steps.spend() {
+            return Shut::Stopped(leaf);
+        }
+        let step = leaf.step(rt, alloc, gate, &mut own);
+        notes.append(&own);
+        match step {
+            Ok(Prepared::More(more)) => leaf = more,
+            Ok(Prepared::Ready(copying)) => return Shut::Ready(copying),
+            Err((left, PrepareFault::DiskFault)) => return Shut::Halted(left),
+            Err((left, PrepareFault::NoMemory)) => return Shut::Starved(left),
+            Err((left, PrepareFault::NoRoom)) => return Shut::Roomless(left),
+        }
+    }
+}
+
+/// Gives up a leaf whose drain is stopped.
+fn killed<'t, R: Wait + Threads + Sync, B: Berth, G: Gate>(
+    rt: &R,
+    gate: &G,
+    leaf: Preparing<'t, B>,
+    notes: &mut Notes,
+) -> Down<'t, B>
+    ensures killed { IsKilled leaf.entry.0 result.0 notes.new (B.meaning leaf.entry.1) (B.meaning result.1) }
+    ensures berth { result.1 ≡ leaf.entry.1 }
+{
+    leaf.kill(rt, gate, notes)
+}
+
+/// Copies the tables to the end, or until no step is left or the region fails.
+fn copy_all<'t, R: Wait + Threads + Sync, B: Berth, G: Gate>(
+    rt: &R,
+    gate: &G,
+    leaf: Copying<'t, B>,
+    steps: &mut Steps,
+    notes: &mut Notes,
+) -> (Down<'t, B>, Ending)
+    requires none { notes.old ≡ [] }
+    ensures ends { CopyEnds leaf.entry.0 steps.old.left (B.meaning leaf.entry.1) (B.meaning result.0.1) notes.new result.1 result.0.0 }
+    ensures rests { CopyRests leaf.entry.0 result.0.0 notes.new (B.meaning leaf.entry.1) (B.meaning result.0.1) }
+    ensures time { Passes (B.meaning leaf.entry.1) (B.meaning result.0.1) }
+    ensures cause { FaultRose result.1 (B.meaning leaf.entry.1) (B.meaning result.0.1) }
+{
+    let mut leaf = leaf;
+    loop {
+        if !steps.spend() {
+            return (leaf.kill(), Ending::Stopped);
+        }
+        match leaf.step(rt, gate, notes) {
+            Ok(Copied::More(more)) => leaf = more,
+            Ok(Copied::Finished(down)) => return (down, Ending::Done),
+            Err((down, _fault)) => return (down, Ending::FaultRegion),
+        }
+    }
+}
