@@ -8,4 +8,5 @@ pub mod Ends
 pub mod Short
 pub mod Statuses
 pub mod Soaked
+pub mod Looked
 pub mod Pieces

@@ -19,7 +19,8 @@ use Rattle.printed_lines.specs.declared.line.Line.{Line}
 use Rattle.printed_lines.specs.Lines.{line_text, lines_text}
 use Rattle.script_text.specs.declared.fleet.Fleet.{Fleet}
 use Rattle.script_text.specs.Commands.{leaf_count}
-use Rattle.transcript.specs.Pieces.{Deed, Piece, Called, Worn, Acted, Says, Played, PlayedItem, all_lines, all_pieces, item_lines, item_of, pieces_in, plays_in, plays_of}
+use Rattle.printed_lines.specs.declared.line.Deed.{Deed}
+use Rattle.transcript.specs.Pieces.{Piece, Called, Worn, Acted, Says, Played, PlayedItem, all_lines, all_pieces, item_lines, item_of, pieces_in, plays_in, plays_of}
 use Rattle.transcript.specs.Counts.{Counted, CountsRose, deeds_in, disk_faults_in, disk_reads_in, is_disk_fault, is_region_fault, reads_disk, region_faults_in}
 use Rattle.leaf_moves.specs.Stage.{Leaf}
 use Rattle.leaf_moves.specs.Holds.{HasMet, Hold}

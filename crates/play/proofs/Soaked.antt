@@ -1,6 +1,6 @@
--- The leaves of a soak, and what it takes of a source.
+-- The leaves of a soak, and what is taken of a source where none is read.
 use Rattle.std.proofs.Common.{◌≡◌, ◌≤◌, ◌∙◌, ℕ, Bool, true, false, List, [], Option, Some, None, refl, sym, ap, subst, arith}
-use Rattle.std.specs.Prelude.{nat_lt, if◌then◌else◌}
+use Rattle.std.specs.Prelude.{if◌then◌else◌}
 use Rattle.berth_face.specs.Streams.{TakesAtMost}
 use Rattle.script_text.specs.declared.script.Script.{Script}
 use Rattle.script_text.specs.declared.fault.Why.TheVariants as why
@@ -9,7 +9,6 @@ use Rattle.run_ends.specs.Outcome.{IfScript, TakesText}
 use Rattle.run_ends.specs.Source.{longest_text}
 use Rattle.run_ends.specs.declared.status.Status.{Status}
 use Rattle.run_ends.specs.declared.status.Status.TheVariants as status
-use Rattle.play.specs.Outcome.{soak_verdict}
 use Rattle.play.specs.Played.{leaves_in, soak_leaves}
 
 -- its script makes as many
@@ -27,13 +26,10 @@ takes_none None n = ([], tt, omega arith)
 takes_none (Some text) n = ([], refl, omega arith)
 
 -- where nothing is taken, no text is too long
-not_long : (berths line : ℕ) → soak_verdict berths ≡ status.Script line why.TooLong → ⊥
-not_long berths line is = by (nat_lt berths soak_leaves) is
-  where
-    by : (few : Bool) → (if few then status.Script 0 why.NoBerth else status.Done) ≡ status.Script line why.TooLong → ⊥
-    by true e = cc
-    by false e = cc
+not_long : (few : Bool) (line : ℕ) → (if few then status.Script 0 why.NoBerth else status.Done) ≡ status.Script line why.TooLong → ⊥
+not_long true line e = cc
+not_long false line e = cc
 
-pub none_taken : (berths : ℕ) (before : Option (List ℕ)) (s : Status) → IfScript s (λ line w. soak_verdict berths ≡ status.Script line w) → TakesText s before before
-none_taken berths before (status.Script line why.TooLong) causes = absurd (not_long berths line causes)
-none_taken berths before _ causes = takes_none before longest_text
+pub none_taken : (few : Bool) (before : Option (List ℕ)) (s : Status) → IfScript s (λ line w. (if few then status.Script 0 why.NoBerth else status.Done) ≡ status.Script line w) → TakesText s before before
+none_taken few before (status.Script line why.TooLong) causes = absurd (not_long few line causes)
+none_taken few before _ causes = takes_none before longest_text

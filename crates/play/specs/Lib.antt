@@ -1,6 +1,7 @@
 pub mod Words
 pub mod Empty
 pub mod Played
+pub mod Inspected
 pub mod Runs
 pub mod Outcome
 pub mod Complete

@@ -1,5 +1,5 @@
 -- What a run leaves, and which status the words and the text decide.
-use Rattle.std.specs.Prelude.{◌≡◌, ℕ, List, nat_lt, if◌then◌else◌, Option, Some, None, Result, Ok, Err}
+use Rattle.std.specs.Prelude.{◌≡◌, ℕ, List, nat_le, nat_lt, if◌then◌else◌, Option, Some, None, Result, Ok, Err}
 use Rattle.berth_face.specs.Berth.{Meaning}
 use Rattle.crash_moments.specs.Left.{NamedStates}
 use Rattle.rollover_watch.specs.Watches.{Held}
@@ -14,9 +14,10 @@ use Rattle.run_ends.specs.Outcome.{IsRefused, if_short}
 use Rattle.row_count.specs.Outcome.{IsCounted, count_verdict}
 use Rattle.row_count.specs.declared.count.Range.{Range}
 use Rattle.run_ends.specs.declared.status.Status.{Status}
+use Rattle.play.specs.Inspected.{IsInspected}
 use Rattle.play.specs.Played.{IsPlayed, IsSoaked, leaves_in, soak_leaves}
 use Rattle.play.specs.declared.words.Request.{Request}
-use Rattle.play.specs.declared.words.Request.TheVariants.{Count, Play, Soak}
+use Rattle.play.specs.declared.words.Request.TheVariants.{Count, Inspect, Play, Soak}
 
 -- ---- what was done
 
@@ -26,6 +27,7 @@ IsDone base meaning None before after was now old new watching watched = ⊥
 IsDone base meaning (Some (Count range)) before after was now old new watching watched = IsCounted range before after was now
 IsDone base meaning (Some Play) before after was now old new watching watched = IsPlayed base meaning before after was now old new watching watched
 IsDone base meaning (Some (Soak seed rows)) before after was now old new watching watched = (after ≡ before) × IsSoaked base meaning seed rows was now old new watching watched
+IsDone base meaning (Some (Inspect leaf)) before after was now old new watching watched = IsInspected meaning leaf was now old new
 
 -- ---- which status the words and the text decide
 
@@ -47,19 +49,25 @@ play_verdict berths text = if_short text (status_played berths (script_of text))
 abbrev pub soak_verdict : ℕ → Status
 soak_verdict berths = if nat_lt berths soak_leaves then Status.Script 0 why.NoBerth else Status.Done
 
+-- the status of a look at a leaf's berth, where there are so many berths
+abbrev pub inspect_verdict : ℕ → ℕ → Status
+inspect_verdict berths leaf = if nat_le berths leaf then Status.Script 0 why.NoBerth else Status.Done
+
 -- the status that a request and the source's whole text decide, where there are so many berths
 abbrev pub verdict : ℕ → Option Request → List ℕ → Status
 verdict berths None text = Status.Words
 verdict berths (Some (Count range)) text = count_verdict range text
 verdict berths (Some Play) text = play_verdict berths text
 verdict berths (Some (Soak seed rows)) text = soak_verdict berths
+verdict berths (Some (Inspect leaf)) text = inspect_verdict berths leaf
 
 -- ---- why a source is refused
 
--- why what the words ask for is refused; a soak reads no source
+-- why what the words ask for is refused; a soak and a look at a berth read no source
 abbrev pub IsTextRefused : ℕ → Option Request → Option (List ℕ) → Option (List ℕ) → ℕ → Why → Type 0
 IsTextRefused berths None before after line fault = ⊥
 IsTextRefused berths (Some (Soak seed rows)) before after line fault = soak_verdict berths ≡ Status.Script line fault
+IsTextRefused berths (Some (Inspect leaf)) before after line fault = inspect_verdict berths leaf ≡ Status.Script line fault
 IsTextRefused berths request before after line fault = IsRefused (verdict berths request) before after line fault
 
 -- ---- what holds at which status
@@ -75,6 +83,11 @@ UnlessPlayed _ P = Unit {0}
 abbrev pub IfCount : Option Request → (Range → Type 0) → Type 0
 IfCount (Some (Count range)) P = P range
 IfCount _ P = Unit {0}
+
+-- what holds of a look at a leaf's berth
+abbrev pub IfInspect : Option Request → (ℕ → Type 0) → Type 0
+IfInspect (Some (Inspect leaf)) P = P leaf
+IfInspect _ P = Unit {0}
 
 -- what holds where the words ask for nothing that reads the source
 abbrev pub IfUnread : Option Request → Type 0 → Type 0

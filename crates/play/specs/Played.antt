@@ -1,5 +1,5 @@
 -- What a played script prints, and what it leaves of the berths.
-use Rattle.std.specs.Prelude.{◌≡◌, ℕ, ◌≤◌, List, length, drop, slice_get, Option, Some, None, IfSome, Result, Ok, Err}
+use Rattle.std.specs.Prelude.{◌≡◌, ℕ, ◌+◌, ◌≤◌, List, length, drop, slice_get, Option, Some, None, IfSome, Result, Ok, Err}
 use Rattle.berth_face.specs.Berth.{Meaning}
 use Rattle.berth_face.specs.Streams.{ReadsAll}
 use Rattle.crash_moments.specs.Left.{NamedStates}
@@ -14,7 +14,7 @@ use Rattle.soak.specs.Soak.{soak_script}
 use Rattle.transcript.specs.Pieces.{script_fleet}
 use Rattle.transcript.specs.Leaving.{IsWritten}
 use Rattle.play.specs.declared.words.Request.{Request}
-use Rattle.play.specs.declared.words.Request.TheVariants.{Play, Soak}
+use Rattle.play.specs.declared.words.Request.TheVariants.{Inspect, Play, Soak}
 
 -- how many leaves a script's fleet has
 abbrev pub leaves_in : List Item → ℕ
@@ -71,10 +71,11 @@ abbrev pub leaves_told : Option (List ℕ) → ℕ
 leaves_told (Some text) = leaves_of (script_of text)
 leaves_told None = 256
 
--- how many leaves what the words ask for makes
+-- how many leaves what the words ask for makes; of a look at a berth, those up to its leaf
 abbrev pub leaves_asked : Option Request → Option (List ℕ) → ℕ
 leaves_asked (Some Play) before = leaves_told before
 leaves_asked (Some (Soak seed rows)) before = soak_leaves
+leaves_asked (Some (Inspect leaf)) before = leaf + 1
 leaves_asked _ before = 0
 
 -- The berths are in their places. So many of them the leaves used, and no count of their faults fell; all others are untouched.

@@ -21,10 +21,11 @@ use Rattle.bursts.specs.Shortened.{BeginsItem}
 use Rattle.play.specs.Cut.{IsShortened, PlaysSome, last_lines}
 use Rattle.player.specs.Crew.{AllCounted}
 use Rattle.transcript_fleet.specs.Session.{Session}
+use Rattle.play.specs.Inspected.{InspectEndsShort}
 use Rattle.play.specs.Played.{leaves_in, soak_leaves}
 use Rattle.play.specs.Runs.{AreCounted, HoldsKeep, berths_in}
 use Rattle.play.specs.declared.words.Request.{Request}
-use Rattle.play.specs.declared.words.Request.TheVariants.{Play, Soak}
+use Rattle.play.specs.declared.words.Request.TheVariants.{Inspect, Play, Soak}
 
 -- ---- in the middle
 
@@ -68,6 +69,7 @@ pub data SoakEndsShort {B : Type 0} (base : ℕ → Option NamedStates) (meaning
 abbrev pub IsShort : {B : Type 0} → (ℕ → Option NamedStates) → (B → Meaning) → Option Request → Option (List ℕ) → Option (List ℕ) → Option (List ℕ) → Option (List ℕ) → List B → List B → List Held → List Held → Type 0
 IsShort base meaning (Some Play) before after was now olds news watching watched = EndsShort base meaning before after was now olds news watching watched
 IsShort base meaning (Some (Soak seed rows)) before after was now olds news watching watched = SoakEndsShort base meaning seed rows was now olds news watching watched
+IsShort base meaning (Some (Inspect leaf)) before after was now olds news watching watched = InspectEndsShort meaning leaf was now olds news
 IsShort base meaning request before after was now olds news watching watched = Unit {0}
 
 -- where the sink failed, or memory ran out

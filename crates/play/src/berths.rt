@@ -207,8 +207,10 @@ fn play_all<'t, N: Bases, R: Wait + Threads + Sync, K: Sink, B: Berth, G: Gate>(
     ensures keeps { HoldsKeep B.meaning (berths_in crew.old.holds) crew.new.holds }
     ensures all { HasAll crew.new.fleet crew.new.holds }
 {
+    let mut step: u32 = 0;
     let mut rest = VecDeque::from_vec(items);
     while let Some(item) = rest.pop_front() {
+        pass_before(gate, &item, &mut step);
         match play_next(rt, alloc, names, crew, item, sink, gate, watches) {
             Ok(()) => {}
             Err(WriteError::Failed) => return Status::WriteFault,
@@ -216,6 +218,14 @@ fn play_all<'t, N: Bases, R: Wait + Threads + Sync, K: Sink, B: Berth, G: Gate>(
         }
     }
     Status::Done
+}
+
+/// Passes the gate before a command outside bursts, as lane 0 and with the command's place among such commands.
+fn pass_before<G: Gate>(gate: &G, item: &Item, step: &mut u32) {
+    if matches!(item, Item::One(_)) {
+        gate.pass(0, *step);
+        *step = step.wrapping_add(1);
+    }
 }
 
 /// Plays an item, and writes its lines.

@@ -3,6 +3,7 @@
 
 mod bases;
 mod berths;
+mod inspecting;
 mod laws;
 mod program;
 mod script;

@@ -5,12 +5,13 @@ ghost use Rattle.berth_face.specs.Streams.{TakesAtMost};
 ghost use Rattle.run_ends.specs.Outcome.{IfScript, UnlessCutOff, UnlessWritten, TakesText};
 ghost use Rattle.row_count.specs.Outcome.{IsCutShort};
 ghost use Rattle.run_ends.specs.Source.{most_taken};
-ghost use Rattle.play.specs.Outcome.{IsDone, IsTextRefused, IfCount, IfUnread, UnlessPlayed, verdict};
+ghost use Rattle.play.specs.Outcome.{IsDone, IsTextRefused, IfCount, IfInspect, IfUnread, UnlessPlayed, verdict};
 ghost use Rattle.play.specs.Shortened.{IfShort, IsShort};
 ghost use Rattle.play.specs.Played.{AreBases, LeavesBerths, leaves_asked};
 ghost use Rattle.play.specs.Words.{request_of};
 
 use crate::bases::Bases;
+use crate::inspecting::play_inspect;
 use crate::script::play_source;
 use crate::soaking::play_soak;
 use crate::words::{Request, request_of};
@@ -72,6 +73,9 @@ pub fn run<N: Bases, R: Wait + Threads + Sync, S: Source, K: Sink, B: Berth, G: 
     ensures count_unplayed { IfCount (request_of (map string_bytes words.now)) (λ range. berths.new ≡ berths.old) }
     ensures count_unwatched { IfCount (request_of (map string_bytes words.now)) (λ range. watches.new ≡ watches.old) }
 
+    // A look at a leaf's berth tells no watch anything. (What it reads of the source, `unread` says; what it leaves of the berths, `done`, `short` and `unplayed`.)
+    ensures inspect_unwatched { IfInspect (request_of (map string_bytes words.now)) (λ leaf. watches.new ≡ watches.old) }
+
     // The berths come back in their places, and none has changed but those of the leaves that the words and the text make.
     ensures berths { LeavesBerths B.meaning (leaves_asked (request_of (map string_bytes words.now)) (S.left source.old)) berths.old.items berths.new.items }
 {
@@ -84,5 +88,6 @@ pub fn run<N: Bases, R: Wait + Threads + Sync, S: Source, K: Sink, B: Berth, G: 
         Some(Request::Soak { seed, rows }) => {
             play_soak::<N, R, K, B, G>(rt, alloc, seed, rows, sink, berths, gate, watches)
         }
+        Some(Request::Inspect { leaf }) => play_inspect(alloc, leaf, sink, berths),
     }
 }

@@ -53,7 +53,7 @@ at_line line cause = if line == 0 then cause else codes "line " ++ (decimal line
 
 abbrev pub fault_text : Status → List ℕ
 fault_text Status.Done = []
-fault_text Status.Words = codes "the words are none of `count FROM TO`, `play` and `soak SEED ROWS`"
+fault_text Status.Words = codes "the words are none of `count FROM TO`, `play`, `soak SEED ROWS` and `inspect L`"
 fault_text (Status.Script line w) = at_line line (cause_of w)
 fault_text Status.ReadFault = codes "the input could not be read"
 fault_text Status.WriteFault = codes "the output could not be written"

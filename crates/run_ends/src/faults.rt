@@ -20,7 +20,7 @@ pub fn fault_text(alloc: Global, status: &Status) -> Result<Text, AllocError>
         Status::Done => String::from_str(alloc, ""),
         Status::Words => String::from_str(
             alloc,
-            "the words are none of `count FROM TO`, `play` and `soak SEED ROWS`",
+            "the words are none of `count FROM TO`, `play`, `soak SEED ROWS` and `inspect L`",
         ),
         Status::Script { line, why } => at_line(alloc, *line, cause_of(alloc, why)?),
         Status::ReadFault => String::from_str(alloc, "the input could not be read"),

@@ -1,0 +1,35 @@
+-- What the words `inspect L` do.
+use Rattle.std.specs.Prelude.{◌≡◌, ℕ, List, Option, Some, None, IsTrue, IfSome, slice_get, slice_set}
+use Rattle.std.specs.Io.KnownBytes.{Appends}
+use Rattle.berth_face.specs.Berth.{Meaning}
+use Rattle.berth_face.specs.Causes.{Rose}
+use Rattle.berth_face.specs.Streams.{WritesFront}
+use Rattle.region_reading.specs.Reading.{Untouched}
+use Rattle.region_inspect.specs.declared.seen.Seen.{Seen}
+use Rattle.region_inspect.specs.Shows.{Shows}
+use Rattle.region_inspect.specs.Lines.{region_text}
+
+-- The leaf's berth was read, and it is in its place: its region and its disk are as they were, and nothing was read of the disk. All other berths are as they were.
+pub record IsLookedAt {B : Type 0} (meaning : B → Meaning) (leaf : ℕ) (old new : List B) : Type 0 where
+  pub berth : B
+  pub berth_now : B
+  pub at : slice_get old leaf ≡ Some berth
+  pub back : new ≡ slice_set old leaf berth_now
+  pub untouched : Untouched (meaning berth) (meaning berth_now)
+
+-- It shows this, where the berth tells what it holds; or a call on its region failed.
+pub record IsSeen {B : Type 0} (meaning : B → Meaning) (leaf : ℕ) (old new : List B) (seen : Option Seen) : Type 0 where
+  pub looked : IsLookedAt meaning leaf old new
+  pub shows : IsTrue (meaning looked.berth).tells → IfSome seen (Shows (meaning looked.berth).held.region)
+  pub cause : seen ≡ None → Rose (meaning looked.berth).region_faults (meaning looked.berth_now).region_faults
+
+-- what was written shows the region of the leaf's berth, or that it failed
+pub record IsInspected {B : Type 0} (meaning : B → Meaning) (leaf : ℕ) (was now : Option (List ℕ)) (old new : List B) : Type 0 where
+  pub seen : Option Seen
+  pub is : IsSeen meaning leaf old new seen
+  pub written : Appends was now (region_text leaf seen)
+
+-- nothing was written, or a front of that
+pub data InspectEndsShort {B : Type 0} (meaning : B → Meaning) (leaf : ℕ) (was now : Option (List ℕ)) (old new : List B) : Type 0 where
+  nothing : now ≡ was → IsLookedAt meaning leaf old new → InspectEndsShort meaning leaf was now old new
+  some : (seen : Option Seen) → IsSeen meaning leaf old new seen → WritesFront was now (region_text leaf seen) → InspectEndsShort meaning leaf was now old new
