@@ -1,6 +1,6 @@
 -- A run leaves a base that can be kept of each berth whose base was known.
-use Rattle.std.proofs.Common.{◌≡◌, ◌⊎◌, inl, inr, ◌∙◌, ℕ, zero, suc, ◌<◌, ◌≤◌, Bool, true, false, List, [], ◌∷◌, length, Option, Some, None, refl, sym, ap, subst, arith}
-use Rattle.std.specs.Prelude.{IfSome, drop, nat_lt, slice_get, if◌then◌else◌}
+use Rattle.std.proofs.Common.{◌≡◌, ◌≢◌, ◌⊎◌, inl, inr, ◌∙◌, ℕ, zero, suc, ◌<◌, ◌≤◌, Bool, true, false, List, [], ◌∷◌, length, Option, Some, None, refl, sym, ap, subst, arith}
+use Rattle.std.specs.Prelude.{IfSome, drop, map, nat_lt, slice_get, if◌then◌else◌}
 use Rattle.std.proofs.lemmas.Bool.{ltb-false}
 use Rattle.std.proofs.lemmas.Bool.Decides.{nat_tests}
 use Rattle.leaf_model.specs.declared.writes.Write.{Write}
@@ -28,15 +28,17 @@ use Rattle.printed_lines.specs.declared.line.Line.{Line}
 use Rattle.transcript.specs.Base.{watched_with}
 use Rattle.script_text.specs.declared.fleet.Fleet.{Fleet}
 use Rattle.script_text.specs.Commands.{leaf_count}
-use Rattle.transcript.specs.Pieces.{script_fleet}
+use Rattle.transcript.specs.Pieces.{all_lines, item_of, no_fleet, script_fleet}
 use Rattle.transcript.specs.Leaving.{AreKnown, IsKnown, IsToldRun}
 use Rattle.transcript.specs.Transcript.{Known}
 use Rattle.transcript_leaf.proofs.Lists.{element_at, same_some, within}
 use Rattle.play.proofs.Lists.{choose_each}
 use Rattle.play_again.proofs.Listing.{front_same, list_kept}
 use Rattle.play.specs.Played.{AreBases, IsBase, IsPlayed}
-use Rattle.play_again.specs.Keeping.{ArePlayedTwice, IsKeptOf, KeepsEach, KeepsOne, Kept, LeavesKnown, base_kept, bases_of, tables_left}
-use Rattle.play.specs.Outcome.{IsDone}
+use Rattle.play_again.specs.Keeping.{ArePlayedTwice, IsKeptOf, KeepsBy, KeepsEach, KeepsOne, KeepsSame, Kept, LeavesKnown, base_kept, bases_of, tables_left}
+use Rattle.play.specs.Outcome.{IsDone, UnlessPlayed}
+use Rattle.play.specs.Shortened.{EndsShort, IfShort, IsShort}
+use Rattle.run_ends.specs.declared.status.Status.{Status}
 use Rattle.play.specs.declared.words.Request.{Request}
 use Rattle.play.specs.declared.words.Request.TheVariants.{Play}
 
@@ -84,7 +86,7 @@ known_at meaning base (Some x) is =
     let k = known_where base (meaning x) (is x refl) in
     (k.0, λ b at. subst (λ y. IsKnown base (meaning y) k.0) (same_some x b at) k.1)
 
-all_known : {B : Type 0} (base : ℕ → Option NamedStates) (meaning : B → Meaning) (old new : List B) → AreBases base meaning old → (known : ℕ → Option Known) × AreKnown meaning old new base known
+pub all_known : {B : Type 0} (base : ℕ → Option NamedStates) (meaning : B → Meaning) (old new : List B) → AreBases base meaning old → (known : ℕ → Option Known) × AreKnown meaning old new base known
 all_known base meaning old new are = (
   λ leaf. (known_at meaning (base leaf) (slice_get old leaf) (are leaf)).0,
   λ leaf. (known_at meaning (base leaf) (slice_get old leaf) (are leaf)).1,
@@ -165,23 +167,86 @@ module _ {B : Type 0} (base : ℕ → Option NamedStates) (meaning : B → Meani
       let all = choose_each (λ leaf (new : B) next. KeepsOne fleet leaf (known leaf) (histories leaf) (meaning new) next) news kept_one in
       (all.0, record { as_many = all.1; each = all.2 })
 
--- a play that was done leaves this known
-pub leaves_known : {B : Type 0} (base : ℕ → Option NamedStates) (meaning : B → Meaning) (before after was now : Option (List ℕ)) (old new : List B) (watching watched : List Held)
-    → IsPlayed base meaning before after was now old new watching watched → AreBases base meaning old → length new ≡ length old
-    → (next : List (Option (List Kept))) × LeavesKnown base meaning before after was now old new next
-leaves_known base meaning before after was now old new watching watched played are as_many =
+-- so a run leaves this known of its berths, whatever items were played
+keeps_by : {B : Type 0} (base : ℕ → Option NamedStates) (meaning : B → Meaning) (old new : List B) (items : List Item) (lines : List Line) (watching watched : List Held)
+    (told : (known : ℕ → Option Known) → AreKnown meaning old new base known → IsToldRun meaning old new items known lines watching watched) → AreBases base meaning old → length new ≡ length old
+    → (next : List (Option (List Kept))) × KeepsBy meaning old new base items lines watching watched told next
+keeps_by base meaning old new items lines watching watched told are as_many =
     let known = all_known base meaning old new are in
-    let next = keeps_each base meaning old new played.script.items known.0 played.written.lines watching watched are known.1
-    (λ leaf b at. element_at old leaf (omega (arith, within new leaf b at, as_many))) (played.written.told known.0 known.1) in
-    (next.0, record { watching = watching; watched = watched; played = played; known = known.0; are_known = known.1; keeps = next.1 })
+    let next = keeps_each base meaning old new items known.0 lines watching watched are known.1 (λ leaf b at. element_at old leaf (omega (arith, within new leaf b at, as_many))) (told known.0 known.1) in
+    (next.0, record { known = known.0; are_known = known.1; keeps = next.1 })
+
+-- where the berths are as they were, what was known of them
+module _ {B : Type 0} (base : ℕ → Option NamedStates) (meaning : B → Meaning) (olds : List B) (known : ℕ → Option Known) (are : AreBases base meaning olds) (are_known : AreKnown meaning olds olds base known) where
+  none_below : (leaf : ℕ) → nat_lt leaf (leaf_count no_fleet) ≡ false
+  none_below leaf = by (nat_lt leaf (leaf_count no_fleet)) refl
+    where
+      by : (b : Bool) → nat_lt leaf (leaf_count no_fleet) ≡ b → b ≡ false
+      by true e =
+          let below : leaf < 0 = below_there leaf (leaf_count no_fleet) e in
+          absurd (omega (arith, below))
+      by false e = refl
+
+  same_one : (leaf : ℕ) (b : B) → slice_get olds leaf ≡ Some b → (next : Option (List Kept)) × KeepsOne no_fleet leaf (known leaf) (λ table. []) (meaning b) next
+  same_one leaf b at = by (known leaf) refl
+    where
+      by : (k : Option Known) → known leaf ≡ k → (next : Option (List Kept)) × KeepsOne no_fleet leaf k (λ table. []) (meaning b) next
+      by None e = (None, refl)
+      by (Some k) e =
+          let kept = kept_same k.base (meaning b) (base_known (base leaf) (meaning b) (known leaf) k e (are_known leaf b at) (are leaf b at)) in
+          (Some kept.0, subst (λ (x : Bool). IsKeptOf (if x then tables_of k.base (watched_with (no_fleet).names k.base (λ table. [])) (meaning b) else k.base) (meaning b) kept.0) (sym (none_below leaf)) kept.1)
+
+  same_each : (next : List (Option (List Kept))) × KeepsEach meaning olds no_fleet known (λ leaf table. []) next
+  same_each =
+      let all = choose_each (λ leaf (b : B) next. KeepsOne no_fleet leaf (known leaf) (λ table. []) (meaning b) next) olds same_one in
+      (all.0, record { as_many = all.1; each = all.2 })
+
+keeps_same : {B : Type 0} (base : ℕ → Option NamedStates) (meaning : B → Meaning) (old new : List B) → AreBases base meaning old → new ≡ old
+    → (next : List (Option (List Kept))) × KeepsSame meaning old new base next
+keeps_same base meaning old new are same =
+    subst (λ bs. (next : List (Option (List Kept))) × KeepsSame meaning old bs base next) (sym same)
+    (let known = all_known base meaning old old are in
+    let next = same_each base meaning old known.0 are known.1 in
+    (next.0, record { known = known.0; are_known = known.1; keeps = next.1 }))
+
+-- ---- however a run ended
+
+module _ {B : Type 0} (base : ℕ → Option NamedStates) (meaning : B → Meaning) (before after was now : Option (List ℕ)) (old new : List B) (watching watched : List Held) (are : AreBases base meaning old) (as_many : length new ≡ length old) where
+  abbrev Left : Status → Type 0
+  Left status = (next : List (Option (List Kept))) × LeavesKnown status base meaning before after was now old new next
+
+  left_done : IsPlayed base meaning before after was now old new watching watched → Left Status.Done
+  left_done played =
+      let next = keeps_by base meaning old new played.script.items played.written.lines watching watched played.written.told are as_many in
+      (next.0, LeavesKnown.done watching watched played refl next.1)
+
+  left_same : (status : Status) → status ≢ Status.Done → now ≡ was → new ≡ old → Left status
+  left_same status not_done unwritten unplayed =
+      let next = keeps_same base meaning old new are unplayed in
+      (next.0, LeavesKnown.nothing not_done unwritten unplayed next.1)
+
+  left_short : (status : Status) → status ≢ Status.Done → EndsShort base meaning before after was now old new watching watched → Left status
+  left_short status not_done (EndsShort.nothing unwritten unplayed unwatched) = left_same status not_done unwritten unplayed
+  left_short status not_done (EndsShort.some text script read is_script enough shortened) =
+      let next = keeps_by base meaning old new (map item_of shortened.played) (all_lines shortened.played) watching watched shortened.told are as_many in
+      (next.0, LeavesKnown.short watching watched text script shortened not_done read is_script next.1)
+
+  -- what the contract of a run says of a play, at each status
+  pub left_by : (status : Status) → (status ≡ Status.Done → IsPlayed base meaning before after was now old new watching watched) → IfShort status (EndsShort base meaning before after was now old new watching watched)
+      → UnlessPlayed status (now ≡ was) → UnlessPlayed status (new ≡ old) → Left status
+  left_by Status.Done played ends unwritten unplayed = left_done (played refl)
+  left_by Status.Words played ends unwritten unplayed = left_same Status.Words (λ e. absurd cc) unwritten unplayed
+  left_by (Status.Script line why) played ends unwritten unplayed = left_same (Status.Script line why) (λ e. absurd cc) unwritten unplayed
+  left_by Status.ReadFault played ends unwritten unplayed = left_same Status.ReadFault (λ e. absurd cc) unwritten unplayed
+  left_by Status.WriteFault played ends unwritten unplayed = left_short Status.WriteFault (λ e. absurd cc) ends
+  left_by Status.NoMemory played ends unwritten unplayed = left_short Status.NoMemory (λ e. absurd cc) ends
 
 -- the same, where what the source, the sink and the berths were is told by other values
-pub leaves_kept : {B S K : Type 0} (base : ℕ → Option NamedStates) (meaning : B → Meaning) (left : S → Option (List ℕ)) (written : K → Option (List ℕ)) (source said_source next_source : S) (sink said_sink next_sink : K) (old said_old new : List B) (watching watched : List Held)
+pub leaves_kept : {B S K : Type 0} (base : ℕ → Option NamedStates) (meaning : B → Meaning) (left : S → Option (List ℕ)) (written : K → Option (List ℕ)) (source said_source next_source : S) (sink said_sink next_sink : K) (old said_old new : List B) (status : Status)
     → said_source ≡ source → said_sink ≡ sink → said_old ≡ old
-    → IsPlayed base meaning (left source) (left next_source) (written sink) (written next_sink) old new watching watched → AreBases base meaning old → length new ≡ length old
-    → (next : List (Option (List Kept))) × LeavesKnown base meaning (left said_source) (left next_source) (written said_sink) (written next_sink) said_old new next
-leaves_kept base meaning left written source said_source next_source sink said_sink next_sink old said_old new watching watched e f h played are places =
-    rw (e, f, h) (leaves_known base meaning (left source) (left next_source) (written sink) (written next_sink) old new watching watched played are places)
+    → ((next : List (Option (List Kept))) × LeavesKnown status base meaning (left source) (left next_source) (written sink) (written next_sink) old new next)
+    → (next : List (Option (List Kept))) × LeavesKnown status base meaning (left said_source) (left next_source) (written said_sink) (written next_sink) said_old new next
+leaves_kept base meaning left written source said_source next_source sink said_sink next_sink old said_old new status e f h leaves = rw (e, f, h) leaves
 
 -- ---- what is kept serves the next run
 
@@ -199,12 +264,18 @@ kept_is_base fleet leaf None histories m (Some kept) keeps = absurd cc
 kept_is_base fleet leaf (Some k) histories m None keeps = tt
 kept_is_base fleet leaf (Some k) histories m (Some kept) keeps = keeps.is_base
 
-pub bases_left : {B : Type 0} (base : ℕ → Option NamedStates) (meaning : B → Meaning) (before after was now : Option (List ℕ)) (old new : List B) (next : List (Option (List Kept)))
-    → LeavesKnown base meaning before after was now old new next → AreBases (bases_of next) meaning new
-bases_left base meaning before after was now old new next leaves = λ leaf b at.
-    let told = leaves.played.written.told leaves.known leaves.are_known in
-    base_there meaning b next leaf (λ kept is.
-    kept_is_base (script_fleet leaves.played.script.items) leaf (leaves.known leaf) (told.transcript.histories leaf) (meaning b) kept (leaves.keeps.each leaf b kept at is))
+keeps_bases : {B : Type 0} (meaning : B → Meaning) (new : List B) (fleet : Fleet) (known : ℕ → Option Known) (histories : ℕ → ℕ → List Entry) (next : List (Option (List Kept)))
+    → KeepsEach meaning new fleet known histories next → AreBases (bases_of next) meaning new
+keeps_bases meaning new fleet known histories next keeps = λ leaf b at.
+    base_there meaning b next leaf (λ kept is. kept_is_base fleet leaf (known leaf) (histories leaf) (meaning b) kept (keeps.each leaf b kept at is))
+
+pub bases_left : {B : Type 0} (status : Status) (base : ℕ → Option NamedStates) (meaning : B → Meaning) (before after was now : Option (List ℕ)) (old new : List B) (next : List (Option (List Kept)))
+    → LeavesKnown status base meaning before after was now old new next → AreBases (bases_of next) meaning new
+bases_left status base meaning before after was now old new next (LeavesKnown.done watching watched played ended keeps) =
+    keeps_bases meaning new (script_fleet played.script.items) keeps.known (played.written.told keeps.known keeps.are_known).transcript.histories next keeps.keeps
+bases_left status base meaning before after was now old new next (LeavesKnown.short watching watched text script shortened ended read is_script keeps) =
+    keeps_bases meaning new (script_fleet (map item_of shortened.played)) keeps.known (shortened.told keeps.known keeps.are_known).transcript.histories next keeps.keeps
+bases_left status base meaning before after was now old new next (LeavesKnown.nothing ended unwritten unplayed keeps) = keeps_bases meaning new no_fleet keeps.known (λ leaf table. []) next keeps.keeps
 
 -- ---- a play
 
@@ -212,14 +283,27 @@ pub is_played : {B : Type 0} (base : ℕ → Option NamedStates) (meaning : B �
     → request ≡ Some Play → IsDone base meaning request before after was now old new watching watched → IsPlayed base meaning before after was now old new watching watched
 is_played base meaning request before after was now old new watching watched e done = subst (λ (r : Option Request). IsDone base meaning r before after was now old new watching watched) e done
 
-pub played_twice : {B : Type 0} (base : ℕ → Option NamedStates) (meaning : B → Meaning) (request : Option Request) (before after was now next_before next_after next_was next_now : Option (List ℕ)) (old between new : List B) (watching meanwhile watched : List Held) (next : List (Option (List Kept)))
-    → request ≡ Some Play → IsPlayed base meaning before after was now old between watching meanwhile → LeavesKnown base meaning before after was now old between next → IsDone (bases_of next) meaning request next_before next_after next_was next_now between new meanwhile watched
-    → ArePlayedTwice base meaning before after was now next_before next_after next_was next_now old new watching watched
-played_twice base meaning request before after was now next_before next_after next_was next_now old between new watching meanwhile watched next e played first done = record {
+-- what follows of what holds where nothing is played
+pub unless_then : (status : Status) (P Q : Type 0) → (P → Q) → UnlessPlayed status P → UnlessPlayed status Q
+unless_then Status.Words P Q follows holds = follows holds
+unless_then (Status.Script line why) P Q follows holds = follows holds
+unless_then Status.ReadFault P Q follows holds = follows holds
+unless_then Status.Done P Q follows holds = tt
+unless_then Status.WriteFault P Q follows holds = tt
+unless_then Status.NoMemory P Q follows holds = tt
+
+-- what is short of a play
+pub is_short : {B : Type 0} (base : ℕ → Option NamedStates) (meaning : B → Meaning) (request : Option Request) (status : Status) (before after was now : Option (List ℕ)) (old new : List B) (watching watched : List Held)
+    → request ≡ Some Play → IfShort status (IsShort base meaning request before after was now old new watching watched) → IfShort status (EndsShort base meaning before after was now old new watching watched)
+is_short base meaning request status before after was now old new watching watched e ends = subst (λ (r : Option Request). IfShort status (IsShort base meaning r before after was now old new watching watched)) e ends
+
+pub played_twice : {B : Type 0} (status : Status) (base : ℕ → Option NamedStates) (meaning : B → Meaning) (request : Option Request) (before after was now next_before next_after next_was next_now : Option (List ℕ)) (old between new : List B) (meanwhile watched : List Held) (next : List (Option (List Kept)))
+    → request ≡ Some Play → LeavesKnown status base meaning before after was now old between next → IsDone (bases_of next) meaning request next_before next_after next_was next_now between new meanwhile watched
+    → ArePlayedTwice status base meaning before after was now next_before next_after next_was next_now old new watched
+played_twice status base meaning request before after was now next_before next_after next_was next_now old between new meanwhile watched next e first done = record {
   between = between;
   next = next;
   meanwhile = meanwhile;
-  done = played;
   first = first;
   second = is_played (bases_of next) meaning request next_before next_after next_was next_now between new meanwhile watched e done;
 }

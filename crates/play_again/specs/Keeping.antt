@@ -1,5 +1,5 @@
 -- What is known of berths that a run left, and two runs one after the other.
-use Rattle.std.specs.Prelude.{◌≡◌, ℕ, zero, suc, List, [], ◌∷◌, length, slice_get, Option, Some, None, bytes_eq, nat_lt, if◌then◌else◌}
+use Rattle.std.specs.Prelude.{◌≡◌, ◌≢◌, ℕ, zero, suc, List, [], ◌∷◌, length, map, slice_get, Option, Some, None, Ok, bytes_eq, nat_lt, if◌then◌else◌}
 use Rattle.leaf_model.specs.declared.writes.Write.{Write}
 use Rattle.berth_face.specs.Berth.{Meaning}
 use Rattle.leaf_history.specs.History.{Entry, base_of, no_base}
@@ -10,10 +10,17 @@ use Rattle.rollover_watch.specs.Watches.{Held}
 use Rattle.transcript.specs.Base.{watched_with}
 use Rattle.script_text.specs.declared.fleet.Fleet.{Fleet}
 use Rattle.script_text.specs.Commands.{leaf_count}
-use Rattle.transcript.specs.Pieces.{script_fleet}
-use Rattle.transcript.specs.Leaving.{AreKnown}
+use Rattle.script_text.specs.declared.item.Item.{Item}
+use Rattle.script_text.specs.declared.script.Script.{Script}
+use Rattle.script_text.specs.Script.{script_of}
+use Rattle.printed_lines.specs.declared.line.Line.{Line}
+use Rattle.berth_face.specs.Streams.{ReadsAll}
+use Rattle.run_ends.specs.declared.status.Status.{Status}
+use Rattle.transcript.specs.Pieces.{all_lines, item_of, no_fleet, script_fleet}
+use Rattle.transcript.specs.Leaving.{AreKnown, IsToldRun}
 use Rattle.transcript.specs.Transcript.{Known}
 use Rattle.play.specs.Played.{IsBase, IsPlayed}
+use Rattle.play.specs.Cut.{IsShortened}
 
 -- ---- a base as a list, which unlike a function can be kept
 
@@ -69,22 +76,44 @@ pub record KeepsEach {B : Type 0} (meaning : B → Meaning) (berths : List B) (f
   pub each : (leaf : ℕ) (berth : B) (kept : Option (List Kept)) → slice_get berths leaf ≡ Some berth → slice_get next leaf ≡ Some kept
       → KeepsOne fleet leaf (known leaf) (histories leaf) (meaning berth) kept
 
--- A play over berths with these bases was done, and what is kept is the base that it left of each, by the histories of its transcript.
-pub record LeavesKnown {B : Type 0} (base : ℕ → Option NamedStates) (meaning : B → Meaning) (before after was now : Option (List ℕ)) (old new : List B) (next : List (Option (List Kept))) : Type 0 where
-  pub watching : List Held
-  pub watched : List Held
-  pub played : IsPlayed base meaning before after was now old new watching watched
+-- What is kept is the base that a run left of each berth, by the histories of its transcript, over one of the things that may be known.
+pub record KeepsBy {B : Type 0} (meaning : B → Meaning) (old new : List B) (base : ℕ → Option NamedStates) (items : List Item) (lines : List Line) (watching watched : List Held)
+    (told : (known : ℕ → Option Known) → AreKnown meaning old new base known → IsToldRun meaning old new items known lines watching watched) (next : List (Option (List Kept))) : Type 0 where
   pub known : ℕ → Option Known
   pub are_known : AreKnown meaning old new base known
-  pub keeps : KeepsEach meaning new (script_fleet played.script.items) known (played.written.told known are_known).transcript.histories next
+  pub keeps : KeepsEach meaning new (script_fleet items) known (told known are_known).transcript.histories next
+
+-- what was known of each berth is kept as it was
+pub record KeepsSame {B : Type 0} (meaning : B → Meaning) (old new : List B) (base : ℕ → Option NamedStates) (next : List (Option (List Kept))) : Type 0 where
+  pub known : ℕ → Option Known
+  pub are_known : AreKnown meaning old new base known
+  pub keeps : KeepsEach meaning new no_fleet known (λ leaf table. []) next
+
+-- What a play over berths with these bases leaves known, however it ended: where it was done, by its transcript; where it ended before, by that of the items that were played; or nothing was
+-- written, and the berths are as they were.
+pub data LeavesKnown {B : Type 0} (status : Status) (base : ℕ → Option NamedStates) (meaning : B → Meaning) (before after was now : Option (List ℕ)) (old new : List B) (next : List (Option (List Kept))) : Type 0 where
+  done : (watching watched : List Held) (played : IsPlayed base meaning before after was now old new watching watched)
+      → status ≡ Status.Done
+      → KeepsBy meaning old new base played.script.items played.written.lines watching watched played.written.told next
+      → LeavesKnown status base meaning before after was now old new next
+  short : (watching watched : List Held) (text : List ℕ) (script : Script) (shortened : IsShortened meaning old new base script.items was now watching watched)
+      → status ≢ Status.Done
+      → ReadsAll before after text
+      → script_of text ≡ Ok script
+      → KeepsBy meaning old new base (map item_of shortened.played) (all_lines shortened.played) watching watched shortened.told next
+      → LeavesKnown status base meaning before after was now old new next
+  nothing : status ≢ Status.Done
+      → now ≡ was
+      → new ≡ old
+      → KeepsSame meaning old new base next
+      → LeavesKnown status base meaning before after was now old new next
 
 -- ---- two runs
 
--- one play was done, and then another over what the first left, with the bases that are kept of it
-pub record ArePlayedTwice {B : Type 0} (base : ℕ → Option NamedStates) (meaning : B → Meaning) (before after was now : Option (List ℕ)) (next_before next_after next_was next_now : Option (List ℕ)) (old new : List B) (watching watched : List Held) : Type 0 where
+-- one play ended so, and then another was done over what the first left, with the bases that are kept of it
+pub record ArePlayedTwice {B : Type 0} (status : Status) (base : ℕ → Option NamedStates) (meaning : B → Meaning) (before after was now : Option (List ℕ)) (next_before next_after next_was next_now : Option (List ℕ)) (old new : List B) (watched : List Held) : Type 0 where
   pub between : List B
   pub next : List (Option (List Kept))
   pub meanwhile : List Held
-  pub done : IsPlayed base meaning before after was now old between watching meanwhile
-  pub first : LeavesKnown base meaning before after was now old between next
+  pub first : LeavesKnown status base meaning before after was now old between next
   pub second : IsPlayed (bases_of next) meaning next_before next_after next_was next_now between new meanwhile watched

@@ -1,5 +1,5 @@
 // What a run leaves known of its berths, and runs over that.
-ghost use Rattle.std.specs.Prelude.{◌≡◌, ◌↔◌, List, Option, None, Some, IfOk, IfSome, IsSome, length, map, string_bytes};
+ghost use Rattle.std.specs.Prelude.{◌≡◌, ◌↔◌, List, Option, None, Some, IfOk, IfSome, length, map, string_bytes};
 ghost use Rattle.berth_face.specs.Causes.{Rose};
 ghost use Rattle.berth_face.specs.Streams.{TakesAtMost};
 ghost use Rattle.rollover_watch.specs.Watches.{Held};
@@ -7,8 +7,8 @@ ghost use Rattle.run_ends.specs.Outcome.{IfScript, UnlessCutOff, UnlessWritten, 
 ghost use Rattle.row_count.specs.Outcome.{IsCutShort};
 ghost use Rattle.run_ends.specs.Source.{most_taken};
 ghost use Rattle.play_again.specs.Keeping.{ArePlayedTwice, IsKeptBase, Kept, LeavesKnown, bases_of, states_of};
-ghost use Rattle.play.specs.Outcome.{IsDone, IsTextRefused, IfCount, IfUnread, UnlessPlayed, verdict};
-ghost use Rattle.play.specs.Shortened.{IfShort, IsShort};
+ghost use Rattle.play.specs.Outcome.{IsDone, IsTextRefused, IfCount, IfInspect, IfUnread, UnlessPlayed, verdict};
+ghost use Rattle.play.specs.Shortened.{EndsShort, IfShort, IsShort};
 ghost use Rattle.play.specs.Played.{AreBases, IsBase, IsPlayed, LeavesBerths, leaves_asked};
 ghost use Rattle.play.specs.Words.{request_of};
 ghost use Rattle.play.specs.declared.words.Request.TheVariants.{Play};
@@ -76,6 +76,7 @@ pub fn run_known<R: Wait + Threads + Sync, S: Source, K: Sink, B: Berth, G: Gate
         IsCutShort range (S.left source.old) (S.left source.new) (K.written sink.old) (K.written sink.new)) }
     ensures count_unplayed { IfCount (request_of (map string_bytes words.now)) (λ range. berths.new ≡ berths.old) }
     ensures count_unwatched { IfCount (request_of (map string_bytes words.now)) (λ range. watches.new ≡ watches.old) }
+    ensures inspect_unwatched { IfInspect (request_of (map string_bytes words.now)) (λ leaf. watches.new ≡ watches.old) }
     ensures berths { LeavesBerths B.meaning (leaves_asked (request_of (map string_bytes words.now)) (S.left source.old)) berths.old.items berths.new.items }
 {
     run_for::<Brand, R, S, K, B, G>(rt, alloc, words, source, sink, berths, gate, watches, known)
@@ -117,12 +118,13 @@ fn run_for<N: Bases, R: Wait + Threads + Sync, S: Source, K: Sink, B: Berth, G: 
         IsCutShort range (S.left source.old) (S.left source.new) (K.written sink.old) (K.written sink.new)) }
     ensures count_unplayed { IfCount (request_of (map string_bytes words.now)) (λ range. berths.new ≡ berths.old) }
     ensures count_unwatched { IfCount (request_of (map string_bytes words.now)) (λ range. watches.new ≡ watches.old) }
+    ensures inspect_unwatched { IfInspect (request_of (map string_bytes words.now)) (λ leaf. watches.new ≡ watches.old) }
     ensures berths { LeavesBerths B.meaning (leaves_asked (request_of (map string_bytes words.now)) (S.left source.old)) berths.old.items berths.new.items }
 {
     run::<N, R, S, K, B, G>(rt, alloc, words, source, sink, berths, gate, watches)
 }
 
-/// A play, and behind one that was done what it left known of the berths, where there was memory for that.
+/// A play, and what it left known of the berths, however it ended, where there was memory for that.
 pub fn run_keeping<N: Bases, R: Wait + Threads + Sync, S: Source, K: Sink, B: Berth, G: Gate>(
     rt: &R,
     alloc: Global,
@@ -137,20 +139,18 @@ pub fn run_keeping<N: Bases, R: Wait + Threads + Sync, S: Source, K: Sink, B: Be
     requires bases { AreBases N.base B.meaning berths.old.items }
     ensures done { result.0 ≡ Status.Done → IsPlayed N.base B.meaning (S.left source.old) (S.left source.new) (K.written sink.old) (K.written sink.new) berths.old.items berths.new.items
         (map (λ watch. held watch) watches.old.items) (map (λ watch. held watch) watches.new.items) }
-    ensures known { IfSome result.1 (λ known. LeavesKnown N.base B.meaning (S.left source.old) (S.left source.new) (K.written sink.old) (K.written sink.new) berths.old.items berths.new.items known) }
-    ensures only_done { IsSome result.1 → result.0 ≡ Status.Done }
+    ensures short { IfShort result.0 (EndsShort N.base B.meaning (S.left source.old) (S.left source.new) (K.written sink.old) (K.written sink.new) berths.old.items berths.new.items
+        (map (λ watch. held watch) watches.old.items) (map (λ watch. held watch) watches.new.items)) }
+    ensures known { IfSome result.1 (λ known. LeavesKnown result.0 N.base B.meaning (S.left source.old) (S.left source.new) (K.written sink.old) (K.written sink.new) berths.old.items berths.new.items known) }
     ensures berths { LeavesBerths B.meaning (leaves_asked (request_of (map string_bytes words.now)) (S.left source.old)) berths.old.items berths.new.items }
 {
     let source_was = Snapshot::of(&*source);
     let sink_was = Snapshot::of(&*sink);
     let berths_were = Snapshot::of(&*berths);
     let status = run::<N, R, S, K, B, G>(rt, alloc, words, source, sink, berths, gate, watches);
-    match status {
-        Status::Done => {}
-        status => return (status, None),
-    }
     match keep_left::<Brand, S, K, B>(
         alloc,
+        &status,
         &source_was,
         &sink_was,
         &berths_were,
@@ -158,14 +158,15 @@ pub fn run_keeping<N: Bases, R: Wait + Threads + Sync, S: Source, K: Sink, B: Be
         sink,
         berths,
     ) {
-        Ok(known) => (Status::Done, Some(known)),
-        Err(_) => (Status::Done, None),
+        Ok(known) => (status, Some(known)),
+        Err(_) => (status, None),
     }
 }
 
-// Keeps what N says of these berths. What they, the source and the sink were and are is for the pick alone.
+// Keeps what N says of these berths. How the run ended, and what the berths, the source and the sink were and are, is for the pick alone.
 fn keep_left<N: Choice, S, K, B>(
     alloc: Global,
+    _status: &Status,
     _source_was: &Snapshot<S>,
     _sink_was: &Snapshot<K>,
     _berths_were: &Snapshot<Vec<B>>,
@@ -179,7 +180,7 @@ fn keep_left<N: Choice, S, K, B>(
     KnownBerths::choose::<N>(alloc)
 }
 
-/// Two plays, one after the other, over the same berths: the second is begun where the first was done and there was memory to keep what it left known.
+/// Two plays, one after the other, over the same berths: the second is begun however the first ended, where there was memory to keep what it left known.
 #[tactic(auto, using(crate::proofs::KeepsBase::bases_left, crate::proofs::KeepsBase::played_twice))]
 pub fn run_twice<N: Bases, R: Wait + Threads + Sync, S: Source, K: Sink, B: Berth, G: Gate>(
     rt: &R,
@@ -196,13 +197,12 @@ pub fn run_twice<N: Bases, R: Wait + Threads + Sync, S: Source, K: Sink, B: Bert
     requires words { request_of (map string_bytes words.now) ≡ Some Play }
     requires bases { AreBases N.base B.meaning berths.old.items }
 
-    // Where the first is done, it was told over the bases of N; where the second is too, over a base that the first left.
+    // Where the first is done, it was told over the bases of N; where the second is, over a base that the first left, however that ended.
     ensures first { result.0 ≡ Status.Done → (between : List B) × (meanwhile : List Held) × IsPlayed N.base B.meaning (S.left source.old) (S.left source.new) (K.written sink.old) (K.written sink.new) berths.old.items between
         (map (λ watch. held watch) watches.old.items) meanwhile }
-    ensures both { result.1 ≡ Some Status.Done → ArePlayedTwice N.base B.meaning (S.left source.old) (S.left source.new) (K.written sink.old) (K.written sink.new)
+    ensures both { result.1 ≡ Some Status.Done → ArePlayedTwice result.0 N.base B.meaning (S.left source.old) (S.left source.new) (K.written sink.old) (K.written sink.new)
         (S.left next_source.old) (S.left next_source.new) (K.written next_sink.old) (K.written next_sink.new) berths.old.items berths.new.items
-        (map (λ watch. held watch) watches.old.items) (map (λ watch. held watch) watches.new.items) }
-    ensures in_order { IsSome result.1 → result.0 ≡ Status.Done }
+        (map (λ watch. held watch) watches.new.items) }
 {
     let (status, known) = run_keeping::<N, R, S, K, B, G>(
         rt, alloc, words, source, sink, berths, gate, watches,

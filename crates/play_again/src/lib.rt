@@ -1,8 +1,12 @@
-//! Runs over berths of which something is known: what a run left of them.
+//! Runs over berths of which something is known: what a run left of them, or that leaves may begin there, whatever they hold.
 #![tactic(auto)]
 
 mod kept;
 mod known;
+mod laws;
+mod over;
 
 pub use kept::{Choice, KeptTables, KnownBerths};
 pub use known::{keep, run_keeping, run_known, run_twice};
+pub use laws::something_is_known;
+pub use over::{has_base_where_opened, keep_all, run_over};

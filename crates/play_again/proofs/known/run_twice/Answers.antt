@@ -8,8 +8,8 @@ run_known-next-requires-clause-bases g c κs within =
     let now = c.run_keeping-status.new in
     let left = g.S.Source.left in
     let written = g.K.Sink.written in
-    bases_left g.N.Bases.base g.B.Berth.meaning (left c.args.source.now) (left now.source) (written c.args.sink.now) (written now.sink) c.args.berths.now.items now.berths.items c.in-Some.known
-    (subst (λ r. IfSome r (LeavesKnown g.N.Bases.base g.B.Berth.meaning (left c.args.source.now) (left now.source) (written c.args.sink.now) (written now.sink) c.args.berths.now.items now.berths.items))
+    bases_left c.run_keeping-status.result.0 g.N.Bases.base g.B.Berth.meaning (left c.args.source.now) (left now.source) (written c.args.sink.now) (written now.sink) c.args.berths.now.items now.berths.items c.in-Some.known
+    (subst (λ r. IfSome r (LeavesKnown c.run_keeping-status.result.0 g.N.Bases.base g.B.Berth.meaning (left c.args.source.now) (left now.source) (written c.args.sink.now) (written now.sink) c.args.berths.now.items now.berths.items))
     c.in-Some.is c.run_keeping-status.ensures.known)
 
 pub returns-in-Some-clause-first : goal.returns-in-Some-clause-first
