@@ -161,3 +161,43 @@ fn a_drained_leaf_is_adopted_by_the_next_run(rt: HostRuntime) -> Result<(), Fail
     assert!(rt; is_there_twice(&rt, alloc, &drained)?);
     Ok(())
 }
+
+/// A life with a drain that makes all its steps.
+const DRAINED: &str =
+    "fleet 1 1 errors\nadd 0 errors 1\n{\"time\":1,\"code\":7}\ndrain 0 stop 7\nstart 0\nquery SELECT COUNT(*) FROM errors WHERE time >= 0 AND time <= 9\n";
+
+/// What it prints where no call fails.
+const LINES: &str =
+    "0 errors #1 opened 0\nstart 0 disk nohead\n0 errors #2 added 1 late 0\n0 errors #3 closed 1\n0 errors #4 flushed 1\n0 errors #5 handed\ndrain 0 done\n0 errors #6 opened 1\nstart 0 memory\n0 errors #7 asked\nanswer named 1 of 1 lines 1\n1\n";
+
+/// The lines of that life over a berth that lets so many calls pass, and with how many writes a new leaf then opens its table.
+fn fused<R: Wait + Threads + Sync>(
+    rt: &R,
+    alloc: Global,
+    calls: u64,
+) -> Result<Option<(String, u8)>, AllocError> {
+    let berth = MemBerth::fused(Vec::new(alloc), Vec::new(alloc), calls);
+    let Some((left, lines)) = played(rt, alloc, berth, DRAINED)? else {
+        return Ok(None);
+    };
+    let again = MemBerth::new(left.region().to_vec(alloc)?, left.disk().to_vec(alloc)?);
+    match writes_opened(rt, alloc, again)? {
+        Some(writes) => Ok(Some((lines, writes))),
+        None => Ok(None),
+    }
+}
+
+#[test]
+fn what_was_flushed_is_there_wherever_the_fuse_is(rt: HostRuntime) -> Result<(), Fail> {
+    let alloc = rt.alloc();
+    for calls in 0..1_000 {
+        let (lines, writes) = fused(&rt, alloc, calls)?.expect(&rt, "two plays that are done");
+        let flushed = lines.as_str().contains(" flushed 1\n");
+        assert!(rt; writes == 1 || writes == 0 && !flushed, "at {calls}");
+        if lines.as_str() == LINES {
+            return Ok(());
+        }
+    }
+    assert!(rt; false, "each of the fuses was met");
+    Ok(())
+}

@@ -97,6 +97,16 @@ fn each_fault_of_source_and_sink_has_its_status(rt: HostRuntime) -> Result<(), F
             "at {line}, {take}, {put}"
         );
     }
+    // The lines of an item are put at once, so that of two items the first is written.
+    let mut sink = MemSink::failing(only(alloc, Method::Put, 2)?);
+    let mut source = MemSource::new(SCRIPT.as_bytes().to_vec(alloc)?);
+    let mut berths = vec![in alloc; empty_berth(alloc)]?;
+    let status = run_line(&rt, alloc, "play", &mut source, &mut sink, &mut berths)?;
+    assert!(rt; matches!(status, Status::WriteFault));
+    assert_eq!(rt;
+        sink.bytes(),
+        &b"0 errors #1 opened 0\nstart 0 disk nohead\n"[..]
+    );
     let mut none = Vec::new(alloc);
     let (ended, got) = run_failing(&rt, alloc, "play", SCRIPT, 0, 0, &mut none)?;
     assert_eq!(rt;
