@@ -6,6 +6,7 @@ use std::process::exit;
 enum Value {
     Int(i64),
     Text(String),
+    Set(Vec<String>),
 }
 
 #[allow(dead_code)]
@@ -36,7 +37,20 @@ impl<'a> Reader<'a> {
         std::str::from_utf8(self.take(length)?).ok().map(String::from)
     }
 
-    fn row(&mut self) -> Option<Row> {
+    fn set(&mut self) -> Option<Vec<String>> {
+        let count = self.number::<2>()? as usize;
+        let mut texts: Vec<String> = Vec::with_capacity(count.min(self.rest.len() / 2));
+        for _ in 0..count {
+            let text = self.text::<2>()?;
+            if texts.last().is_some_and(|before| *before >= text) {
+                return None;
+            }
+            texts.push(text);
+        }
+        (count <= 1024 && texts.iter().map(String::len).sum::<usize>() <= 65535).then_some(texts)
+    }
+
+    fn row(&mut self, kind: u64) -> Option<Row> {
         let time = i64::try_from(self.number::<8>()?).ok()?;
         let count = self.number::<2>()? as usize;
         let mut cells: Vec<(String, Value)> = Vec::with_capacity(count.min(self.rest.len() / 4));
@@ -48,6 +62,7 @@ impl<'a> Reader<'a> {
             let value = match self.number::<1>()? {
                 1 => Value::Int(self.number::<8>()? as i64),
                 2 => Value::Text(self.text::<2>()?),
+                3 if kind == 2 => Value::Set(self.set()?),
                 _ => return None,
             };
             cells.push((name, value));
@@ -63,7 +78,8 @@ fn rows(log: &[u8]) -> Option<Vec<Row>> {
     while reader.number::<1>()? == 1 {
         let length = reader.number::<8>()? as usize;
         let mut record = Reader { rest: reader.take(length)? };
-        if record.number::<1>()? != 1 {
+        let kind = record.number::<1>()?;
+        if kind != 1 && kind != 2 {
             return None;
         }
         let _table = record.text::<1>()?;
@@ -72,7 +88,7 @@ fn rows(log: &[u8]) -> Option<Vec<Row>> {
                 return None;
             }
             for _ in 0..record.number::<4>()? {
-                rows.push(record.row()?);
+                rows.push(record.row(kind)?);
             }
         }
     }
