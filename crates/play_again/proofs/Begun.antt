@@ -6,9 +6,9 @@ use Rattle.region_layout.specs.Region.{reads}
 use Rattle.leaf_history.specs.History.{base_of}
 use Rattle.crash_moments.specs.Left.{Left, NamedStates}
 use Rattle.crash_states.proofs.Opened.{begins_on}
-use Rattle.play.specs.Played.{AreBases, IsBase}
+use Rattle.play.specs.Played.{IsBase}
 use Rattle.play.proofs.Lists.{choose_each}
-use Rattle.play_again.specs.Keeping.{Kept, base_kept, bases_of}
+use Rattle.play_again.specs.Keeping.{Kept, base_kept}
 use Rattle.play_again.specs.Over.{HasBase, HaveBases, IsBaseKept, KeepsBases}
 use Rattle.play_again.proofs.KeepsBase.{base_there}
 use Rattle.play_again.proofs.Listing.{front_same, list_kept}
@@ -40,7 +40,3 @@ module _ {B : Type 0} (meaning : B → Meaning) (berths : List B) (have : HaveBa
           bases = λ leaf b at. base_there meaning b all.0 leaf (λ k is. kept_is_base (meaning b) k (all.2 leaf b k at is));
         },
       )
-
--- a run may begin over what is kept
-pub bases_kept : {B : Type 0} (meaning : B → Meaning) (berths : List B) (kept : List (Option (List Kept))) → KeepsBases meaning berths kept → AreBases (bases_of kept) meaning berths
-bases_kept meaning berths kept keeps = keeps.bases
