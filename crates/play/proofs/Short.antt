@@ -160,17 +160,6 @@ crew_short {B} meaning olds news own old_xs xs leaves enough had are has count b
     (λ r. inr (crew_shortened meaning olds news own old_xs xs leaves enough had are has count base items fleet was now watching watched is size
     (subst (λ (its : List Item). RunShort base meaning fleet (berths_in old_xs) was now watching watched its xs) all r) met)) run
 
-pub short_any : (status : Status) (P : Type 0) → P → IfShort status P
-short_any status P p = if_short status P P (λ q. q) (by status)
-  where
-    by : (s : Status) → IfShort s P
-    by Status.WriteFault = p
-    by Status.NoMemory = p
-    by Status.Done = tt
-    by Status.Words = tt
-    by (Status.Script line why) = tt
-    by Status.ReadFault = tt
-
 pub ends_short : {B : Type 0} (base : ℕ → Option NamedStates) (meaning : B → Meaning) (before after was now : Option (List ℕ)) (olds news : List B) (watching watched : List Held) (text : List ℕ) (script : Script) (status : Status)
     → ReadsAll before after text → script_of text ≡ Ok script → leaves_in script.items ≤ length olds → IfShort status (StopsShort meaning olds news base script.items was now watching watched)
     → IfShort status (EndsShort base meaning before after was now olds news watching watched)

@@ -1,7 +1,7 @@
 -- Tables out of their blocks, and an image out of its tables.
 use Rattle.std.proofs.Common.{◌≡◌, ℕ, ◌+◌, ◌<◌, ◌≤◌, ◌^◌, true, List, [], ◌∷◌, ◌++◌, map, ℤ, refl, sym, ap, subst, ◌∙◌, arith}
 use Rattle.std.specs.List.{AllByRecursion, AllZip, flat_map, sum}
-use Rattle.std.proofs.lemmas.List.{append_assoc, append-nil}
+use Rattle.std.proofs.lemmas.List.{append_assoc}
 use Rattle.std.proofs.lemmas.List.Sums.{sum_by-cons}
 use Rattle.row_blocks.specs.Held.{IsSkip}
 use Rattle.table_state.specs.Tables.{most_rows}
@@ -17,13 +17,9 @@ use Rattle.adopt.proofs.Meanings.{each_table}
 use Rattle.region_inspect.specs.declared.seen.BlockLine.{BlockLine}
 use Rattle.region_inspect.specs.declared.seen.TableLine.{TableLine}
 use Rattle.region_inspect.specs.Shows.{ShowsImage, ShowsTable}
-use Rattle.region_inspect.specs.Inspecting.{AllCounted, AreNone, CutsInside, HasNone, IsNone, IsSmall, IsSmallTable, TableIs, TablesSoFar, blocks_in}
+use Rattle.region_inspect.specs.Inspecting.{AllCounted, AreNone, HasNone, IsNone, IsSmall, IsSmallTable, TableIs, TablesSoFar, blocks_in}
 
 -- ---- a table
-
-pub cuts_inside : (skip : ℕ) (bs : List BlockPlaces) → IsSkipOf skip bs → CutsInside skip bs
-cuts_inside skip [] is = tt
-cuts_inside skip (b ∷ bs) is = omega (arith, is)
 
 skip_in : (region : List ℕ) (skip : ℕ) (bs : List BlockPlaces) → IsSkipOf skip bs → IsSkip skip (blocks_in region bs)
 skip_in region skip [] is = is
@@ -73,11 +69,6 @@ module _ (version : ℕ) (region : List ℕ) (all : List TablePlaces) (lines : L
     split = append_assoc so_far.done (t ∷ []) rest' ∙ all_is;
     each = zip_push (TableIs version region) so_far.done lines t line so_far.each one;
   }
-
-pub all_tables : (version : ℕ) (region : List ℕ) (all : List TablePlaces) (lines : List TableLine) (rest : List TablePlaces) → TablesSoFar version region all lines rest → rest ≡ [] → AllZip (TableIs version region) all lines
-all_tables version region all lines rest so_far none =
-    let whole : so_far.done ≡ all = sym (append-nil so_far.done) ∙ ap (λ (ts : List TablePlaces). so_far.done ++ ts) (sym none) ∙ so_far.split in
-    subst (λ (ts : List TablePlaces). AllZip (TableIs version region) ts lines) whole so_far.each
 
 -- ---- an image
 
