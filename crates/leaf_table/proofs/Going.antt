@@ -135,6 +135,9 @@ added name founded s n by clock v rows (answer.Took writes pending) w c i caller
 added name founded s n by clock v rows (answer.Closed table) w c i caller is = absurd is
 added name founded s n by clock v rows answer.Noted w c i caller is = absurd is
 
+pub copied : (name : List ℕ) (founded : Bool) (s : HistoryState) (n by clock : ℕ) (v : LeafTable) (rows : _) (copy : Option (List Row)) (a : Answer) (w : LeafTable) → HasSoundCounts s → IsTableOf name s n v → MayNow founded s by (turn.AddCopy rows copy) → AddsTo v rows.value a w → Goes name founded s n by clock (turn.AddCopy rows copy) a w
+copied name founded s n by clock v rows copy a w c i may is = let goes = added name founded s n by clock v rows.value a w c i (may.0, may.1) is in record { allowed = goes.allowed; hands = goes.hands; stands = goes.stands }
+
 pub expired : (name : List ℕ) (founded : Bool) (s : HistoryState) (n by clock : ℕ) (v : LeafTable) (horizon : ℤ) (a : Answer) (w : LeafTable) → HasSoundCounts s → IsTableOf name s n v → (0 < by) × IsTime horizon → RemovesFrom v (write.Expire horizon) a w → Goes name founded s n by clock (turn.Expire horizon) a w
 expired name founded s n by clock v horizon (answer.Removed k) w c i caller is = let live : s.live ≡ true = sym i.live ∙ is.0 in record { allowed = (caller.0, (live, is.1 ∙ ap (λ x. removed_count x (write.Expire horizon)) (i.contents live))); hands = (tt, tt); stands = writes_on name s n v w (write.Expire horizon) c i live is.2 is.3 is.4 }
 expired name founded s n by clock v horizon answer.NoMemory w c i caller is = record { allowed = (caller.0, sym i.live ∙ is.0); hands = (tt, tt); stands = subst (λ x. IsTableOf name s (n + 1) x) (sym is.1) (stays name s n v i) }

@@ -34,6 +34,7 @@ keeps_on founded s (x ∷ xs) ys l o = keeps_on founded (after_entry founded s (
 -- what the steward may do stays allowed while callers take their turns
 may_still : (founded : Bool) (s now : HistoryState) (by : ℕ) (t : Turn) → CallersKeep s now → MayNow founded s by t → MayNow founded now by t
 may_still founded s now by (turn.Add rows) k may = may
+may_still founded s now by (turn.AddCopy rows copy) k may = may
 may_still founded s now by (turn.Expire horizon) k may = may
 may_still founded s now by (turn.Keep n) k may = may
 may_still founded s now by (turn.Ask query copy) k may = may
@@ -91,6 +92,7 @@ steward_may name base v t id share may between o l = may_still (is_founded base)
 pub may_call : (name : List ℕ) (base : Option TableBase) (v : SeatView) (t : Turn) → 0 < v.share → MayNow (is_founded base) (state_after base v.seen) v.id t
     → (between : Turns) → Others v between → LegalTurns name base (v.seen ++ between) → MayNow (is_founded base) (state_after base (v.seen ++ between)) v.id t
 may_call name base v (turn.Add rows) share may between o l = may
+may_call name base v (turn.AddCopy rows copy) share may between o l = may
 may_call name base v (turn.Expire horizon) share may between o l = may
 may_call name base v (turn.Keep n) share may between o l = may
 may_call name base v (turn.Ask query copy) share may between o l = may

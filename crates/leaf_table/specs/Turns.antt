@@ -3,6 +3,7 @@ use Rattle.std.specs.Prelude.{◌≡◌, ◌⊎◌, ℕ, ◌+◌, ◌<◌, ◌�
 use Rattle.std.specs.List.{AllByRecursion}
 use Rattle.turnstile.specs.declared.object.Entry as turnstile
 use Rattle.turnstile.specs.Seats.{Site}
+use Rattle.leaf_model.specs.declared.rows.Row.{Row}
 use Rattle.leaf_model.specs.declared.queries.Query.{Query}
 use Rattle.leaf_model.specs.declared.writes.Write.{Write}
 use Rattle.leaf_model.specs.Values.{IsRow, IsTime}
@@ -45,6 +46,7 @@ start_of None = no_base
 -- the call that a turn makes
 abbrev pub call_of : Turn → Call
 call_of (turn.Add rows) = call.Add rows
+call_of (turn.AddCopy rows copy) = call.Add rows.value
 call_of (turn.Expire horizon) = call.Expire horizon
 call_of (turn.Keep n) = call.Keep n
 call_of (turn.Ask query copy) = call.Ask query.value
@@ -54,10 +56,16 @@ call_of turn.Shut = call.Shut
 call_of turn.Done = call.Done
 call_of (turn.Open n table) = call.Open n table.contents
 
+-- the turn adds these rows, with a copy of them or none
+abbrev pub IsAddOf : List Row → Turn → Type 0
+IsAddOf rows (turn.AddCopy of copy) = (of.value ≡ rows) × ((copy ≡ None) ⊎ (copy ≡ Some rows))
+IsAddOf rows _ = ⊥
+
 -- the turn asks this query, with a copy of it or none
 abbrev pub IsAsk : Query → Turn → Type 0
 IsAsk q (turn.Ask query copy) = (query.value ≡ q) × ((copy ≡ None) ⊎ (copy ≡ Some q))
 IsAsk q (turn.Add rows) = ⊥
+IsAsk q (turn.AddCopy rows copy) = ⊥
 IsAsk q (turn.Expire horizon) = ⊥
 IsAsk q (turn.Keep n) = ⊥
 IsAsk q turn.Take = ⊥
@@ -147,6 +155,7 @@ pub record MayHandIn (founded : Bool) (s : HistoryState) (n : ℕ) (table : Tabl
 -- who may take which turn in this state: the steward shuts what is open and opens what is shut
 abbrev pub MayNow : Bool → HistoryState → ℕ → Turn → Type 0
 MayNow founded s by (turn.Add rows) = (0 < by) × AllByRecursion IsRow rows
+MayNow founded s by (turn.AddCopy rows copy) = (0 < by) × AllByRecursion IsRow rows.value × ((copy ≡ None) ⊎ (copy ≡ Some rows.value))
 MayNow founded s by (turn.Expire horizon) = (0 < by) × IsTime horizon
 MayNow founded s by (turn.Keep n) = 0 < by
 MayNow founded s by (turn.Ask query copy) = (0 < by) × ((copy ≡ None) ⊎ (copy ≡ Some query.value))

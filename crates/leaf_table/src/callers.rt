@@ -4,7 +4,7 @@ ghost use Rattle.std.specs.List.{AllByRecursion};
 ghost use Rattle.turnstile.specs.Seats.{IsSeatOf};
 ghost use Rattle.leaf_model.specs.Values.{IsRow, IsTime};
 ghost use Rattle.leaf_history.specs.Calls as call;
-ghost use Rattle.leaf_table.specs.Turns.{IsAsk};
+ghost use Rattle.leaf_table.specs.Turns.{IsAddOf, IsAsk};
 ghost use Rattle.leaf_table.specs.Calls.{base_seen, IsCaller, SameSeat, Answered};
 
 use crate::replies::{Reply, numbered};
@@ -40,6 +40,29 @@ impl SharedTable {
             return Reply::Worn;
         }
         let answer = self.turn::<Brand, R, G>(rt, seat, Turn::Add(rows), gate);
+        numbered(seat.seen(), answer)
+    }
+
+    /// Adds a copy of these rows to the table, where it is open. Rows that cannot be copied take their turn all the same, and are refused memory.
+    pub fn add_copy<R: Wait + Threads + Sync, G: Gate>(
+        &self,
+        rt: &R,
+        seat: &mut Seat,
+        rows: &Rows,
+        gate: &G,
+    ) -> Reply
+        requires seat { IsSeatOf seat.old self.now.site }
+        requires caller { IsCaller seat.old }
+        requires rows { AllByRecursion IsRow rows.now }
+        ensures seat { IsSeatOf seat.new self.now.site }
+        ensures same { SameSeat seat.old seat.new }
+        ensures made { Answered (base_seen self.now) seat.old (call.Add rows.now) result seat.new }
+    {
+        if seat.seen() >= WORN {
+            return Reply::Worn;
+        }
+        let adding = add_turn(rows);
+        let answer = self.turn::<Brand, R, G>(rt, seat, adding, gate);
         numbered(seat.seen(), answer)
     }
 
@@ -106,6 +129,20 @@ impl SharedTable {
         let asking = ask_turn(query);
         let answer = self.turn::<Brand, R, G>(rt, seat, asking, gate);
         numbered(seat.seen(), answer)
+    }
+}
+
+// The turn that adds a copy of rows.
+fn add_turn(rows: &Rows) -> Turn
+    ensures { IsAddOf rows.now result }
+{
+    let copy = match rows.copy() {
+        Ok(copy) => Some(copy),
+        Err(_) => None,
+    };
+    Turn::AddCopy {
+        rows: Snapshot::of(rows),
+        copy,
     }
 }
 

@@ -8,6 +8,11 @@ use table_state::TableState;
 #[derive(Drop)]
 pub enum Turn {
     Add(Rows),
+    /// `copy` is missing where it was refused memory.
+    AddCopy {
+        rows: Snapshot<Rows>,
+        copy: Option<Rows>,
+    },
     Expire(i64),
     Keep(u64),
     /// `copy` is missing where it was refused memory.

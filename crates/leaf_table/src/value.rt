@@ -1,5 +1,5 @@
 // The value behind the turnstile.
-ghost use Rattle.std.specs.Prelude.{◌≡◌, true, false};
+ghost use Rattle.std.specs.Prelude.{◌≡◌, ◌⊎◌, true, false, Some, None};
 ghost use Rattle.std.specs.List.{AllByRecursion};
 ghost use Rattle.leaf_model.specs.Values.{IsRow, IsTime};
 ghost use Rattle.leaf_model.specs.declared.writes.Write.TheVariants as write;
@@ -14,6 +14,7 @@ use leaf_model::{Query, Rows, Text};
 use std::alloc::Global;
 use std::marker::Brand;
 use std::mem::replace;
+use std::snapshot::Snapshot;
 use std::sync::ledger::Blank;
 use std::thread::Threads;
 use table_state::{AddFault, TableState};
@@ -44,6 +45,20 @@ impl LeafTable {
             },
             Err(AddFault::Full) => Answer::Full,
             Err(AddFault::NoMemory) => Answer::NoMemory,
+        }
+    }
+
+    // Adds a copy of rows, where there is one.
+    fn add_copy(&mut self, rows: Snapshot<Rows>, copy: Option<Rows>) -> Answer
+        requires may { self.old.live ≡ true → MayWrite self.old.name self.old.table }
+        requires rows { AllByRecursion IsRow rows.value }
+        requires copy { (copy ≡ None) ⊎ (copy ≡ Some rows.value) }
+        ensures { AddsTo self.old rows.value result self.new }
+    {
+        match copy {
+            Some(copy) => self.add(copy),
+            None if self.live => Answer::NoMemory,
+            None => Answer::Shut,
         }
     }
 
@@ -136,6 +151,7 @@ impl Object for LeafTable {
     fn step<R: Threads + Sync>(&mut self, rt: &R, call: Turn, _number: u64) -> Answer {
         match call {
             Turn::Add(rows) => self.add(rows),
+            Turn::AddCopy { rows, copy } => self.add_copy(rows, copy),
             Turn::Expire(horizon) => self.expire(horizon),
             Turn::Keep(n) => self.keep(n),
             Turn::Ask { query: _, copy } => self.ask(rt, copy),

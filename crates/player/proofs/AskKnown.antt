@@ -16,8 +16,7 @@ use Rattle.aggregator.specs.declared.lists.Named.{Named}
 use Rattle.aggregator.specs.Sorts.{by_leaf, named_of}
 use Rattle.aggregator.specs.Partial as fan
 use Rattle.aggregator.specs.Partial.{rows_of_all}
-use Rattle.transcript.specs.Histories.{Ground}
-use Rattle.transcript.specs.Answers.{rows_before}
+use Rattle.transcript.specs.Histories.{Ground, rows_before}
 use Rattle.leaf_moves.specs.Holds.{Hold, caller_in, ground_at, grounds_in, histories_of, seen_by, seen_in, steward_in}
 use Rattle.player.proofs.AskLines.{number_named, numbered, named_numbered}
 use Rattle.player.proofs.AskSteps.{paired, paired_of}

@@ -14,10 +14,15 @@ use Rattle.player.proofs.AskSteps.{asked_counts}
 use Rattle.player.proofs.Columns.{lists_count, lists_set, row_is}
 
 -- the row that stands there, set again
-row_again : {A : Type 0} (rows : List (List A)) (t : ℕ) → slice_set rows t (row rows t) ≡ rows
+pub row_again : {A : Type 0} (rows : List (List A)) (t : ℕ) → slice_set rows t (row rows t) ≡ rows
 row_again [] t = refl
 row_again (r ∷ rows) zero = refl
 row_again (r ∷ rows) (suc t) = ap (λ rs. r ∷ rs) (row_again rows t)
+
+-- a row was lent, and came back with as many seats
+pub row_put : (rows : List (Vec SeatView Global)) (table : ℕ) (v : Vec SeatView Global) (after : List SeatView) → table < length rows → v ≡ slice_index_or rows table v → length after ≡ length v.items
+    → lists_in (slice_set rows table (with_items v after)) ≡ slice_set (lists_in rows) table after
+row_put rows table v after low read count = lists_set rows table v low read (with_items v after) after (take_at after (drop (length after) v.items) v.len (omega (arith, v.ok.0, count)))
 
 module _ {E : Type 0} (q : Query) (tables : List (List Shared)) (table : ℕ) (rows : List (Vec SeatView Global)) (v : Vec SeatView Global) (seats after : List SeatView) (result : Result Fanned E)
     (low : table < length rows) (read : v ≡ slice_index_or rows table v) (same : seats ≡ v.items)
@@ -29,8 +34,7 @@ module _ {E : Type 0} (q : Query) (tables : List (List Shared)) (table : ℕ) (r
   is_row = same ∙ row_is rows table v low read
 
   rows_then : lists_in (slice_set rows table (with_items v after)) ≡ slice_set (lists_in rows) table after
-  rows_then = lists_set rows table v low read (with_items v after) after
-      (take_at after (drop (length after) v.items) v.len (omega (arith, v.ok.0, count, ap (λ (xs : List SeatView). length xs) same)))
+  rows_then = row_put rows table v after low read (count ∙ ap (λ (xs : List SeatView). length xs) same)
 
   pub row_then : row (lists_in (slice_set rows table (with_items v after))) table ≡ after
   row_then = ap (λ (rs : List (List SeatView)). row rs table) rows_then ∙ get_or-set_same (lists_in rows) table after [] (omega (arith, low, lists_count rows))

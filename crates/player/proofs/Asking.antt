@@ -39,7 +39,8 @@ use Rattle.printed_lines.specs.declared.line.Deed.{Deed}
 use Rattle.transcript.specs.Pieces.{Piece, Says, lines_in, place_among}
 use Rattle.transcript.specs.Shapes.{named, named_in}
 use Rattle.transcript.specs.Counts.{deeds_in}
-use Rattle.transcript.specs.Answers.{AnswerIs, partial, rows_before}
+use Rattle.transcript.specs.Histories.{rows_before}
+use Rattle.transcript.specs.Answers.{AnswerIs, partial}
 use Rattle.leaf_moves.specs.Holds.{GoOn, Hold, caller_in, grounds_in, histories_of}
 use Rattle.leaf_moves.specs.Stage.{Leaf}
 use Rattle.leaf_moves.specs.Plays as going
@@ -55,10 +56,11 @@ use Rattle.player.proofs.AskKnown.{grounds_at, histories_at, named_count, number
 use Rattle.player.proofs.AskLines.{asked_are, number_named, reply_lines}
 use Rattle.player.proofs.AskSteps.{AreAsked, AreAt, AskedAt, ask_calm, ask_fit, ask_lines, ask_named, ask_pieces, ask_prints, ask_silent, asked_at, asked_counts, asked_holds, asks_go, paired_of}
 use Rattle.player.proofs.Calling.{called_on}
-use Rattle.player.proofs.Chains.{all_more, counted_calm, deeds_more, goes_more, lines_more, passes_if_none}
+use Rattle.player.proofs.Chains.{all_more, deeds_more, goes_more, lines_more}
 use Rattle.player.proofs.Columns.{column_get, column_set, element_at, lengths_set, rows_kept}
-use Rattle.player.proofs.HoldLists.{holds_at, holds_back, holds_count, seat_held}
-use Rattle.player.proofs.MemberSteps.{seats_still, tables_at, with_parts}
+use Rattle.player.proofs.HoldLists.{holds_at, seat_held}
+use Rattle.player.proofs.MemberSteps.{tables_at, with_parts}
+use Rattle.player.proofs.SameLeaves.{goes_calm}
 
 -- ---- the seats of one row
 
@@ -69,10 +71,10 @@ module _ {B : Type 0} (x : Members B) (table : ℕ) (are : AreMembers x) (within
   abbrev count : ℕ
   count = leaf_count (fleet_in x)
 
-  low : table < length rows
+  pub low : table < length rows
   low = omega (arith, within, are.rows.count)
 
-  size : length (row rows table) ≡ count
+  pub size : length (row rows table) ≡ count
   size = by x.leaves.items are.leaves (seat_held x.tables.now x.leaves.items rows 0 table has) (are.rows.each table within)
     where
       by : (leaves : List (Option (OneLeaf B))) → length leaves ≡ count → (0 < length leaves → HasSeat 0 table rows) → (row rows table ≡ []) ⊎ (length (row rows table) ≡ count) → length (row rows table) ≡ count
@@ -206,22 +208,6 @@ module _ {B : Type 0} (x : Members B) (table : ℕ) (are : AreMembers x) (within
         (ap (column i) set ∙ column_set i rows table seats (Some w) at)) in
         subst (Goes meaning xs (ask_pieces 0 table q rs)) are_now (asks_go q fleet table meaning [] xs 0 (row rows table) rs seats refl at asked)
 
-    -- the leaves are as they were
-    held_same : (leaf : ℕ) (a b : Hold B) → slice_get xs leaf ≡ Some a → slice_get ys leaf ≡ Some b → a.held ≡ b.held
-    held_same leaf a b was is =
-        let one = holds_back 0 leaf leaf fleet x.leaves.items a rows (omega arith) was in
-        let two = holds_back 0 leaf leaf fleet x.leaves.items b rows' (omega arith) is in
-        ap (λ (h : Hold B). h.held) one.2 ∙ (ap (λ (z : Option (OneLeaf B)). held_of z) (same_at x.leaves.items leaf one.0 two.0 one.1 two.1) ∙ ap (λ (h : Hold B). h.held) (sym two.2))
-
-    seats_same : (leaf : ℕ) (a b : Hold B) → slice_get xs leaf ≡ Some a → slice_get ys leaf ≡ Some b → (t : ℕ) → is_some (caller_in b.callers t) ≡ is_some (caller_in a.callers t)
-    seats_same leaf a b was is t =
-        let one = holds_back 0 leaf leaf fleet x.leaves.items a rows (omega arith) was in
-        let two = holds_back 0 leaf leaf fleet x.leaves.items b rows' (omega arith) is in
-        ap (λ (h : Hold B). is_some (caller_in h.callers t)) two.2 ∙ (seats_still leaf rows rows' lengths_then t ∙ ap (λ (h : Hold B). is_some (caller_in h.callers t)) (sym one.2))
-
-    counts_same : length ys ≡ length xs
-    counts_same = holds_count 0 fleet x.leaves.items rows' ∙ sym (holds_count 0 fleet x.leaves.items rows)
-
     -- ---- the answer
 
     abbrev seen : ℕ → List Entry
@@ -319,25 +305,12 @@ module _ {B : Type 0} (x : Members B) (table : ℕ) (are : AreMembers x) (within
             (subst (λ (t : ℕ). AreAsked t q (range_with_len 0 (length rs)) (ask_pieces 0 table q rs)) is (ask_prints 0 table q rs));
         are = refl;
       };
-      goes = record {
-        goes = goes_more meaning xs ys ys (ask_pieces 0 table q rs) (Says answer ∷ []) (goes_asks meaning)
-            (going.say ys (Says answer ∷ []) ys answer [] (going.none ys [] ys refl refl) refl);
-        counted = record {
-          count = counts_same;
-          each = λ leaf a b was here.
-              subst (λ (z : Option (Leaf × B)). CountedIf meaning leaf pieces a.held z) (held_same leaf a b was here) (counted_calm meaning leaf pieces a.held (λ test. calm test leaf));
-        };
-        time = record {
-          count = counts_same;
-          each = λ leaf a b was here. subst (λ (z : Option (Leaf × B)). PassesIf meaning a.held z) (held_same leaf a b was here) (passes_if_none meaning a.held);
-        };
-        still = record {
-          count = counts_same;
-          each = λ leaf a b was here. (ap (λ (z : Option (Leaf × B)). is_some z) (sym (held_same leaf a b was here)), seats_same leaf a b was here);
-        };
-        fit = subst (AllByRecursion (IsOf x.names)) (sym lines_are) (all_more (IsOf x.names) (reply_lines 0 table rs) (answer ∷ []) (ask_fit x.names 0 table q rs within) (tt, tt));
-        lines_are = IfOk-weaker result _ (λ lines. lines.items ≡ lines_in pieces) (λ lines h. h.3 ∙ told_lines h.0 h.1 h.2) told;
-      };
+      goes = goes_calm x now lengths_then meaning result pieces
+          (goes_more meaning xs ys ys (ask_pieces 0 table q rs) (Says answer ∷ []) (goes_asks meaning)
+          (going.say ys (Says answer ∷ []) ys answer [] (going.none ys [] ys refl refl) refl))
+          calm
+          (subst (AllByRecursion (IsOf x.names)) (sym lines_are) (all_more (IsOf x.names) (reply_lines 0 table rs) (answer ∷ []) (ask_fit x.names 0 table q rs within) (tt, tt)))
+          (IfOk-weaker result _ (λ lines. lines.items ≡ lines_in pieces) (λ lines h. h.3 ∙ told_lines h.0 h.1 h.2) told);
       answers = λ histories go.
           let R : List Row = partial (λ leaf. grounds_in ys leaf table) (λ leaf. histories leaf table) (named pieces) in
           let same : R ≡ over = ap (partial (λ leaf. grounds_in ys leaf table) (λ leaf. histories leaf table)) named_are ∙ rows_same histories go in
@@ -348,7 +321,7 @@ module _ {B : Type 0} (x : Members B) (table : ℕ) (are : AreMembers x) (within
 -- ---- one row was asked, or none
 
 -- nothing has become of the rows
-same_rows : {B : Type 0} (x : Members B) (now : Vec (Vec SeatView Global) Global) → AreMembers x → lists_in now.items ≡ lists_in x.rows.items → AreMembers (with_parts x x.leaves now)
+pub same_rows : {B : Type 0} (x : Members B) (now : Vec (Vec SeatView Global) Global) → AreMembers x → lists_in now.items ≡ lists_in x.rows.items → AreMembers (with_parts x x.leaves now)
 same_rows x now are same = record {
   named = are.named;
   few = are.few;

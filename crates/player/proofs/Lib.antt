@@ -15,8 +15,13 @@ pub mod Starting
 pub mod AskLines
 pub mod AskSteps
 pub mod AskRows
+pub mod SameLeaves
 pub mod AskKnown
 pub mod Asking
+pub mod TailCalls
+pub mod TailTries
+pub mod SendRows
+pub mod Tailing
 pub mod Playing
 pub mod Begun
 pub mod Ending

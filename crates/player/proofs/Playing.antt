@@ -3,6 +3,7 @@ use Rattle.std.proofs.Common.{◌≡◌, ◌⊎◌, inl, inr, ⊎_elim, ℕ, ℤ
 use Rattle.std.specs.Prelude.{IfOk, IsErr}
 use Rattle.std.specs.List.{AllByRecursion}
 use Rattle.std.proofs.lemmas.Result.{IfOk-from_err, IfOk-weaker}
+use Rattle.leaf_model.specs.declared.rows.Row.{Row}
 use Rattle.leaf_model.specs.declared.queries.Query.{Query}
 use Rattle.berth_face.specs.Berth.{Meaning}
 use Rattle.rollover_watch.specs.Watches.{Held}
@@ -17,7 +18,7 @@ use Rattle.player.specs.declared.call.Request.TheVariants as request
 use Rattle.player.specs.declared.members.Members.{Members}
 use Rattle.player.specs.Crew.{PlaysWith, StillHas}
 use Rattle.player.specs.Members.{fleet_in, holds_in}
-use Rattle.player.specs.Commands.{AsksAll, CallsAt}
+use Rattle.player.specs.Commands.{AsksAll, CallsAt, TailsAll}
 use Rattle.player.proofs.Chains.{still_none}
 
 module _ {B E : Type 0} (meaning : B → Meaning) (x y : Members B) (watches : List Held) (result : Result (Vec Line Global) E) where
@@ -51,6 +52,26 @@ module _ {B E : Type 0} (meaning : B → Meaning) (x y : Members B) (watches : L
       → PlaysWith meaning (fleet_in x) c (holds_in x) watches result (holds_in y) watches ⊎ (IsErr result × (holds_in y ≡ holds_in x) × (watches ≡ watches))
   query_or_none q c is asks =
       ⊎_elim (λ h. inl (subst (λ (d : Command). PlaysWith meaning (fleet_in x) d (holds_in x) watches result (holds_in y) watches) (sym is) (query_plays q h))) (λ h. inr (h.0, h.1, refl)) asks
+
+  tail_plays : (key table : ℕ) (rows : List Row) → TailsAll meaning key table rows x result y → PlaysWith meaning (fleet_in x) (command.Tail key table rows) (holds_in x) watches result (holds_in y) watches
+  tail_plays key table rows tails = record {
+    pieces = tails.pieces;
+    plays = record { goes = tails.goes.goes; prints = tt; answers = tails.answers };
+    counted = tails.goes.counted;
+    fit = tails.goes.fit;
+    heard = refl;
+    lines_are = tails.goes.lines_are;
+  }
+
+  pub tail_or_none : (key table : ℕ) (rows : List Row) (c : Command) → c ≡ command.Tail key table rows → TailsAll meaning key table rows x result y ⊎ (IsErr result × (holds_in y ≡ holds_in x))
+      → PlaysWith meaning (fleet_in x) c (holds_in x) watches result (holds_in y) watches ⊎ (IsErr result × (holds_in y ≡ holds_in x) × (watches ≡ watches))
+  tail_or_none key table rows c is tails =
+      ⊎_elim (λ h. inl (subst (λ (d : Command). PlaysWith meaning (fleet_in x) d (holds_in x) watches result (holds_in y) watches) (sym is) (tail_plays key table rows h))) (λ h. inr (h.0, h.1, refl)) tails
+
+-- a tail leaves what is held
+pub tail_still : {B E : Type 0} (meaning : B → Meaning) (key table : ℕ) (rows : List Row) (x y : Members B) (result : Result (Vec Line Global) E)
+    → TailsAll meaning key table rows x result y ⊎ (IsErr result × (holds_in y ≡ holds_in x)) → StillHas (holds_in x) (holds_in y)
+tail_still meaning key table rows x y result tails = ⊎_elim (λ h. h.goes.still) (λ h. subst (StillHas (holds_in x)) (sym h.1) (still_none meaning (holds_in x))) tails
 
 -- a query leaves what is held
 pub query_still : {B E : Type 0} (meaning : B → Meaning) (q : Query) (x y : Members B) (result : Result (Vec Line Global) E) → AsksAll meaning q x result y ⊎ (IsErr result × (holds_in y ≡ holds_in x))

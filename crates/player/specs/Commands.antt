@@ -1,9 +1,10 @@
 -- What each command does to the leaves that a crew holds.
 use Rattle.std.specs.Prelude.{◌≡◌, ◌⊎◌, ◌==◌, ℕ, zero, suc, ◌<◌, List, [], ◌∷◌, ◌++◌, length, slice_set, false, Option, Some, None, Result, Vec, IfOk, IsErr, if◌then◌else◌, ⊤}
 use Rattle.std.specs.Global.{Global}
-use Rattle.std.specs.List.{AllByRecursion, range_with_len}
+use Rattle.std.specs.List.{AllByRecursion, flat_map, range_with_len}
 use Rattle.berth_face.specs.Berth.{Meaning}
 use Rattle.leaf_model.specs.Values.{IsRow, IsTime}
+use Rattle.leaf_model.specs.declared.rows.Row.{Row}
 use Rattle.leaf_model.specs.declared.queries.Query.{Query}
 use Rattle.answer_text.specs.Answer.{answer_lines}
 use Rattle.leaf_history.specs.Calls.{Call}
@@ -16,6 +17,12 @@ use Rattle.leaf_steward.specs.declared.notes.Note.{Note}
 use Rattle.aggregator.specs.declared.lists.Named.{Named}
 use Rattle.aggregator.specs.declared.fanned.Fanned.{Fanned}
 use Rattle.aggregator.specs.Asks.{AllAsked}
+use Rattle.aggregator.specs.Partial as one
+use Rattle.aggregator.specs.Partial.{bases_in}
+use Rattle.leaf_table.specs.declared.replies.Reply.{Reply}
+use Rattle.tail_picks.specs.Tails.{TryOf, Tails, pick_of, words_of}
+use Rattle.tailer.specs.declared.tries.Tailed.{Tailed}
+use Rattle.tailer.specs.Calls.{CallsOn, IsOverRows, calls_in, free_of, is_added, sent_to, tries_seen}
 use Rattle.script_text.specs.declared.command.Command.TheVariants as command
 use Rattle.printed_lines.specs.declared.line.Said.TheVariants as said
 use Rattle.printed_lines.specs.declared.line.Ending.{Ending}
@@ -38,7 +45,7 @@ use Rattle.printed_lines.specs.declared.line.Deed.TheVariants as deed
 use Rattle.player.specs.declared.call.Request.{Request}
 use Rattle.player.specs.declared.call.Request.TheVariants as request
 use Rattle.player.specs.declared.members.Members.{Members}
-use Rattle.player.specs.Lines.{AreEnded}
+use Rattle.player.specs.Lines.{AreEnded, reply_line}
 use Rattle.player.specs.Members.{GoesWith, fleet_in, holds_in}
 use Rattle.leaf_deeds.specs.Moves.{FaultRose}
 
@@ -133,3 +140,36 @@ pub record AsksAll {B E : Type 0} (meaning : B → Meaning) (q : Query) (x : Mem
   pub prints : QueryPieces (fleet_in x) q pieces
   pub goes : GoesWith meaning x.names (holds_in x) result pieces (holds_in y)
   pub answers : (histories : ℕ → ℕ → List Entry) → GoOn (holds_in y) histories → Answers (fleet_in x) (grounds_in (holds_in y)) histories (record { command = command.Query q; pieces = pieces })
+
+-- ---- tails
+
+-- the line of a call that was made at a leaf
+abbrev pub also_line : Option ℕ → ℕ → Option Reply → List Line
+also_line (Some leaf) table (Some reply) = reply_line leaf table reply ∷ []
+also_line leaf table reply = []
+
+-- those of a try
+abbrev pub try_lines : ℕ → TryOf Reply → List Line
+try_lines table t = reply_line t.first table t.one ∷ (also_line (Some t.second) table t.two ++ also_line (pick_of free_of is_added t) table t.added)
+
+-- all that a tail prints
+abbrev pub tail_lines : ℕ → Tailed → List Line
+tail_lines table t = flat_map (try_lines table) (tries_seen t.tries) ++ line.Tailed (sent_to t.sent) ∷ []
+
+-- what a tail of these rows did by the seats of one row, which then are these
+pub record Sends (tables : List (List Shared)) (table key : ℕ) (rows : List Row) (seats : List SeatView) (t : Tailed) (after : List SeatView) : Type 0 where
+  pub tails : Tails free_of is_added (length tables) (words_of key) (tries_seen t.tries) (sent_to t.sent)
+  pub calls : CallsOn tables table seats (calls_in rows (tries_seen t.tries)) after
+  pub over : (histories : ℕ → List Entry) → one.GoOn after histories → AllByRecursion (IsOverRows (bases_in tables table) histories) (calls_in rows (tries_seen t.tries))
+
+-- the row stands among others
+pub record SendsRow (tables : List (List Shared)) (table key : ℕ) (rows : List Row) (seats : List (List SeatView)) (t : Tailed) (seats' : List (List SeatView)) : Type 0 where
+  pub after : List SeatView
+  pub sends : Sends tables table key rows (row seats table) t after
+  pub now : seats' ≡ slice_set seats table after
+
+-- a tail of these rows, whose picks are by what the leaves held then, however their histories go on
+pub record TailsAll {B E : Type 0} (meaning : B → Meaning) (key table : ℕ) (rows : List Row) (x : Members B) (result : Result (Vec Line Global) E) (y : Members B) : Type 0 where
+  pub pieces : List Piece
+  pub goes : GoesWith meaning x.names (holds_in x) result pieces (holds_in y)
+  pub answers : (histories : ℕ → ℕ → List Entry) → GoOn (holds_in y) histories → Answers (fleet_in x) (grounds_in (holds_in y)) histories (record { command = command.Tail key table rows; pieces = pieces })

@@ -66,6 +66,7 @@ impl<'t, B: Berth> Members<'t, B> {
                 Request::Keep(n),
             ),
             Command::Query(query) => self.ask(rt, alloc, gate, &query),
+            Command::Tail { key, table, rows } => self.tail(rt, alloc, gate, key, table, &rows),
             Command::Rollover(percent) => self.rollover(rt, alloc, gate, watches, percent),
         }
     }

@@ -18,6 +18,7 @@ mod restarts;
 mod rolled;
 mod rollover;
 mod slots;
+mod tail;
 mod take_back;
 
 pub use crew::Crew;

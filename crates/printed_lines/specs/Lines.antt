@@ -1,5 +1,5 @@
 -- The text of each printed line.
-use Rattle.std.specs.Prelude.{ℕ, zero, suc, ◌<◌, Bool, true, false, List, [], ◌∷◌, ◌++◌, length, ⊤, decimal, codes}
+use Rattle.std.specs.Prelude.{ℕ, zero, suc, ◌<◌, Bool, true, false, List, [], ◌∷◌, ◌++◌, length, ⊤, decimal, codes, Option, Some, None}
 use Rattle.std.specs.List.{flat_map}
 use Rattle.leaf_opening.specs.declared.ways.Way.{Way}
 use Rattle.leaf_opening.specs.declared.ways.Way.TheVariants.{Memory, Disk}
@@ -12,7 +12,7 @@ use Rattle.printed_lines.specs.declared.line.Ending.{Ending}
 use Rattle.printed_lines.specs.declared.line.Ending.TheVariants.{Done, Stopped, NotUp, NotDown, Started, FaultRegion, FaultRoom, FaultDisk, FaultDamaged, FaultMemory, FaultStranger, FaultWorn}
 use Rattle.printed_lines.specs.declared.line.Ending.TheVariants as ends
 use Rattle.printed_lines.specs.declared.line.Line.{Line}
-use Rattle.printed_lines.specs.declared.line.Line.TheVariants.{Entry, Worn, Answer, Ended, Lane, Wave, Rolled, Watch}
+use Rattle.printed_lines.specs.declared.line.Line.TheVariants.{Entry, Worn, Answer, Tailed, Ended, Lane, Wave, Rolled, Watch}
 
 -- what an entry's line says
 abbrev pub said_text : Said → List ℕ
@@ -85,6 +85,11 @@ answer_head named leaves count =
 abbrev pub answer_text : ℕ → ℕ → List (List ℕ) → List ℕ
 answer_text named leaves rows = answer_head named leaves (length rows) ++ flat_map row_line rows
 
+-- the line of a tail, whose rows were added to this leaf, or to none
+abbrev pub tailed_text : Option ℕ → List ℕ
+tailed_text (Some leaf) = codes "tail sent " ++ (decimal leaf ++ 10 ∷ [])
+tailed_text None = codes "tail refused" ++ 10 ∷ []
+
 -- the line of a command of a leaf's steward
 abbrev pub ended_text : List (List ℕ) → Deed → ℕ → Ending → List ℕ
 ended_text names deed leaf ending = deed_text deed ++ (32 ∷ (decimal leaf ++ (32 ∷ (ending_text names ending ++ 10 ∷ []))))
@@ -118,6 +123,7 @@ abbrev pub line_text : List (List ℕ) → Line → List ℕ
 line_text names (Entry leaf table number said) = entry_text leaf (name_at names table) number said
 line_text names (Worn leaf table) = worn_text leaf (name_at names table)
 line_text names (Answer named leaves rows) = answer_text named leaves rows
+line_text names (Tailed leaf) = tailed_text leaf
 line_text names (Ended deed leaf ending) = ended_text names deed leaf ending
 line_text names (Lane number) = lane_text number
 line_text names (Wave number total leaves) = wave_text number total leaves
@@ -148,6 +154,7 @@ abbrev pub IsOf : List (List ℕ) → Line → Type 0
 IsOf names (Entry leaf table number said) = table < length names
 IsOf names (Worn leaf table) = table < length names
 IsOf names (Answer named leaves rows) = ⊤
+IsOf names (Tailed leaf) = ⊤
 IsOf names (Ended deed leaf ending) = EndsOf names ending
 IsOf names (Lane number) = ⊤
 IsOf names (Wave number total leaves) = ⊤

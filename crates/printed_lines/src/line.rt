@@ -80,6 +80,8 @@ pub enum Line {
         leaves: u32,
         rows: Texts,
     },
+    /// A tail's rows were added to this leaf, or to none.
+    Tailed(Option<u32>),
     Ended {
         deed: Deed,
         leaf: u32,

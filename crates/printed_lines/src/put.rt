@@ -1,7 +1,7 @@
 // Lines behind what was printed before.
 ghost use Rattle.std.specs.Prelude.{◌≡◌, ◌<◌, ◌∷◌, ◌++◌, [], codes, decimal, length, take, IfOk, OnOk, OnErr, string_bytes};
 ghost use Rattle.std.specs.List.{flat_map, AllByRecursion};
-ghost use Rattle.printed_lines.specs.Lines.{EndsOf, IsOf, row_line, worn_text, answer_head, answer_text, ended_text, lane_text, leaf_text, line_text, lines_text, rolled_text, rolled_word, watch_text, wave_text};
+ghost use Rattle.printed_lines.specs.Lines.{EndsOf, IsOf, row_line, worn_text, answer_head, answer_text, ended_text, lane_text, leaf_text, line_text, lines_text, rolled_text, rolled_word, tailed_text, watch_text, wave_text};
 
 use crate::entry::append_entry;
 use crate::line::{Deed, Ending, Line};
@@ -28,6 +28,7 @@ pub fn put_line(out: &mut Vec<u8>, names: &Names, line: &Line) -> Result<(), All
             leaves,
             rows,
         } => append_answer(out, *named, *leaves, rows.as_slice()),
+        Line::Tailed(leaf) => append_tailed(out, *leaf),
         Line::Ended { deed, leaf, ending } => append_ended(out, names, *deed, *leaf, ending),
         Line::Lane(number) => append_lane(out, *number),
         Line::Wave { number, of, leaves } => append_wave(out, *number, *of, leaves.as_slice()),
@@ -90,6 +91,24 @@ fn head_bytes(alloc: Global, named: u64, leaves: u32, count: usize) -> Result<Ve
 {
     let text = format!(in alloc; "answer named {named} of {leaves} lines {count}\n")?;
     Ok(text.into_bytes())
+}
+
+fn append_tailed(out: &mut Vec<u8>, leaf: Option<u32>) -> Result<(), AllocError>
+    ensures put { OnOk result (out.new.items ≡ out.old.items ++ tailed_text leaf) }
+    ensures unchanged { OnErr result (out.new.items ≡ out.old.items) }
+{
+    match leaf {
+        Some(leaf) => append_sent(out, leaf),
+        None => out.extend_from_slice(b"tail refused\n"),
+    }
+}
+
+fn append_sent(out: &mut Vec<u8>, leaf: u32) -> Result<(), AllocError>
+    ensures put { OnOk result (out.new.items ≡ out.old.items ++ codes "tail sent " ++ (decimal leaf ++ 10 ∷ [])) }
+    ensures unchanged { OnErr result (out.new.items ≡ out.old.items) }
+{
+    let text = format!(in *out.allocator(); "tail sent {leaf}\n")?;
+    out.extend_from_slice(text.as_bytes())
 }
 
 fn append_ended(

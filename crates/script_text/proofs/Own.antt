@@ -25,7 +25,7 @@ use Rattle.script_text.specs.declared.line_word.LineWord.{LineWord}
 use Rattle.script_text.specs.declared.line_word.LineWord.TheVariants as line_word
 use Rattle.script_text.specs.Lines.{lines_of, is_blank, is_skipped}
 use Rattle.script_text.specs.Words.{words_of, first_word, behind_word, trimmed, number_of, count_of, time_of, place_of}
-use Rattle.script_text.specs.Commands.{Fault, ◌>>=◌, on_line, or_words, fleet_of, leaf_count, leaf_in, table_in, target_in, TargetForm, target_words, of_target, within, rows_from, add_at, query_command, one_number, leaf_of, flush_words, DrainForm, drain_words, drain_of, rollover_words, first_command, command_of, row_count, line_word_of}
+use Rattle.script_text.specs.Commands.{Fault, ◌>>=◌, on_line, or_words, fleet_of, leaf_count, leaf_in, table_in, target_in, TargetForm, target_words, of_target, within, rows_from, rows_behind, add_at, TailForm, tail_of, tail_words, query_command, one_number, leaf_of, flush_words, DrainForm, drain_words, drain_of, rollover_words, first_command, command_of, row_count, line_word_of}
 use Rattle.script_text.specs.Script.{NumberedLine, begun, closed, read_from, next_line, script_at, script_of}
 use Rattle.script_text.specs.Bursts.{end_burst, inside, lane_more, next_burst, next_lane, one_more, step_of, stepped, line_at, with_item}
 use Rattle.script_text.specs.Stewards.{is_second}
@@ -90,11 +90,19 @@ own_rows n (line ∷ more) =
     let others = rows_from (n + 1) more in
     own_then (on_line n why.Row (row_of line)) (λ row. others >>= λ rows. Ok (row ∷ rows)) (own_row n (row_of line)) (λ row. own_then others (λ rows. Ok (row ∷ rows)) (own_rows (n + 1) more) (λ rows. tt))
 
+own_behind : (n : ℕ) (more : List (List ℕ)) (count : ℕ) → Own (rows_behind n more count)
+own_behind n more count = own_if (nat_lt (length more) count) (Err (n, why.Short)) (rows_from (n + 1) (take count more)) tt (own_rows (n + 1) (take count more))
+
 own_add_at : (n : ℕ) (more : List (List ℕ)) (target : Target) (count : ℕ) → Own (add_at n more target count)
-own_add_at n more target count =
-    let rows = rows_from (n + 1) (take count more) in
-    let made : List Row → Result Command Fault = λ read. Ok (command.Add target.leaf target.table read) in
-    own_if (nat_lt (length more) count) (Err (n, why.Short)) (rows >>= made) tt (own_then rows made (own_rows (n + 1) (take count more)) (λ read. tt))
+own_add_at n more target count = own_then (rows_behind n more count) (λ rows. Ok (command.Add target.leaf target.table rows)) (own_behind n more count) (λ rows. tt)
+
+-- a tail
+own_tail : (n : ℕ) (fleet : Fleet) (words : Option TailForm) (more : List (List ℕ)) → Own (tail_of n fleet words more)
+own_tail n fleet None more = tt
+own_tail n fleet (Some form) more =
+    let rows = rows_behind n more form.rows in
+    own_then (table_in n fleet form.table) (λ table. rows >>= λ read. Ok (command.Tail form.key table read)) (own_table_in n fleet form.table)
+    (λ table. own_then rows (λ read. Ok (command.Tail form.key table read)) (own_behind n more form.rows) (λ read. tt))
 
 -- the other commands
 own_query : (n : ℕ) (fleet : Fleet) (q : Result Query QueryFault) → Own (query_command n fleet q)
@@ -116,6 +124,7 @@ own_command n fleet command_word.Add words more = own_of_target n fleet (λ word
 own_command n fleet command_word.Expire words more = own_of_target n fleet time_of (λ target horizon. Ok (command.Expire target.leaf target.table horizon)) (target_words (words_of words)) (λ target horizon. tt)
 own_command n fleet command_word.Keep words more = own_of_target n fleet count_of (λ target rows. Ok (command.Keep target.leaf target.table rows)) (target_words (words_of words)) (λ target rows. tt)
 own_command n fleet command_word.Query words more = own_query n fleet (query_of (trimmed words))
+own_command n fleet command_word.Tail words more = own_tail n fleet (tail_words (words_of words)) more
 own_command n fleet command_word.Flush words more = own_of_target n fleet (λ word. Some word) (λ target last. Ok (command.Flush target.leaf target.table)) (flush_words (words_of words)) (λ target last. tt)
 own_command n fleet command_word.Drain words more = own_drain n fleet (drain_words (words_of words))
 own_command n fleet command_word.Kill words more = own_of_leaf n fleet (one_number (words_of words)) command.Kill

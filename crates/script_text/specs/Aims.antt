@@ -22,6 +22,7 @@ aim_of (command.Add leaf table rows) = AtTable table
 aim_of (command.Expire leaf table horizon) = AtTable table
 aim_of (command.Keep leaf table n) = AtTable table
 aim_of (command.Query q) = AtNamed q.table
+aim_of (command.Tail key table rows) = AtTable table
 aim_of (command.Flush leaf table) = AtLeaf leaf
 aim_of (command.Drain leaf stop) = AtLeaf leaf
 aim_of (command.Kill leaf) = AtLeaf leaf

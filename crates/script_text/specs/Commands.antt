@@ -7,7 +7,7 @@ use Rattle.row_json.specs.Row.{row_of}
 use Rattle.query_text.specs.declared.fault.QueryFault.{QueryFault}
 use Rattle.query_text.specs.Reading.{query_of}
 use Rattle.script_text.specs.declared.command.Command.{Command}
-use Rattle.script_text.specs.declared.command.Command.TheVariants.{Add, Expire, Keep, Flush, Drain, Kill, Start, Rollover}
+use Rattle.script_text.specs.declared.command.Command.TheVariants.{Add, Expire, Keep, Tail, Flush, Drain, Kill, Start, Rollover}
 use Rattle.script_text.specs.declared.command.Command.TheVariants as command
 use Rattle.script_text.specs.declared.fault.Why.{Why}
 use Rattle.script_text.specs.declared.fault.Why.TheVariants as why
@@ -46,11 +46,12 @@ command_word_of word = if bytes_eq word (codes "add") then Some command_word.Add
     else (if bytes_eq word (codes "expire") then Some command_word.Expire
     else (if bytes_eq word (codes "keep") then Some command_word.Keep
     else (if bytes_eq word (codes "query") then Some command_word.Query
+    else (if bytes_eq word (codes "tail") then Some command_word.Tail
     else (if bytes_eq word (codes "flush") then Some command_word.Flush
     else (if bytes_eq word (codes "drain") then Some command_word.Drain
     else (if bytes_eq word (codes "kill") then Some command_word.Kill
     else (if bytes_eq word (codes "start") then Some command_word.Start
-    else (if bytes_eq word (codes "rollover") then Some command_word.Rollover else None))))))))
+    else (if bytes_eq word (codes "rollover") then Some command_word.Rollover else None)))))))))
 
 -- the line whose first word a word is
 abbrev pub line_word_of : List ℕ → Option LineWord
@@ -131,6 +132,7 @@ of_target n fleet value made words = do
 -- how many rows a command takes from the lines after it
 abbrev pub row_count : Command → ℕ
 row_count (Add leaf table rows) = length rows
+row_count (Tail key table rows) = length rows
 row_count _ = 0
 
 -- the rows of lines that are numbered from n on, none of them skipped
@@ -146,9 +148,13 @@ abbrev pub within : ℕ → ℕ → Option ℕ → Option ℕ
 within least most (Some number) = if nat_le least number && nat_le number most then Some number else None
 within least most None = None
 
+-- the rows that are the next `count` lines
+abbrev pub rows_behind : ℕ → List (List ℕ) → ℕ → Result (List Row) Fault
+rows_behind n more count = if nat_lt (length more) count then Err (n, why.Short) else rows_from (n + 1) (take count more)
+
 -- an add whose rows are the next `count` lines
 abbrev pub add_at : ℕ → List (List ℕ) → Target → ℕ → Result Command Fault
-add_at n more target count = if nat_lt (length more) count then Err (n, why.Short) else (rows_from (n + 1) (take count more) >>= λ rows. Ok (Add target.leaf target.table rows))
+add_at n more target count = rows_behind n more count >>= λ rows. Ok (Add target.leaf target.table rows)
 
 -- `add L T N`, of at most 100,000 rows
 abbrev pub add_of : ℕ → Fleet → Option TargetForm → List (List ℕ) → Result Command Fault
@@ -168,6 +174,30 @@ query_command n fleet read = do
   query ← on_line n why.Query read
   _ ← table_in n fleet query.table
   Ok (command.Query query)
+
+-- the words of a tail: a key that a 64-bit word holds, a table's name, and how many rows
+pub record TailForm : Type 0 where
+  pub key : ℕ
+  pub table : List ℕ
+  pub rows : ℕ
+
+-- a tail of these, where each of them is as it has to be
+abbrev pub tail_with : Option ℕ → List ℕ → Option ℕ → Option TailForm
+tail_with (Some key) table (Some rows) = if is_table_name table then Some (record { key = key; table = table; rows = rows }) else None
+tail_with _ table _ = None
+
+-- the words `K T N`, of at most 100,000 rows
+abbrev pub tail_words : List (List ℕ) → Option TailForm
+tail_words (key ∷ table ∷ rows ∷ []) = tail_with (count_of key) table (within 0 100000 (number_of rows))
+tail_words _ = None
+
+-- `tail K T N`: a fault of the words comes first, then one of the table, then one of the rows
+abbrev pub tail_of : ℕ → Fleet → Option TailForm → List (List ℕ) → Result Command Fault
+tail_of n fleet words more = do
+  form ← or_words n words
+  table ← table_in n fleet form.table
+  rows ← rows_behind n more form.rows
+  Ok (Tail form.key table rows)
 
 -- the number that is the one word
 abbrev pub one_number : List (List ℕ) → Option ℕ
@@ -228,6 +258,7 @@ command_of n fleet command_word.Add words more = add_of n fleet (target_words (w
 command_of n fleet command_word.Expire words more = expire_of n fleet (target_words (words_of words))
 command_of n fleet command_word.Keep words more = keep_of n fleet (target_words (words_of words))
 command_of n fleet command_word.Query words more = query_command n fleet (query_of (trimmed words))
+command_of n fleet command_word.Tail words more = tail_of n fleet (tail_words (words_of words)) more
 command_of n fleet command_word.Flush words more = flush_of n fleet (flush_words (words_of words))
 command_of n fleet command_word.Drain words more = drain_of n fleet (drain_words (words_of words))
 command_of n fleet command_word.Kill words more = leaf_of n fleet (one_number (words_of words)) >>= λ leaf. Ok (Kill leaf)

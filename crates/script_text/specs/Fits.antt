@@ -1,11 +1,11 @@
 -- What a caller knows of a script that was read.
-use Rattle.std.specs.Prelude.{◌≡◌, ◌*◌, ◌<◌, ◌≤◌, ℕ, List, [], ◌∷◌, length, true, IsUtf8, IfSome}
+use Rattle.std.specs.Prelude.{◌≡◌, ◌*◌, ◌^◌, ◌<◌, ◌≤◌, ℕ, List, [], ◌∷◌, length, true, IsUtf8, IfSome}
 use Rattle.std.specs.List.{AllByRecursion, Contains, filter}
 use Rattle.leaf_model.specs.Values.{IsRow, IsTime}
 use Rattle.leaf_model.specs.Names.{AreDistinct, is_table_name}
 use Rattle.query_text.specs.Grammar.{IsQuery}
 use Rattle.script_text.specs.declared.command.Command.{Command}
-use Rattle.script_text.specs.declared.command.Command.TheVariants.{Fleet, Add, Expire, Keep, Flush, Drain, Kill, Start, Rollover}
+use Rattle.script_text.specs.declared.command.Command.TheVariants.{Fleet, Add, Expire, Keep, Tail, Flush, Drain, Kill, Start, Rollover}
 use Rattle.script_text.specs.declared.command.Command.TheVariants as command
 use Rattle.script_text.specs.declared.item.Item.{Item}
 use Rattle.script_text.specs.declared.item.Item.TheVariants.{One, Burst}
@@ -33,6 +33,7 @@ IsCommand leaves tables (Add leaf table rows) = (leaf < leaves) × (table < leng
 IsCommand leaves tables (Expire leaf table horizon) = (leaf < leaves) × (table < length tables) × IsTime horizon
 IsCommand leaves tables (Keep leaf table n) = (leaf < leaves) × (table < length tables)
 IsCommand leaves tables (command.Query query) = Contains tables query.table × IsQuery query
+IsCommand leaves tables (Tail key table rows) = (key < 2 ^ 64) × (table < length tables) × (length rows ≤ 100000) × AllByRecursion IsRow rows
 IsCommand leaves tables (Flush leaf table) = (leaf < leaves) × (table < length tables)
 IsCommand leaves tables (Drain leaf stop) = (leaf < leaves) × IfSome stop (λ n. n ≤ 1000000)
 IsCommand leaves tables (Kill leaf) = leaf < leaves

@@ -20,7 +20,7 @@ abbrev pub closed : ℕ → Script → Position → Result Script Fault
 closed last script position.Outside = Ok script
 closed last script _ = Err (last, why.Place)
 
--- What is read of the lines to the text's last one, numbered from n on, behind so many rows of the add before them and behind what was read.
+-- What is read of the lines to the text's last one, numbered from n on, behind so many rows of the command before them and behind what was read.
 abbrev pub read_from : ℕ → Fleet → ℕ → ℕ → Reading → List (List ℕ) → Result Script Fault
 read_from last fleet rows n reading [] = closed last reading.script reading.position
 read_from last fleet (suc rows) n reading (line ∷ more) = read_from last fleet rows (n + 1) reading more

@@ -1,8 +1,10 @@
 // An add, and its rows.
 ghost use Rattle.std.specs.Prelude.{◌≡◌, ◌+◌, ◌≤◌, ◌<◌, ◌^◌, IfOk, IfSome, length};
+ghost use Rattle.std.specs.List.{AllByRecursion};
+ghost use Rattle.leaf_model.specs.Values.{IsRow};
 ghost use Rattle.script_text.specs.Lines.{lines_of};
 ghost use Rattle.script_text.specs.Words.{number_of, words_of};
-ghost use Rattle.script_text.specs.Commands.{IsFleet, add_of, leaf_count, row_count, target_words, within};
+ghost use Rattle.script_text.specs.Commands.{IsFleet, add_of, leaf_count, row_count, rows_behind, target_words, within};
 ghost use Rattle.script_text.specs.Fits.{IsCommand};
 ghost use Rattle.script_text.specs.Script.{ParsesAs};
 
@@ -13,6 +15,7 @@ use crate::lines::cut_lines;
 use crate::row_parts::{MAX_ROWS, read_rows};
 use crate::target::{target_in, target_words};
 use crate::words::number_of;
+use leaf_model::Rows;
 use std::alloc::Global;
 use std::thread::Threads;
 
@@ -38,10 +41,7 @@ pub fn add<R: Threads + Sync>(
         return Err(fault_at(number, Why::Words));
     };
     let target = target_in(fleet, words.leaf, words.table, number)?;
-    let Some((lines, _)) = cut_lines(after, count) else {
-        return Err(fault_at(number, Why::Short));
-    };
-    let rows = read_rows(rt, alloc, lines, number, count)?;
+    let rows = rows_behind(rt, alloc, after, number, count)?;
     Ok(Command::Add {
         leaf: target.leaf,
         table: target.table,
@@ -49,8 +49,29 @@ pub fn add<R: Threads + Sync>(
     })
 }
 
+/// The rows that the first lines of a text are, so many, where the line before the text has this number.
+pub fn rows_behind<R: Threads + Sync>(
+    rt: &R,
+    alloc: Global,
+    after: &[u8],
+    number: u64,
+    count: u64,
+) -> Result<Rows, ScriptFault>
+    requires few { count ≤ MAX_ROWS }
+    requires place { number + length after.now < 2 ^ 64 }
+    ensures exact { ParsesAs (λ rows. rows) result (rows_behind number (lines_of after.now) count) }
+    ensures are_rows { IfOk result (AllByRecursion IsRow) }
+    ensures count { IfOk result (λ rows. length rows ≡ count) }
+    ensures enough { IfOk result (λ _. count ≤ length (lines_of after.now)) }
+{
+    let Some((lines, _)) = cut_lines(after, count) else {
+        return Err(fault_at(number, Why::Short));
+    };
+    read_rows(rt, alloc, lines, number, count)
+}
+
 /// The number of rows that a word is.
-fn row_number(word: &[u8]) -> Option<u64>
+pub fn row_number(word: &[u8]) -> Option<u64>
     ensures exact { result ≡ within 0 100000 (number_of word.now) }
     ensures few { IfSome result (λ count. count ≤ MAX_ROWS) }
 {

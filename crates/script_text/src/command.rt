@@ -32,6 +32,12 @@ pub enum Command {
         n: u64,
     },
     Query(Query),
+    /// The rows are to go to one leaf, and the key picks which leaves are tried for it.
+    Tail {
+        key: u64,
+        table: u32,
+        rows: Rows,
+    },
     Flush {
         leaf: u32,
         table: u32,
@@ -73,6 +79,7 @@ impl Command {
             Command::Expire { table, .. } => Aim::Table(*table),
             Command::Keep { table, .. } => Aim::Table(*table),
             Command::Query(query) => Aim::Named(&query.table),
+            Command::Tail { table, .. } => Aim::Table(*table),
             Command::Flush { leaf, .. } => Aim::Leaf(*leaf),
             Command::Drain { leaf, .. } => Aim::Leaf(*leaf),
             Command::Kill(leaf) => Aim::Leaf(*leaf),

@@ -29,7 +29,7 @@ pub enum Why {
     Lanes,
     /// An earlier lane of the burst has a command of the same leaf's steward.
     TwoStewards,
-    /// Fewer lines follow the add than it has rows.
+    /// Fewer lines follow the command than it has rows.
     Short,
     /// The line is to be a row, and is none.
     Row(RowFault),

@@ -17,6 +17,7 @@ use crate::keep::keep;
 use crate::line_word::CommandWord;
 use crate::query::query;
 use crate::rollover::rollover;
+use crate::tail::tail;
 use crate::target::leaf_in;
 use crate::words::{next_word, number_of, trimmed};
 use std::alloc::Global;
@@ -43,6 +44,7 @@ pub fn command<R: Threads + Sync>(
         CommandWord::Expire => expire(fleet, words, number),
         CommandWord::Keep => keep(fleet, words, number),
         CommandWord::Query => query(alloc, fleet, trimmed(words), number),
+        CommandWord::Tail => tail(rt, alloc, fleet, words, number, after),
         CommandWord::Flush => flush(fleet, words, number),
         CommandWord::Drain => drain(fleet, words, number),
         CommandWord::Kill => {

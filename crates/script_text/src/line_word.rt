@@ -10,6 +10,7 @@ pub enum CommandWord {
     Expire,
     Keep,
     Query,
+    Tail,
     Flush,
     Drain,
     Kill,
@@ -59,6 +60,8 @@ fn command_word_of(word: &[u8]) -> Option<CommandWord>
         Some(CommandWord::Keep)
     } else if is_word(word, "query") {
         Some(CommandWord::Query)
+    } else if is_word(word, "tail") {
+        Some(CommandWord::Tail)
     } else if is_word(word, "flush") {
         Some(CommandWord::Flush)
     } else if is_word(word, "drain") {

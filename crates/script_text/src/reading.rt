@@ -316,8 +316,17 @@ fn fault_inside(last: u64, fault: ScriptFault) -> ScriptFault
 fn row_count(command: &Command) -> u64
     ensures { result ≡ row_count command.now }
 {
-    let Command::Add { rows, .. } = command else {
-        return 0;
-    };
-    rows.as_slice().len() as u64
+    match command {
+        Command::Add { rows, .. } => rows.as_slice().len() as u64,
+        Command::Tail { rows, .. } => rows.as_slice().len() as u64,
+        Command::Fleet { .. }
+        | Command::Expire { .. }
+        | Command::Keep { .. }
+        | Command::Query(_)
+        | Command::Flush { .. }
+        | Command::Drain { .. }
+        | Command::Kill(_)
+        | Command::Start(_)
+        | Command::Rollover(_) => 0,
+    }
 }

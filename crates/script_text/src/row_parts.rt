@@ -1,4 +1,4 @@
-// The rows of an add, read by threads side by side.
+// The rows of an add or a tail, read by threads side by side.
 ghost use Rattle.std.specs.Prelude.{◌≡◌, ◌+◌, ◌≤◌, ◌<◌, ◌^◌, IfOk, List, ℕ, length};
 ghost use Rattle.std.specs.Borrow.{Bor};
 ghost use Rattle.std.specs.List.{AllByRecursion, AllZip};
@@ -21,7 +21,7 @@ use std::alloc::{AllocError, Global};
 use std::collections::VecDeque;
 use std::thread::Threads;
 
-/// The most rows of an add.
+/// The most rows of an add or a tail.
 pub const MAX_ROWS: u64 = 100_000;
 
 /// The rows that the lines of a text are, so many, where the line before them has this number. The first fault in the

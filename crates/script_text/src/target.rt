@@ -1,7 +1,7 @@
 // The leaf that a command names, and the table.
 ghost use Rattle.std.specs.Prelude.{◌≡◌, ◌<◌, IfOk, length, option_map};
 ghost use Rattle.script_text.specs.Words.{words_of};
-ghost use Rattle.script_text.specs.Commands.{IsFleet, TargetForm, capped_target, leaf_in, leaf_count, target_in, target_words};
+ghost use Rattle.script_text.specs.Commands.{IsFleet, TargetForm, capped_target, leaf_in, leaf_count, table_in, target_in, target_words};
 ghost use Rattle.script_text.specs.Script.{ParsesAs};
 
 use crate::fault::{ScriptFault, Why, fault_at};
@@ -64,8 +64,18 @@ pub fn target_in(fleet: &Fleet, leaf: u64, table: &[u8], number: u64) -> Result<
     ensures table { IfOk result (λ target. target.table < length fleet.now.names) }
 {
     let leaf = leaf_in(fleet, leaf, number)?;
+    let table = table_in(fleet, table, number)?;
+    Ok(Target { leaf, table })
+}
+
+/// The place of the table of this name, where the fleet has it.
+pub fn table_in(fleet: &Fleet, table: &[u8], number: u64) -> Result<u32, ScriptFault>
+    requires { IsFleet fleet.now }
+    ensures exact { ParsesAs (λ place. place) result (table_in number fleet.now table.now) }
+    ensures below { IfOk result (λ place. place < length fleet.now.names) }
+{
     match place_of(fleet.names.as_slice(), table) {
-        Some(table) => Ok(Target { leaf, table }),
+        Some(place) => Ok(place),
         None => Err(fault_at(number, Why::Table)),
     }
 }

@@ -1,11 +1,11 @@
--- What the answers say, by the histories; which seats are told as worn; and which columns tables have that are handed over.
-use Rattle.std.specs.Prelude.{◌≡◌, ℕ, ◌+◌, ◌-◌, ◌^◌, ◌≤◌, List, [], ◌∷◌, length, take, Option, Some, None, IfSome, ⊤}
+-- What the answers and tails say, by the histories; which seats are told as worn; and which columns tables have that are handed over.
+use Rattle.std.specs.Prelude.{◌≡◌, ℕ, ◌+◌, ◌^◌, ◌≤◌, List, [], ◌∷◌, length, Option, Some, None, IfSome, ⊤}
 use Rattle.std.specs.List.{flat_map, AllByRecursion}
 use Rattle.leaf_model.specs.declared.rows.Row.{Row}
 use Rattle.leaf_model.specs.declared.queries.Query.{Query}
 use Rattle.leaf_model.specs.Groups.{groups}
 use Rattle.answer_text.specs.Answer.{answer_lines}
-use Rattle.leaf_history.specs.History.{Entry, after, held}
+use Rattle.leaf_history.specs.History.{Entry}
 use Rattle.table_state.specs.Tables.{least_columns}
 use Rattle.script_text.specs.declared.command.Command.{Command}
 use Rattle.script_text.specs.declared.command.Command.TheVariants as command
@@ -13,15 +13,13 @@ use Rattle.printed_lines.specs.declared.line.Ending.{Ending}
 use Rattle.printed_lines.specs.declared.line.Ending.TheVariants as ends
 use Rattle.printed_lines.specs.declared.line.Line.TheVariants as line
 use Rattle.script_text.specs.declared.fleet.Fleet.{Fleet}
+use Rattle.script_text.specs.Commands.{leaf_count}
 use Rattle.printed_lines.specs.declared.line.Deed.{Deed}
 use Rattle.printed_lines.specs.declared.line.Deed.TheVariants.{Flush}
 use Rattle.transcript.specs.Pieces.{Piece, Worn, Acted, Says, Noted, Played, place_among}
 use Rattle.transcript.specs.Shapes.{named}
-use Rattle.transcript.specs.Histories.{Ground}
-
--- the rows of a table as they are before the entry of this number
-abbrev pub rows_before : Ground → List Entry → ℕ → List Row
-rows_before g entries number = (held (after g.founded g.base (take (number - 1) entries))).rows
+use Rattle.transcript.specs.Histories.{Ground, rows_before}
+use Rattle.transcript.specs.Tails.{TailPieces}
 
 -- the rows of the leaves that are named, one after another, each before its entry
 abbrev pub partial : (ℕ → Ground) → (ℕ → List Entry) → List (ℕ × ℕ) → List Row
@@ -31,7 +29,7 @@ abbrev pub AnswerIs : Query → List Row → Piece → Type 0
 AnswerIs q rows (Says (line.Answer count of lines)) = lines ≡ answer_lines q (groups q rows)
 AnswerIs q rows _ = ⊤
 
--- the lines of an answer are those of the groups of just the rows of the leaves that its command names
+-- The lines of an answer are those of the groups of just the rows of the leaves that its command names. Which leaves a tail asks and picks is said by the rows that they hold.
 abbrev pub Answers : Fleet → (ℕ → ℕ → Ground) → (ℕ → ℕ → List Entry) → Played → Type 0
 Answers fleet grounds histories p = by_command p.command
   where
@@ -39,6 +37,7 @@ Answers fleet grounds histories p = by_command p.command
     by_command (command.Query q) =
         let table = place_among q.table fleet.names in
         AllByRecursion (AnswerIs q (partial (λ leaf. grounds leaf table) (λ leaf. histories leaf table) (named p.pieces))) p.pieces
+    by_command (command.Tail key table rows) = TailPieces (leaf_count fleet) (λ leaf. grounds leaf table) (λ leaf. histories leaf table) key table rows p.pieces
     by_command _ = ⊤
 
 -- ---- worn seats

@@ -1,12 +1,13 @@
 -- One history for each table, by the numbers of its lines; and in which order the numbers rise.
-use Rattle.std.specs.Prelude.{◌≡◌, ℕ, suc, ◌<◌, ◌≤◌, ◌==◌, ◌&&◌, Bool, List, [], ◌∷◌, Option, Some, None, ⊤, if◌then◌else◌, IsPermutation}
+use Rattle.std.specs.Prelude.{◌≡◌, ℕ, suc, ◌-◌, ◌<◌, ◌≤◌, ◌==◌, ◌&&◌, Bool, List, [], ◌∷◌, take, Option, Some, None, ⊤, if◌then◌else◌, IsPermutation}
 use Rattle.std.specs.List.{AllByRecursion, flat_map}
+use Rattle.leaf_model.specs.declared.rows.Row.{Row}
 use Rattle.leaf_model.specs.declared.groups.Group.{Group}
 use Rattle.leaf_model.specs.Content.{Contents}
 use Rattle.leaf_history.specs.Calls.{Call}
 use Rattle.leaf_history.specs.Calls as call
 use Rattle.leaf_history.specs.Replies as reply
-use Rattle.leaf_history.specs.History.{Entry, HistoryState, LegalFrom}
+use Rattle.leaf_history.specs.History.{Entry, HistoryState, LegalFrom, after, held}
 use Rattle.printed_lines.specs.declared.line.Said.{Said}
 use Rattle.printed_lines.specs.declared.line.Said.TheVariants.{Added, Removed, Asked, RefusedShut, RefusedFull, RefusedMemory, Opened, Took, Flushed, Closed, Handed}
 use Rattle.transcript.specs.Pieces.{Piece, Called, Acted, Noted, PlayedItem, One, Burst, pieces_in}
@@ -56,6 +57,10 @@ Tells n _ _ = ⊥
 pub record Ground : Type 0 where
   pub founded : Bool
   pub base : HistoryState
+
+-- the rows of a table as they are before the entry of this number
+abbrev pub rows_before : Ground → List Entry → ℕ → List Row
+rows_before g entries number = (held (after g.founded g.base (take (number - 1) entries))).rows
 
 -- A table's lines, put in the order of their numbers, have the numbers from 1 on, once each, and show the entries of one legal history.
 pub record IsHistoryOf (g : Ground) (lines : List Shown) (entries : List Entry) : Type 0 where

@@ -3,6 +3,7 @@ pub mod Pieces
 pub mod Shapes
 pub mod Life
 pub mod Histories
+pub mod Tails
 pub mod Answers
 pub mod Counts
 pub mod Strangers

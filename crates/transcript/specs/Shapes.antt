@@ -80,13 +80,14 @@ pub record Rolls (fleet : Fleet) (percent : ℕ) (pieces : List Piece) : Type 0 
   pub is_plan : IsPlan fleet.machines fleet.per_machine percent plan
   pub roll : RollPieces plan pieces
 
--- One case a command. A new command adds a case.
+-- One case a command. A new command adds a case. What a tail prints depends on what the tables hold, and is said among the answers.
 abbrev pub Prints : Fleet → Command → List Piece → Type 0
 Prints fleet (command.Fleet machines per_machine tables) pieces = EachActs Start (range_with_len 0 (leaf_count fleet)) pieces
 Prints fleet (command.Add leaf table rows) pieces = OnePiece (CallPiece leaf table (call.Add rows)) pieces
 Prints fleet (command.Expire leaf table horizon) pieces = OnePiece (CallPiece leaf table (call.Expire horizon)) pieces
 Prints fleet (command.Keep leaf table n) pieces = OnePiece (CallPiece leaf table (call.Keep n)) pieces
 Prints fleet (command.Query q) pieces = QueryPieces fleet q pieces
+Prints fleet (command.Tail key table rows) pieces = ⊤
 Prints fleet (command.Flush leaf table) pieces = OnePiece (ActPiece leaf (Flush table)) pieces
 Prints fleet (command.Drain leaf stop) pieces = OnePiece (ActPiece leaf (Drain stop)) pieces
 Prints fleet (command.Kill leaf) pieces = OnePiece (ActPiece leaf Kill) pieces

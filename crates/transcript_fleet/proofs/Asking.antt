@@ -17,8 +17,8 @@ use Rattle.script_text.specs.declared.fleet.Fleet.{Fleet}
 use Rattle.script_text.specs.Commands.{leaf_count}
 use Rattle.transcript.specs.Pieces.{Piece, PlayedItem, Says, place_among}
 use Rattle.transcript.specs.Shapes.{CallPiece, Prints, QueryPieces, named, named_by, named_in}
-use Rattle.transcript.specs.Histories.{Ground}
-use Rattle.transcript.specs.Answers.{AnswerIs, Answers, partial, rows_before}
+use Rattle.transcript.specs.Histories.{Ground, rows_before}
+use Rattle.transcript.specs.Answers.{AnswerIs, Answers, partial}
 use Rattle.transcript.specs.Transcript.{Known, grounds_of}
 use Rattle.leaf_moves.specs.Holds.{Hold, grounds_in}
 use Rattle.transcript_leaf.proofs.Leaf.{leaf_ground}
@@ -26,6 +26,7 @@ use Rattle.transcript_leaf.proofs.Lists.{element_at}
 use Rattle.transcript_fleet.proofs.Lists.{All-append, All-weaken}
 use Rattle.transcript_fleet.proofs.Growing.{grounds_here}
 use Rattle.transcript_fleet.proofs.Going.{IsWithin, Leaves}
+use Rattle.transcript_fleet.proofs.Tailing.{tail_same}
 
 -- ---- which leaves are named
 
@@ -109,4 +110,7 @@ module _ {B : Type 0} (meaning : B → Meaning) (fleet : Fleet) (known : ℕ →
       (All-weaken (IsBelow (leaf_count fleet) table (length fleet.names)) (λ (l : ℕ × ℕ). grounds_in ys l.0 table ≡ grounds_of fleet known l.0 table)
       (λ l is. ground_is l.0 table is.0 is.1) (named pieces) (query_named fleet q pieces prints within)) in
       subst (λ (rows : List Row). AllByRecursion (AnswerIs q rows) pieces) same answers
+  answers_known (command.Tail key table rows) histories prints within answers =
+      tail_same (leaf_count fleet) table (length fleet.names) (λ leaf. grounds_in ys leaf table) (λ leaf. grounds_of fleet known leaf table) (λ leaf. histories leaf table)
+      (λ leaf below here. ground_is leaf table below here) key rows pieces within answers
   answers_known _ histories prints within answers = tt

@@ -2,6 +2,7 @@ pub mod Lists
 pub mod Items
 pub mod Growing
 pub mod Going
+pub mod Tailing
 pub mod Asking
 pub mod Playing
 pub mod Holding

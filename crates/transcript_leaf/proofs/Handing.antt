@@ -19,8 +19,8 @@ use Rattle.leaf_steward.specs.Making.{EachNoted, IsHandedNote, MadeAs, Makes}
 use Rattle.leaf_steward.proofs.WatchMakes.{makes_tables}
 use Rattle.leaf_machine.specs.States.{Shutting, columns_seen}
 use Rattle.table_state.specs.Tables.{least_columns}
-use Rattle.transcript.specs.Histories.{Ground}
-use Rattle.transcript.specs.Answers.{columns_handed, rows_before}
+use Rattle.transcript.specs.Histories.{Ground, rows_before}
+use Rattle.transcript.specs.Answers.{columns_handed}
 use Rattle.leaf_moves.specs.Stage.{Leaf, IsDown, IsPreparing, IsUp, seated_of}
 use Rattle.leaf_moves.specs.Steps.{At, BeginsShutting, MakesStep, MakesSteps, Part, noted_all}
 use Rattle.leaf_moves.specs.Steps as moves

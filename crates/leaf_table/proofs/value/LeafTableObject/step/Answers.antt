@@ -1,11 +1,15 @@
 use Rattle.std.proofs.Common.{rules, refl, length}
 use Rattle.leaf_table.specs.Turns.{is_founded, state_after}
-use Rattle.leaf_table.proofs.Going.{steps_on, added, expired, cut_to, asked, taken, shut, flushed, done, reopened}
+use Rattle.leaf_table.proofs.Going.{steps_on, added, copied, expired, cut_to, asked, taken, shut, flushed, done, reopened}
 use Rattle.leaf_table.proofs.value.LeafTableObject.step.Goals as goal
 
 pub returns-in-Add : goal.returns-in-Add
 returns-in-Add g c = λ b h by clock r. let name = b.name.value in let base = b.base in
     steps_on name base h by clock _ _ _ _ _ _ _ c.in-Add.is refl refl r.is_legal r.value r.allowed (λ n i may. added name (is_founded base) (state_after base h) (length h) by clock _ _ _ _ n i may c.add.ensures)
+
+pub returns-in-AddCopy : goal.returns-in-AddCopy
+returns-in-AddCopy g c = λ b h by clock r. let name = b.name.value in let base = b.base in
+    steps_on name base h by clock _ _ _ _ _ _ _ c.in-AddCopy.is refl refl r.is_legal r.value r.allowed (λ n i may. copied name (is_founded base) (state_after base h) (length h) by clock _ _ _ _ _ n i may c.add_copy.ensures)
 
 pub returns-in-Expire : goal.returns-in-Expire
 returns-in-Expire g c = λ b h by clock r. let name = b.name.value in let base = b.base in

@@ -6,7 +6,7 @@ use Rattle.player.specs.Crew.{HasFor}
 use Rattle.player.specs.Members.{fleet_in, holds_in}
 use Rattle.player.specs.Commands.{CallsAt}
 use Rattle.player.proofs.NamePlaces.{known_place}
-use Rattle.player.proofs.Playing.{expire_plays, query_or_none, query_still}
+use Rattle.player.proofs.Playing.{expire_plays, query_or_none, query_still, tail_or_none, tail_still}
 use Rattle.player.proofs.Restarting.{all_held}
 use Rattle.player.proofs.members.Members.play.Goals as goal
 
@@ -35,3 +35,13 @@ returns-in-Query-clause-plays g c =
 
 pub returns-in-Query-clause-still : goal.returns-in-Query-clause-still
 returns-in-Query-clause-still g c = query_still g.B.Berth.meaning c.in-Query.query c.args.self.now c.ask.new.self c.ask.result c.ask.ensures.asks
+
+pub returns-in-Tail-clause-plays : goal.returns-in-Tail-clause-plays
+returns-in-Tail-clause-plays g c =
+    let tail = c.in-Tail in
+    tail_or_none g.B.Berth.meaning c.args.self.now c.tail.new.self _ c.tail.result tail.key tail.table tail.rows c.args.command tail.is c.tail.ensures.tails
+
+pub returns-in-Tail-clause-still : goal.returns-in-Tail-clause-still
+returns-in-Tail-clause-still g c =
+    let tail = c.in-Tail in
+    tail_still g.B.Berth.meaning tail.key tail.table tail.rows c.args.self.now c.tail.new.self c.tail.result c.tail.ensures.tails

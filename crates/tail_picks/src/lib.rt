@@ -1,0 +1,8 @@
+//! Which leaves a tail asks, by the words of its key, and which of them it picks, by the rows that their tables have room for.
+#![tactic(auto)]
+
+mod picking;
+mod room;
+
+pub use picking::{next_leaves, pick, words_of};
+pub use room::{every_row, free_rows};

@@ -1,0 +1,62 @@
+// What a tail did, try by try.
+ghost use Rattle.std.specs.Prelude.{◌≡◌};
+
+use leaf_table::Reply;
+use std::marker::Model;
+
+/// A try: the leaves that were drawn, and what they answered.
+#[derive(Drop)]
+pub struct Try {
+    pub first: u32,
+    pub second: u32,
+    pub one: Reply,
+    /// None where both are one leaf.
+    pub two: Option<Reply>,
+    /// None where neither is live.
+    pub added: Option<Reply>,
+}
+
+/// The tries of a tail in their order. Contracts see them as the list.
+#[derive(Drop)]
+pub struct Tries {
+    inner: Vec<Try>,
+}
+
+impl Model for Tries {
+    ghost use Rattle.std.specs.Prelude.{List};
+    ghost use Rattle.tailer.specs.declared.tries.Try.{Try};
+
+    ghost Value = { List Try };
+
+    ghost view = { λ tries. tries.inner.items };
+}
+
+impl Tries {
+    pub fn of(inner: Vec<Try>) -> Tries
+        ensures { result ≡ inner.items }
+    {
+        Tries { inner }
+    }
+
+    pub fn as_slice(&self) -> &[Try]
+        ensures { result.now ≡ self.now }
+    {
+        self.inner.as_slice()
+    }
+}
+
+/// Where the rows of a tail went.
+#[derive(Clone, Copy, PartialEq, Eq)]
+pub enum Sent {
+    /// The leaf whose table took them.
+    To(u32),
+    /// None of 16 tries ended with an add.
+    Refused,
+}
+
+/// How a tail ended, and all that it tried.
+#[derive(Drop)]
+pub struct Tailed {
+    pub sent: Sent,
+    pub tries: Tries,
+}
