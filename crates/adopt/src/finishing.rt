@@ -13,10 +13,7 @@ use region_layout::{BlockPlaces, Directory, DrainTable, DrainTables, Place, Tabl
 use row_blocks::{BlockColumn, BlockColumns, BlockFault, Blocks, ColumnBytes, RowBlock};
 use std::alloc::{AllocError, Global};
 use std::collections::VecDeque;
-use table_state::Parts;
-
-/// The most rows of a table.
-const MOST_ROWS: u64 = 1 << 40;
+use table_state::{MOST_ROWS, Parts};
 
 /// The tables of a directory whose columns are these.
 pub fn finished(

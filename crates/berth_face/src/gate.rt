@@ -1,8 +1,9 @@
-// A place for tests to hold a lane or a turn.
+// A place for tests to hold a command or a turn.
 
-/// A place for tests to hold a lane before a command, or a caller inside a table's turn. It changes no answer.
+/// A place for tests to hold a command before it is played, or a caller inside a table's turn. It changes no answer.
 pub trait Gate: Sync {
-    /// Called before a lane's command, with the lane's number and the command's place in the lane, both from 0.
+    /// Called before each command: in a burst with the lane's number and the command's place in the lane, both from 0; outside bursts with
+    /// lane 0 and the command's place among those outside bursts.
     fn pass(&self, lane: u32, step: u32);
 
     /// Called inside a turn of that table of that leaf.

@@ -22,9 +22,7 @@ use region_reading::{LookFault, read_block};
 use row_blocks::{BlockColumn, RowBlock};
 use std::alloc::Global;
 use std::collections::VecDeque;
-
-/// The most rows of a table.
-const MOST_ROWS: u64 = 1 << 40;
+use table_state::MOST_ROWS;
 
 /// How many columns a block has, and how many bytes those.
 #[derive(Clone, Copy)]

@@ -1,6 +1,7 @@
 pub mod Loop
 pub mod Texts
 pub mod Fields
+pub mod Cells
 pub mod Records
 pub mod Growing
 pub mod Pended

@@ -9,8 +9,8 @@ use crate::fault::AddFault;
 use leaf_model::{Row, Write};
 use std::alloc::{AllocError, Global};
 
-/// The most rows of a table.
-const MOST_ROWS: u64 = 1 << 40;
+/// The most rows that a table holds.
+pub const MOST_ROWS: u64 = 1 << 40;
 
 /// How many of the rows are not late.
 pub fn count_from(horizon: i64, rows: &[Row]) -> u64

@@ -10,6 +10,7 @@ mod table;
 mod tables;
 
 pub use fault::{AddFault, Added};
+pub use held::MOST_ROWS;
 pub use parts::Parts;
 pub use table::TableState;
 pub use tables::Tables;

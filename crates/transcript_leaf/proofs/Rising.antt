@@ -36,11 +36,6 @@ rise_on histories from mid to [] ms first next = sooner ms first next
     sooner (n ∷ ms) low rise = (rise.0, rise.1, omega (arith, low, rise.2), rise.3)
 rise_on histories from mid to (n ∷ ns) ms first next = (first.0, first.1, first.2, rise_on histories first.0 mid to ns ms first.3 next)
 
--- time may pass
-pub rise_later : (histories : ℕ → List Entry) (from to later : ℕ) (ns : List Noted) → to ≤ later → MomentsRise histories from ns to → MomentsRise histories from ns later
-rise_later histories from to later [] le rise = omega (arith, le, rise)
-rise_later histories from to later (n ∷ ns) le rise = (rise.0, rise.1, rise.2, rise_later histories rise.0 to later ns le rise.3)
-
 -- ---- one entry
 
 -- an entry behind others, in a list that goes on

@@ -1,6 +1,6 @@
 use Rattle.std.proofs.Common.{◌≡◌, ◌∙◌, Bool, cond, List, ℕ, Some, None, sym, ap, subst, arith}
 use Rattle.row_records.specs.Reading.{texts_at}
-use Rattle.row_records.proofs.Records.{set_read}
+use Rattle.row_records.proofs.Cells.{set_read}
 use Rattle.row_records.proofs.row_reader.set_of.Goals as goal
 
 pub returns-then-not-is_set : goal.returns-then-not-is_set
