@@ -1,29 +1,23 @@
 -- The two laws of a cell: what is read is spelled so, and what is spelled so is read.
-use Rattle.std.proofs.Common.{◌≡◌, ℕ, zero, suc, ◌^◌, ◌<◌, ◌≤◌, Bool, true, false, cond, ltb, eqb, not, List, [], ◌∷◌, ◌++◌, length, map, Some, None, Less, nat_cmp, refl, sym, ap, subst, ◌∙◌, append_assoc, arith}
+use Rattle.std.proofs.Common.{◌≡◌, ℕ, zero, suc, ◌^◌, ◌<◌, ◌≤◌, Bool, true, false, cond, not, List, [], ◌∷◌, ◌++◌, length, map, Some, None, Less, nat_cmp, refl, sym, ap, subst, ◌∙◌, append_assoc, arith}
 use Rattle.std.specs.Prelude.{◌≢◌, ◌↔◌, IsTrue}
 use Rattle.std.specs.Ordering.{is_lt}
 use Rattle.std.specs.Cmp.Lexicographic.{slice_cmp}
 use Rattle.std.specs.List.{flat_map, AllByRecursion}
 use Rattle.std.specs.List.Sorted.{IsStrictlySortedBy}
 use Rattle.std.specs.Str.{IsUtf8, bytes_eq}
-use Rattle.std.specs.Int.{w16, w32, w64, to_le_bytes, cast_signed, cast_unsigned}
-use Rattle.std.proofs.lemmas.Bool.{ltb-false, le-ltb, eqb-true, eqb-false, eq-eqb, ne_eqb, false≢true}
-use Rattle.std.proofs.lemmas.List.{append-nil, nil_from_length}
+use Rattle.std.specs.Int.{w16, w64, to_le_bytes, cast_signed, cast_unsigned}
 use Rattle.std.proofs.lemmas.List.Concat.{flat_map-cons}
 use Rattle.std.proofs.lemmas.Int.{of_z-to_z, to_z-of_z}
 use Rattle.std.proofs.lemmas.Slice.Eq.{bytes_eq-Decides}
 use Rattle.leaf_model.specs.declared.rows.Value.{Value}
 use Rattle.leaf_model.specs.declared.rows.Value.TheVariants.{Int, Text, Set}
 use Rattle.leaf_model.specs.declared.rows.Cell.{Cell}
-use Rattle.leaf_model.specs.declared.rows.Row.{Row}
-use Rattle.leaf_model.specs.declared.writes.Write.{Write}
-use Rattle.leaf_model.specs.declared.writes.Write.TheVariants.{Add, Expire, Keep}
-use Rattle.leaf_model.specs.Values.{time_name, IsSet, IsValue, IsCell, IsRow, IsWrite}
+use Rattle.leaf_model.specs.Values.{time_name, IsSet, IsValue, IsCell}
 use Rattle.leaf_model.specs.Sets.{is_set}
-use Rattle.row_records.specs.Bytes.{name_bytes, text_bytes, value_bytes, cell_bytes, row_bytes, rows_bytes, write_bytes, i64_bytes, u16_bytes, IsBytes}
-use Rattle.row_records.specs.Records.{LogRecord, IsRecord, record_body, record_bytes, record_kind, has_sets, flush_of}
-use Rattle.row_records.specs.Reading.{◌>>=◌, number_at, text_at, name_at, time_at, long_text_at, texts_at, set_at, value_at, may_follow, cell_at, cells_at, row_at, rows_at, add_at, write_at, writes_at, flush_at, whole_at, body_of, record_of}
-use Rattle.row_records.proofs.Fields.{IsBytes-rest, bind_some, passed, held, some_is, Takes, Takes-then, wide16, wide32, wide64, number_takes, number_again, text_takes, text_again, name_takes, name_again, time_takes, time_again, cast_fits, unsigned_below}
+use Rattle.row_records.specs.Bytes.{name_bytes, text_bytes, value_bytes, cell_bytes, i64_bytes, u16_bytes, IsBytes}
+use Rattle.row_records.specs.Reading.{◌>>=◌, number_at, text_at, name_at, long_text_at, texts_at, set_at, value_at, may_follow, cell_at, cells_at}
+use Rattle.row_records.proofs.Fields.{IsBytes-rest, bind_some, held, some_is, Takes, Takes-then, wide16, wide64, number_takes, number_again, text_takes, text_again, name_takes, name_again, cast_fits, unsigned_below}
 use Rattle.row_records.proofs.Sets.{above, both_true, each_short, is_less, same_test, set_of_test, test_of_set}
 
 -- ---- texts of sets
