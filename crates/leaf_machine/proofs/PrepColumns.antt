@@ -1,14 +1,11 @@
--- How many columns a drain has at least: one for each table that has rows.
-use Rattle.std.proofs.Common.{◌≡◌, ℕ, suc, ◌+◌, ◌≤◌, List, [], ◌∷◌, ◌++◌, length, map, Some, refl, sym, ap, subst, arith}
-use Rattle.std.specs.Prelude.{ℤ, slice_get}
-use Rattle.std.specs.List.{AllByRecursion, flat_map}
-use Rattle.std.proofs.lemmas.List.{length-append, length-map}
-use Rattle.leaf_model.specs.declared.rows.Row.{Row}
+-- How many columns a drain has at least: what the rows of its tables ask for.
+use Rattle.std.proofs.Common.{◌≡◌, ℕ, suc, ◌+◌, ◌≤◌, List, [], ◌∷◌, length, map, Some, refl, ap, arith}
+use Rattle.std.specs.Prelude.{slice_get}
+use Rattle.std.specs.List.{AllByRecursion}
+use Rattle.std.proofs.lemmas.List.{length-append}
 use Rattle.leaf_model.specs.Content.{Contents}
-use Rattle.row_blocks.specs.declared.column.BlockColumn.{BlockColumn}
-use Rattle.row_blocks.specs.Blocks.{Block, IsBlock}
-use Rattle.row_blocks.specs.Held.{IsSkip, rows_held}
 use Rattle.table_state.specs.Tables.{IsParts, Table, least_columns}
+use Rattle.table_state.proofs.Columns.{blocks_long}
 use Rattle.region_layout.specs.declared.drained.DrainTable.{DrainTable}
 use Rattle.region_layout.specs.Drained.{all_columns, columns_in}
 use Rattle.leaf_history.specs.History.{held}
@@ -16,23 +13,6 @@ use Rattle.leaf_table.specs.Turns.{Shared}
 use Rattle.leaf_table.specs.Calls.{SeatView, base_seen, state_seen}
 use Rattle.leaf_machine.specs.States.{IsContent, columns_seen}
 use Rattle.leaf_machine.specs.Shut.{drained_table}
-
-at_most_one : (rows : List Row) → least_columns rows ≤ 1
-at_most_one [] = omega arith
-at_most_one (row ∷ rows) = omega arith
-
--- a block has a column
-blocks_long : (blocks : List Block) (skip : ℕ) (horizon : ℤ) → IsSkip skip blocks → AllByRecursion IsBlock blocks
-    → least_columns (rows_held blocks [] skip horizon) ≤ length (flat_map (λ (b : Block). map (λ (c : BlockColumn). c.bytes) b.columns) blocks)
-blocks_long [] skip horizon none all = subst (λ (n : ℕ). least_columns (rows_held [] [] n horizon) ≤ 0) (sym none) (omega arith)
-blocks_long (b ∷ blocks) skip horizon skips all =
-    let is : IsBlock b = all.0 in
-    let others : List (List ℕ) = flat_map (λ (b : Block). map (λ (c : BlockColumn). c.bytes) b.columns) blocks in
-    let columns : length b.columns ≡ suc (length is.others) = ap (λ (cs : List BlockColumn). length cs) is.columns_are in
-    let mapped : length (map (λ (c : BlockColumn). c.bytes) b.columns) ≡ length b.columns = length-map b.columns (λ (c : BlockColumn). c.bytes) in
-    let joined : length (map (λ (c : BlockColumn). c.bytes) b.columns ++ others) ≡ length (map (λ (c : BlockColumn). c.bytes) b.columns) + length others =
-    length-append (map (λ (c : BlockColumn). c.bytes) b.columns) others in
-    omega (arith, at_most_one (rows_held (b ∷ blocks) [] skip horizon), columns, mapped, joined)
 
 -- the columns that tables have at least, by what they hold
 abbrev held_columns : List Table → ℕ

@@ -2,3 +2,5 @@ mod Keeping
 mod Fronts
 mod Runs
 mod Stood
+mod Distinct
+pub mod Columns

@@ -1,6 +1,8 @@
 -- What a table means, and what its calls do.
-use Rattle.std.specs.Prelude.{◌≡◌, ℕ, ◌+◌, ◌-◌, ◌<◌, ◌≤◌, ◌^◌, true, List, [], ◌∷◌, length, Option, Some, None, IfSome, Result, Ok, Err, ℤ, int_le}
-use Rattle.std.specs.List.{AllByRecursion}
+use Rattle.std.specs.Prelude.{◌≡◌, ℕ, ◌+◌, ◌-◌, ◌<◌, ◌≤◌, ◌^◌, true, List, [], ◌∷◌, length, map, Option, Some, None, IfSome, Result, Ok, Err, ℤ, int_le}
+use Rattle.std.specs.List.{AllByRecursion, flat_map}
+use Rattle.std.specs.Ordering.{eq_by_cmp}
+use Rattle.std.specs.Set.{distinct_count}
 use Rattle.leaf_model.specs.declared.rows.Row.{Row}
 use Rattle.leaf_model.specs.declared.writes.Write.{Write}
 use Rattle.leaf_model.specs.declared.writes.Write.TheVariants.{Add}
@@ -8,6 +10,7 @@ use Rattle.leaf_model.specs.Values.{IsRow, IsTime}
 use Rattle.leaf_model.specs.Content.{Contents, nothing, content_after, kept_count, late_count, removed_count}
 use Rattle.row_blocks.specs.Blocks.{Block, IsBlock}
 use Rattle.row_blocks.specs.Held.{IsSkip, rows_held}
+use Rattle.row_blocks.specs.Headings.{Heading, heading_cmp, heading_of}
 use Rattle.row_records.specs.Records.{LogRecord}
 use Rattle.row_records.specs.Pending.{with_push}
 use Rattle.table_state.specs.declared.parts.Parts.{Parts}
@@ -122,7 +125,11 @@ pub record IsPartsOf (parts : Parts) (t : Table) : Type 0 where
   pub blocks : parts.blocks ≡ t.store.blocks
   pub tail : t.store.tail ≡ []
 
--- how many columns a table with these rows has at least
+-- the headings of the cells of some rows, one for each cell
+abbrev pub headings_in : List Row → List Heading
+headings_in rows = flat_map (λ (row : Row). map heading_of row.cells) rows
+
+-- how many columns a table with these rows has at least: where there are rows, that of the times and one for each distinct heading
 abbrev pub least_columns : List Row → ℕ
 least_columns [] = 0
-least_columns (row ∷ rows) = 1
+least_columns (row ∷ rows) = 1 + distinct_count (eq_by_cmp heading_cmp) (headings_in (row ∷ rows))
