@@ -1,0 +1,6 @@
+mod Moving
+mod Standing
+mod Alike
+mod Names
+mod Shown
+mod Enough

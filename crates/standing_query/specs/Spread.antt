@@ -1,0 +1,95 @@
+-- A query that is told from the groups of another, which keeps the time and each cell that the first one reads.
+use Rattle.std.specs.Prelude.{◌≡◌, ℕ, ◌-◌, ◌^◌, List, [], ◌∷◌, ◌++◌, map, replicate, ℤ, pos, Option, Some, None, bytes_eq, if◌then◌else◌}
+use Rattle.std.specs.List.{AllByRecursion, flat_map}
+use Rattle.std.specs.declared.cmp.Ordering.{Ordering}
+use Rattle.std.specs.declared.cmp.Ordering.TheVariants.{Less, Equal, Greater}
+use Rattle.leaf_model.specs.declared.rows.Value.{Value}
+use Rattle.leaf_model.specs.declared.rows.Value.TheVariants as value
+use Rattle.leaf_model.specs.declared.rows.Cell.{Cell}
+use Rattle.leaf_model.specs.declared.rows.Row.{Row}
+use Rattle.leaf_model.specs.declared.queries.Cond.{Cond}
+use Rattle.leaf_model.specs.declared.queries.Agg.{Agg}
+use Rattle.leaf_model.specs.declared.queries.Agg.TheVariants.{Count, Sum, Min, Max, Avg}
+use Rattle.leaf_model.specs.declared.queries.Query.{Query}
+use Rattle.leaf_model.specs.declared.groups.Key.{Key}
+use Rattle.leaf_model.specs.declared.groups.Key.TheVariants as key
+use Rattle.leaf_model.specs.declared.groups.Group.{Group}
+use Rattle.leaf_model.specs.Values.{IsTime, time_name}
+use Rattle.leaf_model.specs.Groups.{groups, text_cmp}
+
+-- ---- the names that a query reads
+
+abbrev pub agg_names : Agg → List (List ℕ)
+agg_names Count = []
+agg_names (Sum name) = name ∷ []
+agg_names (Min name) = name ∷ []
+agg_names (Max name) = name ∷ []
+agg_names (Avg name) = name ∷ []
+
+-- those of its conditions, keys and aggregates
+abbrev pub names_read : Query → List (List ℕ)
+names_read q = map (λ (c : Cond). c.name) q.conds ++ (q.keys ++ flat_map agg_names q.aggs)
+
+-- an ascending list of distinct names, with one more in its place
+abbrev pub with_name_at : Ordering → List ℕ → List ℕ → List (List ℕ) → List (List ℕ) → List (List ℕ)
+with_name_at Less n m ms further = n ∷ m ∷ ms
+with_name_at Equal n m ms further = m ∷ ms
+with_name_at Greater n m ms further = m ∷ further
+
+abbrev pub with_name : List ℕ → List (List ℕ) → List (List ℕ)
+with_name n [] = n ∷ []
+with_name n (m ∷ ms) = with_name_at (text_cmp n m) n m ms (with_name n ms)
+
+-- these names without `time`, ascending, each once
+abbrev pub names_of_cells : List (List ℕ) → List (List ℕ)
+names_of_cells [] = []
+names_of_cells (n ∷ ns) = if bytes_eq n time_name then names_of_cells ns else with_name n (names_of_cells ns)
+
+-- the names of the cells that a query reads
+abbrev pub cells_read : Query → List (List ℕ)
+cells_read q = names_of_cells (names_read q)
+
+-- ---- the spread of a query
+
+-- how many rows there are of each time with these cells
+abbrev pub spread : Query → Query
+spread q = record { table = q.table; from = pos 0; to = pos (2 ^ 63 - 1); conds = []; keys = time_name ∷ cells_read q; aggs = Count ∷ []; order = None; limit = 100000 }
+
+-- ---- and back
+
+abbrev pub value_shown : Key → Option Value
+value_shown key.Missing = None
+value_shown (key.Int n) = Some (value.Int n)
+value_shown (key.Text t) = Some (value.Text t)
+value_shown (key.Set members) = Some (value.Set members)
+
+abbrev pub time_shown : Key → ℤ
+time_shown (key.Int n) = n
+time_shown other = pos 0
+
+-- a cell under its name, or none
+abbrev pub cell_under : List ℕ → Option Value → List Cell
+cell_under name None = []
+cell_under name (Some v) = record { name = name; value = v } ∷ []
+
+abbrev pub cells_shown : List (List ℕ) → List Key → List Cell
+cells_shown [] keys = []
+cells_shown (n ∷ ns) [] = []
+cells_shown (n ∷ ns) (k ∷ ks) = cell_under n (value_shown k) ++ cells_shown ns ks
+
+-- the row that keys show: its time comes first, and then the cells of these names
+abbrev pub row_shown : List (List ℕ) → List Key → Row
+row_shown names [] = record { time = pos 0; cells = [] }
+row_shown names (k ∷ ks) = record { time = time_shown k; cells = cells_shown names ks }
+
+-- the rows that groups stand for: of each as many as its count
+abbrev pub rows_shown : List (List ℕ) → List Group → List Row
+rows_shown names gs = flat_map (λ (g : Group). replicate g.count (row_shown names g.keys)) gs
+
+-- the groups of a query out of those of its spread
+abbrev pub back : Query → List Group → List Group
+back q gs = groups q (rows_shown (cells_read q) gs)
+
+-- the spread of a query tells all that the query asks of rows
+abbrev pub IsEnough : Type 0
+IsEnough = (q : Query) (rows : List Row) → AllByRecursion (λ (row : Row). IsTime row.time) rows → back q (groups (spread q) rows) ≡ groups q rows
