@@ -12,9 +12,9 @@ use Rattle.leaf_model.specs.Groups.{groups, passes}
 use Rattle.group_table.specs.Joined.{joined}
 use Rattle.group_table.proofs.Laws.{groups-append, one_row, single}
 use Rattle.standing_query.specs.Spread.{IsEnough, back, cells_read, rows_shown, spread}
-use Rattle.standing_query.proofs.Standing.{joined_stand}
+use Rattle.standing_query.proofs.Stood.{joined_stand}
 use Rattle.standing_query.proofs.Alike.{groups_alike}
-use Rattle.standing_query.proofs.Shown.{shown_alike, shown_of}
+use Rattle.standing_query.proofs.Showing.{shown_alike, shown_of}
 
 no_earlier : (t : ℤ) → pos 0 ≤ℤ t → int_le (pos 0) t ≡ true
 no_earlier t low = true_from_ne_false (int_le (pos 0) t) (λ no. omega (arith, ints, low, no))

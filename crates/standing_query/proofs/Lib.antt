@@ -1,6 +1,11 @@
 mod Moving
-mod Standing
+mod Stood
 mod Alike
 mod Names
-mod Shown
+mod Showing
 mod Enough
+mod Placing
+mod Cut
+mod Ends
+mod Repeated
+mod Telling

@@ -40,14 +40,14 @@ abbrev pub with_name : List ℕ → List (List ℕ) → List (List ℕ)
 with_name n [] = n ∷ []
 with_name n (m ∷ ms) = with_name_at (text_cmp n m) n m ms (with_name n ms)
 
--- these names without `time`, ascending, each once
-abbrev pub names_of_cells : List (List ℕ) → List (List ℕ)
-names_of_cells [] = []
-names_of_cells (n ∷ ns) = if bytes_eq n time_name then names_of_cells ns else with_name n (names_of_cells ns)
+-- names before others that ascend: without `time`, each once in its place
+abbrev pub names_before : List (List ℕ) → List (List ℕ) → List (List ℕ)
+names_before [] others = others
+names_before (n ∷ ns) others = if bytes_eq n time_name then names_before ns others else with_name n (names_before ns others)
 
 -- the names of the cells that a query reads
 abbrev pub cells_read : Query → List (List ℕ)
-cells_read q = names_of_cells (names_read q)
+cells_read q = names_before (names_read q) []
 
 -- ---- the spread of a query
 
@@ -77,10 +77,18 @@ cells_shown [] keys = []
 cells_shown (n ∷ ns) [] = []
 cells_shown (n ∷ ns) (k ∷ ks) = cell_under n (value_shown k) ++ cells_shown ns ks
 
--- the row that keys show: its time comes first, and then the cells of these names
+-- the time comes first
+abbrev pub time_in : List Key → ℤ
+time_in [] = pos 0
+time_in (k ∷ ks) = time_shown k
+
+abbrev pub cells_in : List (List ℕ) → List Key → List Cell
+cells_in names [] = []
+cells_in names (k ∷ ks) = cells_shown names ks
+
+-- the row that keys show: its time, and then the cells of these names
 abbrev pub row_shown : List (List ℕ) → List Key → Row
-row_shown names [] = record { time = pos 0; cells = [] }
-row_shown names (k ∷ ks) = record { time = time_shown k; cells = cells_shown names ks }
+row_shown names keys = record { time = time_in keys; cells = cells_in names keys }
 
 -- the rows that groups stand for: of each as many as its count
 abbrev pub rows_shown : List (List ℕ) → List Group → List Row

@@ -1,0 +1,17 @@
+use Rattle.std.proofs.Common.{◌≡◌, ◌≤◌, ◌-◌, ◌++◌, drop, map, take}
+use Rattle.std.specs.List.{AllByRecursion}
+use Rattle.std.specs.Vec.{vec_len}
+use Rattle.group_table.specs.Joined.{FitsFold}
+use Rattle.standing_query.specs.Times.{fold_times}
+use Rattle.standing_query.proofs.times.folds_times.Given as goal
+
+-- those that are multiplied, and then those that are to come, are all
+abbrev pub invariant-loop-i : goal.invariant-loop-i
+invariant-loop-i l = record {
+  within : l.i ≤ vec_len l.folds;
+  fits : AllByRecursion FitsFold (map (fold_times l.count) (drop l.i l.folds.items));
+  so_far : take l.i l.folds.items ++ map (fold_times l.count) (drop l.i l.folds.items) ≡ map (fold_times l.count) l.fn.folds.items;
+}
+
+abbrev pub decreases-loop-i : goal.decreases-loop-i
+decreases-loop-i l = vec_len l.folds - l.i

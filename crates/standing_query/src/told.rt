@@ -1,0 +1,73 @@
+// A query's groups, out of those of its spread: each group of the spread is looked at once, however many rows it stands for.
+ghost use Rattle.std.specs.Prelude.{◌≡◌, ◌≤◌, ◌^◌, length, replicate, IfOk};
+ghost use Rattle.std.specs.List.{AllByRecursion, flat_map};
+ghost use Rattle.leaf_model.specs.Groups.{groups};
+ghost use Rattle.group_table.specs.Joined.{IsWithin};
+ghost use Rattle.standing_query.specs.Spread.{row_shown, rows_shown};
+
+use crate::shown::row_shown;
+use crate::times::groups_times;
+use group_table::{fold_rows, merge};
+use leaf_model::{Group, Groups, Query, Text};
+use std::alloc::{AllocError, Global};
+use std::slice::from_ref;
+
+/// The query's groups of the rows that one group of its spread stands for.
+fn told_one(
+    alloc: Global,
+    query: &Query,
+    names: &[Text],
+    group: &Group,
+) -> Result<Groups, AllocError>
+    requires { group.now.count ≤ 2 ^ 62 }
+    ensures value { IfOk result (λ gs. gs ≡ groups query.now (replicate group.now.count (row_shown names.now group.now.keys))) }
+    ensures within { IfOk result (λ gs. AllByRecursion (IsWithin group.now.count) gs) }
+{
+    if group.count == 0 {
+        return Ok(Groups::of(Vec::new(alloc)));
+    }
+    let row = row_shown(alloc, names, group.keys.as_slice())?;
+    let once = fold_rows(alloc, query, from_ref(&row))?;
+    Ok(groups_times(alloc, once, group.count))
+}
+
+/// The same of some groups of the spread, by halves.
+pub fn told(
+    alloc: Global,
+    query: &Query,
+    names: &[Text],
+    spread: &[Group],
+) -> Result<Groups, AllocError>
+    requires { length (rows_shown names.now spread.now) ≤ 2 ^ 62 }
+    ensures value { IfOk result (λ gs. gs ≡ groups query.now (rows_shown names.now spread.now)) }
+    ensures within { IfOk result (λ gs. AllByRecursion (IsWithin (length (rows_shown names.now spread.now))) gs) }
+{
+    if spread.len() <= 1 {
+        return match spread.first() {
+            None => Ok(Groups::of(Vec::new(alloc))),
+            Some(group) => Ok(told_one(alloc, query, names, group)?),
+        };
+    }
+    let (front, back) = spread.split_at(spread.len() / 2);
+    let mine = told(alloc, query, names, front)?;
+    let theirs = told(alloc, query, names, back)?;
+    merge(alloc, mine, theirs)
+}
+
+/// The same of spreads that stand behind one another.
+pub fn told_parts(
+    alloc: Global,
+    query: &Query,
+    names: &[Text],
+    parts: &[Groups],
+) -> Result<Groups, AllocError>
+    requires { length (flat_map (rows_shown names.now) parts.now) ≤ 2 ^ 62 }
+    ensures { IfOk result (λ gs. gs ≡ groups query.now (flat_map (rows_shown names.now) parts.now)) }
+{
+    let mut all = Groups::of(Vec::new(alloc));
+    for part in parts {
+        let more = told(alloc, query, names, part.as_slice())?;
+        all = merge(alloc, all, more)?;
+    }
+    Ok(all)
+}
