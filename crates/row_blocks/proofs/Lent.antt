@@ -135,7 +135,7 @@ lent_anew rests values mid new like now from i value was within counted gone is 
 
 -- ---- all rows
 
-same_by_places : (xs ys : List (Option Value)) → length xs ≡ length ys → ((k : ℕ) → k < length xs → slice_index_or xs k None ≡ slice_index_or ys k None) → xs ≡ ys
+pub same_by_places : (xs ys : List (Option Value)) → length xs ≡ length ys → ((k : ℕ) → k < length xs → slice_index_or xs k None ≡ slice_index_or ys k None) → xs ≡ ys
 same_by_places [] [] counted each = refl
 same_by_places [] (y ∷ ys) counted each = absurd (omega (arith, counted))
 same_by_places (x ∷ xs) [] counted each = absurd (omega (arith, counted))

@@ -9,3 +9,5 @@ pub mod Accepted
 pub mod Adjacent
 pub mod LivePlaces
 pub mod Lent
+pub mod Sorting
+pub mod FrontRun

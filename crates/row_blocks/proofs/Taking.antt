@@ -1,12 +1,11 @@
 -- A column more is taken off the rows, and less is left of them.
-use Rattle.std.proofs.Common.{◌≡◌, ℕ, zero, suc, ◌<◌, ◌≤◌, Bool, true, false, List, [], ◌∷◌, ◌++◌, length, map, slice_index_or, pos, Option, Some, None, IfSome, if◌then◌else◌, refl, sym, ap, subst, ◌∙◌, append_assoc, arith}
+use Rattle.std.proofs.Common.{◌≡◌, ℕ, ◌<◌, Bool, true, false, List, [], ◌∷◌, ◌++◌, length, map, slice_index_or, pos, Option, Some, None, IfSome, if◌then◌else◌, refl, sym, ap, subst, ◌∙◌, append_assoc, arith}
 use Rattle.std.specs.List.{AllByRecursion}
 use Rattle.std.specs.List.Sorted.{IsStrictlySortedBy}
 use Rattle.std.specs.Cmp.Lexicographic.{slice_cmp}
 use Rattle.std.specs.Ordering.{nat_cmp, is_eq, ordering_then}
 use Rattle.std.specs.declared.cmp.Ordering.{Ordering}
 use Rattle.std.specs.declared.cmp.Ordering.TheVariants.{Less, Equal, Greater}
-use Rattle.std.proofs.lemmas.Cmp.{tied_itself}
 use Rattle.std.proofs.lemmas.List.{append-nil, length-map, get_or-map, map_push}
 use Rattle.std.proofs.lemmas.List.Concat.{flat_map-append}
 use Rattle.std.proofs.lemmas.List.Elements.{All-from_recursion}
@@ -20,7 +19,7 @@ use Rattle.row_blocks.specs.Columns.{MeanCells, cells_in}
 use Rattle.row_blocks.specs.Headings.{Heading, heading, heading_of, heading_cmp, kind_of, kind_place}
 use Rattle.column_bytes.specs.Coding.{AreOfKind, IsOfKind}
 use Rattle.row_blocks.specs.Blocks.{IsOther, cell_of, cells_at, value_in}
-use Rattle.row_blocks.specs.Merging.{AreTaken, BeginsWith, HoldCells, IsBehind, IsEarliest, IsNotBefore, cells_left, cells_of_rows, front_value, rest_after}
+use Rattle.row_blocks.specs.Merging.{AreTaken, BeginsWith, HoldCells, IsBehind, IsEarliest, IsNotBefore, cells_of_rows, front_value, rest_after}
 use Rattle.row_blocks.proofs.Order.{exact_heading, heading_total}
 
 -- ---- lists
@@ -58,7 +57,7 @@ pub record AreCells (cells : List Cell) : Type 0 where
   pub each : AllByRecursion IsCell cells
   pub ascending : IsStrictlySortedBy (slice_cmp nat_cmp) (map (λ (c : Cell). c.name) cells)
 
-after_name : (c d : Cell) → slice_cmp nat_cmp c.name d.name ≡ Less → heading_cmp (heading_of c) (heading_of d) ≡ Less
+pub after_name : (c d : Cell) → slice_cmp nat_cmp c.name d.name ≡ Less → heading_cmp (heading_of c) (heading_of d) ≡ Less
 after_name c d e = ap (λ (o : Ordering). ordering_then o (nat_cmp (kind_place (heading_of c).kind) (kind_place (heading_of d).kind))) e
 
 next_behind : (h : Heading) (c : Cell) (cells : List Cell) → AreCells (c ∷ cells) → heading_cmp h (heading_of c) ≡ Less → IsBehind h cells
@@ -107,34 +106,6 @@ front_is c (d ∷ cells) begins are = subst IsCell begins are.each.0
 front_behind : (h : Heading) (c : Cell) (cells : List Cell) → BeginsWith c cells → IsBehind h cells → heading_cmp h (heading_of c) ≡ Less
 front_behind h c [] begins behind = absurd begins
 front_behind h c (d ∷ cells) begins behind = subst (λ (e : Cell). heading_cmp h (heading_of e) ≡ Less) begins behind
-
--- ---- how many cells are left
-
-left_of_row : (h : Heading) (cells : List Cell) → length (rest_after h cells) ≤ length cells
-left_of_row h [] = omega arith
-left_of_row h (c ∷ cells) = by (is_eq (heading_cmp h (heading_of c)))
-  where
-    by : (b : Bool) → length (if b then cells else c ∷ cells) ≤ suc (length cells)
-    by true = omega arith
-    by false = omega arith
-
-left_of_first : (c : Cell) (cells : List Cell) → BeginsWith c cells → length (rest_after (heading_of c) cells) < length cells
-left_of_first c [] begins = absurd begins
-left_of_first c (d ∷ cells) begins = by (is_eq (heading_cmp (heading_of c) (heading_of d)))
-    (ap (λ (e : Cell). is_eq (heading_cmp (heading_of c) (heading_of e))) begins ∙ ap is_eq (tied_itself heading_total (heading_of c)))
-  where
-    by : (b : Bool) → b ≡ true → length (if b then cells else d ∷ cells) < suc (length cells)
-    by true e = omega arith
-    by false e = absurd cc
-
-left_of_all : (h : Heading) (rests : List (List Cell)) → cells_left (map (rest_after h) rests) ≤ cells_left rests
-left_of_all h [] = omega arith
-left_of_all h (cells ∷ rests) = omega (arith, left_of_row h cells, left_of_all h rests)
-
-pub left_smaller : (c : Cell) (rests : List (List Cell)) (i : ℕ) → i < length rests → BeginsWith c (slice_index_or rests i []) → cells_left (map (rest_after (heading_of c)) rests) < cells_left rests
-left_smaller c [] i within begins = absurd (omega arith)
-left_smaller c (cells ∷ rests) zero within begins = omega (arith, left_of_first c cells begins, left_of_all (heading_of c) rests)
-left_smaller c (cells ∷ rests) (suc i) within begins = omega (arith, left_of_row (heading_of c) cells, left_smaller c rests i (omega arith) begins)
 
 -- ---- rows
 

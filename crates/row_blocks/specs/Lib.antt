@@ -5,5 +5,6 @@ pub mod Held
 pub mod Live
 pub mod Merging
 pub mod Places
+pub mod Runs
 pub mod Times
 pub mod Deciding

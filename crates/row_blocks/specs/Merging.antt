@@ -1,5 +1,5 @@
 -- Rows taken apart into columns: what is left of each row's cells, and the column that comes next.
-use Rattle.std.specs.Prelude.{◌≡◌, ℕ, ◌+◌, ◌<◌, ◌≤◌, take, List, [], ◌∷◌, ◌++◌, length, map, slice_index_or, Option, Some, None, option_map, if◌then◌else◌, ⊤}
+use Rattle.std.specs.Prelude.{◌≡◌, ℕ, ◌<◌, ◌≤◌, take, List, [], ◌∷◌, ◌++◌, length, map, slice_index_or, Option, Some, None, option_map, if◌then◌else◌, ⊤}
 use Rattle.std.specs.Borrow.{Bor}
 use Rattle.std.specs.List.{AllByRecursion}
 use Rattle.std.specs.List.Sorted.{IsStrictlySortedBy}
@@ -97,8 +97,3 @@ pub record HoldCells (rows : List Row) (columns : List BlockColumn) : Type 0 whe
   pub each : AllByRecursion (IsOther (length rows)) columns
   pub ascend : IsStrictlySortedBy heading_cmp (map heading columns)
   pub cells : (i : ℕ) → i < length rows → cells_at i columns ≡ slice_index_or (cells_of_rows rows) i []
-
--- how many cells there are in all
-abbrev pub cells_left : List (List Cell) → ℕ
-cells_left [] = 0
-cells_left (cells ∷ rests) = length cells + cells_left rests

@@ -56,7 +56,7 @@ fn rest_at<'a>(rests: &[&'a [Cell]], i: usize) -> &'a [Cell]
 }
 
 /// Takes the values back that were lent from a place on.
-fn forget(values: &mut [Option<&Value>], from: usize, to: usize)
+pub(crate) fn forget(values: &mut [Option<&Value>], from: usize, to: usize)
     requires order { from ≤ to }
     requires within { to ≤ length values.old }
     requires before { (k : ℕ) → k < from → slice_index_or values.old k None ≡ None }

@@ -14,6 +14,7 @@ mod places;
 mod reading;
 mod rows;
 mod rules;
+mod runs;
 mod sealing;
 mod times;
 

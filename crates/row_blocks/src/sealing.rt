@@ -10,13 +10,14 @@ ghost use Rattle.column_bytes.specs.declared.kind.Kind.TheVariants.{Ints};
 ghost use Rattle.row_blocks.specs.Blocks.{rows_in};
 ghost use Rattle.row_blocks.specs.Columns.{MeanCells, cells_in};
 ghost use Rattle.row_blocks.specs.Headings.{heading, heading_of};
-ghost use Rattle.row_blocks.specs.Merging.{HoldCells, lent_rows};
+ghost use Rattle.row_blocks.specs.Merging.{AreTaken, HoldCells, lent, lent_rows};
 
 use crate::block::RowBlock;
 use crate::column::{BlockColumn, BlockColumns, ColumnBytes};
 use crate::headings::kind_of;
 use crate::lending::lend_earliest;
 use crate::merge::{move_on, no_values, rests_of};
+use crate::runs::{in_order, lend_run, run_len};
 use crate::times::{range_of, time_cells, times_of};
 use column_bytes::{Kind, encode, encode_refs};
 use leaf_model::{Cell, Row, Text, Value};
@@ -59,7 +60,43 @@ fn column_like(
     })
 }
 
-/// The columns of the rows' cells, in their order. The values of one after another are lent in a list with a place for each row.
+/// How many walks over all rows cost no more than a sort of their cells, which looks at a cell once for each binary digit of their number.
+fn walks_worth(rests: &[&[Cell]]) -> usize {
+    let mut cells = 0usize;
+    for rest in rests {
+        cells = cells.saturating_add(rest.len());
+    }
+    let digits = usize::BITS - cells.leading_zeros();
+    cells.saturating_mul(digits as usize) / rests.len().max(1)
+}
+
+/// The first columns of the rows' cells, each taken in a walk over all rows, and what is left of the cells.
+fn walked_columns<'a>(
+    alloc: Global,
+    rows: &[&'a Row],
+    values: &mut [Option<&'a Value>],
+) -> Result<(Vec<BlockColumn>, Vec<&'a [Cell]>), AllocError>
+    requires some { 0 < length (lent_rows rows.now) }
+    requires few { length (lent_rows rows.now) ≤ 65536 }
+    requires rows { AllByRecursion IsRow (lent_rows rows.now) }
+    requires places { length values.old ≡ length (lent_rows rows.now) }
+    ensures same { length values.new ≡ length values.old }
+    ensures taken { IfOk result (λ taken. AreTaken (lent_rows rows.now) taken.0.items (lent taken.1.items)) }
+{
+    let mut rests = rests_of(alloc, rows)?;
+    let mut columns = Vec::new(alloc);
+    for _walk in 0..walks_worth(&rests) {
+        let Some(like) = lend_earliest(&rests, values) else {
+            break;
+        };
+        columns.push(column_like(alloc, like, values)?)?;
+        move_on(values, &mut rests);
+    }
+    Ok((columns, rests))
+}
+
+/// The columns of the rows' cells, in their order. The values of one after another are lent in a list with a place for each row:
+/// in a walk over all rows while that pays, and then from the cells that are left, which are sorted.
 fn other_columns<'a>(
     alloc: Global,
     rows: &[&'a Row],
@@ -71,11 +108,16 @@ fn other_columns<'a>(
     requires places { length values.old ≡ length (lent_rows rows.now) }
     ensures { IfOk result (λ columns. HoldCells (lent_rows rows.now) columns.items) }
 {
-    let mut rests = rests_of(alloc, rows)?;
-    let mut columns = Vec::new(alloc);
-    while let Some(like) = lend_earliest(&rests, values) {
-        columns.push(column_like(alloc, like, values)?)?;
-        move_on(values, &mut rests);
+    let (mut columns, rests) = walked_columns(alloc, rows, values)?;
+    let sorted = in_order(alloc, &rests)?;
+    let cells = sorted.as_slice();
+    let mut from = 0;
+    while from < cells.len() {
+        let first = cells[from].cell;
+        let to = from + run_len(first, &cells[from..]);
+        lend_run(&cells[from..to], values);
+        columns.push(column_like(alloc, first, values)?)?;
+        from = to;
     }
     Ok(columns)
 }

@@ -1,94 +1,108 @@
-use Rattle.std.proofs.Common.{◌≡◌, ◌<◌, List, [], ◌∷◌, ◌++◌, length, map, Some, sym, ap, subst, ◌∙◌, Bor, arith}
-use Rattle.std.proofs.lemmas.List.{length-map, with_items_is}
+use Rattle.std.proofs.Common.{◌≡◌, ℕ, ◌+◌, ◌-◌, ◌<◌, ◌≤◌, List, [], ◌∷◌, ◌++◌, length, map, take, drop, get_or, slice_index_or, sym, ap, subst, ◌∙◌, Bor, arith}
+use Rattle.std.specs.List.{All}
+use Rattle.std.specs.List.Sorted.{IsStrictlySortedBy}
+use Rattle.std.specs.Cmp.Lexicographic.{slice_cmp}
+use Rattle.std.specs.Ordering.{nat_cmp}
+use Rattle.std.proofs.lemmas.List.{drop-drop, drop_all, get_or_default, length-drop}
 use Rattle.leaf_model.specs.declared.rows.Cell.{Cell}
 use Rattle.column_bytes.specs.Cells.{values_of}
-use Rattle.column_bytes.specs.Coding.{AreOfKind}
 use Rattle.row_blocks.specs.declared.column.BlockColumn.{BlockColumn}
+use Rattle.row_blocks.specs.declared.runs.PlacedCell.{PlacedCell}
 use Rattle.row_blocks.specs.Columns.{MeanCells}
-use Rattle.row_blocks.specs.Headings.{heading_of}
-use Rattle.row_blocks.specs.Merging.{AreTaken, IsEarliest, cells_left, front_value, lent, lent_rows, rest_after}
-use Rattle.row_blocks.proofs.Taking.{fronts_are_of_kind, left_smaller, none_taken, one_more_taken, rest_are}
+use Rattle.row_blocks.specs.Merging.{front_value, lent, lent_rows}
+use Rattle.row_blocks.specs.Places.{names_of}
+use Rattle.row_blocks.specs.Runs.{HoldRests, Rise, last_value, row_cells}
+use Rattle.row_blocks.proofs.FrontRun.{AreLeft, IsRun, heading_at, next_run, none_left_over, rests_are, run_kind, run_taken, run_values}
 use Rattle.row_blocks.proofs.sealing.other_columns.Goals as goal
 
-pub loop-like-init : goal.loop-like-init
-loop-like-init c =
-    let taken = subst (λ (columns : List BlockColumn). AreTaken (lent_rows c.args.rows.now) columns (lent c.in_ok-rests.rests.items)) (sym c.new-columns.ensures.items)
-    (none_taken (lent_rows c.args.rows.now) (lent c.in_ok-rests.rests.items) c.in_ok-rests.ensures) in
-    record { same = c.requires.places ∙ sym taken.same; taken = taken }
+pub in_order-requires : goal.in_order-requires
+in_order-requires c = λ i.
+    let rests = c.in_ok-columns.rests.items in
+    subst (λ (l : List (Bor (List Cell))). IsStrictlySortedBy (slice_cmp nat_cmp) (names_of (slice_index_or (lent l) i []))) (sym c.deref.ensures.value)
+    (rests_are (lent_rows c.args.rows.now) c.in_ok-columns.columns.items (lent rests) c.requires.rows c.in_ok-columns.ensures.taken i).ascending
 
-pub lend_earliest-requires : goal.lend_earliest-requires
-lend_earliest-requires c =
-    c.loop-like.invariant.same ∙ length-map c.loop-like.rests.items (λ (r : Bor (List Cell)). r.now) ∙ ap (λ (l : List (Bor (List Cell))). length l) (sym c.deref.ensures.value)
+pub loop-from-init : goal.loop-from-init
+loop-from-init c = record {
+  within = omega arith;
+  same = c.in_ok-columns.ensures.same ∙ c.requires.places;
+  left = record {
+    rests = lent c.in_ok-columns.rests.items;
+    taken = c.in_ok-columns.ensures.taken;
+    rise = subst Rise (sym c.as_slice-cells.ensures.value) c.in_ok-sorted.ensures.rise;
+    hold = subst (λ (l : List (Bor (List Cell))). HoldRests (lent l) c.as_slice-cells.result.now) c.deref.ensures.value
+        (subst (HoldRests (lent c.deref.result.now)) (sym c.as_slice-cells.ensures.value) c.in_ok-sorted.ensures.cells);
+  };
+}
 
-pub column_like-requires-clause-some : goal.column_like-requires-clause-some
-column_like-requires-clause-some c =
-    let h = heading_of c.in-Some.like.now in let items = c.loop-like.rests.items in let values = c.lend_earliest.new.values in
-    let first : IsEarliest (Some c.in-Some.like.now) (lent items) = subst (λ (l : List (Bor (List Cell))). IsEarliest (Some c.in-Some.like.now) (lent l)) c.deref.ensures.value c.in-Some.ensures.earliest in
-    let fronts : values_of values ≡ map (front_value h) (lent items) = c.in-Some.ensures.values ∙ ap (λ (l : List (Bor (List Cell))). map (front_value h) (lent l)) c.deref.ensures.value in
-    let places : length values ≡ length (lent items) = c.in-Some.ensures.same ∙ c.loop-like.invariant.same in
-    omega (arith, places, c.loop-like.invariant.taken.same, c.requires.some)
+pub overflow_add-to : goal.overflow_add-to
+overflow_add-to c =
+    let rows = lent_rows c.args.rows.now in let columns = c.loop-from.columns.items in let left = c.loop-from.invariant.left in
+    let cells = c.as_slice-cells.result.now in let from = c.loop-from.from in let count = c.run_len.result in let item = c.index-cells-from.result in let first = get_or cells from item in
+    let run : IsRun left.rests first (drop from cells) count = next_run rows columns cells from count first c.requires.rows left c.loop-from-test.true (get_or_default cells from item first c.loop-from-test.true) c.run_len.ensures in
+    let few : from + count ≤ length cells = omega (arith, run.few, length-drop from cells, c.loop-from.invariant.within) in
+    omega (arith, few, c.as_slice-cells.type_inv.0)
 
-pub column_like-requires-clause-few : goal.column_like-requires-clause-few
-column_like-requires-clause-few c =
-    let h = heading_of c.in-Some.like.now in let items = c.loop-like.rests.items in let values = c.lend_earliest.new.values in
-    let first : IsEarliest (Some c.in-Some.like.now) (lent items) = subst (λ (l : List (Bor (List Cell))). IsEarliest (Some c.in-Some.like.now) (lent l)) c.deref.ensures.value c.in-Some.ensures.earliest in
-    let fronts : values_of values ≡ map (front_value h) (lent items) = c.in-Some.ensures.values ∙ ap (λ (l : List (Bor (List Cell))). map (front_value h) (lent l)) c.deref.ensures.value in
-    let places : length values ≡ length (lent items) = c.in-Some.ensures.same ∙ c.loop-like.invariant.same in
-    omega (arith, places, c.loop-like.invariant.taken.same, c.requires.few)
+pub slice_bounds-lend_run-end : goal.slice_bounds-lend_run-end
+slice_bounds-lend_run-end c =
+    let rows = lent_rows c.args.rows.now in let columns = c.loop-from.columns.items in let left = c.loop-from.invariant.left in
+    let cells = c.as_slice-cells.result.now in let from = c.loop-from.from in let count = c.run_len.result in let item = c.index-cells-from.result in let first = get_or cells from item in
+    let run : IsRun left.rests first (drop from cells) count = next_run rows columns cells from count first c.requires.rows left c.loop-from-test.true (get_or_default cells from item first c.loop-from-test.true) c.run_len.ensures in
+    let few : from + count ≤ length cells = omega (arith, run.few, length-drop from cells, c.loop-from.invariant.within) in
+    few
+
+pub lend_run-requires : goal.lend_run-requires
+lend_run-requires c =
+    let rows = lent_rows c.args.rows.now in let columns = c.loop-from.columns.items in let left = c.loop-from.invariant.left in
+    let cells = c.as_slice-cells.result.now in let from = c.loop-from.from in let count = c.run_len.result in let item = c.index-cells-from.result in let first = get_or cells from item in
+    let run : IsRun left.rests first (drop from cells) count = next_run rows columns cells from count first c.requires.rows left c.loop-from-test.true (get_or_default cells from item first c.loop-from-test.true) c.run_len.ensures in
+    let part : from + count - from ≡ count = omega arith in
+    let same : length left.rests ≡ length c.loop-from.values = left.taken.same ∙ sym c.loop-from.invariant.same in
+    subst (λ (n : ℕ). All (λ (p : PlacedCell). p.place < n) (take (from + count - from) (drop from cells))) same
+    (subst (λ (n : ℕ). All (λ (p : PlacedCell). p.place < length left.rests) (take n (drop from cells))) (sym part) run.places)
 
 pub column_like-requires-clause-kind : goal.column_like-requires-clause-kind
 column_like-requires-clause-kind c =
-    let h = heading_of c.in-Some.like.now in let items = c.loop-like.rests.items in let values = c.lend_earliest.new.values in
-    let first : IsEarliest (Some c.in-Some.like.now) (lent items) = subst (λ (l : List (Bor (List Cell))). IsEarliest (Some c.in-Some.like.now) (lent l)) c.deref.ensures.value c.in-Some.ensures.earliest in
-    let fronts : values_of values ≡ map (front_value h) (lent items) = c.in-Some.ensures.values ∙ ap (λ (l : List (Bor (List Cell))). map (front_value h) (lent l)) c.deref.ensures.value in
-    let places : length values ≡ length (lent items) = c.in-Some.ensures.same ∙ c.loop-like.invariant.same in
-    subst (AreOfKind h.kind) (sym fronts)
-    (fronts_are_of_kind h (lent items) (λ i within. rest_are (lent_rows c.args.rows.now) c.loop-like.columns.items (lent items) i c.requires.rows c.loop-like.invariant.taken within))
+    let rows = lent_rows c.args.rows.now in let columns = c.loop-from.columns.items in let left = c.loop-from.invariant.left in
+    let cells = c.as_slice-cells.result.now in let from = c.loop-from.from in let count = c.run_len.result in let item = c.index-cells-from.result in let first = get_or cells from item in
+    let run : IsRun left.rests first (drop from cells) count = next_run rows columns cells from count first c.requires.rows left c.loop-from-test.true (get_or_default cells from item first c.loop-from-test.true) c.run_len.ensures in
+    let part : from + count - from ≡ count = omega arith in
+    let same : length c.lend_run.new.values ≡ length left.rests = c.lend_run.ensures.same ∙ c.loop-from.invariant.same ∙ sym left.taken.same in
+    let fronts : values_of c.lend_run.new.values ≡ map (front_value (heading_at first)) left.rests
+    = run_values left.rests first (drop from cells) count c.lend_run.new.values run same
+    (λ i within. c.lend_run.ensures.values i (omega (arith, within, c.lend_run.ensures.same)) ∙ ap (λ (n : ℕ). last_value (row_cells i (take n (drop from cells)))) part) in
+    run_kind rows columns (drop from cells) first c.lend_run.new.values c.requires.rows left fronts
 
-pub move_on-requires : goal.move_on-requires
-move_on-requires c =
-    let h = heading_of c.in-Some.like.now in let items = c.loop-like.rests.items in let values = c.lend_earliest.new.values in
-    let first : IsEarliest (Some c.in-Some.like.now) (lent items) = subst (λ (l : List (Bor (List Cell))). IsEarliest (Some c.in-Some.like.now) (lent l)) c.deref.ensures.value c.in-Some.ensures.earliest in
-    let fronts : values_of values ≡ map (front_value h) (lent items) = c.in-Some.ensures.values ∙ ap (λ (l : List (Bor (List Cell))). map (front_value h) (lent l)) c.deref.ensures.value in
-    let places : length values ≡ length (lent items) = c.in-Some.ensures.same ∙ c.loop-like.invariant.same in
-    places ∙ length-map items (λ (r : Bor (List Cell)). r.now) ∙ ap (λ (l : List (Bor (List Cell))). length l) (sym c.deref_mut.ensures.value)
+pub loop-from-smaller : goal.loop-from-smaller
+loop-from-smaller c =
+    let rows = lent_rows c.args.rows.now in let columns = c.loop-from.columns.items in let left = c.loop-from.invariant.left in
+    let cells = c.as_slice-cells.result.now in let from = c.loop-from.from in let count = c.run_len.result in let item = c.index-cells-from.result in let first = get_or cells from item in
+    let run : IsRun left.rests first (drop from cells) count = next_run rows columns cells from count first c.requires.rows left c.loop-from-test.true (get_or_default cells from item first c.loop-from-test.true) c.run_len.ensures in
+    omega (arith, run.some, c.loop-from-test.true)
 
-pub loop-like-smaller : goal.loop-like-smaller
-loop-like-smaller c =
-    let h = heading_of c.in-Some.like.now in let items = c.loop-like.rests.items in let values = c.lend_earliest.new.values in
-    let first : IsEarliest (Some c.in-Some.like.now) (lent items) = subst (λ (l : List (Bor (List Cell))). IsEarliest (Some c.in-Some.like.now) (lent l)) c.deref.ensures.value c.in-Some.ensures.earliest in
-    let fronts : values_of values ≡ map (front_value h) (lent items) = c.in-Some.ensures.values ∙ ap (λ (l : List (Bor (List Cell))). map (front_value h) (lent l)) c.deref.ensures.value in
-    let places : length values ≡ length (lent items) = c.in-Some.ensures.same ∙ c.loop-like.invariant.same in
-    let moved : lent c.move_on.new.rests ≡ map (rest_after h) (lent items)
-    = c.move_on.ensures h (fronts ∙ ap (λ (l : List (Bor (List Cell))). map (front_value h) (lent l)) (sym c.deref_mut.ensures.value))
-    ∙ ap (λ (l : List (Bor (List Cell))). map (rest_after h) (lent l)) c.deref_mut.ensures.value in
-    let counted : length c.move_on.new.rests ≡ c.loop-like.rests.len
-    = sym (length-map c.move_on.new.rests (λ (r : Bor (List Cell)). r.now)) ∙ ap (λ (l : List (List Cell)). length l) moved
-    ∙ length-map (lent items) (rest_after h) ∙ length-map items (λ (r : Bor (List Cell)). r.now) ∙ ap (λ (l : List (Bor (List Cell))). length l) (sym c.deref_mut.ensures.value) ∙ c.deref_mut.ensures.len in
-    subst (λ (l : List (Bor (List Cell))). cells_left (lent l) < cells_left (lent items)) (sym (with_items_is c.loop-like.rests c.move_on.new.rests counted))
-    (subst (λ (l : List (List Cell)). cells_left l < cells_left (lent items)) (sym moved)
-    (left_smaller c.in-Some.like.now (lent items) first.0.0 first.0.1 first.0.2))
-
-pub loop-like-preserved : goal.loop-like-preserved
-loop-like-preserved c =
-    let h = heading_of c.in-Some.like.now in let items = c.loop-like.rests.items in let values = c.lend_earliest.new.values in
-    let first : IsEarliest (Some c.in-Some.like.now) (lent items) = subst (λ (l : List (Bor (List Cell))). IsEarliest (Some c.in-Some.like.now) (lent l)) c.deref.ensures.value c.in-Some.ensures.earliest in
-    let fronts : values_of values ≡ map (front_value h) (lent items) = c.in-Some.ensures.values ∙ ap (λ (l : List (Bor (List Cell))). map (front_value h) (lent l)) c.deref.ensures.value in
-    let places : length values ≡ length (lent items) = c.in-Some.ensures.same ∙ c.loop-like.invariant.same in
-    let moved : lent c.move_on.new.rests ≡ map (rest_after h) (lent items)
-    = c.move_on.ensures h (fronts ∙ ap (λ (l : List (Bor (List Cell))). map (front_value h) (lent l)) (sym c.deref_mut.ensures.value))
-    ∙ ap (λ (l : List (Bor (List Cell))). map (rest_after h) (lent l)) c.deref_mut.ensures.value in
-    let counted : length c.move_on.new.rests ≡ c.loop-like.rests.len
-    = sym (length-map c.move_on.new.rests (λ (r : Bor (List Cell)). r.now)) ∙ ap (λ (l : List (List Cell)). length l) moved
-    ∙ length-map (lent items) (rest_after h) ∙ length-map items (λ (r : Bor (List Cell)). r.now) ∙ ap (λ (l : List (Bor (List Cell))). length l) (sym c.deref_mut.ensures.value) ∙ c.deref_mut.ensures.len in
-    let column = c.in_ok-column_like.field-0 in let rows = lent_rows c.args.rows.now in let columns = c.loop-like.columns.items in
-    let taken : AreTaken rows (columns ++ column ∷ []) (map (rest_after h) (lent items))
-    = one_more_taken rows columns (lent items) c.in-Some.like.now column c.requires.rows c.loop-like.invariant.taken first c.in_ok-column_like.ensures.heading
-    (subst (MeanCells column.bytes) places c.in_ok-column_like.ensures.means) (c.in_ok-column_like.ensures.cells ∙ fronts) in
+pub loop-from-preserved : goal.loop-from-preserved
+loop-from-preserved c =
+    let rows = lent_rows c.args.rows.now in let columns = c.loop-from.columns.items in let left = c.loop-from.invariant.left in
+    let cells = c.as_slice-cells.result.now in let from = c.loop-from.from in let count = c.run_len.result in let item = c.index-cells-from.result in let first = get_or cells from item in
+    let run : IsRun left.rests first (drop from cells) count = next_run rows columns cells from count first c.requires.rows left c.loop-from-test.true (get_or_default cells from item first c.loop-from-test.true) c.run_len.ensures in
+    let few : from + count ≤ length cells = omega (arith, run.few, length-drop from cells, c.loop-from.invariant.within) in
+    let part : from + count - from ≡ count = omega arith in
+    let same : length c.lend_run.new.values ≡ length left.rests = c.lend_run.ensures.same ∙ c.loop-from.invariant.same ∙ sym left.taken.same in
+    let fronts : values_of c.lend_run.new.values ≡ map (front_value (heading_at first)) left.rests
+    = run_values left.rests first (drop from cells) count c.lend_run.new.values run same
+    (λ i within. c.lend_run.ensures.values i (omega (arith, within, c.lend_run.ensures.same)) ∙ ap (λ (n : ℕ). last_value (row_cells i (take n (drop from cells)))) part) in
+    let column = c.in_ok-column_like.field-0 in
+    let counted : length c.lend_run.new.values ≡ length rows = same ∙ left.taken.same in
+    let taken : AreLeft rows (columns ++ column ∷ []) (drop count (drop from cells))
+    = run_taken rows columns (drop from cells) first count column c.requires.rows left run c.in_ok-column_like.ensures.heading
+    (subst (MeanCells column.bytes) counted c.in_ok-column_like.ensures.means) (c.in_ok-column_like.ensures.cells ∙ fronts) in
     record {
-      same = subst (λ (l : List (Bor (List Cell))). length values ≡ length (lent l)) (sym (with_items_is c.loop-like.rests c.move_on.new.rests counted))
-          (places ∙ sym (ap (λ (l : List (List Cell)). length l) moved ∙ length-map (lent items) (rest_after h)));
-      taken = subst (λ (l : List (Bor (List Cell))). AreTaken rows c.push.new.self.items (lent l)) (sym (with_items_is c.loop-like.rests c.move_on.new.rests counted))
-          (subst (λ (l : List BlockColumn). AreTaken rows l (lent c.move_on.new.rests)) (sym c.in_ok-push.ensures.items)
-          (subst (AreTaken rows (columns ++ column ∷ [])) (sym moved) taken));
+      within = few;
+      same = counted;
+      left = subst (λ (l : List BlockColumn). AreLeft rows l (drop (from + count) cells)) (sym c.in_ok-push.ensures.items)
+          (subst (AreLeft rows (columns ++ column ∷ [])) (drop-drop count from cells) taken);
     }
+
+pub returns : goal.returns
+returns c =
+    let cells = c.as_slice-cells.result.now in let from = c.loop-from.from in
+    none_left_over (lent_rows c.args.rows.now) c.loop-from.columns.items (drop from cells) c.loop-from.invariant.left (drop_all from cells (omega (arith, c.loop-from-test.false)))
