@@ -1,8 +1,8 @@
 -- What the tests of a block's columns tell decides whether they are one.
-use Rattle.std.proofs.Common.{◌≡◌, ℕ, ◌+◌, ◌<◌, List, [], ◌∷◌, ◌++◌, length, map, slice_index_or, ℤ, pos, Option, Some, None, Err, refl, sym, ap, subst, ◌∙◌, below_more, arith}
+use Rattle.std.proofs.Common.{◌≡◌, ℕ, ◌+◌, ◌<◌, List, [], ◌∷◌, ◌++◌, length, map, slice_index_or, ℤ, pos, Option, Some, None, Err, refl, sym, ap, subst, ◌∙◌, arith}
 use Rattle.std.specs.List.{AllByRecursion, range_with_len}
 use Rattle.std.specs.List.Sorted.{IsStrictlySortedBy}
-use Rattle.std.proofs.lemmas.List.{ext_get_or, get_or-map, get_or_append_left, get_or_push, length-map, length_push}
+use Rattle.std.proofs.lemmas.List.{ext_get_or, get_or-map, length-map}
 use Rattle.std.proofs.lemmas.List.Elements.{All-from_recursion, recursion_from_All}
 use Rattle.std.proofs.lemmas.List.FromFn.{fill_by_all, get_or-map-range_with_len, length-map-range_with_len}
 use Rattle.leaf_model.specs.declared.rows.Value.{Value}
@@ -104,15 +104,6 @@ some_times n first times timed cells =
     omega (arith, sized, some_cells first.bytes n timed.cells)
 
 -- ---- the times of a column of integers
-
-pub found_more : (view : Coded) (n : ℕ) (times : List ℤ) (t : ℤ) → AreFound view n times → cell_at view n ≡ Some (values.Int t) → IsTimeCell (Some (values.Int t)) → AreFound view (n + 1) (times ++ t ∷ [])
-found_more view n times t found at is = record {
-  same = length_push times t ∙ ap (λ (k : ℕ). k + 1) found.same;
-  each = below_more (λ (k : ℕ). (cell_at view k ≡ Some (values.Int (slice_index_or (times ++ t ∷ []) k (pos 0)))) × IsTimeCell (Some (values.Int (slice_index_or (times ++ t ∷ []) k (pos 0))))) n
-      (λ k within. subst (λ (z : ℤ). (cell_at view k ≡ Some (values.Int z)) × IsTimeCell (Some (values.Int z)))
-      (sym (get_or_append_left times (t ∷ []) (pos 0) k (omega (arith, found.same, within)))) (found.each k within))
-      (subst (λ (z : ℤ). (cell_at view n ≡ Some (values.Int z)) × IsTimeCell (Some (values.Int z))) (sym (get_or_push times t (pos 0) n found.same)) (at, is));
-}
 
 pub times_told : (rows : ℕ) (c : BlockColumn) (view : Coded) (times : List ℤ) → c.name ≡ time_name → kind_in c.bytes ≡ Ints → MeanCells c.bytes rows → IsSeen view c.bytes
     → AreFound view (length view.codes) times → AreTimes rows c × (cells_in c.bytes ≡ map (λ (t : ℤ). Some (values.Int t)) times)
