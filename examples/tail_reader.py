@@ -36,9 +36,6 @@ class Rule:
         """Of leaves with how many rows each holds, in the order in which they were asked."""
         return min(live, key=lambda told: told[1])[0]
 
-    def ends(self, said):
-        return said[0] == "added"
-
 
 # ---- what was printed
 
@@ -50,7 +47,7 @@ class NotSo(Exception):
 Called = collections.namedtuple("Called", "leaf number said")
 Pick = collections.namedtuple("Pick", "table live leaf")
 Answer = collections.namedtuple("Answer", "query named lines")
-Query = re.compile(r"query SELECT (?P<key>\w+), COUNT\(\*\), SUM\((?P<sum>\w+)\) FROM (?P<table>\w+) WHERE time >= (?P<first>\d+) AND time <= (?P<last>\d+) GROUP BY (?P=key)")
+Query = re.compile(r"SELECT (?P<key>\w+), COUNT\(\*\), SUM\((?P<sum>\w+)\) FROM (?P<table>\w+) WHERE time >= (?P<first>\d+) AND time <= (?P<last>\d+) GROUP BY (?P=key)")
 
 
 class Reader:
@@ -65,7 +62,7 @@ class Reader:
             if line and line[0] != "#":
                 self.item(line)
         if self.at != len(printed):
-            raise NotSo(f"more is printed: {printed[self.at]}")
+            raise NotSo(f"{len(printed)} lines are printed, and not {self.at}")
         self.held = {at: rows_held(at, entries) for at, entries in self.entries.items()}
         for pick in self.picks:
             self.judge_pick(pick)
@@ -113,54 +110,60 @@ class Reader:
     # -- commands
 
     def item(self, line):
-        words = line.split()
-        match words[0]:
-            case "fleet":
-                self.fleet(int(words[1]) * int(words[2]), words[3:])
-            case "burst":
-                self.lane = 0
-            case "lane":
-                self.must(f"lane {self.lane}")
-                self.lane += 1
-            case "tail":
-                self.tail(int(words[1]), words[2], self.rows(words[3]))
-            case "add":
-                self.call([int(words[1])], words[2], f"added {words[3]} late 0", self.rows(words[3]))
-            case "keep":
-                self.entry(int(words[3]))
-            case "query":
-                self.query(Query.fullmatch(line))
-            case "rollover":
-                self.until("rollover done ")
-                self.until("watch ")
-            case "flush" | "drain" | "kill" | "start":
-                self.until(f"{words[0]} {words[1]} ")
+        verb, *words = line.split()
+        if verb in ("flush", "drain", "kill", "start"):
+            self.until(f"{verb} {words[0]} ")
+        else:
+            getattr(self, verb)(*words)
 
-    def fleet(self, count, tables):
-        self.leaves = range(count)
+    def fleet(self, machines, per_machine, *tables):
+        self.leaves = range(int(machines) * int(per_machine))
         for leaf in self.leaves:
             for table in tables:
                 self.call([leaf], table, "opened 0")
             self.must(f"start {leaf} disk nohead")
 
+    def burst(self):
+        self.lanes = 0
+
+    def lane(self):
+        self.must(f"lane {self.lanes}")
+        self.lanes += 1
+
+    def end(self):
+        pass
+
     def rows(self, count):
         return [json.loads(next(self.script)) for _ in range(int(count))]
 
-    def tail(self, key, table, rows):
-        words = self.rule.words(key)
+    def add(self, leaf, table, count):
+        self.call([int(leaf)], table, f"added {count} late 0", self.rows(count))
+
+    def keep(self, leaf, table, count):
+        of, removed = self.entry(int(count))
+        if (of, removed.leaf) != (table, int(leaf)) or removed.said[0] not in ("removed", "refused"):
+            raise NotSo(f"line {self.at} is no reply to a keep of table {table} of leaf {leaf}")
+
+    def rollover(self, percent):
+        self.until("rollover done ")
+        self.until("watch ")
+
+    def tail(self, key, table, count):
+        words, rows = self.rule.words(int(key)), self.rows(count)
         for _ in range(self.rule.tries):
             drawn = dict.fromkeys(self.rule.drawn(words, len(self.leaves)))
             live = [told for told in [self.call([leaf], table, "asked") for leaf in drawn] if told.said == ["asked"]]
             if not live:
                 continue
-            added = self.call([told.leaf for told in live], table, f"added {len(rows)} late 0", rows)
+            added = self.call([told.leaf for told in live], table, f"added {count} late 0", rows)
             self.picks.append(Pick(table, live, added.leaf))
-            if self.rule.ends(added.said):
+            if added.said[0] == "added":
                 self.must(f"tail sent {added.leaf}")
                 return
         self.must("tail refused")
 
-    def query(self, query):
+    def query(self, *words):
+        query = Query.fullmatch(" ".join(words))
         named = [told for told in [self.call([leaf], query["table"], "asked") for leaf in self.leaves] if told.said == ["asked"]]
         head = re.fullmatch(f"answer named {len(named)} of {len(self.leaves)} lines (\\d+)", self.next())
         if not head:
@@ -192,17 +195,19 @@ def rows_held(at, entries):
         if number not in entries:
             raise NotSo(f"the table {at} has no entry {number}")
         said, what = entries[number]
-        if not is_open if said[0] in ("asked", "added", "removed", "closed") else is_open and (said[0] == "opened" or said == ["refused", "shut"]):
+        needs_open, needs_shut = said[0] in ("asked", "added", "removed", "closed"), said[0] == "opened" or said == ["refused", "shut"]
+        if needs_open and not is_open or needs_shut and is_open or said[0] == "opened" and int(said[1]) > len(writes):
             raise NotSo(f"the table {at} says at entry {number}: {said}")
-        match said[0]:
-            case "opened":
-                writes, is_open = writes[: int(said[1])], True
-            case "closed":
-                is_open = False
-            case "added" | "removed":
-                writes.append(what)
-            case "asked":
-                held[number] = rows_left(writes)
+        if said[0] == "opened":
+            writes, is_open = writes[: int(said[1])], True
+        elif said[0] == "closed":
+            is_open = False
+        elif said[0] == "asked":
+            held[number] = rows_left(writes)
+        elif said[0] in ("added", "removed"):
+            before, writes = rows_left(writes), writes + [what]
+            if said[0] == "removed" and int(said[1]) != len(before) - len(rows_left(writes)):
+                raise NotSo(f"the table {at} removed other rows at entry {number}")
     return held
 
 
