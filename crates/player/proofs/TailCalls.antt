@@ -1,5 +1,5 @@
 -- Calls by the seats of one row, one after another.
-use Rattle.std.proofs.Common.{◌≡◌, ◌≢◌, ◌⊎◌, inl, inr, ℕ, ◌<◌, List, [], ◌∷◌, length, map, Option, Some, refl, sym, ap, subst, ◌∙◌, arith, length-set, get_or-set_same}
+use Rattle.std.proofs.Common.{◌≡◌, ◌≢◌, ◌⊎◌, inl, inr, ℕ, ◌<◌, List, [], ◌∷◌, ◌++◌, length, map, Option, Some, refl, sym, ap, subst, ◌∙◌, arith, length-set, get_or-set_same}
 use Rattle.std.specs.Prelude.{Bool, slice_get, slice_set}
 use Rattle.std.specs.List.{AllByRecursion}
 use Rattle.std.proofs.lemmas.Bool.{cases_eq}
@@ -76,7 +76,7 @@ module _ {B : Type 0} (fleet : List (List Shared)) (leaves : List (Option (OneLe
       sym (ap (λ (r : List SeatView). slice_set (with_row vs) table (slice_set r leaf w)) (row_with vs) ∙ set_twice rows table vs (slice_set vs leaf w))
 
   module _ (vs ws : List SeatView) (c : LeafCall) (call : CallAt fleet table vs c ws) where
-    has : HasSeat c.leaf table (with_row vs)
+    abbrev has : HasSeat c.leaf table (with_row vs)
     has = (call.before, ap (λ (r : List SeatView). slice_get r c.leaf) (row_with vs) ∙ call.was)
 
     now_is : with_row ws ≡ with_place (with_row vs) table c.leaf call.after
@@ -120,6 +120,7 @@ module _ {B : Type 0} (fleet : List (List Shared)) (leaves : List (Option (OneLe
               few = before.few;
               called = subst (λ (cs : List (Option SeatView)). AreCalled (record { tables = row fleet c.leaf; seats = cs })) (sym then) called;
             }
+
         by : (leaf ≡ c.leaf) ⊎ (leaf ≢ c.leaf) → IsColumn leaf (row fleet leaf) (with_row ws)
         by (inl same) =
             subst (λ (n : ℕ). IsColumn n (row fleet n) (with_row ws)) (sym same) (here (subst (λ (n : ℕ). IsColumn n (row fleet n) (with_row vs)) same is))

@@ -1,6 +1,6 @@
 -- The tries of a tail, as their pieces tell them.
 use Rattle.std.proofs.Common.{◌≡◌, ℕ, ◌<◌, Bool, true, false, List, [], ◌∷◌, ◌++◌, map, refl, sym, ap, ap₂, subst, ◌∙◌, append_assoc, mod-lt, Option, Some, None, IfSome}
-use Rattle.std.specs.Prelude.{is_some, option_and_then, option_map, option_to_list}
+use Rattle.std.specs.Prelude.{if◌then◌else◌, is_some, option_and_then, option_map, option_to_list}
 use Rattle.std.specs.List.{AllByRecursion, flat_map}
 use Rattle.leaf_model.specs.declared.rows.Row.{Row}
 use Rattle.leaf_model.specs.declared.groups.Group.{Group}
@@ -20,6 +20,7 @@ use Rattle.transcript.specs.Pieces.{Piece}
 use Rattle.transcript.specs.Shapes.{CallPiece}
 use Rattle.transcript.specs.Histories.{Ground, rows_before}
 use Rattle.transcript.specs.Tails.{TryPieces, free_then, pieces_of_try, tells_added}
+use Rattle.leaf_moves.specs.Steps.{IsReplyPiece}
 use Rattle.player.specs.Lines.{reply_line}
 use Rattle.player.specs.Commands.{also_line, try_lines}
 use Rattle.player.proofs.CallPieces.{call_prints, reply_piece}
@@ -101,29 +102,33 @@ All-parts : {X : Type 0} (P : X → Type 0) (xs ys : List X) → AllByRecursion 
 All-parts P [] ys h = (tt, h)
 All-parts P (x ∷ xs) ys h = let others = All-parts P xs ys h.1 in ((h.0, others.0), others.1)
 
-tells_same : (leaf table : ℕ) (rows : List Row) (r : Reply) → tells_added (call_piece table (record { leaf = leaf; call = call.Add rows; reply = r })) ≡ is_added r
-tells_same leaf table rows (told.Added number kept late) = refl
-tells_same leaf table rows (told.Removed number k) = refl
-tells_same leaf table rows (told.Groups number gs) = refl
-tells_same leaf table rows (told.Shut number) = refl
-tells_same leaf table rows (told.Full number) = refl
-tells_same leaf table rows (told.NoMemory number) = refl
-tells_same leaf table rows told.Worn = refl
+tells_same : (leaf table : ℕ) (c : call.Call) (r : Reply) (p : Piece) → IsReplyPiece leaf table c r p → tells_added p ≡ is_added r
+tells_same leaf table c (told.Added number kept late) p says = ap tells_added says
+tells_same leaf table c (told.Removed number k) p says = ap tells_added says
+tells_same leaf table c (told.Groups number gs) p says = ap tells_added says
+tells_same leaf table c (told.Shut number) p says = ap tells_added says
+tells_same leaf table c (told.Full number) p says = ap tells_added says
+tells_same leaf table c (told.NoMemory number) p says = ap tells_added says
+tells_same leaf table c told.Worn p says = ap tells_added says
 
 module _ (leaves table : ℕ) (rows : List Row) (bases : ℕ → Option TableBase) (grounds : ℕ → Ground) (histories : ℕ → List Entry)
     (ground : (leaf : ℕ) → leaf < leaves → grounds leaf ≡ record { founded = is_founded (bases leaf); base = start_of (bases leaf) }) where
   abbrev free : Piece → Option ℕ
   free p = free_then grounds histories p
 
+  piece_free : (leaf : ℕ) (r : Reply) (p : Piece) → leaf < leaves → IsOverRows bases histories (asking leaf r) → IsReplyPiece leaf table (call.Ask every_row) r p → free p ≡ free_of r
+  piece_free leaf (told.Groups number gs) p below over says =
+      ap free says
+      ∙ ap (λ (xs : List Group). Some (free_rows xs)) (ap (λ (g : Ground). groups every_row (rows_before g (histories leaf) number)) (ground leaf below) ∙ sym over)
+  piece_free leaf (told.Added number kept late) p below over says = ap free says
+  piece_free leaf (told.Removed number k) p below over says = ap free says
+  piece_free leaf (told.Shut number) p below over says = ap free says
+  piece_free leaf (told.Full number) p below over says = ap free says
+  piece_free leaf (told.NoMemory number) p below over says = ap free says
+  piece_free leaf told.Worn p below over says = ap free says
+
   free_same : (leaf : ℕ) (r : Reply) → leaf < leaves → IsOverRows bases histories (asking leaf r) → free (ask_piece table leaf r) ≡ free_of r
-  free_same leaf (told.Groups number gs) below over =
-      ap (λ (xs : List Group). Some (free_rows xs)) (ap (λ (g : Ground). groups every_row (rows_before g (histories leaf) number)) (ground leaf below) ∙ sym over)
-  free_same leaf (told.Added number kept late) below over = refl
-  free_same leaf (told.Removed number k) below over = refl
-  free_same leaf (told.Shut number) below over = refl
-  free_same leaf (told.Full number) below over = refl
-  free_same leaf (told.NoMemory number) below over = refl
-  free_same leaf told.Worn below over = refl
+  free_same leaf r below over = let p = reply_piece leaf table (call.Ask every_row) r in piece_free leaf r p.piece below over p.says
 
   also_free : (leaf : ℕ) (o : Option Reply) → leaf < leaves → AllByRecursion (IsOverRows bases histories) (asking_also leaf o)
       → option_and_then free (option_map (ask_piece table leaf) o) ≡ option_and_then free_of o
@@ -147,7 +152,7 @@ module _ (leaves table : ℕ) (rows : List Row) (bases : ℕ → Option TableBas
 
   sent_same : (pick : Option ℕ) (o : Option Reply) → is_some o ≡ is_some pick
       → option_and_then (λ p. if tells_added p then pick else None) (add_piece table rows pick o) ≡ option_and_then (λ r. if is_added r then pick else None) o
-  sent_same (Some leaf) (Some r) both = ap (λ (b : Bool). if b then Some leaf else None) (tells_same leaf table rows r)
+  sent_same (Some leaf) (Some r) both = let p = reply_piece leaf table (call.Add rows) r in ap (λ (b : Bool). if b then Some leaf else None) (tells_same leaf table (call.Add rows) r p.piece p.says)
   sent_same (Some leaf) None both = refl
   sent_same None None both = refl
   sent_same None (Some r) both = absurd cc
@@ -186,8 +191,7 @@ module _ (leaves table : ℕ) (rows : List Row) (bases : ℕ → Option TableBas
       let pick = pick_of free_of is_added t in
       let sent_is : sent_by free tells_added (try_piece table rows t) ≡ sent_by free_of is_added t =
       ap (λ (p : Option ℕ). option_and_then (λ q. if tells_added q then p else None) (add_piece table rows pick t.added)) same ∙ sent_same pick t.added tails.0.add in
-      let further = others (sent_by free_of is_added t) tails.1 parts.1 in
-      (
+      let further = others (λ more. tries_told some words ts sent more parts.1) (sent_by free_of is_added t) tails.1 in (
         (
           record {
             first = tails.0.first;
@@ -200,10 +204,10 @@ module _ (leaves table : ℕ) (rows : List Row) (bases : ℕ → Option TableBas
         (picks t same, further.1),
       )
     where
-      others : (o : Option ℕ) → Goes free_of is_added o ts sent (Tails free_of is_added leaves words ts sent) → AllByRecursion (IsOverRows bases histories) (calls_in rows ts)
+      others : (Tails free_of is_added leaves words ts sent → Both words ts sent) → (o : Option ℕ) → Goes free_of is_added o ts sent (Tails free_of is_added leaves words ts sent)
           → Goes free tells_added o (map (try_piece table rows) ts) sent (Tails free tells_added leaves words (map (try_piece table rows) ts) sent) × AllByRecursion Picks (map (try_piece table rows) ts)
-      others (Some leaf) ends here = ((ap (λ (xs : List (TryOf Reply)). map (try_piece table rows) xs) ends.0, ends.1), subst (λ (xs : List (TryOf Reply)). AllByRecursion Picks (map (try_piece table rows) xs)) (sym ends.0) tt)
-      others None more here = tries_told some words ts sent more here
+      others next (Some leaf) ends = ((ap (λ (xs : List (TryOf Reply)). map (try_piece table rows) xs) ends.0, ends.1), subst (λ (xs : List (TryOf Reply)). AllByRecursion Picks (map (try_piece table rows) xs)) (sym ends.0) tt)
+      others next None more = next more
   tries_told some [] (t ∷ ts) sent tails over = absurd tails
   tries_told some (u ∷ []) ts sent tails over = absurd tails
   tries_told some (u ∷ v ∷ words) [] sent tails over = absurd tails

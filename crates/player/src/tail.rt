@@ -40,7 +40,16 @@ impl<'t, B: Berth> Members<'t, B> {
         ensures same { SameFleet self.old self.new }
         ensures tails { TailsAll B.meaning key table rows.now self.old result self.new ⊎ (IsErr result × (holds_in self.new ≡ holds_in self.old)) }
     {
-        let tailed = send_row(rt, alloc, gate, self.tables, &mut self.rows, table, key, rows)?;
+        let tailed = send_row(
+            rt,
+            alloc,
+            gate,
+            self.tables,
+            &mut self.rows,
+            table,
+            key,
+            rows,
+        )?;
         tail_lines(alloc, table, &tailed)
     }
 }

@@ -63,7 +63,7 @@ WornIsLong histories piece = IfSome (worn_in piece) (λ x. 2 ^ 62 ≤ length (hi
 
 -- ---- columns
 
--- how many columns tables have at least that are handed over in these entries: one for each that has rows then
+-- how many columns tables have at least that are handed over in these entries: by the rows that each has then
 abbrev pub columns_handed : (ℕ → Ground) → (ℕ → List Entry) → List Noted → ℕ
 columns_handed grounds histories [] = 0
 columns_handed grounds histories (n ∷ ns) = least_columns (rows_before (grounds n.table) (histories n.table) n.number) + columns_handed grounds histories ns

@@ -26,7 +26,7 @@ use Rattle.transcript_leaf.proofs.Lists.{element_at}
 use Rattle.transcript_fleet.proofs.Lists.{All-append, All-weaken}
 use Rattle.transcript_fleet.proofs.Growing.{grounds_here}
 use Rattle.transcript_fleet.proofs.Going.{IsWithin, Leaves}
-use Rattle.transcript_fleet.proofs.Tailing.{tail_same}
+use Rattle.transcript_fleet.proofs.Tailing.{All-parts, tail_same}
 
 -- ---- which leaves are named
 
@@ -65,10 +65,6 @@ asks_named leaves leaf (suc count) table tables c (p ∷ ps) all is within =
     (ask_named leaves leaf table tables c p (omega (arith, all)) is.0 within.0)
     (asks_named leaves (leaf + 1) count table tables c ps (omega (arith, all)) is.1 within.1)
 
-All-front : {X : Type 0} (P : X → Type 0) (xs ys : List X) → AllByRecursion P (xs ++ ys) → AllByRecursion P xs
-All-front P [] ys h = tt
-All-front P (x ∷ xs) ys h = (h.0, All-front P xs ys h.1)
-
 from_none : (n : ℕ) → 0 + n ≡ n
 from_none n = omega arith
 
@@ -80,7 +76,7 @@ query_named fleet q pieces asked within =
     let leaves : ℕ = leaf_count fleet in
     let answer : List Piece = Says (line.Answer (length (named asked.asks)) (leaf_count fleet) asked.rows) ∷ [] in
     let here : AllByRecursion (IsWithin tables) (asked.asks ++ answer) = subst (λ (ps : List Piece). AllByRecursion (IsWithin tables) ps) asked.are within in
-    let asks = asks_named leaves 0 leaves table tables (call.Ask q) asked.asks (from_none leaves) asked.each (All-front (IsWithin tables) asked.asks answer here) in
+    let asks = asks_named leaves 0 leaves table tables (call.Ask q) asked.asks (from_none leaves) asked.each (All-parts (IsWithin tables) asked.asks answer here).0 in
     subst (λ (ps : List Piece). AllByRecursion (IsBelow leaves table tables) (named ps)) (sym asked.are)
     (subst (λ (ls : List (ℕ × ℕ)). AllByRecursion (IsBelow leaves table tables) ls) (sym (flat_map-append named_in asked.asks answer))
     (All-append (IsBelow leaves table tables) (named asked.asks) [] asks tt))

@@ -1,6 +1,6 @@
 -- Tails: which leaves they pick is said by what is known of the leaves that they ask.
 use Rattle.std.proofs.Common.{◌≡◌, ℕ, ◌<◌, Bool, List, [], ◌∷◌, ◌++◌, inl, inr, refl, sym, ap, ap₂, subst, ◌∙◌, mod-lt, Option, Some, None, IfSome}
-use Rattle.std.specs.Prelude.{option_and_then, option_to_list, is_some}
+use Rattle.std.specs.Prelude.{if◌then◌else◌, option_and_then, option_to_list, is_some}
 use Rattle.std.specs.List.{AllByRecursion, flat_map}
 use Rattle.leaf_model.specs.declared.rows.Row.{Row}
 use Rattle.leaf_model.specs.Groups.{groups}
@@ -18,7 +18,8 @@ use Rattle.transcript.specs.Histories.{Ground, rows_before}
 use Rattle.transcript.specs.Tails.{TailPieces, TryPieces, free_then, pieces_of_try, tells_added}
 use Rattle.transcript_fleet.proofs.Going.{IsWithin}
 
-All-parts : {X : Type 0} (P : X → Type 0) (xs ys : List X) → AllByRecursion P (xs ++ ys) → AllByRecursion P xs × AllByRecursion P ys
+-- what holds of all holds of the first and of the others
+pub All-parts : {X : Type 0} (P : X → Type 0) (xs ys : List X) → AllByRecursion P (xs ++ ys) → AllByRecursion P xs × AllByRecursion P ys
 All-parts P [] ys h = (tt, h)
 All-parts P (x ∷ xs) ys h = let others = All-parts P xs ys h.1 in ((h.0, others.0), others.1)
 
@@ -38,12 +39,13 @@ module _ {R : Type 0} (free other : R → Option ℕ) (is_added : R → Bool) wh
   tails_same n [] [] sent agree tails = tails
   tails_same n (u ∷ v ∷ words) (t ∷ ts) sent agree tails = (
     record { first = tails.0.first; second = tails.0.second; two = tails.0.two; add = tails.0.add ∙ ap (λ (o : Option ℕ). is_some o) (pick_same t agree.0) },
-    subst (λ (o : Option ℕ). Goes free is_added o ts sent (Tails other is_added n words ts sent)) (sent_same t agree.0) (goes (sent_by free is_added t) tails.1),
+    subst (λ (o : Option ℕ). Goes free is_added o ts sent (Tails other is_added n words ts sent)) (sent_same t agree.0) (goes (λ more. tails_same n words ts sent agree.1 more) (sent_by free is_added t) tails.1),
   )
     where
-      goes : (o : Option ℕ) → Goes free is_added o ts sent (Tails free is_added n words ts sent) → Goes free is_added o ts sent (Tails other is_added n words ts sent)
-      goes (Some leaf) ends = ends
-      goes None more = tails_same n words ts sent agree.1 more
+      goes : (Tails free is_added n words ts sent → Tails other is_added n words ts sent) → (o : Option ℕ)
+          → Goes free is_added o ts sent (Tails free is_added n words ts sent) → Goes free is_added o ts sent (Tails other is_added n words ts sent)
+      goes further (Some leaf) ends = ends
+      goes further None more = further more
   tails_same n [] (t ∷ ts) sent agree tails = absurd tails
   tails_same n (u ∷ []) ts sent agree tails = absurd tails
   tails_same n (u ∷ v ∷ words) [] sent agree tails = absurd tails
@@ -66,7 +68,7 @@ module _ (leaves table tables : ℕ) (f g : ℕ → Ground) (histories : ℕ →
   also_same leaf None below calls within = refl
   also_same leaf (Some p) below calls within = free_same leaf (call.Ask every_row) p below calls within.0
 
-  Agrees : TryOf Piece → Type 0
+  abbrev Agrees : TryOf Piece → Type 0
   Agrees t = AgreeOn (free_then f histories) (free_then g histories) tells_added t
 
   try_agrees : (pick : Option ℕ) (rows : List Row) (t : TryOf Piece) → t.first < leaves → t.second < leaves → TryPieces table rows pick t → AllByRecursion (IsWithin tables) (pieces_of_try t) → Agrees t
@@ -87,12 +89,12 @@ module _ (leaves table tables : ℕ) (f g : ℕ → Ground) (histories : ℕ →
       let parts = All-parts (IsWithin tables) (pieces_of_try t) (flat_map pieces_of_try ts) within in
       let first : t.first < leaves = subst (λ (n : ℕ). n < leaves) (sym tails.0.first) (mod-lt u some) in
       let second : t.second < leaves = subst (λ (n : ℕ). n < leaves) (sym tails.0.second) (mod-lt v some) in
-      (try_agrees (pick_of (free_then f histories) tells_added t) rows t first second calls.0 parts.0, others (sent_by (free_then f histories) tells_added t) tails.1 parts.1)
+      (try_agrees (pick_of (free_then f histories) tells_added t) rows t first second calls.0 parts.0, others (λ more. all_agree some rows words ts sent more calls.1 parts.1) (sent_by (free_then f histories) tells_added t) tails.1)
     where
-      others : (o : Option ℕ) → Goes (free_then f histories) tells_added o ts sent (Tails (free_then f histories) tells_added leaves words ts sent)
-          → AllByRecursion (IsWithin tables) (flat_map pieces_of_try ts) → AllByRecursion Agrees ts
-      others (Some leaf) ends here = subst (AllByRecursion Agrees) (sym ends.0) tt
-      others None more here = all_agree some rows words ts sent more calls.1 here
+      others : (Tails (free_then f histories) tells_added leaves words ts sent → AllByRecursion Agrees ts) → (o : Option ℕ)
+          → Goes (free_then f histories) tells_added o ts sent (Tails (free_then f histories) tells_added leaves words ts sent) → AllByRecursion Agrees ts
+      others further (Some leaf) ends = subst (AllByRecursion Agrees) (sym ends.0) tt
+      others further None more = further more
   all_agree some rows [] (t ∷ ts) sent tails calls within = absurd tails
   all_agree some rows (u ∷ []) (t ∷ ts) sent tails calls within = absurd tails
 

@@ -1,4 +1,4 @@
--- Tables that are handed over had at least the columns that the histories tell: one for each that has rows then.
+-- Tables that are handed over had at least the columns that the histories tell, by the rows that each has then.
 use Rattle.std.proofs.Common.{◌≡◌, ℕ, suc, ◌+◌, ◌-◌, ◌<◌, ◌≤◌, Bool, false, List, [], ◌∷◌, ◌++◌, length, take, Some, None, refl, sym, ap, subst, ◌∙◌, arith}
 use Rattle.std.specs.Prelude.{slice_get, slice_set}
 use Rattle.std.proofs.lemmas.List.{append_assoc, length-append}
