@@ -169,4 +169,4 @@ late_cut rows times h t late same up inside count here =
     let found = cut h t times late (sorted_ascend times up) inside (omega (arith, as_many, as_long, by_rows, left, count)) here in
     let P : ℤ → Type 0 = λ (x : ℤ). int_le h x ≡ true → int_le t x ≡ true in
     rows_same h t rows found.above
-        (recursion_from_All P all (All-permutation P times all (IsPermutation-sym all times same) (All-from_recursion P times found.each)))
+    (recursion_from_All P all (All-permutation P times all (IsPermutation-sym all times same) (All-from_recursion P times found.each)))

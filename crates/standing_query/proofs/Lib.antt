@@ -9,3 +9,8 @@ mod Cut
 mod Ends
 mod Repeated
 mod Telling
+mod Counted
+mod Expired
+mod Held
+mod Going
+mod Feeding

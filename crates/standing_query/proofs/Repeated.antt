@@ -105,8 +105,8 @@ one_within q row zero one = one
 one_within q row (suc k) one =
     let more : 1 + suc k ≡ suc (suc k) = omega arith in
     subst (λ (n : ℕ). AllByRecursion (IsWithin n) (groups q (replicate (suc (suc k)) row))) more
-        (subst (AllByRecursion (IsWithin (1 + suc k))) (sym (groups-append q (row ∷ []) (replicate (suc k) row)))
-            (joined_within 1 (suc k) (groups q (row ∷ [])) (groups q (replicate (suc k) row)) one (one_within q row k one)))
+    (subst (AllByRecursion (IsWithin (1 + suc k))) (sym (groups-append q (row ∷ []) (replicate (suc k) row)))
+    (joined_within 1 (suc k) (groups q (row ∷ [])) (groups q (replicate (suc k) row)) one (one_within q row k one)))
 
 pub times_are : (q : Query) (row : Row) (n : ℕ) → 0 < n → map (group_times n) (groups q (row ∷ [])) ≡ groups q (replicate n row)
 times_are q row zero some = absurd (omega (arith, some))

@@ -1,5 +1,5 @@
 -- The groups of a query out of parts of those of its spread.
-use Rattle.std.proofs.Common.{◌≡◌, ℕ, ◌+◌, ◌<◌, ◌≤◌, ◌^◌, List, [], ◌∷◌, ◌++◌, length, map, take, drop, get_or, refl, sym, ap, subst, ◌∙◌, arith, length-append}
+use Rattle.std.proofs.Common.{◌≡◌, ℕ, ◌+◌, ◌<◌, ◌≤◌, ◌^◌, List, [], ◌∷◌, ◌++◌, length, map, take, drop, get_or, sym, ap, subst, ◌∙◌, arith, length-append}
 use Rattle.std.specs.Prelude.{replicate}
 use Rattle.std.specs.List.{AllByRecursion, flat_map}
 use Rattle.std.proofs.lemmas.List.{append-nil, take-append-drop, take_more}
@@ -60,7 +60,7 @@ module _ (names : List (List ℕ)) (parts : List (List Group)) (i : ℕ) (part :
   pub next_count : length so_far + length (rows_shown names part) ≤ length (flat_map (rows_shown names) parts)
   next_count =
       subst (λ (gs : List Group). length so_far + length (rows_shown names gs) ≤ length (flat_map (rows_shown names) parts)) (sym here)
-          (length-flat_map-take (rows_shown names) parts i part inside)
+      (length-flat_map-take (rows_shown names) parts i part inside)
 
   pub next_rows : so_far ++ rows_shown names part ≡ flat_map (rows_shown names) (take (i + 1) parts)
   next_rows = sym (

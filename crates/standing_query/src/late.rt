@@ -1,9 +1,10 @@
 // Which rows of an add stay: all but so many with the least times.
-ghost use Rattle.std.specs.Prelude.{◌≡◌, ◌+◌, ◌≤◌, ℕ, ℤ, map, length, IfOk, IsPermutation, IsSorted, true, OnOk, OnErr, IsOk};
+ghost use Rattle.std.specs.Prelude.{◌≡◌, ◌<◌, ◌≤◌, map, length, IfOk, IsPermutation, IsSorted};
 ghost use Rattle.std.specs.Ordering.{int_cmp};
 ghost use Rattle.std.specs.Vec.{vec_len};
 ghost use Rattle.leaf_model.specs.declared.rows.Row.{Row};
 ghost use Rattle.leaf_model.specs.Content.{rows_from};
+ghost use Rattle.standing_query.specs.Parts.{IsCut};
 
 use leaf_model::Row;
 use std::alloc::{AllocError, Global};
@@ -38,20 +39,11 @@ fn retain_from(rows: &mut Vec<Row>, time: &i64)
 }
 
 /// The rows without the late ones, where so many are those below some horizon.
-pub fn without_late(
-    alloc: Global,
-    mut rows: Vec<Row>,
-    late: u64,
-) -> Result<Vec<Row>, AllocError>
-    ensures few { IfOk result (λ kept. vec_len kept ≤ vec_len rows) }
-    ensures kept { (h : ℤ) → late + length (rows_from h rows.items) ≡ length rows.items → IfOk result (λ kept. kept.items ≡ rows_from h rows.items) }
-    ensures memory { length rows.items ≤ late → IsOk result }
+pub fn without_late(alloc: Global, mut rows: Vec<Row>, late: u64) -> Result<Vec<Row>, AllocError>
+    requires { late < vec_len rows }
+    ensures { IfOk result (λ kept. IsCut rows.items late kept.items) }
 {
     if late == 0 {
-        return Ok(rows);
-    }
-    if late >= rows.len() as u64 {
-        rows.clear();
         return Ok(rows);
     }
     let times = sorted_times(alloc, rows.as_slice())?;

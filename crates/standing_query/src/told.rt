@@ -1,10 +1,12 @@
 // A query's groups, out of those of its spread: each group of the spread is looked at once, however many rows it stands for.
-ghost use Rattle.std.specs.Prelude.{◌≡◌, ◌≤◌, ◌^◌, length, replicate, IfOk};
+ghost use Rattle.std.specs.Prelude.{◌≡◌, ◌≢◌, ◌≤◌, ◌^◌, [], length, replicate, IfOk, IfErr};
 ghost use Rattle.std.specs.List.{AllByRecursion, flat_map};
 ghost use Rattle.leaf_model.specs.Groups.{groups};
 ghost use Rattle.group_table.specs.Joined.{IsWithin};
-ghost use Rattle.standing_query.specs.Spread.{row_shown, rows_shown};
+ghost use Rattle.standing_query.specs.Parts.{all_joined};
+ghost use Rattle.standing_query.specs.Spread.{back, cells_read, row_shown, rows_shown};
 
+use crate::parts::are_empty;
 use crate::shown::row_shown;
 use crate::times::groups_times;
 use group_table::{fold_rows, merge};
@@ -70,4 +72,22 @@ pub fn told_parts(
         all = merge(alloc, all, more)?;
     }
     Ok(all)
+}
+
+/// The query's groups of the rows that the parts of its spread's groups stand for.
+pub fn tell(
+    alloc: Global,
+    query: &Query,
+    names: &[Text],
+    parts: &[Groups],
+) -> Result<Groups, AllocError>
+    requires names { names.now ≡ cells_read query.now }
+    requires few { length (flat_map (rows_shown names.now) parts.now) ≤ 2 ^ 62 }
+    ensures value { IfOk result (λ gs. gs ≡ back query.now (all_joined parts.now)) }
+    ensures memory { IfErr result (λ _. all_joined parts.now ≢ []) }
+{
+    if are_empty(parts) {
+        return Ok(Groups::of(Vec::new(alloc)));
+    }
+    told_parts(alloc, query, names, parts)
 }

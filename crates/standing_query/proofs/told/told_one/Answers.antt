@@ -1,4 +1,4 @@
-use Rattle.std.proofs.Common.{◌≡◌, ◌∙◌, ap, arith, subst, sym}
+use Rattle.std.proofs.Common.{◌∙◌, ap, arith, subst, sym}
 use Rattle.std.specs.Prelude.{replicate}
 use Rattle.std.specs.List.{AllByRecursion}
 use Rattle.leaf_model.specs.Groups.{groups}
@@ -22,4 +22,4 @@ pub returns-clause-within : goal.returns-clause-within
 returns-clause-within c =
     let once = folded_once c.args.query.now c.in_ok-row.row c.from_ref.result.now c.in_ok-once.once c.from_ref.ensures.value c.in_ok-once.ensures.value c.in_ok-once.ensures.within in
     subst (AllByRecursion (IsWithin c.args.group.now.count)) (sym c.groups_times.ensures)
-        (once_within c.args.query.now c.in_ok-row.row c.args.group.now.count c.in_ok-once.once once (omega arith))
+    (once_within c.args.query.now c.in_ok-row.row c.args.group.now.count c.in_ok-once.once once (omega arith))

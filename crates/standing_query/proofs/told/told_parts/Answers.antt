@@ -1,7 +1,6 @@
-use Rattle.std.proofs.Common.{◌≡◌, ◌≤◌, ◌+◌, ◌++◌, length, take, ap, subst, sym, ◌∙◌, arith}
-use Rattle.std.specs.List.{AllByRecursion, flat_map}
+use Rattle.std.proofs.Common.{length, take, ap, ◌∙◌, arith}
+use Rattle.std.specs.List.{flat_map}
 use Rattle.leaf_model.specs.Groups.{groups}
-use Rattle.group_table.specs.Joined.{IsWithin}
 use Rattle.group_table.proofs.Within.{joined_fit}
 use Rattle.standing_query.specs.Spread.{rows_shown}
 use Rattle.standing_query.proofs.Telling.{next_count, next_rows, next_within}
@@ -16,7 +15,7 @@ pub merge-requires : goal.merge-requires
 merge-requires c =
     let count = next_count c.args.names.now c.args.parts.now c.loop-part.part-index c.as_slice.result.now c.loop-part-test.true (rw c.as_slice.ensures c.part-item.is) in
     joined_fit (length (flat_map (rows_shown c.args.names.now) (take c.loop-part.part-index c.args.parts.now))) (length (rows_shown c.args.names.now c.as_slice.result.now))
-        c.loop-part.all c.in_ok-more.more (omega (arith, count, c.requires)) c.loop-part.invariant.within c.in_ok-more.ensures.within
+    c.loop-part.all c.in_ok-more.more (omega (arith, count, c.requires)) c.loop-part.invariant.within c.in_ok-more.ensures.within
 
 pub loop-part-preserved : goal.loop-part-preserved
 loop-part-preserved c =
@@ -28,5 +27,5 @@ loop-part-preserved c =
           ∙ ap (groups c.args.query.now) (next_rows c.args.names.now c.args.parts.now c.loop-part.part-index c.as_slice.result.now c.loop-part-test.true (rw c.as_slice.ensures c.part-item.is));
       within =
           next_within c.args.names.now c.args.parts.now c.loop-part.part-index c.as_slice.result.now c.loop-part-test.true (rw c.as_slice.ensures c.part-item.is) c.in_ok-all.all
-              (c.in_ok-all.ensures.within (length so_far) (length more) c.loop-part.invariant.within c.in_ok-more.ensures.within);
+          (c.in_ok-all.ensures.within (length so_far) (length more) c.loop-part.invariant.within c.in_ok-more.ensures.within);
     }

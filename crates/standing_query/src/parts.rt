@@ -1,0 +1,184 @@
+// Groups of a spread in parts.
+ghost use Rattle.std.specs.Prelude.{◌≡◌, ◌≢◌, ℕ, ◌+◌, ◌<◌, ◌≤◌, ◌^◌, ◌==◌, List, [], ◌∷◌, ◌++◌, length, map, not, IfOk, IfErr, OnOk, OnSome, option_to_list};
+ghost use Rattle.std.specs.List.{list_all};
+ghost use Rattle.std.specs.Vec.{vec_len, vec_capacity};
+ghost use Rattle.leaf_model.specs.declared.rows.Row.{Row};
+ghost use Rattle.leaf_model.specs.declared.queries.Query.{Query};
+ghost use Rattle.standing_query.specs.Parts.{AreCounted, AreParts, GoesOn, Holds, IsCut, SpreadsSome, groups_from};
+ghost use Rattle.standing_query.specs.States.{TakesMemory, is_end};
+
+use crate::fed::Fed;
+use crate::late::without_late;
+use crate::shown::time_in;
+use group_table::{fold_rows, merge};
+use leaf_model::{Groups, Query, Row, Rows};
+use std::alloc::{AllocError, Global};
+use std::mem::replace;
+
+/// More rows than this are not added to the parts, so that their groups fit.
+const MOST_ROWS: u64 = 1 << 62;
+
+/// Groups in parts, of at most so many rows. Each had more than twice as many groups as the next one had when that came.
+#[derive(Drop)]
+pub struct Parts {
+    pub list: Vec<Groups>,
+    pub rows: u64,
+}
+
+/// The last part, where it has at most about twice as many groups.
+fn pop_short(list: &mut Vec<Groups>, groups: usize) -> Option<Groups>
+    ensures items { list.old.items ≡ list.new.items ++ option_to_list result }
+    ensures fewer { OnSome result (vec_len list.new < vec_len list.old) }
+    ensures room { vec_capacity list.new ≡ vec_capacity list.old }
+{
+    let is_short = match list.as_slice().last() {
+        None => false,
+        Some(last) => last.as_slice().len() / 2 <= groups,
+    };
+    if is_short { list.pop() } else { None }
+}
+
+/// A part more, which takes up those before it that are short beside it.
+fn put_part(alloc: Global, list: &mut Vec<Groups>, part: Groups) -> Result<(), AllocError>
+    requires { AreCounted (list.old.items ++ part ∷ []) }
+    ensures rows { (q : Query) (rows : List Row) → AreParts q rows (list.old.items ++ part ∷ []) → OnOk result (AreParts q rows list.new.items) }
+    ensures room { vec_capacity list.old ≤ vec_capacity list.new }
+{
+    let mut last = part;
+    while let Some(before) = pop_short(list, last.as_slice().len()) {
+        last = merge(alloc, before, last)?;
+    }
+    list.push(last)?;
+    Ok(())
+}
+
+fn retain_from(groups: Groups, horizon: &i64) -> Groups
+    ensures { result ≡ groups_from horizon.now groups }
+{
+    let mut inner = groups.into_inner();
+    inner.retain(|group| time_in(group.keys.as_slice()) >= *horizon);
+    Groups::of(inner)
+}
+
+fn forget_in(alloc: Global, part: &mut Groups, horizon: &i64)
+    ensures { part.new ≡ groups_from horizon.now part.old }
+{
+    let groups = replace(part, Groups::of(Vec::new(alloc)));
+    *part = retain_from(groups, horizon);
+}
+
+/// The groups of times below the horizon go, in each part.
+fn forget(alloc: Global, list: &mut Vec<Groups>, horizon: &i64)
+    ensures groups { list.new.items ≡ map (groups_from horizon.now) list.old.items }
+    ensures room { vec_capacity list.new ≡ vec_capacity list.old }
+{
+    let mut i: usize = 0;
+    while i < list.len() {
+        forget_in(alloc, &mut list[i], horizon);
+        i += 1;
+    }
+}
+
+/// Whether no part has a group.
+pub fn are_empty(parts: &[Groups]) -> bool
+    ensures { result ≡ list_all (λ part. length part == 0) parts.now }
+{
+    parts.iter().all(|part| part.as_slice().is_empty())
+}
+
+impl Parts {
+    /// No part, and room for one.
+    pub fn new(alloc: Global) -> Result<Parts, AllocError>
+        ensures list { IfOk result (λ parts. parts.list.items ≡ []) }
+        ensures rows { IfOk result (λ parts. parts.rows ≡ 0) }
+        ensures room { IfOk result (λ parts. 0 < vec_capacity parts.list) }
+    {
+        Ok(Parts {
+            list: Vec::with_capacity(alloc, 1)?,
+            rows: 0,
+        })
+    }
+
+    /// One part, of at most 2^40 rows, in the room of those that were there.
+    pub fn settle(&mut self, groups: Groups)
+        requires { 0 < vec_capacity self.old.list }
+        ensures list { self.new.list.items ≡ groups ∷ [] }
+        ensures rows { self.new.rows ≡ 2 ^ 40 }
+        ensures room { vec_capacity self.new.list ≡ vec_capacity self.old.list }
+    {
+        self.list.clear();
+        self.list.push_reserved(groups);
+        self.rows = 1 << 40;
+    }
+
+    /// No part is left; the room stays.
+    pub fn clear(&mut self)
+        ensures list { self.new.list.items ≡ [] }
+        ensures rows { self.new.rows ≡ 0 }
+        ensures room { vec_capacity self.new.list ≡ vec_capacity self.old.list }
+    {
+        self.list.clear();
+        self.rows = 0;
+    }
+
+    /// Rows behind those that are held.
+    fn put(&mut self, spread: &Query, rows: &[Row]) -> Result<(), AllocError>
+        requires of { SpreadsSome spread.now }
+        requires held { (before : List Row) × Holds spread.now self.old.list.items self.old.rows before }
+        ensures rows { (before : List Row) → Holds spread.now self.old.list.items self.old.rows before → OnOk result (Holds spread.now self.new.list.items self.new.rows (before ++ rows.now)) }
+        ensures room { vec_capacity self.old.list ≤ vec_capacity self.new.list }
+    {
+        let alloc = *self.list.allocator();
+        let count = rows.len() as u64;
+        if MOST_ROWS - self.rows < count {
+            return Err(AllocError);
+        }
+        let part = fold_rows(alloc, spread, rows)?;
+        self.rows += count;
+        put_part(alloc, &mut self.list, part)?;
+        Ok(())
+    }
+
+    /// Adds rows without the late ones.
+    fn add(&mut self, spread: &Query, rows: Rows, late: u64) -> Result<(), AllocError>
+        requires of { SpreadsSome spread.now }
+        requires held { (before : List Row) × Holds spread.now self.old.list.items self.old.rows before }
+        ensures rows { (before : List Row) → Holds spread.now self.old.list.items self.old.rows before → IfOk result (λ _. (kept : List Row) × IsCut rows late kept × Holds spread.now self.new.list.items self.new.rows (before ++ kept)) }
+        ensures memory { IfErr result (λ _. late < length rows) }
+        ensures room { vec_capacity self.old.list ≤ vec_capacity self.new.list }
+    {
+        let rows = rows.into_inner();
+        if late >= rows.len() as u64 {
+            return Ok(());
+        }
+        let alloc = *self.list.allocator();
+        let kept = without_late(alloc, rows, late)?;
+        self.put(spread, kept.as_slice())
+    }
+
+    /// What an entry makes of the parts, and whether it is known then which rows there are.
+    pub fn go_on(&mut self, spread: &Query, fed: Fed) -> Result<bool, AllocError>
+        requires of { SpreadsSome spread.now }
+        requires held { (before : List Row) × Holds spread.now self.old.list.items self.old.rows before }
+        ensures known { IfOk result (λ known. known ≡ not (is_end fed)) }
+        ensures rows { (before : List Row) → Holds spread.now self.old.list.items self.old.rows before → IfOk result (λ _. (now : List Row) × GoesOn fed before now × Holds spread.now self.new.list.items self.new.rows now) }
+        ensures memory { IfErr result (λ _. TakesMemory fed) }
+        ensures room { vec_capacity self.old.list ≤ vec_capacity self.new.list }
+    {
+        match fed {
+            Fed::Added { rows, late } => {
+                self.add(spread, rows, late)?;
+                Ok(true)
+            }
+            Fed::Expired { horizon } => {
+                let alloc = *self.list.allocator();
+                forget(alloc, &mut self.list, &horizon);
+                Ok(true)
+            }
+            Fed::Kept { removed } => Ok(removed == 0),
+            Fed::Opened => Ok(false),
+            Fed::Closed => Ok(false),
+            Fed::Other => Ok(true),
+        }
+    }
+}
