@@ -1,6 +1,10 @@
-//! Tests of the public calls of `column_bytes`.
+//! Tests of the public calls of `bit_columns`, `delta_codes` and `column_bytes`.
 #![tactic(auto)]
 
+#[cfg(test)]
+mod bits;
+#[cfg(test)]
+mod differences;
 #[cfg(test)]
 mod encoding;
 #[cfg(test)]
