@@ -13,6 +13,14 @@ pub const TIMES: &[u8] = b"\x1e\0\0\0\0\0\0\0\0\0\x0a\0\0\0\0\0\0\0\0\0\x14\0\0\
 /// The same, of the times 31, 50 and 40.
 pub const LATER: &[u8] = b"\x1f\0\0\0\0\0\0\0\0\0\x32\0\0\0\0\0\0\0\0\0\x28\0\0\0\0\0\0\0\0\0";
 
+/// Three rows of the times 1, 2 and 3, with the codes 1, 0 and 3.
+pub const CODED: &[u8] =
+    b"\x01\0\0\0\0\0\0\0\x01\0\x04code\x01\x01\0\0\0\0\0\0\0\x02\0\0\0\0\0\0\0\x01\0\x04code\x01\0\0\0\0\0\0\0\0\x03\0\0\0\0\0\0\0\x01\0\x04code\x01\x03\0\0\0\0\0\0\0";
+
+/// Three rows of the times 10, 11 and 12, with the code 5.
+pub const CODED_LATER: &[u8] =
+    b"\x0a\0\0\0\0\0\0\0\x01\0\x04code\x01\x05\0\0\0\0\0\0\0\x0b\0\0\0\0\0\0\0\x01\0\x04code\x01\x05\0\0\0\0\0\0\0\x0c\0\0\0\0\0\0\0\x01\0\x04code\x01\x05\0\0\0\0\0\0\0";
+
 /// So many rows, from their bytes.
 fn rows_of(alloc: Global, bytes: &[u8], count: u64) -> Result<Vec<Row>, AllocError>
     ensures rows { IfOk result (λ rows. AllByRecursion IsRow rows.items) }
@@ -35,6 +43,27 @@ pub fn alike(alloc: Global, count: u32) -> Result<Rows, AllocError>
     ensures { IfOk result (λ rows. AllByRecursion IsRow rows) }
 {
     let bytes = zeros(alloc, count as usize * 10)?;
+    let rows = rows_of(alloc, bytes.as_slice(), u64::from(count))?;
+    Ok(Rows::of(rows))
+}
+
+/// The bytes of so many rows without cells, of the times from `first` on.
+fn bytes_in_order(alloc: Global, first: u32, count: u32) -> Result<Vec<u8>, AllocError> {
+    let mut bytes = Vec::new(alloc);
+    for place in 0..count {
+        let time = u64::from(first) + u64::from(place);
+        bytes.extend_from_slice(&time.to_le_bytes())?;
+        bytes.extend_from_slice(&[0, 0])?;
+    }
+    Ok(bytes)
+}
+
+/// So many rows without cells, of the times from `first` on.
+pub fn in_order(alloc: Global, first: u32, count: u32) -> Result<Rows, AllocError>
+    requires { count ≤ 100000 }
+    ensures { IfOk result (λ rows. AllByRecursion IsRow rows) }
+{
+    let bytes = bytes_in_order(alloc, first, count)?;
     let rows = rows_of(alloc, bytes.as_slice(), u64::from(count))?;
     Ok(Rows::of(rows))
 }

@@ -8,12 +8,12 @@ use std::test::Fail;
 use table_state::{Added, TableState};
 
 /// How many blocks there are, how many rows of the first are cut away, and how many rows stand behind them and in all.
-fn standing(table: &TableState) -> (u64, u32, u32, u64) {
+pub fn standing(table: &TableState) -> (u64, u32, u32, u64) {
     (table.sealed(), table.skip(), table.tail(), table.rows())
 }
 
 /// Adds three rows and seals them as a block.
-fn seal_three(alloc: Global, table: &mut TableState, bytes: &[u8]) -> Result<(), AllocError>
+pub fn seal_three(alloc: Global, table: &mut TableState, bytes: &[u8]) -> Result<(), AllocError>
     requires { table.old.writes < 1000 }
     ensures writes { table.new.writes ≤ table.old.writes + 1 }
     ensures pending { table.new.pending ≡ table.old.pending }
