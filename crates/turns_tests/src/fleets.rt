@@ -1,13 +1,18 @@
-// A table of two leaves, asked at once.
-ghost use Rattle.std.specs.Prelude.{◌≡◌, IfOk, length};
+// A table of two leaves, opened and then asked at once.
+ghost use Rattle.std.specs.Prelude.{◌≡◌, ◌<◌, IfOk, Some, length, slice_get};
 ghost use Rattle.std.specs.List.{AllByRecursion};
+ghost use Rattle.leaf_table.specs.Calls.{SeatView};
 ghost use Rattle.leaf_table.specs.Fleet.{IsShortName};
 ghost use Rattle.aggregator.specs.Asks.{AreSeatsAt};
+ghost use Rattle.turns_tests.specs.Stewards.{AreStewardsAt, IsStewardAt};
 
+use crate::rows::count_all;
+use crate::turns::open;
 use aggregator::{Fanned, Named, ask_all};
 use berth_face::Gate;
-use leaf_model::{Agg, Aggs, Conds, Names, Query, Text};
-use leaf_table::{FleetTables, Seat};
+use berth_mem::MemBerth;
+use leaf_model::{Names, Text};
+use leaf_table::{FleetTables, Seat, StewardSeats};
 use std::alloc::{AllocError, Global};
 use std::marker::Brand;
 use std::sync::Wait;
@@ -62,22 +67,6 @@ impl Gate for BothInside {
     }
 }
 
-/// A query that counts the rows with a time from 0 to 9.
-fn count_all(alloc: Global) -> Result<Query, AllocError> {
-    let mut aggs = Vec::new(alloc);
-    aggs.push(Agg::Count)?;
-    Ok(Query {
-        table: Text::of(String::from_str(alloc, "t")?),
-        from: 0,
-        to: 9,
-        conds: Conds::of(Vec::new(alloc)),
-        keys: Names::of(Vec::new(alloc)),
-        aggs: Aggs::of(aggs),
-        order: None,
-        limit: 10,
-    })
-}
-
 /// One name: t.
 fn one_name(alloc: Global) -> Result<Names, AllocError>
     ensures { IfOk result (λ names. (length names ≡ 1) × AllByRecursion IsShortName names) }
@@ -87,34 +76,94 @@ fn one_name(alloc: Global) -> Result<Names, AllocError>
     Ok(Names::of(names))
 }
 
-/// The one table of two new leaves, and a caller's seat at each.
-fn two_leaves(alloc: Global) -> Result<(FleetTables, Vec<Seat>), AllocError>
-    ensures { IfOk result (λ r. AreSeatsAt r.0 0 r.1.items) }
+/// The one table of two new leaves, the stewards' seats, and a caller's seat at each.
+fn two_leaves(alloc: Global) -> Result<(FleetTables, StewardSeats, Vec<Seat>), AllocError>
+    ensures stewards { IfOk result (λ r. AreStewardsAt r.0 r.1) }
+    ensures callers { IfOk result (λ r. AreSeatsAt r.0 0 r.2.items) }
 {
     let names = one_name(alloc)?;
-    let (fleet, _stewards, callers) = FleetTables::new::<Brand>(alloc, 2, &names, 1)?;
+    let (fleet, stewards, callers) = FleetTables::new::<Brand>(alloc, 2, &names, 1)?;
     let mut rows = callers.into_inner();
-    Ok((fleet, rows.swap_remove(0)))
+    Ok((fleet, stewards, rows.swap_remove(0)))
 }
 
-/// Asks both leaves.
+/// Opens the first table of a leaf, empty: the number of that entry.
+fn open_leaf<R: Threads + Wait + Sync>(
+    rt: &R,
+    alloc: Global,
+    fleet: &FleetTables,
+    leaf: u32,
+    steward: &mut Seat,
+) -> Option<u64>
+    requires leaf { leaf < length fleet.now }
+    requires steward { IsStewardAt fleet.now leaf steward.old }
+{
+    let berth = MemBerth::new(Vec::new(alloc), Vec::new(alloc));
+    let tables = fleet.leaf(leaf);
+    open(rt, alloc, &tables[0], steward, &berth)
+}
+
+/// Opens the first table of a leaf by the first of these seats.
+fn open_first<R: Threads + Wait + Sync>(
+    rt: &R,
+    alloc: Global,
+    fleet: &FleetTables,
+    leaf: u32,
+    seats: &mut [Seat],
+) -> Option<u64>
+    requires leaf { leaf < length fleet.now }
+    requires steward { (v : SeatView) → slice_get seats.old 0 ≡ Some v → IsStewardAt fleet.now leaf v }
+{
+    match seats {
+        [steward, ..] => open_leaf(rt, alloc, fleet, leaf, steward),
+        [] => None,
+    }
+}
+
+/// Opens the first tables of two leaves, empty: the numbers of both entries.
+fn open_both<R: Threads + Wait + Sync>(
+    rt: &R,
+    alloc: Global,
+    fleet: &FleetTables,
+    stewards: StewardSeats,
+) -> [Option<u64>; 2]
+    requires { AreStewardsAt fleet.now stewards }
+{
+    let mut rows = stewards.into_inner();
+    match rows.as_mut_slice() {
+        [first, second] => [
+            open_first(rt, alloc, fleet, 0, first.as_mut_slice()),
+            open_first(rt, alloc, fleet, 1, second.as_mut_slice()),
+        ],
+        _ => [None, None],
+    }
+}
+
+/// Asks both leaves, once their tables are open, which they were as their first entries.
 fn ask_both<R: Threads + Wait + Sync>(
     rt: &R,
     alloc: Global,
     gate: &BothInside,
-) -> Result<Fanned, AllocError> {
+) -> Result<Option<Fanned>, AllocError> {
     let query = count_all(alloc)?;
-    let (fleet, mut seats) = two_leaves(alloc)?;
-    ask_all(rt, alloc, &fleet, 0, seats.as_mut_slice(), &query, gate)
+    let (fleet, stewards, mut seats) = two_leaves(alloc)?;
+    if open_both(rt, alloc, &fleet, stewards) != [Some(1), Some(1)] {
+        return Ok(None);
+    }
+    let fanned = ask_all(rt, alloc, &fleet, 0, seats.as_mut_slice(), &query, gate)?;
+    Ok(Some(fanned))
 }
 
 #[test]
 fn two_leaves_are_inside_their_turns_at_once(rt: HostRuntime) -> Result<(), Fail> {
     let gate = BothInside::new();
-    let fanned = ask_both(&rt, rt.alloc(), &gate)?;
-    let shut = [Named { leaf: 0, number: 1 }, Named { leaf: 1, number: 1 }];
-    assert!(rt; fanned.shut.as_slice() == shut.as_slice());
-    assert_eq!(rt; fanned.named.as_slice().len(), 0);
+    let Some(fanned) = ask_both(&rt, rt.alloc(), &gate)? else {
+        panic!(rt; "a table that was not opened first");
+    };
+    let both = [Named { leaf: 0, number: 2 }, Named { leaf: 1, number: 2 }];
+    assert!(rt; fanned.named.as_slice() == both.as_slice());
+    assert_eq!(rt; fanned.shut.as_slice().len(), 0);
+    assert_eq!(rt; fanned.groups.as_slice().len(), 0);
     assert!(rt; !gate.was_alone());
     Ok(())
 }
