@@ -1,24 +1,29 @@
-// Contents as vectors: what a write and a cut make of them, and what they overwrite.
-ghost use Rattle.std.specs.Prelude.{◌≡◌, ◌+◌, ◌-◌, ◌^◌, ◌<◌, ◌≤◌, ◌++◌, length, take, drop, min, true, false, IfOk};
+// Contents as vectors: what a write makes of them, and what a write and a cut take away.
+ghost use Rattle.std.specs.Prelude.{◌≡◌, ◌+◌, ◌-◌, ◌^◌, ◌<◌, ◌≤◌, ◌++◌, length, take, drop, min, true, false, IfOk, OnErr, OnOk};
 ghost use Rattle.berth_face.specs.Berth.{written};
 
 use std::alloc::{AllocError, Global};
 
-/// `old` with these bytes at this place, and a gap before it filled with zeros.
-pub fn overwritten(alloc: Global, old: &[u8], at: u64, bytes: &[u8]) -> Result<Vec<u8>, AllocError>
-    requires { at + length bytes.now < 2 ^ 63 }
-    ensures { IfOk result (λ v. v.items ≡ written at bytes.now old.now) }
+// Puts bytes over those that stand from this place on.
+fn overwrite(content: &mut [u8], at: usize, bytes: &[u8])
+    requires { at + length bytes.now ≤ length content.old }
+    ensures { content.new ≡ take at content.old ++ bytes.now ++ drop (at + length bytes.now) content.old }
 {
-    let at = at as usize;
-    let end = at + bytes.len();
-    let keep = at.min(old.len());
-    let mut next = old[..keep].to_vec(alloc)?;
-    next.resize(at, 0)?;
-    next.extend_from_slice(bytes)?;
-    if end < old.len() {
-        next.extend_from_slice(&old[end..])?;
+    content[at..at + bytes.len()].copy_from_slice(bytes);
+}
+
+/// Writes bytes at this place, and fills a gap before it with zeros. It takes memory only where it reaches past the end.
+pub fn write_at(content: &mut Vec<u8>, at: u64, bytes: &[u8]) -> Result<(), AllocError>
+    requires { at + length bytes.now < 2 ^ 63 }
+    ensures ok { OnOk result (content.new.items ≡ written at bytes.now content.old.items) }
+    ensures err { OnErr result (content.new.items ≡ content.old.items) }
+{
+    let end = at as usize + bytes.len();
+    if content.len() < end {
+        content.resize(end, 0)?;
     }
-    Ok(next)
+    overwrite(content.as_mut_slice(), at as usize, bytes);
+    Ok(())
 }
 
 /// What a write of `len` bytes at this place overwrites.

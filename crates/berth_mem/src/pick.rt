@@ -4,7 +4,7 @@ ghost use Rattle.berth_face.specs.Berth.{Torn, Cut};
 ghost use Rattle.berth_mem.specs.Picked.{IsUnsynced, Unsynced, breaks_at};
 ghost use Rattle.berth_mem.specs.Record.{moments, leaves_at, undone, region_undone, disk_undone, region_before, disk_before};
 
-use crate::bytes::{is_far, overwritten};
+use crate::bytes::{is_far, write_at};
 use crate::record::{Call, Wrote};
 use std::alloc::{AllocError, Global};
 
@@ -126,7 +126,8 @@ fn broken(
         return before.to_vec(alloc);
     }
     let bytes = left_of(alloc, after, wrote.at, wrote.len, shape)?;
-    let made = overwritten(alloc, before, wrote.at, &bytes)?;
+    let mut made = before.to_vec(alloc)?;
+    write_at(&mut made, wrote.at, &bytes)?;
     Ok(made)
 }
 

@@ -1,33 +1,26 @@
 // Calls on contents, each with its place on the record. Each changes nothing where there is no memory.
-ghost use Rattle.std.specs.Prelude.{◌≡◌, ◌+◌, ◌^◌, ◌<◌, ◌++◌, ◌∷◌, [], length, take, drop, OnOk, OnErr, IfOk};
+ghost use Rattle.std.specs.Prelude.{ℕ, List, ◌≡◌, ◌+◌, ◌^◌, ◌<◌, ◌++◌, ◌∷◌, [], length, take, drop, OnOk, OnErr, IfOk};
 ghost use Rattle.berth_face.specs.Berth.{written};
 ghost use Rattle.berth_mem.specs.Record.{Describes};
 ghost use Rattle.berth_mem.specs.declared.record.Wrote.{Wrote};
 ghost use Rattle.berth_mem.specs.declared.record.CutOff.{CutOff};
 ghost use Rattle.berth_mem.specs.declared.record.Call.TheVariants.{WroteRegion, CutRegion, WroteDisk, SyncedDisk};
 
-use crate::bytes::{lost, overwritten, tail};
+use crate::bytes::{lost, tail, write_at};
 use crate::record::{Call, CutOff, Wrote};
 use std::alloc::AllocError;
 
-// What a write makes, and what it overwrites.
-fn prepared(content: &Vec<u8>, at: u64, bytes: &[u8]) -> Result<(Vec<u8>, Wrote), AllocError>
-    requires { at + length bytes.now < 2 ^ 63 }
-    ensures next { IfOk result (λ made. made.0.items ≡ written at bytes.now content.now.items) }
-    ensures wrote { IfOk result (λ made. Describes made.1 at bytes.now content.now.items) }
+// A write as the record has it, before it is made.
+fn recorded(content: &Vec<u8>, at: u64, len: usize) -> Result<Wrote, AllocError>
+    requires { at + len < 2 ^ 63 }
+    ensures { (bytes : List ℕ) → length bytes ≡ len → IfOk result (λ wrote. Describes wrote at bytes content.now.items) }
 {
-    let alloc = *content.allocator();
-    let lost = lost(alloc, content, at, bytes.len())?;
-    let next = overwritten(alloc, content, at, bytes)?;
-    Ok((
-        next,
-        Wrote {
-            at,
-            len: bytes.len() as u64,
-            lost,
-            was: content.len() as u64,
-        },
-    ))
+    Ok(Wrote {
+        at,
+        len: len as u64,
+        lost: lost(*content.allocator(), content, at, len)?,
+        was: content.len() as u64,
+    })
 }
 
 /// Writes to the region.
@@ -42,9 +35,10 @@ pub fn region_put(
     ensures call { OnOk result ((w : Wrote) × Describes w at bytes.now region.old.items × (calls.new.items ≡ calls.old.items ++ WroteRegion w ∷ [])) }
     ensures err { OnErr result ((region.new.items ≡ region.old.items) × (calls.new.items ≡ calls.old.items)) }
 {
-    let (next, wrote) = prepared(region, at, bytes)?;
-    calls.push(Call::WroteRegion(wrote))?;
-    *region = next;
+    let wrote = recorded(region, at, bytes.len())?;
+    calls.reserve(1)?;
+    write_at(region, at, bytes)?;
+    calls.push_reserved(Call::WroteRegion(wrote));
     Ok(())
 }
 
@@ -60,9 +54,10 @@ pub fn disk_put(
     ensures call { OnOk result ((w : Wrote) × Describes w at bytes.now disk.old.items × (calls.new.items ≡ calls.old.items ++ WroteDisk w ∷ [])) }
     ensures err { OnErr result ((disk.new.items ≡ disk.old.items) × (calls.new.items ≡ calls.old.items)) }
 {
-    let (next, wrote) = prepared(disk, at, bytes)?;
-    calls.push(Call::WroteDisk(wrote))?;
-    *disk = next;
+    let wrote = recorded(disk, at, bytes.len())?;
+    calls.reserve(1)?;
+    write_at(disk, at, bytes)?;
+    calls.push_reserved(Call::WroteDisk(wrote));
     Ok(())
 }
 
