@@ -5,3 +5,5 @@
 mod lines;
 #[cfg(test)]
 mod memory;
+#[cfg(test)]
+mod queries;
