@@ -4,7 +4,7 @@ mod Alike
 mod Names
 mod Showing
 mod Enough
-mod Placing
+mod Ascending
 mod Cut
 mod Ends
 mod Repeated

@@ -13,7 +13,8 @@ use Rattle.leaf_model.specs.Values.{time_name}
 use Rattle.leaf_model.specs.Groups.{cell_value, key_of, keys_of, value_of}
 use Rattle.standing_query.specs.Spread.{cell_under, cells_read, cells_shown, names_read, row_shown, spread, value_shown}
 use Rattle.standing_query.proofs.Alike.{AreAlike, Same}
-use Rattle.standing_query.proofs.Names.{each_own, has, names_kept}
+use Rattle.standing_query.specs.Names.{has}
+use Rattle.standing_query.proofs.Names.{each_own, names_kept}
 
 value_again : (v : Option Value) → value_shown (key_of v) ≡ v
 value_again None = refl

@@ -1,5 +1,5 @@
+pub mod Names
 pub mod Parts
-pub mod Placing
 pub mod Spread
 pub mod States
 pub mod Times

@@ -1,115 +1,98 @@
 // The spread of a query.
-ghost use Rattle.std.specs.Prelude.{◌≡◌, ◌≤◌, IfOk, ◌∷◌, ◌++◌, [], length, map, take, drop, if◌then◌else◌, bytes_eq};
-ghost use Rattle.std.specs.List.{flat_map};
+ghost use Rattle.std.specs.Prelude.{◌≡◌, ℕ, IfOk, ◌∷◌, ◌++◌, [], List, map, option_to_list};
+ghost use Rattle.std.specs.List.{filter, flat_map};
+ghost use Rattle.std.specs.List.Sorted.{IsStrictlySortedBy};
+ghost use Rattle.std.specs.Option.{option_map};
 ghost use Rattle.leaf_model.specs.declared.queries.Cond.{Cond};
+ghost use Rattle.leaf_model.specs.Groups.{text_cmp};
 ghost use Rattle.leaf_model.specs.Values.{time_name};
-ghost use Rattle.standing_query.specs.Spread.{agg_names, cells_read, names_before, names_read, spread, with_name};
-ghost use Rattle.standing_query.specs.Placing.{put_before};
+ghost use Rattle.standing_query.specs.Names.{has, is_cell};
+ghost use Rattle.standing_query.specs.Spread.{agg_names, cells_read, names_read, spread};
 
 use leaf_model::{Agg, Aggs, Cond, Conds, Names, Query, Text};
 use std::alloc::{AllocError, Global};
-use std::cmp::Ordering;
 
-/// Where a name stands, or would stand, among ascending names.
-fn place_of(names: &[Text], name: &Text) -> usize
-    ensures bound { result ≤ length names.now }
-    ensures place { with_name name.now names.now ≡ take result names.now ++ put_before name.now (drop result names.now) }
-{
-    let mut place: usize = 0;
-    while place < names.len() && name.as_str().cmp(names[place].as_str()) == Ordering::Greater {
-        place += 1;
-    }
-    place
-}
-
-fn stands_at(names: &[Text], place: usize, name: &Text) -> bool
-    ensures { put_before name.now (drop place names.now) ≡ (if result then drop place names.now else name.now ∷ drop place names.now) }
-{
-    match names.get(place) {
-        None => false,
-        Some(other) => name.as_str() == other.as_str(),
-    }
-}
-
-/// A name more in its place, unless it is `time` or stands there.
-fn with_cell(mut names: Vec<Text>, name: Text) -> Result<Vec<Text>, AllocError>
-    ensures { IfOk result (λ more. more.items ≡ (if bytes_eq name time_name then names.items else with_name name names.items)) }
-{
-    if name.as_str() == "time" {
-        return Ok(names);
-    }
-    let place = place_of(names.as_slice(), &name);
-    if !stands_at(names.as_slice(), place, &name) {
-        names.insert(place, name)?;
-    }
-    Ok(names)
-}
-
-fn with_conds(mut names: Vec<Text>, conds: &[Cond]) -> Result<Vec<Text>, AllocError>
-    ensures { IfOk result (λ more. more.items ≡ names.items ++ map (λ (c : Cond). c.name) conds.now) }
+fn with_conds<'a>(mut names: Vec<&'a str>, conds: &'a [Cond]) -> Result<Vec<&'a str>, AllocError>
+    ensures { IfOk result (λ more. map (λ n. n.now) more.items ≡ map (λ n. n.now) names.entry.items ++ map (λ (c : Cond). c.name) conds.now) }
 {
     for cond in conds {
-        names.push(cond.name.copy()?)?;
+        names.push(cond.name.as_str())?;
     }
     Ok(names)
 }
 
-fn with_keys(mut names: Vec<Text>, keys: &[Text]) -> Result<Vec<Text>, AllocError>
-    ensures { IfOk result (λ more. more.items ≡ names.items ++ keys.now) }
+fn with_keys<'a>(mut names: Vec<&'a str>, keys: &'a [Text]) -> Result<Vec<&'a str>, AllocError>
+    ensures { IfOk result (λ more. map (λ n. n.now) more.items ≡ map (λ n. n.now) names.entry.items ++ keys.now) }
 {
     for key in keys {
-        names.push(key.copy()?)?;
+        names.push(key.as_str())?;
     }
     Ok(names)
 }
 
-fn with_copy(mut names: Vec<Text>, name: &Text) -> Result<Vec<Text>, AllocError>
-    ensures { IfOk result (λ more. more.items ≡ names.items ++ name.now ∷ []) }
-{
-    names.push(name.copy()?)?;
-    Ok(names)
-}
-
-fn with_agg(names: Vec<Text>, agg: &Agg) -> Result<Vec<Text>, AllocError>
-    ensures { IfOk result (λ more. more.items ≡ names.items ++ agg_names agg.now) }
+/// The name of a field that an aggregate reads.
+fn agg_name(agg: &Agg) -> Option<&str>
+    ensures { agg_names agg.now ≡ option_to_list (option_map (λ name. name.now) result) }
 {
     match agg {
-        Agg::Count => Ok(names),
-        Agg::Sum(name) => with_copy(names, name),
-        Agg::Min(name) => with_copy(names, name),
-        Agg::Max(name) => with_copy(names, name),
-        Agg::Avg(name) => with_copy(names, name),
+        Agg::Count => None,
+        Agg::Sum(name) => Some(name.as_str()),
+        Agg::Min(name) => Some(name.as_str()),
+        Agg::Max(name) => Some(name.as_str()),
+        Agg::Avg(name) => Some(name.as_str()),
     }
 }
 
-fn with_aggs(mut names: Vec<Text>, aggs: &[Agg]) -> Result<Vec<Text>, AllocError>
-    ensures { IfOk result (λ more. more.items ≡ names.items ++ flat_map agg_names aggs.now) }
+fn with_aggs<'a>(mut names: Vec<&'a str>, aggs: &'a [Agg]) -> Result<Vec<&'a str>, AllocError>
+    ensures { IfOk result (λ more. map (λ n. n.now) more.items ≡ map (λ n. n.now) names.entry.items ++ flat_map agg_names aggs.now) }
 {
     for agg in aggs {
-        names = with_agg(names, agg)?;
+        if let Some(name) = agg_name(agg) {
+            names.push(name)?;
+        }
     }
     Ok(names)
 }
 
 /// The names of conditions, keys and aggregates, as they come.
-fn names_of(alloc: Global, query: &Query) -> Result<Vec<Text>, AllocError>
-    ensures { IfOk result (λ names. names.items ≡ names_read query.now) }
+fn names_of(alloc: Global, query: &Query) -> Result<Vec<&str>, AllocError>
+    ensures { IfOk result (λ names. map (λ n. n.now) names.items ≡ names_read query.now) }
 {
     let names = with_conds(Vec::new(alloc), query.conds.as_slice())?;
     let names = with_keys(names, query.keys.as_slice())?;
     Ok(with_aggs(names, query.aggs.as_slice())?)
 }
 
-/// The names of the cells that a query reads, ascending, each once.
+/// Names ascending, each once.
+fn put_in_order(names: &mut Vec<&str>)
+    ensures ascends { IsStrictlySortedBy text_cmp (map (λ n. n.now) names.new.items) }
+    ensures same { (n : List ℕ) → has n (map (λ n. n.now) names.new.items) ≡ has n (map (λ n. n.now) names.old.items) }
+{
+    names.sort_unstable();
+    names.dedup();
+}
+
+/// Copies of the names, without `time`.
+fn cells_among(alloc: Global, names: &[&str]) -> Result<Vec<Text>, AllocError>
+    ensures { IfOk result (λ cells. cells.items ≡ filter is_cell (map (λ n. n.now) names.now)) }
+{
+    let mut cells: Vec<Text> = Vec::new(alloc);
+    for name in names {
+        if *name != "time" {
+            cells.push(Text::of(String::from_str(alloc, name)?))?;
+        }
+    }
+    Ok(cells)
+}
+
+/// The names of the cells that a query reads, ascending, each once. They are sorted where the query holds them, so that none is copied but those
+/// that are given back.
 fn cells_of(alloc: Global, query: &Query) -> Result<Vec<Text>, AllocError>
     ensures { IfOk result (λ names. names.items ≡ cells_read query.now) }
 {
-    let mut read = names_of(alloc, query)?;
-    let mut names: Vec<Text> = Vec::new(alloc);
-    while let Some(name) = read.pop() {
-        names = with_cell(names, name)?;
-    }
-    Ok(names)
+    let mut names = names_of(alloc, query)?;
+    put_in_order(&mut names);
+    cells_among(alloc, names.as_slice())
 }
 
 /// `time`, and then these names.

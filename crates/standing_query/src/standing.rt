@@ -61,6 +61,12 @@ impl Standing {
         &self.spread
     }
 
+    pub fn query(&self) -> &Query
+        ensures { result.now ≡ self.now.query }
+    {
+        &self.query
+    }
+
     pub fn stale(&self) -> bool
         ensures { result ≡ self.now.stale }
     {
@@ -104,6 +110,14 @@ impl Standing {
                 Err(error)
             }
         }
+    }
+
+    /// Lets entries pass by a stale state, which needs none of them: the last has that number.
+    pub fn pass(&mut self, upto: u64)
+        requires stale { self.old.stale ≡ true }
+        ensures { self.new ≡ record self.old { upto = upto } }
+    {
+        self.upto = upto;
     }
 
     /// Makes the state fresh, by what the table answered to the next entry.
