@@ -14,7 +14,7 @@ use Rattle.leaf_history.specs.History.{HistoryState, LegalFrom, Allowed, opened,
 use Rattle.leaf_history.specs.Laws.{HasSoundCounts}
 use Rattle.leaf_history.proofs.Histories.{counts_stay, length_take}
 use Rattle.row_records.specs.Pending.{with_push}
-use Rattle.table_state.specs.Tables.{Table, bare, table_with_write, empty_table}
+use Rattle.table_state.specs.Tables.{Table, IsHeld, bare, table_with_write, empty_table}
 use Rattle.group_table.proofs.Within.{groups_grow}
 use Rattle.leaf_table.specs.declared.base.TableBase.{TableBase}
 use Rattle.leaf_table.specs.declared.turns.Turn.{Turn}
@@ -170,7 +170,7 @@ asked name founded s n by clock v query copy (answer.Groups gs) i may is =
     let live : s.live ≡ true = sym i.live ∙ is.0 in
     let which : is.1 ≡ query.value = same_query copy query.value is.1 may.1 is.2 in record {
       allowed = (may.0, (live, is.3 ∙ (ap (λ x. groups is.1 x.rows) (i.contents live) ∙ ap (λ q. groups q (held s).rows) which)));
-      hands = (tt, (subst (λ (x : Contents). length x.rows ≤ 2 ^ 40) (i.contents live) is.4, groups_grow (length v.table.contents.rows) (2 ^ 40) gs is.4 is.5));
+      hands = (tt, (subst IsHeld (i.contents live) is.4, groups_grow (length v.table.contents.rows) (2 ^ 40) gs is.4.few is.5));
       stands = stays name s n v i;
     }
 asked name founded s n by clock v query copy answer.NoMemory i may is = record { allowed = (may.0, sym i.live ∙ is); hands = (tt, tt); stands = stays name s n v i }

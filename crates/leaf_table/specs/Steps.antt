@@ -7,7 +7,7 @@ use Rattle.leaf_model.specs.declared.writes.Write.{Write}
 use Rattle.leaf_model.specs.declared.writes.Write.TheVariants.{Add}
 use Rattle.leaf_model.specs.Content.{kept_count, late_count, removed_count}
 use Rattle.leaf_model.specs.Groups.{groups}
-use Rattle.table_state.specs.Tables.{bare, table_with_write, empty_table}
+use Rattle.table_state.specs.Tables.{IsHeld, bare, table_with_write, empty_table}
 use Rattle.group_table.specs.Joined.{IsWithin}
 use Rattle.leaf_table.specs.declared.turns.Answer.{Answer}
 use Rattle.leaf_table.specs.declared.turns.Answer.TheVariants.{Added, Removed, Groups, Shut, Full, NoMemory, Took, Closed, Noted}
@@ -37,9 +37,9 @@ RemovesFrom v write (Took writes pending) w = ⊥
 RemovesFrom v write (Closed table) w = ⊥
 RemovesFrom v write Noted w = ⊥
 
--- an open table tells the groups of its rows
+-- an open table tells the groups of its rows, which are what a table may hold
 abbrev pub AsksOf : LeafTable → Option Query → Answer → Type 0
-AsksOf v copy (Groups gs) = (v.live ≡ true) × (q : Query) × (copy ≡ Some q) × (gs ≡ groups q v.table.contents.rows) × (length v.table.contents.rows ≤ 2 ^ 40) × AllByRecursion (IsWithin (length v.table.contents.rows)) gs
+AsksOf v copy (Groups gs) = (v.live ≡ true) × (q : Query) × (copy ≡ Some q) × (gs ≡ groups q v.table.contents.rows) × IsHeld v.table.contents × AllByRecursion (IsWithin (length v.table.contents.rows)) gs
 AsksOf v copy NoMemory = v.live ≡ true
 AsksOf v copy Shut = v.live ≡ false
 AsksOf v copy (Added kept late) = ⊥

@@ -13,7 +13,7 @@ use Rattle.leaf_history.specs.Replies.{Reply}
 use Rattle.leaf_history.specs.Replies as reply
 use Rattle.leaf_history.specs.History.{Entry, HistoryState, base_of, no_base, LegalFrom, OpenAllowed, after, after_entry, held, untaken, write_count}
 use Rattle.row_records.specs.Records.{LogRecord, new_record}
-use Rattle.table_state.specs.Tables.{Table}
+use Rattle.table_state.specs.Tables.{Table, IsHeld}
 use Rattle.group_table.specs.Joined.{IsWithin}
 use Rattle.leaf_table.specs.declared.base.TableBase.{TableBase}
 use Rattle.leaf_table.specs.declared.base.Origin.{Origin}
@@ -111,9 +111,9 @@ HandsOut name s turn.Shut (answer.Closed table) = (table.contents ≡ held s) ×
 HandsOut name s turn.Shut _ = ⊥
 HandsOut name s _ _ = ⊤
 
--- groups are told over at most 2^40 rows, and are within what so many rows give
+-- groups are told over what a table may hold, and are within what 2^40 rows give
 abbrev pub OverFew : HistoryState → Reply → Type 0
-OverFew s (reply.Groups gs) = (length (held s).rows ≤ 2 ^ 40) × AllByRecursion (IsWithin (2 ^ 40)) gs
+OverFew s (reply.Groups gs) = IsHeld (held s) × AllByRecursion (IsWithin (2 ^ 40)) gs
 OverFew s _ = ⊤
 
 abbrev pub Hands : List ℕ → HistoryState → Turn → Answer → Type 0

@@ -1,8 +1,9 @@
 // The groups of a table's rows.
-ghost use Rattle.std.specs.Prelude.{◌≡◌, ◌<◌, ◌≤◌, ◌^◌, length, IfOk};
+ghost use Rattle.std.specs.Prelude.{◌≡◌, ◌<◌, length, IfOk};
 ghost use Rattle.std.specs.List.{AllByRecursion};
 ghost use Rattle.leaf_model.specs.Groups.{groups};
 ghost use Rattle.group_table.specs.Joined.{IsWithin};
+ghost use Rattle.table_state.specs.Tables.{IsHeld};
 
 use block_scan::scan;
 use leaf_model::{Groups, Query, Steps};
@@ -23,7 +24,7 @@ pub(crate) fn groups_of<L: Ledger, R: Threads + Sync>(
     requires parts { blank.parts ≡ L.parts }
     requires some { 0 < blank.parts }
     ensures groups { IfOk result (λ gs. gs ≡ groups query.now table.now.contents.rows) }
-    ensures few { length table.now.contents.rows ≤ 2 ^ 40 }
+    ensures held { IsHeld table.now.contents }
     ensures within { IfOk result (λ gs. AllByRecursion (IsWithin (length table.now.contents.rows)) gs) }
 {
     table.stands();
