@@ -8,7 +8,7 @@ use Rattle.std.proofs.lemmas.List.Sums.{length-filter}
 use Rattle.std.proofs.lemmas.Slice.Eq.{bytes_eq-Decides}
 use Rattle.script_text.specs.declared.command.Command.{Command}
 use Rattle.script_text.specs.declared.command.Command.TheVariants as command
-use Rattle.script_text.specs.Aims.{Aim, AtFleet, AtLeaf, AtLeaves, AtNamed, AtTable, IsAim, aim_of, is_for_steward}
+use Rattle.script_text.specs.Aims.{Aim, AtFleet, AtLeaf, AtLeaves, AtNamed, AtRun, AtTable, IsAim, aim_of, is_for_steward}
 use Rattle.script_text.specs.Fits.{IsCommand, OneSteward}
 use Rattle.script_text.specs.Stewards.{has_steward, is_stewards}
 use Rattle.script_text.specs.declared.fleet.Fleet.{Fleet}
@@ -74,6 +74,7 @@ module _ {B : Type 0} (fleet : Fleet) (xs : List (Hold B)) where
   has_aimed (AtNamed name) is seats leaves = seats (place_among name fleet.names) refl
   has_aimed (AtLeaf leaf) is seats leaves = leaves leaf refl is
   has_aimed AtLeaves is seats leaves = λ leaf below. leaves leaf tt below
+  has_aimed AtRun is seats leaves = absurd is
 
   pub has_for : (c : Command) → IsCommand (leaf_count fleet) fleet.names c → ((table : ℕ) → IsAmong (table_of fleet.names c) table → HasSeats xs table)
       → ((leaf : ℕ) → IsAmong (leaves_of c) leaf → leaf < leaf_count fleet → HasLeaf xs leaf) → HasFor fleet xs c
@@ -97,6 +98,7 @@ module _ {B : Type 0} (fleet : Fleet) (xs ys : List (Hold B)) (still : StillHas 
   still_aimed (AtNamed name) has = still_seats xs ys still (place_among name fleet.names) has
   still_aimed (AtLeaf leaf) has = still_leaf xs ys still leaf has
   still_aimed AtLeaves has = λ leaf below. still_leaf xs ys still leaf (has leaf below)
+  still_aimed AtRun has = tt
 
   pub still_for : (c : Command) → HasFor fleet xs c → HasFor fleet ys c
   still_for c = still_aimed (aim_of c)

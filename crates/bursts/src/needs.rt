@@ -40,7 +40,7 @@ impl Needs {
         ensures leaves { self.new.leaves.items ≡ marked (leaves_of command.now) self.old.leaves.items }
     {
         match command.aim() {
-            Aim::Fleet => {}
+            Aim::Fleet | Aim::Run => {}
             Aim::Table(table) => self.tables[table as usize] = true,
             Aim::Named(name) => {
                 let table = crew.place_of(name.as_str());

@@ -7,13 +7,14 @@ use Rattle.berth_face.specs.Streams.{ReadsAll}
 use Rattle.region_layout.specs.Names.{AreNames, IsName}
 use Rattle.crash_moments.specs.Left.{NamedStates}
 use Rattle.rollover_watch.specs.Watches.{Held}
+use Rattle.script_text.specs.declared.command.Command.{Command}
 use Rattle.script_text.specs.declared.command.Command.TheVariants as command
 use Rattle.script_text.specs.declared.item.Item.{Item}
 use Rattle.script_text.specs.declared.item.Item.TheVariants as item
 use Rattle.script_text.specs.declared.script.Script.{Script}
 use Rattle.script_text.specs.Commands.{Fault, leaf_count}
 use Rattle.script_text.specs.Script.{script_of}
-use Rattle.script_text.specs.Fits.{AreItems, AreTables, IsItem, IsTableName}
+use Rattle.script_text.specs.Fits.{AreItems, AreTables, IsAlone, IsItem, IsTableName}
 use Rattle.printed_lines.specs.declared.line.Line.{Line}
 use Rattle.printed_lines.specs.Lines.{lines_text}
 use Rattle.script_text.specs.declared.fleet.Fleet.{Fleet}
@@ -28,7 +29,7 @@ use Rattle.transcript.specs.Watching.{HearsAll}
 use Rattle.transcript.specs.Moments.{MomentsRise, notes_told}
 use Rattle.transcript_fleet.specs.Laws.{IsToldFleet}
 use Rattle.player.specs.Crew.{berth_in}
-use Rattle.bursts.specs.Items.{MayPlayItem}
+use Rattle.play.specs.Standing.{MayRun, MayRunAlone}
 use Rattle.play.specs.Played.{KeepsCounts, LeavesBerths, leaves_in, leaves_of, leaves_told}
 use Rattle.play.specs.Runs.{AreCounted, HoldsKeep, IsFleetOf, IsRun, berths_in, fleet_named}
 use Rattle.transcript_fleet.proofs.Lists.{All-weaken}
@@ -36,7 +37,7 @@ use Rattle.transcript_fleet.proofs.Sessions.{berth_held}
 use Rattle.transcript_leaf.proofs.Lists.{element_at, length_mapped, same_some, within}
 use Rattle.play.proofs.Holding.{berth_at, held_there}
 use Rattle.play.proofs.Lists.{behind_at, below_or_not, drop_front, drop_later, front_at}
-use Rattle.play.proofs.Plays.{appends_nothing, keeps_same, may_later}
+use Rattle.play.proofs.Plays.{appends_nothing, keeps_same}
 
 -- ---- the fleet of some items
 
@@ -48,8 +49,13 @@ tables_are_names names t = record {
   distinct = t.distinct;
 }
 
-item_may : (fleet : Fleet) (x : Item) → IsItem (leaf_count fleet) fleet.names x → MayPlayItem fleet x
-item_may fleet (item.One c) h = may_later fleet c h
+-- a command behind the fleet may be played by a run
+alone_may : (fleet : Fleet) (c : Command) → IsAlone (leaf_count fleet) fleet.names c → MayRunAlone fleet c
+alone_may fleet (command.Fleet m p ts) h = absurd h
+alone_may fleet _ h = h
+
+item_may : (fleet : Fleet) (x : Item) → IsItem (leaf_count fleet) fleet.names x → MayRun fleet x
+item_may fleet (item.One c) h = alone_may fleet c h
 item_may fleet (item.Burst lanes) h = h
 
 -- of items that begin with a fleet
@@ -59,7 +65,7 @@ fleet_is machines per_machine tables more c = record {
   is = refl;
   are_names = tables_are_names tables c.1;
   leaves = c.0;
-  may_play = (tt, All-weaken (IsItem (leaf_count (fleet_named machines per_machine tables)) tables) (MayPlayItem (fleet_named machines per_machine tables)) (item_may (fleet_named machines per_machine tables)) more c.2);
+  may_play = (tt, All-weaken (IsItem (leaf_count (fleet_named machines per_machine tables)) tables) (MayRun (fleet_named machines per_machine tables)) (item_may (fleet_named machines per_machine tables)) more c.2);
 }
 
 -- what was read of the first item is that fleet

@@ -1,6 +1,7 @@
 pub mod Lists
 pub mod Holding
 pub mod Plays
+pub mod OwnItems
 pub mod Fleets
 pub mod Beginning
 pub mod Own

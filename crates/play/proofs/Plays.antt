@@ -2,43 +2,33 @@
 use Rattle.std.proofs.Common.{◌≡◌, ℕ, ◌+◌, ◌==◌, ◌&&◌, Bool, List, [], ◌∷◌, ◌++◌, refl, sym, ap, ap₂, subst, ◌∙◌, arith, Option, Some, None, inl, inr, length-append}
 use Rattle.std.specs.Prelude.{if◌then◌else◌, slice_get, IfOk, IsOk, OnErr, OnOk, Result, Ok, Err, Vec, ◌≤◌, length, map}
 use Rattle.std.specs.Global.{Global}
-use Rattle.std.specs.List.{AllByRecursion, AllZip}
 use Rattle.std.specs.Io.KnownBytes.{Appends}
 use Rattle.std.proofs.lemmas.Grind.{flat_map-append}
 use Rattle.std.proofs.lemmas.List.{append-nil, append_assoc, map-append}
 use Rattle.berth_face.specs.Berth.{Meaning, Passes}
 use Rattle.crash_moments.specs.Left.{NamedStates}
 use Rattle.rollover_watch.specs.Watches.{Held}
-use Rattle.script_text.specs.declared.command.Command.{Command}
-use Rattle.script_text.specs.declared.command.Command.TheVariants as command
 use Rattle.script_text.specs.declared.item.Item.{Item}
-use Rattle.script_text.specs.declared.item.Item.TheVariants as item
-use Rattle.script_text.specs.Fits.{IsCommand}
 use Rattle.printed_lines.specs.declared.line.Ending.{Ending}
 use Rattle.printed_lines.specs.declared.line.Line.{Line}
 use Rattle.printed_lines.specs.Lines.{line_text, lines_text}
 use Rattle.script_text.specs.declared.fleet.Fleet.{Fleet}
-use Rattle.script_text.specs.Commands.{leaf_count}
 use Rattle.printed_lines.specs.declared.line.Deed.{Deed}
 use Rattle.transcript.specs.Pieces.{Piece, Called, Worn, Acted, Says, Played, PlayedItem, all_lines, all_pieces, item_lines, item_of, pieces_in, plays_in, plays_of}
 use Rattle.transcript.specs.Counts.{Counted, CountsRose, deeds_in, disk_faults_in, disk_reads_in, is_disk_fault, is_region_fault, reads_disk, region_faults_in}
 use Rattle.leaf_moves.specs.Stage.{Leaf}
 use Rattle.leaf_moves.specs.Holds.{HasMet, Hold}
-use Rattle.leaf_moves.specs.Plays.{MayPlay}
 use Rattle.transcript.specs.Watching.{HearsAll}
 use Rattle.player.specs.Crew.{AllPass, CountedIf, PassesIf, AllCounted}
-use Rattle.bursts.specs.Items.{MayPlayItem}
 use Rattle.bursts.specs.Went.{ItemWent, OrNothing, told_lines}
-use Rattle.transcript_fleet.specs.Laws as sessions
 use Rattle.play.specs.Played.{KeepsCounts}
 use Rattle.play.specs.Runs.{Advances, HoldsKeep, IsRun, RunSoFar, berths_in}
 use Rattle.transcript_fleet.proofs.Ending.{ended}
 use Rattle.transcript_fleet.proofs.Sessions.{plays_on}
-use Rattle.transcript_fleet.proofs.Lists.{All-weaken}
 use Rattle.transcript_leaf.proofs.Lists.{element_at, within}
 use Rattle.berth_face.specs.Streams.{Written, WritesFront}
 use Rattle.leaf_moves.specs.Lanes.{PlaysItem}
-use Rattle.bursts.specs.Shortened.{Begins, BeginsItem}
+use Rattle.bursts.specs.Shortened.{BeginsItem}
 use Rattle.play.specs.Cut.{PlaysSome, last_lines}
 use Rattle.play.specs.Shortened.{RunShort, StopsAt}
 
@@ -153,32 +143,18 @@ heard_on : (fleet : Fleet) (ps qs : List Played) (a b c : List Held) → HearsAl
 heard_on fleet [] qs a b c first next = subst (λ (watches : List Held). HearsAll fleet qs watches c) first next
 heard_on fleet (p ∷ ps) qs a b c first next = (first.0, first.1, heard_on fleet ps qs first.0 b c first.2 next)
 
--- a command behind the fleet may be played
-pub may_later : (fleet : Fleet) (c : Command) → IsCommand (leaf_count fleet) fleet.names c → MayPlay fleet c
-may_later fleet (command.Fleet m p ts) h = absurd h
-may_later fleet _ h = h
-
--- each command of a burst's lanes may be played
-each_may : (fleet : Fleet) (x : Item) → MayPlayItem fleet x → sessions.MayPlayItem fleet x
-each_may fleet (item.One c) may = may
-each_may fleet (item.Burst lanes) may =
-    All-weaken (λ (lane : List Command). AllByRecursion (IsCommand (leaf_count fleet) fleet.names) lane) (λ (lane : List Command). AllByRecursion (MayPlay fleet) lane)
-    (λ lane each. All-weaken (IsCommand (leaf_count fleet) fleet.names) (MayPlay fleet) (may_later fleet) lane each) lanes may.each
-
 pub run_goes_on : {B : Type 0} (base : ℕ → Option NamedStates) (meaning : B → Meaning) (fleet crew : Fleet) (olds : List B) (was written after : Option (List ℕ)) (watching between watched : List Held) (items : List Item) (x : Item) (xs ys : List (Hold B))
     → RunSoFar base meaning fleet olds was written watching between items xs
-    → MayPlayItem fleet x
     → crew ≡ fleet
     → Advances meaning crew xs ys written after between watched x
     → AllPass meaning xs ys
     → RunSoFar base meaning fleet olds was after watching watched (items ++ x ∷ []) ys
-run_goes_on {B} base meaning fleet crew olds was written after watching between watched items x xs ys run may same advance passes =
+run_goes_on {B} base meaning fleet crew olds was written after watching between watched items x xs ys run same advance passes =
     let step : Advances meaning fleet xs ys written after between watched x = subst (λ (f : Fleet). Advances meaning f xs ys written after between watched x) same advance in
     let p : PlayedItem = step.played in
     let text : Appends was after (lines_text fleet.names (all_lines run.played ++ item_lines p)) =
     subst (Appends was after) (sym (flat_map-append (line_text fleet.names) (all_lines run.played) (item_lines p)))
     (appends_on was written after (lines_text fleet.names (all_lines run.played)) (lines_text fleet.names (item_lines p)) run.text step.text) in
-    let may_item : sessions.MayPlayItem fleet (item_of p) = subst (sessions.MayPlayItem fleet) (sym step.item_is) (each_may fleet x may) in
     record {
       played = run.played ++ p ∷ [];
       items_are = map-append item_of run.played (p ∷ []) ∙ ap₂ (λ (is js : List Item). is ++ js) run.items_are (ap (λ (i : Item). i ∷ []) step.item_is);
@@ -192,7 +168,7 @@ run_goes_on {B} base meaning fleet crew olds was written after watching between 
           (counted_on leaf (all_pieces run.played) (all_pieces (p ∷ [])) (meaning old) (meaning before.1) (meaning new)
           (run.counted leaf old had.0 before.0 before.1 at had.1 before.2) before.3);
       keeps = holds_keep meaning olds xs ys run.keeps passes;
-      session = λ known is. plays_on meaning olds fleet known run.played xs ys p may_item (run.session known is) step.plays;
+      session = λ known is. plays_on meaning olds fleet known run.played xs ys p (run.session known is) step.plays;
     }
   where
     held_before : (leaf : ℕ) (y : Hold B) → slice_get ys leaf ≡ Some y → (x : Hold B) × (slice_get xs leaf ≡ Some x)
@@ -268,27 +244,6 @@ last_snoc (q ∷ r ∷ ps) p = last_snoc (r ∷ ps) p
 rest_within : (piece front rest : List ℕ) → piece ≡ front ++ rest → length rest ≤ length piece
 rest_within piece front rest is = omega (arith, ap (λ (l : List ℕ). length l) is, length-append front rest)
 
--- ---- which items may be played
-
-front_all : (P : Command → Type 0) (xs ys : List Command) → AllByRecursion P (xs ++ ys) → AllByRecursion P xs
-front_all P [] ys each = tt
-front_all P (x ∷ xs) ys each = (each.0, front_all P xs ys each.1)
-
-lanes_begun : (P : Command → Type 0) (lanes wholes : List (List Command)) → AllZip (λ (lane whole : List Command). Begins lane whole) lanes wholes
-    → AllByRecursion (λ (lane : List Command). AllByRecursion P lane) wholes → AllByRecursion (λ (lane : List Command). AllByRecursion P lane) lanes
-lanes_begun P [] [] begun each = tt
-lanes_begun P [] (w ∷ ws) begun each = absurd begun
-lanes_begun P (l ∷ ls) [] begun each = absurd begun
-lanes_begun P (l ∷ ls) (w ∷ ws) begun each =
-    (front_all P l begun.0.0 (subst (λ (cs : List Command). AllByRecursion P cs) begun.0.1 each.0), lanes_begun P ls ws begun.1 each.1)
-
--- where an item may be played, so may one that begins it
-may_begun : (fleet : Fleet) (y x : Item) → BeginsItem y x → sessions.MayPlayItem fleet x → sessions.MayPlayItem fleet y
-may_begun fleet (item.One c) (item.One d) same may = subst (λ (e : Command). MayPlay fleet e) (sym same) may
-may_begun fleet (item.One c) (item.Burst wholes) none may = absurd none
-may_begun fleet (item.Burst lanes) (item.One d) none may = absurd none
-may_begun fleet (item.Burst lanes) (item.Burst wholes) begun may = lanes_begun (MayPlay fleet) lanes wholes begun may
-
 -- ---- a run that stops
 
 module _ {B : Type 0} (base : ℕ → Option NamedStates) (meaning : B → Meaning) (fleet : Fleet) (olds : List B) (was : Option (List ℕ)) (watching : List Held) where
@@ -310,12 +265,11 @@ module _ {B : Type 0} (base : ℕ → Option NamedStates) (meaning : B → Meani
 
   -- behind one that was played, or begun, and of which a front was written
   pub run_cut : (written after : Option (List ℕ)) (between watched : List Held) (items more : List Item) (x : Item) (xs ys : List (Hold B)) (p : PlayedItem)
-      → RunSoFar base meaning fleet olds was written watching between items xs → MayPlayItem fleet x → AllPass meaning xs ys
+      → RunSoFar base meaning fleet olds was written watching between items xs → AllPass meaning xs ys
       → BeginsItem (item_of p) x → PlaysItem meaning fleet xs p ys → AllCounted meaning (all_pieces (p ∷ [])) xs ys → HearsAll fleet (plays_of p) between watched
       → WritesFront written after (lines_text fleet.names (item_lines p))
       → RunShort base meaning fleet olds was after watching watched (items ++ x ∷ more) ys
-  run_cut written after between watched items more x xs ys p run may passes begins plays counts heard front =
-      let may_item : sessions.MayPlayItem fleet (item_of p) = may_begun fleet (item_of p) x begins (each_may fleet x may) in
+  run_cut written after between watched items more x xs ys p run passes begins plays counts heard front =
       let lines : lines_text fleet.names (all_lines (run.played ++ p ∷ [])) ≡ lines_text fleet.names (all_lines run.played) ++ lines_text fleet.names (item_lines p) =
       ap (λ (ls : List Line). lines_text fleet.names ls) (lines_snoc run.played p) ∙ flat_map-append (line_text fleet.names) (all_lines run.played) (item_lines p) in
       record {
@@ -336,7 +290,7 @@ module _ {B : Type 0} (base : ℕ → Option NamedStates) (meaning : B → Meani
             (run.counted leaf old had.0 before.0 before.1 at had.1 before.2) before.3);
         keeps = holds_keep meaning olds xs ys run.keeps passes;
         untouched = λ none. absurd (some_there run.played p none);
-        session = λ known is. plays_on meaning olds fleet known run.played xs ys p may_item (run.session known is) plays;
+        session = λ known is. plays_on meaning olds fleet known run.played xs ys p (run.session known is) plays;
       }
     where
       some_there : (ps : List PlayedItem) (p : PlayedItem) → ps ++ p ∷ [] ≡ [] → ⊥
@@ -345,16 +299,16 @@ module _ {B : Type 0} (base : ℕ → Option NamedStates) (meaning : B → Meani
 
   -- where an item stops a run
   pub run_stops : (written after : Option (List ℕ)) (between watched : List Held) (items more : List Item) (x : Item) (xs ys : List (Hold B))
-      → RunSoFar base meaning fleet olds was written watching between items xs → (items ≡ [] → berths_in xs ≡ olds) → MayPlayItem fleet x → AllPass meaning xs ys
+      → RunSoFar base meaning fleet olds was written watching between items xs → (items ≡ [] → berths_in xs ≡ olds) → AllPass meaning xs ys
       → StopsAt meaning fleet xs ys written after between watched x
       → RunShort base meaning fleet olds was after watching watched (items ++ x ∷ more) ys
-  run_stops written after between watched items more x xs ys run first may passes (StopsAt.unplayed holds text watches) =
+  run_stops written after between watched items more x xs ys run first passes (StopsAt.unplayed holds text watches) =
       subst (λ (hs : List (Hold B)). RunShort base meaning fleet olds was after watching watched (items ++ x ∷ more) hs) (sym holds)
       (subst (λ (t : Option (List ℕ)). RunShort base meaning fleet olds was t watching watched (items ++ x ∷ more) xs) (sym text)
       (subst (λ (ws : List Held). RunShort base meaning fleet olds was written watching ws (items ++ x ∷ more) xs) (sym watches)
       (run_halts written between items (x ∷ more) xs run first)))
-  run_stops written after between watched items more x xs ys run first may passes (StopsAt.short p begins plays counts heard front) =
-      run_cut written after between watched items more x xs ys p run may passes begins plays counts heard front
+  run_stops written after between watched items more x xs ys run first passes (StopsAt.short p begins plays counts heard front) =
+      run_cut written after between watched items more x xs ys p run passes begins plays counts heard front
 
 pub some_done : (done : List Item) (x : Item) → done ++ x ∷ [] ≡ [] → ⊥
 some_done [] x e = cc
@@ -362,11 +316,10 @@ some_done (y ∷ done) x e = cc
 
 -- at an item of all of them
 pub run_short : {B : Type 0} (base : ℕ → Option NamedStates) (meaning : B → Meaning) (fleet crew : Fleet) (olds : List B) (was written after : Option (List ℕ)) (watching between watched : List Held) (done left more all : List Item) (x : Item) (xs ys : List (Hold B))
-    → RunSoFar base meaning fleet olds was written watching between done xs → (done ≡ [] → berths_in xs ≡ olds) → done ++ left ≡ all → left ≡ x ∷ more → AllByRecursion (MayPlayItem fleet) left → AllPass meaning xs ys → crew ≡ fleet
+    → RunSoFar base meaning fleet olds was written watching between done xs → (done ≡ [] → berths_in xs ≡ olds) → done ++ left ≡ all → left ≡ x ∷ more → AllPass meaning xs ys → crew ≡ fleet
     → StopsAt meaning crew xs ys written after between watched x
     → RunShort base meaning fleet olds was after watching watched all ys
-run_short base meaning fleet crew olds was written after watching between watched done left more all x xs ys run first whole is may passes same stops =
-    let each : AllByRecursion (MayPlayItem fleet) (x ∷ more) = subst (AllByRecursion (MayPlayItem fleet)) is may in
+run_short base meaning fleet crew olds was written after watching between watched done left more all x xs ys run first whole is passes same stops =
     subst (λ (its : List Item). RunShort base meaning fleet olds was after watching watched its ys) (ap (λ (r : List Item). done ++ r) (sym is) ∙ whole)
-    (run_stops base meaning fleet olds was watching written after between watched done more x xs ys run first each.0 passes
+    (run_stops base meaning fleet olds was watching written after between watched done more x xs ys run first passes
     (subst (λ (f : Fleet). StopsAt meaning f xs ys written after between watched x) same stops))

@@ -1,3 +1,4 @@
+pub mod Standing
 pub mod Words
 pub mod Empty
 pub mod Played

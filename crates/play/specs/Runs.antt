@@ -22,7 +22,7 @@ use Rattle.transcript.specs.Watching.{HearsAll}
 use Rattle.transcript_fleet.specs.Session.{Session}
 use Rattle.transcript_fleet.specs.Laws.{IsToldFleet}
 use Rattle.player.specs.Crew.{AllCounted, berth_in}
-use Rattle.bursts.specs.Items.{MayPlayItem}
+use Rattle.play.specs.Standing.{MayRun}
 use Rattle.run_ends.specs.declared.status.Status.{Status}
 use Rattle.play.specs.Played.{KeepsCounts}
 
@@ -48,7 +48,7 @@ pub record IsFleetOf (items : List Item) (machines per_machine : ℕ) (names : L
   pub is : script_fleet items ≡ fleet_named machines per_machine names
   pub are_names : AreNames names
   pub leaves : AreLeaves machines per_machine
-  pub may_play : AllByRecursion (MayPlayItem (fleet_named machines per_machine names)) items
+  pub may_play : AllByRecursion (MayRun (fleet_named machines per_machine names)) items
 
 -- the berths of the leaves that are held
 abbrev pub berths_in : {B : Type 0} → List (Hold B) → List B

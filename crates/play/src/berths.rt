@@ -1,13 +1,13 @@
 // A script's play over the berths.
-ghost use Rattle.std.specs.Prelude.{◌≡◌, ◌≤◌, [], length, map, OnOk, OnErr, IfOk, IfSome, None, IsErrOf, IsOk};
+ghost use Rattle.std.specs.Prelude.{◌≡◌, ◌+◌, ◌≤◌, [], length, map, OnOk, OnErr, IfOk, IfSome, None, IsErrOf, IsOk};
 ghost use Rattle.std.specs.List.{AllByRecursion};
 ghost use Rattle.std.specs.Io.KnownBytes.{Appends};
 ghost use Rattle.berth_face.specs.Causes.{Rose};
-ghost use Rattle.script_text.specs.Fits.{AreItems};
+ghost use Rattle.script_text.specs.Fits.{AreItems, TellAbove, TellsDeclared, declared_by, declared_in};
 ghost use Rattle.printed_lines.specs.Lines.{lines_text, IsOf};
 ghost use Rattle.transcript.specs.Leaving.{IsWritten};
 ghost use Rattle.player.specs.Crew.{AllPass, HasAll};
-ghost use Rattle.bursts.specs.Items.{MayPlayItem};
+ghost use Rattle.play.specs.Standing.{AreFollowers, MayRun};
 ghost use Rattle.play.specs.Played.{AreBases, LeavesBerths, leaves_in};
 ghost use Rattle.berth_face.specs.Streams.{WritesFront};
 ghost use Rattle.bursts.specs.Went.{told_lines};
@@ -15,15 +15,16 @@ ghost use Rattle.play.specs.Shortened.{IfShort, RunShort, StopsAt, StopsShort};
 ghost use Rattle.play.specs.Runs.{Advances, HoldsKeep, IsEnd, IsFleetOf, RunSoFar, berths_in};
 
 use crate::bases::Bases;
+use crate::standing::play_followed;
 use crate::tables::{NewTables, new_tables};
 use berth_face::{Berth, Gate, Sink};
-use bursts::play_item;
 use leaf_model::Names;
 use player::Crew;
 use printed_lines::{Line, put_lines};
 use rollover_watch::Watch;
 use run_ends::{Status, write_all};
 use script_text::{Command, Item, Items};
+use standing_feed::Followers;
 use std::alloc::{AllocError, Global};
 use std::collections::VecDeque;
 use std::sync::Wait;
@@ -102,6 +103,8 @@ pub fn play_items<N: Bases, R: Wait + Threads + Sync, K: Sink, B: Berth, G: Gate
     watches: &mut Vec<Box<dyn Watch>>,
 ) -> Status
     requires items { AreItems items }
+    requires told { TellAbove 0 items }
+    requires few { declared_in items ≤ 16 }
     requires enough { leaves_in items ≤ length berths.old.items }
     requires bases { AreBases N.base B.meaning berths.old.items }
     ensures done { result ≡ Status.Done → IsWritten B.meaning berths.old.items berths.new.items N.base items (K.written sink.old) (K.written sink.new)
@@ -133,6 +136,8 @@ fn play_over<N: Bases, R: Wait + Threads + Sync, K: Sink, B: Berth, G: Gate>(
     watches: &mut Vec<Box<dyn Watch>>,
 ) -> Status
     requires plan { IsFleetOf items plan.now.machines plan.now.per_machine plan.now.names }
+    requires told { TellAbove 0 items }
+    requires few { declared_in items ≤ 16 }
     requires enough { leaves_in items ≤ length berths.old.items }
     requires bases { AreBases N.base B.meaning berths.old.items }
     ensures done { result ≡ Status.Done → IsWritten B.meaning berths.old.items berths.new.items N.base items (K.written sink.old) (K.written sink.new)
@@ -194,7 +199,9 @@ fn play_all<'t, N: Bases, R: Wait + Threads + Sync, K: Sink, B: Berth, G: Gate>(
     watches: &mut Vec<Box<dyn Watch>>,
 ) -> Status
     requires names { crew.old.fleet.names ≡ names.now }
-    requires may_play { AllByRecursion (MayPlayItem crew.old.fleet) items.items }
+    requires may_play { AllByRecursion (MayRun crew.old.fleet) items.items }
+    requires told { TellAbove 0 items.items }
+    requires few { declared_in items.items ≤ 16 }
     requires all { HasAll crew.old.fleet crew.old.holds }
     requires begun { RunSoFar N.base B.meaning crew.old.fleet (berths_in crew.old.holds) (K.written sink.old) (K.written sink.old)
         (map (λ watch. held watch) watches.old.items) (map (λ watch. held watch) watches.old.items) [] crew.old.holds }
@@ -208,10 +215,21 @@ fn play_all<'t, N: Bases, R: Wait + Threads + Sync, K: Sink, B: Berth, G: Gate>(
     ensures all { HasAll crew.new.fleet crew.new.holds }
 {
     let mut step: u32 = 0;
+    let mut followers = Followers::new(alloc);
     let mut rest = VecDeque::from_vec(items);
     while let Some(item) = rest.pop_front() {
         pass_before(gate, &item, &mut step);
-        match play_next(rt, alloc, names, crew, item, sink, gate, watches) {
+        match play_next(
+            rt,
+            alloc,
+            names,
+            crew,
+            &mut followers,
+            item,
+            sink,
+            gate,
+            watches,
+        ) {
             Ok(()) => {}
             Err(WriteError::Failed) => return Status::WriteFault,
             Err(WriteError::NoMemory) => return Status::NoMemory,
@@ -228,31 +246,37 @@ fn pass_before<G: Gate>(gate: &G, item: &Item, step: &mut u32) {
     }
 }
 
-/// Plays an item, and writes its lines.
+/// Plays an item, which the standing queries follow, and writes its lines.
 fn play_next<'t, R: Wait + Threads + Sync, K: Sink, B: Berth, G: Gate>(
     rt: &R,
     alloc: Global,
     names: &Names,
     crew: &mut Crew<'t, B>,
+    followers: &mut Followers,
     item: Item,
     sink: &mut K,
     gate: &G,
     watches: &mut Vec<Box<dyn Watch>>,
 ) -> Result<(), WriteError>
     requires names { crew.old.fleet.names ≡ names.now }
-    requires may_play { MayPlayItem crew.old.fleet item }
+    requires may_play { MayRun crew.old.fleet item }
+    requires told { TellsDeclared (length followers.old.list.items) item }
+    requires followers { AreFollowers crew.old.fleet followers.old.list.items }
+    requires few { length followers.old.list.items + declared_by item ≤ 16 }
     requires all { HasAll crew.old.fleet crew.old.holds }
     ensures played { OnOk result (Advances B.meaning crew.old.fleet crew.old.holds crew.new.holds (K.written sink.old) (K.written sink.new)
         (map (λ watch. held watch) watches.old.items) (map (λ watch. held watch) watches.new.items) item) }
     ensures stops { OnErr result (StopsAt B.meaning crew.old.fleet crew.old.holds crew.new.holds (K.written sink.old) (K.written sink.new)
         (map (λ watch. held watch) watches.old.items) (map (λ watch. held watch) watches.new.items) item) }
     ensures fleet { crew.new.fleet ≡ crew.old.fleet }
+    ensures followers { AreFollowers crew.old.fleet followers.new.list.items }
+    ensures count { OnOk result (length followers.new.list.items ≡ length followers.old.list.items + declared_by item) }
     ensures all { HasAll crew.new.fleet crew.new.holds }
     ensures time { AllPass B.meaning crew.old.holds crew.new.holds }
     ensures failed { IsErrOf result WriteError.Failed → Rose (K.faults sink.old) (K.faults sink.new) }
     ensures later { K.faults sink.old ≤ K.faults sink.new }
 {
-    let lines = play_item(rt, alloc, gate, crew, watches, item);
+    let lines = play_followed(rt, alloc, gate, crew, followers, watches, item);
     write_lines(alloc, names, lines, sink)
 }
 

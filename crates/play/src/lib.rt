@@ -8,6 +8,7 @@ mod laws;
 mod program;
 mod script;
 mod soaking;
+mod standing;
 mod tables;
 mod words;
 

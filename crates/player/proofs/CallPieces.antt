@@ -1,8 +1,10 @@
 -- The piece of a caller's call, and what it tells.
-use Rattle.std.proofs.Common.{◌≡◌, ℕ, ◌<◌, Bool, List, [], ◌∷◌, length, inl, inr, Result, Vec, Global, refl, sym, ap, subst, ◌∙◌}
+use Rattle.std.proofs.Common.{◌≡◌, ℕ, ◌<◌, Bool, List, [], ◌∷◌, length, inl, inr, Result, Err, Vec, Global, refl, sym, ap, subst, ◌∙◌}
 use Rattle.std.specs.Prelude.{IfOk}
 use Rattle.std.specs.List.{AllByRecursion}
 use Rattle.std.proofs.lemmas.Result.{IfOk-weaker}
+use Rattle.leaf_model.specs.declared.queries.Query.{Query}
+use Rattle.leaf_history.specs.Calls as call
 use Rattle.leaf_history.specs.Calls.{Call}
 use Rattle.leaf_table.specs.declared.replies.Reply.{Reply}
 use Rattle.leaf_table.specs.declared.replies.Reply.TheVariants as told
@@ -85,6 +87,28 @@ one_call names leaf table c x y r result calls within told =
       calm = λ test number. p.calm test number [];
       fit = subst (AllByRecursion (IsOf names)) (sym lines_are) (p.fits names within, tt);
       lines_are = IfOk-weaker result (λ lines. lines.items ≡ reply_line leaf table r ∷ []) (λ lines. lines.items ≡ lines_in (p.piece ∷ [])) (λ lines are. are ∙ sym lines_are) told;
+    }
+
+-- an ask that had this reply, without the list of its line
+pub record OneAsk (names : List (List ℕ)) (leaf table : ℕ) (q : Query) (x : Called) (r : Reply) (y : Called) : Type 0 where
+  pub calls : CallsWith {E = Unit {0}} names leaf table (call.Ask q) x.tables x.seats (Err tt) y.seats
+  pub line_is : lines_in (calls.piece ∷ []) ≡ reply_line leaf table r ∷ []
+  pub fits : IsOf names (reply_line leaf table r)
+
+pub one_ask : (names : List (List ℕ)) (leaf table : ℕ) (q : Query) (x y : Called) (r : Reply) → Calls table (call.Ask q) x r y → table < length names → OneAsk names leaf table q x r y
+one_ask names leaf table q x y r calls within =
+    let p : ReplyPiece leaf table (call.Ask q) r = reply_piece leaf table (call.Ask q) r in
+    let lines_are : lines_in (p.piece ∷ []) ≡ reply_line leaf table r ∷ [] = one_piece p.piece ∙ p.line_is in
+    record {
+      calls = record {
+        piece = p.piece;
+        step = call_step leaf table (call.Ask q) x y r p.piece calls p.says;
+        calm = λ test number. p.calm test number [];
+        fit = subst (AllByRecursion (IsOf names)) (sym lines_are) (p.fits names within, tt);
+        lines_are = tt;
+      };
+      line_is = lines_are;
+      fits = p.fits names within;
     }
 
 -- ---- the piece as a script prints it

@@ -18,6 +18,7 @@ pub mod AskRows
 pub mod SameLeaves
 pub mod AskKnown
 pub mod Asking
+pub mod AskLeaf
 pub mod TailCalls
 pub mod TailTries
 pub mod SendRows

@@ -3,6 +3,7 @@ use Rattle.std.proofs.Common.{◌≡◌, ◌≢◌, ◌⊎◌, inl, inr, ℕ, ze
 use Rattle.std.specs.Prelude.{slice_get, slice_set, slice_index_or, is_some}
 use Rattle.std.proofs.lemmas.Bool.{cases_eq}
 use Rattle.berth_face.specs.Berth.{Meaning, Passes}
+use Rattle.leaf_history.specs.Calls.{Call}
 use Rattle.leaf_table.specs.Turns.{Shared}
 use Rattle.leaf_table.specs.Calls.{SeatView, name_of}
 use Rattle.leaf_table.specs.Lists.{lists_in, row}
@@ -10,7 +11,7 @@ use Rattle.leaf_steward.proofs.Seating.{same_at, set_either, set_same, some_same
 use Rattle.printed_lines.specs.declared.line.Line.{Line}
 use Rattle.script_text.specs.Commands.{leaf_count}
 use Rattle.printed_lines.specs.declared.line.Deed.{Deed}
-use Rattle.leaf_moves.specs.Holds.{Hold, caller_in, with_callers, with_leaf}
+use Rattle.leaf_moves.specs.Holds.{caller_in, with_callers, with_leaf}
 use Rattle.leaf_moves.specs.Steps.{noted_all}
 use Rattle.leaf_deeds.specs.declared.leaf.OneLeaf.{OneLeaf}
 use Rattle.player.specs.declared.members.Members.{Members}
@@ -21,7 +22,7 @@ use Rattle.player.specs.Rows.{AreCalled, IsColumn, OnlyColumn}
 use Rattle.leaf_deeds.specs.Held.{berth_of, seats_of, state_of}
 use Rattle.player.specs.Stage.{IsMember, hold_at}
 use Rattle.player.specs.Lines.{CallsWith}
-use Rattle.player.specs.Members.{AreMembers, IsLeafOf, fleet_in, holds_from, holds_in}
+use Rattle.player.specs.Members.{AreMembers, GoesWith, IsLeafOf, fleet_in, holds_from, holds_in}
 use Rattle.player.specs.Commands.{ActsWith, CallsAt, DeedAt, call_of}
 use Rattle.player.proofs.CallPieces.{call_prints}
 use Rattle.player.proofs.Chains.{one_act, one_called}
@@ -178,16 +179,19 @@ module _ {B : Type 0} where
       each = λ leaf z at. let was = are.each leaf z at in record { names = was.names; tables = was.tables; seats = was.seats };
     }
 
+    pub goes_called : {E : Type 0} (meaning : B → Meaning) (table : ℕ) (c : Call) (result : Result (Vec Line Global) E)
+        → (calls : CallsWith x.names number table c (row x.tables.now number) (column number (lists_in x.rows.items)) result (column number (lists_in rows.items)))
+        → GoesWith meaning x.names (holds_in x) result (calls.piece ∷ []) (holds_in (with_parts x x.leaves rows))
+    goes_called meaning table c result calls =
+        one_called meaning x.names (holds_in x) (holds_in (with_parts x x.leaves rows)) number table c (hold_at number x.tables.now (lists_in x.rows.items) there.0) (column number (lists_in rows.items)) result
+        (holds_at 0 number number x.tables.now x.leaves.items there.0 (lists_in x.rows.items) (omega arith) there.1) called_then
+        (seats_still number (lists_in x.rows.items) (lists_in rows.items) only.lengths) calls
+
     pub calls_at : {E : Type 0} (meaning : B → Meaning) (table : ℕ) (r : Request) (result : Result (Vec Line Global) E)
         → CallsWith x.names number table (call_of r) (row x.tables.now number) (column number (lists_in x.rows.items)) result (column number (lists_in rows.items))
         → CallsAt meaning number table r x result (with_parts x x.leaves rows)
-    calls_at meaning table r result calls =
-        let was : Hold B = hold_at number x.tables.now (lists_in x.rows.items) there.0 in
-        let callers = column number (lists_in rows.items) in
-        record {
-          piece = calls.piece;
-          prints = call_prints number table (call_of r) calls.step.reply calls.piece calls.step.says;
-          goes = one_called meaning x.names (holds_in x) (holds_in (with_parts x x.leaves rows)) number table (call_of r) was callers result
-              (holds_at 0 number number x.tables.now x.leaves.items there.0 (lists_in x.rows.items) (omega arith) there.1) called_then
-              (seats_still number (lists_in x.rows.items) (lists_in rows.items) only.lengths) calls;
-        }
+    calls_at meaning table r result calls = record {
+      piece = calls.piece;
+      prints = call_prints number table (call_of r) calls.step.reply calls.piece calls.step.says;
+      goes = goes_called meaning table (call_of r) result calls;
+    }

@@ -91,11 +91,13 @@ abbrev pub call_of : Request → Call
 call_of (request.Add rows) = call.Add rows
 call_of (request.Expire horizon) = call.Expire horizon
 call_of (request.Keep n) = call.Keep n
+call_of (request.Ask q) = call.Ask q.now
 
 abbrev pub IsRequest : Request → Type 0
 IsRequest (request.Add rows) = AllByRecursion IsRow rows
 IsRequest (request.Expire horizon) = IsTime horizon
 IsRequest (request.Keep n) = ⊤
+IsRequest (request.Ask q) = ⊤
 
 -- a call of one of the leaves
 pub record CallsAt {B E : Type 0} (meaning : B → Meaning) (leaf table : ℕ) (r : Request) (x : Members B) (result : Result (Vec Line Global) E) (y : Members B) : Type 0 where

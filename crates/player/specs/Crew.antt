@@ -13,7 +13,7 @@ use Rattle.printed_lines.specs.declared.line.Line.{Line}
 use Rattle.printed_lines.specs.declared.line.Ending.{Ending}
 use Rattle.printed_lines.specs.Lines.{IsOf}
 use Rattle.script_text.specs.declared.fleet.Fleet.{Fleet}
-use Rattle.script_text.specs.Aims.{Aim, AtFleet, AtLeaf, AtLeaves, AtNamed, AtTable, aim_of}
+use Rattle.script_text.specs.Aims.{Aim, AtFleet, AtLeaf, AtLeaves, AtNamed, AtRun, AtTable, aim_of}
 use Rattle.script_text.specs.Commands.{leaf_count}
 use Rattle.printed_lines.specs.declared.line.Deed.{Deed}
 use Rattle.transcript.specs.Pieces.{Piece, lines_in, place_among}
@@ -68,6 +68,7 @@ HasAimed fleet xs (AtTable table) = HasSeats xs table
 HasAimed fleet xs (AtNamed name) = HasSeats xs (place_among name fleet.names)
 HasAimed fleet xs (AtLeaf leaf) = HasLeaf xs leaf
 HasAimed fleet xs AtLeaves = (leaf : ℕ) → leaf < leaf_count fleet → HasLeaf xs leaf
+HasAimed fleet xs AtRun = ⊤
 
 -- what a command needs
 abbrev pub HasFor : {B : Type 0} → Fleet → List (Hold B) → Command → Type 0

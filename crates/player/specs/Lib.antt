@@ -7,6 +7,7 @@ pub mod Members
 pub mod Restarts
 pub mod Rolled
 pub mod Commands
+pub mod Asked
 pub mod Beginning
 pub mod Lending
 pub mod Returning

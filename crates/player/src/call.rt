@@ -4,16 +4,17 @@ ghost use Rattle.turnstile.specs.Seats.{IsSeatOf};
 ghost use Rattle.leaf_table.specs.Calls.{Answered, IsCaller, SameSeat, base_seen};
 ghost use Rattle.leaf_table.specs.Lists.{lists_in, row};
 ghost use Rattle.script_text.specs.Commands.{leaf_count};
-ghost use Rattle.player.specs.Crew.{HasSeats};
+ghost use Rattle.player.specs.Crew.{AllPass, HasSeats, StillHas};
 ghost use Rattle.player.specs.Rows.{Calls, HasSeat, IsColumn, OnlyColumn, called_at};
 ghost use Rattle.player.specs.Lines.{CallsWith};
 ghost use Rattle.player.specs.Members.{AreMembers, SameFleet, fleet_in, holds_in};
 ghost use Rattle.player.specs.Commands.{CallsAt, IsRequest, call_of};
+ghost use Rattle.player.specs.Asked.{AsksLeaf};
 
-use crate::entries::call_lines;
+use crate::entries::{call_line, call_lines};
 use crate::members::Members;
 use berth_face::{Berth, Gate};
-use leaf_model::Rows;
+use leaf_model::{Query, Rows};
 use leaf_table::{Reply, Seat, SharedTable};
 use printed_lines::Line;
 use std::alloc::{AllocError, Global};
@@ -22,10 +23,11 @@ use std::thread::Threads;
 
 /// What a caller asks of a table.
 #[derive(Drop)]
-pub enum Request {
+pub enum Request<'q> {
     Add(Rows),
     Expire(i64),
     Keep(u64),
+    Ask(&'q Query),
 }
 
 impl<'t, B: Berth> Members<'t, B> {
@@ -46,11 +48,36 @@ impl<'t, B: Berth> Members<'t, B> {
         requires request { IsRequest request }
         ensures members { AreMembers self.new }
         ensures same { SameFleet self.old self.new }
-        ensures calls { CallsAt B.meaning leaf table request self.old result self.new }
+        ensures calls { CallsAt B.meaning leaf table request.entry self.old result self.new }
     {
         let tables = self.tables.leaf(leaf);
         let reply = call_one(rt, gate, tables, &mut self.rows, leaf, table, request);
         call_lines(alloc, leaf, table, &reply)
+    }
+
+    /// Asks that leaf's table alone, and gives the line of that with the reply.
+    pub fn ask_leaf<R: Wait + Threads + Sync, G: Gate>(
+        &mut self,
+        rt: &R,
+        gate: &G,
+        leaf: u32,
+        table: u32,
+        query: &Query,
+    ) -> (Line, Reply)
+        requires members { AreMembers self.old }
+        requires leaf { leaf < leaf_count (fleet_in self.old) }
+        requires table { table < length self.old.names }
+        requires has { HasSeats (holds_in self.old) table }
+        ensures members { AreMembers self.new }
+        ensures same { SameFleet self.old self.new }
+        ensures asks { AsksLeaf B.meaning self.old.names leaf table query.now (holds_in self.old) result.0 result.1 (holds_in self.new) }
+        ensures still { StillHas (holds_in self.old) (holds_in self.new) }
+        ensures time { AllPass B.meaning (holds_in self.old) (holds_in self.new) }
+    {
+        let tables = self.tables.leaf(leaf);
+        let request = Request::Ask(query);
+        let reply = call_one(rt, gate, tables, &mut self.rows, leaf, table, request);
+        (call_line(leaf, table, &reply), reply)
     }
 }
 
@@ -68,7 +95,7 @@ fn call_one<R: Wait + Threads + Sync, G: Gate>(
     requires table { table < length tables.now }
     requires has { HasSeat leaf table (lists_in rows.old.items) }
     requires request { IsRequest request }
-    ensures calls { Calls table (call_of request) (called_at leaf tables.now (lists_in rows.old.items)) result (called_at leaf tables.now (lists_in rows.new.items)) }
+    ensures calls { Calls table (call_of request.entry) (called_at leaf tables.now (lists_in rows.old.items)) result (called_at leaf tables.now (lists_in rows.new.items)) }
     ensures column { IsColumn leaf tables.now (lists_in rows.new.items) }
     ensures only { OnlyColumn leaf (lists_in rows.old.items) (lists_in rows.new.items) }
 {
@@ -91,11 +118,12 @@ fn call_by<R: Wait + Threads + Sync, G: Gate>(
     requires request { IsRequest request }
     ensures seat { IsSeatOf seat.new shared.now.site }
     ensures same { SameSeat seat.old seat.new }
-    ensures made { Answered (base_seen shared.now) seat.old (call_of request) result seat.new }
+    ensures made { Answered (base_seen shared.now) seat.old (call_of request.entry) result seat.new }
 {
     match request {
         Request::Add(rows) => shared.add(rt, seat, rows, gate),
         Request::Expire(horizon) => shared.expire(rt, seat, horizon, gate),
         Request::Keep(n) => shared.keep(rt, seat, n, gate),
+        Request::Ask(query) => shared.ask(rt, seat, query, gate),
     }
 }

@@ -68,6 +68,12 @@ impl<'t, B: Berth> Members<'t, B> {
             Command::Query(query) => self.ask(rt, alloc, gate, &query),
             Command::Tail { key, table, rows } => self.tail(rt, alloc, gate, key, table, &rows),
             Command::Rollover(percent) => self.rollover(rt, alloc, gate, watches, percent),
+            // (the run keeps the standing queries)
+            Command::Standing {
+                leaf: _leaf,
+                query: _query,
+            } => unreachable!(),
+            Command::Tell(_number) => unreachable!(),
         }
     }
 }

@@ -17,14 +17,15 @@ ghost use Rattle.leaf_moves.specs.Stage.{Leaf, Stands, seated_of};
 ghost use Rattle.leaf_moves.specs.Holds.{Hold, AllMeet, HasMet};
 ghost use Rattle.leaf_moves.specs.Plays.{MayPlay};
 ghost use Rattle.leaf_moves.specs.Lanes.{CutsOff, TakesBack};
+ghost use Rattle.player.specs.Asked.{AsksLeaf};
 ghost use Rattle.player.specs.Crew.{AllPass, HasAll, HasFor, HasLeaf, HasSeats, MayTakeBack, PlaysWith, SameSeats, Spares, StillHas, berth_in, is_set, new_holds, seated_at};
 
 use crate::ask::place_of;
 use crate::begin::{begin_all, copies};
 use crate::members::Members;
 use berth_face::{Berth, Gate};
-use leaf_model::Names;
-use leaf_table::{CallerSeats, FleetTables, StewardSeats};
+use leaf_model::{Names, Query};
+use leaf_table::{CallerSeats, FleetTables, Reply, StewardSeats};
 use printed_lines::Line;
 use rollover_watch::Watch;
 use script_text::Command;
@@ -143,6 +144,26 @@ impl<'t, B: Berth> Crew<'t, B> {
         ensures lines_fit { IfOk result (λ lines. AllByRecursion (IsOf self.old.fleet.names) lines.items) }
     {
         self.members.play(rt, alloc, gate, watches, command)
+    }
+
+    /// Asks that table of one leaf, and gives the line of that with the reply.
+    pub fn ask_leaf<R: Wait + Threads + Sync, G: Gate>(
+        &mut self,
+        rt: &R,
+        gate: &G,
+        leaf: u32,
+        table: u32,
+        query: &Query,
+    ) -> (Line, Reply)
+        requires leaf { leaf < leaf_count self.old.fleet }
+        requires table { table < length self.old.fleet.names }
+        requires has { HasSeats self.old.holds table }
+        ensures asks { AsksLeaf B.meaning self.old.fleet.names leaf table query.now self.old.holds result.0 result.1 self.new.holds }
+        ensures fleet { (self.new.fleet ≡ self.old.fleet) × (self.new.tables ≡ self.old.tables) }
+        ensures still { StillHas self.old.holds self.new.holds }
+        ensures time { AllPass B.meaning self.old.holds self.new.holds }
+    {
+        self.members.ask_leaf(rt, gate, leaf, table, query)
     }
 
     /// Lets the seats of each leaf meet.

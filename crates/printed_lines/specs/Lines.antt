@@ -11,8 +11,10 @@ use Rattle.printed_lines.specs.declared.line.Deed.TheVariants.{Flush, Drain, Kil
 use Rattle.printed_lines.specs.declared.line.Ending.{Ending}
 use Rattle.printed_lines.specs.declared.line.Ending.TheVariants.{Done, Stopped, NotUp, NotDown, Started, FaultRegion, FaultRoom, FaultDisk, FaultDamaged, FaultMemory, FaultStranger, FaultWorn}
 use Rattle.printed_lines.specs.declared.line.Ending.TheVariants as ends
+use Rattle.printed_lines.specs.declared.line.WhyUntold.{WhyUntold}
+use Rattle.printed_lines.specs.declared.line.WhyUntold.TheVariants as untold
 use Rattle.printed_lines.specs.declared.line.Line.{Line}
-use Rattle.printed_lines.specs.declared.line.Line.TheVariants.{Entry, Worn, Answer, Tailed, Ended, Lane, Wave, Rolled, Watch}
+use Rattle.printed_lines.specs.declared.line.Line.TheVariants.{Entry, Worn, Answer, Tailed, Declared, Told, Untold, Ended, Lane, Wave, Rolled, Watch}
 
 -- what an entry's line says
 abbrev pub said_text : Said → List ℕ
@@ -90,6 +92,27 @@ abbrev pub tailed_text : Option ℕ → List ℕ
 tailed_text (Some leaf) = codes "tail sent " ++ (decimal leaf ++ 10 ∷ [])
 tailed_text None = codes "tail refused" ++ 10 ∷ []
 
+-- the line of a standing query that was declared
+abbrev pub declared_text : ℕ → List ℕ
+declared_text standing = codes "standing " ++ (decimal standing ++ 10 ∷ [])
+
+-- the first line of what a standing query tells up to that entry
+abbrev pub told_head : ℕ → ℕ → ℕ → List ℕ
+told_head standing number count = codes "standing " ++ (decimal standing ++ (codes " at #" ++ (decimal number ++ (codes " lines " ++ (decimal count ++ 10 ∷ [])))))
+
+-- the same with its own lines behind the first
+abbrev pub told_text : ℕ → ℕ → List (List ℕ) → List ℕ
+told_text standing number rows = told_head standing number (length rows) ++ flat_map row_line rows
+
+abbrev pub untold_word : WhyUntold → List ℕ
+untold_word untold.Shut = codes "shut"
+untold_word untold.Worn = codes "worn"
+untold_word untold.Memory = codes "memory"
+
+-- the line of a standing query that told nothing
+abbrev pub untold_text : ℕ → WhyUntold → List ℕ
+untold_text standing why = codes "standing " ++ (decimal standing ++ (32 ∷ (untold_word why ++ 10 ∷ [])))
+
 -- the line of a command of a leaf's steward
 abbrev pub ended_text : List (List ℕ) → Deed → ℕ → Ending → List ℕ
 ended_text names deed leaf ending = deed_text deed ++ (32 ∷ (decimal leaf ++ (32 ∷ (ending_text names ending ++ 10 ∷ []))))
@@ -124,6 +147,9 @@ line_text names (Entry leaf table number said) = entry_text leaf (name_at names 
 line_text names (Worn leaf table) = worn_text leaf (name_at names table)
 line_text names (Answer named leaves rows) = answer_text named leaves rows
 line_text names (Tailed leaf) = tailed_text leaf
+line_text names (Declared standing) = declared_text standing
+line_text names (Told standing number rows) = told_text standing number rows
+line_text names (Untold standing why) = untold_text standing why
 line_text names (Ended deed leaf ending) = ended_text names deed leaf ending
 line_text names (Lane number) = lane_text number
 line_text names (Wave number total leaves) = wave_text number total leaves
@@ -155,6 +181,9 @@ IsOf names (Entry leaf table number said) = table < length names
 IsOf names (Worn leaf table) = table < length names
 IsOf names (Answer named leaves rows) = ⊤
 IsOf names (Tailed leaf) = ⊤
+IsOf names (Declared standing) = ⊤
+IsOf names (Told standing number rows) = ⊤
+IsOf names (Untold standing why) = ⊤
 IsOf names (Ended deed leaf ending) = EndsOf names ending
 IsOf names (Lane number) = ⊤
 IsOf names (Wave number total leaves) = ⊤

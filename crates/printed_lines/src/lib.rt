@@ -6,5 +6,5 @@ mod line;
 mod parts;
 mod put;
 
-pub use line::{Deed, Ending, Line, Said};
+pub use line::{Deed, Ending, Line, Said, WhyUntold};
 pub use put::{put_line, put_lines};

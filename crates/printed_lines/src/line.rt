@@ -60,7 +60,15 @@ pub enum Ending {
     FaultWorn(u32),
 }
 
-/// A printed line, and behind an answer the answer's own lines.
+/// Why a standing query that was stale told nothing: how its table refused to be asked.
+#[derive(Clone, Copy, PartialEq, Eq)]
+pub enum WhyUntold {
+    Shut,
+    Worn,
+    Memory,
+}
+
+/// A printed line, and behind an answer and what a standing query tells the answer's own lines.
 #[derive(Drop)]
 pub enum Line {
     /// One entry of a table's history; the table is its place among the fleet's.
@@ -82,6 +90,19 @@ pub enum Line {
     },
     /// A tail's rows were added to this leaf, or to none.
     Tailed(Option<u32>),
+    /// The standing query of this number was declared.
+    Declared(u32),
+    /// What a standing query tells, which holds up to the entry of that number.
+    Told {
+        standing: u32,
+        number: u64,
+        rows: Texts,
+    },
+    /// A standing query told nothing.
+    Untold {
+        standing: u32,
+        why: WhyUntold,
+    },
     Ended {
         deed: Deed,
         leaf: u32,

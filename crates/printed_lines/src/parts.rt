@@ -1,8 +1,8 @@
 // The texts that lines are made of.
 ghost use Rattle.std.specs.Prelude.{◌≡◌, ◌<◌, length, IfOk, string_bytes};
-ghost use Rattle.printed_lines.specs.Lines.{EndsOf, way_text, ending_text, deed_text, name_at};
+ghost use Rattle.printed_lines.specs.Lines.{EndsOf, way_text, ending_text, deed_text, name_at, untold_word};
 
-use crate::line::{Deed, Ending};
+use crate::line::{Deed, Ending, WhyUntold};
 use adopt::WhyDisk;
 use leaf_model::Names;
 use leaf_opening::Way;
@@ -57,6 +57,16 @@ pub fn deed_str(deed: Deed) -> &'static str
         Deed::Flush(_) => "flush",
         Deed::Drain(_) => "drain",
         Deed::Kill => "kill",
+    }
+}
+
+pub fn untold_str(why: WhyUntold) -> &'static str
+    ensures { result.now ≡ untold_word why }
+{
+    match why {
+        WhyUntold::Shut => "shut",
+        WhyUntold::Worn => "worn",
+        WhyUntold::Memory => "memory",
     }
 }
 

@@ -1,11 +1,11 @@
 // Lines behind what was printed before.
 ghost use Rattle.std.specs.Prelude.{◌≡◌, ◌<◌, ◌∷◌, ◌++◌, [], codes, decimal, length, take, IfOk, OnOk, OnErr, string_bytes};
 ghost use Rattle.std.specs.List.{flat_map, AllByRecursion};
-ghost use Rattle.printed_lines.specs.Lines.{EndsOf, IsOf, row_line, worn_text, answer_head, answer_text, ended_text, lane_text, leaf_text, line_text, lines_text, rolled_text, rolled_word, tailed_text, watch_text, wave_text};
+ghost use Rattle.printed_lines.specs.Lines.{EndsOf, IsOf, row_line, worn_text, answer_head, answer_text, ended_text, lane_text, leaf_text, line_text, lines_text, rolled_text, rolled_word, declared_text, tailed_text, told_head, told_text, untold_text, untold_word, watch_text, wave_text};
 
 use crate::entry::append_entry;
-use crate::line::{Deed, Ending, Line};
-use crate::parts::{deed_str, ending_string, name_of};
+use crate::line::{Deed, Ending, Line, WhyUntold};
+use crate::parts::{deed_str, ending_string, name_of, untold_str};
 use leaf_model::{Names, Text};
 use std::alloc::{AllocError, Global};
 
@@ -29,6 +29,13 @@ pub fn put_line(out: &mut Vec<u8>, names: &Names, line: &Line) -> Result<(), All
             rows,
         } => append_answer(out, *named, *leaves, rows.as_slice()),
         Line::Tailed(leaf) => append_tailed(out, *leaf),
+        Line::Declared(standing) => append_declared(out, *standing),
+        Line::Told {
+            standing,
+            number,
+            rows,
+        } => append_told(out, *standing, *number, rows.as_slice()),
+        Line::Untold { standing, why } => append_untold(out, *standing, *why),
         Line::Ended { deed, leaf, ending } => append_ended(out, names, *deed, *leaf, ending),
         Line::Lane(number) => append_lane(out, *number),
         Line::Wave { number, of, leaves } => append_wave(out, *number, *of, leaves.as_slice()),
@@ -108,6 +115,49 @@ fn append_sent(out: &mut Vec<u8>, leaf: u32) -> Result<(), AllocError>
     ensures unchanged { OnErr result (out.new.items ≡ out.old.items) }
 {
     let text = format!(in *out.allocator(); "tail sent {leaf}\n")?;
+    out.extend_from_slice(text.as_bytes())
+}
+
+fn append_declared(out: &mut Vec<u8>, standing: u32) -> Result<(), AllocError>
+    ensures put { OnOk result (out.new.items ≡ out.old.items ++ declared_text standing) }
+    ensures unchanged { OnErr result (out.new.items ≡ out.old.items) }
+{
+    let text = format!(in *out.allocator(); "standing {standing}\n")?;
+    out.extend_from_slice(text.as_bytes())
+}
+
+fn append_told(
+    out: &mut Vec<u8>,
+    standing: u32,
+    number: u64,
+    rows: &[Text],
+) -> Result<(), AllocError>
+    ensures put { OnOk result (out.new.items ≡ out.old.items ++ told_text standing number rows.now) }
+    ensures unchanged { OnErr result (out.new.items ≡ out.old.items) }
+{
+    let mut told = told_bytes(*out.allocator(), standing, number, rows.len())?;
+    put_rows(&mut told, rows)?;
+    out.extend_from_slice(told.as_slice())
+}
+
+fn told_bytes(
+    alloc: Global,
+    standing: u32,
+    number: u64,
+    count: usize,
+) -> Result<Vec<u8>, AllocError>
+    ensures { IfOk result (λ bytes. bytes.items ≡ told_head standing number count) }
+{
+    let text = format!(in alloc; "standing {standing} at #{number} lines {count}\n")?;
+    Ok(text.into_bytes())
+}
+
+fn append_untold(out: &mut Vec<u8>, standing: u32, why: WhyUntold) -> Result<(), AllocError>
+    ensures put { OnOk result (out.new.items ≡ out.old.items ++ untold_text standing why) }
+    ensures unchanged { OnErr result (out.new.items ≡ out.old.items) }
+{
+    let why = untold_str(why);
+    let text = format!(in *out.allocator(); "standing {standing} {why}\n")?;
     out.extend_from_slice(text.as_bytes())
 }
 

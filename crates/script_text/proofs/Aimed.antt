@@ -37,4 +37,6 @@ aim_fits leaves tables (command.Drain leaf stop) is = is.0
 aim_fits leaves tables (command.Kill leaf) is = is
 aim_fits leaves tables (command.Start leaf) is = is
 aim_fits leaves tables (command.Rollover percent) is = tt
+aim_fits leaves tables (command.Standing leaf query) is = is
+aim_fits leaves tables (command.Tell number) is = is
 aim_fits leaves tables _ is = is.1

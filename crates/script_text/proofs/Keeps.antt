@@ -7,6 +7,7 @@ use Rattle.std.proofs.lemmas.List.Elements.{filter-append}
 use Rattle.std.specs.List.{AllByRecursion, filter, list_any}
 use Rattle.std.specs.Prelude.{IfOk, nat_lt}
 use Rattle.script_text.specs.declared.command.Command.{Command}
+use Rattle.script_text.specs.declared.command.Command.TheVariants as command
 use Rattle.script_text.specs.declared.fault.ScriptFault.{ScriptFault}
 use Rattle.script_text.specs.declared.fleet.Fleet.{Fleet}
 use Rattle.script_text.specs.declared.item.Item.{Item}
@@ -19,9 +20,9 @@ use Rattle.script_text.specs.declared.script.Script.{Script}
 use Rattle.script_text.specs.declared.line_word.LineWord.{LineWord}
 use Rattle.script_text.specs.declared.line_word.LineWord.TheVariants as line_word
 use Rattle.script_text.specs.Aims.{Aim, AtLeaf, AtLeaves, aim_of, is_for_some_steward, is_for_steward, is_second_for}
-use Rattle.script_text.specs.Bursts.{end_burst, inside, next_lane, stepped, line_at, with_item}
+use Rattle.script_text.specs.Bursts.{end_burst, inside, next_lane, stepped, line_at, with_item, with_standing}
 use Rattle.script_text.specs.Commands.{Fault, IsFleet, leaf_count}
-use Rattle.script_text.specs.Fits.{AreItems, IsBurst, IsCommand, IsItem, IsScript, OneSteward}
+use Rattle.script_text.specs.Fits.{AreItems, IsAlone, IsBurst, IsCommand, IsItem, IsScript, OneSteward, TellAbove, TellsDeclared, declared_by, declared_in}
 use Rattle.script_text.specs.Lines.{is_blank}
 use Rattle.script_text.specs.Readings.{Begun, IsReading}
 use Rattle.script_text.specs.Script.{ParsesAs, closed}
@@ -156,10 +157,70 @@ burst_lane leaves tables lanes few each one =
 
 -- ---- what was read
 
-begun_more : (fleet : Fleet) (script : Script) (one : Item) → Begun fleet script.items → IsItem (leaf_count fleet) fleet.names one → Begun fleet (with_item script one).items
-begun_more fleet script one b fits = record { later = b.later ++ one ∷ []; all = ap (λ items. items ++ one ∷ []) b.all; each = AllByRecursion-more (IsItem (leaf_count fleet) fleet.names) b.later one b.each fits }
+-- a standing query that is told in one item more is declared in those before it
+told_more : (declared : ℕ) (items : List Item) (one : Item) → TellAbove declared items → TellsDeclared (declared + declared_in items) one → TellAbove declared (items ++ one ∷ [])
+told_more declared [] one told tells = let none : declared + 0 ≡ declared = omega arith in (subst (λ n. TellsDeclared n one) none tells, tt)
+told_more declared (item ∷ items) one told tells =
+    let sum : declared + (declared_by item + declared_in items) ≡ declared + declared_by item + declared_in items = omega arith in
+    (told.0, told_more (declared + declared_by item) items one told.1 (subst (λ n. TellsDeclared n one) sum tells))
 
-next_lane_by : (n : ℕ) (fleet : Fleet) (script : Script) (lanes : List (List Command)) (blank few : Bool) (words : List ℕ) (s : Step) → is_blank words ≡ blank → nat_lt (length lanes) 16 ≡ few → Begun fleet script.items → AllByRecursion (AllByRecursion (IsCommand (leaf_count fleet) fleet.names)) lanes → OneSteward lanes → next_lane n script lanes words ≡ Ok s → IsReading fleet s.reading
+declared_more : (items : List Item) (one : Item) → declared_in (items ++ one ∷ []) ≡ declared_in items + declared_by one
+declared_more [] one = omega arith
+declared_more (item ∷ items) one = let later = declared_more items one in omega (arith, later)
+
+begun_more : (fleet : Fleet) (script more : Script) (one : Item) → Begun fleet script → IsItem (leaf_count fleet) fleet.names one → TellsDeclared script.standings one → more.items ≡ script.items ++ one ∷ []
+    → more.standings ≡ script.standings + declared_by one → more.standings ≤ 16 → Begun fleet more
+begun_more fleet script more one b fits tells is counts few =
+    let sum : 0 + declared_in script.items ≡ declared_in script.items = omega arith in record {
+      later = b.later ++ one ∷ [];
+      all = is ∙ ap (λ items. items ++ one ∷ []) b.all;
+      each = AllByRecursion-more (IsItem (leaf_count fleet) fleet.names) b.later one b.each fits;
+      told = subst (TellAbove 0) (sym is) (told_more 0 script.items one b.told (subst (λ n. TellsDeclared n one) (sym sum) (subst (λ n. TellsDeclared n one) b.declared tells)));
+      declared = counts ∙ (ap (λ n. n + declared_by one) b.declared ∙ (sym (declared_more script.items one) ∙ ap declared_in (sym is)));
+      few = few;
+    }
+
+-- a command that may stand in a burst declares no standing query, and tells none
+command_declares : (leaves : ℕ) (tables : List (List ℕ)) (c : Command) → IsCommand leaves tables c → declared_by (item.One c) ≡ 0
+command_declares leaves tables (command.Standing leaf query) is = absurd is
+command_declares leaves tables _ is = refl
+
+command_tells : (leaves : ℕ) (tables : List (List ℕ)) (declared : ℕ) (c : Command) → IsCommand leaves tables c → TellsDeclared declared (item.One c)
+command_tells leaves tables declared (command.Tell number) is = absurd is
+command_tells leaves tables declared _ is = tt
+
+command_alone : (leaves : ℕ) (tables : List (List ℕ)) (c : Command) → IsCommand leaves tables c → IsAlone leaves tables c
+command_alone leaves tables (command.Standing leaf query) is = absurd is
+command_alone leaves tables (command.Tell number) is = absurd is
+command_alone leaves tables _ is = is
+
+declaring_tells : (declared : ℕ) (c : Command) → declared_by (item.One c) ≡ 1 → TellsDeclared declared (item.One c)
+declaring_tells declared (command.Tell number) is = absurd (omega (arith, is))
+declaring_tells declared _ is = tt
+
+-- what is read with a command outside bursts, with what a standing query tells, and with one that is declared
+pub command_outside_keeps : (fleet : Fleet) (script : Script) (c : Command) (rows : ℕ) → IsReading fleet (record { script = script; position = position.Outside }) → IsCommand (leaf_count fleet) fleet.names c
+    → IsReading fleet (stepped (with_item script (item.One c)) position.Outside rows).reading
+command_outside_keeps fleet script c rows r is =
+    let none : declared_by (item.One c) ≡ 0 = command_declares (leaf_count fleet) fleet.names c is in
+    let few : script.standings ≤ 16 = r.items.few in
+    record {
+      items = begun_more fleet script (with_item script (item.One c)) (item.One c) r.items (command_alone (leaf_count fleet) fleet.names c is) (command_tells (leaf_count fleet) fleet.names script.standings c is) refl (omega (arith, none)) few;
+      position = tt;
+    }
+
+pub tell_outside_keeps : (fleet : Fleet) (script : Script) (c : Command) (rows : ℕ) → IsReading fleet (record { script = script; position = position.Outside }) → IsAlone (leaf_count fleet) fleet.names c → TellsDeclared script.standings (item.One c)
+    → declared_by (item.One c) ≡ 0 → IsReading fleet (stepped (with_item script (item.One c)) position.Outside rows).reading
+tell_outside_keeps fleet script c rows r is tells none =
+    let few : script.standings ≤ 16 = r.items.few in
+    record { items = begun_more fleet script (with_item script (item.One c)) (item.One c) r.items is tells refl (omega (arith, none)) few; position = tt }
+
+pub standing_outside_keeps : (fleet : Fleet) (script : Script) (c : Command) → IsReading fleet (record { script = script; position = position.Outside }) → IsAlone (leaf_count fleet) fleet.names c → declared_by (item.One c) ≡ 1
+    → script.standings < 16 → IsReading fleet (stepped (with_standing script c) position.Outside 0).reading
+standing_outside_keeps fleet script c r is one below =
+    record { items = begun_more fleet script (with_standing script c) (item.One c) r.items is (declaring_tells script.standings c one) refl (omega (arith, one)) (omega (arith, below)); position = tt }
+
+next_lane_by : (n : ℕ) (fleet : Fleet) (script : Script) (lanes : List (List Command)) (blank few : Bool) (words : List ℕ) (s : Step) → is_blank words ≡ blank → nat_lt (length lanes) 16 ≡ few → Begun fleet script → AllByRecursion (AllByRecursion (IsCommand (leaf_count fleet) fleet.names)) lanes → OneSteward lanes → next_lane n script lanes words ≡ Ok s → IsReading fleet s.reading
 next_lane_by n fleet script lanes true true words s is low b each one read =
     let same : Ok (stepped script (position.Lane lanes []) 0) ≡ Ok s = rw (is, low) at read in
     let there : stepped script (position.Lane lanes []) 0 ≡ s = cc in
@@ -189,17 +250,19 @@ opened_keeps last n fleet script words more line_word.Lane s r read =
     let lane : next_lane n script [] words ≡ Ok s = inside_ok last (next_lane n script [] words) s read in
     next_lane_by n fleet script [] (is_blank words) true words s refl refl r.items tt no_stewards lane
 opened_keeps last n fleet script words more line_word.End s r read = absurd (grind (arith, read))
+opened_keeps last n fleet script words more line_word.Standing s r read = absurd (grind (arith, read))
+opened_keeps last n fleet script words more line_word.Tell s r read = absurd (grind (arith, read))
 opened_keeps last n fleet script words more (line_word.Command word) s r read = absurd (grind (arith, read))
 
 pub command_keeps : (fleet : Fleet) (script : Script) (earlier : List (List Command)) (lane : List Command) (c : Command) (rows : ℕ) → is_second earlier c ≡ false → IsCommand (leaf_count fleet) fleet.names c → IsReading fleet (record { script = script; position = position.Lane earlier lane }) → IsReading fleet (stepped script (position.Lane earlier (lane ++ c ∷ [])) rows).reading
 command_keeps fleet script earlier lane c rows not fits r = record { items = r.items; position = burst_more (leaf_count fleet) fleet.names earlier lane c not fits r.position }
 
-end_burst_by : (n : ℕ) (fleet : Fleet) (script : Script) (lanes : List (List Command)) (blank : Bool) (words : List ℕ) (s : Step) → is_blank words ≡ blank → Begun fleet script.items → IsBurst (leaf_count fleet) fleet.names lanes → end_burst n script lanes words ≡ Ok s → IsReading fleet s.reading
+end_burst_by : (n : ℕ) (fleet : Fleet) (script : Script) (lanes : List (List Command)) (blank : Bool) (words : List ℕ) (s : Step) → is_blank words ≡ blank → Begun fleet script → IsBurst (leaf_count fleet) fleet.names lanes → end_burst n script lanes words ≡ Ok s → IsReading fleet s.reading
 end_burst_by n fleet script lanes true words s is begun_items b read =
     let same : Ok (stepped (with_item script (item.Burst lanes)) position.Outside 0) ≡ Ok s = rw is at read in
     let there : stepped (with_item script (item.Burst lanes)) position.Outside 0 ≡ s = cc in
     let now : IsReading fleet (stepped (with_item script (item.Burst lanes)) position.Outside 0).reading = record {
-      items = begun_more fleet script (item.Burst lanes) begun_items b;
+      items = begun_more fleet script (with_item script (item.Burst lanes)) (item.Burst lanes) begun_items b tt refl (omega arith) begun_items.few;
       position = tt;
     } in
     subst (λ (t : Step). IsReading fleet t.reading) there now
@@ -221,6 +284,8 @@ opened_keeps_as last n fleet script words more v (Err e) reading exact = tt
 fits_all : (fleet : Fleet) (script : Script) → IsFleet fleet → IsReading fleet (record { script = script; position = position.Outside }) → IsScript script
 fits_all fleet script f r = record {
   items = subst AreItems (sym r.items.all) (f.0, f.1, r.items.each);
+  told = r.items.told;
+  few = subst (λ n. n ≤ 16) r.items.declared r.items.few;
 }
 
 closed_by : (last : ℕ) (fleet : Fleet) (script s : Script) (there : Position) → IsFleet fleet → IsReading fleet (record { script = script; position = there }) → closed last script there ≡ Ok s → IsScript s

@@ -25,9 +25,9 @@ use Rattle.script_text.specs.declared.line_word.LineWord.{LineWord}
 use Rattle.script_text.specs.declared.line_word.LineWord.TheVariants as line_word
 use Rattle.script_text.specs.Lines.{lines_of, is_blank, is_skipped}
 use Rattle.script_text.specs.Words.{words_of, first_word, behind_word, trimmed, number_of, count_of, time_of, place_of}
-use Rattle.script_text.specs.Commands.{Fault, ◌>>=◌, on_line, or_words, fleet_of, leaf_count, leaf_in, table_in, target_in, TargetForm, target_words, of_target, within, rows_from, rows_behind, add_at, TailForm, tail_of, tail_words, query_command, one_number, leaf_of, flush_words, DrainForm, drain_words, drain_of, rollover_words, first_command, command_of, row_count, line_word_of}
+use Rattle.script_text.specs.Commands.{Fault, ◌>>=◌, on_line, or_words, fleet_of, leaf_count, leaf_in, table_in, target_in, TargetForm, target_words, of_target, within, rows_from, rows_behind, add_at, TailForm, tail_of, tail_words, query_command, one_number, leaf_of, standing_at, standing_leaf, standing_of, tell_in, tell_of, flush_words, DrainForm, drain_words, drain_of, rollover_words, first_command, command_of, row_count, line_word_of}
 use Rattle.script_text.specs.Script.{NumberedLine, begun, closed, read_from, next_line, script_at, script_of}
-use Rattle.script_text.specs.Bursts.{end_burst, inside, lane_more, next_burst, next_lane, one_more, step_of, stepped, line_at, with_item}
+use Rattle.script_text.specs.Bursts.{end_burst, inside, lane_more, next_burst, next_lane, one_more, step_of, stepped, line_at, with_item, with_standing}
 use Rattle.script_text.specs.Stewards.{is_second}
 
 -- a fault of a text alone
@@ -149,6 +149,21 @@ own_lane_more n script earlier lane (Ok c) h =
     own_if {X = Step} (is_second earlier c) (Err (n, why.TwoStewards)) (Ok (stepped script (position.Lane earlier (lane ++ c ∷ [])) (row_count c))) tt tt
 own_lane_more n script earlier lane (Err found) h = h
 
+-- a standing query
+own_read_query : (n : ℕ) (r : Result Query QueryFault) → Own (on_line n why.Query r)
+own_read_query n (Ok query) = tt
+own_read_query n (Err fault) = tt
+
+own_standing_at : (n : ℕ) (fleet : Fleet) (number : ℕ) (query : Query) → Own (standing_at n fleet number query)
+own_standing_at n fleet number query = own_then (leaf_in n fleet number) (λ leaf. table_in n fleet query.table >>= λ _. Ok (command.Standing leaf query)) (own_leaf_in n fleet number)
+    (λ leaf. own_then (table_in n fleet query.table) (λ _. Ok (command.Standing leaf query)) (own_table_in n fleet query.table) (λ _. tt))
+
+own_standing : (n : ℕ) (fleet : Fleet) (declared : ℕ) (words : List ℕ) → Own (standing_of n fleet declared words)
+own_standing n fleet declared words =
+    let read = on_line n why.Query (query_of (trimmed (behind_word words))) in
+    own_then (or_words n (standing_leaf declared words)) (λ number. read >>= λ query. standing_at n fleet number query) (own_words n (standing_leaf declared words))
+    (λ number. own_then read (λ query. standing_at n fleet number query) (own_read_query n (query_of (trimmed (behind_word words)))) (λ query. own_standing_at n fleet number query))
+
 own_burst : (n : ℕ) (script : Script) (words : List ℕ) → Own (next_burst n script words)
 own_burst n script words = own_if {X = Step} (is_blank words) (Ok (stepped script position.Opened 0)) (Err (n, why.Words)) tt tt
 
@@ -163,6 +178,10 @@ own_end n script lanes words = own_if {X = Step} (is_blank words) (Ok (stepped (
 own_line : (last n : ℕ) (fleet : Fleet) (script : Script) (there : Position) (words : List ℕ) (more : List (List ℕ)) (v : LineWord) → Own (line_at last n fleet script there words more v)
 own_line last n fleet script position.Outside words more line_word.Burst = own_inside last (next_burst n script words) (own_burst n script words)
 own_line last n fleet script position.Outside words more (line_word.Command work) = own_one script (command_of n fleet work words more) (own_command n fleet work words more)
+own_line last n fleet script position.Outside words more line_word.Standing = own_then (standing_of n fleet script.standings words) (λ c. Ok (stepped (with_standing script c) position.Outside 0)) (own_standing n fleet script.standings words) (λ c. tt)
+own_line last n fleet script position.Outside words more line_word.Tell =
+    let number = one_number (words_of words) in
+    own_one script (tell_of n script.standings number) (own_then (or_words n number) (tell_in n script.standings) (own_words n number) (λ s. own_if {X = Command} (nat_lt s script.standings) (Ok (command.Tell s)) (Err (n, why.Words)) tt tt))
 own_line last n fleet script position.Opened words more line_word.Lane = own_inside last (next_lane n script [] words) (own_lane n script [] words)
 own_line last n fleet script (position.Lane earlier lane) words more line_word.Lane = own_inside last (next_lane n script (earlier ++ lane ∷ []) words) (own_lane n script (earlier ++ lane ∷ []) words)
 own_line last n fleet script (position.Lane earlier lane) words more line_word.End = own_end n script (earlier ++ lane ∷ []) words

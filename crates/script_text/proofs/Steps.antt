@@ -82,7 +82,7 @@ parses_as r a b is p = subst (ParsesAs (λ s. s) r) is p
 abbrev script_behind : ℕ → NumberedLine → Result Fleet Fault → Result Script Fault
 script_behind last line read = read >>= λ fleet. read_from last fleet 0 (line.number + 1) (begun line.number fleet) line.after
 
-pub script_none : (text : List ℕ) (script : Script) → None ≡ next_line 1 (lines_of text) → script ≡ record { fleet_line = 0; items = [] } → script_of text ≡ Ok script
+pub script_none : (text : List ℕ) (script : Script) → None ≡ next_line 1 (lines_of text) → script ≡ record { fleet_line = 0; items = []; standings = 0 } → script_of text ≡ Ok script
 unfolding script_of
 script_none text script none is = ap (script_at (length (lines_of text))) (sym none) ∙ ap Ok (sym is)
 

@@ -7,13 +7,14 @@ use Rattle.script_text.specs.declared.command.Command.{Command}
 use Rattle.script_text.specs.declared.command.Command.TheVariants as command
 use Rattle.script_text.specs.Stewards.{has_steward, has_stewards}
 
--- the fleet that it begins; callers of the table in this place; callers of the table of this name at every leaf; the steward of this leaf; the steward of each leaf
+-- the fleet that it begins; callers of the table in this place; callers of the table of this name at every leaf; the steward of this leaf; the steward of each leaf; the run alone
 pub data Aim : Type 0 where
   AtFleet : Aim
   AtTable : (table : ℕ) → Aim
   AtNamed : (name : List ℕ) → Aim
   AtLeaf : (leaf : ℕ) → Aim
   AtLeaves : Aim
+  AtRun : Aim
 
 -- the one place that tells whom each command is for
 abbrev pub aim_of : Command → Aim
@@ -28,6 +29,8 @@ aim_of (command.Drain leaf stop) = AtLeaf leaf
 aim_of (command.Kill leaf) = AtLeaf leaf
 aim_of (command.Start leaf) = AtLeaf leaf
 aim_of (command.Rollover percent) = AtLeaves
+aim_of (command.Standing leaf query) = AtRun
+aim_of (command.Tell number) = AtRun
 
 -- the same, with a name that is lent
 abbrev pub aim_in : lent.Aim → Aim
@@ -36,6 +39,7 @@ aim_in (aim.Table table) = AtTable table
 aim_in (aim.Named name) = AtNamed name.now
 aim_in (aim.Leaf leaf) = AtLeaf leaf
 aim_in aim.Leaves = AtLeaves
+aim_in aim.Run = AtRun
 
 -- the leaf and the table are ones of a fleet of so many leaves with these tables, which stands already
 abbrev pub IsAim : ℕ → List (List ℕ) → Aim → Type 0
@@ -44,6 +48,7 @@ IsAim leaves tables (AtTable table) = table < length tables
 IsAim leaves tables (AtNamed name) = Contains tables name
 IsAim leaves tables (AtLeaf leaf) = leaf < leaves
 IsAim leaves tables AtLeaves = ⊤
+IsAim leaves tables AtRun = ⊥
 
 -- it is for this leaf's steward
 abbrev pub is_for_steward : ℕ → Aim → Bool

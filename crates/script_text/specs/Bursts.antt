@@ -1,5 +1,5 @@
 -- What a line behind a fleet does to what was read before it, outside bursts and inside one.
-use Rattle.std.specs.Prelude.{ℕ, ◌==◌, List, [], ◌∷◌, ◌++◌, length, nat_lt, if◌then◌else◌, ok_or, Result, Ok, Err}
+use Rattle.std.specs.Prelude.{ℕ, ◌+◌, ◌==◌, List, [], ◌∷◌, ◌++◌, length, nat_lt, if◌then◌else◌, ok_or, Result, Ok, Err}
 use Rattle.script_text.specs.declared.command.Command.{Command}
 use Rattle.script_text.specs.declared.fault.ScriptFault.{ScriptFault}
 use Rattle.script_text.specs.declared.fault.ScriptFault.TheVariants.{At, NoMemory}
@@ -16,12 +16,16 @@ use Rattle.script_text.specs.declared.line_word.LineWord.{LineWord}
 use Rattle.script_text.specs.declared.line_word.LineWord.TheVariants as line_word
 use Rattle.script_text.specs.Lines.{is_blank}
 use Rattle.script_text.specs.Stewards.{is_second}
-use Rattle.script_text.specs.Words.{first_word, behind_word}
-use Rattle.script_text.specs.Commands.{Fault, ◌>>=◌, command_of, row_count, line_word_of}
+use Rattle.script_text.specs.Words.{first_word, behind_word, words_of}
+use Rattle.script_text.specs.Commands.{Fault, ◌>>=◌, command_of, one_number, row_count, line_word_of, standing_of, tell_of}
 
 -- the items of a script, and one more
 abbrev pub with_item : Script → Item → Script
-with_item script one = record { fleet_line = script.fleet_line; items = script.items ++ one ∷ [] }
+with_item script one = record { fleet_line = script.fleet_line; items = script.items ++ one ∷ []; standings = script.standings }
+
+-- one standing query more
+abbrev pub with_standing : Script → Command → Script
+with_standing script c = record { fleet_line = script.fleet_line; items = script.items ++ item.One c ∷ []; standings = script.standings + 1 }
 
 -- what was read, where the next line stands there, behind so many rows
 abbrev pub stepped : Script → Position → ℕ → Step
@@ -40,6 +44,10 @@ inside last (Err found) = Err (found.0, if found.0 == last then why.Place else f
 -- a command outside bursts
 abbrev pub one_more : Script → Result Command Fault → Result Step Fault
 one_more script read = read >>= λ c. Ok (stepped (with_item script (item.One c)) position.Outside (row_count c))
+
+-- a standing query, which stands outside bursts alone
+abbrev pub standing_more : Script → Result Command Fault → Result Step Fault
+standing_more script read = read >>= λ c. Ok (stepped (with_standing script c) position.Outside 0)
 
 -- `burst`
 abbrev pub next_burst : ℕ → Script → List ℕ → Result Step Fault
@@ -62,6 +70,8 @@ lane_more n script earlier lane read = read >>= λ c. if is_second earlier c the
 abbrev pub line_at : ℕ → ℕ → Fleet → Script → Position → List ℕ → List (List ℕ) → LineWord → Result Step Fault
 line_at last n fleet script position.Outside words more line_word.Burst = inside last (next_burst n script words)
 line_at last n fleet script position.Outside words more (line_word.Command word) = one_more script (command_of n fleet word words more)
+line_at last n fleet script position.Outside words more line_word.Standing = standing_more script (standing_of n fleet script.standings words)
+line_at last n fleet script position.Outside words more line_word.Tell = one_more script (tell_of n script.standings (one_number (words_of words)))
 line_at last n fleet script position.Opened words more line_word.Lane = inside last (next_lane n script [] words)
 line_at last n fleet script (position.Lane earlier lane) words more line_word.Lane = inside last (next_lane n script (earlier ++ lane ∷ []) words)
 line_at last n fleet script (position.Lane earlier lane) words more line_word.End = end_burst n script (earlier ++ lane ∷ []) words

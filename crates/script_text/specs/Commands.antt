@@ -7,7 +7,7 @@ use Rattle.row_json.specs.Row.{row_of}
 use Rattle.query_text.specs.declared.fault.QueryFault.{QueryFault}
 use Rattle.query_text.specs.Reading.{query_of}
 use Rattle.script_text.specs.declared.command.Command.{Command}
-use Rattle.script_text.specs.declared.command.Command.TheVariants.{Add, Expire, Keep, Tail, Flush, Drain, Kill, Start, Rollover}
+use Rattle.script_text.specs.declared.command.Command.TheVariants.{Add, Expire, Keep, Tail, Flush, Drain, Kill, Start, Rollover, Standing, Tell}
 use Rattle.script_text.specs.declared.command.Command.TheVariants as command
 use Rattle.script_text.specs.declared.fault.Why.{Why}
 use Rattle.script_text.specs.declared.fault.Why.TheVariants as why
@@ -19,7 +19,7 @@ use Rattle.script_text.specs.declared.line_word.LineWord.{LineWord}
 use Rattle.script_text.specs.declared.line_word.LineWord.TheVariants as line_word
 use Rattle.leaf_model.specs.Names.{is_table_name}
 use Rattle.script_text.specs.Fits.{AreLeaves, AreTables}
-use Rattle.script_text.specs.Words.{words_of, behind_word, trimmed, number_of, capped, count_of, time_of, are_tables, place_of}
+use Rattle.script_text.specs.Words.{words_of, first_word, behind_word, trimmed, number_of, capped, count_of, time_of, are_tables, place_of}
 
 -- a line's number, and its first fault
 abbrev pub Fault : Type 0
@@ -59,7 +59,9 @@ line_word_of word = if bytes_eq word (codes "fleet") then Some line_word.Fleet
     else (if bytes_eq word (codes "burst") then Some line_word.Burst
     else (if bytes_eq word (codes "lane") then Some line_word.Lane
     else (if bytes_eq word (codes "end") then Some line_word.End
-    else option_map line_word.Command (command_word_of word))))
+    else (if bytes_eq word (codes "standing") then Some line_word.Standing
+    else (if bytes_eq word (codes "tell") then Some line_word.Tell
+    else option_map line_word.Command (command_word_of word))))))
 
 -- as many leaves as the machines of a fleet have
 abbrev pub leaf_count : Fleet → ℕ
@@ -207,6 +209,32 @@ one_number _ = None
 -- the leaf whose number is the one word
 abbrev pub leaf_of : ℕ → Fleet → Option ℕ → Result ℕ Fault
 leaf_of n fleet number = or_words n number >>= leaf_in n fleet
+
+-- the leaf of a standing query by its first word, where so few are declared that there may be one more
+abbrev pub standing_leaf : ℕ → List ℕ → Option ℕ
+standing_leaf declared words = if nat_lt declared 16 then number_of (first_word words) else None
+
+-- a standing query of that leaf: a fault of the leaf comes first, then one of the table
+abbrev pub standing_at : ℕ → Fleet → ℕ → Query → Result Command Fault
+standing_at n fleet number query = do
+  leaf ← leaf_in n fleet number
+  _ ← table_in n fleet query.table
+  Ok (Standing leaf query)
+
+-- `standing L TEXT`, where so many are declared: a fault of the words comes first, then one of the query
+abbrev pub standing_of : ℕ → Fleet → ℕ → List ℕ → Result Command Fault
+standing_of n fleet declared words = do
+  number ← or_words n (standing_leaf declared words)
+  query ← on_line n why.Query (query_of (trimmed (behind_word words)))
+  standing_at n fleet number query
+
+-- what is told of this number, where so many are declared
+abbrev pub tell_in : ℕ → ℕ → ℕ → Result Command Fault
+tell_in n declared number = if nat_lt number declared then Ok (Tell number) else Err (n, why.Words)
+
+-- `tell S`
+abbrev pub tell_of : ℕ → ℕ → Option ℕ → Result Command Fault
+tell_of n declared number = or_words n number >>= tell_in n declared
 
 -- the words `L T`
 abbrev pub flush_words : List (List ℕ) → Option TargetForm

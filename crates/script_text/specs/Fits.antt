@@ -1,11 +1,11 @@
 -- What a caller knows of a script that was read.
-use Rattle.std.specs.Prelude.{◌≡◌, ◌*◌, ◌^◌, ◌<◌, ◌≤◌, ℕ, List, [], ◌∷◌, length, true, IsUtf8, IfSome}
+use Rattle.std.specs.Prelude.{◌≡◌, ◌+◌, ◌*◌, ◌^◌, ◌<◌, ◌≤◌, ℕ, ⊤, List, [], ◌∷◌, length, true, IsUtf8, IfSome}
 use Rattle.std.specs.List.{AllByRecursion, Contains, filter}
 use Rattle.leaf_model.specs.Values.{IsRow, IsTime}
 use Rattle.leaf_model.specs.Names.{AreDistinct, is_table_name}
 use Rattle.query_text.specs.Grammar.{IsQuery}
 use Rattle.script_text.specs.declared.command.Command.{Command}
-use Rattle.script_text.specs.declared.command.Command.TheVariants.{Fleet, Add, Expire, Keep, Tail, Flush, Drain, Kill, Start, Rollover}
+use Rattle.script_text.specs.declared.command.Command.TheVariants.{Fleet, Add, Expire, Keep, Tail, Flush, Drain, Kill, Start, Rollover, Standing, Tell}
 use Rattle.script_text.specs.declared.command.Command.TheVariants as command
 use Rattle.script_text.specs.declared.item.Item.{Item}
 use Rattle.script_text.specs.declared.item.Item.TheVariants.{One, Burst}
@@ -26,7 +26,7 @@ pub record AreTables (tables : List (List ℕ)) : Type 0 where
   pub names : AllByRecursion IsTableName tables
   pub distinct : AreDistinct tables
 
--- a command behind a fleet of so many leaves with these tables
+-- a command behind a fleet of so many leaves with these tables, as it may stand in a burst too
 abbrev pub IsCommand : ℕ → List (List ℕ) → Command → Type 0
 IsCommand leaves tables (Fleet machines per_machine names) = ⊥
 IsCommand leaves tables (Add leaf table rows) = (leaf < leaves) × (table < length tables) × (length rows ≤ 100000) × AllByRecursion IsRow rows
@@ -39,6 +39,14 @@ IsCommand leaves tables (Drain leaf stop) = (leaf < leaves) × IfSome stop (λ n
 IsCommand leaves tables (Kill leaf) = leaf < leaves
 IsCommand leaves tables (Start leaf) = leaf < leaves
 IsCommand leaves tables (Rollover percent) = (0 < percent) × (percent ≤ 100)
+IsCommand leaves tables (Standing leaf query) = ⊥
+IsCommand leaves tables (Tell number) = ⊥
+
+-- a command outside bursts
+abbrev pub IsAlone : ℕ → List (List ℕ) → Command → Type 0
+IsAlone leaves tables (Standing leaf query) = (leaf < leaves) × Contains tables query.table × IsQuery query
+IsAlone leaves tables (Tell number) = ⊤
+IsAlone leaves tables c = IsCommand leaves tables c
 
 -- machines of as many leaves each: at least one of either, and at most 256 leaves in all
 pub record AreLeaves (machines per_machine : ℕ) : Type 0 where
@@ -59,7 +67,7 @@ pub record IsBurst (leaves : ℕ) (tables : List (List ℕ)) (lanes : List (List
 
 -- an item behind a fleet of so many leaves with these tables
 abbrev pub IsItem : ℕ → List (List ℕ) → Item → Type 0
-IsItem leaves tables (One c) = IsCommand leaves tables c
+IsItem leaves tables (One c) = IsAlone leaves tables c
 IsItem leaves tables (Burst lanes) = IsBurst leaves tables lanes
 
 -- items behind a first command, which is a fleet
@@ -73,6 +81,27 @@ AreItems [] = Unit {0}
 AreItems (One c ∷ items) = AreBehind c items
 AreItems (Burst lanes ∷ items) = ⊥
 
+-- how many standing queries an item declares
+abbrev pub declared_by : Item → ℕ
+declared_by (One (Standing leaf query)) = 1
+declared_by _ = 0
+
+abbrev pub declared_in : List Item → ℕ
+declared_in [] = 0
+declared_in (item ∷ items) = declared_by item + declared_in items
+
+-- the standing query that it tells is one of so many
+abbrev pub TellsDeclared : ℕ → Item → Type 0
+TellsDeclared declared (One (Tell number)) = number < declared
+TellsDeclared declared _ = ⊤
+
+-- each standing query that is told is declared above, where so many are before the first
+abbrev pub TellAbove : ℕ → List Item → Type 0
+TellAbove declared [] = ⊤
+TellAbove declared (item ∷ items) = TellsDeclared declared item × TellAbove (declared + declared_by item) items
+
 -- a script that was read
 pub record IsScript (script : Script) : Type 0 where
   pub items : AreItems script.items
+  pub told : TellAbove 0 script.items
+  pub few : declared_in script.items ≤ 16

@@ -40,11 +40,11 @@ next_line n (line ∷ more) = if is_skipped line then next_line (n + 1) more els
 
 -- a fleet was read on line n, and nothing else
 abbrev pub begun : ℕ → Fleet → Reading
-begun n fleet = record { script = record { fleet_line = n; items = item.One (fleet_command fleet) ∷ [] }; position = position.Outside }
+begun n fleet = record { script = record { fleet_line = n; items = item.One (fleet_command fleet) ∷ []; standings = 0 }; position = position.Outside }
 
 -- the script whose first command stands on this line
 abbrev pub script_at : ℕ → Option NumberedLine → Result Script Fault
-script_at last None = Ok (record { fleet_line = 0; items = [] })
+script_at last None = Ok (record { fleet_line = 0; items = []; standings = 0 })
 script_at last (Some line) = do
   fleet ← first_command line.number line.bytes (line_word_of (first_word line.bytes))
   read_from last fleet 0 (line.number + 1) (begun line.number fleet) line.after

@@ -51,6 +51,13 @@ pub enum Command {
     Start(u32),
     /// Every leaf is restarted, in waves of at most so many percent of the leaves, and at most one of a machine.
     Rollover(u32),
+    /// A query of the leaf's table that is declared once, and is told from then on.
+    Standing {
+        leaf: u32,
+        query: Query,
+    },
+    /// What the standing query of this number, from 0 in the order of their declarations, tells.
+    Tell(u32),
 }
 
 /// Whom a command is for.
@@ -66,6 +73,8 @@ pub enum Aim<'a> {
     Leaf(u32),
     /// The steward of each leaf.
     Leaves,
+    /// The run alone, which keeps the standing queries.
+    Run,
 }
 
 impl Command {
@@ -85,6 +94,8 @@ impl Command {
             Command::Kill(leaf) => Aim::Leaf(*leaf),
             Command::Start(leaf) => Aim::Leaf(*leaf),
             Command::Rollover(_) => Aim::Leaves,
+            Command::Standing { .. } => Aim::Run,
+            Command::Tell(_) => Aim::Run,
         }
     }
 }

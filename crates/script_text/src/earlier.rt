@@ -69,7 +69,7 @@ impl EarlierLanes {
         ensures { result ≡ is_second self.now command.now }
     {
         match command.aim() {
-            Aim::Fleet | Aim::Table(_) | Aim::Named(_) => false,
+            Aim::Fleet | Aim::Table(_) | Aim::Named(_) | Aim::Run => false,
             Aim::Leaf(leaf) => self.marks.has(leaf),
             Aim::Leaves => self.marks.some,
         }

@@ -33,7 +33,8 @@ pub enum Why {
     Short,
     /// The line is to be a row, and is none.
     Row(RowFault),
-    /// The text of the query is none. It begins behind `query` and one space, and its places are counted from there.
+    /// The text of the query is none. It begins behind `query` and one space, or behind a standing query's leaf and one
+    /// space, and its places are counted from there.
     Query(QueryFault),
     /// The fleet has more leaves than the caller has berths.
     NoBerth,

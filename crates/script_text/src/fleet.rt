@@ -54,9 +54,14 @@ pub fn first_command(alloc: Global, line: &[u8], number: u64) -> Result<Fleet, S
     match line_word_of(word) {
         None => Err(fault_at(number, Why::Command)),
         Some(LineWord::Fleet) => read_fleet(alloc, words, number),
-        Some(LineWord::Burst | LineWord::Lane | LineWord::End | LineWord::Command(_)) => {
-            Err(fault_at(number, Why::NoFleet))
-        }
+        Some(
+            LineWord::Burst
+            | LineWord::Lane
+            | LineWord::End
+            | LineWord::Standing
+            | LineWord::Tell
+            | LineWord::Command(_),
+        ) => Err(fault_at(number, Why::NoFleet)),
     }
 }
 

@@ -71,7 +71,8 @@ fn leaf_of(fleet: &Fleet, words: &[u8], number: u64) -> Result<u32, ScriptFault>
     }
 }
 
-fn one_number(words: &[u8]) -> Option<u64>
+/// The number that is the one word.
+pub fn one_number(words: &[u8]) -> Option<u64>
     ensures { result ≡ option_map capped (one_number (words_of words.now)) }
 {
     let (word, rest) = next_word(words)?;

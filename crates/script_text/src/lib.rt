@@ -24,6 +24,7 @@ mod reading;
 mod rollover;
 mod row_parts;
 mod script;
+mod standing;
 mod tail;
 mod target;
 mod words;

@@ -25,6 +25,8 @@ pub enum LineWord {
     Burst,
     Lane,
     End,
+    Standing,
+    Tell,
     Command(CommandWord),
 }
 
@@ -40,6 +42,10 @@ pub fn line_word_of(word: &[u8]) -> Option<LineWord>
         Some(LineWord::Lane)
     } else if is_word(word, "end") {
         Some(LineWord::End)
+    } else if is_word(word, "standing") {
+        Some(LineWord::Standing)
+    } else if is_word(word, "tell") {
+        Some(LineWord::Tell)
     } else {
         match command_word_of(word) {
             Some(command) => Some(LineWord::Command(command)),

@@ -51,7 +51,7 @@ impl StewardMarks {
         ensures { IfOk result (λ _. Marks self.old self.new (λ leaf. is_stewards leaf command.now) (is_a_stewards command.now)) }
     {
         match command.aim() {
-            Aim::Fleet | Aim::Table(_) | Aim::Named(_) => {}
+            Aim::Fleet | Aim::Table(_) | Aim::Named(_) | Aim::Run => {}
             Aim::Leaf(leaf) => self.mark_leaf(leaf)?,
             Aim::Leaves => {
                 self.every = true;

@@ -35,6 +35,7 @@ pub fn parse<R: Threads + Sync>(rt: &R, alloc: Global, text: &[u8]) -> Result<Sc
         return Ok(Script {
             fleet_line: 0,
             items: Items::of(Vec::new(alloc)),
+            standings: 0,
         });
     };
     let fleet = first_command(alloc, first.bytes, first.number)?;
@@ -97,6 +98,7 @@ fn begun(alloc: Global, fleet: &Fleet, fleet_line: u64) -> Result<Reading, Alloc
     let script = Script {
         fleet_line,
         items: Items::of(items),
+        standings: 0,
     };
     Ok(Reading {
         script,

@@ -30,7 +30,7 @@ pub fn query(alloc: Global, fleet: &Fleet, text: &[u8], number: u64) -> Result<C
 }
 
 /// The query that the line of this number holds, whatever its table is.
-fn read_query(alloc: Global, text: &[u8], number: u64) -> Result<Query, ScriptFault>
+pub fn read_query(alloc: Global, text: &[u8], number: u64) -> Result<Query, ScriptFault>
     ensures exact { ParsesAs (λ query. query) result (on_line number why.Query (query_of text.now)) }
     ensures is_query { IfOk result IsQuery }
 {

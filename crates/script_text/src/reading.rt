@@ -3,8 +3,8 @@ ghost use Rattle.std.specs.Prelude.{◌≡◌, ◌+◌, ◌++◌, ◌<◌, ◌�
 ghost use Rattle.script_text.specs.declared.fleet.Fleet.{Fleet};
 ghost use Rattle.script_text.specs.declared.reading.Position.TheVariants as position;
 ghost use Rattle.script_text.specs.Lines.{lines_of};
-ghost use Rattle.script_text.specs.Commands.{IsFleet, command_of, row_count};
-ghost use Rattle.script_text.specs.Bursts.{fault_inside, next_burst, next_lane, end_burst, lane_more, step_of, stepped, line_at, with_item};
+ghost use Rattle.script_text.specs.Commands.{IsFleet, command_of, row_count, standing_of};
+ghost use Rattle.script_text.specs.Bursts.{fault_inside, next_burst, next_lane, end_burst, lane_more, standing_more, step_of, stepped, line_at, with_item, with_standing};
 ghost use Rattle.script_text.specs.Readings.{IsReading};
 ghost use Rattle.script_text.specs.Script.{ParsesAs};
 
@@ -17,6 +17,7 @@ use crate::later::command;
 use crate::line_word::{CommandWord, LineWord, line_word_of};
 use crate::lines::is_blank;
 use crate::script::Script;
+use crate::standing::{standing, tell};
 use crate::words::cut_word;
 use std::alloc::{AllocError, Global};
 use std::thread::Threads;
@@ -120,6 +121,12 @@ fn outside<R: Threads + Sync>(
             Ok(step) => Ok(step),
             Err(fault) => Err(fault_inside(last, fault)),
         },
+        LineWord::Standing => standing_outside(alloc, fleet, script, line),
+        LineWord::Tell => {
+            let command = tell(script.standings, line.words, line.number)?;
+            let script = with_item(script, Item::One(command))?;
+            Ok(stepped(script, Position::Outside, 0))
+        }
         LineWord::Command(word) => {
             let command = command(rt, alloc, fleet, word, line.words, line.number, line.after)?;
             let rows = row_count(&command);
@@ -129,15 +136,37 @@ fn outside<R: Threads + Sync>(
     }
 }
 
+/// What is read with a standing query outside bursts.
+#[tactic(auto, using(crate::proofs::Keeps::standing_outside_keeps))]
+fn standing_outside(
+    alloc: Global,
+    fleet: &Fleet,
+    script: Script,
+    line: &CommandLine,
+) -> Result<Step, ScriptFault>
+    requires fleet { IsFleet fleet.now }
+    requires reading { IsReading fleet.now (record { script = script; position = position.Outside }) }
+    ensures exact { ParsesAs (λ step. step) result (standing_more script (standing_of line.now.number fleet.now script.standings line.now.words.now)) }
+    ensures is_reading { IfOk result (λ step. IsReading fleet.now step.reading) }
+    ensures no_rows { IfOk result (λ step. step.rows ≡ 0) }
+{
+    let command = standing(alloc, fleet, script.standings, line.words, line.number)?;
+    let script = with_standing(script, command)?;
+    Ok(stepped(script, Position::Outside, 0))
+}
+
 /// What is read with a line of a burst before its first lane.
 fn opened(alloc: Global, last: u64, script: Script, line: &CommandLine) -> Result<Step, ScriptFault>
     ensures exact { (fleet : Fleet) → ParsesAs (λ step. step) result (line_at last line.now.number fleet script position.Opened line.now.words.now (lines_of line.now.after.now) line.now.word) }
     ensures no_rows { IfOk result (λ step. step.rows ≡ 0) }
 {
     match line.word {
-        LineWord::Fleet | LineWord::Burst | LineWord::End | LineWord::Command(_) => {
-            Err(fault_at(line.number, Why::Place))
-        }
+        LineWord::Fleet
+        | LineWord::Burst
+        | LineWord::End
+        | LineWord::Standing
+        | LineWord::Tell
+        | LineWord::Command(_) => Err(fault_at(line.number, Why::Place)),
         LineWord::Lane => {
             let lanes = EarlierLanes::new(alloc);
             match next_lane(alloc, line.number, script, lanes, line.words) {
@@ -167,7 +196,9 @@ fn in_lane<R: Threads + Sync>(
     ensures enough { IfOk result (λ step. step.rows ≤ length (lines_of line.now.after.now)) }
 {
     match line.word {
-        LineWord::Fleet | LineWord::Burst => Err(fault_at(line.number, Why::Place)),
+        LineWord::Fleet | LineWord::Burst | LineWord::Standing | LineWord::Tell => {
+            Err(fault_at(line.number, Why::Place))
+        }
         LineWord::Lane => {
             let lanes = earlier.with_lane(lane)?;
             match next_lane(alloc, line.number, script, lanes, line.words) {
@@ -284,6 +315,20 @@ fn with_item(script: Script, item: Item) -> Result<Script, AllocError>
     Ok(Script {
         fleet_line: script.fleet_line,
         items: Items::of(items),
+        standings: script.standings,
+    })
+}
+
+/// The script with one standing query more.
+fn with_standing(script: Script, standing: Command) -> Result<Script, AllocError>
+    requires { script.standings < 16 }
+    ensures { IfOk result (λ more. more ≡ with_standing script standing) }
+{
+    let more = with_item(script, Item::One(standing))?;
+    Ok(Script {
+        fleet_line: more.fleet_line,
+        items: more.items,
+        standings: more.standings + 1,
     })
 }
 
@@ -327,6 +372,8 @@ fn row_count(command: &Command) -> u64
         | Command::Drain { .. }
         | Command::Kill(_)
         | Command::Start(_)
-        | Command::Rollover(_) => 0,
+        | Command::Rollover(_)
+        | Command::Standing { .. }
+        | Command::Tell(_) => 0,
     }
 }

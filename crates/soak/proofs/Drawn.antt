@@ -76,11 +76,11 @@ adds_more seed rows leaf items more own are is pushed =
 
 -- the whole script
 pub whole : (seed rows : ℕ) (begun asked rolled all : List Item) → begun ≡ fleet ∷ map (add_of seed rows) (range_with_len 0 8) → asked ≡ begun ++ both_queries (rows - 1) → rolled ≡ asked ++ One (command.Rollover 50) ∷ [] → all ≡ rolled ++ both_queries (rows - 1)
-    → record { fleet_line = 0; items = all } ≡ soak_script seed rows
+    → record { fleet_line = 0; items = all; standings = 0 } ≡ soak_script seed rows
 unfolding soak_script
 whole seed rows begun asked rolled all is is_asked is_rolled is_all =
     let both = both_queries (rows - 1) in
     let roll = One (command.Rollover 50) in
     let items : all ≡ begun ++ both ++ roll ∷ both =
     is_all ∙ ap (λ is. is ++ both) is_rolled ∙ ap (λ is. (is ++ roll ∷ []) ++ both) is_asked ∙ append_assoc (begun ++ both) (roll ∷ []) both in
-    ap (λ is. record { fleet_line = 0; items = is }) (items ∙ ap (λ is. is ++ both ++ roll ∷ both) is)
+    ap (λ is. record { fleet_line = 0; items = is; standings = 0 }) (items ∙ ap (λ is. is ++ both ++ roll ∷ both) is)

@@ -9,8 +9,9 @@ use Rattle.leaf_model.specs.declared.queries.Agg.TheVariants.{Count}
 use Rattle.leaf_model.specs.Values.{IsCell, IsCellName, IsRow}
 use Rattle.query_text.specs.Grammar.{IsQuery}
 use Rattle.script_text.specs.declared.command.Command.TheVariants as command
+use Rattle.script_text.specs.declared.item.Item.{Item}
 use Rattle.script_text.specs.declared.item.Item.TheVariants.{One}
-use Rattle.script_text.specs.Fits.{AreLeaves, AreTables, IsItem, IsScript}
+use Rattle.script_text.specs.Fits.{AreLeaves, AreTables, IsItem, IsScript, TellAbove, TellsDeclared, declared_by, declared_in}
 use Rattle.soak.specs.Soak.{add_of, both_queries, count_query, events, first_row, host_cell, host_query, row_at, row_with, rows_between, soak_script, word}
 use Rattle.soak.proofs.Drawn.{rows_count, shares_end, shares_fit}
 
@@ -98,6 +99,25 @@ all_append : {X : Type 0} (P : X → Type 0) (xs ys : List X) → AllByRecursion
 all_append P [] ys all more = more
 all_append P (x ∷ xs) ys all more = (all.0, all_append P xs ys all.1 more)
 
+-- no standing query is declared, and none is told
+abbrev HasNone : Item → Type 0
+HasNone x = ((declared : ℕ) → TellsDeclared declared x) × (declared_by x ≡ 0)
+
+tells_none : (xs : List Item) → AllByRecursion HasNone xs → (declared : ℕ) → TellAbove declared xs
+tells_none [] all declared = tt
+tells_none (x ∷ xs) all declared = (all.0.0 declared, tells_none xs all.1 (declared + declared_by x))
+
+declares_none : (xs : List Item) → AllByRecursion HasNone xs → declared_in xs ≡ 0
+declares_none [] all = refl
+declares_none (x ∷ xs) all = let one = all.0.1 in let others = declares_none xs all.1 in omega (arith, one, others)
+
+adds_have_none : (seed rows a k : ℕ) → AllByRecursion HasNone (map (add_of seed rows) (range_with_len a k))
+adds_have_none seed rows a zero = tt
+adds_have_none seed rows a (suc k) = (((λ declared. tt), refl), adds_have_none seed rows (a + 1) k)
+
+queries_have_none : (z : ℕ) → AllByRecursion HasNone (both_queries z)
+queries_have_none z = (((λ declared. tt), refl), (((λ declared. tt), refl), tt))
+
 tables_fit : AreTables (events ∷ [])
 tables_fit = record {
   some = omega arith;
@@ -116,4 +136,12 @@ soak_fits seed rows few =
     let roll = One (command.Rollover 50) in
     let later : AllByRecursion P (roll ∷ both) = ((omega arith, omega arith), queries_fit (rows - 1)) in
     let two : AreLeaves 2 4 = record { some_machines = omega arith; some_leaves = omega arith; few = omega arith } in
-    record { items = (two, tables_fit, all_append P (adds ++ both) (roll ∷ both) asked later) }
+    let quiet : AllByRecursion HasNone (adds ++ both) = all_append HasNone adds both (adds_have_none seed rows 0 8) (queries_have_none (rows - 1)) in
+    let behind : AllByRecursion HasNone (roll ∷ both) = (((λ declared. tt), refl), queries_have_none (rows - 1)) in
+    let none : AllByRecursion HasNone (adds ++ both ++ roll ∷ both) = all_append HasNone (adds ++ both) (roll ∷ both) quiet behind in
+    let count = declares_none (adds ++ both ++ roll ∷ both) none in
+    record {
+      items = (two, tables_fit, all_append P (adds ++ both) (roll ∷ both) asked later);
+      told = (tt, tells_none (adds ++ both ++ roll ∷ both) none 0);
+      few = omega (arith, count);
+    }

@@ -79,4 +79,5 @@ unfoldable pub soak_script : ℕ → ℕ → Script
 soak_script seed rows = record {
   fleet_line = 0;
   items = fleet ∷ map (add_of seed rows) (range_with_len 0 8) ++ both_queries (rows - 1) ++ One (command.Rollover 50) ∷ both_queries (rows - 1);
+  standings = 0;
 }

@@ -34,6 +34,7 @@ pub fn script(alloc: Global, seed: u64, rows: u32) -> Result<Script, AllocError>
     Ok(Script {
         fleet_line: 0,
         items: Items::of(items),
+        standings: 0,
     })
 }
 

@@ -180,7 +180,7 @@ module _ {B : Type 0} (meaning : B → Meaning) (olds : List B) (fleet : Fleet) 
 
 module _ {B : Type 0} (meaning : B → Meaning) (olds : List B) where
   pub plays_on : SessionsGoOn meaning olds
-  plays_on fleet known items xs ys x may s step = by x step
+  plays_on fleet known items xs ys x s step = by x step
     where
       by : (x : PlayedItem) → PlaysItem meaning fleet xs x ys → Session meaning fleet known olds (items ++ x ∷ []) ys
       by x (PlaysItem.one p is plays) =

@@ -5,7 +5,6 @@ use Rattle.region_layout.specs.Names.{AreNames}
 use Rattle.crash_moments.specs.Left.{NamedStates}
 use Rattle.script_text.specs.declared.item.Item.{Item}
 use Rattle.script_text.specs.declared.item.Item.TheVariants as item
-use Rattle.script_text.specs.declared.command.Command.{Command}
 use Rattle.printed_lines.specs.Lines.{lines_text}
 use Rattle.script_text.specs.declared.fleet.Fleet.{Fleet}
 use Rattle.script_text.specs.Commands.{leaf_count}
@@ -16,7 +15,6 @@ use Rattle.transcript.specs.Moments.{MomentsRise, notes_told}
 use Rattle.transcript.specs.Leaving.{LeavesBerth}
 use Rattle.leaf_moves.specs.Stage.{Leaf}
 use Rattle.leaf_moves.specs.Holds.{Hold, HasMet}
-use Rattle.leaf_moves.specs.Plays.{MayPlay}
 use Rattle.leaf_moves.specs.Lanes.{PlaysItem}
 use Rattle.std.specs.List.{AllByRecursion}
 use Rattle.transcript_leaf.specs.Session.{IsNewHold}
@@ -37,15 +35,10 @@ SessionsBegin {B} meaning berths = (fleet : Fleet) (base : ℕ → Option NamedS
     → ((leaf : ℕ) (x : Hold B) → slice_get xs leaf ≡ Some x → IsNewHold meaning fleet.names (base leaf) (known leaf) x)
     → Session meaning fleet known berths [] xs
 
--- the commands of an item may be played
-abbrev pub MayPlayItem : Fleet → Item → Type 0
-MayPlayItem fleet (item.One c) = MayPlay fleet c
-MayPlayItem fleet (item.Burst lanes) = AllByRecursion (λ (lane : List Command). AllByRecursion (MayPlay fleet) lane) lanes
-
 -- it goes on by what one item does
 abbrev pub SessionsGoOn : {B : Type 0} → (B → Meaning) → List B → Type 0
 SessionsGoOn {B} meaning olds = (fleet : Fleet) (known : ℕ → Option Known) (items : List PlayedItem) (xs ys : List (Hold B)) (x : PlayedItem)
-    → MayPlayItem fleet (item_of x) → Session meaning fleet known olds items xs → PlaysItem meaning fleet xs x ys
+    → Session meaning fleet known olds items xs → PlaysItem meaning fleet xs x ys
     → Session meaning fleet known olds (items ++ x ∷ []) ys
 
 -- what these items are, over leaves whose berths were and are these

@@ -1,9 +1,10 @@
-use Rattle.std.proofs.Common.{◌≡◌, ◌++◌, ◌≤◌, List, [], map}
+use Rattle.std.proofs.Common.{◌≡◌, ◌+◌, ◌++◌, ◌≤◌, List, [], length, map}
 use Rattle.std.specs.List.{AllByRecursion}
 use Rattle.std.specs.VecDeque.{deque_len}
 use Rattle.script_text.specs.declared.item.Item.{Item}
 use Rattle.player.specs.Crew.{HasAll}
-use Rattle.bursts.specs.Items.{MayPlayItem}
+use Rattle.script_text.specs.Fits.{TellAbove, declared_in}
+use Rattle.play.specs.Standing.{AreFollowers, MayRun}
 use Rattle.play.specs.Runs.{RunSoFar, berths_in}
 use Rattle.play.proofs.berths.play_all.Given as goal
 
@@ -17,10 +18,13 @@ invariant-loop-item g l =
     (map (λ b. (goal.Watch-dyn g (b.vtable, b.value)).held b.value) l.watches.items)
     done l.crew.holds
     × (l.crew.fleet ≡ l.initial.crew.fleet)
-    × AllByRecursion (MayPlayItem l.initial.crew.fleet) l.rest.items
+    × AllByRecursion (MayRun l.initial.crew.fleet) l.rest.items
     × (g.K.Sink.faults l.initial.sink ≤ g.K.Sink.faults l.sink)
     × HasAll l.crew.fleet l.crew.holds
     × (done ≡ [] → berths_in l.crew.holds ≡ berths_in l.initial.crew.holds)
+    × AreFollowers l.initial.crew.fleet l.followers.list.items
+    × TellAbove (length l.followers.list.items) l.rest.items
+    × (length l.followers.list.items + declared_in l.rest.items ≤ 16)
 
 abbrev pub decreases-loop-item : goal.decreases-loop-item
 decreases-loop-item g l = deque_len l.rest

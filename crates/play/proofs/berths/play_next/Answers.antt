@@ -7,18 +7,18 @@ use Rattle.berth_face.specs.Streams.{WritesFront}
 use Rattle.play.proofs.berths.play_next.Goals as goal
 
 pub write_lines-requires : goal.write_lines-requires
-write_lines-requires g c = subst (λ ns. IfOk c.play_item-lines.result (λ lines. AllByRecursion (IsOf ns) lines.items)) c.requires.names c.play_item-lines.ensures.lines_fit
+write_lines-requires g c = subst (λ ns. IfOk c.play_followed-lines.result (λ lines. AllByRecursion (IsOf ns) lines.items)) c.requires.names c.play_followed-lines.ensures.lines_fit
 
 pub returns-clause-played : goal.returns-clause-played
 returns-clause-played g c =
     let was = g.K.Sink.written c.args.sink.now in
     let now = g.K.Sink.written c.write_lines.new.sink in
-    advances g.B.Berth.meaning c.args.crew.now.fleet c.args.item c.args.crew.now.holds c.play_item-lines.new.crew.holds was now _ _ c.play_item-lines.result c.write_lines.result c.play_item-lines.ensures.went c.write_lines.ensures.made
-    (subst (λ ns. OnOk c.write_lines.result (IfOk c.play_item-lines.result (λ lines. Appends was now (lines_text ns lines.items)))) (sym c.requires.names) c.write_lines.ensures.written)
+    advances g.B.Berth.meaning c.args.crew.now.fleet c.args.item c.args.crew.now.holds c.play_followed-lines.new.crew.holds was now _ _ c.play_followed-lines.result c.write_lines.result c.play_followed-lines.ensures.went c.write_lines.ensures.made
+    (subst (λ ns. OnOk c.write_lines.result (IfOk c.play_followed-lines.result (λ lines. Appends was now (lines_text ns lines.items)))) (sym c.requires.names) c.write_lines.ensures.written)
 
 pub returns-clause-stops : goal.returns-clause-stops
 returns-clause-stops g c =
     let was = g.K.Sink.written c.args.sink.now in
     let now = g.K.Sink.written c.write_lines.new.sink in
-    on_err c.write_lines.result (stops_one g.B.Berth.meaning c.args.crew.now.fleet c.args.item c.args.crew.now.holds c.play_item-lines.new.crew.holds was now _ _ c.play_item-lines.result c.play_item-lines.ensures.went
-    (subst (λ ns. IfOk c.play_item-lines.result (λ lines. WritesFront was now (lines_text ns lines.items))) (sym c.requires.names) c.write_lines.ensures.front) c.write_lines.ensures.none)
+    on_err c.write_lines.result (stops_one g.B.Berth.meaning c.args.crew.now.fleet c.args.item c.args.crew.now.holds c.play_followed-lines.new.crew.holds was now _ _ c.play_followed-lines.result c.play_followed-lines.ensures.went
+    (subst (λ ns. IfOk c.play_followed-lines.result (λ lines. WritesFront was now (lines_text ns lines.items))) (sym c.requires.names) c.write_lines.ensures.front) c.write_lines.ensures.none)

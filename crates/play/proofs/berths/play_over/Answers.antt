@@ -3,7 +3,7 @@ use Rattle.std.specs.List.{AllByRecursion}
 use Rattle.region_layout.specs.Names.{AreNames}
 use Rattle.leaf_table.specs.Fleet.{IsNewFleet}
 use Rattle.script_text.specs.Commands.{leaf_count}
-use Rattle.bursts.specs.Items.{MayPlayItem}
+use Rattle.play.specs.Standing.{MayRun}
 use Rattle.player.specs.Crew.{new_holds}
 use Rattle.play.specs.Played.{LeavesBerths}
 use Rattle.play.specs.Runs.{IsRun, berths_in, fleet_named, table_bases}
@@ -42,7 +42,7 @@ play_all-status-requires-clause-may_play g c κs within =
     let fleet = c.in-Ok-new.crew.fleet in
     let plan = c.args.plan.now in
     let is : fleet ≡ fleet_named plan.machines plan.per_machine plan.names = c.in-Ok-new.ensures.fleet ∙ ap (fleet_named plan.machines plan.per_machine) c.in-Ok.ensures in
-    subst (AllByRecursion (MayPlayItem fleet)) (sym c.into_inner.ensures) (subst (λ f. AllByRecursion (MayPlayItem f) c.args.items) (sym is) c.requires.plan.may_play)
+    subst (AllByRecursion (MayRun fleet)) (sym c.into_inner.ensures) (subst (λ f. AllByRecursion (MayRun f) c.args.items) (sym is) c.requires.plan.may_play)
 
 pub play_all-status-requires-clause-begun : goal.play_all-status-requires-clause-begun
 play_all-status-requires-clause-begun g c κs within =

@@ -7,7 +7,7 @@ use Rattle.script_text.proofs.parsing.parse.Goals as goal
 pub returns-in_default-clause-parsed : goal.returns-in_default-clause-parsed
 returns-in_default-clause-parsed g c =
     let none : c.of.result ≡ [] = c.of.ensures ∙ c.new.ensures.items in
-    script_none c.args.text.now _ c.in_default.ensures.exact (ap (λ items. record { fleet_line = 0; items = items }) none)
+    script_none c.args.text.now _ c.in_default.ensures.exact (ap (λ items. record { fleet_line = 0; items = items; standings = 0 }) none)
 
 pub returns-in_err-fleet-clause-refused : goal.returns-in_err-fleet-clause-refused
 returns-in_err-fleet-clause-refused g c =

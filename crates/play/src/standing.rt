@@ -1,0 +1,290 @@
+// Items that the run itself plays: standing queries are declared, and tell what they know.
+ghost use Rattle.std.specs.Prelude.{◌≡◌, ◌+◌, ◌<◌, ◌≤◌, ◌∷◌, [], IfErr, IfOk, OnErr, OnOk, length, map, true, false};
+ghost use Rattle.std.specs.List.{AllByRecursion};
+ghost use Rattle.printed_lines.specs.Lines.{IsOf};
+ghost use Rattle.printed_lines.specs.declared.line.Line.TheVariants.{Declared};
+ghost use Rattle.script_text.specs.declared.command.Command.TheVariants.{Standing, Tell};
+ghost use Rattle.script_text.specs.declared.item.Item.TheVariants.{One};
+ghost use Rattle.script_text.specs.Fits.{TellsDeclared, declared_by};
+ghost use Rattle.standing_query.specs.Spread.{spread};
+ghost use Rattle.standing_feed.specs.Following.{place_of};
+ghost use Rattle.transcript.specs.Shapes.{IsToldBy};
+ghost use Rattle.player.specs.Asked.{AreGroups, IfGroups};
+ghost use Rattle.player.specs.Crew.{AllPass, HasAll};
+ghost use Rattle.bursts.specs.Went.{ItemWent, OrNothing, told_lines};
+ghost use Rattle.play.specs.Standing.{AreFollowers, IsFollower, MayRun, MayRunAlone, PlaysOwn, TellsLine, is_of_run, why_untold};
+
+use berth_face::{Berth, Gate};
+use bursts::play_item;
+use leaf_model::Query;
+use leaf_table::Reply;
+use player::Crew;
+use printed_lines::{Line, WhyUntold};
+use rollover_watch::Watch;
+use script_text::{Command, Item};
+use standing_feed::{Follower, Followers};
+use std::alloc::{AllocError, Global};
+use std::sync::Wait;
+use std::thread::Threads;
+
+/// Plays an item, and gives the lines that it prints; each standing query follows what they tell of its table. For want of memory all leaves and seats are back
+/// all the same, and so are the watches.
+pub fn play_followed<'t, R: Wait + Threads + Sync, B: Berth, G: Gate>(
+    rt: &R,
+    alloc: Global,
+    gate: &G,
+    crew: &mut Crew<'t, B>,
+    followers: &mut Followers,
+    watches: &mut Vec<Box<dyn Watch>>,
+    item: Item,
+) -> Result<Vec<Line>, AllocError>
+    requires may { MayRun crew.old.fleet item }
+    requires told { TellsDeclared (length followers.old.list.items) item }
+    requires followers { AreFollowers crew.old.fleet followers.old.list.items }
+    requires few { length followers.old.list.items + declared_by item ≤ 16 }
+    requires all { HasAll crew.old.fleet crew.old.holds }
+    ensures went { OrNothing (ItemWent B.meaning crew.old.fleet item crew.old.holds (map (λ watch. held watch) watches.old.items) (told_lines result) crew.new.holds (map (λ watch. held watch) watches.new.items)) crew.old.holds (map (λ watch. held watch) watches.old.items) (told_lines result) crew.new.holds (map (λ watch. held watch) watches.new.items) }
+    ensures fleet { (crew.new.fleet ≡ crew.old.fleet) × (crew.new.tables ≡ crew.old.tables) }
+    ensures all { HasAll crew.new.fleet crew.new.holds }
+    ensures time { AllPass B.meaning crew.old.holds crew.new.holds }
+    ensures lines_fit { IfOk result (λ lines. AllByRecursion (IsOf crew.old.fleet.names) lines.items) }
+    ensures followers { AreFollowers crew.old.fleet followers.new.list.items }
+    ensures count { OnOk result (length followers.new.list.items ≡ length followers.old.list.items + declared_by item) }
+{
+    let notes = followers.note(alloc, &item)?;
+    let lines = play_any(rt, alloc, gate, crew, followers, watches, item)?;
+    followers.follow(alloc, notes, lines.as_slice())?;
+    Ok(lines)
+}
+
+// Plays an item, by the leaves or by the run itself.
+fn play_any<'t, R: Wait + Threads + Sync, B: Berth, G: Gate>(
+    rt: &R,
+    alloc: Global,
+    gate: &G,
+    crew: &mut Crew<'t, B>,
+    followers: &mut Followers,
+    watches: &mut Vec<Box<dyn Watch>>,
+    item: Item,
+) -> Result<Vec<Line>, AllocError>
+    requires may { MayRun crew.old.fleet item }
+    requires told { TellsDeclared (length followers.old.list.items) item }
+    requires followers { AreFollowers crew.old.fleet followers.old.list.items }
+    requires few { length followers.old.list.items + declared_by item ≤ 16 }
+    requires all { HasAll crew.old.fleet crew.old.holds }
+    ensures went { OrNothing (ItemWent B.meaning crew.old.fleet item crew.old.holds (map (λ watch. held watch) watches.old.items) (told_lines result) crew.new.holds (map (λ watch. held watch) watches.new.items)) crew.old.holds (map (λ watch. held watch) watches.old.items) (told_lines result) crew.new.holds (map (λ watch. held watch) watches.new.items) }
+    ensures fleet { (crew.new.fleet ≡ crew.old.fleet) × (crew.new.tables ≡ crew.old.tables) }
+    ensures all { HasAll crew.new.fleet crew.new.holds }
+    ensures time { AllPass B.meaning crew.old.holds crew.new.holds }
+    ensures lines_fit { IfOk result (λ lines. AllByRecursion (IsOf crew.old.fleet.names) lines.items) }
+    ensures followers { AreFollowers crew.old.fleet followers.new.list.items }
+    ensures count { OnOk result (length followers.new.list.items ≡ length followers.old.list.items + declared_by item) }
+    ensures refused { OnErr result (length followers.new.list.items ≡ length followers.old.list.items) }
+{
+    match item {
+        Item::One(command) => {
+            if is_of_run(&command) {
+                play_own(rt, alloc, gate, crew, followers, command)
+            } else {
+                play_item(rt, alloc, gate, crew, watches, Item::One(command))
+            }
+        }
+        Item::Burst(lanes) => play_item(rt, alloc, gate, crew, watches, Item::Burst(lanes)),
+    }
+}
+
+// Whether the run itself plays it.
+fn is_of_run(command: &Command) -> bool
+    ensures { result ≡ is_of_run command.now }
+{
+    matches!(command, Command::Standing { .. } | Command::Tell(_))
+}
+
+// Declares a standing query, or has one tell what it knows.
+fn play_own<'t, R: Wait + Threads + Sync, B: Berth, G: Gate>(
+    rt: &R,
+    alloc: Global,
+    gate: &G,
+    crew: &mut Crew<'t, B>,
+    followers: &mut Followers,
+    command: Command,
+) -> Result<Vec<Line>, AllocError>
+    requires own { is_of_run command ≡ true }
+    requires may { MayRunAlone crew.old.fleet command }
+    requires told { TellsDeclared (length followers.old.list.items) (One command) }
+    requires followers { AreFollowers crew.old.fleet followers.old.list.items }
+    requires few { length followers.old.list.items + declared_by (One command) ≤ 16 }
+    requires all { HasAll crew.old.fleet crew.old.holds }
+    ensures plays { PlaysOwn B.meaning crew.old.fleet command crew.old.holds result crew.new.holds }
+    ensures fleet { (crew.new.fleet ≡ crew.old.fleet) × (crew.new.tables ≡ crew.old.tables) }
+    ensures all { HasAll crew.new.fleet crew.new.holds }
+    ensures time { AllPass B.meaning crew.old.holds crew.new.holds }
+    ensures followers { AreFollowers crew.old.fleet followers.new.list.items }
+    ensures count { OnOk result (length followers.new.list.items ≡ length followers.old.list.items + declared_by (One command)) }
+    ensures refused { OnErr result (length followers.new.list.items ≡ length followers.old.list.items) }
+{
+    match command {
+        Command::Standing { leaf, query } => declare(alloc, crew, followers, leaf, query),
+        Command::Tell(standing) => tell(rt, alloc, gate, crew, followers, standing),
+        Command::Fleet { .. }
+        | Command::Add { .. }
+        | Command::Expire { .. }
+        | Command::Keep { .. }
+        | Command::Query(_)
+        | Command::Tail { .. }
+        | Command::Flush { .. }
+        | Command::Drain { .. }
+        | Command::Kill(_)
+        | Command::Start(_)
+        | Command::Rollover(_) => unreachable!(),
+    }
+}
+
+// Declares a standing query behind the others.
+fn declare<'t, B: Berth>(
+    alloc: Global,
+    crew: &Crew<'t, B>,
+    followers: &mut Followers,
+    leaf: u32,
+    query: Query,
+) -> Result<Vec<Line>, AllocError>
+    requires may { MayRunAlone crew.now.fleet (Standing leaf query) }
+    requires followers { AreFollowers crew.now.fleet followers.old.list.items }
+    requires few { length followers.old.list.items + 1 ≤ 16 }
+    ensures lines { IfOk result (λ lines. lines.items ≡ Declared (length followers.old.list.items) ∷ []) }
+    ensures followers { AreFollowers crew.now.fleet followers.new.list.items }
+    ensures count { OnOk result (length followers.new.list.items ≡ length followers.old.list.items + 1) }
+    ensures refused { OnErr result (length followers.new.list.items ≡ length followers.old.list.items) }
+{
+    let mut lines = Vec::with_capacity(alloc, 1)?;
+    let number = followers.count();
+    let table = crew.place_of(query.table.as_str());
+    followers.declare(alloc, leaf, table, query)?;
+    lines.push_reserved(Line::Declared(number));
+    Ok(lines)
+}
+
+// Has a standing query tell what it knows: where its state is stale, the leaf's table is asked first.
+fn tell<'t, R: Wait + Threads + Sync, B: Berth, G: Gate>(
+    rt: &R,
+    alloc: Global,
+    gate: &G,
+    crew: &mut Crew<'t, B>,
+    followers: &mut Followers,
+    standing: u32,
+) -> Result<Vec<Line>, AllocError>
+    requires there { standing < length followers.old.list.items }
+    requires followers { AreFollowers crew.old.fleet followers.old.list.items }
+    requires all { HasAll crew.old.fleet crew.old.holds }
+    ensures plays { PlaysOwn B.meaning crew.old.fleet (Tell standing) crew.old.holds result crew.new.holds }
+    ensures fleet { (crew.new.fleet ≡ crew.old.fleet) × (crew.new.tables ≡ crew.old.tables) }
+    ensures all { HasAll crew.new.fleet crew.new.holds }
+    ensures time { AllPass B.meaning crew.old.holds crew.new.holds }
+    ensures followers { AreFollowers crew.old.fleet followers.new.list.items }
+    ensures count { length followers.new.list.items ≡ length followers.old.list.items }
+{
+    let follower = &mut followers.list[standing as usize];
+    if follower.standing.stale() {
+        tell_stale(rt, alloc, gate, crew, follower, standing)
+    } else {
+        tell_fresh(alloc, follower, standing)
+    }
+}
+
+// What a fresh state tells.
+fn tell_fresh(alloc: Global, follower: &Follower, standing: u32) -> Result<Vec<Line>, AllocError>
+    requires fresh { follower.now.standing.stale ≡ false }
+    ensures { IfOk result (λ lines. TellsLine standing lines.items) }
+{
+    let mut lines = Vec::with_capacity(alloc, 1)?;
+    lines.push_reserved(told_line(alloc, follower, standing)?);
+    Ok(lines)
+}
+
+fn told_line(alloc: Global, follower: &Follower, standing: u32) -> Result<Line, AllocError>
+    requires fresh { follower.now.standing.stale ≡ false }
+    ensures { IfOk result (IsToldBy standing) }
+{
+    let rows = follower.tell(alloc)?;
+    Ok(Line::Told {
+        standing,
+        number: follower.standing.upto(),
+        rows,
+    })
+}
+
+// What a stale state tells, once its table was asked.
+fn tell_stale<'t, R: Wait + Threads + Sync, B: Berth, G: Gate>(
+    rt: &R,
+    alloc: Global,
+    gate: &G,
+    crew: &mut Crew<'t, B>,
+    follower: &mut Follower,
+    standing: u32,
+) -> Result<Vec<Line>, AllocError>
+    requires stale { follower.old.standing.stale ≡ true }
+    requires is { IsFollower crew.old.fleet follower.old }
+    requires all { HasAll crew.old.fleet crew.old.holds }
+    ensures plays { PlaysOwn B.meaning crew.old.fleet (Tell standing) crew.old.holds result crew.new.holds }
+    ensures fleet { (crew.new.fleet ≡ crew.old.fleet) × (crew.new.tables ≡ crew.old.tables) }
+    ensures all { HasAll crew.new.fleet crew.new.holds }
+    ensures time { AllPass B.meaning crew.old.holds crew.new.holds }
+    ensures place { place_of follower.new ≡ place_of follower.old }
+{
+    let (line, reply) = crew.ask_leaf(
+        rt,
+        gate,
+        follower.leaf,
+        follower.table,
+        follower.standing.spread(),
+    );
+    let told = told_behind(alloc, follower, reply, standing)?;
+    two_lines(alloc, line, told)
+}
+
+// What a standing query tells behind that reply to its spread.
+fn told_behind(
+    alloc: Global,
+    follower: &mut Follower,
+    reply: Reply,
+    standing: u32,
+) -> Result<Line, AllocError>
+    requires stale { follower.old.standing.stale ≡ true }
+    requires groups { IfGroups reply (AreGroups (spread follower.old.standing.query)) }
+    ensures place { place_of follower.new ≡ place_of follower.old }
+    ensures told { IfOk result (IsToldBy standing) }
+{
+    match settle(follower, reply) {
+        Ok(()) => told_line(alloc, follower, standing),
+        Err(why) => Ok(Line::Untold { standing, why }),
+    }
+}
+
+// Makes a stale state fresh by the reply to its spread, or says why it stays stale.
+fn settle(follower: &mut Follower, reply: Reply) -> Result<(), WhyUntold>
+    requires stale { follower.old.standing.stale ≡ true }
+    requires groups { IfGroups reply (AreGroups (spread follower.old.standing.query)) }
+    ensures place { place_of follower.new ≡ place_of follower.old }
+    ensures fresh { OnOk result (follower.new.standing.stale ≡ false) }
+    ensures why { IfErr result (λ why. (why ≡ why_untold reply) × (follower.new ≡ follower.old)) }
+{
+    match reply {
+        Reply::Groups { number, groups } => {
+            follower.settle(number, groups);
+            Ok(())
+        }
+        Reply::Shut { .. } => Err(WhyUntold::Shut),
+        Reply::Worn => Err(WhyUntold::Worn),
+        Reply::Added { .. } | Reply::Removed { .. } | Reply::Full { .. } | Reply::NoMemory { .. } =>
+            Err(WhyUntold::Memory),
+    }
+}
+
+fn two_lines(alloc: Global, first: Line, second: Line) -> Result<Vec<Line>, AllocError>
+    ensures { IfOk result (λ lines. lines.items ≡ first ∷ second ∷ []) }
+{
+    let mut lines = Vec::with_capacity(alloc, 2)?;
+    lines.push_reserved(first);
+    lines.push_reserved(second);
+    Ok(lines)
+}

@@ -1,0 +1,116 @@
+// How a standing query follows its leaf's table.
+ghost use Rattle.std.specs.Prelude.{◌≡◌, ◌<◌, true, false, IfOk, List, OnOk};
+ghost use Rattle.std.specs.List.{AllByRecursion};
+ghost use Rattle.leaf_model.specs.declared.rows.Row.{Row};
+ghost use Rattle.leaf_model.specs.Groups.{groups};
+ghost use Rattle.leaf_model.specs.Values.{IsTime};
+ghost use Rattle.answer_text.specs.Answer.{answer_lines};
+ghost use Rattle.standing_query.specs.States.{IsSpread, Means};
+ghost use Rattle.standing_feed.specs.Hearing.{place_in};
+ghost use Rattle.standing_feed.specs.Following.{Follows, Heeds, HeedsAll, noted, place_of, settled};
+
+use crate::follower::Follower;
+use crate::heard::Heard;
+use crate::hearing::{hear_all, in_order};
+use crate::meaning::meant_in;
+use crate::meant::Meant;
+use crate::place::Place;
+use answer_text::lines;
+use leaf_model::{Groups, Texts};
+use printed_lines::Line;
+use script_text::Item;
+use standing_query::{Fed, Standing};
+use std::alloc::{AllocError, Global};
+use std::collections::VecDeque;
+
+impl Follower {
+    fn place(&self) -> Place
+        ensures { place_in result ≡ place_of self.now }
+    {
+        Place {
+            leaf: self.leaf,
+            table: self.table,
+            name: &self.standing.query().table,
+        }
+    }
+
+    /// What an item means to the table. Where the state is stale, no note is taken of it.
+    pub fn note(&self, alloc: Global, item: &Item) -> Result<Vec<Meant>, AllocError>
+        ensures { IfOk result (λ calls. calls.items ≡ noted item.now self.now) }
+    {
+        if self.standing.stale() {
+            Ok(Vec::new(alloc))
+        } else {
+            meant_in(alloc, &self.place(), item)
+        }
+    }
+
+    /// Feeds the state the entries of the table that the lines of that item tell, in the order of their numbers. A stale state hears nothing. After an `Err`
+    /// the state is stale, or has heard some of them.
+    pub fn follow(
+        &mut self,
+        alloc: Global,
+        calls: Vec<Meant>,
+        lines: &[Line],
+    ) -> Result<(), AllocError>
+        ensures place { place_of self.new ≡ place_of self.old }
+        ensures follows { OnOk result (Follows calls.items lines.now self.old self.new) }
+    {
+        if self.standing.stale() {
+            return Ok(());
+        }
+        let heard = in_order(hear_all(alloc, &self.place(), calls, lines)?)?;
+        heed_all(&mut self.standing, heard)
+    }
+
+    /// Makes a stale state fresh, by what the table answered to the entry of this number.
+    pub fn settle(&mut self, number: u64, groups: Groups)
+        requires stale { self.old.standing.stale ≡ true }
+        requires number { 0 < number }
+        requires spread { IsSpread self.old.standing.query groups }
+        ensures { self.new ≡ settled number groups self.old }
+    {
+        self.standing.pass(number - 1);
+        match self.standing.settle(number, groups) {
+            Ok(()) => {}
+            Err(_) => unreachable!(),
+        }
+    }
+
+    /// The lines of what a fresh state tells.
+    pub fn tell(&self, alloc: Global) -> Result<Texts, AllocError>
+        requires fresh { self.now.standing.stale ≡ false }
+        ensures { (rows : List Row) → Means self.now.standing rows → AllByRecursion (λ (row : Row). IsTime row.time) rows
+            → IfOk result (λ texts. texts ≡ answer_lines self.now.standing.query (groups self.now.standing.query rows)) }
+    {
+        let groups = self.standing.groups()?;
+        Ok(Texts::of(lines(alloc, self.standing.query(), &groups)?.into_inner()))
+    }
+}
+
+// Entries in the order of their numbers.
+fn heed_all(standing: &mut Standing, heard: Vec<Heard>) -> Result<(), AllocError>
+    ensures query { standing.new.query ≡ standing.old.query }
+    ensures heeds { OnOk result (HeedsAll standing.old heard.items standing.new) }
+{
+    let mut rest = VecDeque::from_vec(heard);
+    while let Some(heard) = rest.pop_front() {
+        heed(standing, heard)?;
+    }
+    Ok(())
+}
+
+// One that the state knows already changes nothing. A state that missed one is stale.
+fn heed(standing: &mut Standing, heard: Heard) -> Result<(), AllocError>
+    ensures query { standing.new.query ≡ standing.old.query }
+    ensures heeds { OnOk result (Heeds standing.old heard standing.new) }
+{
+    let upto = standing.upto();
+    if heard.number <= upto {
+        return Ok(());
+    }
+    if heard.number == upto + 1 {
+        return standing.feed(heard.number, heard.fed);
+    }
+    standing.feed(upto + 1, Fed::Opened)
+}

@@ -1,0 +1,17 @@
+//! The standing queries of a run, each fed what the lines of a script's items tell of its leaf's table.
+#![tactic(auto)]
+
+mod calls;
+mod follower;
+mod followers;
+mod following;
+mod heard;
+mod hearing;
+mod meaning;
+mod meant;
+mod place;
+
+pub use follower::Follower;
+pub use followers::Followers;
+pub use heard::Heard;
+pub use meant::Meant;
