@@ -66,8 +66,8 @@ impl Followers {
         Ok(notes)
     }
 
-    /// Feeds each what the lines of that item tell of its table; those that were declared since the notes were taken stay. After an `Err` those that
-    /// heard it all stand before those that did not.
+    /// Feeds each what the lines of that item tell of its table; those that were declared since the notes were taken stay.
+    /// After an `Err` no more is said than that they are of the same tables.
     pub fn follow(
         &mut self,
         alloc: Global,

@@ -45,8 +45,8 @@ impl Follower {
         }
     }
 
-    /// Feeds the state the entries of the table that the lines of that item tell, in the order of their numbers. A stale state hears nothing. After an `Err`
-    /// the state is stale, or has heard some of them.
+    /// Feeds the state the entries of the table that the lines of that item tell, in the order of their numbers. A stale state
+    /// hears nothing. After an `Err` no more is said than that it is of the same table.
     pub fn follow(
         &mut self,
         alloc: Global,
