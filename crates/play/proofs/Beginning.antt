@@ -196,7 +196,7 @@ module _ {B : Type 0} (base : ℕ → Option NamedStates) (meaning : B → Meani
       → xs ≡ new_holds 0 names rows stewards callers taken
       → ((leaf : ℕ) (x : Hold B) (l : Leaf) (b : B) (states : NamedStates) → slice_get xs leaf ≡ Some x → x.held ≡ Some (l, b) → AreFounded (seated_of l) → MayBegin states (meaning b)
       → StartAs states (seated_of l) → Stands states l (meaning b))
-      → RunSoFar base meaning fleet (berths_in xs) was was watches watches [] xs
+      → RunSoFar base meaning fleet (berths_in xs) was was watches watches [] [] xs
   run_begins fleet was watches xs count named made stands = record {
     played = [];
     items_are = refl;
@@ -209,6 +209,7 @@ module _ {B : Type 0} (base : ℕ → Option NamedStates) (meaning : B → Meani
     };
     session = λ known is. begins meaning (berths_in xs) fleet base known xs (subst AreNames (sym named) are_names)
         (ap (λ (ys : List (Hold B)). length ys) made ∙ (as_many_holds names rows stewards callers 0 taken ∙ (taken_are ∙ sym count))) begun (each_new known is);
+    followed = λ known is histories on. refl;
   }
     where
       had : berths_in xs ≡ taken

@@ -18,10 +18,11 @@ use Rattle.script_text.specs.Fits.{AreItems, AreTables, IsAlone, IsItem, IsTable
 use Rattle.printed_lines.specs.declared.line.Line.{Line}
 use Rattle.printed_lines.specs.Lines.{lines_text}
 use Rattle.script_text.specs.declared.fleet.Fleet.{Fleet}
-use Rattle.transcript.specs.Pieces.{PlayedItem, all_lines, all_pieces, script_fleet, item_of, plays_in}
+use Rattle.transcript.specs.Pieces.{One, Played, PlayedItem, all_lines, all_pieces, script_fleet, item_of, plays_in}
 use Rattle.transcript.specs.Counts.{CountsRose}
 use Rattle.transcript.specs.Strangers.{Strangers}
-use Rattle.transcript.specs.Transcript.{Known, Transcript, first_life}
+use Rattle.transcript.specs.Telling.{AreTold}
+use Rattle.transcript.specs.Transcript.{Known, Transcript, first_life, grounds_of}
 use Rattle.leaf_moves.specs.Holds.{Hold}
 use Rattle.transcript.specs.Leaving.{AtBerth, IsToldRun, IsWritten, LeavesBerth}
 use Rattle.leaf_moves.specs.Stage.{Leaf}
@@ -31,7 +32,7 @@ use Rattle.transcript_fleet.specs.Laws.{IsToldFleet}
 use Rattle.player.specs.Crew.{berth_in}
 use Rattle.play.specs.Standing.{MayRun, MayRunAlone}
 use Rattle.play.specs.Played.{KeepsCounts, LeavesBerths, leaves_in, leaves_of, leaves_told}
-use Rattle.play.specs.Runs.{AreCounted, HoldsKeep, IsFleetOf, IsRun, berths_in, fleet_named}
+use Rattle.play.specs.Runs.{AreCounted, HoldsKeep, IsFleetOf, IsRun, ToldFleet, berths_in, fleet_named}
 use Rattle.transcript_fleet.proofs.Lists.{All-weaken}
 use Rattle.transcript_fleet.proofs.Sessions.{berth_held}
 use Rattle.transcript_leaf.proofs.Lists.{element_at, length_mapped, same_some, within}
@@ -81,6 +82,11 @@ plan_is (item.Burst lanes ∷ more) c some machines per_machine names e f h = ab
 none_below : (leaf : ℕ) → leaf < 0 → ⊥
 none_below leaf below = omega (arith, below)
 
+-- no item stands among none
+none_before : (before : List PlayedItem) (p : Played) (behind : List PlayedItem) → [] ≡ before ++ One p ∷ behind → ⊥
+none_before [] p behind is = cc
+none_before (y ∷ before) p behind is = cc
+
 -- nothing was done to any berth
 pub nothing_told : {B : Type 0} (meaning : B → Meaning) (berths : List B) (known : ℕ → Option Known) (watches : List Held) → IsToldRun meaning berths berths [] known [] watches watches
 nothing_told meaning berths known watches = record {
@@ -98,6 +104,7 @@ nothing_told meaning berths known watches = record {
     worn = tt;
   };
   lines_are = refl;
+  standing = λ before behind p is. absurd (none_before before p behind is);
   watched = refl;
   counts = λ leaf below. absurd (none_below leaf below);
   strangers = λ leaf k below is. absurd (none_below leaf below);
@@ -180,6 +187,7 @@ module _ {B : Type 0} (meaning : B → Meaning) (front rest own : List B) (xs : 
     pub record ToldBy (lines : List Line) (fleet : Fleet) (items : List Item) : Type 0 where
       pub transcript : Transcript fleet known items (lines_text fleet.names lines)
       pub lines_are : all_lines transcript.played ≡ lines
+      pub standing : AreTold fleet (grounds_of fleet known) transcript.histories transcript.played
       pub heard : HearsAll fleet (plays_in transcript.played) watching watched
       pub counts : (leaf : ℕ) → leaf < (leaf_count fleet) → AtBerth meaning olds news leaf (CountsRose leaf (all_pieces transcript.played))
       pub strangers : (leaf : ℕ) (k : Known) → leaf < (leaf_count fleet) → known leaf ≡ Some k → Strangers fleet.names k.held.disk leaf k.held.region (all_pieces transcript.played)
@@ -188,14 +196,16 @@ module _ {B : Type 0} (meaning : B → Meaning) (front rest own : List B) (xs : 
       pub moments : (leaf : ℕ) → leaf < (leaf_count fleet) → AtBerth meaning olds news leaf (λ old new. MomentsRise (transcript.histories leaf) old.clock (notes_told leaf (all_pieces transcript.played)) new.clock)
       pub others : drop (leaf_count fleet) news ≡ drop (leaf_count fleet) olds
 
-    pub fleet_told : (fleet : Fleet) (played : List PlayedItem) → leaf_count fleet ≡ length front → AreCounted meaning front xs (all_pieces played) → HearsAll fleet (plays_in played) watching watched → IsToldFleet meaning fleet known played front xs
+    pub fleet_told : (fleet : Fleet) (played : List PlayedItem) → leaf_count fleet ≡ length front → AreCounted meaning front xs (all_pieces played) → HearsAll fleet (plays_in played) watching watched → ToldFleet meaning fleet known played front xs
         → ToldBy (all_lines played) fleet (map item_of played)
-    fleet_told fleet played size counted heard told =
+    fleet_told fleet played size counted heard whole =
+        let told : IsToldFleet meaning fleet known played front xs = whole.fleet_is in
         let t : Transcript fleet known (map item_of played) (lines_text fleet.names (all_lines played)) = told.transcript in
         let same : t.played ≡ played = told.played_is in
         record {
           transcript = t;
           lines_are = ap all_lines same;
+          standing = whole.standing;
           heard = subst (λ (ps : List PlayedItem). HearsAll fleet (plays_in ps) watching watched) (sym same) heard;
           counts = λ leaf below. at_berth (CountsRose leaf (all_pieces t.played)) leaf (omega (arith, below, size))
               (λ old x l new at now held. subst (λ (ps : List PlayedItem). CountsRose leaf (all_pieces ps) (meaning old) (meaning new)) (sym same) (counted leaf old x l new at now held));
@@ -209,7 +219,7 @@ module _ {B : Type 0} (meaning : B → Meaning) (front rest own : List B) (xs : 
         }
 
     pub run_told : (lines : List Line) (items : List Item) → ToldBy lines (script_fleet items) items → IsToldRun meaning olds news items known lines watching watched
-    run_told lines items t = record { transcript = t.transcript; lines_are = t.lines_are; watched = t.heard; counts = t.counts; strangers = t.strangers; leaves = t.leaves; moments = t.moments; others = t.others }
+    run_told lines items t = record { transcript = t.transcript; lines_are = t.lines_are; standing = t.standing; watched = t.heard; counts = t.counts; strangers = t.strangers; leaves = t.leaves; moments = t.moments; others = t.others }
 
   run_written : (base : ℕ → Option NamedStates) (items : List Item) (was now : Option (List ℕ)) (watching watched : List Held) → leaf_count (script_fleet items) ≡ length front
       → IsRun base meaning (script_fleet items) front was now watching watched items xs → IsWritten meaning olds news base items was now watching watched

@@ -1,5 +1,6 @@
 pub mod Lists
 pub mod Holding
+pub mod Playable
 pub mod Plays
 pub mod OwnItems
 pub mod Fleets

@@ -1,12 +1,21 @@
 -- Items that the run itself plays: what they did, and that the standing queries stay those of the fleet.
-use Rattle.std.proofs.Common.{◌≡◌, ◌⊎◌, inl, inr, ℕ, zero, suc, ◌+◌, ◌<◌, Bool, true, false, true≢false, List, [], ◌∷◌, ◌++◌, length, refl, sym, ap, subst, ◌∙◌, arith, Option, Some, None, Result, Ok, Err, Vec, Global}
-use Rattle.std.specs.Prelude.{IfOk, IsErr, slice_get, slice_set, map, ◌≤◌}
-use Rattle.std.specs.List.{AllByRecursion, Contains}
+use Rattle.std.proofs.Common.{◌≡◌, inl, inr, ℕ, ◌+◌, ◌<◌, true, false, true≢false, List, [], ◌∷◌, ◌++◌, length, refl, sym, ap, ap₂, subst, ◌∙◌, arith, Option, Some, None, Result, Ok, Err, Vec, Global}
+use Rattle.std.specs.Prelude.{ℤ, int_le, IfOk, IfSome, IsErr, OnOk, slice_get, slice_set, map, ◌≤◌, ⊤}
+use Rattle.std.specs.List.{AllByRecursion}
 use Rattle.std.proofs.lemmas.List.{append-nil}
 use Rattle.berth_face.specs.Berth.{Meaning}
+use Rattle.leaf_model.specs.declared.rows.Row.{Row}
 use Rattle.leaf_model.specs.declared.queries.Query.{Query}
+use Rattle.leaf_model.specs.declared.groups.Group.{Group}
+use Rattle.leaf_history.specs.Calls as call
+use Rattle.leaf_history.specs.History.{Entry}
+use Rattle.answer_text.specs.Answer.{answer_lines}
+use Rattle.standing_query.specs.Spread.{back, spread}
+use Rattle.standing_query.proofs.Enough.{enough}
+use Rattle.table_state.specs.Tables.{IsHeldRow}
 use Rattle.leaf_steward.proofs.Seating.{same_at}
 use Rattle.leaf_table.specs.declared.replies.Reply.{Reply}
+use Rattle.leaf_table.specs.declared.replies.Reply.TheVariants as reply
 use Rattle.rollover_watch.specs.Watches.{Held}
 use Rattle.script_text.specs.declared.command.Command.{Command}
 use Rattle.script_text.specs.declared.command.Command.TheVariants as command
@@ -15,28 +24,111 @@ use Rattle.script_text.specs.declared.item.Item.TheVariants as item
 use Rattle.script_text.specs.declared.fleet.Fleet.{Fleet}
 use Rattle.script_text.specs.Commands.{leaf_count}
 use Rattle.script_text.specs.Fits.{declared_by}
+use Rattle.printed_lines.specs.declared.line.Said.{Said}
+use Rattle.printed_lines.specs.declared.line.Said.TheVariants.{Added, Removed, Asked, RefusedShut, RefusedFull, RefusedMemory}
 use Rattle.printed_lines.specs.declared.line.Line.{Line}
 use Rattle.printed_lines.specs.declared.line.Line.TheVariants as line
+use Rattle.printed_lines.specs.declared.line.WhyUntold.{WhyUntold}
 use Rattle.printed_lines.specs.declared.line.WhyUntold.TheVariants as untold
 use Rattle.printed_lines.specs.Lines.{IsOf}
 use Rattle.standing_feed.specs.declared.follower.Follower.{Follower}
+use Rattle.standing_feed.specs.declared.meant.Meant.{Meant}
 use Rattle.standing_feed.specs.Hearing.{TablePlace}
-use Rattle.standing_feed.specs.Following.{new_follower, place_of}
-use Rattle.transcript.specs.Pieces.{Piece, Says, lines_in, piece_lines, place_among}
-use Rattle.transcript.specs.Shapes.{IsToldBy}
+use Rattle.standing_feed.specs.Following.{FollowAll, new_follower, noted, place_of, settled}
+use Rattle.transcript.specs.Pieces.{Piece, Called, Says, Worn, Played, PlayedItem, One, Burst, item_of, lines_in, piece_lines, pieces_in, place_among}
+use Rattle.transcript.specs.Shapes.{CallPiece}
+use Rattle.transcript.specs.Histories.{Ground}
+use Rattle.transcript.specs.Telling as telling
 use Rattle.transcript.specs.Watching.{Hears}
-use Rattle.leaf_moves.specs.Holds.{Hold}
-use Rattle.leaf_moves.specs.Plays.{MayPlay}
+use Rattle.transcript_standing.specs.Followed.{AreTimes, DoesItself, IsFollower, TellsItself, TellsState}
+use Rattle.leaf_moves.specs.Holds.{GoOn, Hold, grounds_in}
+use Rattle.leaf_moves.specs.Lanes.{PlaysItem}
 use Rattle.leaf_moves.specs.Plays as going
 use Rattle.player.specs.Asked.{AsksLeaf}
 use Rattle.player.specs.Crew.{AllCounted, CountedIf}
+use Rattle.player.specs.Lines.{reply_line}
 use Rattle.player.proofs.Chains.{counted_calm, goes_more}
 use Rattle.transcript_leaf.proofs.Lists.{length_mapped}
+use Rattle.bursts.specs.Shortened.{BeginsItem}
 use Rattle.bursts.specs.Went.{ItemWent, OrNothing, told_lines}
+use Rattle.bursts.proofs.Hearing.{watched_one}
 use Rattle.bursts.proofs.Held.{all_counted_on}
-use Rattle.bursts.proofs.Items.{one_went}
 use Rattle.bursts.proofs.Needed.{place_below}
-use Rattle.play.specs.Standing.{IsFollower, MayRunAlone, PlaysOwn, TellsLine, is_of_run}
+use Rattle.play.specs.Standing.{DoesSo, FollowsLines, IsBefore, ItemDid, MayRunAlone, PlaysOwn, TellsBy, TellsLine, TellsSo, is_of_run}
+
+-- ---- what a piece shows of a reply
+
+-- the piece of an ask that was answered so
+abbrev pub piece_of : ℕ → ℕ → Query → Reply → Piece
+piece_of leaf table q (reply.Groups number gs) = Called leaf table (call.Ask q) number Asked
+piece_of leaf table q (reply.Shut number) = Called leaf table (call.Ask q) number RefusedShut
+piece_of leaf table q (reply.Full number) = Called leaf table (call.Ask q) number RefusedFull
+piece_of leaf table q (reply.NoMemory number) = Called leaf table (call.Ask q) number RefusedMemory
+piece_of leaf table q (reply.Added number kept late) = Called leaf table (call.Ask q) number (Added kept late)
+piece_of leaf table q (reply.Removed number rows) = Called leaf table (call.Ask q) number (Removed rows)
+piece_of leaf table q reply.Worn = Worn leaf table
+
+entry_is : (leaf table m n : ℕ) (q : Query) (a b : Said) → line.Entry leaf table m a ∷ [] ≡ line.Entry leaf table n b ∷ [] → Called leaf table (call.Ask q) m a ≡ Called leaf table (call.Ask q) n b
+entry_is leaf table m n q a b is = ap₂ (λ (k : ℕ) (s : Said). Called leaf table (call.Ask q) k s) (numbers is) (sayings is)
+  where
+    numbers : line.Entry leaf table m a ∷ [] ≡ line.Entry leaf table n b ∷ [] → m ≡ n
+    numbers e = cc
+
+    sayings : line.Entry leaf table m a ∷ [] ≡ line.Entry leaf table n b ∷ [] → a ≡ b
+    sayings e = cc
+
+not_worn : (leaf table n : ℕ) (s : Said) → line.Entry leaf table n s ∷ [] ≡ line.Worn leaf table ∷ [] → ⊥
+not_worn leaf table n s is = cc
+
+called_is : (leaf table : ℕ) (q : Query) (number : ℕ) (s : Said) (answer : Reply) → line.Entry leaf table number s ∷ [] ≡ reply_line leaf table answer ∷ [] → Called leaf table (call.Ask q) number s ≡ piece_of leaf table q answer
+called_is leaf table q number s (reply.Groups n gs) is = entry_is leaf table number n q s Asked is
+called_is leaf table q number s (reply.Shut n) is = entry_is leaf table number n q s RefusedShut is
+called_is leaf table q number s (reply.Full n) is = entry_is leaf table number n q s RefusedFull is
+called_is leaf table q number s (reply.NoMemory n) is = entry_is leaf table number n q s RefusedMemory is
+called_is leaf table q number s (reply.Added n kept late) is = entry_is leaf table number n q s (Added kept late) is
+called_is leaf table q number s (reply.Removed n rows) is = entry_is leaf table number n q s (Removed rows) is
+called_is leaf table q number s reply.Worn is = absurd (not_worn leaf table number s is)
+
+worn_is : (leaf table : ℕ) (q : Query) (answer : Reply) → line.Worn leaf table ∷ [] ≡ reply_line leaf table answer ∷ [] → Worn leaf table ≡ piece_of leaf table q answer
+worn_is leaf table q (reply.Groups n gs) is = absurd (not_worn leaf table n Asked (sym is))
+worn_is leaf table q (reply.Shut n) is = absurd (not_worn leaf table n RefusedShut (sym is))
+worn_is leaf table q (reply.Full n) is = absurd (not_worn leaf table n RefusedFull (sym is))
+worn_is leaf table q (reply.NoMemory n) is = absurd (not_worn leaf table n RefusedMemory (sym is))
+worn_is leaf table q (reply.Added n kept late) is = absurd (not_worn leaf table n (Added kept late) (sym is))
+worn_is leaf table q (reply.Removed n rows) is = absurd (not_worn leaf table n (Removed rows) (sym is))
+worn_is leaf table q reply.Worn is = refl
+
+piece_is : (leaf table : ℕ) (q : Query) (p : Piece) (answer : Reply) → CallPiece leaf table (call.Ask q) p → lines_in (p ∷ []) ≡ reply_line leaf table answer ∷ [] → p ≡ piece_of leaf table q answer
+piece_is leaf table q p answer (inl k) lines = k.2 ∙ called_is leaf table q k.0 k.1 answer (sym (ap (λ (x : Piece). lines_in (x ∷ [])) k.2) ∙ lines)
+piece_is leaf table q p answer (inr is) lines = is ∙ worn_is leaf table q answer (sym (ap (λ (x : Piece). lines_in (x ∷ [])) is) ∙ lines)
+
+-- ---- small things
+
+-- the rows that a table may hold have times
+held_times : (horizon : ℤ) (rows : List Row) → AllByRecursion (IsHeldRow horizon) rows → AreTimes rows
+held_times horizon [] all = tt
+held_times horizon (row ∷ rows) all = (all.0.0.time, held_times horizon rows all.1)
+
+-- and none of them is below the horizon
+held_above : (horizon : ℤ) (rows : List Row) → AllByRecursion (IsHeldRow horizon) rows → AllByRecursion (λ (row : Row). int_le horizon row.time ≡ true) rows
+held_above horizon [] all = tt
+held_above horizon (row ∷ rows) all = (all.0.1, held_above horizon rows all.1)
+
+in_any : {T E P : Type 0} (result : Result T E) → P → OnOk result P
+in_any (Ok x) p = p
+in_any (Err e) p = tt
+
+abbrev right : {T : Type 0} (E : Type 0) → T → Result T E
+right E a = Ok a
+
+abbrev wrong_with : (T : Type 0) {E : Type 0} → E → Result T E
+wrong_with T e = Err e
+
+same_ok : {T : Type 0} (E : Type 0) (a b : T) → right E a ≡ right E b → a ≡ b
+same_ok E a b is = cc
+
+not_ok : {T E : Type 0} (e : E) (a : T) → wrong_with T e ≡ right E a → ⊥
+not_ok e a is = cc
 
 -- ---- which commands are the run's own
 
@@ -44,62 +136,129 @@ quiet : (fleet : Fleet) (c : Command) (pieces : List Piece) (ws : List Held) →
 quiet fleet (command.Rollover percent) pieces ws own = absurd (true≢false (sym own))
 quiet fleet _ pieces ws own = refl
 
--- another is one that the leaves play
-pub not_own : (fleet : Fleet) (c : Command) → is_of_run c ≡ false → MayRunAlone fleet c → MayPlay fleet c
-not_own fleet (command.Standing leaf q) other may = absurd (true≢false other)
-not_own fleet (command.Tell standing) other may = absurd (true≢false other)
-not_own fleet _ other may = may
-
--- and declares no standing query
+-- another declares no standing query
 pub declares_none : (c : Command) → is_of_run c ≡ false → declared_by (item.One c) ≡ 0
 declares_none (command.Standing leaf q) other = absurd (true≢false other)
 declares_none _ other = refl
 
+-- and at one the standing queries do nothing by themselves
+idle_one : (fleet : Fleet) (grounds : ℕ → ℕ → Ground) (histories : ℕ → ℕ → List Entry) (c d : Command) (pieces : List Piece) (fs : List Follower) → is_of_run c ≡ false → d ≡ c
+    → DoesItself fleet grounds histories (One (record { command = d; pieces = pieces })) fs fs
+idle_one fleet grounds histories c d pieces fs other same = by d (ap is_of_run same ∙ other)
+  where
+    by : (e : Command) → is_of_run e ≡ false → DoesItself fleet grounds histories (One (record { command = e; pieces = pieces })) fs fs
+    by (command.Standing leaf q) is = absurd (true≢false is)
+    by (command.Tell standing) is = absurd (true≢false is)
+    by _ is = refl
+
+-- an item of the leaves
+abbrev pub IsOfLeaves : Item → Type 0
+IsOfLeaves (item.One c) = is_of_run c ≡ false
+IsOfLeaves (item.Burst lanes) = ⊤
+
+idle : (fleet : Fleet) (grounds : ℕ → ℕ → Ground) (histories : ℕ → ℕ → List Entry) (x : Item) (p : PlayedItem) (fs : List Follower) → IsOfLeaves x → BeginsItem (item_of p) x → DoesItself fleet grounds histories p fs fs
+idle fleet grounds histories (item.One c) (One p) fs other begun = idle_one fleet grounds histories c p.command p.pieces fs other begun
+idle fleet grounds histories (item.One c) (Burst lanes) fs other begun = absurd begun
+idle fleet grounds histories (item.Burst lanes) (One p) fs other begun = absurd begun
+idle fleet grounds histories (item.Burst lanes) (Burst others) fs other begun = refl
+
 -- ---- what an item did
 
 module _ {B : Type 0} (meaning : B → Meaning) (fleet : Fleet) where
-  -- the same where its lines were let go
-  pub lost_lines : (x : Item) (xs ys : List (Hold B)) (us vs : List Held) (lines : Option (List Line)) → OrNothing (ItemWent meaning fleet x xs us lines ys vs) xs us lines ys vs
-      → OrNothing (ItemWent meaning fleet x xs us None ys vs) xs us None ys vs
-  lost_lines x xs ys us vs lines (inl went) = inl (record {
-    played = went.played;
-    begun = went.begun;
-    plays = went.plays;
-    counted = went.counted;
-    fit = went.fit;
-    heard = went.heard;
-    lines_are = tt;
-  })
-  lost_lines x xs ys us vs lines (inr none) = inr (record { refused = refl; holds = none.holds; watches = none.watches })
+  -- of an item, or nothing
+  abbrev pub Did : Item → (List Follower → List Line → Type 0) → List Follower → List (Hold B) → List Held → Option (List Line) → List (Hold B) → List Held → Type 0
+  Did x T olds xs us lines ys vs = OrNothing (ItemDid meaning fleet x T olds xs us lines ys vs) xs us lines ys vs
 
-  pub own_went : {E : Type 0} (c : Command) (xs ys : List (Hold B)) (us : List Held) (result : Result (Vec Line Global) E) → is_of_run c ≡ true → PlaysOwn meaning fleet c xs result ys
-      → OrNothing (ItemWent meaning fleet (item.One c) xs us (told_lines result) ys us) xs us (told_lines result) ys us
-  own_went c xs ys us result own (inl p) = one_went meaning fleet xs ys us us c result (inl (record {
-    pieces = p.pieces;
-    plays = p.plays;
-    counted = p.counted;
-    fit = p.fit;
-    heard = quiet fleet c p.pieces us own;
-    lines_are = p.lines_are;
-  }))
-  own_went c xs ys us result own (inr none) = one_went meaning fleet xs ys us us c result (inr (none.0, none.1, refl))
+  -- what the leaves did at an item that is theirs
+  leaves_did : (x : Item) (fs : List Follower) (xs ys : List (Hold B)) (us vs : List Held) (lines : Option (List Line)) → IsOfLeaves x
+      → OrNothing (ItemWent meaning fleet x xs us lines ys vs) xs us lines ys vs → Did x (IsBefore fs) fs xs us lines ys vs
+  leaves_did x fs xs ys us vs lines other (inl went) = inl (record {
+    went = went;
+    did = λ histories on. (fs, idle fleet (grounds_in ys) histories x went.played fs other went.begun, still lines);
+  })
+    where
+      still : (o : Option (List Line)) → IfSome o (IsBefore fs fs)
+      still None = tt
+      still (Some ls) = refl
+  leaves_did x fs xs ys us vs lines other (inr none) = inr none
+
+  -- the same where the standing queries are as they were
+  pub leaves_did_as : (x y : Item) (olds news : List Follower) (xs ys : List (Hold B)) (us vs : List Held) (lines : Option (List Line)) → x ≡ y → IsOfLeaves y → news ≡ olds
+      → OrNothing (ItemWent meaning fleet y xs us lines ys vs) xs us lines ys vs → Did x (IsBefore news) olds xs us lines ys vs
+  leaves_did_as x y olds news xs ys us vs lines is other still went =
+      subst (λ (z : Item). Did z (IsBefore news) olds xs us lines ys vs) (sym is)
+      (subst (λ (fs : List Follower). Did y (IsBefore fs) olds xs us lines ys vs) (sym still) (leaves_did y olds xs ys us vs lines other went))
+
+  -- the same where its lines were let go
+  lost_lines : (x : Item) (T U : List Follower → List Line → Type 0) (olds : List Follower) (xs ys : List (Hold B)) (us vs : List Held) (lines : Option (List Line)) → Did x T olds xs us lines ys vs → Did x U olds xs us None ys vs
+  lost_lines x T U olds xs ys us vs lines (inl d) = inl (record {
+    went = record {
+      played = d.went.played;
+      begun = d.went.begun;
+      plays = d.went.plays;
+      counted = d.went.counted;
+      fit = d.went.fit;
+      heard = d.went.heard;
+      lines_are = tt;
+    };
+    did = λ histories on. let e = d.did histories on in (e.0, e.1, tt);
+  })
+  lost_lines x T U olds xs ys us vs lines (inr none) = inr (record { refused = refl; holds = none.holds; watches = none.watches })
+
+  -- where they were let go for want of memory
+  pub lost_as : {E : Type 0} (x : Item) (T U : List Follower → List Line → Type 0) (olds : List Follower) (xs ys : List (Hold B)) (us vs : List Held) (lines : Option (List Line)) (result : Result (Vec Line Global) E) → IsErr result
+      → Did x T olds xs us lines ys vs → Did x U olds xs us (told_lines result) ys vs
+  lost_as x T U olds xs ys us vs lines (Ok ls) wrong did = absurd cc
+  lost_as x T U olds xs ys us vs lines (Err e) wrong did = lost_lines x T U olds xs ys us vs lines did
+
+  -- and where the standing queries followed them
+  pub followed_lines : (x : Item) (olds mids news : List Follower) (xs ys : List (Hold B)) (us vs : List Held) (lines : List Line) (notes : List (List Meant)) → notes ≡ map (noted x) olds → FollowAll notes lines mids news
+      → Did x (IsBefore mids) olds xs us (Some lines) ys vs → Did x (FollowsLines x olds news) olds xs us (Some lines) ys vs
+  followed_lines x olds mids news xs ys us vs lines notes are follow (inl d) = inl (record {
+    went = d.went;
+    did = λ histories on.
+        let e = d.did histories on in (
+          e.0,
+          e.1,
+          subst (λ (fs : List Follower). FollowAll (map (noted x) olds) lines fs news) (sym e.2) (subst (λ (ns : List (List Meant)). FollowAll ns lines mids news) are follow),
+        );
+  })
+  followed_lines x olds mids news xs ys us vs lines notes are follow (inr none) = inr none
+
+  -- what the run did by itself
+  own_did : {E : Type 0} (c : Command) (olds news : List Follower) (xs ys : List (Hold B)) (us : List Held) (result : Result (Vec Line Global) E) → is_of_run c ≡ true
+      → PlaysOwn meaning fleet c (DoesSo fleet c olds result news) xs result ys → Did (item.One c) (IsBefore news) olds xs us (told_lines result) ys us
+  own_did {E = E} c olds news xs ys us result own (inl p) =
+      let q : Played = record { command = c; pieces = p.pieces } in
+      let pieces : pieces_in (q ∷ []) ≡ p.pieces = append-nil p.pieces in
+      inl (record {
+        went = record {
+          played = One q;
+          begun = refl;
+          plays = PlaysItem.one q refl p.plays;
+          counted = subst (λ (ps : List Piece). AllCounted meaning ps xs ys) (sym pieces) p.counted;
+          fit = p.fit;
+          heard = watched_one fleet q us us (quiet fleet c p.pieces us own);
+          lines_are = by result p.lines_are;
+        };
+        did = λ histories on. let e = p.did histories on in (e.0, e.1, told result e.0 e.2);
+      })
+    where
+      by : (r : Result (Vec Line Global) E) → IfOk r (λ lines. lines.items ≡ lines_in p.pieces) → IfSome (told_lines r) (λ ls. (item.One c ≡ item.One c) × (ls ≡ lines_in p.pieces))
+      by (Ok ls) are = (refl, are)
+      by (Err e) are = tt
+
+      told : (r : Result (Vec Line Global) E) (between : List Follower) → OnOk r (between ≡ news) → IfSome (told_lines r) (IsBefore news between)
+      told (Ok ls) between is = is
+      told (Err e) between is = tt
+  own_did c olds news xs ys us (Ok lines) own (inr none) = let wrong = none.0 in absurd cc
+  own_did c olds news xs ys us (Err e) own (inr none) = inr (record { refused = refl; holds = none.1; watches = refl })
 
   -- the same of an item that is the command
-  pub own_went_as : {E : Type 0} (x : Item) (c : Command) (xs ys : List (Hold B)) (us : List Held) (result : Result (Vec Line Global) E) → x ≡ item.One c → is_of_run c ≡ true → PlaysOwn meaning fleet c xs result ys
-      → OrNothing (ItemWent meaning fleet x xs us (told_lines result) ys us) xs us (told_lines result) ys us
-  own_went_as x c xs ys us result is own plays =
-      subst (λ (y : Item). OrNothing (ItemWent meaning fleet y xs us (told_lines result) ys us) xs us (told_lines result) ys us) (sym is) (own_went c xs ys us result own plays)
-
-  -- and of one whose lines were let go for want of memory
-  pub lost_as : {E : Type 0} (x : Item) (xs ys : List (Hold B)) (us vs : List Held) (lines : Option (List Line)) (result : Result (Vec Line Global) E) → IsErr result
-      → OrNothing (ItemWent meaning fleet x xs us lines ys vs) xs us lines ys vs → OrNothing (ItemWent meaning fleet x xs us (told_lines result) ys vs) xs us (told_lines result) ys vs
-  lost_as x xs ys us vs lines (Ok ls) wrong went = absurd cc
-  lost_as x xs ys us vs lines (Err e) wrong went = lost_lines x xs ys us vs lines went
-
-  pub own_fit : {E : Type 0} (c : Command) (xs ys : List (Hold B)) (result : Result (Vec Line Global) E) → PlaysOwn meaning fleet c xs result ys → IfOk result (λ lines. AllByRecursion (IsOf fleet.names) lines.items)
-  own_fit c xs ys (Ok lines) (inl p) = subst (AllByRecursion (IsOf fleet.names)) (sym p.lines_are) p.fit
-  own_fit c xs ys (Ok lines) (inr none) = let wrong = none.0 in absurd cc
-  own_fit c xs ys (Err e) p = tt
+  pub own_did_as : {E : Type 0} (x : Item) (c : Command) (olds news : List Follower) (xs ys : List (Hold B)) (us : List Held) (result : Result (Vec Line Global) E) → x ≡ item.One c → is_of_run c ≡ true
+      → PlaysOwn meaning fleet c (DoesSo fleet c olds result news) xs result ys → Did x (IsBefore news) olds xs us (told_lines result) ys us
+  own_did_as x c olds news xs ys us result is own plays =
+      subst (λ (y : Item). Did y (IsBefore news) olds xs us (told_lines result) ys us) (sym is) (own_did c olds news xs ys us result own plays)
 
   -- a line tells of no deed
   says_counted : (l : Line) (xs : List (Hold B)) → AllCounted meaning (Says l ∷ []) xs xs
@@ -112,70 +271,165 @@ module _ {B : Type 0} (meaning : B → Meaning) (fleet : Fleet) where
   says_goes l xs = going.say xs (Says l ∷ []) xs l [] (going.none xs [] xs refl refl) refl
 
   -- a standing query was declared
-  pub declares : {E : Type 0} (leaf : ℕ) (q : Query) (number : ℕ) (xs : List (Hold B)) (result : Result (Vec Line Global) E) → IfOk result (λ lines. lines.items ≡ line.Declared number ∷ [])
-      → PlaysOwn meaning fleet (command.Standing leaf q) xs result xs
-  declares leaf q number xs result told = inl (record {
-    pieces = Says (line.Declared number) ∷ [];
-    plays = record { goes = says_goes (line.Declared number) xs; prints = (number, refl); answers = λ histories on. tt };
-    counted = says_counted (line.Declared number) xs;
+  declares : {E : Type 0} (leaf : ℕ) (q : Query) (olds news : List Follower) (xs : List (Hold B)) (result : Result (Vec Line Global) E) → MayRunAlone fleet (command.Standing leaf q)
+      → IfOk result (λ lines. lines.items ≡ line.Declared (length olds) ∷ []) → OnOk result (news ≡ olds ++ new_follower leaf (place_among q.table fleet.names) q ∷ [])
+      → PlaysOwn meaning fleet (command.Standing leaf q) (DoesSo fleet (command.Standing leaf q) olds result news) xs result xs
+  declares leaf q olds news xs (Err e) may told more = inr (refl, refl)
+  declares leaf q olds news xs (Ok ls) may told more = inl (record {
+    pieces = Says (line.Declared (length olds)) ∷ [];
+    plays = record { goes = says_goes (line.Declared (length olds)) xs; prints = tt; answers = λ histories on. tt };
+    counted = says_counted (line.Declared (length olds)) xs;
     fit = (tt, tt);
     lines_are = told;
+    did = λ histories on. (
+      news,
+      record { leaf_is = may.0; table_is = place_below q.table fleet.names may.1; pieces_are = refl; news_are = more },
+      refl,
+    );
   })
 
-  pub declares_as : {E : Type 0} (c : Command) (leaf : ℕ) (q : Query) (number : ℕ) (xs : List (Hold B)) (result : Result (Vec Line Global) E) → c ≡ command.Standing leaf q
-      → IfOk result (λ lines. lines.items ≡ line.Declared number ∷ []) → PlaysOwn meaning fleet c xs result xs
-  declares_as c leaf q number xs result is told = subst (λ (k : Command). PlaysOwn meaning fleet k xs result xs) (sym is) (declares leaf q number xs result told)
+  pub declares_as : {E : Type 0} (c : Command) (leaf : ℕ) (q : Query) (olds news : List Follower) (xs : List (Hold B)) (result : Result (Vec Line Global) E) → c ≡ command.Standing leaf q → MayRunAlone fleet (command.Standing leaf q)
+      → IfOk result (λ lines. lines.items ≡ line.Declared (length olds) ∷ []) → OnOk result (news ≡ olds ++ new_follower leaf (place_among q.table fleet.names) q ∷ [])
+      → PlaysOwn meaning fleet c (DoesSo fleet c olds result news) xs result xs
+  declares_as c leaf q olds news xs result is may told more =
+      subst (λ (k : Command). PlaysOwn meaning fleet k (DoesSo fleet k olds result news) xs result xs) (sym is) (declares leaf q olds news xs result may told more)
 
-  told_fits : (standing : ℕ) (l : Line) → IsToldBy standing l → IsOf fleet.names l
-  told_fits standing (line.Told s number rows) is = tt
-  told_fits standing (line.Untold s why) is = tt
-  told_fits standing _ is = absurd is
+  -- ---- what one tells
+
+  -- it is a line that fits, whatever the rows are
+  told_fits : (standing : ℕ) (f : Follower) (told : Line) → TellsState standing f told → IsOf fleet.names told
+  told_fits standing f told tells = subst (IsOf fleet.names) (sym tells.1) tt
+
+  -- what it would tell, had there been memory for its lines
+  told_right : (standing : ℕ) (f : Follower) → (told : Line) × TellsState standing f told
+  told_right standing f =
+      let q : Query = f.standing.query in
+      let lines : List (List ℕ) = answer_lines q (back q f.standing.groups) in (
+        line.Told standing f.standing.upto lines,
+        (lines, refl, (λ rows means times. ap (answer_lines q) (ap (back q) means.1 ∙ enough q rows times))),
+      )
 
   -- one that is fresh tells what it knows
-  pub tells_fresh : {E : Type 0} (standing : ℕ) (q : Query) (xs : List (Hold B)) (result : Result (Vec Line Global) E) → IfOk result (λ lines. TellsLine standing lines.items) → PlaysOwn meaning fleet (command.Tell standing) xs result xs
-  tells_fresh standing q xs (Ok lines) told = inl (record {
+  pub tells_fresh : {E : Type 0} (standing : ℕ) (f g : Follower) (xs : List (Hold B)) (result : Result (Vec Line Global) E) → f.standing.stale ≡ false → g ≡ f → IfOk result (λ lines. TellsLine standing f lines.items)
+      → PlaysOwn meaning fleet (command.Tell standing) (TellsSo fleet standing f result g) xs result xs
+  tells_fresh standing f g xs (Ok lines) fresh same told = inl (record {
     pieces = Says told.0 ∷ [];
-    plays = record {
-      goes = says_goes told.0 xs;
-      prints = record { leaf = 0; table = 0; query = q; asked = None; told = told.0; ask = tt; is_told = told.1; are = refl };
-      answers = λ histories on. tt;
-    };
+    plays = record { goes = says_goes told.0 xs; prints = tt; answers = λ histories on. tt };
     counted = says_counted told.0 xs;
-    fit = (told_fits standing told.0 told.1, tt);
+    fit = (told_fits standing f told.0 told.1, tt);
     lines_are = told.2;
+    did = λ histories on. (f, TellsItself.fresh told.0 fresh refl told.1 refl, sym same);
   })
-  tells_fresh standing q xs (Err e) told = inr (refl, refl)
+  tells_fresh standing f g xs (Err e) fresh same told = inr (refl, refl)
 
   -- one that is stale asks its table first
-  stale_with : {E : Type 0} (standing leaf table : ℕ) (q : Query) (xs ys : List (Hold B)) (first : Line) (reply : Reply) (result : Result (Vec Line Global) E) (told : Line) → AsksLeaf meaning fleet.names leaf table q xs first reply ys
-      → IsToldBy standing told → IfOk result (λ lines. lines.items ≡ first ∷ told ∷ []) → PlaysOwn meaning fleet (command.Tell standing) xs result ys
-  stale_with {E = E} standing leaf table q xs ys first reply result told asked is lines =
+  stale_with : {E : Type 0} (standing leaf table : ℕ) (q : Query) (D : (ℕ → ℕ → Ground) → (ℕ → ℕ → List Entry) → List Piece → Type 0) (xs ys : List (Hold B)) (first : Line) (reply : Reply) (told : Line) (result : Result (Vec Line Global) E)
+      (asked : AsksLeaf meaning fleet.names leaf table q xs first reply ys) → IsOf fleet.names told → IfOk result (λ lines. lines.items ≡ first ∷ told ∷ [])
+      → ((histories : ℕ → ℕ → List Entry) → GoOn ys histories → D (grounds_in ys) histories (asked.piece ∷ Says told ∷ []))
+      → PlaysOwn meaning fleet (command.Tell standing) D xs result ys
+  stale_with {E = E} standing leaf table q D xs ys first reply told result asked fits lines did =
       let alone : piece_lines asked.piece ≡ first ∷ [] = sym (append-nil (piece_lines asked.piece)) ∙ asked.line_is in
       let both : lines_in (asked.piece ∷ Says told ∷ []) ≡ first ∷ told ∷ [] = ap (λ ls. ls ++ told ∷ []) alone in
       inl (record {
         pieces = asked.piece ∷ Says told ∷ [];
         plays = record {
           goes = goes_more meaning xs ys ys (asked.piece ∷ []) (Says told ∷ []) asked.goes (says_goes told ys);
-          prints = record { leaf = leaf; table = table; query = q; asked = Some asked.piece; told = told; ask = asked.prints; is_told = is; are = refl };
+          prints = tt;
           answers = λ histories on. tt;
         };
         counted = all_counted_on meaning xs ys ys (asked.piece ∷ []) (Says told ∷ []) asked.counted (says_counted told ys);
-        fit = subst (AllByRecursion (IsOf fleet.names)) (sym both) (asked.fits, (told_fits standing told is, tt));
+        fit = subst (AllByRecursion (IsOf fleet.names)) (sym both) (asked.fits, (fits, tt));
         lines_are = by result lines both;
+        did = did;
       })
     where
       by : (r : Result (Vec Line Global) E) → IfOk r (λ lines. lines.items ≡ first ∷ told ∷ []) → lines_in (asked.piece ∷ Says told ∷ []) ≡ first ∷ told ∷ [] → IfOk r (λ lines. lines.items ≡ lines_in (asked.piece ∷ Says told ∷ []))
       by (Ok ls) are both = are ∙ sym both
       by (Err e) are both = tt
 
-  pub tells_stale : {E : Type 0} (standing leaf table : ℕ) (q : Query) (xs ys : List (Hold B)) (first : Line) (reply : Reply) (result : Result (Vec Line Global) E) (told : Line) → AsksLeaf meaning fleet.names leaf table q xs first reply ys
-      → IsToldBy standing told → IfOk result (λ lines. lines.items ≡ first ∷ told ∷ []) → PlaysOwn meaning fleet (command.Tell standing) xs result ys
-  tells_stale standing leaf table q xs ys first reply result told asked is lines = stale_with standing leaf table q xs ys first reply result told asked is lines
+  -- its table's groups make it fresh, and it tells
+  groups_tell : {E : Type 0} (standing : ℕ) (f g : Follower) (xs ys : List (Hold B)) (first : Line) (number : ℕ) (gs : List Group) (told : Line) (result : Result (Vec Line Global) E) → f.standing.stale ≡ true
+      → AsksLeaf meaning fleet.names f.leaf f.table (spread f.standing.query) xs first (reply.Groups number gs) ys → g ≡ settled number gs f → TellsState standing (settled number gs f) told
+      → IfOk result (λ lines. lines.items ≡ first ∷ told ∷ []) → PlaysOwn meaning fleet (command.Tell standing) (TellsSo fleet standing f result g) xs result ys
+  groups_tell standing f g xs ys first number gs told result stale asked same tells lines =
+      let q : Query = spread f.standing.query in
+      let piece : asked.piece ≡ Called f.leaf f.table (call.Ask q) number Asked = piece_is f.leaf f.table q asked.piece (reply.Groups number gs) asked.prints (asked.line_is ∙ ap (λ (l : Line). l ∷ []) asked.tells) in
+      stale_with standing f.leaf f.table q (TellsSo fleet standing f result g) xs ys first (reply.Groups number gs) told result asked (told_fits standing (settled number gs f) told tells) lines
+      (λ histories on. (
+        settled number gs f,
+        TellsItself.made_fresh number gs told stale (ap (λ (p : Piece). p ∷ Says told ∷ []) piece)
+            (record {
+              times = held_times _ _ (asked.over histories on).held.each;
+              none_below = held_above _ _ (asked.over histories on).held.each;
+              are = (asked.over histories on).are;
+            })
+            tells refl,
+        in_any result (sym same),
+      ))
+
+  -- a refusal leaves it stale, and it tells why
+  refusal_tells : {E : Type 0} (standing : ℕ) (f g : Follower) (xs ys : List (Hold B)) (first : Line) (answer : Reply) (why : WhyUntold) (told : Line) (result : Result (Vec Line Global) E) → f.standing.stale ≡ true
+      → AsksLeaf meaning fleet.names f.leaf f.table (spread f.standing.query) xs first answer ys → telling.why_untold (piece_of f.leaf f.table (spread f.standing.query) answer) ≡ Some why
+      → g ≡ f → told ≡ line.Untold standing why → IfOk result (λ lines. lines.items ≡ first ∷ told ∷ []) → PlaysOwn meaning fleet (command.Tell standing) (TellsSo fleet standing f result g) xs result ys
+  refusal_tells standing f g xs ys first answer why told result stale asked untold same is lines =
+      let q : Query = spread f.standing.query in
+      let piece : asked.piece ≡ piece_of f.leaf f.table q answer = piece_is f.leaf f.table q asked.piece answer asked.prints (asked.line_is ∙ ap (λ (l : Line). l ∷ []) asked.tells) in
+      stale_with standing f.leaf f.table q (TellsSo fleet standing f result g) xs ys first answer told result asked (subst (IsOf fleet.names) (sym is) tt) lines
+      (λ histories on. (
+        f,
+        TellsItself.stays_stale asked.piece why stale asked.prints (ap telling.why_untold piece ∙ untold) (ap (λ (l : Line). asked.piece ∷ Says l ∷ []) is) refl,
+        in_any result (sym same),
+      ))
+
+  -- whatever it was answered
+  pub tells_stale : {E : Type 0} (F : Type 0) (standing : ℕ) (f g : Follower) (xs ys : List (Hold B)) (first : Line) (answer : Reply) (told : Line) (result : Result (Vec Line Global) E) → f.standing.stale ≡ true
+      → AsksLeaf meaning fleet.names f.leaf f.table (spread f.standing.query) xs first answer ys → TellsBy standing f answer (right F told) g
+      → IfOk result (λ lines. lines.items ≡ first ∷ told ∷ []) → PlaysOwn meaning fleet (command.Tell standing) (TellsSo fleet standing f result g) xs result ys
+  tells_stale F standing f g xs ys first (reply.Groups number gs) told result stale asked tells lines =
+      groups_tell standing f g xs ys first number gs told result stale asked tells.0 (subst (λ (h : Follower). TellsState standing h told) tells.0 tells.1) lines
+  tells_stale F standing f g xs ys first (reply.Shut number) told result stale asked tells lines = refusal_tells standing f g xs ys first (reply.Shut number) untold.Shut told result stale asked refl tells.0 (same_ok F told _ tells.1) lines
+  tells_stale F standing f g xs ys first reply.Worn told result stale asked tells lines = refusal_tells standing f g xs ys first reply.Worn untold.Worn told result stale asked refl tells.0 (same_ok F told _ tells.1) lines
+  tells_stale F standing f g xs ys first (reply.NoMemory number) told result stale asked tells lines = refusal_tells standing f g xs ys first (reply.NoMemory number) untold.Memory told result stale asked refl tells.0 (same_ok F told _ tells.1) lines
+  tells_stale F standing f g xs ys first (reply.Full number) told result stale asked tells lines = refusal_tells standing f g xs ys first (reply.Full number) untold.Memory told result stale asked refl tells.0 (same_ok F told _ tells.1) lines
+  tells_stale F standing f g xs ys first (reply.Added number kept late) told result stale asked tells lines = refusal_tells standing f g xs ys first (reply.Added number kept late) untold.Memory told result stale asked refl tells.0 (same_ok F told _ tells.1) lines
+  tells_stale F standing f g xs ys first (reply.Removed number rows) told result stale asked tells lines = refusal_tells standing f g xs ys first (reply.Removed number rows) untold.Memory told result stale asked refl tells.0 (same_ok F told _ tells.1) lines
 
   -- also where there was no memory for what it tells
-  pub tells_lost : {E : Type 0} (standing leaf table : ℕ) (q : Query) (xs ys : List (Hold B)) (first : Line) (reply : Reply) (e : E) → AsksLeaf meaning fleet.names leaf table q xs first reply ys
-      → PlaysOwn meaning fleet (command.Tell standing) xs (Err e) ys
-  tells_lost standing leaf table q xs ys first reply e asked = stale_with standing leaf table q xs ys first reply (Err e) (line.Untold standing untold.Memory) asked refl tt
+  pub tells_lost : {E F : Type 0} (standing : ℕ) (f g : Follower) (xs ys : List (Hold B)) (first : Line) (answer : Reply) (why : F) (result : Result (Vec Line Global) E) → f.standing.stale ≡ true
+      → AsksLeaf meaning fleet.names f.leaf f.table (spread f.standing.query) xs first answer ys → TellsBy standing f answer (Err why) g → IsErr result
+      → PlaysOwn meaning fleet (command.Tell standing) (TellsSo fleet standing f result g) xs result ys
+  tells_lost standing f g xs ys first answer why (Ok lines) stale asked tells wrong = absurd cc
+  tells_lost standing f g xs ys first (reply.Groups number gs) why (Err e) stale asked tells wrong =
+      let told = told_right standing (settled number gs f) in
+      groups_tell standing f g xs ys first number gs told.0 (Err e) stale asked tells.0 told.1 tt
+  tells_lost standing f g xs ys first (reply.Shut number) why (Err e) stale asked tells wrong = absurd (not_ok why _ tells.1)
+  tells_lost standing f g xs ys first reply.Worn why (Err e) stale asked tells wrong = absurd (not_ok why _ tells.1)
+  tells_lost standing f g xs ys first (reply.NoMemory number) why (Err e) stale asked tells wrong = absurd (not_ok why _ tells.1)
+  tells_lost standing f g xs ys first (reply.Full number) why (Err e) stale asked tells wrong = absurd (not_ok why _ tells.1)
+  tells_lost standing f g xs ys first (reply.Added number kept late) why (Err e) stale asked tells wrong = absurd (not_ok why _ tells.1)
+  tells_lost standing f g xs ys first (reply.Removed number rows) why (Err e) stale asked tells wrong = absurd (not_ok why _ tells.1)
+
+  -- what the one of a number told is what they did at that command
+  pub one_told : {E : Type 0} (standing : ℕ) (olds news : List Follower) (f g : Follower) (xs ys : List (Hold B)) (result : Result (Vec Line Global) E) → slice_get olds standing ≡ Some f → news ≡ slice_set olds standing g
+      → PlaysOwn meaning fleet (command.Tell standing) (TellsSo fleet standing f result g) xs result ys → PlaysOwn meaning fleet (command.Tell standing) (DoesSo fleet (command.Tell standing) olds result news) xs result ys
+  one_told {E = E} standing olds news f g xs ys result at are (inl p) = inl (record {
+    pieces = p.pieces;
+    plays = p.plays;
+    counted = p.counted;
+    fit = p.fit;
+    lines_are = p.lines_are;
+    did = λ histories on.
+        let e = p.did histories on in (
+          slice_set olds standing e.0,
+          record { old = f; new = e.0; at = at; tells = e.1; news_are = refl },
+          by result e.0 e.2,
+        );
+  })
+    where
+      by : (r : Result (Vec Line Global) E) (between : Follower) → OnOk r (between ≡ g) → OnOk r (slice_set olds standing between ≡ news)
+      by (Ok ls) between is = ap (λ (h : Follower). slice_set olds standing h) is ∙ sym are
+      by (Err e) between is = tt
+  one_told standing olds news f g xs ys result at are (inr none) = inr none
 
 -- ---- the standing queries
 
@@ -197,20 +451,6 @@ declared_follower fleet leaf table q fs gs may at is all =
     more : (fs : List Follower) → AllByRecursion (IsFollower fleet) fs → IsFollower fleet (new_follower leaf table q) → AllByRecursion (IsFollower fleet) (fs ++ new_follower leaf table q ∷ [])
     more [] all one = (one, tt)
     more (f ∷ fs) all one = (all.0, more fs all.1 one)
-
--- one in its place becomes another of the same table
-pub followers_set : (fleet : Fleet) (fs : List Follower) (i : ℕ) (f g : Follower) → AllByRecursion (IsFollower fleet) fs → slice_get fs i ≡ Some f → place_of g ≡ place_of f → AllByRecursion (IsFollower fleet) (slice_set fs i g)
-followers_set fleet [] i f g all at same = absurd cc
-followers_set fleet (h ∷ hs) zero f g all at same =
-    let is : h ≡ f = unsome h f at in
-    let here : IsFollower fleet f = subst (IsFollower fleet) is all.0 in
-    let leaf : g.leaf ≡ f.leaf = ap (λ (p : TablePlace). p.leaf) same in
-    let table : g.table ≡ f.table = ap (λ (p : TablePlace). p.table) same in
-    ((subst (λ n. n < leaf_count fleet) (sym leaf) here.0, subst (λ n. n < length fleet.names) (sym table) here.1), all.1)
-  where
-    unsome : (a b : Follower) → Some a ≡ Some b → a ≡ b
-    unsome a b e = cc
-followers_set fleet (h ∷ hs) (suc i) f g all at same = (all.0, followers_set fleet hs i f g all.1 at same)
 
 -- the same tables
 pub followers_stay : (fleet : Fleet) (fs gs : List Follower) → map place_of gs ≡ map place_of fs → AllByRecursion (IsFollower fleet) fs → AllByRecursion (IsFollower fleet) gs

@@ -6,6 +6,8 @@ use Rattle.std.specs.Io.KnownBytes.{Appends}
 use Rattle.std.proofs.lemmas.Grind.{flat_map-append}
 use Rattle.std.proofs.lemmas.List.{append-nil, append_assoc, map-append}
 use Rattle.berth_face.specs.Berth.{Meaning, Passes}
+use Rattle.leaf_history.specs.History.{Entry}
+use Rattle.region_layout.specs.Names.{AreNames}
 use Rattle.crash_moments.specs.Left.{NamedStates}
 use Rattle.rollover_watch.specs.Watches.{Held}
 use Rattle.script_text.specs.declared.item.Item.{Item}
@@ -14,17 +16,26 @@ use Rattle.printed_lines.specs.declared.line.Line.{Line}
 use Rattle.printed_lines.specs.Lines.{line_text, lines_text}
 use Rattle.script_text.specs.declared.fleet.Fleet.{Fleet}
 use Rattle.printed_lines.specs.declared.line.Deed.{Deed}
+use Rattle.standing_feed.specs.declared.follower.Follower.{Follower}
+use Rattle.standing_feed.specs.Following.{FollowAll, noted}
+use Rattle.transcript.specs.Transcript.{Known, grounds_of}
 use Rattle.transcript.specs.Pieces.{Piece, Called, Worn, Acted, Says, Played, PlayedItem, all_lines, all_pieces, item_lines, item_of, pieces_in, plays_in, plays_of}
 use Rattle.transcript.specs.Counts.{Counted, CountsRose, deeds_in, disk_faults_in, disk_reads_in, is_disk_fault, is_region_fault, reads_disk, region_faults_in}
 use Rattle.leaf_moves.specs.Stage.{Leaf}
-use Rattle.leaf_moves.specs.Holds.{HasMet, Hold}
+use Rattle.leaf_moves.specs.Holds.{GoOn, HasMet, Hold, grounds_in}
 use Rattle.transcript.specs.Watching.{HearsAll}
 use Rattle.player.specs.Crew.{AllPass, CountedIf, PassesIf, AllCounted}
-use Rattle.bursts.specs.Went.{ItemWent, OrNothing, told_lines}
+use Rattle.bursts.specs.Went.{OrNothing, told_lines}
 use Rattle.play.specs.Played.{KeepsCounts}
-use Rattle.play.specs.Runs.{Advances, HoldsKeep, IsRun, RunSoFar, berths_in}
+use Rattle.play.specs.Runs.{Advances, HoldsKeep, IsRun, RunSoFar, ToldFleet, berths_in}
+use Rattle.play.specs.Standing.{FollowsLines, ItemDid, MayRun}
+use Rattle.play.proofs.Playable.{playable}
+use Rattle.transcript_fleet.specs.Laws.{IsToldFleet}
 use Rattle.transcript_fleet.proofs.Ending.{ended}
-use Rattle.transcript_fleet.proofs.Sessions.{plays_on}
+use Rattle.transcript_fleet.proofs.Sessions.{plays_on, sessions_know}
+use Rattle.transcript_standing.specs.Followed.{AreFollowers, DoesItself, FollowedSome}
+use Rattle.transcript_standing.proofs.Following.{does_same, follow_on, follow_to_end, follow_to_stop}
+use Rattle.transcript_standing.proofs.Right.{tell_right}
 use Rattle.transcript_leaf.proofs.Lists.{element_at, within}
 use Rattle.berth_face.specs.Streams.{Written, WritesFront}
 use Rattle.leaf_moves.specs.Lanes.{PlaysItem}
@@ -143,14 +154,15 @@ heard_on : (fleet : Fleet) (ps qs : List Played) (a b c : List Held) → HearsAl
 heard_on fleet [] qs a b c first next = subst (λ (watches : List Held). HearsAll fleet qs watches c) first next
 heard_on fleet (p ∷ ps) qs a b c first next = (first.0, first.1, heard_on fleet ps qs first.0 b c first.2 next)
 
-pub run_goes_on : {B : Type 0} (base : ℕ → Option NamedStates) (meaning : B → Meaning) (fleet crew : Fleet) (olds : List B) (was written after : Option (List ℕ)) (watching between watched : List Held) (items : List Item) (x : Item) (xs ys : List (Hold B))
-    → RunSoFar base meaning fleet olds was written watching between items xs
+pub run_goes_on : {B : Type 0} (base : ℕ → Option NamedStates) (meaning : B → Meaning) (fleet crew : Fleet) (olds : List B) (was written after : Option (List ℕ)) (watching between watched : List Held) (items : List Item) (x : Item) (fs gs : List Follower) (xs ys : List (Hold B))
+    → RunSoFar base meaning fleet olds was written watching between items fs xs
     → crew ≡ fleet
-    → Advances meaning crew xs ys written after between watched x
+    → Advances meaning crew fs gs xs ys written after between watched x
     → AllPass meaning xs ys
-    → RunSoFar base meaning fleet olds was after watching watched (items ++ x ∷ []) ys
-run_goes_on {B} base meaning fleet crew olds was written after watching between watched items x xs ys run same advance passes =
-    let step : Advances meaning fleet xs ys written after between watched x = subst (λ (f : Fleet). Advances meaning f xs ys written after between watched x) same advance in
+    → AreFollowers fleet fs
+    → RunSoFar base meaning fleet olds was after watching watched (items ++ x ∷ []) gs ys
+run_goes_on {B} base meaning fleet crew olds was written after watching between watched items x fs gs xs ys run same advance passes followers =
+    let step : Advances meaning fleet fs gs xs ys written after between watched x = subst (λ (f : Fleet). Advances meaning f fs gs xs ys written after between watched x) same advance in
     let p : PlayedItem = step.played in
     let text : Appends was after (lines_text fleet.names (all_lines run.played ++ item_lines p)) =
     subst (Appends was after) (sym (flat_map-append (line_text fleet.names) (all_lines run.played) (item_lines p)))
@@ -168,29 +180,51 @@ run_goes_on {B} base meaning fleet crew olds was written after watching between 
           (counted_on leaf (all_pieces run.played) (all_pieces (p ∷ [])) (meaning old) (meaning before.1) (meaning new)
           (run.counted leaf old had.0 before.0 before.1 at had.1 before.2) before.3);
       keeps = holds_keep meaning olds xs ys run.keeps passes;
-      session = λ known is. plays_on meaning olds fleet known run.played xs ys p (run.session known is) step.plays;
+      session = λ known is. (plays_on meaning olds fleet known run.played xs ys p (run.session known is) step.plays).0;
+      followed = λ known is histories on.
+          let later = plays_on meaning olds fleet known run.played xs ys p (run.session known is) step.plays in
+          let one = step.follows histories on in
+          follow_on fleet (grounds_of fleet known) histories run.played p [] fs gs (run.followed known is histories (later.1 histories on))
+          (record {
+            between = one.between;
+            may = one.may;
+            itself = does_same fleet (grounds_in ys) (grounds_of fleet known) histories (sessions_know meaning olds fleet known (run.played ++ p ∷ []) ys later.0) p fs one.between followers one.itself;
+            follow = one.follow;
+          });
     }
   where
     held_before : (leaf : ℕ) (y : Hold B) → slice_get ys leaf ≡ Some y → (x : Hold B) × (slice_get xs leaf ≡ Some x)
     held_before leaf y now = element_at xs leaf (omega (arith, within ys leaf y now, passes.count))
 
 -- what an item did, once its lines were written
-pub advances : {B E F : Type 0} (meaning : B → Meaning) (fleet : Fleet) (x : Item) (xs ys : List (Hold B)) (was now : Option (List ℕ)) (watching watched : List Held) (lines : Result (Vec Line Global) E) (written : Result (Unit {0}) F)
-    → OrNothing (ItemWent meaning fleet x xs watching (told_lines lines) ys watched) xs watching (told_lines lines) ys watched
+pub advances : {B E F : Type 0} (meaning : B → Meaning) (fleet : Fleet) (x : Item) (fs gs : List Follower) (xs ys : List (Hold B)) (was now : Option (List ℕ)) (watching watched : List Held) (lines : Result (Vec Line Global) E) (written : Result (Unit {0}) F)
+    → MayRun fleet x
+    → OrNothing (ItemDid meaning fleet x (FollowsLines x fs gs) fs xs watching (told_lines lines) ys watched) xs watching (told_lines lines) ys watched
     → OnOk written (IsOk lines)
     → OnOk written (IfOk lines (λ ls. Appends was now (lines_text fleet.names ls.items)))
-    → OnOk written (Advances meaning fleet xs ys was now watching watched x)
-advances meaning fleet x xs ys was now watching watched lines (Err e) went made text = tt
-advances meaning fleet x xs ys was now watching watched (Err e) (Ok u) went made text = absurd cc
-advances meaning fleet x xs ys was now watching watched (Ok ls) (Ok u) (inr none) made text = let wrong = none.refused in absurd cc
-advances meaning fleet x xs ys was now watching watched (Ok ls) (Ok u) (inl went) made text = record {
-  played = went.played;
-  item_is = went.lines_are.0;
-  plays = went.plays;
-  text = subst (λ ks. Appends was now (lines_text fleet.names ks)) went.lines_are.1 text;
-  heard = went.heard;
-  counted = went.counted;
-}
+    → OnOk written (Advances meaning fleet fs gs xs ys was now watching watched x)
+advances meaning fleet x fs gs xs ys was now watching watched lines (Err e) may did made text = tt
+advances meaning fleet x fs gs xs ys was now watching watched (Err e) (Ok u) may did made text = absurd cc
+advances meaning fleet x fs gs xs ys was now watching watched (Ok ls) (Ok u) may (inr none) made text = let wrong = none.refused in absurd cc
+advances meaning fleet x fs gs xs ys was now watching watched (Ok ls) (Ok u) may (inl d) made text =
+    let went = d.went in
+    record {
+      played = went.played;
+      item_is = went.lines_are.0;
+      plays = went.plays;
+      text = subst (λ ks. Appends was now (lines_text fleet.names ks)) went.lines_are.1 text;
+      heard = went.heard;
+      counted = went.counted;
+      follows = λ histories on.
+          let e = d.did histories on in
+          record {
+            between = e.0;
+            may = playable fleet x went.played may went.lines_are.0;
+            itself = e.1;
+            follow = subst (λ (ks : List Line). FollowAll (map (noted (item_of went.played)) fs) ks e.0 gs) went.lines_are.1
+                (subst (λ (i : Item). FollowAll (map (noted i) fs) ls.items e.0 gs) (sym went.lines_are.0) e.2);
+          };
+    }
 
 -- what holds in any case holds of a refusal
 pub on_err : {T E P : Type 0} (result : Result T E) → P → OnErr result P
@@ -198,28 +232,44 @@ on_err (Ok x) p = tt
 on_err (Err e) p = p
 
 -- an item whose lines were not all written, or that had none
-pub stops_one : {B E : Type 0} (meaning : B → Meaning) (fleet : Fleet) (x : Item) (xs ys : List (Hold B)) (was now : Option (List ℕ)) (watching watched : List Held) (lines : Result (Vec Line Global) E)
-    → OrNothing (ItemWent meaning fleet x xs watching (told_lines lines) ys watched) xs watching (told_lines lines) ys watched
+pub stops_one : {B E : Type 0} (meaning : B → Meaning) (fleet : Fleet) (x : Item) (T : List Follower → List Line → Type 0) (fs : List Follower) (xs ys : List (Hold B)) (was now : Option (List ℕ)) (watching watched : List Held) (lines : Result (Vec Line Global) E)
+    → OrNothing (ItemDid meaning fleet x T fs xs watching (told_lines lines) ys watched) xs watching (told_lines lines) ys watched
     → IfOk lines (λ ls. WritesFront was now (lines_text fleet.names ls.items)) → (told_lines lines ≡ None → now ≡ was)
-    → StopsAt meaning fleet xs ys was now watching watched x
-stops_one meaning fleet x xs ys was now watching watched lines (inr none) front still = StopsAt.unplayed none.holds (still none.refused) none.watches
-stops_one meaning fleet x xs ys was now watching watched (Ok ls) (inl went) front still =
-    StopsAt.short went.played went.begun went.plays went.counted went.heard (subst (λ ks. WritesFront was now (lines_text fleet.names ks)) went.lines_are.1 front)
-stops_one meaning fleet x xs ys was now watching watched (Err e) (inl went) front still =
-    StopsAt.short went.played went.begun went.plays went.counted went.heard
-    (subst (λ o. WritesFront was o (lines_text fleet.names (item_lines went.played))) (sym (still refl)) (none_written was (lines_text fleet.names (item_lines went.played))))
+    → StopsAt meaning fleet fs xs ys was now watching watched x
+stops_one meaning fleet x T fs xs ys was now watching watched lines (inr none) front still = StopsAt.unplayed none.holds (still none.refused) none.watches
+stops_one meaning fleet x T fs xs ys was now watching watched (Ok ls) (inl d) front still =
+    StopsAt.short d.went.played d.went.begun d.went.plays d.went.counted d.went.heard (subst (λ ks. WritesFront was now (lines_text fleet.names ks)) d.went.lines_are.1 front)
+    (λ histories on. let e = d.did histories on in (e.0, e.1))
+stops_one meaning fleet x T fs xs ys was now watching watched (Err e) (inl d) front still =
+    StopsAt.short d.went.played d.went.begun d.went.plays d.went.counted d.went.heard
+    (subst (λ o. WritesFront was o (lines_text fleet.names (item_lines d.went.played))) (sym (still refl)) (none_written was (lines_text fleet.names (item_lines d.went.played))))
+    (λ histories on. let k = d.did histories on in (k.0, k.1))
+
+-- what was told of a fleet, with what its standing queries tell
+pub fleet_right : {B : Type 0} (meaning : B → Meaning) (fleet : Fleet) (known : ℕ → Option Known) (played : List PlayedItem) (olds : List B) (xs : List (Hold B)) → AreNames fleet.names
+    → ((histories : ℕ → ℕ → List Entry) → GoOn xs histories → FollowedSome fleet (grounds_of fleet known) histories played []) → IsToldFleet meaning fleet known played olds xs
+    → ToldFleet meaning fleet known played olds xs
+fleet_right meaning fleet known played olds xs names followed told =
+    let t = told.transcript in
+    record {
+      fleet_is = told;
+      standing = tell_right fleet known (map item_of played) (lines_text fleet.names (all_lines played)) t names
+          (subst (λ (ps : List PlayedItem). FollowedSome fleet (grounds_of fleet known) t.histories ps []) (sym told.played_is) (followed t.histories told.go_on));
+    }
 
 -- once all seats have met again, the run is told
-pub run_ends : {B : Type 0} (base : ℕ → Option NamedStates) (meaning : B → Meaning) (fleet : Fleet) (olds : List B) (was now : Option (List ℕ)) (watching watched : List Held) (items : List Item) (xs : List (Hold B))
-    → RunSoFar base meaning fleet olds was now watching watched items xs → ((leaf : ℕ) (x : Hold B) → slice_get xs leaf ≡ Some x → HasMet meaning x)
+pub run_ends : {B : Type 0} (base : ℕ → Option NamedStates) (meaning : B → Meaning) (fleet : Fleet) (olds : List B) (was now : Option (List ℕ)) (watching watched : List Held) (items : List Item) (fs : List Follower) (xs : List (Hold B)) → AreNames fleet.names
+    → RunSoFar base meaning fleet olds was now watching watched items fs xs → ((leaf : ℕ) (x : Hold B) → slice_get xs leaf ≡ Some x → HasMet meaning x)
     → IsRun base meaning fleet olds was now watching watched items xs
-run_ends base meaning fleet olds was now watching watched items xs run met = record {
+run_ends base meaning fleet olds was now watching watched items fs xs names run met = record {
   played = run.played;
   items_are = run.items_are;
   text = run.text;
   heard = run.heard;
   counted = run.counted;
-  told = λ known is. ended meaning olds fleet known run.played xs (run.session known is) met;
+  told = λ known is. fleet_right meaning fleet known run.played olds xs names
+      (λ histories on. follow_to_end fleet (grounds_of fleet known) histories run.played [] fs (run.followed known is histories on))
+      (ended meaning olds fleet known run.played xs (run.session known is) met);
 }
 
 -- ---- what was written
@@ -248,9 +298,9 @@ rest_within piece front rest is = omega (arith, ap (λ (l : List ℕ). length l)
 
 module _ {B : Type 0} (base : ℕ → Option NamedStates) (meaning : B → Meaning) (fleet : Fleet) (olds : List B) (was : Option (List ℕ)) (watching : List Held) where
   -- before an item of which nothing was done
-  pub run_halts : (written : Option (List ℕ)) (watched : List Held) (items more : List Item) (xs : List (Hold B)) → RunSoFar base meaning fleet olds was written watching watched items xs
+  pub run_halts : (written : Option (List ℕ)) (watched : List Held) (items more : List Item) (fs : List Follower) (xs : List (Hold B)) → RunSoFar base meaning fleet olds was written watching watched items fs xs
       → (items ≡ [] → berths_in xs ≡ olds) → RunShort base meaning fleet olds was written watching watched (items ++ more) xs
-  run_halts written watched items more xs run first = record {
+  run_halts written watched items more fs xs run first = record {
     played = run.played;
     some = PlaysSome.whole (more, ap (λ (is : List Item). is ++ more) (sym run.items_are));
     rest = [];
@@ -261,15 +311,17 @@ module _ {B : Type 0} (base : ℕ → Option NamedStates) (meaning : B → Meani
     keeps = run.keeps;
     untouched = λ none. first (sym run.items_are ∙ ap (λ (ps : List PlayedItem). map item_of ps) none);
     session = run.session;
+    followed = λ known is histories on. follow_to_end fleet (grounds_of fleet known) histories run.played [] fs (run.followed known is histories on);
   }
 
   -- behind one that was played, or begun, and of which a front was written
-  pub run_cut : (written after : Option (List ℕ)) (between watched : List Held) (items more : List Item) (x : Item) (xs ys : List (Hold B)) (p : PlayedItem)
-      → RunSoFar base meaning fleet olds was written watching between items xs → AllPass meaning xs ys
+  pub run_cut : (written after : Option (List ℕ)) (between watched : List Held) (items more : List Item) (x : Item) (fs : List Follower) (xs ys : List (Hold B)) (p : PlayedItem)
+      → RunSoFar base meaning fleet olds was written watching between items fs xs → AllPass meaning xs ys → AreFollowers fleet fs
       → BeginsItem (item_of p) x → PlaysItem meaning fleet xs p ys → AllCounted meaning (all_pieces (p ∷ [])) xs ys → HearsAll fleet (plays_of p) between watched
       → WritesFront written after (lines_text fleet.names (item_lines p))
+      → ((histories : ℕ → ℕ → List Entry) → GoOn ys histories → (gs : List Follower) × DoesItself fleet (grounds_in ys) histories p fs gs)
       → RunShort base meaning fleet olds was after watching watched (items ++ x ∷ more) ys
-  run_cut written after between watched items more x xs ys p run passes begins plays counts heard front =
+  run_cut written after between watched items more x fs xs ys p run passes followers begins plays counts heard front did =
       let lines : lines_text fleet.names (all_lines (run.played ++ p ∷ [])) ≡ lines_text fleet.names (all_lines run.played) ++ lines_text fleet.names (item_lines p) =
       ap (λ (ls : List Line). lines_text fleet.names ls) (lines_snoc run.played p) ∙ flat_map-append (line_text fleet.names) (all_lines run.played) (item_lines p) in
       record {
@@ -290,7 +342,12 @@ module _ {B : Type 0} (base : ℕ → Option NamedStates) (meaning : B → Meani
             (run.counted leaf old had.0 before.0 before.1 at had.1 before.2) before.3);
         keeps = holds_keep meaning olds xs ys run.keeps passes;
         untouched = λ none. absurd (some_there run.played p none);
-        session = λ known is. plays_on meaning olds fleet known run.played xs ys p (run.session known is) plays;
+        session = λ known is. (plays_on meaning olds fleet known run.played xs ys p (run.session known is) plays).0;
+        followed = λ known is histories on.
+            let later = plays_on meaning olds fleet known run.played xs ys p (run.session known is) plays in
+            let one = did histories on in
+            follow_to_stop fleet (grounds_of fleet known) histories run.played p [] fs one.0 (run.followed known is histories (later.1 histories on))
+            (does_same fleet (grounds_in ys) (grounds_of fleet known) histories (sessions_know meaning olds fleet known (run.played ++ p ∷ []) ys later.0) p fs one.0 followers one.1);
       }
     where
       some_there : (ps : List PlayedItem) (p : PlayedItem) → ps ++ p ∷ [] ≡ [] → ⊥
@@ -298,28 +355,39 @@ module _ {B : Type 0} (base : ℕ → Option NamedStates) (meaning : B → Meani
       some_there (q ∷ ps) p e = cc
 
   -- where an item stops a run
-  pub run_stops : (written after : Option (List ℕ)) (between watched : List Held) (items more : List Item) (x : Item) (xs ys : List (Hold B))
-      → RunSoFar base meaning fleet olds was written watching between items xs → (items ≡ [] → berths_in xs ≡ olds) → AllPass meaning xs ys
-      → StopsAt meaning fleet xs ys written after between watched x
+  pub run_stops : (written after : Option (List ℕ)) (between watched : List Held) (items more : List Item) (x : Item) (fs : List Follower) (xs ys : List (Hold B))
+      → RunSoFar base meaning fleet olds was written watching between items fs xs → (items ≡ [] → berths_in xs ≡ olds) → AllPass meaning xs ys → AreFollowers fleet fs
+      → StopsAt meaning fleet fs xs ys written after between watched x
       → RunShort base meaning fleet olds was after watching watched (items ++ x ∷ more) ys
-  run_stops written after between watched items more x xs ys run first passes (StopsAt.unplayed holds text watches) =
+  run_stops written after between watched items more x fs xs ys run first passes followers (StopsAt.unplayed holds text watches) =
       subst (λ (hs : List (Hold B)). RunShort base meaning fleet olds was after watching watched (items ++ x ∷ more) hs) (sym holds)
       (subst (λ (t : Option (List ℕ)). RunShort base meaning fleet olds was t watching watched (items ++ x ∷ more) xs) (sym text)
       (subst (λ (ws : List Held). RunShort base meaning fleet olds was written watching ws (items ++ x ∷ more) xs) (sym watches)
-      (run_halts written between items (x ∷ more) xs run first)))
-  run_stops written after between watched items more x xs ys run first passes (StopsAt.short p begins plays counts heard front) =
-      run_cut written after between watched items more x xs ys p run passes begins plays counts heard front
+      (run_halts written between items (x ∷ more) fs xs run first)))
+  run_stops written after between watched items more x fs xs ys run first passes followers (StopsAt.short p begins plays counts heard front did) =
+      run_cut written after between watched items more x fs xs ys p run passes followers begins plays counts heard front did
 
 pub some_done : (done : List Item) (x : Item) → done ++ x ∷ [] ≡ [] → ⊥
 some_done [] x e = cc
 some_done (y ∷ done) x e = cc
 
 -- at an item of all of them
-pub run_short : {B : Type 0} (base : ℕ → Option NamedStates) (meaning : B → Meaning) (fleet crew : Fleet) (olds : List B) (was written after : Option (List ℕ)) (watching between watched : List Held) (done left more all : List Item) (x : Item) (xs ys : List (Hold B))
-    → RunSoFar base meaning fleet olds was written watching between done xs → (done ≡ [] → berths_in xs ≡ olds) → done ++ left ≡ all → left ≡ x ∷ more → AllPass meaning xs ys → crew ≡ fleet
-    → StopsAt meaning crew xs ys written after between watched x
+pub run_short : {B : Type 0} (base : ℕ → Option NamedStates) (meaning : B → Meaning) (fleet crew : Fleet) (olds : List B) (was written after : Option (List ℕ)) (watching between watched : List Held) (done left more all : List Item) (x : Item) (fs : List Follower) (xs ys : List (Hold B))
+    → RunSoFar base meaning fleet olds was written watching between done fs xs → (done ≡ [] → berths_in xs ≡ olds) → done ++ left ≡ all → left ≡ x ∷ more → AllPass meaning xs ys → crew ≡ fleet → AreFollowers fleet fs
+    → StopsAt meaning crew fs xs ys written after between watched x
     → RunShort base meaning fleet olds was after watching watched all ys
-run_short base meaning fleet crew olds was written after watching between watched done left more all x xs ys run first whole is passes same stops =
+run_short base meaning fleet crew olds was written after watching between watched done left more all x fs xs ys run first whole is passes same followers stops =
     subst (λ (its : List Item). RunShort base meaning fleet olds was after watching watched its ys) (ap (λ (r : List Item). done ++ r) (sym is) ∙ whole)
-    (run_stops base meaning fleet olds was watching written after between watched done more x xs ys run first passes
-    (subst (λ (f : Fleet). StopsAt meaning f xs ys written after between watched x) same stops))
+    (run_stops base meaning fleet olds was watching written after between watched done more x fs xs ys run first passes followers
+    (subst (λ (f : Fleet). StopsAt meaning f fs xs ys written after between watched x) same stops))
+
+-- with the same standing queries
+pub followers_as : {B : Type 0} (base : ℕ → Option NamedStates) (meaning : B → Meaning) (fleet : Fleet) (olds : List B) (was now : Option (List ℕ)) (watching watched : List Held) (items : List Item) (fs gs : List Follower) (xs : List (Hold B)) → gs ≡ fs
+    → RunSoFar base meaning fleet olds was now watching watched items fs xs → RunSoFar base meaning fleet olds was now watching watched items gs xs
+followers_as base meaning fleet olds was now watching watched items fs gs xs same run = subst (λ (hs : List Follower). RunSoFar base meaning fleet olds was now watching watched items hs xs) (sym same) run
+
+-- once no item is left
+pub run_whole : {B : Type 0} (base : ℕ → Option NamedStates) (meaning : B → Meaning) (fleet : Fleet) (olds : List B) (was now : Option (List ℕ)) (watching watched : List Held) (done left all : List Item) (fs : List Follower) (xs : List (Hold B))
+    → RunSoFar base meaning fleet olds was now watching watched done fs xs → done ++ left ≡ all → left ≡ [] → RunSoFar base meaning fleet olds was now watching watched all fs xs
+run_whole base meaning fleet olds was now watching watched done left all fs xs run whole none =
+    subst (λ (its : List Item). RunSoFar base meaning fleet olds was now watching watched its fs xs) (sym (append-nil done) ∙ (ap (λ (r : List Item). done ++ r) (sym none) ∙ whole)) run

@@ -5,6 +5,7 @@ use Rattle.std.specs.List.{cons_option}
 use Rattle.std.proofs.lemmas.List.{length-take}
 use Rattle.berth_face.specs.Berth.{Meaning}
 use Rattle.berth_face.specs.Streams.{ReadsAll}
+use Rattle.region_layout.specs.Names.{AreNames}
 use Rattle.crash_moments.specs.Left.{NamedStates}
 use Rattle.rollover_watch.specs.Watches.{Held}
 use Rattle.script_text.specs.declared.item.Item.{Item}
@@ -17,7 +18,7 @@ use Rattle.soak.specs.Soak.{soak_script}
 use Rattle.run_ends.specs.declared.status.Status.{Status}
 use Rattle.transcript.specs.Pieces.{PlayedItem, all_lines, item_of, plays_in, script_fleet}
 use Rattle.transcript.specs.Transcript.{Known}
-use Rattle.transcript.specs.Leaving.{IsToldRun}
+use Rattle.transcript.specs.Leaving.{AreKnown, IsToldRun}
 use Rattle.transcript.specs.Watching.{HearsAll}
 use Rattle.leaf_moves.specs.Holds.{HasMet, Hold}
 use Rattle.transcript_leaf.proofs.Lists.{within}
@@ -30,6 +31,7 @@ use Rattle.play.specs.Runs.{berths_in}
 use Rattle.play.specs.Shortened.{EndsShort, IfShort, RunShort, SoakEndsShort, StopsShort}
 use Rattle.play.proofs.Ends.{ToldBy, fleet_told, nothing_told, run_told}
 use Rattle.play.proofs.Lists.{front_at}
+use Rattle.play.proofs.Plays.{fleet_right}
 
 -- ---- the fleet
 
@@ -93,23 +95,22 @@ module _ {B : Type 0} (meaning : B → Meaning) (first rest own : List B) (xs : 
   afters = own ++ rest
 
   -- once all seats have met, what a play did that stopped is told
-  pub run_shortened : (base : ℕ → Option NamedStates) (items : List Item) (was now : Option (List ℕ)) (watching watched : List Held) → leaf_count (script_fleet items) ≡ length first
+  pub run_shortened : (base : ℕ → Option NamedStates) (items : List Item) (was now : Option (List ℕ)) (watching watched : List Held) → leaf_count (script_fleet items) ≡ length first → AreNames (script_fleet items).names
       → RunShort base meaning (script_fleet items) first was now watching watched items xs → ((leaf : ℕ) (x : Hold B) → slice_get xs leaf ≡ Some x → HasMet meaning x)
       → IsShortened meaning befores afters base items was now watching watched
-  run_shortened base items was now watching watched size run met = record {
+  run_shortened base items was now watching watched size names run met = record {
     played = run.played;
     some = run.some;
     rest = run.rest;
     written = run.text;
     last = run.last;
-    told = λ known bases. elim (fleet_begins items (map item_of run.played) run.some) [
+    told = λ known bases. let here : AreKnown meaning first first base known = (λ leaf old at. bases leaf old (front_at first rest leaf (within first leaf old at) ∙ at)) in elim (fleet_begins items (map item_of run.played) run.some) [
       | inl none ↦ of_none known (none_played run.played none)
       | inr same ↦
           run_told meaning first rest own xs are count known watching watched (all_lines run.played) (map item_of run.played)
           (subst (λ (f : Fleet). ToldBy meaning first rest own xs are count known watching watched (all_lines run.played) f (map item_of run.played)) (sym same)
           (fleet_told meaning first rest own xs are count known watching watched (script_fleet items) run.played size run.counted run.heard
-          (ended meaning first (script_fleet items) known run.played xs
-          (run.session known (λ leaf old at. bases leaf old (front_at first rest leaf (within first leaf old at) ∙ at))) met)))
+          (fleet_right meaning (script_fleet items) known run.played first xs names (run.followed known here) (ended meaning first (script_fleet items) known run.played xs (run.session known here) met))))
     ];
   }
     where
@@ -126,10 +127,10 @@ module _ {B : Type 0} (meaning : B → Meaning) (first rest own : List B) (xs : 
 
 pub crew_shortened : {B : Type 0} (meaning : B → Meaning) (olds news own : List B) (old_xs xs : List (Hold B)) (leaves : ℕ) → leaves ≤ length olds → berths_in old_xs ≡ take leaves olds
     → map Some own ≡ map (λ (x : Hold B). berth_in x) xs → news ≡ own ++ drop leaves olds → length xs ≡ length (berths_in old_xs)
-    → (base : ℕ → Option NamedStates) (items : List Item) (fleet : Fleet) (was now : Option (List ℕ)) (watching watched : List Held) → script_fleet items ≡ fleet → leaf_count fleet ≡ leaves
+    → (base : ℕ → Option NamedStates) (items : List Item) (fleet : Fleet) (was now : Option (List ℕ)) (watching watched : List Held) → script_fleet items ≡ fleet → leaf_count fleet ≡ leaves → AreNames fleet.names
     → RunShort base meaning fleet (berths_in old_xs) was now watching watched items xs → ((leaf : ℕ) (x : Hold B) → slice_get xs leaf ≡ Some x → HasMet meaning x)
     → IsShortened meaning olds news base items was now watching watched
-crew_shortened {B} meaning olds news own old_xs xs leaves enough had are has count base items fleet was now watching watched is size run met =
+crew_shortened {B} meaning olds news own old_xs xs leaves enough had are has count base items fleet was now watching watched is size names run met =
     let sized : length (take leaves olds) ≡ leaves = length-take leaves olds ∙ omega (arith, enough) in
     let counted : length xs ≡ length (take leaves olds) = count ∙ ap (λ (bs : List B). length bs) had in
     let here : RunShort base meaning (script_fleet items) (take leaves olds) was now watching watched items xs =
@@ -138,7 +139,7 @@ crew_shortened {B} meaning olds news own old_xs xs leaves enough had are has cou
     subst (λ (bs : List B). IsShortened meaning bs news base items was now watching watched) (take-append-drop leaves olds)
     (subst (λ (bs : List B). IsShortened meaning (take leaves olds ++ drop leaves olds) bs base items was now watching watched) (sym has)
     (run_shortened meaning (take leaves olds) (drop leaves olds) own xs are counted base items was now watching watched
-    (ap (λ (f : Fleet). leaf_count f) is ∙ (size ∙ sym sized)) here met))
+    (ap (λ (f : Fleet). leaf_count f) is ∙ (size ∙ sym sized)) (subst (λ (f : Fleet). AreNames f.names) (sym is) names) here met))
 
 -- what follows at a status that is short
 pub if_short : (status : Status) (P Q : Type 0) → (P → Q) → IfShort status P → IfShort status Q
@@ -151,13 +152,13 @@ if_short Status.ReadFault P Q f p = tt
 
 pub crew_short : {B : Type 0} (meaning : B → Meaning) (olds news own : List B) (old_xs xs : List (Hold B)) (leaves : ℕ) → leaves ≤ length olds → berths_in old_xs ≡ take leaves olds
     → map Some own ≡ map (λ (x : Hold B). berth_in x) xs → news ≡ own ++ drop leaves olds → length xs ≡ length (berths_in old_xs)
-    → (base : ℕ → Option NamedStates) (items played : List Item) (fleet : Fleet) (was now : Option (List ℕ)) (watching watched : List Held) → script_fleet items ≡ fleet → leaf_count fleet ≡ leaves → played ≡ items
+    → (base : ℕ → Option NamedStates) (items played : List Item) (fleet : Fleet) (was now : Option (List ℕ)) (watching watched : List Held) → script_fleet items ≡ fleet → leaf_count fleet ≡ leaves → AreNames fleet.names → played ≡ items
     → ((leaf : ℕ) (x : Hold B) → slice_get xs leaf ≡ Some x → HasMet meaning x) → (status : Status)
     → IfShort status (RunShort base meaning fleet (berths_in old_xs) was now watching watched played xs)
     → IfShort status (StopsShort meaning olds news base items was now watching watched)
-crew_short {B} meaning olds news own old_xs xs leaves enough had are has count base items played fleet was now watching watched is size all met status run =
+crew_short {B} meaning olds news own old_xs xs leaves enough had are has count base items played fleet was now watching watched is size names all met status run =
     if_short status (RunShort base meaning fleet (berths_in old_xs) was now watching watched played xs) (StopsShort meaning olds news base items was now watching watched)
-    (λ r. inr (crew_shortened meaning olds news own old_xs xs leaves enough had are has count base items fleet was now watching watched is size
+    (λ r. inr (crew_shortened meaning olds news own old_xs xs leaves enough had are has count base items fleet was now watching watched is size names
     (subst (λ (its : List Item). RunShort base meaning fleet (berths_in old_xs) was now watching watched its xs) all r) met)) run
 
 pub ends_short : {B : Type 0} (base : ℕ → Option NamedStates) (meaning : B → Meaning) (before after was now : Option (List ℕ)) (olds news : List B) (watching watched : List Held) (text : List ℕ) (script : Script) (status : Status)

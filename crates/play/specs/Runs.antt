@@ -3,6 +3,7 @@ use Rattle.std.specs.Prelude.{◌≡◌, ℕ, List, [], ◌∷◌, length, map, 
 use Rattle.std.specs.List.{AllByRecursion, filter_map}
 use Rattle.std.specs.Io.KnownBytes.{Appends}
 use Rattle.berth_face.specs.Berth.{Meaning}
+use Rattle.leaf_history.specs.History.{Entry}
 use Rattle.crash_moments.specs.Left.{NamedStates}
 use Rattle.region_layout.specs.Names.{AreNames}
 use Rattle.leaf_table.specs.declared.base.TableBase.{TableBase}
@@ -13,10 +14,13 @@ use Rattle.printed_lines.specs.Lines.{lines_text, name_at}
 use Rattle.script_text.specs.declared.fleet.Fleet.{Fleet}
 use Rattle.transcript.specs.Pieces.{Piece, PlayedItem, all_lines, all_pieces, script_fleet, item_lines, item_of, plays_in, plays_of}
 use Rattle.transcript.specs.Counts.{CountsRose}
-use Rattle.transcript.specs.Transcript.{Known}
+use Rattle.transcript.specs.Transcript.{Known, grounds_of}
+use Rattle.transcript.specs.Telling.{AreTold}
+use Rattle.standing_feed.specs.declared.follower.Follower.{Follower}
+use Rattle.transcript_standing.specs.Followed.{FollowedAll, FollowsItem}
 use Rattle.transcript.specs.Leaving.{AreKnown}
 use Rattle.leaf_moves.specs.Stage.{Leaf}
-use Rattle.leaf_moves.specs.Holds.{Hold}
+use Rattle.leaf_moves.specs.Holds.{GoOn, Hold, grounds_in}
 use Rattle.leaf_moves.specs.Lanes.{PlaysItem}
 use Rattle.transcript.specs.Watching.{HearsAll}
 use Rattle.transcript_fleet.specs.Session.{Session}
@@ -70,8 +74,9 @@ AreCounted meaning olds xs pieces = AtHolds meaning olds xs (λ leaf old now. Co
 
 -- ---- items
 
--- What holds after these items, whose lines were written and of which the watches heard: of a fleet whose leaves had these berths when the run began, and are these since.
-pub record RunSoFar {B : Type 0} (base : ℕ → Option NamedStates) (meaning : B → Meaning) (fleet : Fleet) (olds : List B) (was written : Option (List ℕ)) (watching watched : List Held) (items : List Item) (xs : List (Hold B)) : Type 0 where
+-- What holds after these items, whose lines were written, of which the watches heard, and that the standing queries followed: of a fleet whose leaves had these berths when the run began,
+-- and are these since.
+pub record RunSoFar {B : Type 0} (base : ℕ → Option NamedStates) (meaning : B → Meaning) (fleet : Fleet) (olds : List B) (was written : Option (List ℕ)) (watching watched : List Held) (items : List Item) (followers : List Follower) (xs : List (Hold B)) : Type 0 where
   pub played : List PlayedItem
   pub items_are : map item_of played ≡ items
   pub text : Appends was written (lines_text fleet.names (all_lines played))
@@ -79,15 +84,23 @@ pub record RunSoFar {B : Type 0} (base : ℕ → Option NamedStates) (meaning : 
   pub counted : AreCounted meaning olds xs (all_pieces played)
   pub keeps : HoldsKeep meaning olds xs
   pub session : (known : ℕ → Option Known) → AreKnown meaning olds olds base known → Session meaning fleet known olds played xs
+  pub followed : (known : ℕ → Option Known) → AreKnown meaning olds olds base known → (histories : ℕ → ℕ → List Entry) → GoOn xs histories
+      → FollowedAll fleet (grounds_of fleet known) histories played [] followers
 
 -- one item more, whose lines were written
-pub record Advances {B : Type 0} (meaning : B → Meaning) (fleet : Fleet) (xs ys : List (Hold B)) (was written : Option (List ℕ)) (watching watched : List Held) (item : Item) : Type 0 where
+pub record Advances {B : Type 0} (meaning : B → Meaning) (fleet : Fleet) (olds news : List Follower) (xs ys : List (Hold B)) (was written : Option (List ℕ)) (watching watched : List Held) (item : Item) : Type 0 where
   pub played : PlayedItem
   pub item_is : item_of played ≡ item
   pub plays : PlaysItem meaning fleet xs played ys
   pub text : Appends was written (lines_text fleet.names (item_lines played))
   pub heard : HearsAll fleet (plays_of played) watching watched
   pub counted : AllCounted meaning (all_pieces (played ∷ [])) xs ys
+  pub follows : (histories : ℕ → ℕ → List Entry) → GoOn ys histories → FollowsItem fleet (grounds_in ys) histories played olds news
+
+-- what the items are, with what the standing queries tell
+pub record ToldFleet {B : Type 0} (meaning : B → Meaning) (fleet : Fleet) (known : ℕ → Option Known) (played : List PlayedItem) (olds : List B) (xs : List (Hold B)) : Type 0 where
+  pub fleet_is : IsToldFleet meaning fleet known played olds xs
+  pub standing : AreTold fleet (grounds_of fleet known) fleet_is.transcript.histories fleet_is.transcript.played
 
 -- a run of all the items
 pub record IsRun {B : Type 0} (base : ℕ → Option NamedStates) (meaning : B → Meaning) (fleet : Fleet) (olds : List B) (was now : Option (List ℕ)) (watching watched : List Held) (items : List Item) (xs : List (Hold B)) : Type 0 where
@@ -96,7 +109,7 @@ pub record IsRun {B : Type 0} (base : ℕ → Option NamedStates) (meaning : B �
   pub text : Appends was now (lines_text fleet.names (all_lines played))
   pub heard : HearsAll fleet (plays_in played) watching watched
   pub counted : AreCounted meaning olds xs (all_pieces played)
-  pub told : (known : ℕ → Option Known) → AreKnown meaning olds olds base known → IsToldFleet meaning fleet known played olds xs
+  pub told : (known : ℕ → Option Known) → AreKnown meaning olds olds base known → ToldFleet meaning fleet known played olds xs
 
 -- how a play ends
 abbrev pub IsEnd : Status → Type 0

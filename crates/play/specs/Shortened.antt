@@ -2,6 +2,7 @@
 use Rattle.std.specs.Prelude.{◌≡◌, ◌⊎◌, ℕ, ◌≤◌, List, [], ◌∷◌, length, map, Option, Some, Ok}
 use Rattle.berth_face.specs.Berth.{Meaning}
 use Rattle.berth_face.specs.Streams.{ReadsAll, Written, WritesFront}
+use Rattle.leaf_history.specs.History.{Entry}
 use Rattle.crash_moments.specs.Left.{NamedStates}
 use Rattle.rollover_watch.specs.Watches.{Held}
 use Rattle.script_text.specs.declared.item.Item.{Item}
@@ -12,9 +13,11 @@ use Rattle.printed_lines.specs.Lines.{lines_text}
 use Rattle.script_text.specs.declared.fleet.Fleet.{Fleet}
 use Rattle.run_ends.specs.declared.status.Status.{Status}
 use Rattle.transcript.specs.Pieces.{PlayedItem, all_lines, all_pieces, item_lines, item_of, plays_in, plays_of}
-use Rattle.transcript.specs.Transcript.{Known}
+use Rattle.transcript.specs.Transcript.{Known, grounds_of}
+use Rattle.standing_feed.specs.declared.follower.Follower.{Follower}
+use Rattle.transcript_standing.specs.Followed.{DoesItself, FollowedSome}
 use Rattle.transcript.specs.Leaving.{AreKnown}
-use Rattle.leaf_moves.specs.Holds.{Hold}
+use Rattle.leaf_moves.specs.Holds.{GoOn, Hold, grounds_in}
 use Rattle.leaf_moves.specs.Lanes.{PlaysItem}
 use Rattle.transcript.specs.Watching.{HearsAll}
 use Rattle.bursts.specs.Shortened.{BeginsItem}
@@ -41,6 +44,8 @@ pub record RunShort {B : Type 0} (base : ℕ → Option NamedStates) (meaning : 
   pub keeps : HoldsKeep meaning olds xs
   pub untouched : played ≡ [] → berths_in xs ≡ olds
   pub session : (known : ℕ → Option Known) → AreKnown meaning olds olds base known → Session meaning fleet known olds played xs
+  pub followed : (known : ℕ → Option Known) → AreKnown meaning olds olds base known → (histories : ℕ → ℕ → List Entry) → GoOn xs histories
+      → FollowedSome fleet (grounds_of fleet known) histories played []
 
 -- ---- at the end
 
@@ -81,12 +86,13 @@ IfShort _ P = Unit {0}
 -- ---- one item
 
 -- An item that was not played, or of whose text not all was written.
-pub data StopsAt {B : Type 0} (meaning : B → Meaning) (fleet : Fleet) (xs ys : List (Hold B)) (was written : Option (List ℕ)) (watching watched : List Held) (item : Item) : Type 0 where
-  unplayed : ys ≡ xs → written ≡ was → watched ≡ watching → StopsAt meaning fleet xs ys was written watching watched item
+pub data StopsAt {B : Type 0} (meaning : B → Meaning) (fleet : Fleet) (olds : List Follower) (xs ys : List (Hold B)) (was written : Option (List ℕ)) (watching watched : List Held) (item : Item) : Type 0 where
+  unplayed : ys ≡ xs → written ≡ was → watched ≡ watching → StopsAt meaning fleet olds xs ys was written watching watched item
   short : (played : PlayedItem)
       → BeginsItem (item_of played) item
       → PlaysItem meaning fleet xs played ys
       → AllCounted meaning (all_pieces (played ∷ [])) xs ys
       → HearsAll fleet (plays_of played) watching watched
       → WritesFront was written (lines_text fleet.names (item_lines played))
-      → StopsAt meaning fleet xs ys was written watching watched item
+      → ((histories : ℕ → ℕ → List Entry) → GoOn ys histories → (between : List Follower) × DoesItself fleet (grounds_in ys) histories played olds between)
+      → StopsAt meaning fleet olds xs ys was written watching watched item

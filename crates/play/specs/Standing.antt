@@ -1,10 +1,12 @@
 -- Items that the run itself plays: standing queries are declared and told.
-use Rattle.std.specs.Prelude.{◌≡◌, ◌⊎◌, ℕ, ◌<◌, Bool, true, false, List, [], ◌∷◌, length, Result, Vec, IfOk, IsErr, ⊤}
+use Rattle.std.specs.Prelude.{◌≡◌, ◌⊎◌, ℕ, Bool, true, false, List, [], ◌∷◌, map, Option, Result, Ok, Err, Vec, IfOk, IfSome, IsErr, OnOk, ⊤}
 use Rattle.std.specs.Global.{Global}
 use Rattle.std.specs.List.{AllByRecursion}
 use Rattle.berth_face.specs.Berth.{Meaning}
+use Rattle.leaf_history.specs.History.{Entry}
 use Rattle.leaf_table.specs.declared.replies.Reply.{Reply}
 use Rattle.leaf_table.specs.declared.replies.Reply.TheVariants as reply
+use Rattle.rollover_watch.specs.Watches.{Held}
 use Rattle.script_text.specs.declared.command.Command.{Command}
 use Rattle.script_text.specs.declared.command.Command.TheVariants as command
 use Rattle.script_text.specs.declared.item.Item.{Item}
@@ -13,16 +15,20 @@ use Rattle.script_text.specs.declared.fleet.Fleet.{Fleet}
 use Rattle.script_text.specs.Commands.{leaf_count}
 use Rattle.script_text.specs.Fits.{IsAlone}
 use Rattle.printed_lines.specs.declared.line.Line.{Line}
+use Rattle.printed_lines.specs.declared.line.Line.TheVariants as line
 use Rattle.printed_lines.specs.Lines.{IsOf}
 use Rattle.printed_lines.specs.declared.line.WhyUntold.{WhyUntold}
 use Rattle.printed_lines.specs.declared.line.WhyUntold.TheVariants as untold
 use Rattle.standing_feed.specs.declared.follower.Follower.{Follower}
-use Rattle.transcript.specs.Pieces.{Piece, lines_in}
-use Rattle.transcript.specs.Shapes.{IsToldBy}
-use Rattle.leaf_moves.specs.Holds.{Hold}
+use Rattle.standing_feed.specs.Following.{FollowAll, noted, settled}
+use Rattle.transcript.specs.Pieces.{One, Piece, lines_in}
+use Rattle.transcript.specs.Histories.{Ground}
+use Rattle.transcript_standing.specs.Followed.{DoesItself, TellsItself, TellsState}
+use Rattle.leaf_moves.specs.Holds.{GoOn, Hold, grounds_in}
 use Rattle.leaf_moves.specs.Plays.{MayPlay, Plays}
 use Rattle.player.specs.Crew.{AllCounted}
 use Rattle.bursts.specs.Items.{MayPlayItem}
+use Rattle.bursts.specs.Went.{ItemWent}
 
 -- the run itself plays it
 abbrev pub is_of_run : Command → Bool
@@ -41,30 +47,63 @@ abbrev pub MayRun : Fleet → Item → Type 0
 MayRun fleet (item.One c) = MayRunAlone fleet c
 MayRun fleet (item.Burst lanes) = MayPlayItem fleet (item.Burst lanes)
 
--- a standing query of a table of the fleet
-abbrev pub IsFollower : Fleet → Follower → Type 0
-IsFollower fleet f = (f.leaf < leaf_count fleet) × (f.table < length fleet.names)
-
-abbrev pub AreFollowers : Fleet → List Follower → Type 0
-AreFollowers fleet followers = AllByRecursion (IsFollower fleet) followers
-
 -- why a standing query that asked its table so tells nothing
 abbrev pub why_untold : Reply → WhyUntold
 why_untold (reply.Shut number) = untold.Shut
 why_untold reply.Worn = untold.Worn
 why_untold _ = untold.Memory
 
--- What the run did by itself, of which no watch hears, with its pieces, also where there was no memory for their lines; or for want of memory nothing.
-pub record PlaysItself {B E : Type 0} (meaning : B → Meaning) (fleet : Fleet) (c : Command) (xs : List (Hold B)) (result : Result (Vec Line Global) E) (ys : List (Hold B)) : Type 0 where
+-- a stale state behind that reply to its spread: made fresh by groups, and otherwise as it was
+abbrev pub SettlesBy : Reply → Follower → Result (Unit {0}) WhyUntold → Follower → Type 0
+SettlesBy (reply.Groups number gs) old result new = (result ≡ Ok tt) × (new ≡ settled number gs old)
+SettlesBy told old result new = (result ≡ Err (why_untold told)) × (new ≡ old)
+
+-- and what it then tells, where there is memory for that
+abbrev pub TellsBy : {E : Type 0} → ℕ → Follower → Reply → Result Line E → Follower → Type 0
+TellsBy standing old (reply.Groups number gs) result new = (new ≡ settled number gs old) × IfOk result (TellsState standing new)
+TellsBy standing old told result new = (new ≡ old) × (result ≡ Ok (line.Untold standing (why_untold told)))
+
+-- ---- what the run did by itself
+
+-- Of which no watch hears, with its pieces, also where there was no memory for their lines. D is what the standing queries did by these, however histories go on.
+pub record PlaysItself {B E : Type 0} (meaning : B → Meaning) (fleet : Fleet) (c : Command) (D : (ℕ → ℕ → Ground) → (ℕ → ℕ → List Entry) → List Piece → Type 0) (xs : List (Hold B))
+    (result : Result (Vec Line Global) E) (ys : List (Hold B)) : Type 0 where
   pub pieces : List Piece
   pub plays : Plays meaning fleet c xs pieces ys
   pub counted : AllCounted meaning pieces xs ys
   pub fit : AllByRecursion (IsOf fleet.names) (lines_in pieces)
   pub lines_are : IfOk result (λ lines. lines.items ≡ lines_in pieces)
+  pub did : (histories : ℕ → ℕ → List Entry) → GoOn ys histories → D (grounds_in ys) histories pieces
 
-abbrev pub PlaysOwn : {B E : Type 0} → (B → Meaning) → Fleet → Command → List (Hold B) → Result (Vec Line Global) E → List (Hold B) → Type 0
-PlaysOwn meaning fleet c xs result ys = PlaysItself meaning fleet c xs result ys ⊎ (IsErr result × (ys ≡ xs))
+-- or for want of memory nothing
+abbrev pub PlaysOwn : {B E : Type 0} → (B → Meaning) → Fleet → Command → ((ℕ → ℕ → Ground) → (ℕ → ℕ → List Entry) → List Piece → Type 0) → List (Hold B) → Result (Vec Line Global) E → List (Hold B) → Type 0
+PlaysOwn meaning fleet c D xs result ys = PlaysItself meaning fleet c D xs result ys ⊎ (IsErr result × (ys ≡ xs))
+
+-- the standing query of that number told, and is this one where there are lines
+abbrev pub TellsSo : {E : Type 0} → Fleet → ℕ → Follower → Result (Vec Line Global) E → Follower → (ℕ → ℕ → Ground) → (ℕ → ℕ → List Entry) → List Piece → Type 0
+TellsSo fleet standing old result new grounds histories pieces = (between : Follower) × TellsItself fleet grounds histories standing old pieces between × OnOk result (between ≡ new)
+
+-- the same of all of them at a command
+abbrev pub DoesSo : {E : Type 0} → Fleet → Command → List Follower → Result (Vec Line Global) E → List Follower → (ℕ → ℕ → Ground) → (ℕ → ℕ → List Entry) → List Piece → Type 0
+DoesSo fleet c olds result news grounds histories pieces =
+    (between : List Follower) × DoesItself fleet grounds histories (One (record { command = c; pieces = pieces })) olds between × OnOk result (between ≡ news)
 
 -- the one line of what a standing query tells
-abbrev pub TellsLine : ℕ → List Line → Type 0
-TellsLine standing lines = (told : Line) × IsToldBy standing told × (lines ≡ told ∷ [])
+abbrev pub TellsLine : ℕ → Follower → List Line → Type 0
+TellsLine standing f lines = (told : Line) × TellsState standing f told × (lines ≡ told ∷ [])
+
+-- ---- what an item did
+
+-- To the leaves, and to the standing queries; T is what comes of those by its lines, where there are any.
+pub record ItemDid {B : Type 0} (meaning : B → Meaning) (fleet : Fleet) (item : Item) (T : List Follower → List Line → Type 0) (olds : List Follower) (xs : List (Hold B)) (before : List Held)
+    (lines : Option (List Line)) (ys : List (Hold B)) (after : List Held) : Type 0 where
+  pub went : ItemWent meaning fleet item xs before lines ys after
+  pub did : (histories : ℕ → ℕ → List Entry) → GoOn ys histories
+      → (between : List Follower) × DoesItself fleet (grounds_in ys) histories went.played olds between × IfSome lines (T between)
+
+-- they did what is theirs and no more, or they followed the item's lines
+abbrev pub IsBefore : List Follower → List Follower → List Line → Type 0
+IsBefore news between lines = between ≡ news
+
+abbrev pub FollowsLines : Item → List Follower → List Follower → List Follower → List Line → Type 0
+FollowsLines item olds news between lines = FollowAll (map (noted item) olds) lines between news

@@ -1,5 +1,5 @@
 // A script's play over the berths.
-ghost use Rattle.std.specs.Prelude.{◌≡◌, ◌+◌, ◌≤◌, [], length, map, OnOk, OnErr, IfOk, IfSome, None, IsErrOf, IsOk};
+ghost use Rattle.std.specs.Prelude.{◌≡◌, ◌+◌, ◌≤◌, List, [], length, map, OnOk, OnErr, IfOk, IfSome, None, IsErrOf, IsOk};
 ghost use Rattle.std.specs.List.{AllByRecursion};
 ghost use Rattle.std.specs.Io.KnownBytes.{Appends};
 ghost use Rattle.berth_face.specs.Causes.{Rose};
@@ -7,7 +7,9 @@ ghost use Rattle.script_text.specs.Fits.{AreItems, TellAbove, TellsDeclared, dec
 ghost use Rattle.printed_lines.specs.Lines.{lines_text, IsOf};
 ghost use Rattle.transcript.specs.Leaving.{IsWritten};
 ghost use Rattle.player.specs.Crew.{AllPass, HasAll};
-ghost use Rattle.play.specs.Standing.{AreFollowers, MayRun};
+ghost use Rattle.standing_feed.specs.declared.follower.Follower.{Follower};
+ghost use Rattle.transcript_standing.specs.Followed.{AreFollowers};
+ghost use Rattle.play.specs.Standing.{MayRun};
 ghost use Rattle.play.specs.Played.{AreBases, LeavesBerths, leaves_in};
 ghost use Rattle.berth_face.specs.Streams.{WritesFront};
 ghost use Rattle.bursts.specs.Went.{told_lines};
@@ -204,9 +206,9 @@ fn play_all<'t, N: Bases, R: Wait + Threads + Sync, K: Sink, B: Berth, G: Gate>(
     requires few { declared_in items.items ≤ 16 }
     requires all { HasAll crew.old.fleet crew.old.holds }
     requires begun { RunSoFar N.base B.meaning crew.old.fleet (berths_in crew.old.holds) (K.written sink.old) (K.written sink.old)
-        (map (λ watch. held watch) watches.old.items) (map (λ watch. held watch) watches.old.items) [] crew.old.holds }
-    ensures done { result ≡ Status.Done → RunSoFar N.base B.meaning crew.old.fleet (berths_in crew.old.holds) (K.written sink.old) (K.written sink.new)
-        (map (λ watch. held watch) watches.old.items) (map (λ watch. held watch) watches.new.items) items.items crew.new.holds }
+        (map (λ watch. held watch) watches.old.items) (map (λ watch. held watch) watches.old.items) [] [] crew.old.holds }
+    ensures done { result ≡ Status.Done → (followers : List Follower) × RunSoFar N.base B.meaning crew.old.fleet (berths_in crew.old.holds) (K.written sink.old) (K.written sink.new)
+        (map (λ watch. held watch) watches.old.items) (map (λ watch. held watch) watches.new.items) items.items followers crew.new.holds }
     ensures short { IfShort result (RunShort N.base B.meaning crew.old.fleet (berths_in crew.old.holds) (K.written sink.old) (K.written sink.new)
         (map (λ watch. held watch) watches.old.items) (map (λ watch. held watch) watches.new.items) items.items crew.new.holds) }
     ensures ends { IsEnd result }
@@ -264,9 +266,9 @@ fn play_next<'t, R: Wait + Threads + Sync, K: Sink, B: Berth, G: Gate>(
     requires followers { AreFollowers crew.old.fleet followers.old.list.items }
     requires few { length followers.old.list.items + declared_by item ≤ 16 }
     requires all { HasAll crew.old.fleet crew.old.holds }
-    ensures played { OnOk result (Advances B.meaning crew.old.fleet crew.old.holds crew.new.holds (K.written sink.old) (K.written sink.new)
+    ensures played { OnOk result (Advances B.meaning crew.old.fleet followers.old.list.items followers.new.list.items crew.old.holds crew.new.holds (K.written sink.old) (K.written sink.new)
         (map (λ watch. held watch) watches.old.items) (map (λ watch. held watch) watches.new.items) item) }
-    ensures stops { OnErr result (StopsAt B.meaning crew.old.fleet crew.old.holds crew.new.holds (K.written sink.old) (K.written sink.new)
+    ensures stops { OnErr result (StopsAt B.meaning crew.old.fleet followers.old.list.items crew.old.holds crew.new.holds (K.written sink.old) (K.written sink.new)
         (map (λ watch. held watch) watches.old.items) (map (λ watch. held watch) watches.new.items) item) }
     ensures fleet { crew.new.fleet ≡ crew.old.fleet }
     ensures followers { AreFollowers crew.old.fleet followers.new.list.items }

@@ -1,5 +1,5 @@
 // Items that the run itself plays: standing queries are declared, and tell what they know.
-ghost use Rattle.std.specs.Prelude.{◌≡◌, ◌+◌, ◌<◌, ◌≤◌, ◌∷◌, [], IfErr, IfOk, OnErr, OnOk, length, map, true, false};
+ghost use Rattle.std.specs.Prelude.{◌≡◌, ◌+◌, ◌<◌, ◌≤◌, ◌++◌, ◌∷◌, [], IfErr, IfOk, OnErr, OnOk, length, map, true, false};
 ghost use Rattle.std.specs.List.{AllByRecursion};
 ghost use Rattle.printed_lines.specs.Lines.{IsOf};
 ghost use Rattle.printed_lines.specs.declared.line.Line.TheVariants.{Declared};
@@ -7,12 +7,13 @@ ghost use Rattle.script_text.specs.declared.command.Command.TheVariants.{Standin
 ghost use Rattle.script_text.specs.declared.item.Item.TheVariants.{One};
 ghost use Rattle.script_text.specs.Fits.{TellsDeclared, declared_by};
 ghost use Rattle.standing_query.specs.Spread.{spread};
-ghost use Rattle.standing_feed.specs.Following.{place_of};
-ghost use Rattle.transcript.specs.Shapes.{IsToldBy};
+ghost use Rattle.standing_feed.specs.Following.{new_follower, place_of};
+ghost use Rattle.transcript.specs.Pieces.{place_among};
+ghost use Rattle.transcript_standing.specs.Followed.{AreFollowers, IsFollower, TellsState};
 ghost use Rattle.player.specs.Asked.{AreGroups, IfGroups};
 ghost use Rattle.player.specs.Crew.{AllPass, HasAll};
-ghost use Rattle.bursts.specs.Went.{ItemWent, OrNothing, told_lines};
-ghost use Rattle.play.specs.Standing.{AreFollowers, IsFollower, MayRun, MayRunAlone, PlaysOwn, TellsLine, is_of_run, why_untold};
+ghost use Rattle.bursts.specs.Went.{OrNothing, told_lines};
+ghost use Rattle.play.specs.Standing.{DoesSo, FollowsLines, IsBefore, ItemDid, MayRun, MayRunAlone, PlaysOwn, SettlesBy, TellsBy, TellsLine, TellsSo, is_of_run};
 
 use berth_face::{Berth, Gate};
 use bursts::play_item;
@@ -43,7 +44,7 @@ pub fn play_followed<'t, R: Wait + Threads + Sync, B: Berth, G: Gate>(
     requires followers { AreFollowers crew.old.fleet followers.old.list.items }
     requires few { length followers.old.list.items + declared_by item ≤ 16 }
     requires all { HasAll crew.old.fleet crew.old.holds }
-    ensures went { OrNothing (ItemWent B.meaning crew.old.fleet item crew.old.holds (map (λ watch. held watch) watches.old.items) (told_lines result) crew.new.holds (map (λ watch. held watch) watches.new.items)) crew.old.holds (map (λ watch. held watch) watches.old.items) (told_lines result) crew.new.holds (map (λ watch. held watch) watches.new.items) }
+    ensures did { OrNothing (ItemDid B.meaning crew.old.fleet item (FollowsLines item followers.old.list.items followers.new.list.items) followers.old.list.items crew.old.holds (map (λ watch. held watch) watches.old.items) (told_lines result) crew.new.holds (map (λ watch. held watch) watches.new.items)) crew.old.holds (map (λ watch. held watch) watches.old.items) (told_lines result) crew.new.holds (map (λ watch. held watch) watches.new.items) }
     ensures fleet { (crew.new.fleet ≡ crew.old.fleet) × (crew.new.tables ≡ crew.old.tables) }
     ensures all { HasAll crew.new.fleet crew.new.holds }
     ensures time { AllPass B.meaning crew.old.holds crew.new.holds }
@@ -72,7 +73,7 @@ fn play_any<'t, R: Wait + Threads + Sync, B: Berth, G: Gate>(
     requires followers { AreFollowers crew.old.fleet followers.old.list.items }
     requires few { length followers.old.list.items + declared_by item ≤ 16 }
     requires all { HasAll crew.old.fleet crew.old.holds }
-    ensures went { OrNothing (ItemWent B.meaning crew.old.fleet item crew.old.holds (map (λ watch. held watch) watches.old.items) (told_lines result) crew.new.holds (map (λ watch. held watch) watches.new.items)) crew.old.holds (map (λ watch. held watch) watches.old.items) (told_lines result) crew.new.holds (map (λ watch. held watch) watches.new.items) }
+    ensures did { OrNothing (ItemDid B.meaning crew.old.fleet item (IsBefore followers.new.list.items) followers.old.list.items crew.old.holds (map (λ watch. held watch) watches.old.items) (told_lines result) crew.new.holds (map (λ watch. held watch) watches.new.items)) crew.old.holds (map (λ watch. held watch) watches.old.items) (told_lines result) crew.new.holds (map (λ watch. held watch) watches.new.items) }
     ensures fleet { (crew.new.fleet ≡ crew.old.fleet) × (crew.new.tables ≡ crew.old.tables) }
     ensures all { HasAll crew.new.fleet crew.new.holds }
     ensures time { AllPass B.meaning crew.old.holds crew.new.holds }
@@ -115,7 +116,7 @@ fn play_own<'t, R: Wait + Threads + Sync, B: Berth, G: Gate>(
     requires followers { AreFollowers crew.old.fleet followers.old.list.items }
     requires few { length followers.old.list.items + declared_by (One command) ≤ 16 }
     requires all { HasAll crew.old.fleet crew.old.holds }
-    ensures plays { PlaysOwn B.meaning crew.old.fleet command crew.old.holds result crew.new.holds }
+    ensures plays { PlaysOwn B.meaning crew.old.fleet command (DoesSo crew.old.fleet command followers.old.list.items result followers.new.list.items) crew.old.holds result crew.new.holds }
     ensures fleet { (crew.new.fleet ≡ crew.old.fleet) × (crew.new.tables ≡ crew.old.tables) }
     ensures all { HasAll crew.new.fleet crew.new.holds }
     ensures time { AllPass B.meaning crew.old.holds crew.new.holds }
@@ -152,6 +153,7 @@ fn declare<'t, B: Berth>(
     requires followers { AreFollowers crew.now.fleet followers.old.list.items }
     requires few { length followers.old.list.items + 1 ≤ 16 }
     ensures lines { IfOk result (λ lines. lines.items ≡ Declared (length followers.old.list.items) ∷ []) }
+    ensures declared { OnOk result (followers.new.list.items ≡ followers.old.list.items ++ new_follower leaf (place_among query.table crew.now.fleet.names) query ∷ []) }
     ensures followers { AreFollowers crew.now.fleet followers.new.list.items }
     ensures count { OnOk result (length followers.new.list.items ≡ length followers.old.list.items + 1) }
     ensures refused { OnErr result (length followers.new.list.items ≡ length followers.old.list.items) }
@@ -176,7 +178,7 @@ fn tell<'t, R: Wait + Threads + Sync, B: Berth, G: Gate>(
     requires there { standing < length followers.old.list.items }
     requires followers { AreFollowers crew.old.fleet followers.old.list.items }
     requires all { HasAll crew.old.fleet crew.old.holds }
-    ensures plays { PlaysOwn B.meaning crew.old.fleet (Tell standing) crew.old.holds result crew.new.holds }
+    ensures plays { PlaysOwn B.meaning crew.old.fleet (Tell standing) (DoesSo crew.old.fleet (Tell standing) followers.old.list.items result followers.new.list.items) crew.old.holds result crew.new.holds }
     ensures fleet { (crew.new.fleet ≡ crew.old.fleet) × (crew.new.tables ≡ crew.old.tables) }
     ensures all { HasAll crew.new.fleet crew.new.holds }
     ensures time { AllPass B.meaning crew.old.holds crew.new.holds }
@@ -194,7 +196,7 @@ fn tell<'t, R: Wait + Threads + Sync, B: Berth, G: Gate>(
 // What a fresh state tells.
 fn tell_fresh(alloc: Global, follower: &Follower, standing: u32) -> Result<Vec<Line>, AllocError>
     requires fresh { follower.now.standing.stale ≡ false }
-    ensures { IfOk result (λ lines. TellsLine standing lines.items) }
+    ensures { IfOk result (λ lines. TellsLine standing follower.now lines.items) }
 {
     let mut lines = Vec::with_capacity(alloc, 1)?;
     lines.push_reserved(told_line(alloc, follower, standing)?);
@@ -203,7 +205,7 @@ fn tell_fresh(alloc: Global, follower: &Follower, standing: u32) -> Result<Vec<L
 
 fn told_line(alloc: Global, follower: &Follower, standing: u32) -> Result<Line, AllocError>
     requires fresh { follower.now.standing.stale ≡ false }
-    ensures { IfOk result (IsToldBy standing) }
+    ensures { IfOk result (TellsState standing follower.now) }
 {
     let rows = follower.tell(alloc)?;
     Ok(Line::Told {
@@ -225,7 +227,7 @@ fn tell_stale<'t, R: Wait + Threads + Sync, B: Berth, G: Gate>(
     requires stale { follower.old.standing.stale ≡ true }
     requires is { IsFollower crew.old.fleet follower.old }
     requires all { HasAll crew.old.fleet crew.old.holds }
-    ensures plays { PlaysOwn B.meaning crew.old.fleet (Tell standing) crew.old.holds result crew.new.holds }
+    ensures plays { PlaysOwn B.meaning crew.old.fleet (Tell standing) (TellsSo crew.old.fleet standing follower.old result follower.new) crew.old.holds result crew.new.holds }
     ensures fleet { (crew.new.fleet ≡ crew.old.fleet) × (crew.new.tables ≡ crew.old.tables) }
     ensures all { HasAll crew.new.fleet crew.new.holds }
     ensures time { AllPass B.meaning crew.old.holds crew.new.holds }
@@ -252,7 +254,7 @@ fn told_behind(
     requires stale { follower.old.standing.stale ≡ true }
     requires groups { IfGroups reply (AreGroups (spread follower.old.standing.query)) }
     ensures place { place_of follower.new ≡ place_of follower.old }
-    ensures told { IfOk result (IsToldBy standing) }
+    ensures told { TellsBy standing follower.old reply result follower.new }
 {
     match settle(follower, reply) {
         Ok(()) => told_line(alloc, follower, standing),
@@ -265,8 +267,7 @@ fn settle(follower: &mut Follower, reply: Reply) -> Result<(), WhyUntold>
     requires stale { follower.old.standing.stale ≡ true }
     requires groups { IfGroups reply (AreGroups (spread follower.old.standing.query)) }
     ensures place { place_of follower.new ≡ place_of follower.old }
-    ensures fresh { OnOk result (follower.new.standing.stale ≡ false) }
-    ensures why { IfErr result (λ why. (why ≡ why_untold reply) × (follower.new ≡ follower.old)) }
+    ensures settles { SettlesBy reply follower.old result follower.new }
 {
     match reply {
         Reply::Groups { number, groups } => {

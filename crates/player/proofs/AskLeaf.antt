@@ -1,5 +1,5 @@
 -- What an ask of one leaf comes to.
-use Rattle.std.proofs.Common.{◌≡◌, ℕ, ◌+◌, ◌-◌, ◌<◌, List, [], ◌∷◌, ◌++◌, length, take, Option, Some, Vec, Global, Err, sym, ap, ap₂, subst, ◌∙◌, append_assoc, le_refl, arith}
+use Rattle.std.proofs.Common.{◌≡◌, ℕ, ◌+◌, ◌-◌, ◌<◌, List, [], ◌∷◌, ◌++◌, length, take, Option, Some, Vec, Global, Err, refl, sym, ap, ap₂, subst, ◌∙◌, append_assoc, le_refl, arith}
 use Rattle.std.specs.Prelude.{slice_get}
 use Rattle.std.proofs.lemmas.List.{length-append, length-map, take-append-le, take_all}
 use Rattle.leaf_model.specs.declared.queries.Query.{Query}
@@ -180,6 +180,7 @@ module _ {B : Type 0} (x : Members B) (number table : ℕ) (q : Query) (answer :
     piece = asked.calls.piece;
     prints = call_prints number table (call.Ask q) asked.calls.step.reply asked.calls.piece asked.calls.step.says;
     line_is = asked.line_is;
+    tells = refl;
     fits = asked.fits;
     goes = goes_asked.goes;
     counted = goes_asked.counted;

@@ -18,6 +18,7 @@ use Rattle.transcript.specs.Histories.{Ground, rows_before}
 use Rattle.leaf_moves.specs.Holds.{GoOn, Hold, grounds_in}
 use Rattle.leaf_moves.specs.Plays.{Goes}
 use Rattle.player.specs.Crew.{AllCounted}
+use Rattle.player.specs.Lines.{reply_line}
 
 -- of groups that were told at an entry
 abbrev pub IfGroups : Reply → (ℕ → List Group → Type 0) → Type 0
@@ -41,6 +42,7 @@ pub record AsksLeaf {B : Type 0} (meaning : B → Meaning) (names : List (List �
   pub piece : Piece
   pub prints : CallPiece leaf table (call.Ask q) piece
   pub line_is : lines_in (piece ∷ []) ≡ line ∷ []
+  pub tells : line ≡ reply_line leaf table answer
   pub fits : IsOf names line
   pub goes : Goes meaning xs (piece ∷ []) ys
   pub counted : AllCounted meaning (piece ∷ []) xs ys

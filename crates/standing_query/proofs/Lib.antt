@@ -3,7 +3,7 @@ mod Stood
 mod Alike
 mod Names
 mod Showing
-mod Enough
+pub mod Enough
 mod Ascending
 mod Cut
 mod Ends

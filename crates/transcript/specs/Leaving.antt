@@ -20,7 +20,8 @@ use Rattle.transcript.specs.Pieces.{all_lines, all_pieces, script_fleet, plays_i
 use Rattle.transcript.specs.Life.{Life}
 use Rattle.transcript.specs.Counts.{CountsRose}
 use Rattle.transcript.specs.Strangers.{Strangers}
-use Rattle.transcript.specs.Transcript.{Known, Transcript}
+use Rattle.transcript.specs.Transcript.{Known, Transcript, grounds_of}
+use Rattle.transcript.specs.Telling.{AreTold}
 use Rattle.transcript.specs.Watching.{HearsAll}
 use Rattle.transcript.specs.Moments.{MomentsRise, notes_told}
 
@@ -50,11 +51,12 @@ module _ {B : Type 0} (meaning : B → Meaning) (olds news : List B) where
   abbrev pub AreKnown : (ℕ → Option NamedStates) → (ℕ → Option Known) → Type 0
   AreKnown base known = (leaf : ℕ) (old : B) → slice_get olds leaf ≡ Some old → IsKnown (base leaf) (meaning old) (known leaf)
 
-  -- These lines are a transcript of the items, faults and strangers have their cause, the watches heard what the lines tell, the berths are left so, and the clocks of a leaf's entries do
-  -- not fall; berths that no leaf uses are untouched.
+  -- These lines are a transcript of the items, standing queries tell what they should, faults and strangers have their cause, the watches heard what the lines tell, the berths are left
+  -- so, and the clocks of a leaf's entries do not fall; berths that no leaf uses are untouched.
   pub record IsToldRun (items : List Item) (known : ℕ → Option Known) (lines : List Line) (before after : List Held) : Type 0 where
     pub transcript : Transcript (script_fleet items) known items (lines_text (script_fleet items).names lines)
     pub lines_are : all_lines transcript.played ≡ lines
+    pub standing : AreTold (script_fleet items) (grounds_of (script_fleet items) known) transcript.histories transcript.played
     pub watched : HearsAll (script_fleet items) (plays_in transcript.played) before after
     pub counts : (leaf : ℕ) → leaf < (leaf_count (script_fleet items)) → AtBerth leaf (CountsRose leaf (all_pieces transcript.played))
     pub strangers : (leaf : ℕ) (k : Known) → leaf < (leaf_count (script_fleet items)) → known leaf ≡ Some k →

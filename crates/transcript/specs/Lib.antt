@@ -5,6 +5,7 @@ pub mod Life
 pub mod Histories
 pub mod Tails
 pub mod Answers
+pub mod Telling
 pub mod Counts
 pub mod Strangers
 pub mod Transcript

@@ -1,5 +1,5 @@
 -- Which pieces a command prints, whatever the tables hold.
-use Rattle.std.specs.Prelude.{◌≡◌, ◌⊎◌, ℕ, suc, Bool, List, [], ◌∷◌, ◌++◌, length, map, nat_lt, Option, None, IfSome, option_to_list, ⊤}
+use Rattle.std.specs.Prelude.{◌≡◌, ◌⊎◌, ℕ, suc, Bool, List, [], ◌∷◌, ◌++◌, length, map, nat_lt, None, ⊤}
 use Rattle.std.specs.List.{flat_map, AllZip, range_with_len}
 use Rattle.leaf_model.specs.declared.queries.Query.{Query}
 use Rattle.leaf_history.specs.Calls.{Call}
@@ -9,7 +9,6 @@ use Rattle.script_text.specs.declared.command.Command.TheVariants as command
 use Rattle.printed_lines.specs.declared.line.Said.{Said}
 use Rattle.printed_lines.specs.declared.line.Said.TheVariants.{Asked}
 use Rattle.printed_lines.specs.declared.line.Ending.{Ending}
-use Rattle.printed_lines.specs.declared.line.Line.{Line}
 use Rattle.printed_lines.specs.declared.line.Line.TheVariants as line
 use Rattle.rollover_plan.specs.Plan.{IsPlan}
 use Rattle.script_text.specs.declared.fleet.Fleet.{Fleet}
@@ -81,24 +80,7 @@ pub record Rolls (fleet : Fleet) (percent : ℕ) (pieces : List Piece) : Type 0 
   pub is_plan : IsPlan fleet.machines fleet.per_machine percent plan
   pub roll : RollPieces plan pieces
 
--- the line of what this standing query tells, or that it tells nothing
-abbrev pub IsToldBy : ℕ → Line → Type 0
-IsToldBy standing (line.Told s number rows) = s ≡ standing
-IsToldBy standing (line.Untold s why) = s ≡ standing
-IsToldBy standing _ = ⊥
-
--- at most one ask of a leaf's table, and what the standing query tells
-pub record TellPieces (standing : ℕ) (pieces : List Piece) : Type 0 where
-  pub leaf : ℕ
-  pub table : ℕ
-  pub query : Query
-  pub asked : Option Piece
-  pub told : Line
-  pub ask : IfSome asked (CallPiece leaf table (call.Ask query))
-  pub is_told : IsToldBy standing told
-  pub are : pieces ≡ option_to_list asked ++ Says told ∷ []
-
--- One case a command. A new command adds a case. What a tail prints depends on what the tables hold, and is said among the answers.
+-- One case a command. A new command adds a case. What a tail prints depends on what the tables hold, and is said among the answers; what standing queries print depends on what was printed before.
 abbrev pub Prints : Fleet → Command → List Piece → Type 0
 Prints fleet (command.Fleet machines per_machine tables) pieces = EachActs Start (range_with_len 0 (leaf_count fleet)) pieces
 Prints fleet (command.Add leaf table rows) pieces = OnePiece (CallPiece leaf table (call.Add rows)) pieces
@@ -111,5 +93,5 @@ Prints fleet (command.Drain leaf stop) pieces = OnePiece (ActPiece leaf (Drain s
 Prints fleet (command.Kill leaf) pieces = OnePiece (ActPiece leaf Kill) pieces
 Prints fleet (command.Start leaf) pieces = OnePiece (ActPiece leaf Start) pieces
 Prints fleet (command.Rollover percent) pieces = Rolls fleet percent pieces
-Prints fleet (command.Standing leaf q) pieces = (standing : ℕ) × (pieces ≡ Says (line.Declared standing) ∷ [])
-Prints fleet (command.Tell standing) pieces = TellPieces standing pieces
+Prints fleet (command.Standing leaf q) pieces = ⊤
+Prints fleet (command.Tell standing) pieces = ⊤

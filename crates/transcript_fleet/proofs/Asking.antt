@@ -91,7 +91,7 @@ partial_same f g histories (l ∷ ls) same =
 module _ {B : Type 0} (meaning : B → Meaning) (fleet : Fleet) (known : ℕ → Option Known) (olds : List B) (before : List Piece) (start : ℕ → ℕ → List Entry)
     (items : List PlayedItem) (pieces : List Piece) (ys : List (Hold B)) (now : Leaves meaning fleet known olds before start items ys) where
   -- the leaves' tables began from what is known of them
-  ground_is : (leaf table : ℕ) → leaf < leaf_count fleet → table < length fleet.names → grounds_in ys leaf table ≡ grounds_of fleet known leaf table
+  pub ground_is : (leaf table : ℕ) → leaf < leaf_count fleet → table < length fleet.names → grounds_in ys leaf table ≡ grounds_of fleet known leaf table
   ground_is leaf table below within =
       let old = element_at olds leaf (subst (λ (n : ℕ). leaf < n) (sym now.counts.0) below) in
       let y = element_at ys leaf (subst (λ (n : ℕ). leaf < n) (sym now.counts.1) below) in

@@ -164,6 +164,7 @@ module _ {B : Type 0} (meaning : B → Meaning) (olds : List B) (fleet : Fleet) 
       worn = s.stretch.worn histories go_on;
     };
     played_is = refl;
+    go_on = go_on;
     strangers = λ leaf k below is.
         let end = ended_so leaf below in
         leaf_strangers meaning leaf fleet.names (known leaf) (meaning end.old) items (finals leaf).hold k is end.now end.whole;

@@ -13,15 +13,16 @@ use Rattle.leaf_moves.specs.Plays.{Plays}
 use Rattle.leaf_moves.specs.Lanes.{Fans, PlaysItem, PlaysOn}
 use Rattle.transcript_leaf.specs.Session.{AreMet, AreSame, IsWhole, LeafSession}
 use Rattle.transcript_fleet.specs.Session.{Session, Stretch, nothing_yet}
-use Rattle.transcript_fleet.specs.Laws.{SessionsBegin, SessionsGoOn, berth_in}
+use Rattle.transcript_fleet.specs.Laws.{SessionsBegin, SessionsGoOn, SessionsKnow, berth_in}
 use Rattle.transcript_leaf.proofs.Leaf.{leaf_begins, leaf_in_turn, leaf_joined, leaf_lends, leaf_meets, meet_grows}
 use Rattle.transcript_leaf.proofs.Lists.{get_map, length_mapped, same_some}
 use Rattle.transcript_leaf.proofs.Terms.{Grows}
 use Rattle.transcript_fleet.proofs.Whole.{still_whole}
 use Rattle.transcript_fleet.proofs.Items.{also_at, plays-append, plays_in_turn}
-use Rattle.transcript_fleet.proofs.Growing.{Becomes, becomes_still}
+use Rattle.transcript_fleet.proofs.Growing.{Becomes, becomes_still, went_back}
 use Rattle.transcript_fleet.proofs.Playing.{AreRight, WentOn, command_on, lane_on, right_joined, right_of, right_still, stretch_of}
 use Rattle.transcript_fleet.proofs.Fanning.{fans_on}
+use Rattle.transcript_fleet.proofs.Asking.{ground_is}
 
 -- ---- it begins
 
@@ -79,13 +80,16 @@ module _ {B : Type 0} (meaning : B → Meaning) (olds : List B) (fleet : Fleet) 
       still_whole meaning leaf fleet.names (known leaf) (meaning old.0) [] (nothing_yet leaf) items others x.0 y
       (s.stretch.each leaf old.0 x.0 old.1 x.1) (now.each leaf old.0 y old.1 at) (becomes.same leaf x.0 y x.1 at) (s.whole leaf x.0 x.1)
 
-  one_on : (p : Played) (ys : List (Hold B)) → Plays meaning fleet p.command xs p.pieces ys → Session meaning fleet known olds (items ++ One p ∷ []) ys
+  -- the run behind an item, and how it came there
+  abbrev Later : PlayedItem → List (Hold B) → Type 0
+  Later x ys = Session meaning fleet known olds (items ++ x ∷ []) ys × Becomes xs ys
+
+  one_on : (p : Played) (ys : List (Hold B)) → Plays meaning fleet p.command xs p.pieces ys → Later (One p) ys
   one_on p ys step =
       let w = command_on meaning fleet known olds [] nothing_yet items xs p ys s.stretch step in
-      record { stretch = w.stretch; whole = whole_still (items ++ One p ∷ []) ys w.stretch w.becomes }
+      (record { stretch = w.stretch; whole = whole_still (items ++ One p ∷ []) ys w.stretch w.becomes }, w.becomes)
 
-  in_turn_on : (lanes : List (List Played)) (ys : List (Hold B)) → PlaysOn meaning fleet xs (flat_map (λ (lane : List Played). lane) lanes) ys
-      → Session meaning fleet known olds (items ++ Burst lanes ∷ []) ys
+  in_turn_on : (lanes : List (List Played)) (ys : List (Hold B)) → PlaysOn meaning fleet xs (flat_map (λ (lane : List Played). lane) lanes) ys → Later (Burst lanes) ys
   in_turn_on lanes ys plays =
       let all : List Played = flat_map (λ (lane : List Played). lane) lanes in
       let w = lane_on meaning fleet known olds [] nothing_yet xs all ys plays items s.stretch in
@@ -96,7 +100,7 @@ module _ {B : Type 0} (meaning : B → Meaning) (olds : List B) (fleet : Fleet) 
       })
       (subst (λ (ps : List Played). AreRight fleet known ps ys) (plays_in_turn items lanes)
       (right_of meaning fleet known olds [] nothing_yet (items ++ map One all) ys w.stretch)) in
-      record { stretch = now; whole = whole_still (items ++ Burst lanes ∷ []) ys now w.becomes }
+      (record { stretch = now; whole = whole_still (items ++ Burst lanes ∷ []) ys now w.becomes }, w.becomes)
 
   -- ---- beside one another
 
@@ -151,7 +155,7 @@ module _ {B : Type 0} (meaning : B → Meaning) (olds : List B) (fleet : Fleet) 
       worn = λ histories on. tt;
     }
 
-    beside_on : (lanes : List (List Played)) (ys : List (Hold B)) → Fans meaning fleet met lanes ys → Session meaning fleet known olds (items ++ Burst lanes ∷ []) ys
+    beside_on : (lanes : List (List Played)) (ys : List (Hold B)) → Fans meaning fleet met lanes ys → Later (Burst lanes) ys
     beside_on lanes ys fan =
         let w = fans_on meaning fleet known olds (all_pieces items) start met lanes ys fan lent in
         let becomes : Becomes xs ys = becomes_still xs met ys became w.becomes in
@@ -164,7 +168,7 @@ module _ {B : Type 0} (meaning : B → Meaning) (olds : List B) (fleet : Fleet) 
           each = λ leaf old y at_old at. joined_at lanes ys w leaf old y at_old at;
         })
         (subst (λ (ps : List Played). AreRight fleet known ps ys) (sym (plays-append items (Burst lanes ∷ []))) right) in
-        record { stretch = now; whole = whole_still (items ++ Burst lanes ∷ []) ys now becomes }
+        (record { stretch = now; whole = whole_still (items ++ Burst lanes ∷ []) ys now becomes }, becomes)
       where
         joined_at : (lanes : List (List Played)) (ys : List (Hold B))
             → WentOn meaning fleet known olds (all_pieces items) start (Burst lanes ∷ []) (all_pieces (Burst lanes ∷ [])) met ys
@@ -180,15 +184,21 @@ module _ {B : Type 0} (meaning : B → Meaning) (olds : List B) (fleet : Fleet) 
 
 module _ {B : Type 0} (meaning : B → Meaning) (olds : List B) where
   pub plays_on : SessionsGoOn meaning olds
-  plays_on fleet known items xs ys x s step = by x step
+  plays_on fleet known items xs ys x s step =
+      let later = by x step in
+      (later.0, λ histories on. went_back xs ys histories later.1.grow on)
     where
-      by : (x : PlayedItem) → PlaysItem meaning fleet xs x ys → Session meaning fleet known olds (items ++ x ∷ []) ys
+      by : (x : PlayedItem) → PlaysItem meaning fleet xs x ys → Later meaning olds fleet known items xs s x ys
       by x (PlaysItem.one p is plays) =
-          subst (λ (z : PlayedItem). Session meaning fleet known olds (items ++ z ∷ []) ys) (sym is)
+          subst (λ (z : PlayedItem). Later meaning olds fleet known items xs s z ys) (sym is)
           (one_on meaning olds fleet known items xs s p ys plays)
       by x (PlaysItem.beside lanes met is meet fan) =
-          subst (λ (z : PlayedItem). Session meaning fleet known olds (items ++ z ∷ []) ys) (sym is)
+          subst (λ (z : PlayedItem). Later meaning olds fleet known items xs s z ys) (sym is)
           (beside_on meaning olds fleet known items xs s met meet lanes ys fan)
       by x (PlaysItem.in_turn lanes is plays) =
-          subst (λ (z : PlayedItem). Session meaning fleet known olds (items ++ z ∷ []) ys) (sym is)
+          subst (λ (z : PlayedItem). Later meaning olds fleet known items xs s z ys) (sym is)
           (in_turn_on meaning olds fleet known items xs s lanes ys plays)
+
+  pub sessions_know : SessionsKnow meaning olds
+  sessions_know fleet known items xs s leaf table below within =
+      ground_is meaning fleet known olds [] nothing_yet items [] xs (record { counts = s.stretch.counts; each = s.stretch.each }) leaf table below within

@@ -1,6 +1,7 @@
 -- Laws of runs, as statements.
 use Rattle.std.specs.Prelude.{◌≡◌, ℕ, ◌<◌, List, [], ◌∷◌, ◌++◌, length, map, Option, Some, None, slice_get}
 use Rattle.berth_face.specs.Berth.{Meaning}
+use Rattle.leaf_history.specs.History.{Entry}
 use Rattle.region_layout.specs.Names.{AreNames}
 use Rattle.crash_moments.specs.Left.{NamedStates}
 use Rattle.script_text.specs.declared.item.Item.{Item}
@@ -10,11 +11,11 @@ use Rattle.script_text.specs.declared.fleet.Fleet.{Fleet}
 use Rattle.script_text.specs.Commands.{leaf_count}
 use Rattle.transcript.specs.Pieces.{PlayedItem, all_lines, all_pieces, item_of}
 use Rattle.transcript.specs.Strangers.{Strangers}
-use Rattle.transcript.specs.Transcript.{Known, Transcript}
+use Rattle.transcript.specs.Transcript.{Known, Transcript, grounds_of}
 use Rattle.transcript.specs.Moments.{MomentsRise, notes_told}
 use Rattle.transcript.specs.Leaving.{LeavesBerth}
 use Rattle.leaf_moves.specs.Stage.{Leaf}
-use Rattle.leaf_moves.specs.Holds.{Hold, HasMet}
+use Rattle.leaf_moves.specs.Holds.{GoOn, HasMet, Hold, grounds_in}
 use Rattle.leaf_moves.specs.Lanes.{PlaysItem}
 use Rattle.std.specs.List.{AllByRecursion}
 use Rattle.transcript_leaf.specs.Session.{IsNewHold}
@@ -35,16 +36,22 @@ SessionsBegin {B} meaning berths = (fleet : Fleet) (base : ℕ → Option NamedS
     → ((leaf : ℕ) (x : Hold B) → slice_get xs leaf ≡ Some x → IsNewHold meaning fleet.names (base leaf) (known leaf) x)
     → Session meaning fleet known berths [] xs
 
--- it goes on by what one item does
+-- It goes on by what one item does; histories that go on from behind the item go on from before it.
 abbrev pub SessionsGoOn : {B : Type 0} → (B → Meaning) → List B → Type 0
 SessionsGoOn {B} meaning olds = (fleet : Fleet) (known : ℕ → Option Known) (items : List PlayedItem) (xs ys : List (Hold B)) (x : PlayedItem)
     → Session meaning fleet known olds items xs → PlaysItem meaning fleet xs x ys
-    → Session meaning fleet known olds (items ++ x ∷ []) ys
+    → Session meaning fleet known olds (items ++ x ∷ []) ys × ((histories : ℕ → ℕ → List Entry) → GoOn ys histories → GoOn xs histories)
+
+-- its tables began from what is known of their leaves
+abbrev pub SessionsKnow : {B : Type 0} → (B → Meaning) → List B → Type 0
+SessionsKnow {B} meaning olds = (fleet : Fleet) (known : ℕ → Option Known) (items : List PlayedItem) (xs : List (Hold B)) → Session meaning fleet known olds items xs
+    → (leaf table : ℕ) → leaf < leaf_count fleet → table < length fleet.names → grounds_in xs leaf table ≡ grounds_of fleet known leaf table
 
 -- what these items are, over leaves whose berths were and are these
 pub record IsToldFleet {B : Type 0} (meaning : B → Meaning) (fleet : Fleet) (known : ℕ → Option Known) (items : List PlayedItem) (olds : List B) (xs : List (Hold B)) : Type 0 where
   pub transcript : Transcript fleet known (map item_of items) (lines_text fleet.names (all_lines items))
   pub played_is : transcript.played ≡ items
+  pub go_on : GoOn xs transcript.histories
   pub strangers : (leaf : ℕ) (k : Known) → leaf < leaf_count fleet → known leaf ≡ Some k → Strangers fleet.names k.held.disk leaf k.held.region (all_pieces items)
   pub leaves : (leaf : ℕ) (k : Known) (old new : B) (x : Hold B) → known leaf ≡ Some k → slice_get olds leaf ≡ Some old → slice_get xs leaf ≡ Some x → berth_in x ≡ Some new
       → LeavesBerth fleet.names k.base (transcript.lives leaf) (transcript.histories leaf) (meaning old) (meaning new)

@@ -1,5 +1,5 @@
 // What holds of every run.
-ghost use Rattle.transcript_fleet.specs.Laws.{SessionsBegin, SessionsEnd, SessionsGoOn};
+ghost use Rattle.transcript_fleet.specs.Laws.{SessionsBegin, SessionsEnd, SessionsGoOn, SessionsKnow};
 
 use berth_face::Berth;
 
@@ -9,5 +9,6 @@ use berth_face::Berth;
 pub fn plays_go_on<B: Berth>(berths: &[B])
     ensures begin { SessionsBegin B.meaning berths.now }
     ensures on { SessionsGoOn B.meaning berths.now }
+    ensures known { SessionsKnow B.meaning berths.now }
     ensures end { SessionsEnd B.meaning berths.now }
 {}

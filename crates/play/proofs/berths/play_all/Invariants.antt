@@ -4,7 +4,8 @@ use Rattle.std.specs.VecDeque.{deque_len}
 use Rattle.script_text.specs.declared.item.Item.{Item}
 use Rattle.player.specs.Crew.{HasAll}
 use Rattle.script_text.specs.Fits.{TellAbove, declared_in}
-use Rattle.play.specs.Standing.{AreFollowers, MayRun}
+use Rattle.transcript_standing.specs.Followed.{AreFollowers}
+use Rattle.play.specs.Standing.{MayRun}
 use Rattle.play.specs.Runs.{RunSoFar, berths_in}
 use Rattle.play.proofs.berths.play_all.Given as goal
 
@@ -16,7 +17,7 @@ invariant-loop-item g l =
     × RunSoFar g.N.Bases.base g.B.Berth.meaning l.initial.crew.fleet (berths_in l.initial.crew.holds) (g.K.Sink.written l.initial.sink) (g.K.Sink.written l.sink)
     (map (λ b. (goal.Watch-dyn g (b.vtable, b.value)).held b.value) l.fn.watches.items)
     (map (λ b. (goal.Watch-dyn g (b.vtable, b.value)).held b.value) l.watches.items)
-    done l.crew.holds
+    done l.followers.list.items l.crew.holds
     × (l.crew.fleet ≡ l.initial.crew.fleet)
     × AllByRecursion (MayRun l.initial.crew.fleet) l.rest.items
     × (g.K.Sink.faults l.initial.sink ≤ g.K.Sink.faults l.sink)

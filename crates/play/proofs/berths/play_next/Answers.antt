@@ -13,12 +13,13 @@ pub returns-clause-played : goal.returns-clause-played
 returns-clause-played g c =
     let was = g.K.Sink.written c.args.sink.now in
     let now = g.K.Sink.written c.write_lines.new.sink in
-    advances g.B.Berth.meaning c.args.crew.now.fleet c.args.item c.args.crew.now.holds c.play_followed-lines.new.crew.holds was now _ _ c.play_followed-lines.result c.write_lines.result c.play_followed-lines.ensures.went c.write_lines.ensures.made
+    advances g.B.Berth.meaning c.args.crew.now.fleet c.args.item c.args.followers.now.list.items c.play_followed-lines.new.followers.list.items c.args.crew.now.holds c.play_followed-lines.new.crew.holds was now _ _
+    c.play_followed-lines.result c.write_lines.result c.requires.may_play c.play_followed-lines.ensures.did c.write_lines.ensures.made
     (subst (λ ns. OnOk c.write_lines.result (IfOk c.play_followed-lines.result (λ lines. Appends was now (lines_text ns lines.items)))) (sym c.requires.names) c.write_lines.ensures.written)
 
 pub returns-clause-stops : goal.returns-clause-stops
 returns-clause-stops g c =
     let was = g.K.Sink.written c.args.sink.now in
     let now = g.K.Sink.written c.write_lines.new.sink in
-    on_err c.write_lines.result (stops_one g.B.Berth.meaning c.args.crew.now.fleet c.args.item c.args.crew.now.holds c.play_followed-lines.new.crew.holds was now _ _ c.play_followed-lines.result c.play_followed-lines.ensures.went
+    on_err c.write_lines.result (stops_one g.B.Berth.meaning c.args.crew.now.fleet c.args.item _ c.args.followers.now.list.items c.args.crew.now.holds c.play_followed-lines.new.crew.holds was now _ _ c.play_followed-lines.result c.play_followed-lines.ensures.did
     (subst (λ ns. IfOk c.play_followed-lines.result (λ lines. WritesFront was now (lines_text ns lines.items))) (sym c.requires.names) c.write_lines.ensures.front) c.write_lines.ensures.none)

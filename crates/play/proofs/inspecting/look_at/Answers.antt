@@ -1,4 +1,3 @@
-use Rattle.std.proofs.Common.{length}
 use Rattle.play.proofs.Looked.{failed_by, looked_at, seen_by}
 use Rattle.play.proofs.inspecting.look_at.Goals as goal
 

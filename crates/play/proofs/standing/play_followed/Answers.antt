@@ -1,7 +1,7 @@
-use Rattle.std.proofs.Common.{rules}
+use Rattle.std.proofs.Common.{map, rules, subst}
 use Rattle.script_text.specs.Fits.{declared_by}
-use Rattle.standing_feed.specs.Following.{noted}
-use Rattle.play.proofs.OwnItems.{followers_stay, lost_as, notes_within}
+use Rattle.standing_feed.specs.Following.{FollowAll, noted}
+use Rattle.play.proofs.OwnItems.{followed_lines, followers_stay, lost_as, notes_within}
 use Rattle.play.proofs.standing.play_followed.Goals as goal
 
 pub follow-requires : goal.follow-requires
@@ -9,9 +9,20 @@ follow-requires g c = record {
   as_many = notes_within (λ calls. calls.items) (noted c.args.item) c.in_ok-notes.notes.items c.args.followers.now.list.items _ (declared_by c.args.item) c.in_ok-notes.ensures c.in_ok-lines.ensures.count;
 }
 
-pub returns-in_err-follow-clause-went : goal.returns-in_err-follow-clause-went
-returns-in_err-follow-clause-went g c =
-    lost_as g.B.Berth.meaning c.args.crew.now.fleet c.args.item c.args.crew.now.holds c.play_any.new.crew.holds _ _ _ c.from_residual-in_err-follow.result (search rules) c.play_any.ensures.went
+pub returns-in_err-follow-clause-did : goal.returns-in_err-follow-clause-did
+returns-in_err-follow-clause-did g c =
+    lost_as g.B.Berth.meaning c.args.crew.now.fleet c.args.item _ _ c.args.followers.now.list.items c.args.crew.now.holds c.play_any.new.crew.holds _ _ _ c.from_residual-in_err-follow.result (search rules) c.play_any.ensures.did
+
+pub returns-in_err-lines-clause-did : goal.returns-in_err-lines-clause-did
+returns-in_err-lines-clause-did g c =
+    lost_as g.B.Berth.meaning c.args.crew.now.fleet c.args.item _ _ c.args.followers.now.list.items c.args.crew.now.holds c.play_any.new.crew.holds _ _ _ c.from_residual-in_err-lines.result (search rules) c.play_any.ensures.did
+
+pub returns-clause-did : goal.returns-clause-did
+returns-clause-did g c =
+    followed_lines g.B.Berth.meaning c.args.crew.now.fleet c.args.item c.args.followers.now.list.items c.play_any.new.followers.list.items c.follow.new.self.list.items c.args.crew.now.holds c.play_any.new.crew.holds _ _
+    c.in_ok-lines.lines.items (map (λ calls. calls.items) c.in_ok-notes.notes.items) c.in_ok-notes.ensures
+    (subst (λ lines. FollowAll (map (λ calls. calls.items) c.in_ok-notes.notes.items) lines c.play_any.new.followers.list.items c.follow.new.self.list.items) c.as_slice.ensures.value c.in_ok-follow.ensures.follow)
+    c.in_ok-lines.ensures.did
 
 pub returns-in_err-follow-clause-followers : goal.returns-in_err-follow-clause-followers
 returns-in_err-follow-clause-followers g c =

@@ -1,6 +1,19 @@
-use Rattle.play.proofs.OwnItems.{tells_fresh}
+use Rattle.std.proofs.Common.{length, refl, sym}
+use Rattle.std.proofs.lemmas.Option.{slice_get_read}
+use Rattle.play.proofs.OwnItems.{one_told, tells_fresh}
 use Rattle.play.proofs.standing.tell.Goals as goal
+
+pub returns-then-stale-clause-plays : goal.returns-then-stale-clause-plays
+returns-then-stale-clause-plays g c =
+    let olds = c.args.followers.now.list.items in
+    let at = slice_get_read olds (length olds) c.args.standing c.index_mut-follower.result.now refl c.requires.there c.index_mut-follower.ensures.value in
+    one_told g.B.Berth.meaning c.args.crew.now.fleet c.args.standing olds _ c.index_mut-follower.result.now c.tell_stale.new.follower c.args.crew.now.holds c.tell_stale.new.crew.holds c.tell_stale.result at refl
+    c.tell_stale.ensures.plays
 
 pub returns-else-stale-clause-plays : goal.returns-else-stale-clause-plays
 returns-else-stale-clause-plays g c =
-    tells_fresh g.B.Berth.meaning c.args.crew.now.fleet c.args.standing c.index_mut-follower.result.now.standing.query c.args.crew.now.holds c.tell_fresh.result c.tell_fresh.ensures
+    let olds = c.args.followers.now.list.items in
+    let f = c.index_mut-follower.result.now in
+    let at = slice_get_read olds (length olds) c.args.standing f refl c.requires.there c.index_mut-follower.ensures.value in
+    one_told g.B.Berth.meaning c.args.crew.now.fleet c.args.standing olds _ f f c.args.crew.now.holds c.args.crew.now.holds c.tell_fresh.result at refl
+    (tells_fresh g.B.Berth.meaning c.args.crew.now.fleet c.args.standing f f c.args.crew.now.holds c.tell_fresh.result (sym c.if-stale.ensures) refl c.tell_fresh.ensures)

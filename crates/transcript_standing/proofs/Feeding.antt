@@ -1,0 +1,468 @@
+-- Entries of a table's legal history that a state of a standing query heeds, one after another in the order of their numbers.
+use Rattle.std.proofs.Common.{◌≡◌, ℕ, zero, suc, ◌+◌, ◌-◌, ◌≤◌, Bool, true, false, true≢false, ◌||◌, cond, Option, Some, ℤ, int_le, int_lt, refl, sym, ap, ap₂, subst, ◌∙◌, arith}
+use Rattle.std.specs.Prelude.{if◌then◌else◌, ⊤, List, [], ◌∷◌, ◌++◌, length, map, take, drop, set, get_or, filter, swap, slice_get, IsPermutation}
+use Rattle.std.specs.Int.{int_max}
+use Rattle.std.specs.List.{AllByRecursion, list_any}
+use Rattle.std.specs.List.Sorted.{IsNonDecreasingBy, apply_swaps, SwapsInRange}
+use Rattle.std.proofs.Math.Bool.{or-false, or_assoc}
+use Rattle.std.proofs.Math.ListN.{get_or-map}
+use Rattle.std.proofs.lemmas.Bool.{ltb-false, or_parts, true_from_ne_false}
+use Rattle.std.proofs.lemmas.Int.{ints}
+use Rattle.std.proofs.lemmas.List.{length-drop, length-map, map-set}
+use Rattle.std.proofs.lemmas.List.Elements.{All-from_recursion, recursion_from_All}
+use Rattle.std.proofs.lemmas.List.Sorted.{All-permutation, list_any-IsPermutation}
+use Rattle.leaf_model.specs.declared.queries.Query.{Query}
+use Rattle.leaf_model.specs.declared.rows.Row.{Row}
+use Rattle.leaf_model.specs.declared.writes.Write.{Write}
+use Rattle.leaf_model.specs.declared.writes.Write.TheVariants as write
+use Rattle.leaf_model.specs.Content.{Contents, content_after, content_from, last_rows, rows_from}
+use Rattle.leaf_model.specs.Values.{IsTime}
+use Rattle.leaf_history.specs.Calls.{Call}
+use Rattle.leaf_history.specs.Calls as call
+use Rattle.leaf_history.specs.Replies.{Reply}
+use Rattle.leaf_history.specs.Replies as reply
+use Rattle.leaf_history.specs.History.{Allowed, Entry, HistoryState, LegalFrom, after, after_entry, changed, held, is_refusal, written}
+use Rattle.printed_lines.specs.declared.line.Said.{Said}
+use Rattle.printed_lines.specs.declared.line.Said.TheVariants as said
+use Rattle.standing_query.specs.declared.fed.Fed.{Fed}
+use Rattle.standing_query.specs.declared.fed.Fed.TheVariants as fed
+use Rattle.standing_query.specs.States.{FedTo, Means, StandingState, is_end}
+use Rattle.standing_feed.specs.declared.heard.Heard.{Heard}
+use Rattle.standing_feed.specs.Following.{Ascend, FeedsTo, Heeds, HeedsAll, HeedsInOrder}
+use Rattle.standing_feed.specs.Following as following
+use Rattle.transcript.specs.Histories.{Ground, Shown, Shows, rows_before}
+use Rattle.transcript.specs.Telling.{ends_state}
+use Rattle.transcript_standing.specs.Followed.{AreTimes}
+use Rattle.transcript_standing.proofs.HeardPieces.{fed_of, heard_of}
+use Rattle.transcript_standing.proofs.Numbers.{ShowsIn}
+
+-- ---- what a table holds
+
+abbrev pub contents_before : Ground → List Entry → ℕ → Contents
+contents_before g entries number = held (after g.founded g.base (take (number - 1) entries))
+
+-- behind the first n entries
+abbrev pub contents_behind : Ground → List Entry → ℕ → Contents
+contents_behind g entries n = contents_before g entries (n + 1)
+
+abbrev pub rows_behind : Ground → List Entry → ℕ → List Row
+rows_behind g entries n = rows_before g entries (n + 1)
+
+-- None of its rows is below its horizon. A table that is opened with any contents need not have this.
+abbrev pub NoneBelow : Contents → Type 0
+NoneBelow c = AllByRecursion (λ (row : Row). int_le c.horizon row.time ≡ true) c.rows
+
+-- the rows of an add have times
+abbrev pub CallTimes : Option Call → Type 0
+CallTimes (Some (call.Add rows)) = AreTimes rows
+CallTimes _ = ⊤
+
+abbrev pub AddsTimes : Shown → Type 0
+AddsTimes s = CallTimes s.call
+
+-- lines with the numbers from n + 1 on, one after another, up to m
+abbrev pub CountUp : ℕ → List Shown → ℕ → Type 0
+CountUp n [] m = m ≡ n
+CountUp n (s ∷ ss) m = (s.number ≡ n + 1) × CountUp (n + 1) ss m
+
+-- a fresh state means the rows behind the first n entries, these have times, and none of them is below the table's horizon
+abbrev pub Knows : Ground → List Entry → ℕ → StandingState → Type 0
+Knows g entries n t = Means t (rows_behind g entries n) × AreTimes (rows_behind g entries n) × NoneBelow (contents_behind g entries n)
+
+-- what holds of the state t that s comes to by these lines, the last of which has the number m
+pub record FedBehind (g : Ground) (entries : List Entry) (ss : List Shown) (m : ℕ) (s t : StandingState) : Type 0 where
+  pub upto : t.upto ≡ m
+  pub query : t.query ≡ s.query
+  pub stale : t.stale ≡ (s.stale || list_any (λ (e : Shown). ends_state e.call e.said) ss)
+  pub means : t.stale ≡ false → Knows g entries m t
+
+-- ---- rows
+
+module _ {X : Type 0} (P : X → Type 0) where
+  each-append : (xs ys : List X) → AllByRecursion P xs → AllByRecursion P ys → AllByRecursion P (xs ++ ys)
+  each-append [] ys a b = b
+  each-append (x ∷ xs) ys a b = (a.0, each-append xs ys a.1 b)
+
+  each-drop : (n : ℕ) (xs : List X) → AllByRecursion P xs → AllByRecursion P (drop n xs)
+  each-drop zero xs a = a
+  each-drop (suc n) [] a = tt
+  each-drop (suc n) (x ∷ xs) a = each-drop n xs a.1
+
+  kept_if : (x : X) (rest : List X) (b : Bool) → P x → AllByRecursion P rest → AllByRecursion P (cond b (x ∷ rest) rest)
+  kept_if x rest true p a = (p, a)
+  kept_if x rest false p a = a
+
+  each-filter : (test : X → Bool) (xs : List X) → AllByRecursion P xs → AllByRecursion P (filter test xs)
+  each-filter test [] a = tt
+  each-filter test (x ∷ xs) a = kept_if x (filter test xs) (test x) a.0 (each-filter test xs a.1)
+
+  each-permutation : (xs ys : List X) → IsPermutation xs ys → AllByRecursion P xs → AllByRecursion P ys
+  each-permutation xs ys same a = recursion_from_All P ys (All-permutation P xs ys same (All-from_recursion P xs a))
+
+-- a filter leaves what passes it, and no more than there was
+passes_if : (h : ℤ) (x : Row) (rest : List Row) (b : Bool) → int_le h x.time ≡ b → AllByRecursion (λ (row : Row). int_le h row.time ≡ true) rest
+    → AllByRecursion (λ (row : Row). int_le h row.time ≡ true) (cond b (x ∷ rest) rest)
+passes_if h x rest true is a = (is, a)
+passes_if h x rest false is a = a
+
+none_from : (h : ℤ) (rows : List Row) → AllByRecursion (λ (row : Row). int_le h row.time ≡ true) (rows_from h rows)
+none_from h [] = tt
+none_from h (x ∷ xs) = passes_if h x (rows_from h xs) (int_le h x.time) refl (none_from h xs)
+
+one_more : (x : Row) (rest : List Row) (b : Bool) (n : ℕ) → length rest ≤ n → length (cond b (x ∷ rest) rest) ≤ suc n
+one_more x rest true n h = omega arith
+one_more x rest false n h = omega arith
+
+few_from : (h : ℤ) (rows : List Row) → length (rows_from h rows) ≤ length rows
+few_from h [] = omega arith
+few_from h (x ∷ xs) = one_more x (rows_from h xs) (int_le h x.time) (length xs) (few_from h xs)
+
+-- where nothing is below the old horizon, an expiry removes what is below its own
+same_test : (before horizon time : ℤ) → int_le before time ≡ true → int_le (int_max before horizon) time ≡ int_le horizon time
+same_test before horizon time is = by (int_lt horizon before) refl
+  where
+    by : (b : Bool) → int_lt horizon before ≡ b → int_le (cond b before horizon) time ≡ int_le horizon time
+    by true e = is ∙ sym (true_from_ne_false (int_le horizon time) (λ no. omega (arith, ints, e, is, no)))
+    by false e = refl
+
+expires : (before horizon : ℤ) (rows : List Row) → AllByRecursion (λ (row : Row). int_le before row.time ≡ true) rows → rows_from (int_max before horizon) rows ≡ rows_from horizon rows
+expires before horizon [] all = refl
+expires before horizon (x ∷ xs) all =
+    ap₂ (λ (b : Bool) (left : List Row). cond b (x ∷ left) left) (same_test before horizon x.time all.0) (expires before horizon xs all.1)
+
+-- a keep that removes nothing leaves all
+keeps_all : (n k : ℕ) (rows : List Row) → n ≡ length rows - length (last_rows k rows) → n ≤ 0 → last_rows k rows ≡ rows
+keeps_all n k rows is none =
+    let long = length-drop (length rows - k) rows in
+    let all : length rows - k ≡ 0 = omega (arith, long, is, none) in
+    ap (λ (j : ℕ). drop j rows) all
+
+-- ---- what an entry makes of the contents, unless it ends the state
+
+record Step (c : Option Call) (d : Said) (before now : Contents) : Type 0 where
+  pub feeds : FedTo (fed_of c d) before.rows now.rows
+  pub none_below : NoneBelow now
+
+-- it leaves them
+stays : (c : Option Call) (d : Said) (before now : Contents) → fed_of c d ≡ fed.Other → now ≡ before → NoneBelow before → Step c d before now
+stays c d before now other same below = record {
+  feeds = subst (λ (f : Fed). FedTo f before.rows now.rows) (sym other) (ap (λ (x : Contents). x.rows) same);
+  none_below = subst (λ (x : Contents). NoneBelow x) (sym same) below;
+}
+
+last_write : (c : Contents) (writes : List Write) (w : Write) → content_from c (writes ++ w ∷ []) ≡ content_after (content_from c writes) w
+last_write c [] w = refl
+last_write c (v ∷ writes) w = last_write (content_after c v) writes w
+
+-- one more write
+wrote : (s : HistoryState) (w : Write) (c : Option Call) (d : Said) → Step c d (held s) (content_after (held s) w) → Step c d (held s) (held (written s w))
+wrote s w c d step = subst (λ (x : Contents). Step c d (held s) x) (sym (last_write s.before s.writes w)) step
+
+module _ (founded : Bool) (s : HistoryState) (caller : ℕ) where
+  added : (c : Call) (kept late : ℕ) → Allowed founded s caller c (reply.Added kept late) → NoneBelow (held s) → Step (Some c) (said.Added kept late) (held s) (held (changed founded s c))
+  added (call.Add rows) kept late a below =
+      let few = few_from (held s).horizon rows in
+      let many : late + length (rows_from (held s).horizon rows) ≡ length rows = omega (arith, few, a.1.3) in
+      wrote s (write.Add rows) (Some (call.Add rows)) (said.Added kept late) (record {
+        feeds = ((held s).horizon, many, refl);
+        none_below = each-append (λ (row : Row). int_le (held s).horizon row.time ≡ true) (held s).rows (rows_from (held s).horizon rows) below (none_from (held s).horizon rows);
+      })
+  added (call.Expire horizon) kept late a below = absurd a.1
+  added (call.Keep n) kept late a below = absurd a.1
+  added (call.Ask q) kept late a below = absurd a.1
+  added call.Take kept late a below = absurd a.2
+  added (call.Flushed n) kept late a below = let wrong = a.2 in absurd cc
+  added call.Shut kept late a below = absurd a.2
+  added call.Done kept late a below = let wrong = a.2 in absurd cc
+  added (call.Open n contents) kept late a below = let wrong = a.3 in absurd cc
+
+  removed : (c : Call) (n : ℕ) → Allowed founded s caller c (reply.Removed n) → is_end (fed_of (Some c) (said.Removed n)) ≡ false → NoneBelow (held s)
+      → Step (Some c) (said.Removed n) (held s) (held (changed founded s c))
+  removed (call.Add rows) n a on below = absurd a.1
+  removed (call.Expire horizon) n a on below =
+      wrote s (write.Expire horizon) (Some (call.Expire horizon)) (said.Removed n) (record {
+        feeds = expires (held s).horizon horizon (held s).rows below;
+        none_below = none_from (int_max (held s).horizon horizon) (held s).rows;
+      })
+  removed (call.Keep k) n a on below =
+      wrote s (write.Keep k) (Some (call.Keep k)) (said.Removed n) (record {
+        feeds = keeps_all n k (held s).rows a.1.1 (ltb-false 0 n on);
+        none_below = each-drop (λ (row : Row). int_le (held s).horizon row.time ≡ true) (length (held s).rows - k) (held s).rows below;
+      })
+  removed (call.Ask q) n a on below = absurd a.1
+  removed call.Take n a on below = absurd a.2
+  removed (call.Flushed k) n a on below = let wrong = a.2 in absurd cc
+  removed call.Shut n a on below = absurd a.2
+  removed call.Done n a on below = let wrong = a.2 in absurd cc
+  removed (call.Open k contents) n a on below = let wrong = a.3 in absurd cc
+
+  asked : (c : Call) (gs : _) → Allowed founded s caller c (reply.Groups gs) → NoneBelow (held s) → Step (Some c) said.Asked (held s) (held (changed founded s c))
+  asked (call.Add rows) gs a below = absurd a.1
+  asked (call.Expire horizon) gs a below = absurd a.1
+  asked (call.Keep k) gs a below = absurd a.1
+  asked (call.Ask q) gs a below = stays (Some (call.Ask q)) said.Asked (held s) (held s) refl refl below
+  asked call.Take gs a below = absurd a.2
+  asked (call.Flushed k) gs a below = let wrong = a.2 in absurd cc
+  asked call.Shut gs a below = absurd a.2
+  asked call.Done gs a below = let wrong = a.2 in absurd cc
+  asked (call.Open k contents) gs a below = let wrong = a.3 in absurd cc
+
+-- refusals tell nothing
+refused_shut : (c : Call) → fed_of (Some c) said.RefusedShut ≡ fed.Other
+refused_shut (call.Add rows) = refl
+refused_shut _ = refl
+
+refused_full : (c : Call) → fed_of (Some c) said.RefusedFull ≡ fed.Other
+refused_full (call.Add rows) = refl
+refused_full _ = refl
+
+refused_memory : (c : Call) → fed_of (Some c) said.RefusedMemory ≡ fed.Other
+refused_memory (call.Add rows) = refl
+refused_memory _ = refl
+
+-- a caller's entry, by its call and its reply
+called : (founded : Bool) (s : HistoryState) (e : Entry) (c : Option Call) (d : Said) (r : Reply) → c ≡ Some e.call → e.reply ≡ r
+    → Step (Some e.call) d (held s) (held (if is_refusal r then s else changed founded s e.call)) → Step c d (held s) (held (after_entry founded s e))
+called founded s e c d r is replied step =
+    subst (λ (o : Option Call). Step o d (held s) (held (after_entry founded s e))) (sym is)
+    (subst (λ (q : Reply). Step (Some e.call) d (held s) (held (if is_refusal q then s else changed founded s e.call))) (sym replied) step)
+
+replied_as : (founded : Bool) (s : HistoryState) (e : Entry) (r : Reply) → e.reply ≡ r → Allowed founded s e.caller e.call e.reply → Allowed founded s e.caller e.call r
+replied_as founded s e r is a = subst (λ (q : Reply). Allowed founded s e.caller e.call q) is a
+
+called_as : (founded : Bool) (s : HistoryState) (e : Entry) (c : Call) → e.call ≡ c → Allowed founded s e.caller e.call e.reply → Allowed founded s e.caller c e.reply
+called_as founded s e c is a = subst (λ (k : Call). Allowed founded s e.caller k e.reply) is a
+
+-- what the steward's entry leaves of the state
+left_by : (founded : Bool) (s : HistoryState) (e : Entry) (c : Call) (r : Reply) → e.call ≡ c → e.reply ≡ r
+    → held (after_entry founded s e) ≡ held (if is_refusal r then s else changed founded s c)
+left_by founded s e c r is replied = ap₂ (λ (k : Call) (q : Reply). held (if is_refusal q then s else changed founded s k)) is replied
+
+entry_step : (founded : Bool) (s : HistoryState) (e : Entry) (c : Option Call) (d : Said) → Allowed founded s e.caller e.call e.reply → Shows c d e
+    → is_end (fed_of c d) ≡ false → NoneBelow (held s) → Step c d (held s) (held (after_entry founded s e))
+entry_step founded s e c (said.Added kept late) a shows on below =
+    called founded s e c (said.Added kept late) (reply.Added kept late) shows.0 shows.1 (added founded s e.caller e.call kept late (replied_as founded s e (reply.Added kept late) shows.1 a) below)
+entry_step founded s e c (said.Removed n) a shows on below =
+    called founded s e c (said.Removed n) (reply.Removed n) shows.0 shows.1
+    (removed founded s e.caller e.call n (replied_as founded s e (reply.Removed n) shows.1 a) (subst (λ (o : Option Call). is_end (fed_of o (said.Removed n)) ≡ false) shows.0 on) below)
+entry_step founded s e c said.Asked a shows on below =
+    called founded s e c said.Asked (reply.Groups shows.1.0) shows.0 shows.1.1 (asked founded s e.caller e.call shows.1.0 (replied_as founded s e (reply.Groups shows.1.0) shows.1.1 a) below)
+entry_step founded s e c said.RefusedShut a shows on below =
+    called founded s e c said.RefusedShut reply.Shut shows.0 shows.1 (stays (Some e.call) said.RefusedShut (held s) (held s) (refused_shut e.call) refl below)
+entry_step founded s e c said.RefusedFull a shows on below =
+    called founded s e c said.RefusedFull reply.Full shows.0 shows.1 (stays (Some e.call) said.RefusedFull (held s) (held s) (refused_full e.call) refl below)
+entry_step founded s e c said.RefusedMemory a shows on below =
+    called founded s e c said.RefusedMemory reply.NoMemory shows.0 shows.1 (stays (Some e.call) said.RefusedMemory (held s) (held s) (refused_memory e.call) refl below)
+entry_step founded s e c (said.Opened n) a shows on below = absurd (true≢false on)
+entry_step founded s e c (said.Closed n) a shows on below = absurd (true≢false on)
+entry_step founded s e c (said.Took n) a shows on below =
+    stays c (said.Took n) (held s) (held (after_entry founded s e)) refl (left_by founded s e call.Take (reply.Counted n) shows.1 shows.2) below
+entry_step founded s e c (said.Flushed n) a shows on below =
+    stays c (said.Flushed n) (held s) (held (after_entry founded s e)) refl (left_by founded s e (call.Flushed n) reply.Noted shows.1 (called_as founded s e (call.Flushed n) shows.1 a).2) below
+entry_step founded s e c said.Handed a shows on below =
+    stays c said.Handed (held s) (held (after_entry founded s e)) refl (left_by founded s e call.Done reply.Noted shows.1 (called_as founded s e call.Done shows.1 a).2) below
+
+-- ---- entries of a history
+
+same_some : {X : Type 0} (x y : X) → Some x ≡ Some y → x ≡ y
+same_some x y e = cc
+
+-- the entry in a place of a legal history, and the state behind it
+entry_at : (founded : Bool) (s : HistoryState) (entries : List Entry) (i : ℕ) (e : Entry) → LegalFrom founded s entries → slice_get entries i ≡ Some e
+    → Allowed founded (after founded s (take i entries)) e.caller e.call e.reply × (after founded s (take (suc i) entries) ≡ after_entry founded (after founded s (take i entries)) e)
+entry_at founded s [] i e legal at = absurd cc
+entry_at founded s (x ∷ xs) zero e legal at =
+    subst (λ (y : Entry). Allowed founded s y.caller y.call y.reply × (after_entry founded s x ≡ after_entry founded s y)) (same_some x e at) (legal.0, refl)
+entry_at founded s (x ∷ xs) (suc i) e legal at = entry_at founded (after_entry founded s x) xs i e legal.1 at
+
+behind_is : (g : Ground) (entries : List Entry) (n k : ℕ) → n + 1 - 1 ≡ k → contents_behind g entries n ≡ held (after g.founded g.base (take k entries))
+behind_is g entries n k is = ap (λ (j : ℕ). held (after g.founded g.base (take j entries))) is
+
+step_at : (g : Ground) (entries : List Entry) (s : Shown) (k : ℕ) → LegalFrom g.founded g.base entries → ShowsIn entries s → s.number ≡ k + 1 → is_end (fed_of s.call s.said) ≡ false
+    → NoneBelow (contents_behind g entries k) → Step s.call s.said (contents_behind g entries k) (contents_behind g entries (k + 1))
+step_at g entries s k legal shows number on below =
+    let place : s.number - 1 ≡ k = omega (arith, number) in
+    let first = behind_is g entries k k (omega arith) in
+    let next = behind_is g entries (k + 1) (suc k) (omega arith) in
+    let e = shows.1.0 in
+    let at = entry_at g.founded g.base entries k e legal (subst (λ (j : ℕ). slice_get entries j ≡ Some e) place shows.1.1) in
+    let state = after g.founded g.base (take k entries) in
+    let step = entry_step g.founded state e s.call s.said at.0 shows.1.2 on (subst (λ (x : Contents). NoneBelow x) first below) in
+    subst (λ (x : Contents). Step s.call s.said x (contents_behind g entries (k + 1))) (sym first)
+    (subst (λ (x : Contents). Step s.call s.said (held state) x) (sym (next ∙ ap (λ (x : HistoryState). held x) at.1)) step)
+
+-- the same with the entry's own number
+step_of : (g : Ground) (entries : List Entry) (s : Shown) → LegalFrom g.founded g.base entries → ShowsIn entries s → is_end (fed_of s.call s.said) ≡ false
+    → NoneBelow (contents_behind g entries (s.number - 1)) → Step s.call s.said (contents_behind g entries (s.number - 1)) (contents_behind g entries s.number)
+step_of g entries s legal shows on below =
+    let number : s.number ≡ s.number - 1 + 1 = omega (arith, shows.0) in
+    subst (λ (n : ℕ). Step s.call s.said (contents_behind g entries (s.number - 1)) (contents_behind g entries n)) (sym number) (step_at g entries s (s.number - 1) legal shows number on below)
+
+-- one entry: its saying tells what it makes of the rows, unless it ends the state
+pub fed_to : (g : Ground) (entries : List Entry) (s : Shown) → LegalFrom g.founded g.base entries → ShowsIn entries s → is_end (fed_of s.call s.said) ≡ false
+    → NoneBelow (contents_behind g entries (s.number - 1)) → FedTo (fed_of s.call s.said) (rows_behind g entries (s.number - 1)) (rows_behind g entries s.number)
+fed_to g entries s legal shows on below = (step_of g entries s legal shows on below).feeds
+
+-- and none of them is below the horizon
+pub none_below_on : (g : Ground) (entries : List Entry) (s : Shown) → LegalFrom g.founded g.base entries → ShowsIn entries s → is_end (fed_of s.call s.said) ≡ false
+    → NoneBelow (contents_behind g entries (s.number - 1)) → NoneBelow (contents_behind g entries s.number)
+none_below_on g entries s legal shows on below = (step_of g entries s legal shows on below).none_below
+
+-- an ask that was answered leaves what the table holds
+some_call : (c c' : Call) → Some c ≡ Some c' → c' ≡ c
+some_call c c' e = cc
+
+pub asked_leaves : (g : Ground) (entries : List Entry) (number : ℕ) (q : Query) → ShowsIn entries (record { number = number; call = Some (call.Ask q); said = said.Asked })
+    → LegalFrom g.founded g.base entries → contents_behind g entries number ≡ contents_before g entries number
+asked_leaves g entries number q shows legal =
+    let e = shows.1.0 in
+    let state = after g.founded g.base (take (number - 1) entries) in
+    let at = entry_at g.founded g.base entries (number - 1) e legal shows.1.1 in
+    let left = left_by g.founded state e (call.Ask q) (reply.Groups shows.1.2.1.0) (some_call (call.Ask q) e.call shows.1.2.0) shows.1.2.1.1 in
+    let number_is : number + 1 - 1 ≡ suc (number - 1) = omega (arith, shows.0) in
+    behind_is g entries number (suc (number - 1)) number_is ∙ (ap (λ (x : HistoryState). held x) at.1 ∙ left)
+
+-- the ending is the one that the transcript reads
+end_is : (c : Option Call) (d : Said) → is_end (fed_of c d) ≡ ends_state c d
+end_is c (said.Opened n) = refl
+end_is (Some (call.Keep k)) _ = refl
+end_is _ _ = refl
+
+pub is_end_of : (s : Shown) → is_end (fed_of s.call s.said) ≡ ends_state s.call s.said
+is_end_of s = end_is s.call s.said
+
+-- ---- times
+
+abbrev FedTimes : Fed → Type 0
+FedTimes (fed.Added rows late) = AreTimes rows
+FedTimes _ = ⊤
+
+fed_times : (c : Option Call) (d : Said) → CallTimes c → FedTimes (fed_of c d)
+fed_times c (said.Opened n) t = tt
+fed_times (Some (call.Add rows)) (said.Added kept late) t = t
+fed_times (Some (call.Add rows)) _ t = tt
+fed_times _ _ t = tt
+
+times_fed : (f : Fed) (before now : List Row) → FedTimes f → FedTo f before now → AreTimes before → AreTimes now
+times_fed (fed.Added rows late) before now new to times =
+    subst (λ (rs : List Row). AreTimes rs) (sym to.2)
+    (each-append (λ (row : Row). IsTime row.time) before (rows_from to.0 rows) times (each-filter (λ (row : Row). IsTime row.time) (λ (row : Row). int_le to.0 row.time) rows new))
+times_fed (fed.Expired horizon) before now new to times =
+    subst (λ (rs : List Row). AreTimes rs) (sym to) (each-filter (λ (row : Row). IsTime row.time) (λ (row : Row). int_le horizon row.time) before times)
+times_fed _ before now new to times = subst (λ (rs : List Row). AreTimes rs) (sym to) times
+
+-- times stay times
+pub times_on : (g : Ground) (entries : List Entry) (s : Shown) → LegalFrom g.founded g.base entries → ShowsIn entries s → is_end (fed_of s.call s.said) ≡ false
+    → NoneBelow (contents_behind g entries (s.number - 1)) → AddsTimes s → AreTimes (rows_behind g entries (s.number - 1)) → AreTimes (rows_behind g entries s.number)
+times_on g entries s legal shows on below adds times =
+    times_fed (fed_of s.call s.said) (rows_behind g entries (s.number - 1)) (rows_behind g entries s.number) (fed_times s.call s.said adds) (fed_to g entries s legal shows on below) times
+
+-- ---- entries one after another
+
+-- the next entry is fed
+next_fed : (s : StandingState) (h : Heard) (t : StandingState) → h.number ≡ s.upto + 1 → Heeds s h t → FeedsTo s h t
+next_fed s h t at (following.known le same) = absurd (omega (arith, at, le))
+next_fed s h t at (following.next is feeds) = feeds
+next_fed s h t at (following.missed far lost) = absurd (omega (arith, at, far))
+
+no_first : (h : Heard) (others : List Heard) → [] ≡ h ∷ others → ⊥
+no_first h others e = cc
+
+first_same : (h h' : Heard) (others others' : List Heard) → h ∷ others ≡ h' ∷ others' → (h ≡ h') × (others ≡ others')
+first_same h h' others others' e = (cc, cc)
+
+nothing_heeded : (s : StandingState) (hs : List Heard) (t : StandingState) → HeedsAll s hs t → hs ≡ [] → t ≡ s
+nothing_heeded s hs t (following.none a b c empty same) is = same
+nothing_heeded s hs t (following.more a b c h others between one rest are) is = absurd (no_first h others (sym is ∙ are))
+
+first_heeded : (s : StandingState) (hs : List Heard) (t : StandingState) (h : Heard) (others : List Heard) → HeedsAll s hs t → hs ≡ h ∷ others
+    → (between : StandingState) × Heeds s h between × HeedsAll between others t
+first_heeded s hs t h others (following.none a b c empty same) is = absurd (no_first h others (sym empty ∙ is))
+first_heeded s hs t h others (following.more a b c h' others' between one rest are) is =
+    let both = first_same h' h others' others (sym are ∙ is) in
+    (between, subst (λ (x : Heard). Heeds a x between) both.0 one, subst (λ (xs : List Heard). HeedsAll between xs c) both.1 rest)
+
+one_on : (g : Ground) (entries : List Entry) → LegalFrom g.founded g.base entries → (x : Shown) (k : ℕ) (s t : StandingState) → x.number ≡ k + 1 → ShowsIn entries x → AddsTimes x
+    → (s.stale ≡ false → Knows g entries k s) → FeedsTo s (heard_of x) t → t.stale ≡ false → Knows g entries (k + 1) t
+one_on g entries legal x k s t number shows adds now feeds fresh =
+    let both = or_parts s.stale (is_end (fed_of x.call x.said)) (sym feeds.stale ∙ fresh) in
+    let was = now both.0 in
+    let step = step_at g entries x k legal shows number both.1 was.2 in (
+      feeds.means (rows_behind g entries k) (rows_behind g entries (k + 1)) was.0 step.feeds fresh,
+      times_fed (fed_of x.call x.said) (rows_behind g entries k) (rows_behind g entries (k + 1)) (fed_times x.call x.said adds) step.feeds was.1,
+      step.none_below,
+    )
+
+pub heeds_all_on : (g : Ground) (entries : List Entry) → LegalFrom g.founded g.base entries → (ss : List Shown) (k m : ℕ) (s t : StandingState)
+    → CountUp k ss m → AllByRecursion (ShowsIn entries) ss → AllByRecursion AddsTimes ss
+    → s.upto ≡ k → (s.stale ≡ false → Knows g entries k s)
+    → HeedsAll s (map heard_of ss) t → FedBehind g entries ss m s t
+heeds_all_on g entries legal [] k m s t count shows adds at now heeds =
+    let same : t ≡ s = nothing_heeded s [] t heeds refl in
+    let stale : t.stale ≡ s.stale = ap (λ (x : StandingState). x.stale) same in
+    record {
+      upto = ap (λ (x : StandingState). x.upto) same ∙ (at ∙ sym count);
+      query = ap (λ (x : StandingState). x.query) same;
+      stale = stale ∙ sym (or-false s.stale);
+      means = λ fresh.
+          subst (λ (x : StandingState). Knows g entries m x) (sym same) (subst (λ (n : ℕ). Knows g entries n s) (sym count) (now (sym stale ∙ fresh)));
+    }
+heeds_all_on g entries legal (x ∷ ss) k m s t count shows adds at now heeds =
+    let first = first_heeded s (map heard_of (x ∷ ss)) t (heard_of x) (map heard_of ss) heeds refl in
+    let number : x.number ≡ s.upto + 1 = omega (arith, count.0, at) in
+    let feeds = next_fed s (heard_of x) first.0 number first.1 in
+    let others = list_any (λ (e : Shown). ends_state e.call e.said) ss in
+    let stale : first.0.stale ≡ (s.stale || ends_state x.call x.said) = feeds.stale ∙ ap (λ (b : Bool). s.stale || b) (is_end_of x) in
+    let behind = heeds_all_on g entries legal ss (k + 1) m first.0 t count.1 shows.1 adds.1 (feeds.upto ∙ count.0) (one_on g entries legal x k s first.0 count.0 shows.0 adds.0 now feeds) first.2 in
+    record {
+      upto = behind.upto;
+      query = behind.query ∙ feeds.query;
+      stale = behind.stale ∙ (ap (λ (b : Bool). b || others) stale ∙ or_assoc s.stale (ends_state x.call x.said) others);
+      means = behind.means;
+    }
+
+-- ---- in the order of their numbers
+
+module _ {X Y : Type 0} (f : X → Y) where
+  map-swap : (xs : List X) (i j : ℕ) → map f (swap xs i j) ≡ swap (map f xs) i j
+  map-swap [] i j = refl
+  map-swap (d ∷ ys) i j =
+      map-set f (set (d ∷ ys) i (get_or (d ∷ ys) j d)) j (get_or (d ∷ ys) i d)
+      ∙ (λ k. set ((map-set f (d ∷ ys) i (get_or (d ∷ ys) j d) ∙ ap (set (map f (d ∷ ys)) i) (sym (get_or-map f (d ∷ ys) j d))) k) j (sym (get_or-map f (d ∷ ys) i d) k))
+
+  map-swaps : (xs : List X) (ps : List (ℕ × ℕ)) → map f (apply_swaps xs ps) ≡ apply_swaps (map f xs) ps
+  map-swaps xs [] = refl
+  map-swaps xs (p ∷ ps) = map-swap (apply_swaps xs ps) p.0 p.1 ∙ ap (λ l. swap l p.0 p.1) (map-swaps xs ps)
+
+  -- a permutation of a mapped list is the map of a permutation
+  pub mapped_permutation : (xs : List X) (ys : List Y) → IsPermutation (map f xs) ys → (zs : List X) × IsPermutation xs zs × (ys ≡ map f zs)
+  mapped_permutation xs ys p = (
+    apply_swaps xs p.moves,
+    record { moves = p.moves; below = subst (λ n. SwapsInRange n p.moves) (length-map xs f) p.below; is = refl },
+    p.is ∙ sym (map-swaps xs p.moves),
+  )
+
+ascend_on : (zs : List Shown) → Ascend (map heard_of zs) → IsNonDecreasingBy (λ (z : Shown). z.number) zs
+ascend_on zs up i j d le lt =
+    let long = length-map zs heard_of in
+    let here : (get_or (map heard_of zs) i (heard_of d)).number ≡ (get_or zs i d).number = ap (λ (h : Heard). h.number) (get_or-map heard_of zs i d) in
+    let there : (get_or (map heard_of zs) j (heard_of d)).number ≡ (get_or zs j d).number = ap (λ (h : Heard). h.number) (get_or-map heard_of zs j d) in
+    let at = up i j (heard_of d) le (omega (arith, long, lt)) in
+    omega (arith, here, there, at)
+
+pub heeds_on : (g : Ground) (entries : List Entry) → LegalFrom g.founded g.base entries → (ss : List Shown) (k m : ℕ) (s t : StandingState)
+    → ((zs : List Shown) → IsPermutation ss zs → IsNonDecreasingBy (λ (z : Shown). z.number) zs → CountUp k zs m) → AllByRecursion (ShowsIn entries) ss → AllByRecursion AddsTimes ss
+    → s.upto ≡ k → (s.stale ≡ false → Knows g entries k s)
+    → HeedsInOrder s (map heard_of ss) t → FedBehind g entries ss m s t
+heeds_on g entries legal ss k m s t numbers shows adds at now heeds =
+    let placed = mapped_permutation heard_of ss heeds.in_order heeds.same in
+    let count = numbers placed.0 placed.1 (ascend_on placed.0 (subst (λ (hs : List Heard). Ascend hs) placed.2 heeds.ascend)) in
+    let behind = heeds_all_on g entries legal placed.0 k m s t count
+    (each-permutation (ShowsIn entries) ss placed.0 placed.1 shows) (each-permutation AddsTimes ss placed.0 placed.1 adds) at now
+    (subst (λ (hs : List Heard). HeedsAll s hs t) placed.2 heeds.heeds) in
+    record {
+      upto = behind.upto;
+      query = behind.query;
+      stale = behind.stale ∙ ap (λ (b : Bool). s.stale || b) (sym (list_any-IsPermutation (λ (e : Shown). ends_state e.call e.said) ss placed.0 placed.1));
+      means = behind.means;
+    }

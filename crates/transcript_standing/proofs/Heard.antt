@@ -1,0 +1,196 @@
+-- Behind an item that was played, what is heard of a table is what the lines of its entries tell, each by the call that its piece names.
+use Rattle.std.proofs.Common.{◌≡◌, inl, inr, ℕ, suc, ◌<◌, List, [], ◌∷◌, ◌++◌, length, map, refl, sym, ap, subst, ◌∙◌, append_assoc}
+use Rattle.std.specs.Prelude.{◌⊎◌, Some, None, option_to_list, slice_get}
+use Rattle.std.specs.List.{AllByRecursion, flat_map, range_with_len}
+use Rattle.std.proofs.lemmas.Grind.{flat_map-append}
+use Rattle.std.proofs.lemmas.List.{append-nil}
+use Rattle.leaf_model.specs.Names.{AreDistinct}
+use Rattle.leaf_history.specs.Calls.{Call}
+use Rattle.leaf_history.specs.Calls as call
+use Rattle.leaf_history.specs.History.{Entry}
+use Rattle.script_text.specs.declared.command.Command.{Command}
+use Rattle.script_text.specs.declared.command.Command.TheVariants as command
+use Rattle.script_text.specs.declared.fleet.Fleet.{Fleet}
+use Rattle.script_text.specs.Commands.{leaf_count}
+use Rattle.printed_lines.specs.declared.line.Deed.{Deed}
+use Rattle.printed_lines.specs.declared.line.Deed.TheVariants.{Start, Flush, Drain, Kill}
+use Rattle.printed_lines.specs.declared.line.Line.{Line}
+use Rattle.printed_lines.specs.declared.line.Line.TheVariants as line
+use Rattle.standing_feed.specs.declared.heard.Heard.{Heard}
+use Rattle.standing_feed.specs.declared.meant.Meant.{Meant}
+use Rattle.standing_feed.specs.declared.meant.Meant.TheVariants as meant
+use Rattle.standing_feed.specs.Hearing.{TablePlace, heard, heard_from, is_at, meant_by, meant_in, meant_lane, no_call_yet, some_when}
+use Rattle.transcript.specs.Pieces.{Piece, Says, Played, PlayedItem, One, Burst, commands_in, item_lines, item_of, lane_lines, lines_in, pieces_in, plays_of}
+use Rattle.transcript.specs.Shapes.{ActPiece, CallPiece, EachActs, OnePiece, Prints, Rolls, WavePieces, WavesPieces}
+use Rattle.transcript.specs.Histories.{Ground, shown}
+use Rattle.transcript.specs.Answers.{Answers}
+use Rattle.transcript_standing.specs.Followed.{HasTimes, IsOfLane, IsPlayable}
+pub use Rattle.transcript_standing.proofs.HeardPieces.{AreProper, AsksOnce, Hears, IsProper, IsQuiet, IsSaidOf, PrintsOwn, PrintsOwnOf, TellsOnce, fed_of, heard_of, meant_of}
+use Rattle.transcript_standing.proofs.HeardPieces.{All-both, IsCalm, Takes, call_meant, call_unmeant, calm_hears, heard_append, hears_more, hears_none, proper_parts, says_hears}
+use Rattle.transcript_standing.proofs.HeardQueries.{query_hears}
+use Rattle.transcript_standing.proofs.HeardTails.{tail_hears}
+
+-- ---- pieces of stewards
+
+All-more : {X : Type 0} (P : X → Type 0) (xs ys : List X) → AllByRecursion P xs → AllByRecursion P ys → AllByRecursion P (xs ++ ys)
+All-more P [] ys a b = b
+All-more P (x ∷ xs) ys a b = (a.0, All-more P xs ys a.1 b)
+
+abbrev pub AreCalm : List Piece → Type 0
+AreCalm pieces = AllByRecursion IsCalm pieces
+
+act_calm : (leaf : ℕ) (deed : Deed) (piece : Piece) → ActPiece leaf deed piece → IsCalm piece
+act_calm leaf deed piece is = subst (λ (q : Piece). IsCalm q) (sym is.2) tt
+
+pub one_calm : (leaf : ℕ) (deed : Deed) (pieces : List Piece) → OnePiece (ActPiece leaf deed) pieces → AreCalm pieces
+one_calm leaf deed pieces one = subst (λ (ps : List Piece). AreCalm ps) (sym one.2) (act_calm leaf deed one.0 one.1, tt)
+
+pub each_calm : (deed : Deed) (leaves : List ℕ) (pieces : List Piece) → EachActs deed leaves pieces → AreCalm pieces
+each_calm deed [] [] each = tt
+each_calm deed [] (q ∷ pieces) each = absurd each
+each_calm deed (leaf ∷ leaves) [] each = absurd each
+each_calm deed (leaf ∷ leaves) (q ∷ pieces) each = (act_calm leaf deed q each.0, each_calm deed leaves pieces each.1)
+
+wave_calm : (number total : ℕ) (leaves : List ℕ) (pieces : List Piece) → WavePieces number total leaves pieces → AreCalm pieces
+wave_calm number total leaves pieces w =
+    subst (λ (ps : List Piece). AreCalm ps) (sym w.are)
+    (tt, All-more IsCalm w.drains w.starts (each_calm (Drain None) leaves w.drains w.drained) (each_calm Start leaves w.starts w.started))
+
+waves_calm : (number total : ℕ) (waves : List (List ℕ)) (begun : List (List Piece)) → WavesPieces number total waves begun → AreCalm (flat_map (λ (wave : List Piece). wave) begun)
+waves_calm number total waves [] each = tt
+waves_calm number total [] (q ∷ begun) each = absurd each
+waves_calm number total (wave ∷ waves) (q ∷ begun) each =
+    All-more IsCalm q (flat_map (λ (w : List Piece). w) begun) (wave_calm number total wave q each.0) (waves_calm (suc number) total waves begun each.1)
+
+watches_calm : (texts : List (List ℕ)) → AreCalm (map (λ (text : List ℕ). Says (line.Watch text)) texts)
+watches_calm [] = tt
+watches_calm (text ∷ texts) = (tt, watches_calm texts)
+
+pub roll_calm : (fleet : Fleet) (percent : ℕ) (pieces : List Piece) → Rolls fleet percent pieces → AreCalm pieces
+roll_calm fleet percent pieces r =
+    let begun : List Piece = flat_map (λ (wave : List Piece). wave) r.roll.begun in
+    let watches : List Piece = map (λ (text : List ℕ). Says (line.Watch text)) r.roll.texts in
+    subst (λ (ps : List Piece). AreCalm ps) (sym r.roll.are)
+    (All-more IsCalm begun (Says (line.Rolled r.roll.halted (length r.roll.begun) (length r.plan)) ∷ watches)
+    (waves_calm 1 (length r.plan) r.plan r.roll.begun r.roll.each) (tt, watches_calm r.roll.texts))
+
+-- ---- commands
+
+-- one call of callers, which is meant just for the table that it is of
+one_meant : (p : TablePlace) (leaf table : ℕ) (c : Call) (m : Meant) (pieces : List Piece) → OnePiece (CallPiece leaf table c) pieces
+    → ((rest : List Meant) → Takes (no_call_yet (m ∷ rest)) c (no_call_yet rest)) → AreProper p pieces
+    → (rest : List Meant) → Hears p (no_call_yet (option_to_list (some_when (is_at p leaf table) m) ++ rest)) pieces (no_call_yet rest)
+one_meant p leaf table c m pieces one takes proper rest =
+    subst (λ (ps : List Piece). Hears p (no_call_yet (option_to_list (some_when (is_at p leaf table) m) ++ rest)) ps (no_call_yet rest)) (sym one.2)
+    (call_meant p leaf table c m one.0 one.1 takes (subst (λ (ps : List Piece). AreProper p ps) one.2 proper) rest)
+
+module _ (fleet : Fleet) (grounds : ℕ → ℕ → Ground) (histories : ℕ → ℕ → List Entry) (p : TablePlace) (distinct : AreDistinct fleet.names) (below : p.leaf < leaf_count fleet)
+    (at : slice_get fleet.names p.table ≡ Some p.name) where
+  -- a command of a lane uses up what it means
+  lane_command : (c : Command) (pieces : List Piece) → Prints fleet c pieces → Answers fleet grounds histories (record { command = c; pieces = pieces }) → IsOfLane c → AreProper p pieces
+      → (rest : List Meant) → Hears p (no_call_yet (option_to_list (meant_by p c) ++ rest)) pieces (no_call_yet rest)
+  lane_command (command.Fleet machines per_machine tables) pieces prints answers may proper rest =
+      calm_hears p (no_call_yet rest) pieces (each_calm Start (range_with_len 0 (leaf_count fleet)) pieces prints) proper
+  lane_command (command.Add leaf table rows) pieces prints answers may proper rest =
+      one_meant p leaf table (call.Add rows) (meant.Add rows) pieces prints (λ left told is. (refl, refl)) proper rest
+  lane_command (command.Expire leaf table horizon) pieces prints answers may proper rest =
+      one_meant p leaf table (call.Expire horizon) (meant.Expire horizon) pieces prints (λ left told is. (refl, refl)) proper rest
+  lane_command (command.Keep leaf table n) pieces prints answers may proper rest =
+      one_meant p leaf table (call.Keep n) meant.Keep pieces prints (λ left told is. (refl, refl)) proper rest
+  lane_command (command.Query q) pieces prints answers may proper rest = query_hears p fleet q pieces distinct below at prints proper rest
+  lane_command (command.Tail key table rows) pieces prints answers may proper rest =
+      tail_hears p (leaf_count fleet) (λ leaf. grounds leaf table) (λ leaf. histories leaf table) key table rows pieces answers proper rest
+  lane_command (command.Flush leaf table) pieces prints answers may proper rest = calm_hears p (no_call_yet rest) pieces (one_calm leaf (Flush table) pieces prints) proper
+  lane_command (command.Drain leaf stop) pieces prints answers may proper rest = calm_hears p (no_call_yet rest) pieces (one_calm leaf (Drain stop) pieces prints) proper
+  lane_command (command.Kill leaf) pieces prints answers may proper rest = calm_hears p (no_call_yet rest) pieces (one_calm leaf Kill pieces prints) proper
+  lane_command (command.Start leaf) pieces prints answers may proper rest = calm_hears p (no_call_yet rest) pieces (one_calm leaf Start pieces prints) proper
+  lane_command (command.Rollover percent) pieces prints answers may proper rest = calm_hears p (no_call_yet rest) pieces (roll_calm fleet percent pieces prints) proper
+  lane_command (command.Standing leaf q) pieces prints answers may proper rest = absurd may
+  lane_command (command.Tell standing) pieces prints answers may proper rest = absurd may
+
+  tells_once : (pieces : List Piece) → TellsOnce pieces → Hears p (no_call_yet []) pieces (no_call_yet [])
+  tells_once pieces t = subst (λ (ps : List Piece). Hears p (no_call_yet []) ps (no_call_yet [])) (sym t.2) (says_hears p (no_call_yet []) t.0 t.1)
+
+  asks_once : (pieces : List Piece) → AsksOnce pieces → AreProper p pieces → Hears p (no_call_yet []) pieces (no_call_yet [])
+  asks_once pieces t proper =
+      let parts = proper_parts p (t.asked ∷ []) (Says t.told ∷ []) (subst (λ (ps : List Piece). AreProper p ps) t.are proper) in
+      subst (λ (ps : List Piece). Hears p (no_call_yet []) ps (no_call_yet [])) (sym t.are)
+      (hears_more p (no_call_yet []) (no_call_yet []) (no_call_yet []) (t.asked ∷ []) (Says t.told ∷ [])
+      (call_unmeant p t.leaf t.table t.query t.asked t.ask parts.0) (says_hears p (no_call_yet []) t.told t.quiet))
+
+  -- and so does one alone
+  one_command : (c : Command) (pieces : List Piece) → Prints fleet c pieces → Answers fleet grounds histories (record { command = c; pieces = pieces }) → PrintsOwnOf c pieces → HasTimes c
+      → AreProper p pieces → Hears p (no_call_yet (option_to_list (meant_by p c))) pieces (no_call_yet [])
+  one_command (command.Standing leaf q) pieces prints answers own times proper = tells_once pieces own
+  one_command (command.Tell standing) pieces prints answers own times proper = by own
+    where
+      by : TellsOnce pieces ⊎ AsksOnce pieces → Hears p (no_call_yet []) pieces (no_call_yet [])
+      by (inl t) = tells_once pieces t
+      by (inr t) = asks_once pieces t proper
+  one_command c pieces prints answers own times proper =
+      subst (λ (calls : List Meant). Hears p (no_call_yet calls) pieces (no_call_yet [])) (append-nil (option_to_list (meant_by p c)))
+      (lane_command c pieces prints answers times proper [])
+
+  -- ---- lanes
+
+  abbrev ArePrinted : List Played → Type 0
+  ArePrinted ps = AllByRecursion (λ (q : Played). Prints fleet q.command q.pieces) ps
+
+  abbrev AreAnswered : List Played → Type 0
+  AreAnswered ps = AllByRecursion (Answers fleet grounds histories) ps
+
+  abbrev AreOfLane : List Played → Type 0
+  AreOfLane ps = AllByRecursion (λ (q : Played). IsOfLane q.command) ps
+
+  lane_hears : (ps : List Played) → ArePrinted ps → AreAnswered ps → AreOfLane ps → AreProper p (pieces_in ps)
+      → (rest : List Meant) → Hears p (no_call_yet (meant_lane p (commands_in ps) ++ rest)) (pieces_in ps) (no_call_yet rest)
+  lane_hears [] prints answers may proper rest = hears_none p (no_call_yet rest)
+  lane_hears (q ∷ ps) prints answers may proper rest =
+      let parts = proper_parts p q.pieces (pieces_in ps) proper in
+      let here : List Meant = option_to_list (meant_by p q.command) in
+      let others : List Meant = meant_lane p (commands_in ps) in
+      subst (λ (calls : List Meant). Hears p (no_call_yet calls) (q.pieces ++ pieces_in ps) (no_call_yet rest)) (sym (append_assoc here others rest))
+      (hears_more p (no_call_yet (here ++ (others ++ rest))) (no_call_yet (others ++ rest)) (no_call_yet rest) q.pieces (pieces_in ps)
+      (lane_command q.command q.pieces prints.0 answers.0 may.0 parts.0 (others ++ rest)) (lane_hears ps prints.1 answers.1 may.1 parts.1 rest))
+
+  abbrev plays_on : List (List Played) → List Played
+  plays_on lanes = flat_map (λ (lane : List Played). lane) lanes
+
+  lanes_heard : (number : ℕ) (lanes : List (List Played)) → ArePrinted (plays_on lanes) → AreAnswered (plays_on lanes) → AreOfLane (plays_on lanes) → AreProper p (pieces_in (plays_on lanes))
+      → heard_from p (no_call_yet (flat_map (meant_lane p) (map commands_in lanes))) (lane_lines number lanes) ≡ map heard_of (shown p.leaf p.table (pieces_in (plays_on lanes)))
+  lanes_heard number [] prints answers may proper = refl
+  lanes_heard number (lane ∷ lanes) prints answers may proper =
+      let others : List Played = plays_on lanes in
+      let joined : pieces_in (lane ++ others) ≡ pieces_in lane ++ pieces_in others = flat_map-append (λ (q : Played). q.pieces) lane others in
+      let printed = All-both (λ (q : Played). Prints fleet q.command q.pieces) lane others prints in
+      let answered = All-both (Answers fleet grounds histories) lane others answers in
+      let ofs = All-both (λ (q : Played). IsOfLane q.command) lane others may in
+      let parts = proper_parts p (pieces_in lane) (pieces_in others) (subst (λ (ps : List Piece). AreProper p ps) joined proper) in
+      lane_hears lane printed.0 answered.0 ofs.0 parts.0 (flat_map (meant_lane p) (map commands_in lanes)) (lane_lines (suc number) lanes)
+      ∙ ap (λ (hs : List Heard). map heard_of (shown p.leaf p.table (pieces_in lane)) ++ hs) (lanes_heard (suc number) lanes printed.1 answered.1 ofs.1 parts.1)
+      ∙ sym (heard_append p (pieces_in lane) (pieces_in others))
+      ∙ ap (λ (ps : List Piece). map heard_of (shown p.leaf p.table ps)) (sym joined)
+
+  alone_heard : (q : Played) → Prints fleet q.command q.pieces → Answers fleet grounds histories q → PrintsOwn q → HasTimes q.command → AreProper p (q.pieces ++ [])
+      → heard_from p (no_call_yet (option_to_list (meant_by p q.command))) (lines_in q.pieces) ≡ map heard_of (shown p.leaf p.table (q.pieces ++ []))
+  alone_heard q prints answers own times proper =
+      let calls = no_call_yet (option_to_list (meant_by p q.command)) in
+      let hears = one_command q.command q.pieces prints answers own times (subst (λ (ps : List Piece). AreProper p ps) (append-nil q.pieces) proper) in
+      ap (λ (ls : List Line). heard_from p calls ls) (sym (append-nil (lines_in q.pieces)))
+      ∙ hears []
+      ∙ append-nil (map heard_of (shown p.leaf p.table q.pieces))
+      ∙ ap (λ (ps : List Piece). map heard_of (shown p.leaf p.table ps)) (sym (append-nil q.pieces))
+
+-- Of a table of the fleet, what is heard behind an item is what the lines of its entries tell.
+pub heard_shown : (fleet : Fleet) (grounds : ℕ → ℕ → Ground) (histories : ℕ → ℕ → List Entry) (x : PlayedItem) (p : TablePlace)
+    → AreDistinct fleet.names → p.leaf < leaf_count fleet → slice_get fleet.names p.table ≡ Some p.name
+    → IsPlayable x
+    → AllByRecursion (λ (q : Played). Prints fleet q.command q.pieces) (plays_of x)
+    → AllByRecursion (Answers fleet grounds histories) (plays_of x)
+    → AllByRecursion PrintsOwn (plays_of x)
+    → AllByRecursion IsProper (shown p.leaf p.table (pieces_in (plays_of x)))
+    → heard p (meant_in p (item_of x)) (item_lines x) ≡ map heard_of (shown p.leaf p.table (pieces_in (plays_of x)))
+heard_shown fleet grounds histories (One q) p distinct below at may prints answers own proper =
+    alone_heard fleet grounds histories p distinct below at q prints.0 answers.0 own.0 may proper
+heard_shown fleet grounds histories (Burst lanes) p distinct below at may prints answers own proper =
+    lanes_heard fleet grounds histories p distinct below at 0 lanes prints answers may proper

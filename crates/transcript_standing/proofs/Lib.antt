@@ -1,0 +1,12 @@
+pub mod Lists
+pub mod Following
+pub mod Numbers
+pub mod HeardPieces
+pub mod HeardQueries
+pub mod HeardTails
+pub mod Heard
+pub mod Feeding
+pub mod Times
+pub mod Standing
+pub mod Mids
+pub mod Right

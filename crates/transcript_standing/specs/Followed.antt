@@ -1,0 +1,148 @@
+-- How the standing queries of a run followed the items that were played, over these histories of the tables.
+use Rattle.std.specs.Prelude.{◌≡◌, ℕ, ◌-◌, ◌<◌, int_le, true, false, List, [], ◌∷◌, ◌++◌, length, map, take, Some, slice_get, slice_set, ⊤}
+use Rattle.std.specs.List.{AllByRecursion}
+use Rattle.leaf_model.specs.declared.rows.Row.{Row}
+use Rattle.leaf_model.specs.declared.queries.Query.{Query}
+use Rattle.leaf_model.specs.declared.groups.Group.{Group}
+use Rattle.leaf_model.specs.Groups.{groups}
+use Rattle.leaf_model.specs.Values.{IsTime}
+use Rattle.answer_text.specs.Answer.{answer_lines}
+use Rattle.leaf_history.specs.Calls as call
+use Rattle.leaf_model.specs.Content.{Contents}
+use Rattle.leaf_history.specs.History.{Entry, after, held}
+use Rattle.script_text.specs.declared.command.Command.{Command}
+use Rattle.script_text.specs.declared.command.Command.TheVariants as command
+use Rattle.script_text.specs.declared.fleet.Fleet.{Fleet}
+use Rattle.script_text.specs.Commands.{leaf_count}
+use Rattle.printed_lines.specs.declared.line.Said.TheVariants.{Asked}
+use Rattle.printed_lines.specs.declared.line.WhyUntold.{WhyUntold}
+use Rattle.printed_lines.specs.declared.line.Line.{Line}
+use Rattle.printed_lines.specs.declared.line.Line.TheVariants as line
+use Rattle.standing_query.specs.Spread.{spread}
+use Rattle.standing_query.specs.States.{Means}
+use Rattle.standing_feed.specs.declared.follower.Follower.{Follower}
+use Rattle.standing_feed.specs.Following.{FollowAll, new_follower, noted, settled}
+use Rattle.transcript.specs.Pieces.{Piece, Called, Says, Played, PlayedItem, One, Burst, item_lines, item_of, place_among, plays_of}
+use Rattle.transcript.specs.Shapes.{CallPiece}
+use Rattle.transcript.specs.Histories.{Ground}
+use Rattle.transcript.specs.Telling.{why_untold}
+
+-- ---- which items
+
+-- the rows of a command have times
+abbrev pub AreTimes : List Row → Type 0
+AreTimes rows = AllByRecursion (λ (row : Row). IsTime row.time) rows
+
+abbrev pub HasTimes : Command → Type 0
+HasTimes (command.Add leaf table rows) = AreTimes rows
+HasTimes (command.Tail key table rows) = AreTimes rows
+HasTimes _ = ⊤
+
+-- in a lane no standing query is declared or told
+abbrev pub IsOfLane : Command → Type 0
+IsOfLane (command.Standing leaf q) = ⊥
+IsOfLane (command.Tell standing) = ⊥
+IsOfLane c = HasTimes c
+
+abbrev pub IsPlayable : PlayedItem → Type 0
+IsPlayable (One p) = HasTimes p.command
+IsPlayable (Burst lanes) = AllByRecursion (λ (p : Played). IsOfLane p.command) (plays_of (Burst lanes))
+
+-- ---- which standing queries
+
+-- one of a table of the fleet
+abbrev pub IsFollower : Fleet → Follower → Type 0
+IsFollower fleet f = (f.leaf < leaf_count fleet) × (f.table < length fleet.names)
+
+abbrev pub AreFollowers : Fleet → List Follower → Type 0
+AreFollowers fleet followers = AllByRecursion (IsFollower fleet) followers
+
+-- ---- what they themselves did
+
+-- what a fresh state tells: its answer over whatever rows it means
+abbrev pub TellsState : ℕ → Follower → Line → Type 0
+TellsState standing f told = (lines : List (List ℕ)) × (told ≡ line.Told standing f.standing.upto lines)
+    × ((rows : List Row) → Means f.standing rows → AreTimes rows → lines ≡ answer_lines f.standing.query (groups f.standing.query rows))
+
+module _ (fleet : Fleet) (grounds : ℕ → ℕ → Ground) (histories : ℕ → ℕ → List Entry) where
+  -- what its table held before that entry
+  abbrev pub held_before : Follower → ℕ → Contents
+  held_before f number = held (after (grounds f.leaf f.table).founded (grounds f.leaf f.table).base (take (number - 1) (histories f.leaf f.table)))
+
+  -- the groups of its spread over the rows that its table held then, which have times and of which none is below the horizon
+  pub record AreAsked (f : Follower) (number : ℕ) (gs : List Group) : Type 0 where
+    pub times : AreTimes (held_before f number).rows
+    pub none_below : AllByRecursion (λ (row : Row). int_le (held_before f number).horizon row.time ≡ true) (held_before f number).rows
+    pub are : gs ≡ groups (spread f.standing.query) (held_before f number).rows
+
+  -- One that is fresh tells at once; one that is stale once its table was asked, and is then fresh, or it tells why it stays stale.
+  pub data TellsItself (standing : ℕ) (f : Follower) (pieces : List Piece) (g : Follower) : Type 0 where
+    fresh : (told : Line)
+        → f.standing.stale ≡ false
+        → pieces ≡ Says told ∷ []
+        → TellsState standing f told
+        → g ≡ f
+        → TellsItself standing f pieces g
+    made_fresh : (number : ℕ) (gs : List Group) (told : Line)
+        → f.standing.stale ≡ true
+        → pieces ≡ Called f.leaf f.table (call.Ask (spread f.standing.query)) number Asked ∷ Says told ∷ []
+        → AreAsked f number gs
+        → TellsState standing (settled number gs f) told
+        → g ≡ settled number gs f
+        → TellsItself standing f pieces g
+    stays_stale : (asked : Piece) (why : WhyUntold)
+        → f.standing.stale ≡ true
+        → CallPiece f.leaf f.table (call.Ask (spread f.standing.query)) asked
+        → why_untold asked ≡ Some why
+        → pieces ≡ asked ∷ Says (line.Untold standing why) ∷ []
+        → g ≡ f
+        → TellsItself standing f pieces g
+
+  -- the one of that number
+  pub record TellsOne (standing : ℕ) (pieces : List Piece) (olds news : List Follower) : Type 0 where
+    pub old : Follower
+    pub new : Follower
+    pub at : slice_get olds standing ≡ Some old
+    pub tells : TellsItself standing old pieces new
+    pub news_are : news ≡ slice_set olds standing new
+
+  -- one more of a table of the fleet
+  pub record DeclaresOne (leaf : ℕ) (query : Query) (pieces : List Piece) (olds news : List Follower) : Type 0 where
+    pub leaf_is : leaf < leaf_count fleet
+    pub table_is : place_among query.table fleet.names < length fleet.names
+    pub pieces_are : pieces ≡ Says (line.Declared (length olds)) ∷ []
+    pub news_are : news ≡ olds ++ new_follower leaf (place_among query.table fleet.names) query ∷ []
+
+  -- what they did at an item before they followed its lines
+  abbrev pub DoesItself : PlayedItem → List Follower → List Follower → Type 0
+  DoesItself (One p) olds news = by p.command
+    where
+      by : Command → Type 0
+      by (command.Standing leaf q) = DeclaresOne leaf q p.pieces olds news
+      by (command.Tell standing) = TellsOne standing p.pieces olds news
+      by c = news ≡ olds
+  DoesItself (Burst lanes) olds news = news ≡ olds
+
+  -- ---- a run
+
+  -- they followed an item whole
+  pub record FollowsItem (x : PlayedItem) (olds news : List Follower) : Type 0 where
+    pub between : List Follower
+    pub may : IsPlayable x
+    pub itself : DoesItself x olds between
+    pub follow : FollowAll (map (noted (item_of x)) olds) (item_lines x) between news
+
+  -- these items one after another
+  abbrev pub FollowedAll : List PlayedItem → List Follower → List Follower → Type 0
+  FollowedAll [] olds news = news ≡ olds
+  FollowedAll (x ∷ xs) olds news = (between : List Follower) × FollowsItem x olds between × FollowedAll xs between news
+
+  -- and maybe one more, of which they followed no line
+  pub record FollowedSome (items : List PlayedItem) (olds : List Follower) : Type 0 where
+    pub whole : List PlayedItem
+    pub last : List PlayedItem
+    pub between : List Follower
+    pub items_are : items ≡ whole ++ last
+    pub followed : FollowedAll whole olds between
+    pub behind : AllByRecursion (λ (x : PlayedItem). (news : List Follower) × DoesItself x between news) last
+    pub one : length last < 2
