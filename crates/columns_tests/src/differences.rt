@@ -1,5 +1,6 @@
 // Differences as codes, and values that come back by them.
-use delta_codes::{delta, undo, zigzag};
+use delta_codes::{delta, undo, undo_all, zigzag};
+use std::alloc::{AllocError, Global};
 use std::test::Fail;
 
 #[test]
@@ -23,5 +24,66 @@ fn values_come_back_by_their_differences(rt: HostRuntime) -> Result<(), Fail> {
     ] {
         assert!(rt; undo(before, code) == value);
     }
+    Ok(())
+}
+
+// Whether anchors and codes mean these values, where there is an anchor for each 64 codes begun.
+fn mean_values(
+    alloc: Global,
+    anchors: &[i64],
+    codes: &[u64],
+    values: &[i64],
+) -> Result<bool, AllocError> {
+    if anchors.len() != codes.len().div_ceil(64) {
+        return Ok(false);
+    }
+    let mut slots = vec![in alloc; 0i64; codes.len()]?;
+    undo_all(anchors, codes, &mut slots);
+    Ok(slots.as_slice() == values)
+}
+
+// The integers from `first` on, so many, and one more behind them.
+fn rising_and_one(
+    alloc: Global,
+    first: i32,
+    count: i32,
+    behind: i64,
+) -> Result<Vec<i64>, AllocError> {
+    let mut values = Vec::new(alloc);
+    for step in 0..count {
+        values.push(i64::from(first) + i64::from(step))?;
+    }
+    values.push(behind)?;
+    Ok(values)
+}
+
+#[test]
+fn an_anchor_begins_each_sixty_four_values_anew(rt: HostRuntime) -> Result<(), Fail> {
+    let alloc = rt.alloc();
+    // The code of a value that stands as an anchor means nothing.
+    for (anchors, codes, values) in [
+        (
+            [10].as_slice(),
+            [0, 4, 1].as_slice(),
+            [10, 12, 11].as_slice(),
+        ),
+        (
+            [10].as_slice(),
+            [9, 4, 1].as_slice(),
+            [10, 12, 11].as_slice(),
+        ),
+        (
+            [i64::MIN].as_slice(),
+            [0, 1].as_slice(),
+            [i64::MIN, i64::MAX].as_slice(),
+        ),
+        ([].as_slice(), [].as_slice(), [].as_slice()),
+    ] {
+        assert!(rt; mean_values(alloc, anchors, codes, values)?);
+    }
+    // 64 values from 10 to 73, each one above the one before it, and then the second anchor.
+    let codes = vec![in alloc; 2u64; 65]?;
+    let values = rising_and_one(alloc, 10, 64, -5)?;
+    assert!(rt; mean_values(alloc, &[10, -5], &codes, &values)?);
     Ok(())
 }

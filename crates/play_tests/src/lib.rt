@@ -1,4 +1,4 @@
-//! Tests of whole runs: over streams and berths that fail, over what a crash leaves, over two leaves that are asked at once, and with rollovers.
+//! Tests of whole runs: over streams and berths that fail, over what a crash leaves, over two leaves that are asked at once, with rollovers, and of soaks.
 #![tactic(auto)]
 
 #[cfg(test)]
@@ -11,5 +11,7 @@ mod gates;
 mod plays;
 #[cfg(test)]
 mod rollovers;
+#[cfg(test)]
+mod soaks;
 #[cfg(test)]
 mod streams;

@@ -131,6 +131,17 @@ fn each_turn_has_the_next_number_and_its_answer(rt: HostRuntime) -> Result<(), F
     Ok(())
 }
 
+#[test]
+fn a_split_seat_gives_its_last_ids_away(rt: HostRuntime) -> Result<(), Fail> {
+    let (table, steward, mut caller) = new_table(rt.alloc())?;
+    assert_eq!(rt; table.name().as_str(), "t");
+    assert_eq!(rt; (steward.id(), caller.id()), (0, 1));
+    let other = table.split(&mut caller, 1)?;
+    assert_eq!(rt; (caller.id(), other.id()), (1, 2));
+    assert_eq!(rt; (caller.share(), other.share()), (1, 1));
+    Ok(())
+}
+
 /// Adds a copy of rows: the number of that entry, where they were added.
 fn add<R: Wait + Threads + Sync>(
     rt: &R,
