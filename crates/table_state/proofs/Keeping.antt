@@ -1,13 +1,11 @@
 -- What a table holds stays what a table may hold.
-use Rattle.std.proofs.Common.{cond, ◌≡◌, ℕ, zero, suc, ◌+◌, ◌-◌, ◌≤◌, Bool, true, false, List, [], ◌∷◌, ◌++◌, length, take, drop, refl, sym, ap, subst, ◌∙◌, arith, length-append}
+use Rattle.std.proofs.Common.{cond, ◌≡◌, ℕ, zero, suc, ◌≤◌, Bool, true, false, List, [], ◌∷◌, ◌++◌, length, take, drop, refl, sym, ap, ◌∙◌, arith}
 use Rattle.std.specs.Prelude.{ℤ, int_le}
 use Rattle.std.specs.List.{AllByRecursion}
-use Rattle.std.proofs.lemmas.List.{length-drop}
 use Rattle.leaf_model.specs.declared.rows.Row.{Row}
-use Rattle.leaf_model.specs.Values.{IsRow, IsTime}
-use Rattle.leaf_model.specs.Content.{rows_from, last_rows}
-use Rattle.row_blocks.specs.Blocks.{Block}
-use Rattle.table_state.specs.Tables.{IsHeld, IsHeldRow, IsStored, Table, most_rows}
+use Rattle.leaf_model.specs.Values.{IsRow}
+use Rattle.leaf_model.specs.Content.{rows_from}
+use Rattle.table_state.specs.Tables.{IsHeldRow}
 
 module _ (P : Row → Type 0) where
   pub each-append : (xs ys : List Row) → AllByRecursion P xs → AllByRecursion P ys → AllByRecursion P (xs ++ ys)

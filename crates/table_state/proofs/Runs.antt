@@ -1,8 +1,8 @@
 -- Whole runs of rows, sealed one after another.
-use Rattle.std.proofs.Common.{◌≡◌, ℕ, zero, suc, ◌+◌, ◌-◌, ◌*◌, ◌/◌, ◌≤◌, List, [], ◌∷◌, ◌++◌, length, map, take, drop, refl, sym, ap, ap₂, subst, ◌∙◌, Bor, arith}
+use Rattle.std.proofs.Common.{◌≡◌, ℕ, zero, suc, ◌+◌, ◌-◌, ◌*◌, ◌≤◌, List, [], ◌∷◌, ◌++◌, take, drop, refl, sym, ap, ap₂, subst, ◌∙◌, Bor, arith}
 use Rattle.std.specs.Prelude.{slice_range}
 use Rattle.std.specs.List.{AllByRecursion}
-use Rattle.std.proofs.lemmas.List.{append-nil, drop-map, take-map, take_all}
+use Rattle.std.proofs.lemmas.List.{append-nil, drop-map, take-map}
 use Rattle.std.proofs.lemmas.List.Concat.{flat_map-append}
 use Rattle.leaf_model.specs.declared.rows.Row.{Row}
 use Rattle.leaf_model.specs.Values.{IsRow}

@@ -8,15 +8,15 @@ use Rattle.std.proofs.lemmas.List.Elements.{filter-append}
 use Rattle.leaf_model.specs.declared.rows.Row.{Row}
 use Rattle.leaf_model.specs.Values.{IsRow, IsTime}
 use Rattle.leaf_model.specs.declared.writes.Write.TheVariants.{Expire}
-use Rattle.leaf_model.specs.Content.{Contents, content_after, last_rows, rows_from}
+use Rattle.leaf_model.specs.Content.{content_after, last_rows, rows_from}
 use Rattle.row_records.specs.Records.{LogRecord}
 use Rattle.row_blocks.specs.Blocks.{Block, IsBlock, rows_in}
 use Rattle.row_blocks.specs.Held.{IsSkip, block_rows, blocks_held, rows_held}
 use Rattle.expiry.specs.Laws.{HorizonsExpire}
 use Rattle.table_state.specs.declared.parts.Parts.{Parts}
-use Rattle.table_state.specs.Stored.{AreSealed, IsCut, Stands, in_runs, sealed_rows}
-use Rattle.table_state.specs.Tables.{IsHeld, IsHeldRow, IsParts, IsPartsOf, IsStored, Table, contents_of, empty_table, most_rows, no_store}
-use Rattle.table_state.proofs.Fronts.{counted, cut_of, drop_none, no_rows, sealed_none}
+use Rattle.table_state.specs.Stored.{AreSealed, Stands, in_runs, sealed_rows}
+use Rattle.table_state.specs.Tables.{IsHeldRow, IsParts, IsPartsOf, IsStored, Table, empty_table, most_rows, no_store}
+use Rattle.table_state.proofs.Fronts.{counted, drop_none, sealed_none}
 use Rattle.table_state.proofs.Keeping.{all_from, are_rows, each-append, each-drop, each-take, each_from, few_from}
 use Rattle.table_state.proofs.Runs.{rest_short, runs_fit}
 
@@ -323,23 +323,3 @@ pub none_told : (blocks : List Block) (tail : List Row) (pending : Option LogRec
 none_told blocks tail pending no_blocks none nothing =
     ap₂ (λ (b : List Block) (l : List Row). standing b 0 l (pos 0) 0 pending) no_blocks none
     ∙ ap₂ (λ (l : List Row) (p : Option LogRecord). record { contents = record { rows = l; horizon = pos 0 }; writes = 0; pending = p; store = no_store }) (none_held [] [] (pos 0) refl refl) nothing
-
--- ---- rows of a table that had none
-
-module _ (h : ℤ) (rows : List Row) (held : IsHeld (record { rows = rows; horizon = h })) (first now : List Block) (before rest : List Row) (no_blocks : first ≡ []) (none : before ≡ [])
-    (is : AreSealed first (take (in_runs (length (before ++ rows_from h rows))) (before ++ rows_from h rows)) now)
-    (left : rest ≡ drop (in_runs (length (before ++ rows_from h rows))) (before ++ rows_from h rows)) where
-  base : Stands first 0 before h 0
-  base = none_stand first before h no_blocks none held.horizon
-
-  pub from_stands : (count : ℕ) → count ≡ in_runs (length (before ++ rows_from h rows)) → Stands now 0 rest h count
-  from_stands count e =
-      let same : 0 + count ≡ count = omega arith in
-      let short = ap (λ (l : List Row). length l) none in
-      let few : 0 + length before + length (rows_from h rows) ≤ most_rows = omega (arith, short, few_from h rows, held.few) in
-      subst (Stands now 0 rest h) same (add_stands first 0 before h 0 base rows rows (are_rows h rows held.each) refl h refl now is rest left count e few)
-
-  pub from_held : sealed_rows now 0 h ++ rest ≡ rows
-  from_held =
-      add_rows first 0 before h 0 base rows rows (are_rows h rows held.each) refl h refl now is rest left
-      ∙ ap₂ (λ (l m : List Row). l ++ m) (none_held first before h no_blocks none) (all_from h rows held.each)

@@ -3,7 +3,7 @@ ghost use Rattle.std.specs.Prelude.{◌≡◌, ◌≤◌, ◌<◌, ◌-◌, ◌^
 ghost use Rattle.std.specs.List.{AllByRecursion};
 ghost use Rattle.leaf_model.specs.Values.{IsRow, IsTime, IsWrite};
 ghost use Rattle.leaf_model.specs.declared.writes.Write.TheVariants.{Add, Expire, Keep};
-ghost use Rattle.table_state.specs.Tables.{bare, empty_table, most_rows, no_store, replayed, Adds, IsHeld, IsParts, IsPartsOf, IsStored, MayWrite, Removes, Replays, Seals, Takes};
+ghost use Rattle.table_state.specs.Tables.{bare, empty_table, most_rows, replayed, Adds, IsParts, IsPartsOf, IsStored, MayWrite, Removes, Replays, Seals, Takes};
 
 use crate::fault::{AddFault, Added};
 use crate::front::{copy_blocks, count_live, cut_front, leave_live};
@@ -300,32 +300,5 @@ impl TableState {
             writes: parts.writes,
             pending: Pending::new(alloc),
         }
-    }
-
-    /// A table that holds these rows under this horizon, with nothing that was not taken.
-    pub fn from_rows(
-        alloc: Global,
-        rows: Vec<Row>,
-        horizon: i64,
-        writes: u64,
-    ) -> Result<TableState, AllocError>
-        requires held { IsHeld (record { rows = rows.items; horizon = horizon }) }
-        ensures { IfOk result (λ t. bare t ≡ record { contents = record { rows = rows.items; horizon = horizon }; writes = writes; pending = None; store = no_store }) }
-    {
-        let mut blocks = Blocks::new(alloc);
-        let mut tail = Vec::new(alloc);
-        let Ok(_kept) = prepare(0, &mut blocks, &mut tail, horizon, rows.as_slice()) else {
-            return Err(AllocError);
-        };
-        let live = admit(&mut tail, horizon, rows);
-        Ok(TableState {
-            blocks,
-            skip: 0,
-            live,
-            tail,
-            horizon,
-            writes,
-            pending: Pending::new(alloc),
-        })
     }
 }

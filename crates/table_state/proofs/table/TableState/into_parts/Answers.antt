@@ -1,4 +1,4 @@
-use Rattle.std.proofs.Common.{◌≡◌, ℤ, List, to_z, of_z, sym, ap, subst, ◌∙◌, rules}
+use Rattle.std.proofs.Common.{◌≡◌, ℤ, to_z, of_z, sym, ap, subst, ◌∙◌, rules}
 use Rattle.std.specs.Int.{w64}
 use Rattle.table_state.specs.Tables.{IsParts, IsPartsOf, Table}
 use Rattle.table_state.proofs.Stood.{are_parts, parts_of}

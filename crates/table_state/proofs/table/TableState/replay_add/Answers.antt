@@ -1,12 +1,10 @@
-use Rattle.std.proofs.Common.{◌≡◌, ◌≤◌, ◌+◌, ◌-◌, ◌++◌, ℕ, List, Option, Some, length, drop, ap₂, ap, subst, to_z, of_z, ◌∙◌, arith, length-append, rules}
+use Rattle.std.proofs.Common.{◌≡◌, ◌≤◌, ◌+◌, ◌++◌, List, length, drop, ap, subst, to_z, of_z, arith, length-append, rules}
 use Rattle.std.specs.Int.{w64}
 use Rattle.leaf_model.specs.declared.rows.Row.{Row}
 use Rattle.leaf_model.specs.declared.writes.Write.TheVariants.{Add}
-use Rattle.leaf_model.specs.Content.{content_after, kept_count, late_count, rows_from}
-use Rattle.row_records.specs.Records.{LogRecord}
-use Rattle.row_records.specs.Pending.{with_push}
+use Rattle.leaf_model.specs.Content.{content_after, rows_from}
 use Rattle.table_state.specs.Stored.{in_runs, sealed_rows}
-use Rattle.table_state.specs.Tables.{Table, bare, most_rows, no_store, replayed, table_with_write}
+use Rattle.table_state.specs.Tables.{Table, most_rows, no_store, replayed}
 use Rattle.table_state.proofs.Stood.{add_rows, add_stands, held_count}
 use Rattle.table_state.proofs.table.TableState.replay_add.Goals as goal
 
