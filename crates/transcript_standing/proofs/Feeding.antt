@@ -303,11 +303,6 @@ pub fed_to : (g : Ground) (entries : List Entry) (s : Shown) → LegalFrom g.fou
     → NoneBelow (contents_behind g entries (s.number - 1)) → FedTo (fed_of s.call s.said) (rows_behind g entries (s.number - 1)) (rows_behind g entries s.number)
 fed_to g entries s legal shows on below = (step_of g entries s legal shows on below).feeds
 
--- and none of them is below the horizon
-pub none_below_on : (g : Ground) (entries : List Entry) (s : Shown) → LegalFrom g.founded g.base entries → ShowsIn entries s → is_end (fed_of s.call s.said) ≡ false
-    → NoneBelow (contents_behind g entries (s.number - 1)) → NoneBelow (contents_behind g entries s.number)
-none_below_on g entries s legal shows on below = (step_of g entries s legal shows on below).none_below
-
 -- an ask that was answered leaves what the table holds
 some_call : (c c' : Call) → Some c ≡ Some c' → c' ≡ c
 some_call c c' e = cc
@@ -350,12 +345,6 @@ times_fed (fed.Added rows late) before now new to times =
 times_fed (fed.Expired horizon) before now new to times =
     subst (λ (rs : List Row). AreTimes rs) (sym to) (each-filter (λ (row : Row). IsTime row.time) (λ (row : Row). int_le horizon row.time) before times)
 times_fed _ before now new to times = subst (λ (rs : List Row). AreTimes rs) (sym to) times
-
--- times stay times
-pub times_on : (g : Ground) (entries : List Entry) (s : Shown) → LegalFrom g.founded g.base entries → ShowsIn entries s → is_end (fed_of s.call s.said) ≡ false
-    → NoneBelow (contents_behind g entries (s.number - 1)) → AddsTimes s → AreTimes (rows_behind g entries (s.number - 1)) → AreTimes (rows_behind g entries s.number)
-times_on g entries s legal shows on below adds times =
-    times_fed (fed_of s.call s.said) (rows_behind g entries (s.number - 1)) (rows_behind g entries s.number) (fed_times s.call s.said adds) (fed_to g entries s legal shows on below) times
 
 -- ---- entries one after another
 
