@@ -45,6 +45,7 @@ empty_left reads = record {
   sound = ([], 0, is_short (lit≤ tt) refl refl, λ name k. none k);
   front = λ name. (0, lit≤ tt, lit≤ tt, refl);
   region = closed (inl (lit< tt));
+  serving = λ name serves. inl (lit< tt);
 }
   where
     none : (k : ℕ) → length (content (take k [])).rows ≤ 2 ^ 40

@@ -1,5 +1,5 @@
 -- A pair that fits a kept state belongs to its tables.
-use Rattle.std.proofs.Common.{◌≡◌, ℕ, ◌+◌, ◌≤◌, Bool, true, false, List, [], ◌∷◌, length, take, refl, inl, ap, ◌∙◌, arith}
+use Rattle.std.proofs.Common.{◌≡◌, ℕ, ◌+◌, ◌≤◌, Bool, true, false, List, [], ◌∷◌, length, take, Option, refl, inl, ap, ◌∙◌, arith}
 use Rattle.std.specs.Prelude.{if◌then◌else◌, bytes_eq}
 use Rattle.std.proofs.lemmas.Slice.Eq.{bytes_eq-Decides}
 use Rattle.std.proofs.Math.Seq.{take-length}
@@ -9,9 +9,10 @@ use Rattle.row_records.specs.Records.{LogRecord}
 use Rattle.disk_backup.specs.Logs.{IsLog, writes_of}
 use Rattle.disk_backup.proofs.Logs.{one_log, closed_is_log}
 use Rattle.crash_moments.specs.Left.{NamedStates, Left, RegionLeft, closed, other_version, image}
-use Rattle.crash_events.specs.Machine.{Machine, Tracked, RegionIs, Whole, Either, Other}
+use Rattle.region_layout.specs.Head.{IsClosed}
+use Rattle.crash_events.specs.Machine.{Machine, Tracked, Hand, Mode, Down, Finding, Scanning, Adopting, Opening, Up, Preparing, Copying, RegionIs, Closed, Whole, Either, Other}
 use Rattle.crash_events.specs.Events.{IsSettled, MayBe}
-use Rattle.crash_events.specs.Kept.{KeptTable, Kept, AllPlaces, in_hand, holds_image, is_frozen, stays}
+use Rattle.crash_events.specs.Kept.{KeptTable, KeptLeaf, Kept, AllPlaces, in_hand, holds_image, is_frozen, may_be_live, stays}
 use Rattle.crash_events.specs.Fits.{RegionFits, shows_lost, shows_closed, shows_whole, shows_either, shows_other, FitsPair, state_of, IsElsewhere}
 use Rattle.crash_events.specs.Laws.{IsPlain}
 use Rattle.crash_events.proofs.Leaving.{may_be_between}
@@ -66,6 +67,44 @@ regions reads tables pair records end Whole log whole (shows_whole version image
 regions reads tables pair records end Either log whole (shows_either f) = regions reads tables pair records end Whole log (λ e. whole refl) f
 regions reads tables pair records end Other log whole (shows_other version head n) = other_version version head n
 
+-- ---- a table is open only where the region is closed
+
+mode_closed : (mode : Mode) (region : RegionIs) (hand : Option Hand) → KeptLeaf mode region hand → may_be_live mode region ≡ true → region ≡ Closed
+mode_closed Up region hand k may = k.shut refl
+mode_closed Preparing region hand k may = k.shut refl
+mode_closed Opening region hand k may = k.shut refl
+mode_closed Down Closed hand k may = refl
+mode_closed Down Whole hand k may = absurd cc
+mode_closed Down Either hand k may = absurd cc
+mode_closed Down Other hand k may = absurd cc
+mode_closed (Finding found) region hand k may = absurd cc
+mode_closed (Scanning made) region hand k may = absurd cc
+mode_closed Adopting region hand k may = absurd cc
+mode_closed Copying region hand k may = absurd cc
+
+table_closed : (mode : Mode) (region : RegionIs) (hand : Option Hand) (n : ℕ) (x : Tracked) → KeptLeaf mode region hand → KeptTable mode region n x → x.state.live ≡ true → region ≡ Closed
+table_closed mode region hand n x leaf k live = by x.own refl
+  where
+    by : (own : Bool) → x.own ≡ own → region ≡ Closed
+    by true own = mode_closed mode region hand leaf (k.live own live)
+    by false own = let shut : x.state.live ≡ false = (k.stranger own).0 in absurd cc
+
+names_closed : (m : Machine) (name : List ℕ) (b : ℕ) (xs : List Tracked) → KeptLeaf m.mode m.region m.hand → AllPlaces (λ t x. KeptTable m.mode m.region (in_hand m.hand t) x) b xs
+    → (state_of xs name).live ≡ true → m.region ≡ Closed
+names_closed m name b [] leaf k live = absurd cc
+names_closed m name b (x ∷ xs) leaf k live = by (bytes_eq name x.name) (names_closed m name (b + 1) xs leaf k.1) live
+  where
+    by : (c : Bool) → ((state_of xs name).live ≡ true → m.region ≡ Closed) → (if c then x.state else state_of xs name).live ≡ true → m.region ≡ Closed
+    by true rest here = table_closed m.mode m.region m.hand (in_hand m.hand b) x leaf k.0 here
+    by false rest here = rest here
+
+closed_fits : (reads : ℕ → Bool) (tables : NamedStates) (pair : Pair) (r : RegionIs) → r ≡ Closed → RegionFits reads tables pair r → IsClosed pair.region
+closed_fits reads tables pair r is (shows_lost none) = inl (let short : length pair.region ≡ 0 = ap (λ (bytes : List ℕ). length bytes) none in omega (arith, short))
+closed_fits reads tables pair r is (shows_closed may shut) = shut
+closed_fits reads tables pair Whole is (shows_whole version images those ends may are of shut) = absurd cc
+closed_fits reads tables pair Either is (shows_either f) = absurd cc
+closed_fits reads tables pair Other is (shows_other version head n) = absurd cc
+
 -- a pair that fits a kept state belongs to its tables
 pub fitting_is_left : (reads : ℕ → Bool) (m : Machine) (pair : Pair) → IsPlain m.tables → Kept m → FitsPair reads m pair → Left reads (state_of m.tables) pair
 fitting_is_left reads m pair plain k f = record {
@@ -73,4 +112,5 @@ fitting_is_left reads m pair plain k f = record {
   front = λ name. fronts m f.sound.0 name 0 m.tables k.1 f.logs plain (f.others name);
   region = regions reads (state_of m.tables) pair f.sound.0 f.sound.1 m.region f.sound.2
       (λ e name. wholes m f.sound.0 name (or_left (holds_image m.region) (stays m.mode) e) 0 m.tables k.1 f.logs plain (f.others name)) f.region;
+  serving = λ name live. closed_fits reads (state_of m.tables) pair m.region (names_closed m name 0 m.tables k.0 k.1 live) f.region;
 }

@@ -31,9 +31,10 @@ pub data RegionLeft (reads : ℕ → Bool) (tables : NamedStates) (pair : Pair) 
       → HasLog (λ name. (tables name).writes) end pair.disk
       → RegionLeft reads tables pair
 
--- The pair belongs to these tables: its log is sound, its records have a front of the writes of each, and its region is one of those.
+-- The pair belongs to these tables: its log is sound, its records have a front of the writes of each, and its region is one of those: closed, where a table is open.
 -- `reads` says which versions of an image are read.
 pub record Left (reads : ℕ → Bool) (tables : NamedStates) (pair : Pair) : Type 0 where
   pub sound : IsSound pair.disk
   pub front : IsFront tables sound.0
   pub region : RegionLeft reads tables pair
+  pub serving : (name : List ℕ) → (tables name).live ≡ true → IsClosed pair.region

@@ -36,11 +36,11 @@ log_left : (ws : List Watched) (owner : ℕ) (log : LogState) (writes : List ℕ
 log_left ws owner log writes m runs others p shut (inl without) =
     let short = taken_short ws owner log writes m runs in
     left_by (tables_then others m.clock ws) writes p (sound_log writes log.end p.disk without (λ name. short_without log.owed writes name (short name)))
-    (runs_front ws owner log writes m runs others writes (without_owed log.owed writes)) (closed shut)
+    (runs_front ws owner log writes m runs others writes (without_owed log.owed writes)) (λ name serves. shut) (closed shut)
 log_left ws owner log writes m runs others p shut (inr whole) =
     let taken : List ℕ → List Write = with_writes log.owed writes in
     left_by (tables_then others m.clock ws) taken p (sound_log taken (end_with log) p.disk whole (taken_short ws owner log writes m runs))
-    (runs_front ws owner log writes m runs others taken (with_owed log.owed writes)) (closed shut)
+    (runs_front ws owner log writes m runs others taken (with_owed log.owed writes)) (λ name serves. shut) (closed shut)
 
 module _ (ws : List Watched) (owner : ℕ) (log log' : LogState) (writes : List ℕ → List Write) (a b : Meaning) (runs : Runs ws owner log writes a) (passes : Passes a b) where
   -- no entry was made

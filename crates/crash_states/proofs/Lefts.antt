@@ -27,7 +27,7 @@ use Rattle.crash_states.specs.Laws.{IsLeftNow}
 use Rattle.crash_states.proofs.Names.{IsOwn, IsForeign, find_name, same_by_name, others_at, no_others, each_at, named_at}
 use Rattle.crash_states.proofs.States.{IsFrontOf, IsBetween, front_short, no_front, front_before, shut_then, now_sound, then_sound, without_owed, with_owed, between_few, logged_front, kept_least, kept_most, treated_front, treated_none}
 use Rattle.crash_states.proofs.Disks.{sound_owing, sound_log}
-use Rattle.crash_states.proofs.Pairs.{left_by, image_left, lost_closed, rests_region}
+use Rattle.crash_states.proofs.Pairs.{left_by, image_left, lost_closed, not_open, rests_region}
 
 -- ---- a leaf that serves or shuts its tables
 
@@ -75,8 +75,8 @@ pub runs_left : (ws : List Watched) (others : NamedStates) (owner : ℕ) (log : 
 runs_left ws others owner log writes m runs p left =
     let front = runs_front ws owner log writes m runs others in
     elim (runs_logs ws owner log writes m runs p left) [
-      | inl without ↦ left_by (tables_then others m.clock ws) writes p without (front writes (without_owed log.owed writes)) (closed (runs.closed p left))
-      | inr more ↦ left_by (tables_then others m.clock ws) (with_writes log.owed writes) p more (front (with_writes log.owed writes) (with_owed log.owed writes)) (closed (runs.closed p left))
+      | inl without ↦ left_by (tables_then others m.clock ws) writes p without (front writes (without_owed log.owed writes)) (λ name serves. runs.closed p left) (closed (runs.closed p left))
+      | inr more ↦ left_by (tables_then others m.clock ws) (with_writes log.owed writes) p more (front (with_writes log.owed writes) (with_owed log.owed writes)) (λ name serves. runs.closed p left) (closed (runs.closed p left))
     ]
 
 -- ---- a leaf at rest
@@ -94,6 +94,10 @@ module _ (ws : List Watched) (others : NamedStates) (least : List ℕ → List W
       let kept : IsKept (least name) most (tables_then others m.clock ws name) = subst (IsKept (least name) most) (sym (rests_then name)) (rests.each name) in
       (kept_least (least name) most (tables_then others m.clock ws name) kept, kept_most (least name) most (tables_then others m.clock ws name) kept (with_owed next least name).no_less)
 
+  -- no table is open
+  rests_serving : (p : Pair) (name : List ℕ) → (tables_then others m.clock ws name).live ≡ true → IsClosed p.region
+  rests_serving p name = not_open (tables_then others m.clock ws name) p (ap (λ (s : HistoryState). s.live) (rests_then name) ∙ (rests.each name).shut)
+
   -- what may be left of its region
   region_then : (p : Pair) → m.leaves m.clock p → RegionLeft reads (tables_then others m.clock ws) p
   region_then p left =
@@ -105,9 +109,10 @@ rests_left ws others least next m rests p left =
     let tables : NamedStates = tables_then others m.clock ws in
     let fronts = rests_front ws others least next m rests in
     let region : RegionLeft reads tables p = region_then ws others least next m rests p left in
+    let serving = rests_serving ws others least next m rests p in
     elim (rests.logs p left) [
-      | inl shortest ↦ left_by tables least p shortest (λ name. (fronts name).0) region
-      | inr longest ↦ left_by tables (with_writes next least) p longest (λ name. (fronts name).1) region
+      | inl shortest ↦ left_by tables least p shortest (λ name. (fronts name).0) serving region
+      | inr longest ↦ left_by tables (with_writes next least) p longest (λ name. (fronts name).1) serving region
     ]
 
 -- ---- a leaf that copies its tables, and one whose image is copied
@@ -147,13 +152,14 @@ module _ (ws : List Watched) (writes : List ℕ → List Write) (m : Meaning) (a
   -- a pair belongs to them whose region is closed, or an image with their writes
   pub treated_closed : (others : NamedStates) (p : Pair) (log_end : ℕ) → HasLog writes log_end p.disk → IsClosed p.region → Left reads (tables_then others m.clock ws) p
   treated_closed others p log_end had shut =
-      left_by (tables_then others m.clock ws) writes p (sound_log writes log_end p.disk had treated_short) (λ name. treated_front (writes name) (tables_then others m.clock ws name) (treated_then others name)) (closed shut)
+      left_by (tables_then others m.clock ws) writes p (sound_log writes log_end p.disk had treated_short) (λ name. treated_front (writes name) (tables_then others m.clock ws name) (treated_then others name)) (λ name serves. shut) (closed shut)
 
   pub treated_image : (others : NamedStates) (p : Pair) (images : List TableImage) (log_end : ℕ) → HasLog writes log_end p.disk → IsAdoptable p.region images log_end → AreImagesOf writes images
       → Left reads (tables_then others m.clock ws) p
   treated_image others p images log_end had is same =
       let log : HasSoundLog writes p.disk = sound_log writes log_end p.disk had treated_short in
       left_by (tables_then others m.clock ws) writes p log (λ name. treated_front (writes name) (tables_then others m.clock ws name) (treated_then others name))
+      (λ name. not_open (tables_then others m.clock ws name) p (treated_then others name).shut)
       (image_left (tables_then others m.clock ws) writes p images log_end (λ name. (treated_then others name).whole) is same had)
 
 pub copies_treated : (ws : List Watched) (drain : DrainState) (writes : List ℕ → List Write) (m : Meaning) → Copies ws drain writes m → AreTreated ws writes m

@@ -1,11 +1,12 @@
 -- A pair that a crash may leave, by its log and its region.
-use Rattle.std.proofs.Common.{◌≡◌, inl, inr, ℕ, List, [], length, sym, ap, subst, ◌∙◌, arith}
+use Rattle.std.proofs.Common.{◌≡◌, inl, inr, ℕ, true, false, List, [], length, sym, ap, subst, ◌∙◌, arith}
 use Rattle.leaf_model.specs.declared.writes.Write.{Write}
 use Rattle.berth_face.specs.Berth.{Pair, Meaning}
 use Rattle.region_layout.specs.Images.{TableImage}
 use Rattle.region_layout.specs.Head.{IsClosed}
 use Rattle.region_layout.specs.Region.{reads, IsAdoptable}
 use Rattle.disk_backup.specs.Settling.{HasLog}
+use Rattle.leaf_history.specs.History.{HistoryState}
 use Rattle.region_layout.specs.ImageWrites.{AreImagesOf}
 use Rattle.disk_backup.specs.SoundLogs.{HasSoundLog}
 use Rattle.crash_moments.specs.Left.{NamedStates, Left, RegionLeft, closed, image}
@@ -13,14 +14,19 @@ use Rattle.crash_moments.proofs.Alike.{images_alike, log_alike}
 use Rattle.crash_states.specs.Standing.{RegionRests, StandsNow}
 use Rattle.crash_states.proofs.States.{IsFrontOf, front_within}
 
+-- a shut table is not open
+pub not_open : (s : HistoryState) (p : Pair) → s.live ≡ false → s.live ≡ true → IsClosed p.region
+not_open s p shut open_now = absurd cc
+
 pub left_by : (tables : NamedStates) (held : List ℕ → List Write) (p : Pair) (log : HasSoundLog held p.disk) → ((name : List ℕ) → IsFrontOf (held name) (tables name))
-    → RegionLeft reads tables p → Left reads tables p
-left_by tables held p log fronts region = record {
+    → ((name : List ℕ) → (tables name).live ≡ true → IsClosed p.region) → RegionLeft reads tables p → Left reads tables p
+left_by tables held p log fronts serving region = record {
   sound = log.sound;
   front = λ name.
       let is : IsFrontOf (held name) (tables name) = fronts name in
       (length (held name), front_within (held name) (tables name) is, is.flushed, log.each name ∙ is.front);
   region = region;
+  serving = serving;
 }
 
 -- the region is an image of the tables, and the log has all of their writes

@@ -14,7 +14,7 @@ use Rattle.crash_moments.specs.Watched.{Watched, now_of, was_opened}
 use Rattle.crash_states.specs.Standing.{IsLogged, Runs, Rests, tables_of}
 use Rattle.crash_states.proofs.Names.{IsOwn, IsForeign, find_name, others_at, no_others}
 use Rattle.crash_states.proofs.States.{IsFrontOf, IsBetween, no_front, without_owed, with_owed, logged_front, kept_least, kept_most}
-use Rattle.crash_states.proofs.Pairs.{left_by, rests_region}
+use Rattle.crash_states.proofs.Pairs.{left_by, not_open, rests_region}
 use Rattle.crash_states.proofs.Lefts.{runs_logs}
 
 -- ---- a leaf that serves or shuts its tables
@@ -43,8 +43,8 @@ pub runs_whole : (ws : List Watched) (others : NamedStates) (owner : ℕ) (log :
 runs_whole ws others owner log writes m runs p left =
     let front = front_now ws owner log writes m runs others in
     elim (runs_logs ws owner log writes m runs p left) [
-      | inl without ↦ left_by (tables_of others ws m) writes p without (front writes (without_owed log.owed writes)) (closed (runs.closed p left))
-      | inr more ↦ left_by (tables_of others ws m) (with_writes log.owed writes) p more (front (with_writes log.owed writes) (with_owed log.owed writes)) (closed (runs.closed p left))
+      | inl without ↦ left_by (tables_of others ws m) writes p without (front writes (without_owed log.owed writes)) (λ name serves. runs.closed p left) (closed (runs.closed p left))
+      | inr more ↦ left_by (tables_of others ws m) (with_writes log.owed writes) p more (front (with_writes log.owed writes) (with_owed log.owed writes)) (λ name serves. runs.closed p left) (closed (runs.closed p left))
     ]
 
 -- ---- a leaf at rest
@@ -55,7 +55,8 @@ rests_whole ws others least next m rests p left =
     let most : (name : List ℕ) → IsFrontOf (with_writes next least name) (tables_of others ws m name) =
     λ name. kept_most (least name) (with_writes next least name) (tables_of others ws m name) (rests.each name) (with_owed next least name).no_less in
     let region : RegionLeft reads (tables_of others ws m) p = rests_region (tables_of others ws m) m p rests.stands rests.region left in
+    let serving = λ (name : List ℕ). not_open (tables_of others ws m name) p (rests.each name).shut in
     elim (rests.logs p left) [
-      | inl shortest ↦ left_by (tables_of others ws m) least p shortest (λ name. kept_least (least name) (with_writes next least name) (tables_of others ws m name) (rests.each name)) region
-      | inr longest ↦ left_by (tables_of others ws m) (with_writes next least) p longest most region
+      | inl shortest ↦ left_by (tables_of others ws m) least p shortest (λ name. kept_least (least name) (with_writes next least name) (tables_of others ws m name) (rests.each name)) serving region
+      | inr longest ↦ left_by (tables_of others ws m) (with_writes next least) p longest most serving region
     ]
