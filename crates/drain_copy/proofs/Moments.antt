@@ -1,13 +1,14 @@
 -- What a crash may leave at each moment of the calls of a step.
 use Rattle.std.proofs.Common.{◌≡◌, ◌⊎◌, inl, inr, ℕ, ◌+◌, ◌≤◌, max, ◌++◌, List, [], ◌∷◌, length, take, drop, Ok, Err, refl, sym, ap, ◌∙◌, subst, arith}
 use Rattle.std.specs.Prelude.{Result, OnOk, OnErr}
+use Rattle.std.proofs.lemmas.List.{take_all}
 use Rattle.berth_face.specs.Berth.{Pair, Meaning, Passes, Torn, Cut, Inside, Ended, RegionStep, SameDisk, RegionWritten, RegionCut, written}
 use Rattle.berth_face.specs.Moments.{EachNow, Throughout}
 use Rattle.berth_face.proofs.Moments.{started, goes_on, now_of, throughout_map}
 use Rattle.region_layout.specs.Head.{IsClosed}
 use Rattle.drain_copy.specs.declared.step.Next.TheVariants as next
 use Rattle.drain_copy.specs.Draining.{DrainState, DrainsFrom, IsInRoom, AllClosed, held, longest}
-use Rattle.drain_copy.specs.Regions.{LeftFrom, ClosedOrOpened, ClosedWithin, EndsAt, IsWithin}
+use Rattle.drain_copy.specs.Regions.{LeftFrom, ClosedOrOpened, ClosedWithin, EndsAt, IsCutOrBegun, IsWithin}
 use Rattle.drain_copy.proofs.Closed.{none_closed, cut_closed, byte_closed, behind_torn, behind_written, flag_torn, flag_first, end_torn, end_written, head_torn, head_closed, written_length}
 
 -- a crash now leaves the region that is read, or none
@@ -75,6 +76,34 @@ pub behind_flag : {T E : Type 0} {bytes : List ℕ} (result : Result T E) (rest 
 behind_flag {bytes} result rest a b c head so_far keeps time wrote =
     writes IsClosed 1 bytes result a b c none_closed (λ region torn. behind_torn (length bytes) rest region (subst (λ (l : List ℕ). Torn 1 (length bytes) l region) head torn))
     (subst (λ (l : List ℕ). IsClosed (written 1 bytes l)) (sym head) (behind_written bytes rest)) so_far keeps time wrote
+
+-- ---- how long the region is during the first step
+
+pub cut_begins : (a : Meaning) → KeepsRegion a → Throughout (LeftFrom (IsCutOrBegun a.held.region) a) a a
+cut_begins a keeps = begun (IsCutOrBegun a.held.region) a (λ p left. kept p.region (keeps p left))
+  where
+    kept : (region : List ℕ) → (region ≡ a.held.region) ⊎ (region ≡ []) → IsCutOrBegun a.held.region region
+    kept region by = elim by [
+      | inl same ↦ inl (same ∙ sym (take_all (length region) a.held.region (omega (arith, ap (λ (l : List ℕ). length l) same))))
+      | inr lost ↦ inr (omega (arith, ap (λ (l : List ℕ). length l) lost))
+    ]
+
+pub cut_empties : {T E : Type 0} (result : Result T E) (a b : Meaning) → KeepsRegion a → KeepsRegion b → Passes a b → RegionCut 0 result a b → Throughout (LeftFrom (IsCutOrBegun a.held.region) a) a b
+cut_empties result a b keeps_a keeps time cut =
+    let P = IsCutOrBegun a.held.region in
+    let none : P [] = inr (omega arith) in
+    called P (Cut 0 a.held.region) a a b none (λ region torn. inl torn.front) (cut_begins a keeps_a) time cut.inside cut.ended keeps
+    (held_by P (Cut 0 a.held.region) result b.held.region [] cut.ok cut.err none (λ region torn. inl torn.front))
+
+pub begun_write : {T E : Type 0} (was : List ℕ) (at : ℕ) (bytes : List ℕ) (result : Result T E) (a b c : Meaning) → length b.held.region ≤ 16 → at + length bytes ≤ 16
+    → Throughout (LeftFrom (IsCutOrBegun was) a) a b → KeepsRegion c → Passes b c → RegionWritten at bytes result b c → Throughout (LeftFrom (IsCutOrBegun was) a) a c
+begun_write was at bytes result a b c old new so_far keeps time wrote =
+    let none : IsCutOrBegun was [] = inr (omega arith) in
+    let whole : IsCutOrBegun was (written at bytes b.held.region) = inr (omega (arith, old, new, written_length at bytes b.held.region)) in
+    writes (IsCutOrBegun was) at bytes result a b c none (λ region torn. inr (torn_short region torn.no_longer)) whole so_far keeps time wrote
+  where
+    torn_short : (region : List ℕ) → length region ≤ max (length b.held.region) (at + length bytes) → length region ≤ 16
+    torn_short region no_longer = omega (arith, no_longer, old, new)
 
 -- ---- bytes at the region's end
 

@@ -22,6 +22,10 @@ ClosedWithin n region = IsClosed region × (length region ≤ n)
 abbrev pub IsWithin : ℕ → List ℕ → Type 0
 IsWithin n region = length region ≤ n
 
+-- the region is a front of what it was, as one that is being cut, or is no longer than the head that it begins with
+abbrev pub IsCutOrBegun : List ℕ → List ℕ → Type 0
+IsCutOrBegun was region = (region ≡ take (length region) was) ⊎ (length region ≤ 16)
+
 -- it ends there, behind a closed flag
 abbrev pub EndsAt : ℕ → List ℕ → Type 0
 EndsAt at region = (length region ≡ at) × (take 1 region ≡ 0 ∷ [])

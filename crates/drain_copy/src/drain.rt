@@ -16,6 +16,7 @@ ghost use Rattle.region_layout.specs.Drained.{all_columns, has_no_room, images_o
 ghost use Rattle.drain_copy.specs.declared.step.Next.TheVariants as next;
 ghost use Rattle.drain_copy.specs.declared.step.PlanFault.TheVariants as plan_fault;
 ghost use Rattle.drain_copy.specs.Draining.{Draining, DrainsFrom, IsInRoom, AllClosed, IsStep, held, directory_of, image_bytes};
+ghost use Rattle.drain_copy.specs.Regions.{IsCutOrBegun, LeftFrom};
 ghost use Rattle.drain_copy.specs.Planned.{tables_count, tables_size};
 
 use crate::moving::move_tables;
@@ -135,6 +136,9 @@ impl Drain {
             → Throughout (DrainsFrom self.old (B.meaning berth.old)) (B.meaning berth.old) (B.meaning berth.new) }
         ensures inside { IsTrue (B.meaning berth.old).tells → Draining self.old (B.meaning berth.old).held.region → self.old.next ≢ next.Begin
             → Throughout (IsInRoom self.old) (B.meaning berth.old) (B.meaning berth.new) }
+        // While the first step cuts the region it is a front of what it was; from then on it has at most 16 bytes.
+        ensures begun { IsTrue (B.meaning berth.old).tells → self.old.next ≡ next.Begin
+            → Throughout (LeftFrom (IsCutOrBegun (B.meaning berth.old).held.region) (B.meaning berth.old)) (B.meaning berth.old) (B.meaning berth.new) }
         ensures time { Passes (B.meaning berth.old) (B.meaning berth.new) }
         ensures cause { HasCause (B.meaning berth.old).region_faults (B.meaning berth.new).region_faults result }
         ensures reads { (B.meaning berth.new).disk_reads ≡ (B.meaning berth.old).disk_reads }

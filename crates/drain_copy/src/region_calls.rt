@@ -5,7 +5,7 @@ ghost use Rattle.berth_face.specs.Berth.{Passes, Ended, SameDisk};
 ghost use Rattle.berth_face.specs.Moments.{Throughout};
 ghost use Rattle.region_layout.specs.Head.{IsClosed};
 ghost use Rattle.drain_copy.specs.Draining.{AllClosed};
-ghost use Rattle.drain_copy.specs.Regions.{LeftFrom, ClosedOrOpened, ClosedWithin, EndsAt, IsWithin};
+ghost use Rattle.drain_copy.specs.Regions.{LeftFrom, ClosedOrOpened, ClosedWithin, EndsAt, IsCutOrBegun, IsWithin};
 
 use berth_face::{Berth, Failed};
 
@@ -16,6 +16,7 @@ pub fn begin<B: Berth>(berth: &mut B) -> Result<(), Failed>
     ensures disk { IsTrue (B.meaning berth.old).tells → (B.meaning berth.new).held.disk ≡ (B.meaning berth.old).held.disk }
     ensures disks { IsTrue (B.meaning berth.old).tells → Ended SameDisk (B.meaning berth.old) (B.meaning berth.new) }
     ensures moments { IsTrue (B.meaning berth.old).tells → AllClosed (B.meaning berth.old) → Throughout (LeftFrom IsClosed (B.meaning berth.old)) (B.meaning berth.old) (B.meaning berth.new) }
+    ensures begun { IsTrue (B.meaning berth.old).tells → Throughout (LeftFrom (IsCutOrBegun (B.meaning berth.old).held.region) (B.meaning berth.old)) (B.meaning berth.old) (B.meaning berth.new) }
     ensures time { Passes (B.meaning berth.old) (B.meaning berth.new) }
     ensures cause { HasCause (B.meaning berth.old).region_faults (B.meaning berth.new).region_faults result }
     ensures reads { (B.meaning berth.new).disk_reads ≡ (B.meaning berth.old).disk_reads }

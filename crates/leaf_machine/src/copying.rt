@@ -6,6 +6,7 @@ ghost use Rattle.berth_face.specs.Berth.{Passes};
 ghost use Rattle.berth_face.specs.Moments.{Throughout};
 ghost use Rattle.drain_copy.specs.declared.step.Next.TheVariants as next;
 ghost use Rattle.drain_copy.specs.Draining.{IsInRoom};
+ghost use Rattle.drain_copy.specs.Regions.{IsCutOrBegun, LeftFrom};
 ghost use Rattle.crash_states.specs.Standing.{Copies};
 ghost use Rattle.leaf_steward.specs.Seated.{AreFounded, watched_by};
 ghost use Rattle.leaf_steward.specs.Making.{Makes};
@@ -66,6 +67,9 @@ impl<'t, B: Berth> Copying<'t, B> {
         ensures room { IsTrue (B.meaning self.entry.1).tells → AreFounded self.entry.0.seated → IsInImage B.meaning self.entry.0 result }
         ensures inside { IsTrue (B.meaning self.entry.1).tells → AreFounded self.entry.0.seated → self.entry.0.drain.next ≢ next.Begin
             → Throughout (IsInRoom self.entry.0.drain) (B.meaning self.entry.1) (B.meaning (berth_of_copy result)) }
+        // While the first step cuts the region it is a front of what it was; from then on it has at most 16 bytes.
+        ensures begun { IsTrue (B.meaning self.entry.1).tells → self.entry.0.drain.next ≡ next.Begin
+            → Throughout (LeftFrom (IsCutOrBegun (B.meaning self.entry.1).held.region) (B.meaning self.entry.1)) (B.meaning self.entry.1) (B.meaning (berth_of_copy result)) }
         ensures time { Passes (B.meaning self.entry.1) (B.meaning (berth_of_copy result)) }
         ensures cause { HasCause (B.meaning self.entry.1).region_faults (B.meaning (berth_of_copy result)).region_faults result }
         ensures reads { (B.meaning (berth_of_copy result)).disk_reads ≡ (B.meaning self.entry.1).disk_reads }

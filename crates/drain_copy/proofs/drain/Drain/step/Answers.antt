@@ -122,3 +122,13 @@ returns-in_ok-open-in-Flag-clause-inside g c =
     let flags : d.next ≡ next.Flag = search rules in
     let some : 1 ≤ length a.held.region = omega (arith, flag_length d a.held.region c.is_planned.ensures.long flags stands, c.is_planned.ensures.long) in
     in_room (length a.held.region) d a b (flag_in_room d a.held.region c.is_planned.ensures.long flags stands) (c.open.ensures.inside told some)
+
+pub returns-in_err-begin-in-Begin-clause-begun : goal.returns-in_err-begin-in-Begin-clause-begun
+returns-in_err-begin-in-Begin-clause-begun g c =
+    λ told begins.
+    c.begin.ensures.begun told
+
+pub returns-in_ok-begin-in-Begin-clause-begun : goal.returns-in_ok-begin-in-Begin-clause-begun
+returns-in_ok-begin-in-Begin-clause-begun g c =
+    λ told begins.
+    c.begin.ensures.begun told

@@ -5,6 +5,7 @@ use Rattle.drain_copy.specs.declared.step.DrainStep.{DrainStep}
 use Rattle.drain_copy.specs.declared.step.DrainStep.TheVariants.{Finished}
 use Rattle.drain_copy.specs.declared.step.Next.TheVariants as next
 use Rattle.drain_copy.specs.Draining.{IsInRoom, IsStep, left}
+use Rattle.drain_copy.specs.Regions.{IsCutOrBegun, LeftFrom}
 use Rattle.berth_face.specs.Moments.{Throughout}
 use Rattle.leaf_opening.specs.declared.ways.Way.TheVariants.{Memory}
 use Rattle.leaf_opening.specs.Starts.{IsWayOf}
@@ -218,6 +219,36 @@ returns-clause-inside g c =
     let before : inside.drain.next ≢ next.Begin = subst (λ v. v.0.drain.next ≢ next.Begin) (sym c.self.view_is) before_now in
     subst (λ v. Throughout (IsInRoom v.0.drain) (g.B.Berth.meaning v.1) n) c.self.view_is
     (c.in-Err.ensures.inside told (c.self.invariant.stands founded).1.1.draining before)
+
+pub returns-in-Ok-Finished-clause-begun : goal.returns-in-Ok-Finished-clause-begun
+returns-in-Ok-Finished-clause-begun g c =
+    λ told_now begins_now.
+    let inside = c.self.inside in
+    let n = g.B.Berth.meaning c.step.new.berth in
+    let told : IsTrue (g.B.Berth.meaning inside.berth).tells = subst (λ v. IsTrue (g.B.Berth.meaning v.1).tells) (sym c.self.view_is) told_now in
+    let begins : inside.drain.next ≡ next.Begin = ap (λ v. v.0.drain.next) c.self.view_is ∙ begins_now in
+    subst (λ v. Throughout (LeftFrom (IsCutOrBegun (g.B.Berth.meaning v.1).held.region) (g.B.Berth.meaning v.1)) (g.B.Berth.meaning v.1) n) c.self.view_is
+    (c.in-Ok-Finished.ensures.begun told begins)
+
+pub returns-in-Ok-Begun-clause-begun : goal.returns-in-Ok-Begun-clause-begun
+returns-in-Ok-Begun-clause-begun g c =
+    λ told_now begins_now.
+    let inside = c.self.inside in
+    let n = g.B.Berth.meaning c.step.new.berth in
+    let told : IsTrue (g.B.Berth.meaning inside.berth).tells = subst (λ v. IsTrue (g.B.Berth.meaning v.1).tells) (sym c.self.view_is) told_now in
+    let begins : inside.drain.next ≡ next.Begin = ap (λ v. v.0.drain.next) c.self.view_is ∙ begins_now in
+    subst (λ v. Throughout (LeftFrom (IsCutOrBegun (g.B.Berth.meaning v.1).held.region) (g.B.Berth.meaning v.1)) (g.B.Berth.meaning v.1) n) c.self.view_is
+    (c.in-Ok-Begun.ensures.begun told begins)
+
+pub returns-clause-begun : goal.returns-clause-begun
+returns-clause-begun g c =
+    λ told_now begins_now.
+    let inside = c.self.inside in
+    let n = g.B.Berth.meaning c.step.new.berth in
+    let told : IsTrue (g.B.Berth.meaning inside.berth).tells = subst (λ v. IsTrue (g.B.Berth.meaning v.1).tells) (sym c.self.view_is) told_now in
+    let begins : inside.drain.next ≡ next.Begin = ap (λ v. v.0.drain.next) c.self.view_is ∙ begins_now in
+    subst (λ v. Throughout (LeftFrom (IsCutOrBegun (g.B.Berth.meaning v.1).held.region) (g.B.Berth.meaning v.1)) (g.B.Berth.meaning v.1) n) c.self.view_is
+    (c.in-Err.ensures.begun told begins)
 
 -- ---- what the region is
 
