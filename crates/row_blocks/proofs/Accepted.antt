@@ -1,5 +1,5 @@
 -- What the tests of a block's columns tell decides whether they are one.
-use Rattle.std.proofs.Common.{◌≡◌, ℕ, ◌+◌, ◌<◌, List, [], ◌∷◌, ◌++◌, length, map, slice_index_or, ℤ, pos, Option, Some, None, Err, refl, sym, ap, subst, ◌∙◌, arith}
+use Rattle.std.proofs.Common.{◌≡◌, ℕ, ◌<◌, List, [], ◌∷◌, length, map, slice_index_or, ℤ, pos, Option, Some, None, Err, refl, sym, ap, subst, ◌∙◌, arith}
 use Rattle.std.specs.List.{AllByRecursion, range_with_len}
 use Rattle.std.specs.List.Sorted.{IsStrictlySortedBy}
 use Rattle.std.proofs.lemmas.List.{ext_get_or, get_or-map, length-map}
@@ -15,9 +15,11 @@ use Rattle.column_bytes.specs.declared.kind.Kind.TheVariants.{Ints}
 use Rattle.row_blocks.specs.declared.column.BlockColumn.{BlockColumn}
 use Rattle.row_blocks.specs.Columns.{IsSeen, MeanCells, cells_in}
 use Rattle.row_blocks.specs.Headings.{heading, heading_cmp}
-use Rattle.row_blocks.specs.Blocks.{AreTimes, Block, IsBlock, IsOther, IsRange, IsTimeCell, cells_at, row_at, rows_in, time_of, times_of, value_in}
+use Rattle.row_blocks.specs.Blocks.{AreTimes, Block, IsBlock, IsOther, IsTimeCell, cells_at, row_at, rows_in, time_of, times_of, value_in}
 use Rattle.row_blocks.specs.declared.fault.BlockFault.{BlockFault}
 use Rattle.row_blocks.specs.declared.fault.BlockFault.TheVariants.{NoMemory, NoRows}
+use Rattle.row_blocks.specs.declared.times.TimeRange.{TimeRange}
+use Rattle.row_blocks.specs.Ordered.{IsRangeOf}
 use Rattle.row_blocks.specs.Places.{AreSeen, FitARow}
 use Rattle.row_blocks.specs.Times.{AreFound}
 use Rattle.row_blocks.specs.Deciding.{Decides}
@@ -94,9 +96,9 @@ times_are n first others times timed cells =
     sym (ap time_of (ap (λ (l : List (Option Value)). slice_index_or l k None) cells
     ∙ get_or-map (λ (t : ℤ). Some (values.Int t)) times k (pos 0) None (omega (arith, sized, within))))))
 
-pub range_is : (n : ℕ) (first : BlockColumn) (others : List BlockColumn) (times : List ℤ) (from to : ℤ) → AreTimes n first → cells_in first.bytes ≡ map (λ (t : ℤ). Some (values.Int t)) times
-    → IsRange times from to → IsRange (times_of (rows_in (with_columns n first others))) from to
-range_is n first others times from to timed cells range = subst (λ (l : List ℤ). IsRange l from to) (sym (times_are n first others times timed cells)) range
+pub range_is : (n : ℕ) (first : BlockColumn) (others : List BlockColumn) (times : List ℤ) (range : TimeRange) → AreTimes n first → cells_in first.bytes ≡ map (λ (t : ℤ). Some (values.Int t)) times
+    → IsRangeOf times range → IsRangeOf (times_of (rows_in (with_columns n first others))) range
+range_is n first others times range timed cells is = subst (λ (l : List ℤ). IsRangeOf l range) (sym (times_are n first others times timed cells)) is
 
 pub some_times : (n : ℕ) (first : BlockColumn) (times : List ℤ) → AreTimes n first → cells_in first.bytes ≡ map (λ (t : ℤ). Some (values.Int t)) times → 0 < length times
 some_times n first times timed cells =

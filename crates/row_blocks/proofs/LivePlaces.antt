@@ -4,7 +4,7 @@ use Rattle.std.specs.List.{AllByRecursion, list_any}
 use Rattle.std.specs.Int.{from_bool}
 use Rattle.std.proofs.lemmas.Bool.{false_from_ne_true, true_from_ne_false}
 use Rattle.std.proofs.lemmas.Int.{ints}
-use Rattle.std.proofs.lemmas.List.{append-nil, drop-drop, drop_all, drop_more, get_or-map, length-drop, take_all, take_more}
+use Rattle.std.proofs.lemmas.List.{append-nil, drop-drop, drop_all, drop_more, get_or-map, length-drop, length-map, take_all, take_more}
 use Rattle.std.proofs.lemmas.List.FromFn.{get_or-map-range_with_len, length-map-range_with_len}
 use Rattle.leaf_model.specs.declared.rows.Value.{Value}
 use Rattle.leaf_model.specs.declared.rows.Value.TheVariants as values
@@ -73,8 +73,11 @@ late_stay : (h : ℤ) (rows : List Row) → AllByRecursion (IsLate h) rows → r
 late_stay h [] all = refl
 late_stay h (row ∷ rows) all = ap (λ (b : Bool). cond b (row ∷ rows_from h rows) (rows_from h rows)) all.0 ∙ ap (λ (l : List Row). row ∷ l) (late_stay h rows all.1)
 
-counted : (b : Block) → length (rows_in b) ≡ b.rows
+pub counted : (b : Block) → length (rows_in b) ≡ b.rows
 counted b = length-map-range_with_len (row_at b.columns) 0 b.rows
+
+pub counted_times : (b : Block) → length (times_of (rows_in b)) ≡ b.rows
+counted_times b = length-map (rows_in b) (λ (row : Row). row.time) ∙ counted b
 
 live_all : (b : Block) (h from to : ℤ) (skip : ℕ) → IsRange (times_of (rows_in b)) from to → int_le h from ≡ true → live_rows skip h b ≡ drop skip (rows_in b)
 live_all b h from to skip range late =
@@ -93,10 +96,10 @@ all_behind b h from to skip n range late =
 time_is : (b : Block) (i : ℕ) → i < b.rows → time_at b i ≡ (slice_index_or (rows_in b) i no_row).time
 time_is b i within = get_or-map (λ (row : Row). row.time) (rows_in b) i no_row (pos 0) (omega (arith, counted b, within))
 
-abbrev one_before : Bool → Row → List Row → List Row
+abbrev pub one_before : Bool → Row → List Row → List Row
 one_before x row rest = cond x (row ∷ rest) rest
 
-live_next : (b : Block) (h : ℤ) (i : ℕ) → i < b.rows → live_rows i h b ≡ one_before (int_le h (time_at b i)) (slice_index_or (rows_in b) i no_row) (live_rows (i + 1) h b)
+pub live_next : (b : Block) (h : ℤ) (i : ℕ) → i < b.rows → live_rows i h b ≡ one_before (int_le h (time_at b i)) (slice_index_or (rows_in b) i no_row) (live_rows (i + 1) h b)
 live_next b h i within =
     let row = slice_index_or (rows_in b) i no_row in
     ap (rows_from h) (drop_more (rows_in b) i no_row (omega (arith, counted b, within)))
@@ -113,7 +116,7 @@ count_next b h i live one total there within so_far is e =
     let same : one ≡ from_bool (int_le h (time_at b i)) = is ∙ ap from_bool e in
     omega (arith, so_far, next, same)
 
-none_left : (b : Block) (h : ℤ) (i : ℕ) → b.rows ≤ i → live_rows i h b ≡ []
+pub none_left : (b : Block) (h : ℤ) (i : ℕ) → b.rows ≤ i → live_rows i h b ≡ []
 none_left b h i past = ap (rows_from h) (drop_all i (rows_in b) (omega (arith, counted b, past)))
 
 pub count_end : (b : Block) (h : ℤ) (i live total : ℕ) → b.rows ≤ i → live + length (live_rows i h b) ≡ total → live ≡ total

@@ -13,8 +13,10 @@ use Rattle.column_bytes.specs.Column.{kind_in}
 use Rattle.column_bytes.specs.declared.kind.Kind.TheVariants.{Ints}
 use Rattle.row_blocks.specs.declared.column.BlockColumn.{BlockColumn}
 use Rattle.row_blocks.specs.Columns.{MeanCells, cells_in}
-use Rattle.row_blocks.specs.Blocks.{Block, IsBlock, IsRange, IsTimeCell, row_at, rows_in, time_of, times_of, value_in}
+use Rattle.row_blocks.specs.Blocks.{Block, IsBlock, IsTimeCell, row_at, rows_in, time_of, times_of, value_in}
+use Rattle.row_blocks.specs.declared.times.TimeRange.{TimeRange}
 use Rattle.row_blocks.specs.Merging.{HoldCells, lent_rows}
+use Rattle.row_blocks.specs.Ordered.{IsRangeOf}
 use Rattle.row_blocks.proofs.Taking.{cells_at_row, no_row, row_is}
 
 -- as many times as rows
@@ -79,6 +81,6 @@ sealed rows times others some few are timed hold = record {
   rows_are = subst (AllByRecursion IsRow) (sym (means_rows rows times others timed hold)) are;
 }
 
-pub sealed_range : (rows : List Row) (times : BlockColumn) (others : List BlockColumn) (from to : ℤ) → HoldsTimes rows times → HoldCells rows others
-    → IsRange (times_of rows) from to → IsRange (times_of (rows_in (block_of rows times others))) from to
-sealed_range rows times others from to timed hold range = subst (λ (all : List Row). IsRange (times_of all) from to) (sym (means_rows rows times others timed hold)) range
+pub sealed_range : (rows : List Row) (times : BlockColumn) (others : List BlockColumn) (range : TimeRange) → HoldsTimes rows times → HoldCells rows others
+    → IsRangeOf (times_of rows) range → IsRangeOf (times_of (rows_in (block_of rows times others))) range
+sealed_range rows times others range timed hold is = subst (λ (all : List Row). IsRangeOf (times_of all) range) (sym (means_rows rows times others timed hold)) is

@@ -1,12 +1,14 @@
 -- Whether columns are a block, and the range of its times.
-use Rattle.std.specs.Prelude.{ℕ, ⊤, List, ℤ, Result, Ok, Err}
+use Rattle.std.specs.Prelude.{ℕ, ⊤, List, Result, Ok, Err}
 use Rattle.row_blocks.specs.declared.column.BlockColumn.{BlockColumn}
 use Rattle.row_blocks.specs.declared.fault.BlockFault.{BlockFault}
 use Rattle.row_blocks.specs.declared.fault.BlockFault.TheVariants.{NoRows, NoMemory}
-use Rattle.row_blocks.specs.Blocks.{IsBlock, IsRange, rows_in, times_of}
+use Rattle.row_blocks.specs.declared.times.TimeRange.{TimeRange}
+use Rattle.row_blocks.specs.Blocks.{IsBlock, rows_in, times_of}
+use Rattle.row_blocks.specs.Ordered.{IsRangeOf}
 
 -- they are one with this range, or none, or memory ran out
-abbrev pub Decides : ℕ → List BlockColumn → Result (ℤ × ℤ) BlockFault → Type 0
-Decides rows columns (Ok range) = IsBlock (record { rows = rows; columns = columns }) × IsRange (times_of (rows_in (record { rows = rows; columns = columns }))) range.0 range.1
+abbrev pub Decides : ℕ → List BlockColumn → Result TimeRange BlockFault → Type 0
+Decides rows columns (Ok range) = IsBlock (record { rows = rows; columns = columns }) × IsRangeOf (times_of (rows_in (record { rows = rows; columns = columns }))) range
 Decides rows columns (Err NoRows) = IsBlock (record { rows = rows; columns = columns }) → ⊥
 Decides rows columns (Err NoMemory) = ⊤

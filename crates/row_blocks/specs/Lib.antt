@@ -3,6 +3,7 @@ pub mod Headings
 pub mod Blocks
 pub mod Held
 pub mod Live
+pub mod Ordered
 pub mod Merging
 pub mod Places
 pub mod Runs

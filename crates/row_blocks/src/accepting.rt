@@ -6,7 +6,7 @@ use crate::column::BlockColumn;
 use crate::fault::BlockFault;
 use crate::places::fit_rows;
 use crate::rules::{do_ascend, times_of_column, views_of_others};
-use crate::times::range_of;
+use crate::times::{TimeRange, range_of};
 use std::alloc::Global;
 
 fn range_of_parts(
@@ -14,7 +14,7 @@ fn range_of_parts(
     rows: u32,
     first: &BlockColumn,
     others: &[BlockColumn],
-) -> Result<(i64, i64), BlockFault>
+) -> Result<TimeRange, BlockFault>
     ensures { Decides rows (first.now ∷ others.now) result }
 {
     let Some(times) = times_of_column(alloc, rows, first)? else {
@@ -30,12 +30,12 @@ fn range_of_parts(
     }
 }
 
-/// The least and the greatest time of the block that these columns are.
+/// The range of the times of the block that these columns are.
 pub(crate) fn range_of_block(
     alloc: Global,
     rows: u32,
     columns: &[BlockColumn],
-) -> Result<(i64, i64), BlockFault>
+) -> Result<TimeRange, BlockFault>
     ensures { Decides rows columns.now result }
 {
     match columns {

@@ -1,50 +1,50 @@
 // A sealed block.
-ghost use Rattle.std.specs.Prelude.{◌≡◌, ◌<◌, ◌≤◌, length, option_map, IfOk, IfErr};
+ghost use Rattle.std.specs.Prelude.{◌≡◌, ◌<◌, ◌≤◌, true, length, option_map, IfOk, IfErr};
 ghost use Rattle.std.specs.List.{find};
 ghost use Rattle.row_blocks.specs.declared.column.BlockColumn.{BlockColumn};
 ghost use Rattle.row_blocks.specs.declared.fault.BlockFault.TheVariants.{NoRows};
 ghost use Rattle.row_blocks.specs.Blocks.{Block, IsBlock, IsRange, is_column, rows_in, times_of};
+ghost use Rattle.row_blocks.specs.Ordered.{IsRangeOf, NeverFall};
 
 use crate::accepting::range_of_block;
 use crate::column::{BlockColumn, BlockColumns};
 use crate::fault::BlockFault;
 use crate::headings::{is_kind, kind_in};
+use crate::times::TimeRange;
 use column_bytes::Kind;
 use leaf_model::Text;
 use std::alloc::Global;
 use std::marker::Model;
 
-/// 1 to 65,536 rows as columns, and their least and greatest time. Contracts see the number of rows and the columns.
+/// 1 to 65,536 rows as columns, with their least and greatest time and whether their times never fall. Contracts see the number of rows and the columns.
 #[derive(Debug, Drop)]
 pub struct RowBlock {
     rows: u32,
-    from: i64,
-    to: i64,
+    range: TimeRange,
     columns: BlockColumns,
 }
 
 impl Model for RowBlock {
-    ghost use Rattle.row_blocks.specs.Blocks.{Block, IsBlock, IsRange, rows_in, times_of};
+    ghost use Rattle.row_blocks.specs.Blocks.{Block, IsBlock, rows_in, times_of};
+    ghost use Rattle.row_blocks.specs.Ordered.{IsRangeOf};
 
     ghost Value = { Block };
 
     ghost view = { λ b. record { rows = b.rows; columns = b.columns } };
 
-    ghost invariant = { λ b. IsBlock (record { rows = b.rows; columns = b.columns }) × IsRange (times_of (rows_in (record { rows = b.rows; columns = b.columns }))) b.from b.to };
+    ghost invariant = { λ b. IsBlock (record { rows = b.rows; columns = b.columns }) × IsRangeOf (times_of (rows_in (record { rows = b.rows; columns = b.columns }))) b.range };
 }
 
 impl RowBlock {
-    /// The block of these columns, with the least and the greatest time of their rows.
-    pub(crate) fn of(rows: u32, range: (i64, i64), columns: BlockColumns) -> RowBlock
+    /// The block of these columns, with the range of the times of their rows.
+    pub(crate) fn of(rows: u32, range: TimeRange, columns: BlockColumns) -> RowBlock
         requires block { IsBlock (record { rows = rows; columns = columns }) }
-        requires range { IsRange (times_of (rows_in (record { rows = rows; columns = columns }))) range.0 range.1 }
+        requires range { IsRangeOf (times_of (rows_in (record { rows = rows; columns = columns }))) range }
         ensures { result ≡ record { rows = rows; columns = columns } }
     {
-        let (from, to) = range;
         RowBlock {
             rows,
-            from,
-            to,
+            range,
             columns,
         }
     }
@@ -67,7 +67,14 @@ impl RowBlock {
     pub fn range(&self) -> (i64, i64)
         ensures { IsRange (times_of (rows_in self.now)) result.0 result.1 }
     {
-        (self.from, self.to)
+        (self.range.from, self.range.to)
+    }
+
+    /// Whether the times are known never to fall from one row to the next.
+    pub(crate) fn in_order(&self) -> bool
+        ensures { result ≡ true → NeverFall (times_of (rows_in self.now)) }
+    {
+        self.range.in_order
     }
 
     /// The columns, that of the times first.

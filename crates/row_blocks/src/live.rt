@@ -1,7 +1,9 @@
 // The rows of a block that are at or after a horizon, counted and found without memory.
 ghost use Rattle.std.specs.Prelude.{◌≡◌, ◌<◌, ◌≤◌, length, drop, int_le};
+ghost use Rattle.row_blocks.specs.Blocks.{rows_in, times_of};
 ghost use Rattle.row_blocks.specs.Held.{live_rows};
 ghost use Rattle.row_blocks.specs.Live.{AreTimesOf, has_live, time_at};
+ghost use Rattle.row_blocks.specs.Ordered.{IsFirstLive, NeverFall};
 
 use crate::block::RowBlock;
 use crate::reading::view_of;
@@ -69,6 +71,27 @@ fn place_from(block: &RowBlock, times: &ColumnView, skip: u32, horizon: i64, n: 
     unreachable!()
 }
 
+/// The first place behind the first `skip` whose row is at or after the horizon, or the number of rows where there is none.
+/// It halves the places that are left, so the times must be in order.
+fn first_live(block: &RowBlock, times: &ColumnView, skip: u32, horizon: i64) -> u32
+    requires times { AreTimesOf times.now block.now }
+    requires skip { skip ≤ block.now.rows }
+    requires order { NeverFall (times_of (rows_in block.now)) }
+    ensures { IsFirstLive skip result horizon block.now }
+{
+    let mut first = skip;
+    let mut end = block.rows();
+    while first < end {
+        let middle = first + (end - first) / 2;
+        if is_live(block, times, middle, horizon) {
+            end = middle;
+        } else {
+            first = middle + 1;
+        }
+    }
+    first
+}
+
 impl RowBlock {
     /// Whether some row is at or after the horizon.
     pub fn has_live(&self, horizon: i64) -> bool
@@ -84,6 +107,8 @@ impl RowBlock {
     {
         if horizon <= self.range().0 {
             self.rows() - skip
+        } else if self.in_order() {
+            self.rows() - first_live(self, &times_view(self), skip, horizon)
         } else {
             count_from(self, &times_view(self), skip, horizon)
         }
@@ -98,6 +123,8 @@ impl RowBlock {
         self.is_block();
         if horizon <= self.range().0 {
             skip + n
+        } else if self.in_order() {
+            first_live(self, &times_view(self), skip, horizon) + n
         } else {
             place_from(self, &times_view(self), skip, horizon, n)
         }

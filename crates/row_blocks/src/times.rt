@@ -1,46 +1,38 @@
-// The times of a block.
-ghost use Rattle.std.specs.Prelude.{◌≡◌, ℕ, ◌<◌, length, map, slice_index_or, ℤ, pos, ◌≤ℤ◌, IfOk, Some};
+// The times of a block, and their range.
+ghost use Rattle.std.specs.Prelude.{◌≡◌, ◌<◌, length, map, ℤ, IfOk, Some};
 ghost use Rattle.leaf_model.specs.declared.rows.Value.TheVariants.{Int};
-ghost use Rattle.row_blocks.specs.Blocks.{IsAmong, IsRange, times_of};
+ghost use Rattle.row_blocks.specs.Blocks.{times_of};
 ghost use Rattle.row_blocks.specs.Merging.{lent_rows};
+ghost use Rattle.row_blocks.specs.Ordered.{IsRangeOf};
 
 use leaf_model::{Row, Value};
 use std::alloc::{AllocError, Global};
 
-fn least_of(times: &[i64]) -> i64
-    requires { 0 < length times.now }
-    ensures within { (i : ℕ) → i < length times.now → result ≤ℤ slice_index_or times.now i (pos 0) }
-    ensures found { IsAmong result times.now }
-{
-    let mut least = times[0];
-    for time in times {
-        if *time < least {
-            least = *time;
-        }
-    }
-    least
+/// What one pass over some times finds.
+#[derive(Debug, Clone, Copy)]
+pub(crate) struct TimeRange {
+    /// The least time.
+    pub from: i64,
+    /// The greatest time.
+    pub to: i64,
+    /// Where it is true, no time is below one that stands before it.
+    pub in_order: bool,
 }
 
-fn greatest_of(times: &[i64]) -> i64
+/// The least and the greatest of some times, and whether none is below one that stands before it.
+pub(crate) fn range_of(times: &[i64]) -> TimeRange
     requires { 0 < length times.now }
-    ensures within { (i : ℕ) → i < length times.now → slice_index_or times.now i (pos 0) ≤ℤ result }
-    ensures found { IsAmong result times.now }
+    ensures { IsRangeOf times.now result }
 {
-    let mut greatest = times[0];
+    let mut from = times[0];
+    let mut to = times[0];
+    let mut in_order = true;
     for time in times {
-        if greatest < *time {
-            greatest = *time;
-        }
+        in_order &= to <= *time;
+        from = from.min(*time);
+        to = to.max(*time);
     }
-    greatest
-}
-
-/// The least and the greatest of some times.
-pub(crate) fn range_of(times: &[i64]) -> (i64, i64)
-    requires { 0 < length times.now }
-    ensures { IsRange times.now result.0 result.1 }
-{
-    (least_of(times), greatest_of(times))
+    TimeRange { from, to, in_order }
 }
 
 pub(crate) fn times_of(alloc: Global, rows: &[&Row]) -> Result<Vec<i64>, AllocError>

@@ -1,5 +1,5 @@
 use Rattle.std.proofs.Common.{◌<◌, List, length, ℤ, sym, subst}
-use Rattle.row_blocks.specs.Blocks.{IsRange}
+use Rattle.row_blocks.specs.Ordered.{IsRangeOf}
 use Rattle.row_blocks.proofs.Accepted.{AreParts, block_is, parts_are, range_is, some_times}
 use Rattle.row_blocks.proofs.accepting.range_of_parts.Goals as goal
 use Rattle.row_blocks.proofs.accepting.range_of_parts.Goals.{else-do_ascend-via-then-do_ascend+else-fit_rows, else-do_ascend-via-else-do_ascend}
@@ -16,8 +16,8 @@ returns-then-fit_rows c =
     let seen = rw c.in-Some-2.is at c.in_ok-views.ensures in
     let parts : AreParts rows first others = record { timed = timed.0; each = seen.0; ascend = c.do_ascend.ensures.0 c.if-do_ascend.true; fit = c.fit_rows.ensures.0 c.if-fit_rows.true } in (
       block_is rows first others c.in-Some-2.views.items parts seen.1,
-      range_is rows first others c.in-Some.times.items c.range_of.result.0 c.range_of.result.1 timed.0 timed.1
-          (subst (λ (l : List ℤ). IsRange l c.range_of.result.0 c.range_of.result.1) c.deref-then-fit_rows.ensures.value c.range_of.ensures),
+      range_is rows first others c.in-Some.times.items c.range_of.result timed.0 timed.1
+          (subst (λ (l : List ℤ). IsRangeOf l c.range_of.result) c.deref-then-fit_rows.ensures.value c.range_of.ensures),
     )
 
 pub returns : goal.returns

@@ -3,8 +3,9 @@ use Rattle.std.proofs.lemmas.List.{length-map}
 use Rattle.leaf_model.specs.declared.rows.Value.{Value}
 use Rattle.leaf_model.specs.declared.rows.Row.{Row}
 use Rattle.row_blocks.specs.declared.column.BlockColumn.{BlockColumn}
-use Rattle.row_blocks.specs.Blocks.{IsBlock, IsRange, rows_in, times_of}
+use Rattle.row_blocks.specs.Blocks.{IsBlock, rows_in, times_of}
 use Rattle.row_blocks.specs.Merging.{lent_rows}
+use Rattle.row_blocks.specs.Ordered.{IsRangeOf}
 use Rattle.row_blocks.proofs.Sealed.{counted_times, holds_times, means_rows, sealed, sealed_range}
 use Rattle.row_blocks.proofs.sealing.seal_refs.Goals as goal
 
@@ -37,14 +38,14 @@ of-requires-2-clause-range c =
     let rows = lent_rows c.args.rows.now in
     let count : length rows ≡ length c.args.rows.now = length-map c.args.rows.now (λ (r : Bor Row). r.now) in
     let column = c.in_ok-first.first in let others = c.in_ok-others.others.items in let said = c.in_ok-first.ensures in
-    let from = c.range_of-range.result.0 in let to = c.range_of-range.result.1 in
+    let range = c.range_of-range.result in
     let columns : c.of.result ≡ column ∷ others
     = c.of.ensures ∙ c.in_ok-append.ensures.items ∙ ap (λ (l : List BlockColumn). l ++ others) (c.in_ok-push.ensures.items ∙ ap (λ (l : List BlockColumn). l ++ column ∷ []) c.new-columns.ensures.items) in
-    subst (λ (n : ℕ). IsRange (times_of (rows_in (record { rows = n; columns = c.of.result }))) from to) count
-    (subst (λ (l : List BlockColumn). IsRange (times_of (rows_in (record { rows = length rows; columns = l }))) from to) (sym columns)
-    (sealed_range rows column others from to
+    subst (λ (n : ℕ). IsRangeOf (times_of (rows_in (record { rows = n; columns = c.of.result }))) range) count
+    (subst (λ (l : List BlockColumn). IsRangeOf (times_of (rows_in (record { rows = length rows; columns = l }))) range) (sym columns)
+    (sealed_range rows column others range
     (holds_times rows c.deref-2.result.now column (c.deref-2.ensures.value ∙ c.in_ok-times.ensures) said.name said.kind said.means said.cells) c.in_ok-others.ensures
-    (subst (λ (times : List ℤ). IsRange times from to) (c.deref.ensures.value ∙ c.in_ok-times.ensures) c.range_of-range.ensures)))
+    (subst (λ (times : List ℤ). IsRangeOf times range) (c.deref.ensures.value ∙ c.in_ok-times.ensures) c.range_of-range.ensures)))
 
 pub returns : goal.returns
 returns c =

@@ -1,6 +1,7 @@
 use Rattle.std.proofs.Common.{List, sym, subst}
 use Rattle.row_blocks.specs.declared.column.BlockColumn.{BlockColumn}
-use Rattle.row_blocks.specs.Blocks.{IsBlock, IsRange, rows_in, times_of}
+use Rattle.row_blocks.specs.Blocks.{IsBlock, rows_in, times_of}
+use Rattle.row_blocks.specs.Ordered.{IsRangeOf}
 use Rattle.row_blocks.proofs.Accepted.{refused_as}
 use Rattle.row_blocks.proofs.block.RowBlock.from_columns.Goals as goal
 
@@ -9,7 +10,7 @@ of-requires-clause-block c = subst (λ (l : List BlockColumn). IsBlock (record {
 
 pub of-requires-clause-range : goal.of-requires-clause-range
 of-requires-clause-range c =
-    subst (λ (l : List BlockColumn). IsRange (times_of (rows_in (record { rows = c.args.rows; columns = l }))) c.in-Ok.range.0 c.in-Ok.range.1) c.as_slice.ensures c.in-Ok.ensures.1
+    subst (λ (l : List BlockColumn). IsRangeOf (times_of (rows_in (record { rows = c.args.rows; columns = l }))) c.in-Ok.range) c.as_slice.ensures c.in-Ok.ensures.1
 
 pub returns-in-Err-clause-refused : goal.returns-in-Err-clause-refused
 returns-in-Err-clause-refused c = λ e is.
