@@ -6,7 +6,7 @@ use Rattle.std.proofs.lemmas.Slice.Eq.{bytes_eq-Decides}
 use Rattle.std.specs.List.{AllByRecursion}
 use Rattle.std.specs.List.Sorted.{IsStrictlySortedBy}
 use Rattle.std.specs.Result.{is_ok}
-use Rattle.serde_json.specs.Data.{Data, null, boolean, number, string, array, object, Num, Items, Members, no_members, member}
+use Rattle.serde_json.specs.Data.{Data, null, boolean, number, string, array, object, Num, Members, no_members, member}
 use Rattle.serde_json.specs.Find.{as_i64}
 use Rattle.leaf_model.specs.Values.{time_name}
 use Rattle.leaf_model.specs.declared.rows.Value.{Value}
@@ -19,8 +19,8 @@ use Rattle.row_json.specs.declared.object.RowFault.TheVariants.{Name}
 use Rattle.row_json.specs.declared.object.RowFault.TheVariants as fault
 use Rattle.row_json.proofs.Rows.{before, with_cell, before_none}
 use Rattle.row_json.proofs.SetMeaning.{set_held, held_set}
-use Rattle.row_json.proofs.Order.{Below}
-use Rattle.row_json.proofs.Found.{Ascending, found_here, found_later, found_cases, found_none, found_all}
+use Rattle.row_json.specs.QuickRow.{Ascending, Below}
+use Rattle.row_json.proofs.Found.{found_here, found_later, found_cases, found_none, found_all}
 
 -- ---- one member
 
@@ -138,7 +138,7 @@ joined : (c : Cell) (rest : Result (List Cell) RowFault) (cs : List Cell) → be
 joined c (Ok ds) cs h = (ds, refl, same_cells cs (c ∷ ds) (sym h))
 joined c (Err e) cs h = absurd (err≢ok e cs h)
 
-taken : (one : Result (Option Cell) RowFault) (rest : Result (List Cell) RowFault) (c : Cell) (cs : List Cell) → one ≡ Ok (Some c) → with_cell one rest ≡ Ok cs → (ds : List Cell) × (rest ≡ Ok ds) × (cs ≡ c ∷ ds)
+pub taken : (one : Result (Option Cell) RowFault) (rest : Result (List Cell) RowFault) (c : Cell) (cs : List Cell) → one ≡ Ok (Some c) → with_cell one rest ≡ Ok cs → (ds : List Cell) × (rest ≡ Ok ds) × (cs ≡ c ∷ ds)
 taken one rest c cs is h = joined c rest cs (sym (ap (λ r. with_cell r rest) is) ∙ h)
 
 pub refused : (one : Result (Option Cell) RowFault) (rest : Result (List Cell) RowFault) (f : RowFault) → one ≡ Err f → with_cell one rest ≡ Err f

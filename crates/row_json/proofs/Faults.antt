@@ -11,8 +11,8 @@ use Rattle.row_json.specs.declared.object.RowFault.{RowFault}
 use Rattle.row_json.specs.declared.object.RowFault.TheVariants.{Json, NotObject, NoTime, TooMany, Name, NoMemory}
 use Rattle.row_json.specs.declared.object.RowFault.TheVariants as fault
 use Rattle.row_json.proofs.Rows.{with_cell}
-use Rattle.row_json.proofs.Order.{Below}
-use Rattle.row_json.proofs.Found.{Ascending, not_below_itself, not_both_below, found_here, found_later, found_cases, found_none, found_all}
+use Rattle.row_json.specs.QuickRow.{Ascending, Below}
+use Rattle.row_json.proofs.Found.{not_below_itself, not_both_below, found_here, found_later, found_cases, found_none, found_all}
 use Rattle.row_json.proofs.Cells.{Case, the_time, bad_name, missing, held, bad_value, case_of, ok≢err, same_fault, skipped, refused, refused_rest}
 
 -- ---- the fault that is read is the first

@@ -13,9 +13,9 @@ use Rattle.json.specs.Lex.{tokens}
 use Rattle.serde_json.specs.Data.{Data, null, boolean, number, string, array, object, Members, no_members, member, put}
 use Rattle.serde_json.specs.Find.{get_member}
 use Rattle.serde_json.specs.Read.{read, of_json, of_items, of_members, number_of, max_depth}
-use Rattle.row_json.proofs.Order.{Below, names_of}
+use Rattle.row_json.specs.QuickRow.{Ascending, Below, names_of}
 
-same_name : (k l : List ℕ) → slice_cmp nat_cmp k l ≡ Equal → k ≡ l
+pub same_name : (k l : List ℕ) → slice_cmp nat_cmp k l ≡ Equal → k ≡ l
 same_name k l is = (bytes_eq-Decides k l).0 (sym (is_eq-slice_cmp k l) ∙ ap is_eq is)
 
 pub not_below_itself : (k : List ℕ) → Below k k → ⊥
@@ -53,11 +53,7 @@ found_all P k d (member l e ms) all h = elim (found_cases k l e d ms h) [
   | inr there ↦ found_all P k d ms all.1 there
 ]
 
--- the names ascend
-abbrev pub Ascending : Members → Type 0
-Ascending ms = IsStrictlySortedBy (slice_cmp nat_cmp) (names_of ms)
-
-below_all : (k l : List ℕ) (names : List (List ℕ)) → Below k l → AllByRecursion (Below l) names → AllByRecursion (Below k) names
+pub below_all : (k l : List ℕ) (names : List (List ℕ)) → Below k l → AllByRecursion (Below l) names → AllByRecursion (Below k) names
 below_all k l [] h all = tt
 below_all k l (n ∷ ns) h all = (nat_list_cmp_total.trans k l n h all.0, below_all k l ns h all.1)
 
@@ -78,7 +74,7 @@ ascending_at Less k m d e ms is all more = ((is, below_all k m (names_of ms) is 
 ascending_at Equal k m d e ms is all more = all
 ascending_at Greater k m d e ms is all more = (put_above m k d ms all.0 (nat_list_cmp_total.antisymm m k ∙ ap ordering_reverse is), more)
 
-put_ascending : (k : List ℕ) (d : Data) (ms : Members) → Ascending ms → Ascending (put k d ms)
+pub put_ascending : (k : List ℕ) (d : Data) (ms : Members) → Ascending ms → Ascending (put k d ms)
 unfolding IsStrictlySortedBy
 put_ascending k d no_members all = (tt, tt)
 put_ascending k d (member m e ms) all = ascending_at (slice_cmp nat_cmp k m) k m d e ms refl all (put_ascending k d ms all.1)
@@ -108,7 +104,7 @@ always : {A : Type 0} (o : Option A) → IfSome o (λ a. Unit {0})
 always None = tt
 always (Some a) = tt
 
-none_ascend : Ascending no_members
+pub none_ascend : Ascending no_members
 unfolding IsStrictlySortedBy
 none_ascend = tt
 

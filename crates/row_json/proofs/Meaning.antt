@@ -21,7 +21,7 @@ use Rattle.row_json.proofs.Faults.{first_fault, fault_first}
 
 -- ---- the time
 
-integer_at : (i : Option ℤ) (t : ℤ) → option_and_then not_negative i ≡ Some t → (i ≡ Some t) × (pos 0 ≤ℤ t)
+pub integer_at : (i : Option ℤ) (t : ℤ) → option_and_then not_negative i ≡ Some t → (i ≡ Some t) × (pos 0 ≤ℤ t)
 integer_at None t h = absurd (found_none t h)
 integer_at (Some (pos n)) t h =
     let same : pos n ≡ t = ap (λ o. unwrap_or o t) h in

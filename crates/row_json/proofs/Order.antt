@@ -1,5 +1,5 @@
 -- The cells that are read ascend by name, and are no more than were counted.
-use Rattle.std.proofs.Common.{◌≡◌, ℕ, ◌+◌, ◌≤◌, List, [], ◌∷◌, ◌++◌, length, map, ok_or, Result, Ok, Err, Option, Some, None, Bool, true, false, cond, ◌||◌, refl, sym, subst, arith, Less, nat_cmp, String, Global, string_bytes, string_cmp}
+use Rattle.std.proofs.Common.{◌≡◌, ℕ, ◌+◌, ◌≤◌, List, [], ◌∷◌, ◌++◌, length, ok_or, Result, Ok, Err, Option, Some, None, Bool, true, false, cond, ◌||◌, refl, sym, subst, arith, nat_cmp, String, Global, string_bytes, string_cmp}
 use Rattle.std.specs.Result.{IfOk}
 use Rattle.std.specs.Option.{IfSome}
 use Rattle.std.specs.List.{AllByRecursion}
@@ -16,6 +16,7 @@ use Rattle.row_json.specs.declared.object.RowFault.{RowFault}
 use Rattle.row_json.specs.declared.object.RowFault.TheVariants.{Name}
 use Rattle.row_json.specs.declared.object.RowFault.TheVariants as fault
 use Rattle.row_json.specs.Row.{is_time, is_bad_name, is_missing, value_of, named_cell, cell_of, and_then, cells_of, cell_count}
+use Rattle.row_json.specs.QuickRow.{Ascend, Below, cell_names, names_of}
 use Rattle.row_json.proofs.Rows.{with_cell}
 
 -- what is known of the cell that a member is
@@ -47,16 +48,6 @@ pub cells_counted : (ms : Members) → IfOk (cells_of ms) (λ cs. length cs ≤ 
 cells_counted no_members = omega arith
 cells_counted (member k d ms) = with_count k d (cell_count ms) (cell_of k d) (cells_of ms) (cell_is k d) (cells_counted ms)
 
-abbrev pub cell_names : List Cell → List (List ℕ)
-cell_names cs = map (λ (c : Cell). c.name) cs
-
-abbrev pub names_of : Members → List (List ℕ)
-names_of no_members = []
-names_of (member k d ms) = k ∷ names_of ms
-
-abbrev pub Below : List ℕ → List ℕ → Type 0
-Below a b = slice_cmp nat_cmp a b ≡ Less
-
 with_above : (k name : List ℕ) (d : Data) (r : Result (Option Cell) RowFault) (rest : Result (List Cell) RowFault) → IfOk r (λ o. IfSome o (IsCellOf name d)) → Below k name → IfOk rest (λ cs. AllByRecursion (Below k) (cell_names cs)) → IfOk (with_cell r rest) (λ cs. AllByRecursion (Below k) (cell_names cs))
 with_above k name d (Ok None) (Ok cs) one h more = more
 with_above k name d (Ok None) (Err e) one h more = tt
@@ -64,12 +55,9 @@ with_above k name d (Ok (Some c)) (Ok cs) one h more = (subst (Below k) (sym one
 with_above k name d (Ok (Some c)) (Err e) one h more = tt
 with_above k name d (Err e) rest one h more = tt
 
-cells_above : (k : List ℕ) (ms : Members) → AllByRecursion (Below k) (names_of ms) → IfOk (cells_of ms) (λ cs. AllByRecursion (Below k) (cell_names cs))
+pub cells_above : (k : List ℕ) (ms : Members) → AllByRecursion (Below k) (names_of ms) → IfOk (cells_of ms) (λ cs. AllByRecursion (Below k) (cell_names cs))
 cells_above k no_members h = tt
 cells_above k (member n d ms) h = with_above k n d (cell_of n d) (cells_of ms) (cell_is n d) h.0 (cells_above k ms h.1)
-
-abbrev pub Ascend : List Cell → Type 0
-Ascend cs = IsStrictlySortedBy (slice_cmp nat_cmp) (cell_names cs)
 
 with_ascending : (name : List ℕ) (d : Data) (r : Result (Option Cell) RowFault) (rest : Result (List Cell) RowFault) → IfOk r (λ o. IfSome o (IsCellOf name d)) → IfOk rest (λ cs. AllByRecursion (Below name) (cell_names cs)) → IfOk rest Ascend → IfOk (with_cell r rest) Ascend
 unfolding IsStrictlySortedBy

@@ -1,7 +1,7 @@
 -- Members that are fine one by one make a row.
-use Rattle.std.proofs.Common.{◌≡◌, ◌≢◌, ℕ, ℤ, ◌+◌, ◌≤◌, List, [], ◌∷◌, ◌++◌, length, Option, Some, None, option_map, option_and_then, Result, Ok, Err, Bool, true, false, cond, ◌||◌, Ordering, Less, Equal, Greater, nat_cmp, is_eq, refl, ap, sym, subst, ◌∙◌, arith, true≢false}
+use Rattle.std.proofs.Common.{◌≡◌, ℕ, ℤ, ◌+◌, ◌≤◌, List, [], ◌∷◌, ◌++◌, length, Option, Some, None, option_map, option_and_then, Ok, Bool, true, false, cond, ◌||◌, Ordering, Less, Equal, Greater, nat_cmp, is_eq, refl, ap, sym, subst, ◌∙◌, arith, true≢false}
 use Rattle.std.specs.Int.{w64}
-use Rattle.std.specs.Prelude.{FitsSigned, IsUtf8, ◌≤ℤ◌, ◌<ℤ◌, option_to_list, ◌<◌, ◌^◌, ◌==◌, pos, negsuc, codes, bytes_eq}
+use Rattle.std.specs.Prelude.{FitsSigned, IsUtf8, ◌≤ℤ◌, ◌<ℤ◌, option_to_list, ◌<◌, ◌^◌, pos, negsuc}
 use Rattle.std.proofs.lemmas.Bool.{le-ltb, lt-ltb, le-leb, ne_eqb}
 use Rattle.fast_float.specs.Text.{Parts, IsInteger, digits_of, with_sign}
 use Rattle.std.proofs.lemmas.Map.Text.{is_eq-slice_cmp}
@@ -10,18 +10,16 @@ use Rattle.std.specs.Cmp.Lexicographic.{slice_cmp}
 use Rattle.std.specs.Ordering.{match_ordering}
 use Rattle.std.specs.Option.{IfSome}
 use Rattle.json.specs.Token.{Token}
-use Rattle.json.specs.Json as json
-use Rattle.json.specs.Json.{value, members}
-use Rattle.json.proofs.Grammar.{value_is, value-begin_object}
+use Rattle.json.specs.Json.{value}
+use Rattle.json.proofs.Grammar.{value_is}
 use Rattle.serde_json.specs.Data.{Data, Num, unsigned, negative, null, number, string, object, Members, no_members, member, put}
 use Rattle.serde_json.specs.Find.{get_member, as_i64, as_number}
-use Rattle.serde_json.specs.Read.{converted, of_json, of_members, number_of, number_from, is_integer, read}
+use Rattle.serde_json.specs.Read.{converted, of_json, number_from, is_integer, read}
 use Rattle.serde_json.proofs.Views.{get_member-put, get_member-put_other}
 use Rattle.leaf_model.specs.Values.{time_name}
 use Rattle.leaf_model.specs.declared.rows.Cell.{Cell}
-use Rattle.row_json.specs.declared.object.RowFault.{RowFault}
 use Rattle.leaf_model.specs.declared.rows.Value.TheVariants.{Int, Text}
-use Rattle.row_json.specs.Row.{is_time, is_missing, is_bad_name, named_cell, cell_of, cell_count, cells_of, and_then, time_of, not_negative, row_of, row_of_data}
+use Rattle.row_json.specs.Row.{is_time, is_missing, is_bad_name, named_cell, cell_of, cell_count, cells_of, not_negative, row_of, row_of_data}
 use Rattle.row_json.proofs.Rows.{row_of-some}
 use Rattle.row_json.proofs.Found.{found_none}
 use Rattle.row_json.specs.Quick.{AreFine, AreOfRow, IsFine, Knows, data_of, natural_of}
@@ -57,7 +55,7 @@ pub fine_put : (k : List ℕ) (d : Data) (ms : Members) → IsFine k d → AreFi
 fine_put k d no_members one all = (one, tt)
 fine_put k d (member l e ms) one all = fine_at (slice_cmp nat_cmp k l) k l d e ms refl one all (fine_put k d ms one all.1)
 
-at_most_one : (b : Bool) → cond b 0 1 ≤ 1
+pub at_most_one : (b : Bool) → cond b 0 1 ≤ 1
 at_most_one true = omega arith
 at_most_one false = omega arith
 

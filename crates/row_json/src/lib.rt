@@ -3,7 +3,9 @@
 
 mod object;
 mod quick;
+mod quick_rows;
 mod sets;
 
 pub use object::{RowFault, row, row_meaning};
 pub use quick::{RowRoom, quick_time};
+pub use quick_rows::quick_row;

@@ -15,13 +15,13 @@ use std::alloc::Global;
 use std::collections::BTreeMap;
 
 /// The most cells of a row.
-const MAX_CELLS: usize = 1024;
+pub(crate) const MAX_CELLS: usize = 1024;
 
 /// The most bytes of a cell's name.
-const MAX_NAME: usize = 255;
+pub(crate) const MAX_NAME: usize = 255;
 
 /// The most bytes of a text that a cell holds.
-const MAX_TEXT: usize = 65_535;
+pub(crate) const MAX_TEXT: usize = 65_535;
 
 /// Why a text is no row. `Name` and `Value` carry the name of the member at fault.
 #[derive(Debug, Drop)]

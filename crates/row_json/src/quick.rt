@@ -17,13 +17,16 @@ use std::alloc::Global;
 /// The room that reading a text takes. One is kept from text to text.
 #[derive(Drop)]
 pub struct RowRoom {
-    scratch: Scratch,
+    pub(crate) scratch: Scratch,
+    /// How many cells the row before had, since the next is likely to have as many.
+    pub(crate) cells: usize,
 }
 
 impl RowRoom {
     pub fn new(alloc: Global) -> RowRoom {
         RowRoom {
             scratch: Scratch::new(alloc),
+            cells: 0,
         }
     }
 }
@@ -54,7 +57,7 @@ fn has_minus(bytes: &[u8]) -> bool
 }
 
 /// The integer that a number's text is, where it is an i64.
-fn integer(text: &str) -> Option<i64>
+pub(crate) fn integer(text: &str) -> Option<i64>
     ensures { IfSome result (λ z. (num : Num) × (number_of text.now ≡ Some num) × (as_i64 num ≡ Some z)) }
 {
     let bytes = text.as_bytes();
@@ -66,7 +69,7 @@ fn integer(text: &str) -> Option<i64>
 }
 
 /// The time that a token is.
-fn time_in(token: Token<'_>) -> Option<i64>
+pub(crate) fn time_in(token: Token<'_>) -> Option<i64>
     ensures { IfSome result (λ t. (d : Data) × (data_of (token_of token.entry) ≡ Some d) × (natural_of d ≡ Some t)) }
 {
     match token {

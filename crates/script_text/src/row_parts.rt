@@ -16,7 +16,7 @@ use crate::lines::{cut_line, without_return};
 use crate::parts::{MANY_LINES, parts_of};
 use leaf_model::{Row, Rows, TableRows};
 use rayon::prelude::*;
-use row_json::RowFault;
+use row_json::{RowFault, RowRoom, quick_row};
 use std::alloc::{AllocError, Global};
 use std::collections::VecDeque;
 use std::thread::Threads;
@@ -102,21 +102,30 @@ fn read_part(alloc: Global, part: &[u8]) -> Result<TableRows, ScriptFault>
     ensures are_rows { IfOk result (AllByRecursion IsRow) }
 {
     let mut rows = Vec::with_capacity(alloc, line_count(part) as usize)?;
+    let mut room = RowRoom::new(alloc);
     let mut rest = part;
     while !rest.is_empty() {
         let (line, after) = cut_line(rest);
         let number = rows.len() as u64 + 1;
-        rows.push(row(alloc, without_return(line), number)?)?;
+        rows.push(row(alloc, &mut room, without_return(line), number)?)?;
         rest = after;
     }
     Ok(TableRows::of(rows))
 }
 
-/// The row that the line of this number is.
-fn row(alloc: Global, line: &[u8], number: u64) -> Result<Row, ScriptFault>
+/// The row that the line of this number is. One that is seen as its members come is made at once.
+fn row(
+    alloc: Global,
+    room: &mut RowRoom,
+    line: &[u8],
+    number: u64,
+) -> Result<Row, ScriptFault>
     ensures exact { ParsesAs (λ row. row) result (on_line number why.Row (row_of line.now)) }
     ensures is_row { IfOk result IsRow }
 {
+    if let Some(row) = quick_row(alloc, room, line) {
+        return Ok(row);
+    }
     match row_json::row(alloc, line) {
         Ok(row) => Ok(row),
         Err(fault) => match fault {

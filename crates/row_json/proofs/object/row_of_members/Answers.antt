@@ -4,7 +4,8 @@ use Rattle.std.specs.List.{AllByRecursion}
 use Rattle.serde_json.specs.View.{members_view}
 use Rattle.leaf_model.specs.Values.{IsCell, IsTime}
 use Rattle.row_json.specs.Row.{cells_of, cell_count}
-use Rattle.row_json.proofs.Order.{Ascend, at_ok, cells_counted, entries_ascend}
+use Rattle.row_json.specs.QuickRow.{Ascend}
+use Rattle.row_json.proofs.Order.{at_ok, cells_counted, entries_ascend}
 use Rattle.row_json.proofs.object.row_of_members.Goals as goal
 use mir.Val.{to_z, of_z}
 use mir.Syntax.{w64}

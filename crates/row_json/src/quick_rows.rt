@@ -1,0 +1,189 @@
+// The row whose members can all be seen to be fine as they come: its cells are made at once.
+ghost use Rattle.std.specs.Prelude.{◌≡◌, ◌≤ℤ◌, pos, length, Some, Ok, IfSome, IsTrue};
+ghost use Rattle.std.specs.List.{AllByRecursion};
+ghost use Rattle.json.specs.Json.{members, value};
+ghost use Rattle.json.specs.Reads.{token_of};
+ghost use Rattle.serde_json.specs.Data.{Data, Members, no_members, object, put};
+ghost use Rattle.serde_json.specs.Read.{converted, of_members, read};
+ghost use Rattle.leaf_model.specs.Values.{IsCell, IsCellName, IsRow, IsTime, IsValue};
+ghost use Rattle.row_json.specs.Row.{row_of};
+ghost use Rattle.row_json.specs.Quick.{Knows, data_of};
+ghost use Rattle.row_json.specs.QuickRow.{Ascend, IsMadeOf, IsPlace, Means, Puts};
+
+use crate::object::{MAX_CELLS, MAX_NAME, MAX_TEXT};
+use crate::quick::{RowRoom, integer, time_in};
+use json::{Reader, Scratch, Token};
+use leaf_model::{Cell, Cells, Row, Text, Value};
+use std::alloc::Global;
+use std::cmp::Ordering;
+
+/// How many cells a cell may be put in front of, so that the time grows no faster than the row.
+const MAX_STEPS: usize = 64;
+
+/// Whether a cell may have the name.
+fn is_cell_name(name: &str) -> bool
+    ensures { IsTrue result → IsCellName name.now }
+{
+    name != "time" && !name.is_empty() && name.len() <= MAX_NAME
+}
+
+/// A copy of the text.
+fn own(alloc: Global, text: &str) -> Option<Text>
+    ensures { IfSome result (λ copy. copy ≡ text.now) }
+{
+    match String::from_str(alloc, text) {
+        Ok(text) => Some(Text::of(text)),
+        Err(_) => None,
+    }
+}
+
+/// What a cell may hold of a token, which is nothing of a null.
+fn value_in(alloc: Global, token: Token<'_>) -> Option<Option<Value>>
+    ensures exact { IfSome result (λ found. (d : Data) × (data_of (token_of token.entry) ≡ Some d) × Means d found) }
+    ensures is_value { IfSome result (λ found. IfSome found IsValue) }
+{
+    match token {
+        Token::Number(text) => {
+            let number = integer(text)?;
+            Some(Some(Value::Int(number)))
+        }
+        Token::String(text) => {
+            if text.len() > MAX_TEXT {
+                return None;
+            }
+            let text = own(alloc, text)?;
+            Some(Some(Value::Text(text)))
+        }
+        Token::Null => Some(None),
+        _ => None,
+    }
+}
+
+/// The place of a cell of this name. None where it lies in front of many cells, or where one of them has the name.
+fn place_of(cells: &[Cell], name: &str) -> Option<usize>
+    requires { Ascend cells.now }
+    ensures { IfSome result (λ place. IsPlace cells.now name.now place) }
+{
+    let least = cells.len().saturating_sub(MAX_STEPS);
+    let mut place = cells.len();
+    while place > least {
+        match name.cmp(cells[place - 1].name.as_str()) {
+            Ordering::Greater => return Some(place),
+            Ordering::Equal => return None,
+            Ordering::Less => place -= 1,
+        }
+    }
+    if place == 0 { Some(place) } else { None }
+}
+
+/// Puts a cell in at its place, where there is a value. None where a cell has the name.
+fn put_cell(alloc: Global, cells: &mut Vec<Cell>, name: &str, value: Option<Value>) -> Option<()>
+    requires name { IsCellName name.now }
+    requires value { IfSome value IsValue }
+    requires ordered { Ascend cells.old.items }
+    requires cells { AllByRecursion IsCell cells.old.items }
+    ensures puts { IfSome result (λ _. (d : Data) → Means d value → Puts name.now d cells.old.items cells.new.items) }
+    ensures are_cells { IfSome result (λ _. AllByRecursion IsCell cells.new.items) }
+{
+    let place = place_of(cells.as_slice(), name)?;
+    let Some(value) = value else {
+        return Some(());
+    };
+    let name = own(alloc, name)?;
+    if cells.insert(place, Cell { name, value }).is_err() {
+        return None;
+    }
+    Some(())
+}
+
+/// The time behind one member more, where that is fine. Its cell is put among the cells.
+fn put_member(
+    alloc: Global,
+    time: Option<i64>,
+    cells: &mut Vec<Cell>,
+    name: &str,
+    token: Token<'_>,
+) -> Option<Option<i64>>
+    requires ordered { Ascend cells.old.items }
+    requires cells { AllByRecursion IsCell cells.old.items }
+    ensures exact { IfSome result (λ now. (d : Data) × (data_of (token_of token.entry) ≡ Some d) × ((old : Members) → Knows time old → Knows now (put name.now d old)) × Puts name.now d cells.old.items cells.new.items) }
+    ensures are_cells { IfSome result (λ _. AllByRecursion IsCell cells.new.items) }
+{
+    if name == "time" {
+        let now = time_in(token)?;
+        return Some(Some(now));
+    }
+    if !is_cell_name(name) {
+        return None;
+    }
+    let value = value_in(alloc, token)?;
+    put_cell(alloc, cells, name, value)?;
+    Some(time)
+}
+
+/// The row of this time and these cells, which keep no more room than they take.
+fn row_with(time: Option<i64>, mut cells: Vec<Cell>) -> Option<Row>
+    requires { IfSome time (λ t. pos 0 ≤ℤ t) }
+    ensures exact { IfSome result (λ row. (time ≡ Some row.time) × (row.cells ≡ cells.items)) }
+    ensures is_time { IfSome result (λ row. IsTime row.time) }
+{
+    let time = time?;
+    cells.shrink_to_fit();
+    Some(Row {
+        time,
+        cells: Cells::of(cells),
+    })
+}
+
+/// The row of the members up to the brace that closes their object. Room for so many cells is taken first.
+fn members_row(alloc: Global, reader: &mut Reader<'_>, room: usize) -> Option<Row>
+    ensures exact { IfSome result (λ row. (all : Members) × (converted (λ ms. of_members ms no_members) (members (value 126) (length reader.old) reader.old) ≡ Some (all, reader.new)) × IsMadeOf all row) }
+    ensures is_row { IfSome result IsRow }
+{
+    let Ok(mut cells) = Vec::with_capacity(alloc, room) else {
+        return None;
+    };
+    let mut time = None;
+    'members: while cells.len() <= MAX_CELLS {
+        let Ok(found) = reader.next_key() else {
+            return None;
+        };
+        let Some(name) = found else {
+            return row_with(time, cells);
+        };
+        let token = reader.next()?;
+        time = put_member(alloc, time, &mut cells, name, token)?;
+    }
+    None
+}
+
+/// The row that a text of JSON is.
+fn text_row(alloc: Global, text: &str, scratch: &mut Scratch, room: usize) -> Option<Row>
+    ensures exact { IfSome result (λ row. (all : Members) × (read text.now ≡ Some (object all)) × IsMadeOf all row) }
+    ensures is_row { IfSome result IsRow }
+{
+    let Ok(mut reader) = Reader::new(text, scratch) else {
+        return None;
+    };
+    let Some(Token::BeginObject) = reader.next() else {
+        return None;
+    };
+    let row = members_row(alloc, &mut reader, room)?;
+    if reader.next().is_some() {
+        return None;
+    }
+    Some(row)
+}
+
+/// The row that a text is, where that is seen as its members come; None says nothing of the text.
+pub fn quick_row(alloc: Global, room: &mut RowRoom, text: &[u8]) -> Option<Row>
+    ensures exact { IfSome result (λ row. row_of text.now ≡ Ok row) }
+    ensures is_row { IfSome result IsRow }
+{
+    let Ok(text) = simdutf8::basic::from_utf8(text) else {
+        return None;
+    };
+    let row = text_row(alloc, text, &mut room.scratch, room.cells)?;
+    room.cells = row.cells.as_slice().len();
+    Some(row)
+}
