@@ -1,16 +1,13 @@
--- Entries of a table's legal history that a state of a standing query heeds, one after another in the order of their numbers.
+-- What one entry of a table's legal history makes of the rows that a state of a standing query knows.
 use Rattle.std.proofs.Common.{◌≡◌, ℕ, zero, suc, ◌+◌, ◌-◌, ◌≤◌, Bool, true, false, true≢false, ◌||◌, cond, Option, Some, ℤ, int_le, int_lt, refl, sym, ap, ap₂, subst, ◌∙◌, arith}
-use Rattle.std.specs.Prelude.{if◌then◌else◌, ⊤, List, [], ◌∷◌, ◌++◌, length, map, take, drop, set, get_or, filter, swap, slice_get, IsPermutation}
+use Rattle.std.specs.Prelude.{if◌then◌else◌, ⊤, List, [], ◌∷◌, ◌++◌, length, take, drop, filter, slice_get, IsPermutation}
 use Rattle.std.specs.Int.{int_max}
 use Rattle.std.specs.List.{AllByRecursion, list_any}
-use Rattle.std.specs.List.Sorted.{IsNonDecreasingBy, apply_swaps, SwapsInRange}
-use Rattle.std.proofs.Math.Bool.{or-false, or_assoc}
-use Rattle.std.proofs.Math.ListN.{get_or-map}
-use Rattle.std.proofs.lemmas.Bool.{ltb-false, or_parts, true_from_ne_false}
+use Rattle.std.proofs.lemmas.Bool.{ltb-false, true_from_ne_false}
 use Rattle.std.proofs.lemmas.Int.{ints}
-use Rattle.std.proofs.lemmas.List.{length-drop, length-map, map-set}
+use Rattle.std.proofs.lemmas.List.{length-drop}
 use Rattle.std.proofs.lemmas.List.Elements.{All-from_recursion, recursion_from_All}
-use Rattle.std.proofs.lemmas.List.Sorted.{All-permutation, list_any-IsPermutation}
+use Rattle.std.proofs.lemmas.List.Sorted.{All-permutation}
 use Rattle.leaf_model.specs.declared.queries.Query.{Query}
 use Rattle.leaf_model.specs.declared.rows.Row.{Row}
 use Rattle.leaf_model.specs.declared.writes.Write.{Write}
@@ -27,13 +24,10 @@ use Rattle.printed_lines.specs.declared.line.Said.TheVariants as said
 use Rattle.standing_query.specs.declared.fed.Fed.{Fed}
 use Rattle.standing_query.specs.declared.fed.Fed.TheVariants as fed
 use Rattle.standing_query.specs.States.{FedTo, Means, StandingState, is_end}
-use Rattle.standing_feed.specs.declared.heard.Heard.{Heard}
-use Rattle.standing_feed.specs.Following.{Ascend, FeedsTo, Heeds, HeedsAll, HeedsInOrder}
-use Rattle.standing_feed.specs.Following as following
 use Rattle.transcript.specs.Histories.{Ground, Shown, Shows, rows_before}
 use Rattle.transcript.specs.Telling.{ends_state}
 use Rattle.transcript_standing.specs.Followed.{AreTimes}
-use Rattle.transcript_standing.proofs.HeardPieces.{fed_of, heard_of}
+use Rattle.transcript_standing.proofs.HeardPieces.{fed_of}
 use Rattle.transcript_standing.proofs.Numbers.{ShowsIn}
 
 -- ---- what a table holds
@@ -96,7 +90,7 @@ module _ {X : Type 0} (P : X → Type 0) where
   each-filter test [] a = tt
   each-filter test (x ∷ xs) a = kept_if x (filter test xs) (test x) a.0 (each-filter test xs a.1)
 
-  each-permutation : (xs ys : List X) → IsPermutation xs ys → AllByRecursion P xs → AllByRecursion P ys
+  pub each-permutation : (xs ys : List X) → IsPermutation xs ys → AllByRecursion P xs → AllByRecursion P ys
   each-permutation xs ys same a = recursion_from_All P ys (All-permutation P xs ys same (All-from_recursion P xs a))
 
 -- a filter leaves what passes it, and no more than there was
@@ -139,7 +133,7 @@ keeps_all n k rows is none =
 
 -- ---- what an entry makes of the contents, unless it ends the state
 
-record Step (c : Option Call) (d : Said) (before now : Contents) : Type 0 where
+pub record Step (c : Option Call) (d : Said) (before now : Contents) : Type 0 where
   pub feeds : FedTo (fed_of c d) before.rows now.rows
   pub none_below : NoneBelow now
 
@@ -278,7 +272,7 @@ entry_at founded s (x ∷ xs) (suc i) e legal at = entry_at founded (after_entry
 behind_is : (g : Ground) (entries : List Entry) (n k : ℕ) → n + 1 - 1 ≡ k → contents_behind g entries n ≡ held (after g.founded g.base (take k entries))
 behind_is g entries n k is = ap (λ (j : ℕ). held (after g.founded g.base (take j entries))) is
 
-step_at : (g : Ground) (entries : List Entry) (s : Shown) (k : ℕ) → LegalFrom g.founded g.base entries → ShowsIn entries s → s.number ≡ k + 1 → is_end (fed_of s.call s.said) ≡ false
+pub step_at : (g : Ground) (entries : List Entry) (s : Shown) (k : ℕ) → LegalFrom g.founded g.base entries → ShowsIn entries s → s.number ≡ k + 1 → is_end (fed_of s.call s.said) ≡ false
     → NoneBelow (contents_behind g entries k) → Step s.call s.said (contents_behind g entries k) (contents_behind g entries (k + 1))
 step_at g entries s k legal shows number on below =
     let place : s.number - 1 ≡ k = omega (arith, number) in
@@ -332,126 +326,16 @@ abbrev FedTimes : Fed → Type 0
 FedTimes (fed.Added rows late) = AreTimes rows
 FedTimes _ = ⊤
 
-fed_times : (c : Option Call) (d : Said) → CallTimes c → FedTimes (fed_of c d)
+pub fed_times : (c : Option Call) (d : Said) → CallTimes c → FedTimes (fed_of c d)
 fed_times c (said.Opened n) t = tt
 fed_times (Some (call.Add rows)) (said.Added kept late) t = t
 fed_times (Some (call.Add rows)) _ t = tt
 fed_times _ _ t = tt
 
-times_fed : (f : Fed) (before now : List Row) → FedTimes f → FedTo f before now → AreTimes before → AreTimes now
+pub times_fed : (f : Fed) (before now : List Row) → FedTimes f → FedTo f before now → AreTimes before → AreTimes now
 times_fed (fed.Added rows late) before now new to times =
     subst (λ (rs : List Row). AreTimes rs) (sym to.2)
     (each-append (λ (row : Row). IsTime row.time) before (rows_from to.0 rows) times (each-filter (λ (row : Row). IsTime row.time) (λ (row : Row). int_le to.0 row.time) rows new))
 times_fed (fed.Expired horizon) before now new to times =
     subst (λ (rs : List Row). AreTimes rs) (sym to) (each-filter (λ (row : Row). IsTime row.time) (λ (row : Row). int_le horizon row.time) before times)
 times_fed _ before now new to times = subst (λ (rs : List Row). AreTimes rs) (sym to) times
-
--- ---- entries one after another
-
--- the next entry is fed
-next_fed : (s : StandingState) (h : Heard) (t : StandingState) → h.number ≡ s.upto + 1 → Heeds s h t → FeedsTo s h t
-next_fed s h t at (following.known le same) = absurd (omega (arith, at, le))
-next_fed s h t at (following.next is feeds) = feeds
-next_fed s h t at (following.missed far lost) = absurd (omega (arith, at, far))
-
-no_first : (h : Heard) (others : List Heard) → [] ≡ h ∷ others → ⊥
-no_first h others e = cc
-
-first_same : (h h' : Heard) (others others' : List Heard) → h ∷ others ≡ h' ∷ others' → (h ≡ h') × (others ≡ others')
-first_same h h' others others' e = (cc, cc)
-
-nothing_heeded : (s : StandingState) (hs : List Heard) (t : StandingState) → HeedsAll s hs t → hs ≡ [] → t ≡ s
-nothing_heeded s hs t (following.none a b c empty same) is = same
-nothing_heeded s hs t (following.more a b c h others between one rest are) is = absurd (no_first h others (sym is ∙ are))
-
-first_heeded : (s : StandingState) (hs : List Heard) (t : StandingState) (h : Heard) (others : List Heard) → HeedsAll s hs t → hs ≡ h ∷ others
-    → (between : StandingState) × Heeds s h between × HeedsAll between others t
-first_heeded s hs t h others (following.none a b c empty same) is = absurd (no_first h others (sym empty ∙ is))
-first_heeded s hs t h others (following.more a b c h' others' between one rest are) is =
-    let both = first_same h' h others' others (sym are ∙ is) in
-    (between, subst (λ (x : Heard). Heeds a x between) both.0 one, subst (λ (xs : List Heard). HeedsAll between xs c) both.1 rest)
-
-one_on : (g : Ground) (entries : List Entry) → LegalFrom g.founded g.base entries → (x : Shown) (k : ℕ) (s t : StandingState) → x.number ≡ k + 1 → ShowsIn entries x → AddsTimes x
-    → (s.stale ≡ false → Knows g entries k s) → FeedsTo s (heard_of x) t → t.stale ≡ false → Knows g entries (k + 1) t
-one_on g entries legal x k s t number shows adds now feeds fresh =
-    let both = or_parts s.stale (is_end (fed_of x.call x.said)) (sym feeds.stale ∙ fresh) in
-    let was = now both.0 in
-    let step = step_at g entries x k legal shows number both.1 was.2 in (
-      feeds.means (rows_behind g entries k) (rows_behind g entries (k + 1)) was.0 step.feeds fresh,
-      times_fed (fed_of x.call x.said) (rows_behind g entries k) (rows_behind g entries (k + 1)) (fed_times x.call x.said adds) step.feeds was.1,
-      step.none_below,
-    )
-
-pub heeds_all_on : (g : Ground) (entries : List Entry) → LegalFrom g.founded g.base entries → (ss : List Shown) (k m : ℕ) (s t : StandingState)
-    → CountUp k ss m → AllByRecursion (ShowsIn entries) ss → AllByRecursion AddsTimes ss
-    → s.upto ≡ k → (s.stale ≡ false → Knows g entries k s)
-    → HeedsAll s (map heard_of ss) t → FedBehind g entries ss m s t
-heeds_all_on g entries legal [] k m s t count shows adds at now heeds =
-    let same : t ≡ s = nothing_heeded s [] t heeds refl in
-    let stale : t.stale ≡ s.stale = ap (λ (x : StandingState). x.stale) same in
-    record {
-      upto = ap (λ (x : StandingState). x.upto) same ∙ (at ∙ sym count);
-      query = ap (λ (x : StandingState). x.query) same;
-      stale = stale ∙ sym (or-false s.stale);
-      means = λ fresh.
-          subst (λ (x : StandingState). Knows g entries m x) (sym same) (subst (λ (n : ℕ). Knows g entries n s) (sym count) (now (sym stale ∙ fresh)));
-    }
-heeds_all_on g entries legal (x ∷ ss) k m s t count shows adds at now heeds =
-    let first = first_heeded s (map heard_of (x ∷ ss)) t (heard_of x) (map heard_of ss) heeds refl in
-    let number : x.number ≡ s.upto + 1 = omega (arith, count.0, at) in
-    let feeds = next_fed s (heard_of x) first.0 number first.1 in
-    let others = list_any (λ (e : Shown). ends_state e.call e.said) ss in
-    let stale : first.0.stale ≡ (s.stale || ends_state x.call x.said) = feeds.stale ∙ ap (λ (b : Bool). s.stale || b) (is_end_of x) in
-    let behind = heeds_all_on g entries legal ss (k + 1) m first.0 t count.1 shows.1 adds.1 (feeds.upto ∙ count.0) (one_on g entries legal x k s first.0 count.0 shows.0 adds.0 now feeds) first.2 in
-    record {
-      upto = behind.upto;
-      query = behind.query ∙ feeds.query;
-      stale = behind.stale ∙ (ap (λ (b : Bool). b || others) stale ∙ or_assoc s.stale (ends_state x.call x.said) others);
-      means = behind.means;
-    }
-
--- ---- in the order of their numbers
-
-module _ {X Y : Type 0} (f : X → Y) where
-  map-swap : (xs : List X) (i j : ℕ) → map f (swap xs i j) ≡ swap (map f xs) i j
-  map-swap [] i j = refl
-  map-swap (d ∷ ys) i j =
-      map-set f (set (d ∷ ys) i (get_or (d ∷ ys) j d)) j (get_or (d ∷ ys) i d)
-      ∙ (λ k. set ((map-set f (d ∷ ys) i (get_or (d ∷ ys) j d) ∙ ap (set (map f (d ∷ ys)) i) (sym (get_or-map f (d ∷ ys) j d))) k) j (sym (get_or-map f (d ∷ ys) i d) k))
-
-  map-swaps : (xs : List X) (ps : List (ℕ × ℕ)) → map f (apply_swaps xs ps) ≡ apply_swaps (map f xs) ps
-  map-swaps xs [] = refl
-  map-swaps xs (p ∷ ps) = map-swap (apply_swaps xs ps) p.0 p.1 ∙ ap (λ l. swap l p.0 p.1) (map-swaps xs ps)
-
-  -- a permutation of a mapped list is the map of a permutation
-  pub mapped_permutation : (xs : List X) (ys : List Y) → IsPermutation (map f xs) ys → (zs : List X) × IsPermutation xs zs × (ys ≡ map f zs)
-  mapped_permutation xs ys p = (
-    apply_swaps xs p.moves,
-    record { moves = p.moves; below = subst (λ n. SwapsInRange n p.moves) (length-map xs f) p.below; is = refl },
-    p.is ∙ sym (map-swaps xs p.moves),
-  )
-
-ascend_on : (zs : List Shown) → Ascend (map heard_of zs) → IsNonDecreasingBy (λ (z : Shown). z.number) zs
-ascend_on zs up i j d le lt =
-    let long = length-map zs heard_of in
-    let here : (get_or (map heard_of zs) i (heard_of d)).number ≡ (get_or zs i d).number = ap (λ (h : Heard). h.number) (get_or-map heard_of zs i d) in
-    let there : (get_or (map heard_of zs) j (heard_of d)).number ≡ (get_or zs j d).number = ap (λ (h : Heard). h.number) (get_or-map heard_of zs j d) in
-    let at = up i j (heard_of d) le (omega (arith, long, lt)) in
-    omega (arith, here, there, at)
-
-pub heeds_on : (g : Ground) (entries : List Entry) → LegalFrom g.founded g.base entries → (ss : List Shown) (k m : ℕ) (s t : StandingState)
-    → ((zs : List Shown) → IsPermutation ss zs → IsNonDecreasingBy (λ (z : Shown). z.number) zs → CountUp k zs m) → AllByRecursion (ShowsIn entries) ss → AllByRecursion AddsTimes ss
-    → s.upto ≡ k → (s.stale ≡ false → Knows g entries k s)
-    → HeedsInOrder s (map heard_of ss) t → FedBehind g entries ss m s t
-heeds_on g entries legal ss k m s t numbers shows adds at now heeds =
-    let placed = mapped_permutation heard_of ss heeds.in_order heeds.same in
-    let count = numbers placed.0 placed.1 (ascend_on placed.0 (subst (λ (hs : List Heard). Ascend hs) placed.2 heeds.ascend)) in
-    let behind = heeds_all_on g entries legal placed.0 k m s t count
-    (each-permutation (ShowsIn entries) ss placed.0 placed.1 shows) (each-permutation AddsTimes ss placed.0 placed.1 adds) at now
-    (subst (λ (hs : List Heard). HeedsAll s hs t) placed.2 heeds.heeds) in
-    record {
-      upto = behind.upto;
-      query = behind.query;
-      stale = behind.stale ∙ ap (λ (b : Bool). s.stale || b) (sym (list_any-IsPermutation (λ (e : Shown). ends_state e.call e.said) ss placed.0 placed.1));
-      means = behind.means;
-    }

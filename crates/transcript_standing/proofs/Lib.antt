@@ -1,11 +1,13 @@
 pub mod Lists
 pub mod Following
+pub mod Counting
 pub mod Numbers
 pub mod HeardPieces
 pub mod HeardQueries
 pub mod HeardTails
 pub mod Heard
 pub mod Feeding
+pub mod Heeding
 pub mod Times
 pub mod Standing
 pub mod Mids

@@ -27,10 +27,12 @@ use Rattle.transcript.specs.Transcript.{Known, Transcript, grounds_of}
 use Rattle.transcript.specs.Telling.{Standing, declared, ends_state, has_told, is_ended, is_fresh, is_fresh_behind, last_number}
 use Rattle.transcript_standing.specs.Followed.{IsFollower, IsPlayable}
 use Rattle.transcript_standing.proofs.Lists.{All-back, All-front, same_some}
-use Rattle.transcript_standing.proofs.Numbers.{IsStretch, ascending_counts, numbers, stretch_of_item}
+use Rattle.transcript_standing.proofs.Numbers.{IsStretch, numbers, stretch_of_item}
+use Rattle.transcript_standing.proofs.Counting.{ascending_counts}
 use Rattle.transcript_standing.proofs.HeardPieces.{IsProper, PrintsOwn, heard_of}
 use Rattle.transcript_standing.proofs.Heard.{heard_shown}
-use Rattle.transcript_standing.proofs.Feeding.{CountUp, FedBehind, Knows, heeds_on}
+use Rattle.transcript_standing.proofs.Feeding.{CountUp, FedBehind, Knows}
+use Rattle.transcript_standing.proofs.Heeding.{heeds_on}
 use Rattle.transcript_standing.proofs.Times.{item_adds, proper_lines}
 
 -- ---- numbers that count up
