@@ -114,12 +114,7 @@ fn read_part(alloc: Global, part: &[u8]) -> Result<TableRows, ScriptFault>
 }
 
 /// The row that the line of this number is. One that is seen as its members come is made at once.
-fn row(
-    alloc: Global,
-    room: &mut RowRoom,
-    line: &[u8],
-    number: u64,
-) -> Result<Row, ScriptFault>
+fn row(alloc: Global, room: &mut RowRoom, line: &[u8], number: u64) -> Result<Row, ScriptFault>
     ensures exact { ParsesAs (λ row. row) result (on_line number why.Row (row_of line.now)) }
     ensures is_row { IfOk result IsRow }
 {

@@ -68,7 +68,7 @@ returns-in_err-region_write-clause-begun g c =
     let laws = g.met.B.Berth g.world.𝓛 g.world.𝓜 g.world.𝓡 ((λ s x. x), (λ x. x), (λ x. x), λ x. x) in
     let empty : b.held.region ≡ [] = (c.in_ok-region_cut.ensures.told told).ok in
     let first = cut_empties c.region_cut.result a b (λ p left. laws.keeps_region c.args.berth.now p told left) (λ p left. laws.keeps_region c.region_cut.new.self p told_b left)
-        c.region_cut.ensures.time (c.region_cut.ensures.told told) in
+    c.region_cut.ensures.time (c.region_cut.ensures.told told) in
     begun_write a.held.region 0 (0 ∷ []) c.region_write.result a b d (omega (arith, ap (λ (l : List ℕ). length l) empty)) (omega arith) first
     (λ p left. laws.keeps_region c.region_write.new.self p told_d left) c.region_write.ensures.time (c.region_write.ensures.told told_b)
 
@@ -86,8 +86,8 @@ returns-clause-begun g c =
     let empty : b.held.region ≡ [] = (c.in_ok-region_cut.ensures.told told).ok in
     let shut : d.held.region ≡ 0 ∷ [] = (c.in_ok-region_write.ensures.told told_b).ok ∙ ap (written 0 (0 ∷ [])) empty in
     let first = cut_empties c.region_cut.result a b (λ p left. laws.keeps_region c.args.berth.now p told left) (λ p left. laws.keeps_region c.region_cut.new.self p told_b left)
-        c.region_cut.ensures.time (c.region_cut.ensures.told told) in
+    c.region_cut.ensures.time (c.region_cut.ensures.told told) in
     let second = begun_write a.held.region 0 (0 ∷ []) c.region_write.result a b d (omega (arith, ap (λ (l : List ℕ). length l) empty)) (omega arith) first
-        (λ p left. laws.keeps_region c.region_write.new.self p told_d left) c.region_write.ensures.time (c.region_write.ensures.told told_b) in
+    (λ p left. laws.keeps_region c.region_write.new.self p told_d left) c.region_write.ensures.time (c.region_write.ensures.told told_b) in
     begun_write a.held.region 1 _ c.region_write-2.result a d e (omega (arith, ap (λ (l : List ℕ). length l) shut)) (omega arith) second
     (λ p left. laws.keeps_region c.region_write-2.new.self p told_e left) c.region_write-2.ensures.time (c.region_write-2.ensures.told told_d)
