@@ -7,3 +7,4 @@ pub mod Scanned
 pub mod Merged
 pub mod Decodes
 pub mod Split
+pub mod Timed

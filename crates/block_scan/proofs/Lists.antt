@@ -164,3 +164,8 @@ any_within test P (x ∷ xs) all =
 pub if_ok : {X E : Type 0} (P Q : X → Type 0) (r : Result X E) → IfOk r P → ((x : X) → P x → Q x) → IfOk r Q
 if_ok P Q (Ok x) h more = more x h
 if_ok P Q (Err e) h more = tt
+
+-- and from two promises
+pub both_ok : {X E : Type 0} (P Q R : X → Type 0) (r : Result X E) → IfOk r P → IfOk r Q → ((x : X) → P x → Q x → R x) → IfOk r R
+both_ok P Q R (Ok x) h k more = more x h k
+both_ok P Q R (Err e) h k more = tt

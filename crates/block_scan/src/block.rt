@@ -6,6 +6,7 @@ ghost use Rattle.row_blocks.specs.Blocks.{AreTimes, IsOther};
 ghost use Rattle.row_blocks.specs.Held.{IsSkip, live_rows};
 ghost use Rattle.block_scan.specs.Scanning.{meets, most_steps, named_columns};
 ghost use Rattle.block_scan.specs.Seen.{StandFor, named_block, seen};
+ghost use Rattle.block_scan.specs.Timed.{AreBetween};
 
 use crate::reading::{read_column, read_named};
 use crate::view::BlockView;
@@ -36,6 +37,8 @@ fn read_columns<'a, L: Ledger>(
     rows: u32,
     times: &'a BlockColumn,
     others: &'a [BlockColumn],
+    from: i64,
+    to: i64,
     skip: u32,
     horizon: i64,
     steps: &mut Steps<L>,
@@ -43,13 +46,14 @@ fn read_columns<'a, L: Ledger>(
     requires few { rows ≤ 65536 }
     requires skip { skip ≤ rows }
     requires timed { AreTimes rows times.now }
+    requires between { AreBetween rows times.now from to }
     requires others { AllByRecursion (IsOther rows) others.now }
     ensures view { IfOk result (λ view. view ≡ seen skip horizon (record { rows = rows; columns = named_columns query.now (times.now ∷ others.now) })) }
     ensures steps { steps.new ≤ steps.old + length (named_columns query.now (times.now ∷ others.now)) }
 {
     let read_times = read_column(rows, times, steps);
     let read = read_named(alloc, query, rows, others, steps)?;
-    Ok(BlockView::of(rows, skip, horizon, read_times, read))
+    Ok(BlockView::of(rows, skip, horizon, from, to, read_times, read))
 }
 
 /// What the named columns of a block mean, each read once.
@@ -66,6 +70,7 @@ fn read_block<'a, L: Ledger>(
     ensures steps { steps.new ≤ steps.old + length (named_columns query.now block.now.columns) }
 {
     block.is_block();
+    let (from, to) = block.range();
     match block.columns().split_first() {
         Some((times, others)) => read_columns(
             alloc,
@@ -73,6 +78,8 @@ fn read_block<'a, L: Ledger>(
             block.rows(),
             times,
             others,
+            from,
+            to,
             skip,
             horizon,
             steps,

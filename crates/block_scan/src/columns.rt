@@ -5,16 +5,18 @@ ghost use Rattle.leaf_model.specs.Groups.{groups, passes};
 ghost use Rattle.group_table.specs.Joined.{IsWithin};
 ghost use Rattle.row_blocks.specs.Blocks.{AreTimes};
 ghost use Rattle.row_blocks.specs.Held.{live_rows};
-ghost use Rattle.block_scan.specs.Reads.{IsRead, columns_of, row_of};
+ghost use Rattle.block_scan.specs.Reads.{IsRead, columns_of, row_of, wanted_places};
 ghost use Rattle.block_scan.specs.Slots.{AreSlots};
+ghost use Rattle.block_scan.specs.Timed.{AreBetween};
 
 use crate::aggregates::decode_aggs;
 use crate::grouping::fold_between;
 use crate::narrowing::narrow_all;
-use crate::places::{times_in, wanted_places};
+use crate::places::wanted_places;
 use crate::reading::ReadColumn;
 use crate::rows::rows_at;
 use crate::slots::{Slots, slots_in, slots_of};
+use crate::times::times_seen;
 use group_table::fold_rows;
 use leaf_model::{Groups, Query};
 use std::alloc::{AllocError, Global};
@@ -92,13 +94,40 @@ fn fold_passing(
     }
 }
 
-/// The groups of the rows of these columns, behind the first `skip` and from the horizon on.
+/// The groups of the rows at the wanted places of these times.
+fn fold_wanted(
+    alloc: Global,
+    query: &Query,
+    times: &[i64],
+    others: &[ReadColumn],
+    skip: u32,
+    horizon: i64,
+) -> Result<Groups, AllocError>
+    requires few { length times.now ≤ 65536 }
+    requires skip { skip ≤ length times.now }
+    requires read { AllByRecursion (IsRead (length times.now)) others.now }
+    ensures groups { IfOk result (λ gs. gs ≡ groups query.now (map (row_of times.now (columns_of others.now)) (wanted_places query.now horizon times.now skip))) }
+    ensures within { IfOk result (λ gs. AllByRecursion (IsWithin (length (wanted_places query.now horizon times.now skip))) gs) }
+{
+    let wanted = wanted_places(alloc, query, times, skip, horizon)?;
+    match narrow_all(alloc, query.conds.as_slice(), times, others, wanted)? {
+        Some(left) => fold_passing(alloc, query, times, others, left.as_slice()),
+        None => {
+            let all = wanted_places(alloc, query, times, skip, horizon)?;
+            fold_places(alloc, query, times, others, all.as_slice())
+        }
+    }
+}
+
+/// The groups of the rows of these columns, behind the first `skip` and from the horizon on. All times lie between two of them.
 pub(crate) fn fold_columns(
     alloc: Global,
     query: &Query,
     rows: u32,
     times: &ReadColumn,
     others: &[ReadColumn],
+    from: i64,
+    to: i64,
     skip: u32,
     horizon: i64,
 ) -> Result<Groups, AllocError>
@@ -106,18 +135,11 @@ pub(crate) fn fold_columns(
     requires skip { skip ≤ rows }
     requires timed { AreTimes rows times.now.column.now }
     requires times { IsRead rows times.now }
+    requires between { AreBetween rows times.now.column.now from to }
     requires others { AllByRecursion (IsRead rows) others.now }
     ensures groups { IfOk result (λ gs. gs ≡ groups query.now (live_rows skip horizon (record { rows = rows; columns = times.now.column.now ∷ columns_of others.now }))) }
     ensures within { IfOk result (λ gs. AllByRecursion (IsWithin (length (live_rows skip horizon (record { rows = rows; columns = times.now.column.now ∷ columns_of others.now })))) gs) }
 {
-    let times_at = times_in(alloc, rows, times)?;
-    let times_at = times_at.as_slice();
-    let wanted = wanted_places(alloc, query, times_at, skip, horizon)?;
-    match narrow_all(alloc, query.conds.as_slice(), times_at, others, wanted)? {
-        Some(left) => fold_passing(alloc, query, times_at, others, left.as_slice()),
-        None => {
-            let all = wanted_places(alloc, query, times_at, skip, horizon)?;
-            fold_places(alloc, query, times_at, others, all.as_slice())
-        }
-    }
+    let seen = times_seen(alloc, query, rows, times, from, to, skip, horizon)?;
+    fold_wanted(alloc, query, seen.as_slice(), others, skip, horizon)
 }

@@ -18,6 +18,7 @@ mod scanning;
 mod slots;
 mod tail;
 mod threads;
+mod times;
 mod view;
 
 pub use scanning::scan;

@@ -44,7 +44,7 @@ pub(crate) fn times_in(alloc: Global, rows: u32, times: &ReadColumn) -> Result<V
     Ok(found)
 }
 
-fn is_wanted(query: &Query, horizon: i64, time: i64) -> bool
+pub(crate) fn is_wanted(query: &Query, horizon: i64, time: i64) -> bool
     ensures { result ≡ is_wanted query.now horizon time }
 {
     horizon <= time && query.from <= time && time <= query.to

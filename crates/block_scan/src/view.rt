@@ -6,6 +6,7 @@ ghost use Rattle.group_table.specs.Joined.{IsWithin};
 ghost use Rattle.row_blocks.specs.Blocks.{AreTimes};
 ghost use Rattle.block_scan.specs.Reads.{IsRead, columns_of};
 ghost use Rattle.block_scan.specs.Seen.{seen, seen_rows};
+ghost use Rattle.block_scan.specs.Timed.{AreBetween};
 
 use crate::columns::fold_columns;
 use crate::reading::ReadColumn;
@@ -13,12 +14,14 @@ use leaf_model::{Groups, Query};
 use std::alloc::{AllocError, Global};
 use std::marker::Model;
 
-/// The columns of a block that were read, and which of its rows are held. Contracts see a block of these columns alone.
+/// The columns of a block that were read, which of its rows are held, and two times between which all lie. Contracts see a block of these columns alone.
 #[derive(Drop)]
 pub struct BlockView<'a> {
     rows: u32,
     skip: u32,
     horizon: i64,
+    from: i64,
+    to: i64,
     times: ReadColumn<'a>,
     others: Vec<ReadColumn<'a>>,
 }
@@ -33,7 +36,7 @@ impl<'a> Model for BlockView<'a> {
 
     ghost view = { λ v. seen v.skip v.horizon (record { rows = v.rows; columns = v.times.column.now ∷ columns_of v.others.items }) };
 
-    ghost invariant = { λ v. IsViewed v.rows v.skip v.horizon v.times v.others.items };
+    ghost invariant = { λ v. IsViewed v.rows v.skip v.horizon v.from v.to v.times v.others.items };
 }
 
 impl<'a> BlockView<'a> {
@@ -41,6 +44,8 @@ impl<'a> BlockView<'a> {
         rows: u32,
         skip: u32,
         horizon: i64,
+        from: i64,
+        to: i64,
         times: ReadColumn<'a>,
         others: Vec<ReadColumn<'a>>,
     ) -> BlockView<'a>
@@ -48,6 +53,7 @@ impl<'a> BlockView<'a> {
         requires skip { skip ≤ rows }
         requires timed { AreTimes rows times.column.now }
         requires times { IsRead rows times }
+        requires between { AreBetween rows times.column.now from to }
         requires others { AllByRecursion (IsRead rows) others.items }
         ensures { result ≡ seen skip horizon (record { rows = rows; columns = times.entry.column.now ∷ columns_of others.entry.items }) }
     {
@@ -55,6 +61,8 @@ impl<'a> BlockView<'a> {
             rows,
             skip,
             horizon,
+            from,
+            to,
             times,
             others,
         }
@@ -71,6 +79,8 @@ impl<'a> BlockView<'a> {
             self.rows,
             &self.times,
             self.others.as_slice(),
+            self.from,
+            self.to,
             self.skip,
             self.horizon,
         )

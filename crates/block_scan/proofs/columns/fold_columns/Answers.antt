@@ -1,149 +1,48 @@
-use Rattle.std.proofs.Common.{◌≡◌, Vec, Global, true, ◌-◌, ℕ, ◌≤◌, ◌<◌, List, ◌∷◌, length, map, filter, ℤ, pos, slice_index_or, sym, ap, subst, ◌∙◌, arith}
-use Rattle.std.specs.Prelude.{Option, IfSome}
-use Rattle.std.specs.List.{AllByRecursion, range_with_len}
-use Rattle.std.proofs.lemmas.List.FromFn.{length-range_with_len}
+use Rattle.std.proofs.Common.{◌≡◌, ℕ, ◌∷◌, List, length, map, ℤ, sym, subst, ◌∙◌, arith}
+use Rattle.std.specs.Prelude.{IfOk}
+use Rattle.std.specs.List.{AllByRecursion}
 use Rattle.std.specs.Int.{w64}
 use Rattle.std.proofs.lemmas.Int.{to_z-of_z}
 use Rattle.leaf_model.specs.declared.groups.Group.{Group}
-use Rattle.leaf_model.specs.Groups.{groups, passes}
+use Rattle.leaf_model.specs.Groups.{groups}
 use Rattle.group_table.specs.Joined.{IsWithin}
-use Rattle.row_blocks.specs.Blocks.{time_of, value_in}
+use Rattle.group_table.proofs.Within.{groups_grow}
 use Rattle.row_blocks.specs.Held.{live_rows}
-use Rattle.block_scan.specs.Decoded.{conds_hold}
-use Rattle.block_scan.specs.Reads.{columns_of, is_wanted, row_of, wanted_places}
-use Rattle.block_scan.proofs.Decodes.{groups_narrow}
-use Rattle.block_scan.proofs.Folded.{folded, folded_within, places_inside}
-use Rattle.block_scan.proofs.Lists.{all_filter, if_ok, no_longer}
-use Rattle.block_scan.proofs.Split.{all_pass}
+use Rattle.block_scan.specs.Reads.{IsRead, columns_of, row_of, wanted_places}
+use Rattle.block_scan.specs.Timed.{StandForTimes}
+use Rattle.block_scan.proofs.Lists.{if_ok}
 use Rattle.block_scan.proofs.columns.fold_columns.Goals as goal
 
-pub narrow_all-requires-clause-places : goal.narrow_all-requires-clause-places
-narrow_all-requires-clause-places c =
-    let ts = c.as_slice-times_at.result.now in
-    let same : c.in_ok-wanted.wanted.items ≡ wanted_places c.args.query.now c.args.horizon ts c.args.skip
-    = c.in_ok-wanted.ensures ∙ ap (λ (z : ℤ). wanted_places c.args.query.now z ts c.args.skip) (to_z-of_z w64 c.args.horizon c.ranges.horizon) in
-    let skip : c.args.skip ≤ length ts = omega (arith, c.requires.skip, c.in_ok-times_at.ensures.length, ap (λ (l : List ℤ). length l) c.as_slice-times_at.ensures.value) in
-    subst (λ (l : List ℕ). AllByRecursion (λ place. place < length ts) l) (sym same) (places_inside c.args.query.now c.args.horizon ts c.args.skip skip)
-
-pub fold_passing-requires-clause-places : goal.fold_passing-requires-clause-places
-fold_passing-requires-clause-places c =
-    let q = c.args.query.now in let h = c.args.horizon in let times = c.args.times.now.column.now in let others = columns_of c.args.others.now in
-    let ts = c.as_slice-times_at.result.now in
-    let counted : length ts ≡ c.args.rows = ap (λ (l : List ℤ). length l) c.as_slice-times_at.ensures.value ∙ c.in_ok-times_at.ensures.length in
-    let wanted : c.in_ok-wanted.wanted.items ≡ wanted_places q h ts c.args.skip
-    = c.in_ok-wanted.ensures ∙ ap (λ (z : ℤ). wanted_places q z ts c.args.skip) (to_z-of_z w64 h c.ranges.horizon) in
-    let found = subst (λ (f : Option (Vec ℕ Global)). IfSome f (λ left. left.items ≡ filter (λ i. conds_hold c.as_slice.result.now (row_of ts others i)) c.in_ok-wanted.wanted.items)) c.in-Some.is c.in_ok-left.ensures in
-    let left : c.as_slice-in-Some.result.now ≡ filter (λ i. conds_hold q.conds (row_of ts others i)) (wanted_places q h ts c.args.skip)
-    = c.as_slice-in-Some.ensures.value ∙ found ∙ (λ i. filter (λ k. conds_hold (c.as_slice.ensures i) (row_of ts others k)) (wanted i)) in
-    let skip : c.args.skip ≤ length ts = omega (arith, c.requires.skip, counted) in
-    subst (λ (l : List ℕ). AllByRecursion (λ place. place < length ts) l) (sym left)
-    (all_filter (λ place. place < length ts) (λ i. conds_hold q.conds (row_of ts others i)) (wanted_places q h ts c.args.skip) (places_inside q h ts c.args.skip skip))
-
-pub fold_passing-requires-clause-short : goal.fold_passing-requires-clause-short
-fold_passing-requires-clause-short c =
-    let q = c.args.query.now in let h = c.args.horizon in let times = c.args.times.now.column.now in let others = columns_of c.args.others.now in
-    let ts = c.as_slice-times_at.result.now in
-    let counted : length ts ≡ c.args.rows = ap (λ (l : List ℤ). length l) c.as_slice-times_at.ensures.value ∙ c.in_ok-times_at.ensures.length in
-    let wanted : c.in_ok-wanted.wanted.items ≡ wanted_places q h ts c.args.skip
-    = c.in_ok-wanted.ensures ∙ ap (λ (z : ℤ). wanted_places q z ts c.args.skip) (to_z-of_z w64 h c.ranges.horizon) in
-    let found = subst (λ (f : Option (Vec ℕ Global)). IfSome f (λ left. left.items ≡ filter (λ i. conds_hold c.as_slice.result.now (row_of ts others i)) c.in_ok-wanted.wanted.items)) c.in-Some.is c.in_ok-left.ensures in
-    let left : c.as_slice-in-Some.result.now ≡ filter (λ i. conds_hold q.conds (row_of ts others i)) (wanted_places q h ts c.args.skip)
-    = c.as_slice-in-Some.ensures.value ∙ found ∙ (λ i. filter (λ k. conds_hold (c.as_slice.ensures i) (row_of ts others k)) (wanted i)) in
-    omega (
-      arith,
-      ap (λ (l : List ℕ). length l) left,
-      no_longer (λ i. conds_hold q.conds (row_of ts others i)) (wanted_places q h ts c.args.skip),
-      no_longer (λ i. is_wanted q h (slice_index_or ts i (pos 0))) (range_with_len c.args.skip (length ts - c.args.skip)),
-      length-range_with_len c.args.skip (length ts - c.args.skip),
-      counted,
-      c.requires.few,
-    )
-
-pub fold_passing-requires-clause-passing : goal.fold_passing-requires-clause-passing
-fold_passing-requires-clause-passing c =
-    let q = c.args.query.now in let h = c.args.horizon in let times = c.args.times.now.column.now in let others = columns_of c.args.others.now in
-    let ts = c.as_slice-times_at.result.now in
-    let counted : length ts ≡ c.args.rows = ap (λ (l : List ℤ). length l) c.as_slice-times_at.ensures.value ∙ c.in_ok-times_at.ensures.length in
-    let wanted : c.in_ok-wanted.wanted.items ≡ wanted_places q h ts c.args.skip
-    = c.in_ok-wanted.ensures ∙ ap (λ (z : ℤ). wanted_places q z ts c.args.skip) (to_z-of_z w64 h c.ranges.horizon) in
-    let found = subst (λ (f : Option (Vec ℕ Global)). IfSome f (λ left. left.items ≡ filter (λ i. conds_hold c.as_slice.result.now (row_of ts others i)) c.in_ok-wanted.wanted.items)) c.in-Some.is c.in_ok-left.ensures in
-    let left : c.as_slice-in-Some.result.now ≡ filter (λ i. conds_hold q.conds (row_of ts others i)) (wanted_places q h ts c.args.skip)
-    = c.as_slice-in-Some.ensures.value ∙ found ∙ (λ i. filter (λ k. conds_hold (c.as_slice.ensures i) (row_of ts others k)) (wanted i)) in
-    subst (λ (l : List ℕ). AllByRecursion (λ place. passes q (row_of ts others place) ≡ true) l) (sym left) (all_pass q h ts others (range_with_len c.args.skip (length ts - c.args.skip)))
-
-pub returns-in-Some-clause-groups : goal.returns-in-Some-clause-groups
-returns-in-Some-clause-groups c =
-    let q = c.args.query.now in let h = c.args.horizon in let times = c.args.times.now.column.now in let others = columns_of c.args.others.now in
-    let ts = c.as_slice-times_at.result.now in
-    let counted : length ts ≡ c.args.rows = ap (λ (l : List ℤ). length l) c.as_slice-times_at.ensures.value ∙ c.in_ok-times_at.ensures.length in
-    let wanted : c.in_ok-wanted.wanted.items ≡ wanted_places q h ts c.args.skip
-    = c.in_ok-wanted.ensures ∙ ap (λ (z : ℤ). wanted_places q z ts c.args.skip) (to_z-of_z w64 h c.ranges.horizon) in
-    let found = subst (λ (f : Option (Vec ℕ Global)). IfSome f (λ left. left.items ≡ filter (λ i. conds_hold c.as_slice.result.now (row_of ts others i)) c.in_ok-wanted.wanted.items)) c.in-Some.is c.in_ok-left.ensures in
-    let left : c.as_slice-in-Some.result.now ≡ filter (λ i. conds_hold q.conds (row_of ts others i)) (wanted_places q h ts c.args.skip)
-    = c.as_slice-in-Some.ensures.value ∙ found ∙ (λ i. filter (λ k. conds_hold (c.as_slice.ensures i) (row_of ts others k)) (wanted i)) in
-    let each : (i : ℕ) → i < c.args.rows → slice_index_or ts i (pos 0) ≡ time_of (value_in times.bytes i)
-    = λ i lt. ap (λ (l : List ℤ). slice_index_or l i (pos 0)) c.as_slice-times_at.ensures.value ∙ c.in_ok-times_at.ensures.each i lt in
-    if_ok (λ (gs : List Group). gs ≡ groups q (map (row_of ts others) c.as_slice-in-Some.result.now))
-    (λ (gs : List Group). gs ≡ groups q (live_rows c.args.skip h (record { rows = c.args.rows; columns = times ∷ others }))) c.fold_passing.result c.fold_passing.ensures.groups
-    (λ gs is. folded q c.args.rows times others ts c.args.skip h counted c.requires.skip each gs c.as_slice-in-Some.result.now (groups_narrow q (row_of ts others) (wanted_places q h ts c.args.skip) c.as_slice-in-Some.result.now left) is)
-
-pub returns-in-Some-clause-within : goal.returns-in-Some-clause-within
-returns-in-Some-clause-within c =
-    let q = c.args.query.now in let h = c.args.horizon in let times = c.args.times.now.column.now in let others = columns_of c.args.others.now in
-    let ts = c.as_slice-times_at.result.now in
-    let counted : length ts ≡ c.args.rows = ap (λ (l : List ℤ). length l) c.as_slice-times_at.ensures.value ∙ c.in_ok-times_at.ensures.length in
-    let wanted : c.in_ok-wanted.wanted.items ≡ wanted_places q h ts c.args.skip
-    = c.in_ok-wanted.ensures ∙ ap (λ (z : ℤ). wanted_places q z ts c.args.skip) (to_z-of_z w64 h c.ranges.horizon) in
-    let found = subst (λ (f : Option (Vec ℕ Global)). IfSome f (λ left. left.items ≡ filter (λ i. conds_hold c.as_slice.result.now (row_of ts others i)) c.in_ok-wanted.wanted.items)) c.in-Some.is c.in_ok-left.ensures in
-    let left : c.as_slice-in-Some.result.now ≡ filter (λ i. conds_hold q.conds (row_of ts others i)) (wanted_places q h ts c.args.skip)
-    = c.as_slice-in-Some.ensures.value ∙ found ∙ (λ i. filter (λ k. conds_hold (c.as_slice.ensures i) (row_of ts others k)) (wanted i)) in
-    let each : (i : ℕ) → i < c.args.rows → slice_index_or ts i (pos 0) ≡ time_of (value_in times.bytes i)
-    = λ i lt. ap (λ (l : List ℤ). slice_index_or l i (pos 0)) c.as_slice-times_at.ensures.value ∙ c.in_ok-times_at.ensures.each i lt in
-    let few : length c.as_slice-in-Some.result.now ≤ length (wanted_places q h ts c.args.skip)
-    = omega (arith, ap (λ (l : List ℕ). length l) left, no_longer (λ i. conds_hold q.conds (row_of ts others i)) (wanted_places q h ts c.args.skip)) in
-    if_ok (λ (gs : List Group). AllByRecursion (IsWithin (length c.as_slice-in-Some.result.now)) gs)
-    (λ (gs : List Group). AllByRecursion (IsWithin (length (live_rows c.args.skip h (record { rows = c.args.rows; columns = times ∷ others })))) gs) c.fold_passing.result c.fold_passing.ensures.within
-    (λ gs within. folded_within q c.args.rows times others ts c.args.skip h counted c.requires.skip each gs c.as_slice-in-Some.result.now few within)
-
-pub fold_places-requires-clause-places : goal.fold_places-requires-clause-places
-fold_places-requires-clause-places c =
-    let q = c.args.query.now in let h = c.args.horizon in let times = c.args.times.now.column.now in let others = columns_of c.args.others.now in
-    let ts = c.as_slice-times_at.result.now in
-    let counted : length ts ≡ c.args.rows = ap (λ (l : List ℤ). length l) c.as_slice-times_at.ensures.value ∙ c.in_ok-times_at.ensures.length in
-    let wanted : c.in_ok-wanted.wanted.items ≡ wanted_places q h ts c.args.skip
-    = c.in_ok-wanted.ensures ∙ ap (λ (z : ℤ). wanted_places q z ts c.args.skip) (to_z-of_z w64 h c.ranges.horizon) in
-    let all : c.as_slice-in-None.result.now ≡ wanted_places q h ts c.args.skip
-    = c.as_slice-in-None.ensures.value ∙ c.in_ok-all-in-None.ensures ∙ ap (λ (z : ℤ). wanted_places q z ts c.args.skip) (to_z-of_z w64 h c.ranges.horizon) in
-    let skip : c.args.skip ≤ length ts = omega (arith, c.requires.skip, counted) in
-    subst (λ (l : List ℕ). AllByRecursion (λ place. place < length ts) l) (sym all) (places_inside q h ts c.args.skip skip)
+pub fold_wanted-requires : goal.fold_wanted-requires
+fold_wanted-requires c =
+    let q = c.args.query.now in let h = c.args.horizon in let times = c.args.times.now.column.now in let others = columns_of c.args.others.now in let ts = c.as_slice.result.now in
+    let stand : StandForTimes q c.args.rows times c.args.skip h ts
+    = subst (StandForTimes q c.args.rows times c.args.skip h) (sym c.as_slice.ensures.value)
+    (subst (λ (z : ℤ). StandForTimes q c.args.rows times c.args.skip z c.in_ok-seen.seen.items) (to_z-of_z w64 h c.ranges.horizon) c.in_ok-seen.ensures) in
+    record {
+      few = omega (arith, stand.count, c.requires.few);
+      skip = omega (arith, stand.count, c.requires.skip);
+      read = subst (λ (n : ℕ). AllByRecursion (IsRead n) c.args.others.now) (sym stand.count) c.requires.others;
+    }
 
 pub returns-clause-groups : goal.returns-clause-groups
 returns-clause-groups c =
-    let q = c.args.query.now in let h = c.args.horizon in let times = c.args.times.now.column.now in let others = columns_of c.args.others.now in
-    let ts = c.as_slice-times_at.result.now in
-    let counted : length ts ≡ c.args.rows = ap (λ (l : List ℤ). length l) c.as_slice-times_at.ensures.value ∙ c.in_ok-times_at.ensures.length in
-    let wanted : c.in_ok-wanted.wanted.items ≡ wanted_places q h ts c.args.skip
-    = c.in_ok-wanted.ensures ∙ ap (λ (z : ℤ). wanted_places q z ts c.args.skip) (to_z-of_z w64 h c.ranges.horizon) in
-    let all : c.as_slice-in-None.result.now ≡ wanted_places q h ts c.args.skip
-    = c.as_slice-in-None.ensures.value ∙ c.in_ok-all-in-None.ensures ∙ ap (λ (z : ℤ). wanted_places q z ts c.args.skip) (to_z-of_z w64 h c.ranges.horizon) in
-    let each : (i : ℕ) → i < c.args.rows → slice_index_or ts i (pos 0) ≡ time_of (value_in times.bytes i)
-    = λ i lt. ap (λ (l : List ℤ). slice_index_or l i (pos 0)) c.as_slice-times_at.ensures.value ∙ c.in_ok-times_at.ensures.each i lt in
-    if_ok (λ (gs : List Group). gs ≡ groups q (map (row_of ts others) c.as_slice-in-None.result.now))
-    (λ (gs : List Group). gs ≡ groups q (live_rows c.args.skip h (record { rows = c.args.rows; columns = times ∷ others }))) c.fold_places.result c.fold_places.ensures.groups
-    (λ gs is. folded q c.args.rows times others ts c.args.skip h counted c.requires.skip each gs c.as_slice-in-None.result.now (ap (λ (l : List ℕ). groups q (map (row_of ts others) l)) all) is)
+    let q = c.args.query.now in let h = c.args.horizon in let times = c.args.times.now.column.now in let others = columns_of c.args.others.now in let ts = c.as_slice.result.now in
+    let stand : StandForTimes q c.args.rows times c.args.skip h ts
+    = subst (StandForTimes q c.args.rows times c.args.skip h) (sym c.as_slice.ensures.value)
+    (subst (λ (z : ℤ). StandForTimes q c.args.rows times c.args.skip z c.in_ok-seen.seen.items) (to_z-of_z w64 h c.ranges.horizon) c.in_ok-seen.ensures) in
+    if_ok (λ (gs : List Group). gs ≡ groups q (map (row_of ts others) (wanted_places q h ts c.args.skip)))
+    (λ (gs : List Group). gs ≡ groups q (live_rows c.args.skip h (record { rows = c.args.rows; columns = times ∷ others }))) c.fold_wanted.result
+    (subst (λ (z : ℤ). IfOk c.fold_wanted.result (λ gs. gs ≡ groups q (map (row_of ts others) (wanted_places q z ts c.args.skip)))) (to_z-of_z w64 h c.ranges.horizon) c.fold_wanted.ensures.groups)
+    (λ gs is. is ∙ stand.same others)
 
 pub returns-clause-within : goal.returns-clause-within
 returns-clause-within c =
-    let q = c.args.query.now in let h = c.args.horizon in let times = c.args.times.now.column.now in let others = columns_of c.args.others.now in
-    let ts = c.as_slice-times_at.result.now in
-    let counted : length ts ≡ c.args.rows = ap (λ (l : List ℤ). length l) c.as_slice-times_at.ensures.value ∙ c.in_ok-times_at.ensures.length in
-    let wanted : c.in_ok-wanted.wanted.items ≡ wanted_places q h ts c.args.skip
-    = c.in_ok-wanted.ensures ∙ ap (λ (z : ℤ). wanted_places q z ts c.args.skip) (to_z-of_z w64 h c.ranges.horizon) in
-    let all : c.as_slice-in-None.result.now ≡ wanted_places q h ts c.args.skip
-    = c.as_slice-in-None.ensures.value ∙ c.in_ok-all-in-None.ensures ∙ ap (λ (z : ℤ). wanted_places q z ts c.args.skip) (to_z-of_z w64 h c.ranges.horizon) in
-    let each : (i : ℕ) → i < c.args.rows → slice_index_or ts i (pos 0) ≡ time_of (value_in times.bytes i)
-    = λ i lt. ap (λ (l : List ℤ). slice_index_or l i (pos 0)) c.as_slice-times_at.ensures.value ∙ c.in_ok-times_at.ensures.each i lt in
-    let few : length c.as_slice-in-None.result.now ≤ length (wanted_places q h ts c.args.skip) = omega (arith, ap (λ (l : List ℕ). length l) all) in
-    if_ok (λ (gs : List Group). AllByRecursion (IsWithin (length c.as_slice-in-None.result.now)) gs)
-    (λ (gs : List Group). AllByRecursion (IsWithin (length (live_rows c.args.skip h (record { rows = c.args.rows; columns = times ∷ others })))) gs) c.fold_places.result c.fold_places.ensures.within
-    (λ gs within. folded_within q c.args.rows times others ts c.args.skip h counted c.requires.skip each gs c.as_slice-in-None.result.now few within)
+    let q = c.args.query.now in let h = c.args.horizon in let times = c.args.times.now.column.now in let others = columns_of c.args.others.now in let ts = c.as_slice.result.now in
+    let stand : StandForTimes q c.args.rows times c.args.skip h ts
+    = subst (StandForTimes q c.args.rows times c.args.skip h) (sym c.as_slice.ensures.value)
+    (subst (λ (z : ℤ). StandForTimes q c.args.rows times c.args.skip z c.in_ok-seen.seen.items) (to_z-of_z w64 h c.ranges.horizon) c.in_ok-seen.ensures) in
+    let live = live_rows c.args.skip h (record { rows = c.args.rows; columns = times ∷ others }) in
+    if_ok (λ (gs : List Group). AllByRecursion (IsWithin (length (wanted_places q h ts c.args.skip))) gs) (λ (gs : List Group). AllByRecursion (IsWithin (length live)) gs) c.fold_wanted.result
+    (subst (λ (z : ℤ). IfOk c.fold_wanted.result (λ gs. AllByRecursion (IsWithin (length (wanted_places q z ts c.args.skip))) gs)) (to_z-of_z w64 h c.ranges.horizon) c.fold_wanted.ensures.within)
+    (λ gs within. groups_grow (length (wanted_places q h ts c.args.skip)) (length live) gs (stand.few others) within)
