@@ -1,8 +1,9 @@
 -- The lists that parts of a column mean, place by place.
-use Rattle.std.proofs.Common.{◌≡◌, ℕ, ◌*◌, ◌<◌, Bool, true, false, List, [], length, map, slice_index, slice_index_or, ℤ, pos, Option, Some, None, IfSome, if◌then◌else◌, refl, sym, ap, subst, ◌∙◌, arith}
+use Rattle.std.proofs.Common.{◌≡◌, ℕ, ◌*◌, ◌<◌, Bool, true, false, List, [], length, map, slice_index, slice_index_or, ℤ, pos, Option, Some, None, IfSome, is_some, if◌then◌else◌, refl, sym, ap, subst, ◌∙◌, arith}
 use Rattle.std.specs.List.{range_with_len}
 use Rattle.std.specs.Int.{div_ceil}
 use Rattle.std.proofs.lemmas.Bool.{false≢true}
+use Rattle.std.proofs.lemmas.Option.{none-some, same_Some}
 use Rattle.std.proofs.lemmas.List.{get_or-map, length-map}
 use Rattle.std.proofs.lemmas.List.FromFn.{length-map-range_with_len, get_or-map-range_with_len, fill_by_all}
 use Rattle.bit_columns.specs.Bits.{code, codes, BitString, PackedCodes}
@@ -66,6 +67,45 @@ pub cell_missing : (form : Form) (n : ℕ) (presence : Option BitString) (packed
     → i < n → is_there presence i ≡ false
     → cell_at (coded_of form n presence packed extra) i ≡ None
 cell_missing form n presence packed extra i within missing = rw (there_at presence n i false within, missing) refl
+
+some_where : (b : Bool) (v : Value) → is_some (if b then Some v else None) ≡ b
+some_where true v = refl
+some_where false v = refl
+
+-- a cell is there where its bit says so
+pub cell_is_there : (form : Form) (n : ℕ) (presence : Option BitString) (packed : PackedCodes) (extra : List ℕ) (i : ℕ)
+    → i < n → is_there presence i ≡ is_some (cell_at (coded_of form n presence packed extra) i)
+cell_is_there form n presence packed extra i within =
+    sym (some_where (slice_index_or (there presence n) i false) (value_at (book_of form n extra) (codes packed.bytes packed.width n) i) ∙ there_at presence n i false within)
+
+-- a cell that is there holds its value
+pub record HoldsValue (coded : Coded) (i : ℕ) (value : Value) : Type 0 where
+  pub present : slice_index_or coded.present i false ≡ true
+  pub is : value_at coded.book coded.codes i ≡ value
+
+pub holds_value : (coded : Coded) (i : ℕ) (value : Value) → cell_at coded i ≡ Some value → HoldsValue coded i value
+holds_value coded i value cell = by (slice_index_or coded.present i false) refl
+  where
+    by : (b : Bool) → slice_index_or coded.present i false ≡ b → HoldsValue coded i value
+    by true e = record { present = e; is = same_Some (value_at coded.book coded.codes i) value (ap (λ (b : Bool). if b then Some (value_at coded.book coded.codes i) else None) (sym e) ∙ cell) }
+    by false e = absurd (none-some value (ap (λ (b : Bool). if b then Some (value_at coded.book coded.codes i) else None) (sym e) ∙ cell))
+
+pub cell_holds : (coded : Coded) (i : ℕ) (value : Value) → slice_index_or coded.present i false ≡ true → value_at coded.book coded.codes i ≡ value → cell_at coded i ≡ Some value
+cell_holds coded i value present is = ap (λ (b : Bool). if b then Some (value_at coded.book coded.codes i) else None) present ∙ ap Some is
+
+abbrev int_of : Value → ℤ
+int_of (values.Int n) = n
+int_of (values.Text text) = pos 0
+int_of (values.Set members) = pos 0
+
+pub same_integer : (m n : ℤ) → values.Int m ≡ values.Int n → m ≡ n
+same_integer m n e = ap int_of e
+
+pub integer_kind : (book : Codebook) (codes : List ℕ) (i : ℕ) (n : ℤ) → value_at book codes i ≡ values.Int n → kind_of book ≡ kinds.Ints
+integer_kind (Base base) codes i n e = refl
+integer_kind (Anchors anchors) codes i n e = refl
+integer_kind (Entries texts) codes i n e = absurd cc
+integer_kind (Sets sets) codes i n e = absurd cc
 
 -- ---- all cells in order
 

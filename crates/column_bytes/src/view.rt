@@ -1,8 +1,9 @@
 // A column in bytes that are lent.
-ghost use Rattle.std.specs.Prelude.{◌≡◌, ℕ, ◌+◌, ◌*◌, ◌^◌, ◌<◌, ◌≤◌, ◌==◌, ◌↔◌, Bool, true, List, length, pos, ◌+ℤ◌, FitsSigned, [], false, slice_index, slice_index_or, Option, IfOk, IsOk, IsTrue, IsSome, IfSome, Some, None, option_map, if◌then◌else◌, MatchOption, slice_range};
+ghost use Rattle.std.specs.Prelude.{◌≡◌, ℕ, ◌+◌, ◌-◌, ◌*◌, ◌^◌, ◌<◌, ◌≤◌, ◌==◌, ◌↔◌, Bool, true, List, length, pos, ◌+ℤ◌, FitsSigned, ℤ, [], false, slice_index, slice_index_or, Option, IfOk, IsOk, IsTrue, IsSome, IfSome, Some, None, is_some, option_map, if◌then◌else◌, MatchOption, slice_range};
 ghost use Rattle.std.specs.Int.{w64, div_ceil};
 ghost use Rattle.bit_columns.specs.Bits.{code, codes};
 ghost use Rattle.leaf_model.specs.declared.rows.Value.{Value};
+ghost use Rattle.leaf_model.specs.declared.rows.Value.TheVariants.{Int};
 ghost use Rattle.column_bytes.specs.declared.kind.Kind.TheVariants.{Ints};
 ghost use Rattle.column_bytes.specs.declared.form.Form.{Form};
 ghost use Rattle.column_bytes.specs.Cells.{Coded, coded_of, cells_of, cell_at, value_at, value_of, kind_of, entries, entry_cells, has_entries, integer_cells, no_value, is_there, IsCode, IsExtra, AreCodes, book_of};
@@ -15,7 +16,7 @@ use crate::in_order::{fill_present, fill_values, offset_sum};
 use crate::kind::Kind;
 use crate::set_ref::SetRef;
 use crate::sets::{is_set_dictionary, set_count};
-use crate::slots::slot_at;
+use crate::slots::{slot_at, slot_behind};
 use crate::texts::{is_dictionary, text_count, text_of};
 use crate::value::ValueRef;
 use bit_columns::{Packed, PresenceBits};
@@ -196,6 +197,25 @@ fn value_in<'a>(form: Form, packed: &Packed, extra: &'a [u8], i: u32) -> ValueRe
     }
 }
 
+// The integer at a place of a column of integers, given the one before it, if there is one.
+#[inline(always)]
+fn integer_in(form: Form, packed: &Packed, extra: &[u8], i: u32, before: i64) -> i64
+    requires few { packed.now.count ≤ 65536 }
+    requires inside { i < packed.now.count }
+    requires extra { IsExtra form packed.now.count extra.now }
+    requires kind { kind_of (book_of form packed.now.count extra.now) ≡ Ints }
+    requires code { IsCode (book_of form packed.now.count extra.now) (code packed.now.bytes packed.now.width i) }
+    requires before { 0 < i → value_at (book_of form packed.now.count extra.now) (codes packed.now.bytes packed.now.width packed.now.count) (i - 1) ≡ Int before }
+    ensures { value_at (book_of form packed.now.count extra.now) (codes packed.now.bytes packed.now.width packed.now.count) i ≡ Int result }
+{
+    let code = packed.get(i);
+    match form {
+        Form::Offset => offset_value(i64_at(extra, 0), code),
+        Form::Delta => slot_behind(packed, extra, i, code, before),
+        Form::Dictionary | Form::Sets => unreachable!(),
+    }
+}
+
 // The column that the bytes are. None exactly where they are none.
 pub(crate) fn view_of(bytes: &[u8]) -> Option<ColumnView<'_>>
     ensures column { IfSome result (λ view. (form : Form) × IsColumn bytes.now form × (view ≡ coded_in form bytes.now)) }
@@ -275,6 +295,26 @@ impl<'a> ColumnView<'a> {
         } else {
             None
         }
+    }
+
+    /// Whether there is a cell at a place. Its value is not looked at.
+    pub fn has_cell(&self, i: u32) -> bool
+        requires { i < length self.now.codes }
+        ensures { result ≡ is_some (cell_at self.now i) }
+    {
+        is_there(&self.presence, i)
+    }
+
+    /// The integer that the cell at a place holds, given the integer that the cell before it holds, if there is one.
+    /// In the delta form one difference is added to it at most, so that a walk over all places takes a step for each.
+    #[inline(always)]
+    pub fn next_integer(&self, i: u32, before: i64) -> i64
+        requires inside { i < length self.now.codes }
+        requires integer { (n : ℤ) × (cell_at self.now i ≡ Some (Int n)) }
+        requires before { 0 < i → cell_at self.now (i - 1) ≡ Some (Int before) }
+        ensures { cell_at self.now i ≡ Some (Int result) }
+    {
+        integer_in(self.form, &self.packed, self.extra, i, before)
     }
 
     /// The integers of a column of integers, in order: which cells are there, and their values.

@@ -1,5 +1,5 @@
 -- What stands at a place of a block's columns.
-use Rattle.std.proofs.Common.{◌≡◌, ℕ, zero, suc, ◌+◌, ◌<◌, ◌≤◌, Bool, true, false, List, [], ◌∷◌, ◌++◌, length, map, take, drop, slice_index_or, Option, Some, None, IfSome, is_some, option_map, if◌then◌else◌, refl, sym, ap, subst, ◌∙◌, arith}
+use Rattle.std.proofs.Common.{◌≡◌, ℕ, zero, suc, ◌+◌, ◌<◌, ◌≤◌, Bool, true, false, List, [], ◌∷◌, ◌++◌, length, map, take, drop, slice_index_or, Option, Some, None, IfSome, is_some, if◌then◌else◌, refl, sym, ap, subst, ◌∙◌, arith}
 use Rattle.std.specs.Option.{option_and_then}
 use Rattle.std.specs.Int.{from_bool}
 use Rattle.std.specs.List.{AllByRecursion}
@@ -29,10 +29,6 @@ pub seen_at : (view : Coded) (bytes : List ℕ) → IsSeen view bytes → (i : �
 seen_at view bytes seen i within =
     sym (get_or-map-range_with_len (cell_at view) 0 (length view.codes) i i None within (omega arith))
     ∙ ap (λ (l : List (Option Value)). slice_index_or l i None) seen.cells
-
-pub is_some_map : {X Y : Type 0} (f : X → Y) (r : Option X) → is_some (option_map f r) ≡ is_some r
-is_some_map f None = refl
-is_some_map f (Some x) = refl
 
 -- a column that was read has a cell for each row
 pub seen_count : (rows : ℕ) (view : Coded) (c : BlockColumn) → IsSeen view c.bytes → IsOther rows c → length view.codes ≡ rows

@@ -1,5 +1,5 @@
 // The rows of a block that are at or after a horizon, counted and found without memory.
-ghost use Rattle.std.specs.Prelude.{◌≡◌, ◌<◌, ◌≤◌, length, drop, int_le};
+ghost use Rattle.std.specs.Prelude.{◌≡◌, ◌-◌, ◌<◌, ◌≤◌, length, drop, int_le};
 ghost use Rattle.row_blocks.specs.Blocks.{rows_in, times_of};
 ghost use Rattle.row_blocks.specs.Held.{live_rows};
 ghost use Rattle.row_blocks.specs.Live.{AreTimesOf, has_live, time_at};
@@ -43,14 +43,32 @@ fn is_live(block: &RowBlock, times: &ColumnView, place: u32, horizon: i64) -> bo
     horizon <= time_at(block, times, place)
 }
 
+/// The time at a place of a walk that begins at `skip`, given the time before it: the first is decoded alone, each other one from that before it.
+#[inline(always)]
+fn walked_time(block: &RowBlock, times: &ColumnView, skip: u32, place: u32, before: i64) -> i64
+    requires times { AreTimesOf times.now block.now }
+    requires behind { skip ≤ place }
+    requires place { place < block.now.rows }
+    requires before { skip < place → before ≡ time_at block.now (place - 1) }
+    ensures { result ≡ time_at block.now place }
+{
+    if place == skip {
+        time_at(block, times, place)
+    } else {
+        times.next_integer(place, before)
+    }
+}
+
 fn count_from(block: &RowBlock, times: &ColumnView, skip: u32, horizon: i64) -> u32
     requires times { AreTimesOf times.now block.now }
     requires skip { skip ≤ block.now.rows }
     ensures { result ≡ length (live_rows skip horizon block.now) }
 {
     let mut live = 0;
+    let mut time = 0;
     for place in skip..block.rows() {
-        live += u32::from(is_live(block, times, place, horizon));
+        time = walked_time(block, times, skip, place, time);
+        live += u32::from(horizon <= time);
     }
     live
 }
@@ -62,11 +80,13 @@ fn place_from(block: &RowBlock, times: &ColumnView, skip: u32, horizon: i64, n: 
     ensures left { live_rows result horizon block.now ≡ drop n (live_rows skip horizon block.now) }
 {
     let mut left = n;
+    let mut time = 0;
     for place in skip..block.rows() {
         if left == 0 {
             return place;
         }
-        left -= u32::from(is_live(block, times, place, horizon));
+        time = walked_time(block, times, skip, place, time);
+        left -= u32::from(horizon <= time);
     }
     unreachable!()
 }

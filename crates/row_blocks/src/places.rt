@@ -16,7 +16,7 @@ fn has_cell(columns: &[BlockColumn], views: &[ColumnView], k: usize, i: u32, row
     requires column { k < length columns.now }
     ensures { result ≡ is_some (value_in (slice_index_or columns.now k no_column).bytes i) }
 {
-    views[k].cell(i).is_some()
+    views[k].has_cell(i)
 }
 
 /// The name of the last cell so far and of one column more, unless the names do not ascend.
