@@ -39,15 +39,7 @@ pub fn is_the_word(token: &Token, word: &str) -> bool
 {
     match token {
         Token::Word(w) => w.as_str() == word,
-        Token::Name(_)
-        | Token::Text(_)
-        | Token::Int(_)
-        | Token::Comma
-        | Token::Open
-        | Token::Close
-        | Token::Star
-        | Token::Compare(_)
-        | Token::Stray => false,
+        _ => false,
     }
 }
 
@@ -64,14 +56,7 @@ pub fn take_name(token: Token) -> Option<Text>
             }
         }
         Token::Name(name) => Some(name),
-        Token::Text(_)
-        | Token::Int(_)
-        | Token::Comma
-        | Token::Open
-        | Token::Close
-        | Token::Star
-        | Token::Compare(_)
-        | Token::Stray => None,
+        _ => None,
     }
 }
 
@@ -99,15 +84,7 @@ pub fn kind_in(token: &Token) -> Option<Kind>
 {
     match token {
         Token::Word(word) => kind_named(word.as_str()),
-        Token::Name(_)
-        | Token::Text(_)
-        | Token::Int(_)
-        | Token::Comma
-        | Token::Open
-        | Token::Close
-        | Token::Star
-        | Token::Compare(_)
-        | Token::Stray => None,
+        _ => None,
     }
 }
 
@@ -123,15 +100,7 @@ pub fn take_table(token: Token) -> Option<Text>
                 None
             }
         }
-        Token::Name(_)
-        | Token::Text(_)
-        | Token::Int(_)
-        | Token::Comma
-        | Token::Open
-        | Token::Close
-        | Token::Star
-        | Token::Compare(_)
-        | Token::Stray => None,
+        _ => None,
     }
 }
 
@@ -170,15 +139,7 @@ pub fn op_in(token: &Token) -> Option<Op>
 {
     match token {
         Token::Compare(op) => Some(*op),
-        Token::Word(_)
-        | Token::Name(_)
-        | Token::Text(_)
-        | Token::Int(_)
-        | Token::Comma
-        | Token::Open
-        | Token::Close
-        | Token::Star
-        | Token::Stray => None,
+        _ => None,
     }
 }
 
@@ -188,15 +149,7 @@ pub fn number_in(token: &Token) -> Option<i64>
 {
     match token {
         Token::Int(number) => *number,
-        Token::Word(_)
-        | Token::Name(_)
-        | Token::Text(_)
-        | Token::Comma
-        | Token::Open
-        | Token::Close
-        | Token::Star
-        | Token::Compare(_)
-        | Token::Stray => None,
+        _ => None,
     }
 }
 
@@ -207,15 +160,7 @@ fn take_const(token: Token) -> Option<Value>
     match token {
         Token::Text(text) => Some(Value::Text(text)),
         Token::Int(Some(number)) => Some(Value::Int(number)),
-        Token::Int(None)
-        | Token::Word(_)
-        | Token::Name(_)
-        | Token::Comma
-        | Token::Open
-        | Token::Close
-        | Token::Star
-        | Token::Compare(_)
-        | Token::Stray => None,
+        _ => None,
     }
 }
 
@@ -225,15 +170,7 @@ fn take_text(token: Token) -> Option<Value>
 {
     match token {
         Token::Text(text) => Some(Value::Text(text)),
-        Token::Int(_)
-        | Token::Word(_)
-        | Token::Name(_)
-        | Token::Comma
-        | Token::Open
-        | Token::Close
-        | Token::Star
-        | Token::Compare(_)
-        | Token::Stray => None,
+        _ => None,
     }
 }
 
