@@ -2,6 +2,7 @@ pub mod Lists
 pub mod Holding
 pub mod Playable
 pub mod Plays
+pub mod AskedLines
 pub mod OwnItems
 pub mod Fleets
 pub mod Beginning
