@@ -8,3 +8,6 @@ pub mod Merged
 pub mod Decodes
 pub mod Split
 pub mod Timed
+pub mod Laid
+pub mod InTurn
+pub mod Joined

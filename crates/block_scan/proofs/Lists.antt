@@ -67,6 +67,18 @@ module _ {X : Type 0} where
   all_drop P (suc n) [] all = tt
   all_drop P (suc n) (x ∷ xs) all = all_drop P n xs all.1
 
+  pub all_weaker : (P Q : X → Type 0) → ((x : X) → P x → Q x) → (xs : List X) → AllByRecursion P xs → AllByRecursion Q xs
+  all_weaker P Q more [] all = tt
+  all_weaker P Q more (x ∷ xs) all = (more x all.0, all_weaker P Q more xs all.1)
+
+  pub all_append : (P : X → Type 0) (xs ys : List X) → AllByRecursion P xs → AllByRecursion P ys → AllByRecursion P (xs ++ ys)
+  all_append P [] ys mine theirs = theirs
+  all_append P (x ∷ xs) ys mine theirs = (mine.0, all_append P xs ys mine.1 theirs)
+
+  pub all_parts : (P : X → Type 0) (xs ys : List X) → AllByRecursion P (xs ++ ys) → AllByRecursion P xs × AllByRecursion P ys
+  all_parts P [] ys all = (tt, all)
+  all_parts P (x ∷ xs) ys all = let rest = all_parts P xs ys all.1 in ((all.0, rest.0), rest.1)
+
 module _ {X Y : Type 0} where
   pub filter_mapped : (p : Y → Bool) (f : X → Y) (xs : List X) → filter p (map f xs) ≡ map f (filter (λ x. p (f x)) xs)
   filter_mapped p f [] = refl

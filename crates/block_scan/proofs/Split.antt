@@ -1,8 +1,7 @@
 -- The groups of rows at places that a test sorts, and of places of one list of keys.
-use Rattle.std.proofs.Common.{◌≡◌, ℕ, ◌<◌, ◌≤◌, ◌+◌, ◌-◌, ltb, ◌&&◌, int_le, pos, slice_index_or, get_or, take, Bool, true, false, not, cond, List, [], ◌∷◌, ◌++◌, length, map, filter, ℤ, Option, Some, None, refl, sym, ap, ap₂, ◌∙◌, arith}
+use Rattle.std.proofs.Common.{◌≡◌, ℕ, ◌<◌, ◌≤◌, ◌+◌, ◌&&◌, int_le, pos, slice_index_or, get_or, take, Bool, true, false, not, cond, List, [], ◌∷◌, ◌++◌, length, map, filter, ℤ, Option, Some, None, refl, sym, ap, ap₂, ◌∙◌, arith}
 use Rattle.std.specs.Prelude.{filter_map, option_to_list}
 use Rattle.std.specs.List.{AllByRecursion, cons_option}
-use Rattle.std.proofs.lemmas.Bool.{ltb-true, ltb-false}
 use Rattle.std.proofs.lemmas.Int.{ints}
 use Rattle.std.proofs.lemmas.List.{append_assoc, length-map, take_more}
 use Rattle.std.proofs.lemmas.List.Elements.{filter_map-append}
@@ -23,7 +22,6 @@ use Rattle.row_blocks.specs.declared.column.BlockColumn.{BlockColumn}
 use Rattle.block_scan.specs.Decoded.{IsSized, conds_hold}
 use Rattle.block_scan.specs.Reads.{is_wanted, row_of}
 use Rattle.block_scan.specs.declared.slots.Slots.{Slots}
-use Rattle.block_scan.specs.declared.slots.Slots.TheVariants.{Alone, Coded}
 use Rattle.block_scan.specs.Slots.{AreOfAggs, AreSlots, agg_at, fold_at, integer_of, keys_at, slot_at, slots_in}
 use Rattle.group_table.proofs.Laws.{groups-append, joined-nil, joined-one, no_row, one_row}
 
@@ -147,30 +145,6 @@ one_group q n row slots s decoded places keys count folds are aggs pass inside s
     ∙ sym (some_group q k row places some) ∙ ap (class_group q k) (sym (passing_rows q row places pass))
     ∙ sym (class_of q k (map row places) (keys_alike q n row slots s places are inside same))
 
--- ---- both sides of a bound
-
-pub below_high : (slot : ℕ → ℕ) (m : ℕ) (places : List ℕ) → AllByRecursion (λ i. slot i < m) (filter (λ i. ltb (slot i) m) places)
-below_high slot m [] = tt
-below_high slot m (i ∷ places) = by (ltb (slot i) m) refl (below_high slot m places)
-  where
-    by : (b : Bool) → ltb (slot i) m ≡ b → AllByRecursion (λ i. slot i < m) (filter (λ i. ltb (slot i) m) places)
-        → AllByRecursion (λ i. slot i < m) (cond b (i ∷ filter (λ i. ltb (slot i) m) places) (filter (λ i. ltb (slot i) m) places))
-    by true e rest = (ltb-true (slot i) m e, rest)
-    by false e rest = rest
-
-pub from_low : (slot : ℕ → ℕ) (m : ℕ) (places : List ℕ) → AllByRecursion (λ i. m ≤ slot i) (filter (λ i. not (ltb (slot i) m)) places)
-from_low slot m [] = tt
-from_low slot m (i ∷ places) = by (ltb (slot i) m) refl (from_low slot m places)
-  where
-    by : (b : Bool) → ltb (slot i) m ≡ b → AllByRecursion (λ i. m ≤ slot i) (filter (λ i. not (ltb (slot i) m)) places)
-        → AllByRecursion (λ i. m ≤ slot i) (cond (not b) (i ∷ filter (λ i. not (ltb (slot i) m)) places) (filter (λ i. not (ltb (slot i) m)) places))
-    by true e rest = rest
-    by false e rest = (ltb-false (slot i) m e, rest)
-
-pub one_slot : (slot : ℕ → ℕ) (from to : ℕ) (places : List ℕ) → to - from ≡ 1 → AllByRecursion (λ i. from ≤ slot i) places → AllByRecursion (λ i. slot i < to) places → AllByRecursion (λ i. slot i ≡ from) places
-one_slot slot from to [] e low high = tt
-one_slot slot from to (i ∷ places) e low high = (omega (arith, e, low.0, high.0), one_slot slot from to places e low.1 high.1)
-
 -- ---- places that all pass
 
 pub aggs_sized : (n : ℕ) (row : ℕ → Row) (aggs : List Agg) (decoded : List Decoded) → AreOfAggs n row aggs decoded → AllByRecursion (IsSized n) decoded
@@ -178,14 +152,6 @@ aggs_sized n row [] [] are = tt
 aggs_sized n row [] (d ∷ decoded) are = absurd are
 aggs_sized n row (agg ∷ aggs) [] are = absurd are
 aggs_sized n row (agg ∷ aggs) (d ∷ decoded) are = (are.0.sized, aggs_sized n row aggs decoded are.1)
-
-pub some_slot : (slots : Slots) → 0 < slots_in slots
-some_slot Alone = omega arith
-some_slot (Coded d) = omega arith
-
-pub slots_low : (slots : Slots) (places : List ℕ) → AllByRecursion (λ i. 0 ≤ slot_at slots i) places
-slots_low slots [] = tt
-slots_low slots (i ∷ places) = (omega arith, slots_low slots places)
 
 pub slots_high : (q : Query) (n : ℕ) (row : ℕ → Row) (slots : Slots) (places : List ℕ) → AreSlots q n row slots → AllByRecursion (λ i. i < n) places → AllByRecursion (λ i. slot_at slots i < slots_in slots) places
 slots_high q n row slots [] are inside = tt

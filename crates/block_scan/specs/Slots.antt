@@ -1,6 +1,8 @@
 -- Places in slots, by the code of the one key that they have, and what aggregates look at there.
-use Rattle.std.specs.Prelude.{◌≡◌, ⊤, ℕ, zero, suc, ◌<◌, false, List, [], ◌∷◌, length, map, ℤ, slice_index, slice_index_or, Option, Some, None, if◌then◌else◌, filter_map, option_and_then}
-use Rattle.std.specs.List.{AllZip}
+use Rattle.std.specs.Prelude.{◌≡◌, ⊤, ℕ, zero, suc, ◌<◌, ◌==◌, Bool, true, false, List, [], ◌∷◌, length, map, filter, ℤ, slice_index, slice_index_or, Option, Some, None, if◌then◌else◌, filter_map, option_and_then, Vec}
+use Rattle.std.specs.declared.alloc.Global.{Global}
+use Rattle.std.specs.declared.cmp.Ordering.TheVariants.{Less}
+use Rattle.std.specs.List.{AllByRecursion, AllZip, flat_map, range_with_len}
 use Rattle.leaf_model.specs.declared.rows.Row.{Row}
 use Rattle.leaf_model.specs.declared.queries.Agg.{Agg}
 use Rattle.leaf_model.specs.declared.queries.Agg.TheVariants.{Count, Sum, Min, Max, Avg}
@@ -8,7 +10,8 @@ use Rattle.leaf_model.specs.declared.queries.Query.{Query}
 use Rattle.leaf_model.specs.declared.groups.Key.{Key}
 use Rattle.leaf_model.specs.declared.groups.Key.TheVariants as key
 use Rattle.leaf_model.specs.declared.groups.Fold.{Fold}
-use Rattle.leaf_model.specs.Groups.{as_int, fold_of, key_of, keys_of, value_of}
+use Rattle.leaf_model.specs.declared.groups.Group.{Group}
+use Rattle.leaf_model.specs.Groups.{as_int, fold_of, key_of, keys_cmp, keys_of, value_of}
 use Rattle.column_bytes.specs.Cells.{entries, no_value}
 use Rattle.block_scan.specs.declared.decoded.Decoded.{Decoded}
 use Rattle.block_scan.specs.declared.decoded.Decoded.TheVariants.{Codes}
@@ -66,3 +69,40 @@ AreOfAggs n row aggs decoded = AllZip (IsOfAgg n row) aggs decoded
 -- what an aggregate's cells at some places fold to
 abbrev pub fold_at : List ℕ → Decoded → Fold
 fold_at places d = fold_of (filter_map (integer_of d) places)
+
+-- what each of some vectors holds
+abbrev pub lists_in : List (Vec ℕ Global) → List (List ℕ)
+lists_in lists = map (λ (list : Vec ℕ Global). list.items) lists
+
+abbrev pub list_at : List (List ℕ) → ℕ → List ℕ
+list_at lists slot = slice_index_or lists slot []
+
+-- for each slot the places that stand in it
+pub record AreLaid (slot : ℕ → ℕ) (n : ℕ) (places : List ℕ) (lists : List (List ℕ)) : Type 0 where
+  pub count : length lists ≡ n
+  pub each : (s : ℕ) → s < n → list_at lists s ≡ filter (λ i. slot i == s) places
+
+-- whether a slot has places
+abbrev pub is_used : List ℕ → Bool
+is_used [] = false
+is_used (i ∷ places) = true
+
+abbrev pub used_slots : List (List ℕ) → List ℕ
+used_slots lists = filter (λ s. is_used (list_at lists s)) (range_with_len 0 (length lists))
+
+-- the places of some slots, one slot after another
+abbrev pub gathered : List (List ℕ) → List ℕ → List ℕ
+gathered lists slots = flat_map (list_at lists) slots
+
+-- the places of each slot stand in it, and are so many as were decoded
+pub record AreInSlots (rows : ℕ) (slots : Slots) (lists : List (List ℕ)) : Type 0 where
+  pub count : length lists ≡ slots_in slots
+  pub inside : (s : ℕ) → AllByRecursion (λ place. place < rows) (list_at lists s)
+  pub same : (s : ℕ) → AllByRecursion (λ place. slot_at slots place ≡ s) (list_at lists s)
+
+-- the last keys of one table are less than the first of another
+abbrev pub EndsBelow : List Group → List Group → Type 0
+EndsBelow [] back = ⊥
+EndsBelow (a ∷ []) [] = ⊥
+EndsBelow (a ∷ []) (b ∷ back) = keys_cmp a.keys b.keys ≡ Less
+EndsBelow (a ∷ (c ∷ front)) back = EndsBelow (c ∷ front) back

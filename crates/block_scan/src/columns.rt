@@ -10,12 +10,12 @@ ghost use Rattle.block_scan.specs.Slots.{AreSlots};
 ghost use Rattle.block_scan.specs.Timed.{AreBetween};
 
 use crate::aggregates::decode_aggs;
-use crate::grouping::fold_between;
+use crate::grouping::fold_by_slot;
 use crate::narrowing::narrow_all;
 use crate::places::wanted_places;
 use crate::reading::ReadColumn;
 use crate::rows::rows_at;
-use crate::slots::{Slots, slots_in, slots_of};
+use crate::slots::{Slots, slots_of};
 use crate::times::times_seen;
 use group_table::fold_rows;
 use leaf_model::{Groups, Query};
@@ -58,14 +58,12 @@ fn fold_slots(
     ensures within { IfOk result (λ gs. AllByRecursion (IsWithin (length places.now)) gs) }
 {
     match decode_aggs(alloc, query.aggs.as_slice(), times, others)? {
-        Some(decoded) => fold_between(
+        Some(decoded) => fold_by_slot(
             alloc,
             query,
             times.len() as u32,
             slots,
             decoded.as_slice(),
-            0,
-            slots_in(slots),
             places,
         ),
         None => fold_places(alloc, query, times, others, places),

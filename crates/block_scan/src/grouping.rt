@@ -1,16 +1,17 @@
 // The groups of places, slot by slot.
-ghost use Rattle.std.specs.Prelude.{◌≡◌, ℕ, ◌+◌, ◌<◌, ◌≤◌, true, List, [], ◌∷◌, length, map, IfOk};
+ghost use Rattle.std.specs.Prelude.{◌≡◌, ℕ, ◌<◌, ◌≤◌, true, List, [], ◌∷◌, length, map, IfOk};
 ghost use Rattle.std.specs.List.{AllByRecursion};
 ghost use Rattle.leaf_model.specs.declared.rows.Row.{Row};
 ghost use Rattle.leaf_model.specs.Groups.{groups, passes};
 ghost use Rattle.group_table.specs.Joined.{IsWithin};
 ghost use Rattle.block_scan.specs.Decoded.{IsSized};
-ghost use Rattle.block_scan.specs.Slots.{AreOfAggs, AreSlots, IsHeld, fold_at, keys_at, slot_at, slots_in};
+ghost use Rattle.block_scan.specs.Slots.{AreInSlots, AreOfAggs, AreSlots, IsHeld, fold_at, gathered, keys_at, lists_in, slot_at, slots_in};
 
 use crate::decoded::Decoded;
 use crate::folding::fold_all;
-use crate::slots::{Slots, keys_of_slot, places_below, places_from};
-use group_table::merge;
+use crate::joining::join;
+use crate::laying::{lay_out, slots_in_order};
+use crate::slots::{Slots, keys_of_slot};
 use leaf_model::{Group, Groups, Query};
 use std::alloc::{AllocError, Global};
 
@@ -45,56 +46,88 @@ fn fold_slot(
     only(alloc, Group { keys, count, folds })
 }
 
-/// The groups of places in the slots from one to below another.
-pub(crate) fn fold_between(
+/// The groups of places in one slot: one, or none where there are no places.
+fn fold_list(
     alloc: Global,
     query: &Query,
     rows: u32,
     slots: &Slots,
     decoded: &[Decoded],
-    from: u64,
-    to: u64,
+    slot: u64,
     places: &[u32],
 ) -> Result<Groups, AllocError>
-    requires held { IsHeld rows slots.now }
     requires sized { AllByRecursion (IsSized rows) decoded.now }
-    requires some { from < to }
-    requires to { to ≤ slots_in slots.now }
+    requires slot { slot < slots_in slots.now }
     requires inside { AllByRecursion (λ place. place < rows) places.now }
+    requires same { AllByRecursion (λ place. slot_at slots.now place ≡ slot) places.now }
     requires few { length places.now ≤ 65536 }
-    requires low { AllByRecursion (λ place. from ≤ slot_at slots.now place) places.now }
-    requires high { AllByRecursion (λ place. slot_at slots.now place < to) places.now }
     ensures groups { (row : ℕ → Row) → AreSlots query.now rows row slots.now → AreOfAggs rows row query.now.aggs decoded.now → AllByRecursion (λ place. passes query.now (row place) ≡ true) places.now → IfOk result (λ gs. gs ≡ groups query.now (map row places.now)) }
     ensures within { IfOk result (λ gs. AllByRecursion (IsWithin (length places.now)) gs) }
 {
     if places.is_empty() {
         return Ok(Groups::of(Vec::new(alloc)));
     }
-    if to - from == 1 {
-        return fold_slot(alloc, query, rows, slots, decoded, from, places);
+    fold_slot(alloc, query, rows, slots, decoded, slot, places)
+}
+
+/// The groups of the places of some slots.
+fn fold_lists(
+    alloc: Global,
+    query: &Query,
+    rows: u32,
+    slots: &Slots,
+    decoded: &[Decoded],
+    lists: &[Vec<u32>],
+    order: &[usize],
+) -> Result<Groups, AllocError>
+    requires sized { AllByRecursion (IsSized rows) decoded.now }
+    requires laid { AreInSlots rows slots.now (lists_in lists.now) }
+    requires order { AllByRecursion (λ slot. slot < slots_in slots.now) order.now }
+    requires few { length (gathered (lists_in lists.now) order.now) ≤ 65536 }
+    ensures groups { (row : ℕ → Row) → AreSlots query.now rows row slots.now → AreOfAggs rows row query.now.aggs decoded.now → AllByRecursion (λ place. passes query.now (row place) ≡ true) (gathered (lists_in lists.now) order.now) → IfOk result (λ gs. gs ≡ groups query.now (map row (gathered (lists_in lists.now) order.now))) }
+    ensures within { IfOk result (λ gs. AllByRecursion (IsWithin (length (gathered (lists_in lists.now) order.now))) gs) }
+{
+    match order {
+        [] => Ok(Groups::of(Vec::new(alloc))),
+        [slot] => {
+            let places = lists[*slot].as_slice();
+            fold_list(alloc, query, rows, slots, decoded, *slot as u64, places)
+        }
+        _ => {
+            let (low, high) = order.split_at(order.len() / 2);
+            let front = fold_lists(alloc, query, rows, slots, decoded, lists, low)?;
+            let back = fold_lists(alloc, query, rows, slots, decoded, lists, high)?;
+            join(alloc, front, back)
+        }
     }
-    let middle = from + (to - from) / 2;
-    let below = places_below(alloc, rows, slots, middle, places)?;
-    let others = places_from(alloc, rows, slots, middle, places)?;
-    let mine = fold_between(
+}
+
+/// The groups of places, slot by slot.
+pub(crate) fn fold_by_slot(
+    alloc: Global,
+    query: &Query,
+    rows: u32,
+    slots: &Slots,
+    decoded: &[Decoded],
+    places: &[u32],
+) -> Result<Groups, AllocError>
+    requires held { IsHeld rows slots.now }
+    requires decoded { AllByRecursion (IsSized rows) decoded.now }
+    requires sized { AllByRecursion (λ place. slot_at slots.now place < slots_in slots.now) places.now }
+    requires inside { AllByRecursion (λ place. place < rows) places.now }
+    requires few { length places.now ≤ 65536 }
+    ensures groups { (row : ℕ → Row) → AreSlots query.now rows row slots.now → AreOfAggs rows row query.now.aggs decoded.now → AllByRecursion (λ place. passes query.now (row place) ≡ true) places.now → IfOk result (λ gs. gs ≡ groups query.now (map row places.now)) }
+    ensures within { IfOk result (λ gs. AllByRecursion (IsWithin (length places.now)) gs) }
+{
+    let lists = lay_out(alloc, rows, slots, places)?;
+    let order = slots_in_order(alloc, slots, lists.as_slice())?;
+    fold_lists(
         alloc,
         query,
         rows,
         slots,
         decoded,
-        from,
-        middle,
-        below.as_slice(),
-    )?;
-    let theirs = fold_between(
-        alloc,
-        query,
-        rows,
-        slots,
-        decoded,
-        middle,
-        to,
-        others.as_slice(),
-    )?;
-    merge(alloc, mine, theirs)
+        lists.as_slice(),
+        order.as_slice(),
+    )
 }

@@ -8,6 +8,8 @@ mod decoded;
 mod finding;
 mod folding;
 mod grouping;
+mod joining;
+mod laying;
 mod names;
 mod narrowing;
 mod parts;

@@ -1,11 +1,11 @@
 // Places in slots, by the code of the one key that they have.
-ghost use Rattle.std.specs.Prelude.{◌≡◌, ℕ, ◌<◌, ◌≤◌, List, [], ◌∷◌, length, map, filter, not, nat_lt, slice_index_or, IfOk, IfSome, Some};
+ghost use Rattle.std.specs.Prelude.{◌≡◌, ℕ, ◌<◌, ◌≤◌, List, [], ◌∷◌, length, map, slice_index_or, IfOk, IfSome, Some};
 ghost use Rattle.std.specs.List.{AllByRecursion};
 ghost use Rattle.block_scan.specs.Reads.{IsRead, columns_of, row_of};
 ghost use Rattle.leaf_model.specs.declared.groups.Key.TheVariants as key;
 ghost use Rattle.leaf_model.specs.Groups.{key_of};
 ghost use Rattle.column_bytes.specs.Cells.{entries, no_value, value_of};
-ghost use Rattle.block_scan.specs.Slots.{AreSlots, IsHeld, keys_at, slot_at, slots_in};
+ghost use Rattle.block_scan.specs.Slots.{AreSlots, keys_at, slots_in};
 
 use crate::decoded::{Decoded, EntryCodes, decode};
 use crate::narrowing::entry_of;
@@ -103,64 +103,4 @@ pub(crate) fn slots_in(slots: &Slots) -> u64
         Slots::Alone => 1,
         Slots::Coded(found) => u64::from(found.view.entries()) + 1,
     }
-}
-
-/// Whether a place stands in one of the first so many slots.
-fn is_below(rows: u32, slots: &Slots, bound: u64, place: u32) -> bool
-    requires held { IsHeld rows slots.now }
-    requires place { place < rows }
-    ensures { result ≡ nat_lt (slot_at slots.now place) bound }
-{
-    match slots {
-        Slots::Alone => 0 < bound,
-        Slots::Coded(found) => {
-            if found.present[place as usize] {
-                found.codes[place as usize] < bound.saturating_sub(1)
-            } else {
-                0 < bound
-            }
-        }
-    }
-}
-
-/// The places that stand in one of the first so many slots.
-pub(crate) fn places_below(
-    alloc: Global,
-    rows: u32,
-    slots: &Slots,
-    bound: u64,
-    places: &[u32],
-) -> Result<Vec<u32>, AllocError>
-    requires held { IsHeld rows slots.now }
-    requires places { AllByRecursion (λ place. place < rows) places.now }
-    ensures { IfOk result (λ some. some.items ≡ filter (λ i. nat_lt (slot_at slots.now i) bound) places.now) }
-{
-    let mut some = Vec::new(alloc);
-    for place in places {
-        if is_below(rows, slots, bound, *place) {
-            some.push(*place)?;
-        }
-    }
-    Ok(some)
-}
-
-/// The others.
-pub(crate) fn places_from(
-    alloc: Global,
-    rows: u32,
-    slots: &Slots,
-    bound: u64,
-    places: &[u32],
-) -> Result<Vec<u32>, AllocError>
-    requires held { IsHeld rows slots.now }
-    requires places { AllByRecursion (λ place. place < rows) places.now }
-    ensures { IfOk result (λ some. some.items ≡ filter (λ i. not (nat_lt (slot_at slots.now i) bound)) places.now) }
-{
-    let mut some = Vec::new(alloc);
-    for place in places {
-        if !is_below(rows, slots, bound, *place) {
-            some.push(*place)?;
-        }
-    }
-    Ok(some)
 }

@@ -1,28 +1,24 @@
-use Rattle.std.proofs.Common.{◌<◌, ℕ, Vec, Global, List, length, arith, sym, subst}
+use Rattle.std.proofs.Common.{Vec, Global, List, length, sym, subst}
 use Rattle.std.specs.Prelude.{Option, IfSome}
 use Rattle.std.specs.List.{AllByRecursion}
 use Rattle.leaf_model.specs.declared.queries.Agg.{Agg}
 use Rattle.block_scan.specs.declared.decoded.Decoded.{Decoded}
 use Rattle.block_scan.specs.Decoded.{IsSized}
 use Rattle.block_scan.specs.Reads.{columns_of, row_of}
-use Rattle.block_scan.specs.Slots.{AreOfAggs, slot_at}
-use Rattle.block_scan.proofs.Split.{aggs_sized, slots_high, slots_low, some_slot}
+use Rattle.block_scan.specs.Slots.{AreOfAggs}
+use Rattle.block_scan.proofs.Split.{aggs_sized, slots_high}
 use Rattle.block_scan.proofs.columns.fold_slots.Goals as goal
 
-pub fold_between-requires : goal.fold_between-requires
-fold_between-requires c =
+pub fold_by_slot-requires : goal.fold_by_slot-requires
+fold_by_slot-requires c =
     let n = length c.args.times.now in let row = row_of c.args.times.now (columns_of c.args.others.now) in let slots = c.args.slots.now in
     let all = subst (λ (f : Option (Vec Decoded Global)). IfSome f (λ ds. AreOfAggs n row c.as_slice.result.now ds.items)) c.in-Some.is c.in_ok-decoded.ensures in
     record {
       held = c.requires.slots.held;
-      sized = subst (AllByRecursion (IsSized n)) (sym c.as_slice-in-Some.ensures.value) (aggs_sized n row c.as_slice.result.now c.in-Some.decoded.items all);
-      some = omega (arith, c.slots_in.ensures, some_slot slots);
-      to = omega (arith, c.slots_in.ensures);
+      decoded = subst (AllByRecursion (IsSized n)) (sym c.as_slice-in-Some.ensures.value) (aggs_sized n row c.as_slice.result.now c.in-Some.decoded.items all);
+      sized = slots_high c.args.query.now n row slots c.args.places.now c.requires.slots c.requires.places;
       inside = c.requires.places;
       few = c.requires.short;
-      low = slots_low slots c.args.places.now;
-      high = subst (λ (m : ℕ). AllByRecursion (λ place. slot_at slots place < m) c.args.places.now) (sym c.slots_in.ensures)
-          (slots_high c.args.query.now n row slots c.args.places.now c.requires.slots c.requires.places);
     }
 
 pub returns-in-Some-clause-groups : goal.returns-in-Some-clause-groups
@@ -31,4 +27,4 @@ returns-in-Some-clause-groups c =
     let all = subst (λ (f : Option (Vec Decoded Global)). IfSome f (λ ds. AreOfAggs n row c.as_slice.result.now ds.items)) c.in-Some.is c.in_ok-decoded.ensures in
     let aggs = subst (λ (as_ : List Agg). AreOfAggs n row as_ c.as_slice-in-Some.result.now) c.as_slice.ensures
     (subst (AreOfAggs n row c.as_slice.result.now) (sym c.as_slice-in-Some.ensures.value) all) in
-    c.fold_between.ensures.groups row c.requires.slots aggs c.requires.passing
+    c.fold_by_slot.ensures.groups row c.requires.slots aggs c.requires.passing
