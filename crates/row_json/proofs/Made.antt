@@ -1,5 +1,5 @@
 -- The row of members whose cells were put in one by one.
-use Rattle.std.proofs.Common.{◌≡◌, ℕ, ℤ, pos, ◌≤ℤ◌, ◌+◌, ◌≤◌, List, [], ◌∷◌, length, Option, Some, None, Result, Ok, Err, Bool, true, false, cond, ◌||◌, refl, ap, sym, subst, ◌∙◌, arith}
+use Rattle.std.proofs.Common.{◌≡◌, ℕ, ℤ, ◌+◌, ◌≤◌, List, [], ◌∷◌, length, Option, Some, None, Result, Ok, Err, Bool, true, false, cond, ◌||◌, refl, ap, sym, subst, ◌∙◌, arith}
 use Rattle.std.specs.Prelude.{IsUtf8}
 use Rattle.std.proofs.lemmas.Bool.{le-ltb}
 use Rattle.std.proofs.lemmas.Slice.Eq.{bytes_eq-Decides}
@@ -19,7 +19,6 @@ use Rattle.row_json.specs.QuickRow.{Ascend, Ascending, IsMadeOf}
 use Rattle.row_json.proofs.Rows.{before, with_cell, row_of-some}
 use Rattle.row_json.proofs.Order.{at_ok, cells_ascend}
 use Rattle.row_json.proofs.Cells.{Case, the_time, bad_name, missing, held, bad_value, case_of}
-use Rattle.row_json.proofs.Meaning.{integer_at}
 use Rattle.row_json.proofs.Seen.{at_most_one}
 
 -- ---- there are no more cells than were made
@@ -61,10 +60,6 @@ few_cells all cells made few =
     omega (arith, at, few)
 
 -- ---- what is known of the members so far
-
-pub knows_natural : (time : Option ℤ) (all : Members) → Knows time all → IfSome time (λ t. pos 0 ≤ℤ t)
-knows_natural None all h = tt
-knows_natural (Some t) all h = (integer_at _ t h).1
 
 pub made_ascend : (all : Members) (cells : List Cell) → Ascending all → cells_of all ≡ Ok cells → Ascend cells
 made_ascend all cells ascending made = at_ok cells (cells_of all) Ascend (sym made) (cells_ascend all ascending)

@@ -16,7 +16,7 @@ use Rattle.group_table.specs.Joined.{FitsGroup, IsWithin, joined}
 use Rattle.group_table.proofs.Laws.{groups-append}
 use Rattle.group_table.proofs.Within.{joined_fit}
 use Rattle.standing_query.specs.Spread.{rows_shown, spread, time_in}
-use Rattle.standing_query.specs.Parts.{AreCounted, AreParts, Holds, IsCut, all_joined, groups_from}
+use Rattle.standing_query.specs.Parts.{AreCounted, AreParts, Holds, all_joined, groups_from}
 use Rattle.standing_query.proofs.Counted.{count_within, groups_stood}
 use Rattle.standing_query.proofs.Expired.{groups_kept}
 use Rattle.standing_query.proofs.Moving.{behind}
@@ -151,10 +151,3 @@ parts_told q names (p ∷ ps) =
 
 pub none_held : (s : Query) (list : List (List Group)) (most : ℕ) (rows : List Row) → Holds s list most rows → Holds s list most (rows ++ [])
 none_held s list most rows held = subst (Holds s list most) (sym (append-nil rows)) held
-
-pub none_cut : (rows : List Row) (late : ℕ) → length rows ≤ late → IsCut rows late []
-none_cut rows late all = λ h count. none (rows_from h rows) (omega (arith, all, count))
-  where
-    none : (kept : List Row) → length kept ≡ 0 → [] ≡ kept
-    none [] e = refl
-    none (row ∷ kept) e = absurd (omega (arith, e))
