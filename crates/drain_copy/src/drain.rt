@@ -136,7 +136,7 @@ impl Drain {
             → Throughout (DrainsFrom self.old (B.meaning berth.old)) (B.meaning berth.old) (B.meaning berth.new) }
         ensures inside { IsTrue (B.meaning berth.old).tells → Draining self.old (B.meaning berth.old).held.region → self.old.next ≢ next.Begin
             → Throughout (IsInRoom self.old) (B.meaning berth.old) (B.meaning berth.new) }
-        // While the first step cuts the region it is a front of what it was; from then on it has at most 16 bytes.
+        // At every moment of the first step the region is a front of what it was, as one that is being cut, or has at most 16 bytes.
         ensures begun { IsTrue (B.meaning berth.old).tells → self.old.next ≡ next.Begin
             → Throughout (LeftFrom (IsCutOrBegun (B.meaning berth.old).held.region) (B.meaning berth.old)) (B.meaning berth.old) (B.meaning berth.new) }
         ensures time { Passes (B.meaning berth.old) (B.meaning berth.new) }

@@ -67,7 +67,7 @@ impl<'t, B: Berth> Copying<'t, B> {
         ensures room { IsTrue (B.meaning self.entry.1).tells → AreFounded self.entry.0.seated → IsInImage B.meaning self.entry.0 result }
         ensures inside { IsTrue (B.meaning self.entry.1).tells → AreFounded self.entry.0.seated → self.entry.0.drain.next ≢ next.Begin
             → Throughout (IsInRoom self.entry.0.drain) (B.meaning self.entry.1) (B.meaning (berth_of_copy result)) }
-        // While the first step cuts the region it is a front of what it was; from then on it has at most 16 bytes.
+        // At every moment of the first step the region is a front of what it was, as one that is being cut, or has at most 16 bytes.
         ensures begun { IsTrue (B.meaning self.entry.1).tells → self.entry.0.drain.next ≡ next.Begin
             → Throughout (LeftFrom (IsCutOrBegun (B.meaning self.entry.1).held.region) (B.meaning self.entry.1)) (B.meaning self.entry.1) (B.meaning (berth_of_copy result)) }
         ensures time { Passes (B.meaning self.entry.1) (B.meaning (berth_of_copy result)) }
