@@ -12,7 +12,8 @@ use Rattle.table_state.specs.declared.parts.Parts.{Parts}
 use Rattle.table_state.specs.Tables.{IsParts, most_rows}
 use Rattle.row_blocks.specs.Blocks.{Block, IsBlock, row_at, rows_in}
 use Rattle.row_blocks.specs.Held.{IsSkip, block_rows, blocks_held, live_rows, rows_held}
-use Rattle.adopt.specs.Finishing.{IsCut, live_count}
+use Rattle.adopt.specs.Finishing.{live_count}
+use Rattle.table_state.specs.Stored.{IsCut}
 
 counted : (b : Block) → length (rows_in b) ≡ b.rows
 counted b = length-map-range_with_len (row_at b.columns) 0 b.rows

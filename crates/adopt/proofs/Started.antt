@@ -13,7 +13,7 @@ use Rattle.adopt.specs.declared.found.AdoptFault.{AdoptFault}
 use Rattle.adopt.specs.declared.found.AdoptFault.TheVariants as fault
 use Rattle.adopt.specs.declared.found.AdoptStep.{AdoptStep}
 use Rattle.adopt.specs.declared.found.AdoptStep.TheVariants as step
-use Rattle.adopt.specs.declared.found.WhyDisk.TheVariants as why
+use Rattle.leaf_words.specs.declared.ways.WhyDisk.TheVariants as why
 use Rattle.adopt.specs.declared.found.Drained.{Drained}
 use Rattle.adopt.specs.declared.found.Adopted.{Adopted}
 use Rattle.adopt.specs.declared.found.Adoption.TheVariants.{NoTables, Tables}

@@ -69,11 +69,6 @@ FinishesAs d columns (Err fault.NoMemory) = Unit {0}
 unfoldable pub live_count : List Block → ℕ → ℤ → ℕ
 live_count blocks cut horizon = length (blocks_held blocks cut horizon)
 
--- a cut ends inside the first block, or where it ends
-abbrev pub IsCut : ℕ → List Block → Type 0
-IsCut cut [] = cut ≡ 0
-IsCut cut (b ∷ blocks) = cut ≤ b.rows
-
 -- things one after another, of which some were made
 pub record SoFar {T M : Type 0} (one : T → List (List ℕ) → M) (after : T → List (List ℕ) → List (List ℕ)) (P : M → Type 0) (all : List T) (columns : List (List ℕ)) (made : List M) (rest : List T) (left : List (List ℕ)) : Type 0 where
   pub made_is : made ++ made_from one after rest left ≡ made_from one after all columns

@@ -5,7 +5,8 @@ ghost use Rattle.row_blocks.specs.declared.fault.BlockFault.TheVariants.{NoRows}
 ghost use Rattle.row_blocks.specs.Blocks.{IsBlock};
 ghost use Rattle.row_blocks.specs.Held.{IsSkip};
 ghost use Rattle.table_state.specs.Tables.{IsParts, most_rows};
-ghost use Rattle.adopt.specs.Finishing.{FinishesAs, IsCut, IsMade, after_block, after_column, after_table, block_from, front_of, left_by, live_count, made_from, named_front, table_from, tables_from};
+ghost use Rattle.adopt.specs.Finishing.{FinishesAs, IsMade, after_block, after_column, after_table, block_from, front_of, left_by, live_count, made_from, named_front, table_from, tables_from};
+ghost use Rattle.table_state.specs.Stored.{IsCut};
 
 use crate::found::{AdoptFault, AdoptStep};
 use crate::lists::put;

@@ -6,6 +6,7 @@ ghost use Rattle.adopt.specs.Faults.{told_of_look};
 use crate::taken::Adopt;
 use berth_face::Failed;
 use leaf_model::Text;
+use leaf_words::WhyDisk;
 use region_layout::DrainTables;
 use region_reading::LookFault;
 use std::alloc::AllocError;
@@ -71,19 +72,6 @@ pub enum AdoptStep {
     NoImage,
     /// All columns were taken: the tables that they make, and where the log ends.
     Finished { tables: DrainTables, log_end: u64 },
-}
-
-/// Why a leaf reads its disk.
-#[derive(Clone, Copy, Debug, PartialEq, Eq)]
-pub enum WhyDisk {
-    /// The region is shorter than a head.
-    NoHead,
-    /// Its flag is this byte, which is not 1.
-    Closed(u8),
-    /// Its image has this version, which is not read.
-    OtherVersion(u32),
-    /// It is no image.
-    NoImage,
 }
 
 /// The tables of an image, and where the log ends.

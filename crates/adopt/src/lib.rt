@@ -15,6 +15,7 @@ mod tables;
 mod taken;
 
 pub use adopting::find;
-pub use found::{AdoptFault, AdoptStep, Adopted, Adoption, Found, WhyDisk};
+pub use found::{AdoptFault, AdoptStep, Adopted, Adoption, Found};
+pub use leaf_words::WhyDisk;
 pub use starting::adopt;
 pub use taken::Adopt;

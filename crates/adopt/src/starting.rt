@@ -10,11 +10,12 @@ ghost use Rattle.adopt.specs.Adopting.{Adopting, AdoptsFrom, ClosedFrom};
 ghost use Rattle.adopt.specs.Starting.{Adopts, AreArranged, HasTables, IsDrained, TakesAll};
 
 use crate::adopting::find;
-use crate::found::{AdoptFault, AdoptStep, Adopted, Adoption, Drained, Found, WhyDisk};
+use crate::found::{AdoptFault, AdoptStep, Adopted, Adoption, Drained, Found};
 use crate::tables::arranged;
 use crate::taken::Adopt;
 use berth_face::Berth;
 use leaf_model::Names;
+use leaf_words::WhyDisk;
 use std::alloc::{AllocError, Global};
 
 /// Finds the tables of the region's image, by the names of a leaf. An open flag is closed before anything else is read or changed, and each column is cut off the region once it was read.

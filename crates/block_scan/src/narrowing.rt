@@ -2,7 +2,7 @@
 ghost use Rattle.std.specs.Prelude.{◌≡◌, ◌<◌, ◌≤◌, length, filter, slice_index_or, IfOk, IfSome, Some};
 ghost use Rattle.std.specs.List.{AllByRecursion};
 ghost use Rattle.leaf_model.specs.declared.rows.Value.TheVariants as values;
-ghost use Rattle.leaf_model.specs.Groups.{cond_accepts, op_accepts, set_accepts};
+ghost use Rattle.leaf_model.specs.Groups.{cond_accepts, set_accepts};
 ghost use Rattle.leaf_model.specs.Names.{is_among};
 ghost use Rattle.column_bytes.specs.Cells.{entries, no_value, value_of};
 ghost use Rattle.block_scan.specs.declared.decoded.Decoded.TheVariants.{Codes};
@@ -12,23 +12,9 @@ ghost use Rattle.block_scan.specs.Reads.{IsRead, columns_of, row_of};
 use crate::decoded::{Decoded, EntryCodes, decode};
 use crate::reading::ReadColumn;
 use column_bytes::{ColumnView, SetRef, ValueRef};
+use group_table::accepts;
 use leaf_model::{Cond, Op, Value};
 use std::alloc::{AllocError, Global};
-use std::cmp::Ordering;
-
-fn accepts(op: &Op, order: Ordering) -> bool
-    ensures { result ≡ op_accepts op.now order }
-{
-    match op {
-        Op::Eq => order == Ordering::Equal,
-        Op::Ne => order != Ordering::Equal,
-        Op::Lt => order == Ordering::Less,
-        Op::Le => order != Ordering::Greater,
-        Op::Gt => order == Ordering::Greater,
-        Op::Ge => order != Ordering::Less,
-        Op::Has => false,
-    }
-}
 
 fn accepts_integer(cond: &Cond, number: &i64) -> bool
     ensures { result ≡ cond_accepts cond.now (Some (values.Int number.now)) }

@@ -15,7 +15,7 @@ use Rattle.region_layout.specs.ImageWrites.{AreImagesOf}
 use Rattle.region_layout.specs.Head.{IsClosed, image_names}
 use Rattle.region_layout.specs.Region.{IsAdoptable, reads}
 use Rattle.region_layout.proofs.Images.{one_tables, one_log_end}
-use Rattle.adopt.specs.declared.found.WhyDisk.{WhyDisk}
+use Rattle.leaf_words.specs.declared.ways.WhyDisk.{WhyDisk}
 use Rattle.adopt.specs.Adopting.{IsLeftBehind, stranger_of}
 use Rattle.disk_backup.specs.Logs.{ClosedLog, writes_of}
 use Rattle.disk_backup.specs.State.{LogState}
@@ -24,8 +24,8 @@ use Rattle.disk_backup.specs.Settling.{HasLog, HoldsLog, HaveLog, with_writes}
 use Rattle.log_recovery.specs.Recovery.{IsRecovered}
 use Rattle.log_recovery.specs.Recovery as recovery
 use Rattle.leaf_history.specs.History.{HistoryState}
-use Rattle.leaf_opening.specs.declared.ways.Way.{Way}
-use Rattle.leaf_opening.specs.declared.ways.Way.TheVariants.{Memory, Disk}
+use Rattle.leaf_words.specs.declared.ways.Way.{Way}
+use Rattle.leaf_words.specs.declared.ways.Way.TheVariants.{Memory, Disk}
 use Rattle.leaf_opening.specs.OpenedLeaf.{OpenedLeaf}
 use Rattle.disk_backup.specs.SoundLogs.{HasSoundLog}
 use Rattle.leaf_opening.proofs.Strangers.{is_one_of}

@@ -12,3 +12,4 @@ mod tables;
 
 pub use fold::fold_rows;
 pub use join::merge;
+pub use reads::accepts;

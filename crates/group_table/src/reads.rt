@@ -55,7 +55,8 @@ pub fn look<'a>(name: &Text, row: &'a Row) -> Seen<'a>
     }
 }
 
-fn accepts(op: &Op, order: Ordering) -> bool
+/// Whether the operator takes a value that compares so with its own. One that asks for a member takes none.
+pub fn accepts(op: &Op, order: Ordering) -> bool
     ensures { result ≡ op_accepts op.now order }
 {
     match op {

@@ -6,7 +6,7 @@ use Rattle.leaf_model.specs.declared.writes.Write.{Write}
 use Rattle.berth_face.specs.Berth.{Meaning}
 use Rattle.berth_face.specs.Causes.{Rose}
 use Rattle.region_layout.specs.Head.{IsClosed}
-use Rattle.leaf_opening.specs.declared.ways.Way.TheVariants.{Memory}
+use Rattle.leaf_words.specs.declared.ways.Way.TheVariants.{Memory}
 use Rattle.leaf_opening.specs.Starts.{IsWayOf}
 use Rattle.crash_moments.specs.Left.{NamedStates}
 use Rattle.crash_moments.specs.Told as moments

@@ -11,7 +11,7 @@ use Rattle.drain_copy.specs.declared.step.Next.TheVariants as next
 use Rattle.drain_copy.specs.declared.step.DrainStep.{DrainStep}
 use Rattle.drain_copy.specs.declared.step.DrainStep.TheVariants.{Finished}
 use Rattle.drain_copy.specs.Draining.{DrainState, Draining, DrainsFrom, StandsAt, AllClosed, IsStep, IsStepFrom, left, left_from}
-use Rattle.leaf_opening.specs.declared.ways.Way.TheVariants.{Memory}
+use Rattle.leaf_words.specs.declared.ways.Way.TheVariants.{Memory}
 use Rattle.leaf_opening.specs.Starts.{IsWayOf}
 use Rattle.crash_moments.specs.Watched.{Watched, was_opened}
 use Rattle.crash_moments.proofs.Telling.{none_more, told_join, opened_more}
@@ -21,7 +21,8 @@ use Rattle.crash_states.proofs.Lefts.{copies_told, rests_left, told_now}
 use Rattle.crash_draining.specs.Laws.{DrainStepped, HandsOver}
 use Rattle.crash_draining.proofs.Copying.{step_told, step_more, step_last, step_failed, given_up, handed}
 use Rattle.leaf_steward.specs.declared.notes.Note.{Note}
-use Rattle.leaf_steward.specs.Seated.{Seated, AreSeated, AreFounded, AtEach, IsShut, watched_by}
+use Rattle.leaf_steward.specs.Seated.{Seated, AreSeated, AreFounded, AtEach, watched_by}
+use Rattle.leaf_table.specs.Calls.{SeesShut}
 use Rattle.leaf_steward.specs.Making.{Makes, EachNoted, IsHandedNote}
 use Rattle.leaf_steward.proofs.Watching.{makes_hands}
 use Rattle.leaf_machine.specs.States.{IsDown, IsCopying, RestsOn, GoesOnCopying}
@@ -184,7 +185,7 @@ copying_on x drain later a b is passes more on = record {
 }
 
 -- one that is over leaves a leaf at rest
-pub copied_down : (x : Seated) (drain : DrainState) (a b : Meaning) (y : Seated) → IsCopying (record { seated = x; drain = drain }) a → Passes a b → y.tables ≡ x.tables → AtEach (λ place t v. IsShut t v) y
+pub copied_down : (x : Seated) (drain : DrainState) (a b : Meaning) (y : Seated) → IsCopying (record { seated = x; drain = drain }) a → Passes a b → y.tables ≡ x.tables → AtEach (λ place t v. SeesShut t v) y
     → (IsTrue a.tells → AreFounded x → (writes : List ℕ → List Write) → Copies (watched_by x) drain writes a → RestsOn x y a b) → IsDown y b
 copied_down x drain a b y is passes same shut on = record {
   shut = shut;

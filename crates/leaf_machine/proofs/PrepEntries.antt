@@ -10,9 +10,9 @@ use Rattle.leaf_history.specs.Laws.{CallersKeep}
 use Rattle.leaf_history.proofs.Histories.{LegalFrom-back, after-append, others_keep}
 use Rattle.table_state.specs.Tables.{Table}
 use Rattle.leaf_table.specs.Turns.{Shared, Turns, history, is_founded, start_of, told}
-use Rattle.leaf_table.specs.Calls.{AreOthers, Made, SeatView, base_seen, seen_of, state_before, state_seen}
+use Rattle.leaf_table.specs.Calls.{AreOthers, Made, SeatView, base_seen, seen_of, state_before, state_seen, SeesOpen, SeesShut}
 use Rattle.leaf_table.proofs.Knowing.{callers_of, known_after}
-use Rattle.leaf_steward.specs.Seated.{IsOpen, IsSeated, IsShut, Spares}
+use Rattle.leaf_steward.specs.Seated.{IsSeated, Spares}
 use Rattle.leaf_steward.proofs.WatchEntries.{watch_kept}
 use Rattle.leaf_machine.specs.States.{IsShutAndTaken, IsContent}
 
@@ -36,16 +36,16 @@ module _ (t : Shared) (v w : SeatView) (clock n : ℕ) (sits : IsSeated t v) (ma
   knows = known_after (base_seen t) clock v w (call.Flushed n) reply.Noted made
 
   -- of a shut table nothing else changes
-  knows_shut : IsShut t v → state_seen (base_seen t) w ≡ flushed_to n (state_seen (base_seen t) v)
+  knows_shut : SeesShut t v → state_seen (base_seen t) w ≡ flushed_to n (state_seen (base_seen t) v)
   knows_shut shut = knows ∙ ap (flushed_to n) (keeps.shut shut)
 
-  pub flushed_open : IsOpen t v → IsOpen t w
+  pub flushed_open : SeesOpen t v → SeesOpen t w
   flushed_open is = ap (λ (s : HistoryState). s.live) knows ∙ keeps.live ∙ is
 
   pub flushed_closed : IsShutAndTaken (state_seen (base_seen t) v) → IsShutAndTaken (state_seen (base_seen t) w)
   flushed_closed is = subst IsShutAndTaken (sym (knows_shut is.shut)) (record { shut = is.shut; taken = is.taken })
 
-  pub flushed_content : (c : Table) → IsShut t v → IsContent (state_seen (base_seen t) v) c → IsContent (state_seen (base_seen t) w) c
+  pub flushed_content : (c : Table) → SeesShut t v → IsContent (state_seen (base_seen t) v) c → IsContent (state_seen (base_seen t) w) c
   flushed_content c shut is = subst (λ (s : HistoryState). IsContent s c) (sym (knows_shut shut)) (record { contents = is.contents; writes = is.writes })
 
   pub flushed_spares : (k : ℕ) → Spares (k + 1) t v → Spares k t w
@@ -95,13 +95,13 @@ module _ (t : Shared) (v u w : SeatView) (sits : IsSeated t v) (met : Told v u w
       subst (CallersKeep (state_seen (base_seen t) v)) (sym known)
       (others_keep f (state_seen (base_seen t) v) (history more) further (callers_of v (history more) sits.id sits.seat.has_id (others_history v more (learns more seen))))
 
-  pub met_open : IsOpen t v → IsOpen t w
+  pub met_open : SeesOpen t v → SeesOpen t w
   met_open is = met_keeps.live ∙ is
 
   pub met_closed : IsShutAndTaken (state_seen (base_seen t) v) → IsShutAndTaken (state_seen (base_seen t) w)
   met_closed is = subst IsShutAndTaken (sym (met_keeps.shut is.shut)) is
 
-  pub met_content : (c : Table) → IsShut t v → IsContent (state_seen (base_seen t) v) c → IsContent (state_seen (base_seen t) w) c
+  pub met_content : (c : Table) → SeesShut t v → IsContent (state_seen (base_seen t) v) c → IsContent (state_seen (base_seen t) w) c
   met_content c shut is = subst (λ (s : HistoryState). IsContent s c) (sym (met_keeps.shut shut)) is
 
   pub met_spares : (k : ℕ) → Spares k t v → Spares k t w

@@ -12,8 +12,8 @@ use Rattle.leaf_model.specs.declared.writes.Write.{Write}
 use Rattle.table_state.specs.Tables.{Table}
 use Rattle.turnstile.specs.Seats.{LearnsOthers, Told}
 use Rattle.leaf_table.specs.Turns.{Shared, is_founded, record_for, start_of}
-use Rattle.leaf_table.specs.Calls.{Made, SeatView, base_seen, name_of, seen_of, state_before, state_seen}
-use Rattle.leaf_steward.specs.Seated.{Seated, AreSeated, AtEach, AtPlace, IsOpen, IsSeated, Spares, with_seat}
+use Rattle.leaf_table.specs.Calls.{Made, SeatView, base_seen, name_of, seen_of, state_before, state_seen, SeesOpen}
+use Rattle.leaf_steward.specs.Seated.{Seated, AreSeated, AtEach, AtPlace, IsSeated, Spares, with_seat}
 use Rattle.leaf_machine.specs.States.{Shutting, IsShutAndTaken, IsContent, IsShutting}
 use Rattle.leaf_machine.proofs.PrepEntries.{flushed_open, flushed_closed, flushed_content, flushed_spares, met_open, met_closed, met_content, met_spares, shut_closed, shut_content, shut_spares, shut_taken}
 use Rattle.leaf_machine.proofs.PrepPlaces.{push_get, push_last, set_each, set_place}
@@ -21,7 +21,7 @@ use Rattle.leaf_machine.proofs.PrepPlaces.{push_get, push_last, set_each, set_pl
 -- the first tables are shut, and their content is at hand; the others are open
 pub record Holds (closed : List Table) (x : Seated) : Type 0 where
   pub few : length closed ≤ length x.tables
-  pub opened : AtEach (λ place t v. length closed ≤ place → IsOpen t v) x
+  pub opened : AtEach (λ place t v. length closed ≤ place → SeesOpen t v) x
   pub closed_are : AtEach (λ place t v. place < length closed → IsShutAndTaken (state_seen (base_seen t) v)) x
   pub contents : AtEach (λ place t v. (c : Table) → slice_get closed place ≡ Some c → IsContent (state_seen (base_seen t) v) c) x
   pub spares : AtEach (λ place t v. length closed ≤ place → Spares 3 t v) x
@@ -47,7 +47,7 @@ module _ (closed : List Table) (x : Seated) (holds : Holds closed x) (sits : Are
   pub flushed_holds : (length closed ≤ place → Spares 4 t v) → (place < length closed → Spares 2 t v) → Holds closed (with_seat x place w)
   flushed_holds four two = record {
     few = holds.few;
-    opened = set_each (λ i u s. length closed ≤ i → IsOpen u s) (λ i u s. length closed ≤ i → IsOpen u s) x place t v w at was
+    opened = set_each (λ i u s. length closed ≤ i → SeesOpen u s) (λ i u s. length closed ≤ i → SeesOpen u s) x place t v w at was
         (λ is past. flushed_open t v w clock n here made (is past)) (λ i u s apart is. is) holds.opened;
     closed_are = set_each (λ i u s. i < length closed → IsShutAndTaken (state_seen (base_seen u) s)) (λ i u s. i < length closed → IsShutAndTaken (state_seen (base_seen u) s)) x place t v w at was
         (λ is before. flushed_closed t v w clock n here made (is before)) (λ i u s apart is. is) holds.closed_are;
@@ -76,7 +76,7 @@ module _ (closed : List Table) (x : Seated) (holds : Holds closed x) (place : �
   pub shut_holds : Holds (closed ++ c ∷ []) (with_seat x place w)
   shut_holds = record {
     few = omega (arith, size, slice_get_within x.tables place t at, next);
-    opened = set_each (λ i u s. length closed ≤ i → IsOpen u s) (λ i u s. length (closed ++ c ∷ []) ≤ i → IsOpen u s) x place t v w at was
+    opened = set_each (λ i u s. length closed ≤ i → SeesOpen u s) (λ i u s. length (closed ++ c ∷ []) ≤ i → SeesOpen u s) x place t v w at was
         (λ is past. absurd (omega (arith, past, size, next))) (λ i u s apart is past. is (omega (arith, past, size))) holds.opened;
     closed_are = set_each (λ i u s. i < length closed → IsShutAndTaken (state_seen (base_seen u) s)) (λ i u s. i < length (closed ++ c ∷ []) → IsShutAndTaken (state_seen (base_seen u) s)) x place t v w at was
         (λ is before. shut_closed t v w clock n made) (λ i u s apart is before. is (earlier i apart before)) holds.closed_are;
@@ -122,7 +122,7 @@ pub met_holds : (closed : List Table) (x : Seated) → Holds closed x → AreSea
     → Told v u w → LearnsOthers v w → LegalFrom (is_founded (base_seen t)) (start_of (base_seen t)) (seen_of w) → Holds closed (with_seat x place w)
 met_holds closed x holds sits place t v u w at was met learns legal = record {
   few = holds.few;
-  opened = set_each (λ i a s. length closed ≤ i → IsOpen a s) (λ i a s. length closed ≤ i → IsOpen a s) x place t v w at was
+  opened = set_each (λ i a s. length closed ≤ i → SeesOpen a s) (λ i a s. length closed ≤ i → SeesOpen a s) x place t v w at was
       (λ is past. met_open t v u w here met learns legal (is past)) (λ i a s apart is. is) holds.opened;
   closed_are = set_each (λ i a s. i < length closed → IsShutAndTaken (state_seen (base_seen a) s)) (λ i a s. i < length closed → IsShutAndTaken (state_seen (base_seen a) s)) x place t v w at was
       (λ is before. met_closed t v u w here met learns legal (is before)) (λ i a s apart is. is) holds.closed_are;

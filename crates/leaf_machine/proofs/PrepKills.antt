@@ -18,7 +18,8 @@ use Rattle.crash_states.proofs.Lefts.{rests_told}
 use Rattle.crash_serving.specs.Laws.{IsKilled}
 use Rattle.crash_serving.proofs.Running.{kills}
 use Rattle.leaf_steward.specs.declared.notes.Note.{Note}
-use Rattle.leaf_steward.specs.Seated.{Seated, AreFounded, AreSeated, AtEach, IsShut, watched_by}
+use Rattle.leaf_steward.specs.Seated.{Seated, AreFounded, AreSeated, AtEach, watched_by}
+use Rattle.leaf_table.specs.Calls.{SeesShut}
 use Rattle.leaf_steward.specs.Making.{EachNoted, IsClosedNote, Makes}
 use Rattle.leaf_steward.proofs.WatchMakes.{makes_tables}
 use Rattle.leaf_steward.proofs.Watching.{makes_shuts}
@@ -47,7 +48,7 @@ any_others a b before now m opened told = record {
 
 module _ (x : Shutting) (m : Meaning) (is : IsShutting x m) (sits : AreSeated x.serving.seated) (first : ℕ) (here : first ≡ length x.closed) (notes : List Note) (y : Seated)
     (made : Makes m.clock m.clock x.serving.seated notes y) (each : (count : ℕ) × (first + count ≡ length x.serving.seated.tables) × EachNoted IsClosedNote first count notes) where
-  closed_before : AtEach (λ place t v. place < first → IsShut t v) x.serving.seated
+  closed_before : AtEach (λ place t v. place < first → SeesShut t v) x.serving.seated
   closed_before = λ place t v at was before. (is.closed_are place t v at was (omega (arith, before, here))).shut
 
   all_killed : AreFounded x.serving.seated → (writes : List ℕ → List Write) → Runs (watched_by x.serving.seated) x.serving.owing.owner x.serving.owing.log writes m
@@ -69,7 +70,7 @@ module _ (x : Shutting) (m : Meaning) (is : IsShutting x m) (sits : AreSeated x.
         told = λ others. any_others no_tables others ws (watched_by y) m opened (rests_told ws (watched_by y) no_tables writes x.serving.owing.log.owed m rests killed.more);
       }
 
-  pub killed_is : AtEach (λ place t v. first ≤ place → IsShut t v) y → ((place : ℕ) → place < first → slice_get y.seats place ≡ slice_get x.serving.seated.seats place) → IsDown y m
+  pub killed_is : AtEach (λ place t v. first ≤ place → SeesShut t v) y → ((place : ℕ) → place < first → slice_get y.seats place ≡ slice_get x.serving.seated.seats place) → IsDown y m
   killed_is shut before = record {
     shut = λ place t v at was. elim (cases_lt place first) [
       | inl earlier ↦ closed_before place t v (ap (λ (ts : List Shared). slice_get ts place) (sym tables) ∙ at) (sym (before place earlier) ∙ was) earlier

@@ -3,7 +3,7 @@ use Rattle.std.proofs.Common.{◌≡◌, ℕ, List, [], Result, Err, refl, sym, 
 use Rattle.berth_face.specs.Berth.{Meaning, Pair}
 use Rattle.leaf_opening.specs.declared.ways.OpenFault.{OpenFault}
 use Rattle.leaf_opening.specs.declared.ways.OpenFault.TheVariants as found
-use Rattle.leaf_opening.specs.declared.ways.Way.{Way}
+use Rattle.leaf_words.specs.declared.ways.Way.{Way}
 use Rattle.leaf_opening.specs.Answers.{IsExact}
 use Rattle.leaf_opening.specs.Starts.{IsOpeningRefusal}
 use Rattle.leaf_table.specs.Calls.{IsFresh}

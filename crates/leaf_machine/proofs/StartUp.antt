@@ -6,7 +6,8 @@ use Rattle.berth_face.specs.Berth.{Meaning, Passes}
 use Rattle.disk_backup.specs.State.{LogState}
 use Rattle.leaf_opening.specs.declared.opening.Opened.{Opened}
 use Rattle.leaf_steward.specs.declared.notes.Note.{Note}
-use Rattle.leaf_steward.specs.Seated.{Seated, AreSeated, AtEach, IsOpen, Spares}
+use Rattle.leaf_steward.specs.Seated.{Seated, AreSeated, AtEach, Spares}
+use Rattle.leaf_table.specs.Calls.{SeesOpen}
 use Rattle.leaf_steward.specs.Making.{Makes, OpenedNotes}
 use Rattle.leaf_steward.proofs.WatchMakes.{makes_tables}
 use Rattle.leaf_steward.specs.Owing.{Owing}
@@ -32,7 +33,7 @@ module _ (x : Seated) (seated : AreSeated x) (a b : Meaning) (o : Opened) (y : S
       )
 
   pub up_is : length o.tables ≡ length x.tables → Makes b.clock b.clock x notes y → OpenedNotes 0 o.tables notes → IsDown x a → Passes a b → (IsTrue a.tells → StartOpened x a b o)
-      → o.log.owed ≡ None → AtEach (λ place t v. IsOpen t v) y → AtEach (λ place t v. Spares 1000 t v) y → IsUp (record { seated = y; owing = begun_log o.log }) b
+      → o.log.owed ≡ None → AtEach (λ place t v. SeesOpen t v) y → AtEach (λ place t v. Spares 1000 t v) y → IsUp (record { seated = y; owing = begun_log o.log }) b
   up_is count makes each down passes opened none open_ spares = record {
     opened = open_;
     spares = λ place t v here sat. omega (arith, spares place t v here sat);

@@ -14,7 +14,8 @@ use Rattle.crash_states.proofs.Lefts.{rests_left, told_now}
 use Rattle.crash_serving.specs.Laws.{IsKilled}
 use Rattle.crash_serving.proofs.Running.{kills}
 use Rattle.leaf_steward.specs.declared.notes.Note.{Note}
-use Rattle.leaf_steward.specs.Seated.{Seated, AtEach, AreSeated, AreFounded, IsShut, watched_by}
+use Rattle.leaf_steward.specs.Seated.{Seated, AtEach, AreSeated, AreFounded, watched_by}
+use Rattle.leaf_table.specs.Calls.{SeesShut}
 use Rattle.leaf_steward.specs.Making.{Makes, EachNoted, IsClosedNote}
 use Rattle.leaf_steward.proofs.WatchMakes.{makes_tables}
 use Rattle.leaf_steward.proofs.Watching.{makes_shuts}
@@ -34,7 +35,7 @@ same_others t ws others opened =
     ap (λ (b : Bool). by_name (state_then t) (others_then b no_tables) ws) opened ∙ sym (ap (λ (b : Bool). by_name (state_then t) (others_then b others) ws) opened)
 
 module _ (first : ℕ) (x : Serving) (y : Seated) (m : Meaning) (notes : List Note) (seated : AreSeated x.seated) (makes : Makes m.clock m.clock x.seated notes y)
-    (shut : AtEach (λ place t v. place < first → IsShut t v) x.seated) (each : (count : ℕ) × (first + count ≡ length x.seated.tables) × EachNoted IsClosedNote first count notes) where
+    (shut : AtEach (λ place t v. place < first → SeesShut t v) x.seated) (each : (count : ℕ) × (first + count ≡ length x.seated.tables) × EachNoted IsClosedNote first count notes) where
   -- what runs rests once it is killed
   pub kill_rests : (writes : List ℕ → List Write) → AreFounded x.seated → Runs (watched_by x.seated) x.owing.owner x.owing.log writes m → RestsOn x.seated y m m
   kill_rests writes founded runs =
@@ -52,7 +53,7 @@ module _ (first : ℕ) (x : Serving) (y : Seated) (m : Meaning) (notes : List No
             (λ p left. subst (λ (tables : NamedStates). Left reads tables p) (same_others m.clock ws' others opened) (rests_left ws' no_tables writes x.owing.log.owed m rests p left)) killed.more;
       }
 
-  pub kill_down : UpStands x m → AtEach (λ place t v. IsShut t v) y → IsDown y m
+  pub kill_down : UpStands x m → AtEach (λ place t v. SeesShut t v) y → IsDown y m
   kill_down stands down = record {
     shut = down;
     stands = λ founded.

@@ -9,16 +9,16 @@ use Rattle.leaf_history.specs.Replies.{Reply}
 use Rattle.leaf_history.specs.Replies as reply
 use Rattle.leaf_history.specs.History.{untaken}
 use Rattle.leaf_table.specs.Turns.{Shared, record_for}
-use Rattle.leaf_table.specs.Calls.{SeatView, Made, IsFresh, IsSteward, base_seen, name_of, state_before, state_seen}
+use Rattle.leaf_table.specs.Calls.{SeatView, Made, IsFresh, IsSteward, base_seen, name_of, state_before, state_seen, SeesOpen}
 use Rattle.leaf_table.proofs.Knowing.{live_after_flushed, open_after_take, taken_after_take}
 use Rattle.leaf_steward.specs.declared.notes.What.TheVariants as what
-use Rattle.leaf_steward.specs.Seated.{Seated, AtEach, AtPlace, IsOpen, IsSeated, AreSeated, Spares, with_seat}
+use Rattle.leaf_steward.specs.Seated.{Seated, AtEach, AtPlace, IsSeated, AreSeated, Spares, with_seat}
 use Rattle.leaf_steward.specs.Making.{OneEntry, TakesAt}
 use Rattle.leaf_steward.proofs.WatchPlaces.{each_set, watch_put, watch_same}
 
 -- each table is open, and its seat has room for three entries more
 pub record Serves (x : Seated) : Type 0 where
-  pub opened : AtEach (λ place t v. IsOpen t v) x
+  pub opened : AtEach (λ place t v. SeesOpen t v) x
   pub spares : AtEach (λ place t v. Spares 3 t v) x
 
 -- a seat that has room for an entry may make one
@@ -45,9 +45,9 @@ serves_flushed clock count number place x y one seated spares serves =
     let made : Made (base_seen t) clock v (call.Flushed count) reply.Noted w = one.made in
     let sits : IsSeated t v = seated.each place t v one.at one.was in
     let room : 4 ≤ v.room = spares t v one.at one.was in
-    let live : IsOpen t w = live_after_flushed (base_seen t) clock count v w reply.Noted made (steward_may t v sits (omega (arith, room))) (omega (arith, sits.share)) ∙ serves.opened place t v one.at one.was in
+    let live : SeesOpen t w = live_after_flushed (base_seen t) clock count v w reply.Noted made (steward_may t v sits (omega (arith, room))) (omega (arith, sits.share)) ∙ serves.opened place t v one.at one.was in
     subst Serves (sym one.now) (record {
-      opened = each_set (λ at u s. IsOpen u s) x place t w one.at live serves.opened;
+      opened = each_set (λ at u s. SeesOpen u s) x place t w one.at live serves.opened;
       spares = each_set (λ at u s. Spares 3 u s) x place t w one.at (room_after t clock 3 v w (call.Flushed count) reply.Noted made room) serves.spares;
     })
 
@@ -76,9 +76,9 @@ module _ (clock place number n : ℕ) (pending : Option LogRecord) (x y : Seated
       let t : Shared = takes.table in
       let v : SeatView = takes.before in
       let w : SeatView = takes.after in
-      let live : IsOpen t w = open_after_take (base_seen t) clock n v w takes.made (steward_may t v takes_sits (omega (arith, takes_room))) (omega (arith, takes_sits.share)) (serves.opened place t v takes.at takes.was) in
+      let live : SeesOpen t w = open_after_take (base_seen t) clock n v w takes.made (steward_may t v takes_sits (omega (arith, takes_room))) (omega (arith, takes_sits.share)) (serves.opened place t v takes.at takes.was) in
       subst Serves (sym takes.now) (record {
-        opened = each_set (λ at u s. IsOpen u s) x place t w takes.at live serves.opened;
+        opened = each_set (λ at u s. SeesOpen u s) x place t w takes.at live serves.opened;
         spares = each_set (λ at u s. Spares 3 u s) x place t w takes.at (omega (arith, takes_spares)) serves.spares;
       })
 

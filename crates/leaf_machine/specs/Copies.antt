@@ -8,7 +8,7 @@ use Rattle.drain_copy.specs.declared.step.Next.TheVariants as next
 use Rattle.drain_copy.specs.declared.step.RegionFault.{RegionFault}
 use Rattle.drain_copy.specs.Draining.{held, left}
 use Rattle.crash_states.specs.Standing.{Copies as Stands}
-use Rattle.leaf_opening.specs.declared.ways.Way.TheVariants.{Memory}
+use Rattle.leaf_words.specs.declared.ways.Way.TheVariants.{Memory}
 use Rattle.leaf_opening.specs.Starts.{IsWayOf}
 use Rattle.leaf_steward.specs.declared.notes.Note.{Note}
 use Rattle.leaf_steward.specs.Seated.{Seated, watched_by}

@@ -8,12 +8,12 @@ use Rattle.table_state.specs.Tables.{Table, least_columns}
 use Rattle.drain_copy.specs.declared.step.Next.TheVariants.{Nothing}
 use Rattle.drain_copy.specs.Draining.{DrainState}
 use Rattle.leaf_table.specs.Turns.{Shared}
-use Rattle.leaf_table.specs.Calls.{SeatView, base_seen, state_seen}
+use Rattle.leaf_table.specs.Calls.{SeatView, base_seen, state_seen, SeesOpen, SeesShut}
 use Rattle.crash_moments.specs.Left.{NamedStates}
 use Rattle.crash_moments.specs.Told.{Told}
 use Rattle.crash_moments.specs.Watched.{IsFoundation}
 use Rattle.crash_states.specs.Standing.{Runs, Rests, Copies}
-use Rattle.leaf_steward.specs.Seated.{Seated, AtEach, AtPlace, AreFounded, IsOpen, IsShut, Spares, watched_by}
+use Rattle.leaf_steward.specs.Seated.{Seated, AtEach, AtPlace, AreFounded, Spares, watched_by}
 use Rattle.leaf_steward.specs.Owing.{Owing, IsOwed}
 
 -- a leaf that serves its tables
@@ -60,7 +60,7 @@ CopyStands x m = AreFounded x.seated → IsTrue m.tells × ((writes : List ℕ �
 
 -- each table is shut
 pub record IsDown (x : Seated) (m : Meaning) : Type 0 where
-  pub shut : AtEach (λ place t v. IsShut t v) x
+  pub shut : AtEach (λ place t v. SeesShut t v) x
   pub stands : DownStands x m
 
 -- the table whose record is owed has room for one entry more
@@ -69,7 +69,7 @@ SparesOwed x o n = IfSome o.log.owed (λ r. AtPlace (Spares n) x o.owner)
 
 -- each table is open
 pub record IsUp (x : Serving) (m : Meaning) : Type 0 where
-  pub opened : AtEach (λ place t v. IsOpen t v) x.seated
+  pub opened : AtEach (λ place t v. SeesOpen t v) x.seated
   pub spares : AtEach (λ place t v. Spares 3 t v) x.seated
   pub spares_owed : SparesOwed x.seated x.owing 4
   pub owed : IsOwed x.seated x.owing
@@ -88,7 +88,7 @@ pub record IsShutAndTaken (s : HistoryState) : Type 0 where
 -- The first tables are shut, and their content is at hand; the others are open. What is owed is of the last that was shut, or is owed since before the first was.
 pub record IsShutting (x : Shutting) (m : Meaning) : Type 0 where
   pub few : length x.closed ≤ length x.serving.seated.tables
-  pub opened : AtEach (λ place t v. length x.closed ≤ place → IsOpen t v) x.serving.seated
+  pub opened : AtEach (λ place t v. length x.closed ≤ place → SeesOpen t v) x.serving.seated
   pub closed_are : AtEach (λ place t v. place < length x.closed → IsShutAndTaken (state_seen (base_seen t) v)) x.serving.seated
   pub contents : AtEach (λ place t v. (c : Table) → slice_get x.closed place ≡ Some c → IsContent (state_seen (base_seen t) v) c) x.serving.seated
   pub spares : AtEach (λ place t v. length x.closed ≤ place → Spares 3 t v) x.serving.seated
@@ -103,7 +103,7 @@ pub record IsShutting (x : Shutting) (m : Meaning) : Type 0 where
 
 -- each table is shut
 pub record IsCopying (x : Copying) (m : Meaning) : Type 0 where
-  pub shut : AtEach (λ place t v. IsShut t v) x.seated
+  pub shut : AtEach (λ place t v. SeesShut t v) x.seated
   pub spares : AtEach (λ place t v. Spares 1 t v) x.seated
   pub more : x.drain.next ≢ Nothing
   pub stands : CopyStands x m

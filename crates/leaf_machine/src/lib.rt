@@ -14,7 +14,7 @@ pub use copying::{Copied, Copying, RegionFault};
 pub use down::Down;
 pub use faults::StartFault;
 pub use laws::{begins_where_opened, begins_where_ready, leaves_begin};
-pub use leaf_opening::{Way, WhyDisk};
 pub use leaf_steward::{Note, Notes, What};
+pub use leaf_words::{Way, WhyDisk};
 pub use preparing::{PrepareFault, Prepared, Preparing};
 pub use up::{FlushReply, Up};

@@ -2,6 +2,7 @@
 #![tactic(auto)]
 
 mod groups;
+mod limits;
 mod queries;
 mod rows;
 mod set;
@@ -11,6 +12,7 @@ mod text;
 mod writes;
 
 pub use groups::{Fold, Folds, Group, Groups, Key, Keys};
+pub use limits::{MAX_CELLS, MAX_MEMBERS, MAX_NAME, MAX_ROWS, MAX_TEXT};
 pub use queries::{Agg, Aggs, Cond, Conds, Op, Query};
 pub use rows::{Cell, Cells, Row, Rows, TableRows, Value};
 pub use steps::Steps;

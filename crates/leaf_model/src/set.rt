@@ -3,6 +3,7 @@ ghost use Rattle.std.specs.Prelude.{◌≡◌, ◌↔◌, ◌<◌, ℕ, length, 
 ghost use Rattle.leaf_model.specs.Values.{IsSet};
 ghost use Rattle.leaf_model.specs.Sets.{GoesUp};
 
+use crate::limits::{MAX_MEMBERS, MAX_TEXT};
 use crate::text::Text;
 
 /// How many bytes a text has, which is UTF-8.
@@ -25,10 +26,10 @@ fn goes_up(texts: &[Text], i: usize) -> bool
 pub(crate) fn are_set(texts: &[Text]) -> bool
     ensures { IsTrue result ↔ IsSet texts.now }
 {
-    if texts.len() > 1024 {
+    if texts.len() > MAX_MEMBERS {
         return false;
     }
-    let mut left: usize = 65535;
+    let mut left = MAX_TEXT;
     for i in 0..texts.len() {
         if !goes_up(texts, i) {
             return false;

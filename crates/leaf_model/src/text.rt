@@ -1,5 +1,6 @@
 // Texts, which contracts see as their bytes.
-ghost use Rattle.std.specs.Prelude.{◌≡◌, ◌↔◌, IfOk, IsTrue, string_bytes};
+ghost use Rattle.std.specs.Prelude.{◌≡◌, ◌↔◌, IfOk, IsTrue, bytes_eq, string_bytes};
+ghost use Rattle.std.specs.List.{position};
 ghost use Rattle.leaf_model.specs.Values.{IsSet};
 ghost use Rattle.leaf_model.specs.Groups.{texts_cmp};
 ghost use Rattle.leaf_model.specs.Names.{is_among};
@@ -94,6 +95,21 @@ impl Names {
         }
         Ok(Names { inner })
     }
+
+    /// The place of the first of them that has these bytes.
+    pub fn place_of(&self, name: &[u8]) -> Option<usize>
+        ensures { result ≡ position (bytes_eq name.now) self.now }
+    {
+        position_in(self.inner.as_slice(), name)
+    }
+}
+
+fn position_in(names: &[Text], name: &[u8]) -> Option<usize>
+    ensures { result ≡ position (bytes_eq name.now) names.now }
+{
+    names
+        .iter()
+        .position(|other| name == other.as_str().as_bytes())
 }
 
 fn compare_texts(a: &[Text], b: &[Text]) -> Ordering

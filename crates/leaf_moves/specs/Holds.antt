@@ -21,6 +21,14 @@ with_callers x callers = record { tables = x.tables; callers = callers; held = x
 abbrev pub with_leaf : {B : Type 0} → Hold B → Leaf → B → List (Option SeatView) → Hold B
 with_leaf x leaf b callers = record { tables = x.tables; callers = callers; held = Some (leaf, b) }
 
+-- the berth of a leaf that is held
+abbrev pub berth_in : {B : Type 0} → Hold B → Option B
+berth_in {B} x = by x.held
+  where
+    by : Option (Leaf × B) → Option B
+    by None = None
+    by (Some l) = Some l.1
+
 -- the steward's seat at the table in that place, where the leaf is held
 abbrev pub steward_in : {B : Type 0} → Option (Leaf × B) → ℕ → Option SeatView
 steward_in None table = None

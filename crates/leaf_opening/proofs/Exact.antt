@@ -3,8 +3,8 @@ use Rattle.std.proofs.Common.{◌≡◌, ◌∙◌, inr, ℕ, List, Result, Ok, 
 use Rattle.table_state.specs.Tables.{Table}
 use Rattle.adopt.specs.declared.found.AdoptFault.{AdoptFault}
 use Rattle.adopt.specs.declared.found.AdoptFault.TheVariants as adopt
-use Rattle.adopt.specs.declared.found.WhyDisk.{WhyDisk}
-use Rattle.adopt.specs.declared.found.WhyDisk.TheVariants as why
+use Rattle.leaf_words.specs.declared.ways.WhyDisk.{WhyDisk}
+use Rattle.leaf_words.specs.declared.ways.WhyDisk.TheVariants as why
 use Rattle.adopt.specs.Adopting.{IsWhy, IsWhyFor}
 use Rattle.disk_backup.specs.State.{LogState}
 use Rattle.disk_backup.specs.Scanning.{begun}
@@ -12,8 +12,8 @@ use Rattle.log_recovery.specs.declared.fault.RecoveryFault.{RecoveryFault}
 use Rattle.log_recovery.specs.declared.fault.RecoveryFault.TheVariants as recovery
 use Rattle.log_recovery.specs.Recovery.{IfRead, IsRecovered, IsRecoveryRefusal}
 use Rattle.leaf_opening.specs.declared.opening.Opened.{Opened}
-use Rattle.leaf_opening.specs.declared.ways.Way.{Way}
-use Rattle.leaf_opening.specs.declared.ways.Way.TheVariants.{Disk}
+use Rattle.leaf_words.specs.declared.ways.Way.{Way}
+use Rattle.leaf_words.specs.declared.ways.Way.TheVariants.{Disk}
 use Rattle.leaf_opening.specs.declared.ways.OpenFault.{OpenFault}
 use Rattle.leaf_opening.specs.Faults.{told_of_adopt, told_of_recovery}
 use Rattle.leaf_opening.specs.Answers.{IsAnswer, IsExact, way_of}

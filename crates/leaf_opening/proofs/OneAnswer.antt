@@ -7,13 +7,13 @@ use Rattle.region_layout.specs.Head.{head_of, image_names}
 use Rattle.region_layout.specs.declared.directory.TablePlaces.{TablePlaces}
 use Rattle.region_layout.specs.Region.{IsAdoptable, image_of_parts, parts_in, reads}
 use Rattle.region_layout.proofs.Images.{same_directory}
-use Rattle.adopt.specs.declared.found.WhyDisk.{WhyDisk}
-use Rattle.adopt.specs.declared.found.WhyDisk.TheVariants as why
+use Rattle.leaf_words.specs.declared.ways.WhyDisk.{WhyDisk}
+use Rattle.leaf_words.specs.declared.ways.WhyDisk.TheVariants as why
 use Rattle.adopt.specs.Adopting.{IsStranger, IsWhy, IsWhyFor, stranger_of}
 use Rattle.disk_backup.specs.Scanning.{begun}
 use Rattle.log_recovery.proofs.LogAnswers.{one_stranger, recovered_no_stranger, recovered_not_damaged, stranger_not_damaged}
-use Rattle.leaf_opening.specs.declared.ways.Way.{Way}
-use Rattle.leaf_opening.specs.declared.ways.Way.TheVariants.{Memory, Disk}
+use Rattle.leaf_words.specs.declared.ways.Way.{Way}
+use Rattle.leaf_words.specs.declared.ways.Way.TheVariants.{Memory, Disk}
 use Rattle.leaf_opening.specs.declared.ways.OpenFault.{OpenFault}
 use Rattle.leaf_opening.specs.declared.ways.OpenFault.TheVariants.{RegionFault, DiskFault, DiskDamaged, Stranger, NoMemory}
 use Rattle.leaf_opening.specs.Answers.{OneAnswer}

@@ -4,14 +4,14 @@ use Rattle.berth_face.specs.Berth.{Meaning}
 use Rattle.table_state.specs.Tables.{Table}
 use Rattle.adopt.specs.declared.found.Adopted.{Adopted}
 use Rattle.adopt.specs.declared.found.Adoption.TheVariants.{Tables}
-use Rattle.adopt.specs.declared.found.WhyDisk.{WhyDisk}
+use Rattle.leaf_words.specs.declared.ways.WhyDisk.{WhyDisk}
 use Rattle.adopt.specs.Adopting.{IsLeftBehind, IsWhy}
 use Rattle.adopt.specs.Starting.{IsAdoption}
 use Rattle.disk_backup.specs.State.{LogState}
 use Rattle.disk_backup.specs.Scanning.{begun}
 use Rattle.log_recovery.specs.Recovery.{IsRecovered}
-use Rattle.leaf_opening.specs.declared.ways.Way.{Way}
-use Rattle.leaf_opening.specs.declared.ways.Way.TheVariants.{Memory, Disk}
+use Rattle.leaf_words.specs.declared.ways.Way.{Way}
+use Rattle.leaf_words.specs.declared.ways.Way.TheVariants.{Memory, Disk}
 use Rattle.leaf_opening.specs.OpenedLeaf.{OpenedLeaf}
 use Rattle.leaf_opening.specs.Starts.{Started, IsCome, disk_after}
 

@@ -4,15 +4,15 @@ use Rattle.table_state.specs.Tables.{Table}
 use Rattle.region_layout.specs.Images.{TableImage}
 use Rattle.region_layout.specs.Head.{image_names}
 use Rattle.region_layout.specs.Region.{IsAdoptable}
-use Rattle.adopt.specs.declared.found.WhyDisk.{WhyDisk}
+use Rattle.leaf_words.specs.declared.ways.WhyDisk.{WhyDisk}
 use Rattle.adopt.specs.Adopting.{IsStranger, IsWhyFor, stranger_of}
 use Rattle.disk_backup.specs.State.{LogState}
 use Rattle.disk_backup.specs.Scanning.{begun}
 use Rattle.log_recovery.specs.Recovery.{IsRecovered, IsRecoveryRefusal}
 use Rattle.log_recovery.specs.declared.fault.RecoveryFault.TheVariants as found
 use Rattle.leaf_opening.specs.declared.opening.Opened.{Opened}
-use Rattle.leaf_opening.specs.declared.ways.Way.{Way}
-use Rattle.leaf_opening.specs.declared.ways.Way.TheVariants.{Memory, Disk}
+use Rattle.leaf_words.specs.declared.ways.Way.{Way}
+use Rattle.leaf_words.specs.declared.ways.Way.TheVariants.{Memory, Disk}
 use Rattle.leaf_opening.specs.declared.ways.OpenFault.{OpenFault}
 use Rattle.leaf_opening.specs.declared.ways.OpenFault.TheVariants.{RegionFault, DiskFault, DiskDamaged, Stranger, NoMemory}
 

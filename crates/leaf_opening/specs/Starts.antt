@@ -8,15 +8,15 @@ use Rattle.region_layout.specs.Images.{TableImage}
 use Rattle.region_layout.specs.Head.{IsClosed, image_names}
 use Rattle.region_layout.specs.Region.{IsAdoptable}
 use Rattle.region_layout.specs.Images.{tables_of}
-use Rattle.adopt.specs.declared.found.WhyDisk.{WhyDisk}
-use Rattle.adopt.specs.declared.found.WhyDisk.TheVariants as why
+use Rattle.leaf_words.specs.declared.ways.WhyDisk.{WhyDisk}
+use Rattle.leaf_words.specs.declared.ways.WhyDisk.TheVariants as why
 use Rattle.adopt.specs.Adopting.{IsWhy, IsBroken, IsLeftBehind, IsStranger, stranger_of}
 use Rattle.disk_backup.specs.Scanning.{begun, BeginsScan}
 use Rattle.log_recovery.specs.Recovery.{IsRecovered}
 use Rattle.log_recovery.specs.Recovery as recovery
 use Rattle.log_recovery.specs.declared.fault.RecoveryFault.TheVariants as found
-use Rattle.leaf_opening.specs.declared.ways.Way.{Way}
-use Rattle.leaf_opening.specs.declared.ways.Way.TheVariants.{Memory, Disk}
+use Rattle.leaf_words.specs.declared.ways.Way.{Way}
+use Rattle.leaf_words.specs.declared.ways.Way.TheVariants.{Memory, Disk}
 use Rattle.leaf_opening.specs.declared.ways.OpenFault.{OpenFault}
 use Rattle.leaf_opening.specs.declared.ways.OpenFault.TheVariants.{RegionFault, DiskFault, DiskDamaged, Stranger, NoMemory}
 use Rattle.leaf_opening.specs.declared.opening.Opened.{Opened}

@@ -5,7 +5,7 @@ mod laws;
 mod opening;
 mod ways;
 
-pub use adopt::WhyDisk;
 pub use laws::answers_are_one;
+pub use leaf_words::{Way, WhyDisk};
 pub use opening::{Opened, open_tables};
-pub use ways::{OpenFault, Way};
+pub use ways::OpenFault;

@@ -1,19 +1,10 @@
-// Where a leaf's tables come from, and why a start is refused.
+// Why a start is refused.
 ghost use Rattle.std.specs.Prelude.{◌≡◌};
 ghost use Rattle.leaf_opening.specs.Faults.{told_of_adopt, told_of_recovery};
 
-use adopt::{AdoptFault, WhyDisk};
+use adopt::AdoptFault;
 use leaf_model::Text;
 use log_recovery::RecoveryFault;
-
-/// Where the tables come from.
-#[derive(Clone, Copy, Debug, PartialEq, Eq)]
-pub enum Way {
-    /// From the region.
-    Memory,
-    /// From the disk, since the region was no image.
-    Disk(WhyDisk),
-}
 
 /// Why a start was refused.
 #[derive(Debug, Drop)]

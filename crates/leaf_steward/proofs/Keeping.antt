@@ -7,12 +7,12 @@ use Rattle.leaf_history.specs.Replies as reply
 use Rattle.row_records.specs.Records.{LogRecord}
 use Rattle.leaf_table.specs.declared.base.TableBase.{TableBase}
 use Rattle.leaf_table.specs.Turns.{Shared}
-use Rattle.leaf_table.specs.Calls.{SeatView, Made, base_seen, state_seen, IsFresh}
+use Rattle.leaf_table.specs.Calls.{SeatView, Made, base_seen, state_seen, IsFresh, SeesOpen}
 use Rattle.leaf_table.proofs.Knowing.{open_after_take, taken_after_take, live_after_flushed}
 use Rattle.leaf_steward.specs.declared.notes.Note.{Note}
 use Rattle.leaf_steward.specs.declared.notes.What.{What}
 use Rattle.leaf_steward.specs.declared.notes.What.TheVariants.{Opened, Took, Flushed, Closed, Handed}
-use Rattle.leaf_steward.specs.Seated.{Seated, AtEach, AtPlace, AreSeated, IsOpen, IsUnused, Spares}
+use Rattle.leaf_steward.specs.Seated.{Seated, AtEach, AtPlace, AreSeated, IsUnused, Spares}
 use Rattle.leaf_steward.specs.Making.{MadeAs, Makes, OneEntry, TakesAt}
 use Rattle.leaf_steward.proofs.Seating.{each_with, keeps_seated, may_enter, same_at, seated_with, set_get, spares_less}
 

@@ -3,12 +3,12 @@ use Rattle.std.proofs.Common.{◌≡◌, ◌≢◌, ℕ, zero, suc, ◌+◌, ◌
 use Rattle.std.proofs.lemmas.Option.{slice_get_within}
 use Rattle.table_state.specs.Tables.{Table}
 use Rattle.leaf_table.specs.Turns.{Shared}
-use Rattle.leaf_table.specs.Calls.{SeatView, base_seen}
+use Rattle.leaf_table.specs.Calls.{SeatView, base_seen, SeesOpen, SeesShut}
 use Rattle.leaf_table.proofs.Knowing.{shut_after_shut}
 use Rattle.leaf_steward.specs.declared.notes.Note.{Note}
 use Rattle.leaf_steward.specs.declared.notes.What.{What}
 use Rattle.leaf_steward.specs.declared.notes.What.TheVariants.{Opened, Closed}
-use Rattle.leaf_steward.specs.Seated.{Seated, AtEach, AtPlace, IsOpen, IsShut, Spares, with_seat}
+use Rattle.leaf_steward.specs.Seated.{Seated, AtEach, AtPlace, Spares, with_seat}
 use Rattle.leaf_steward.specs.Making.{Makes, OneEntry, EachNoted, OpenedNotes, ShutsAt}
 use Rattle.leaf_steward.proofs.Seating.{each_with, same_at, set_get, set_other}
 
@@ -94,11 +94,11 @@ passed_all Done clock first x place notes y h all = λ p t v table seat from.
 pub shut_entry : (clock : ℕ) (x : Seated) (place number n : ℕ) (t : Table) (y : Seated) → ShutsAt clock x place number n t y → OneEntry clock x (record { table = place; number = number; what = Closed n }) y
 shut_entry clock x place number n t y h = record { table = h.table; before = h.before; after = h.after; at = h.at; was = h.was; number = h.counted; made = h.made; now = h.now }
 
-pub shut_there : (clock : ℕ) (x : Seated) (place number n : ℕ) (t : Table) (y : Seated) → ShutsAt clock x place number n t y → AtPlace IsShut y place
+pub shut_there : (clock : ℕ) (x : Seated) (place number n : ℕ) (t : Table) (y : Seated) → ShutsAt clock x place number n t y → AtPlace SeesShut y place
 shut_there clock x place number n t y h = λ u v table seat.
     let same_table : h.table ≡ u = same_at x.tables place h.table u h.at (ap (λ (s : Seated). slice_get s.tables place) (sym h.now) ∙ table) in
     let same_seat : h.after ≡ v = same_at y.seats place h.after v (ap (λ (s : Seated). slice_get s.seats place) h.now ∙ set_get x.seats place h.before h.after h.was) seat in
-    subst (λ (s : SeatView). IsShut u s) same_seat (subst (λ (s : Shared). IsShut s h.after) same_table (shut_after_shut (base_seen h.table) clock n h.before h.after h.made))
+    subst (λ (s : SeatView). SeesShut u s) same_seat (subst (λ (s : Shared). SeesShut s h.after) same_table (shut_after_shut (base_seen h.table) clock n h.before h.after h.made))
 
 -- each table from the first to the place is noted so
 abbrev pub IsNoted : (What → Type 0) → ℕ → ℕ → List Note → Type 0
@@ -118,7 +118,7 @@ notes_fit P first place notes h few = let sum = h.1 in omega (arith, sum, few, n
 
 -- open, and with room for a thousand entries
 abbrev pub IsRunning : Shared → SeatView → Type 0
-IsRunning t v = IsOpen t v × Spares 1000 t v
+IsRunning t v = SeesOpen t v × Spares 1000 t v
 
 -- the next of the tables is taken off
 pub record Next (all rest : List Table) (k : ℕ) (t : Table) : Type 0 where

@@ -14,7 +14,7 @@ use Rattle.leaf_history.specs.History.{HistoryState, LegalFrom}
 use Rattle.turnstile.specs.Seats.{LearnsOthers, Told}
 use Rattle.leaf_table.specs.declared.base.TableBase.{TableBase}
 use Rattle.leaf_table.specs.Turns.{Shared, is_founded, start_of}
-use Rattle.leaf_table.specs.Calls.{SeatView, Made, base_seen, name_of, seen_of, state_seen}
+use Rattle.leaf_table.specs.Calls.{SeatView, Made, base_seen, name_of, seen_of, state_seen, SeesShut}
 use Rattle.crash_moments.specs.Watched.{Watched, now_of}
 use Rattle.crash_moments.specs.Told.{SeenMore}
 use Rattle.crash_states.specs.Standing.{MayHave}
@@ -22,7 +22,7 @@ use Rattle.crash_states.specs.Entries.{Enters, Learns, ShutsAll, OpensAll, Hands
 use Rattle.leaf_steward.specs.declared.notes.Note.{Note}
 use Rattle.leaf_steward.specs.declared.notes.What.{What}
 use Rattle.leaf_steward.specs.declared.notes.What.TheVariants.{Opened, Took, Flushed, Closed, Handed}
-use Rattle.leaf_steward.specs.Seated.{Seated, IsSeated, AreSeated, AreFounded, AtEach, IsShut, watched, watched_by, with_seat}
+use Rattle.leaf_steward.specs.Seated.{Seated, IsSeated, AreSeated, AreFounded, AtEach, watched, watched_by, with_seat}
 use Rattle.leaf_steward.specs.Making.{MadeAs, Makes, EachNoted, IsClosedNote, IsHandedNote, OpenedNotes}
 use Rattle.leaf_steward.proofs.WatchPlaces.{watch_all, watch_same, get_watch, at_watch, set_watch, names_watch, length_watch, pair_watch}
 use Rattle.leaf_steward.proofs.WatchEntries.{enters_made, seen_now, learns_met, watch_contents}
@@ -94,7 +94,7 @@ is_done base clock v w (Closed n) handed made = absurd handed
 is_done base clock v w Handed handed made = made
 
 -- each place, in turn
-shuts_one : (clock first count : ℕ) (x y : Seated) → AreSeated x → AreFounded x → Went (λ i what. IsClosedNote what) clock clock first count x y → first + count ≡ length x.tables → AtEach (λ place t v. place < first → IsShut t v) x
+shuts_one : (clock first count : ℕ) (x y : Seated) → AreSeated x → AreFounded x → Went (λ i what. IsClosedNote what) clock clock first count x y → first + count ≡ length x.tables → AtEach (λ place t v. place < first → SeesShut t v) x
     → (place : ℕ) (t : Shared) (v w : SeatView) → slice_get x.tables place ≡ Some t → slice_get x.seats place ≡ Some v → slice_get y.seats place ≡ Some w → ShutsOne clock (watched t v) (watched t w)
 shuts_one clock first count x y seated founded went all shut place t v w here was is = elim (cases_lt place first) [
   | inl lower ↦
@@ -133,7 +133,7 @@ opens_one clock x y tables writes seated founded went count are may place t v w 
 
 -- each open table is shut, the first of which has this place
 pub makes_shuts : (clock first count : ℕ) (x : Seated) (notes : List Note) (y : Seated) → AreSeated x → AreFounded x → Makes clock clock x notes y → first + count ≡ length x.tables
-    → EachNoted IsClosedNote first count notes → AtEach (λ place t v. place < first → IsShut t v) x → ShutsAll clock (watched_by x) (watched_by y)
+    → EachNoted IsClosedNote first count notes → AtEach (λ place t v. place < first → SeesShut t v) x → ShutsAll clock (watched_by x) (watched_by y)
 makes_shuts clock first count x notes y seated founded makes all each shut =
     let went : Went (λ i what. IsClosedNote what) clock clock first count x y = makes_went (λ i what. IsClosedNote what) clock clock first count x notes y makes (each_noted IsClosedNote first count notes each) in
     shuts_all clock (watched_by x) (watched_by y) (same_length clock x notes y seated makes)

@@ -5,7 +5,7 @@ use Rattle.leaf_history.specs.History.{LegalFrom}
 use Rattle.region_layout.specs.Names.{AreNames}
 use Rattle.turnstile.specs.Seats.{IsSeatOf, unused_seat}
 use Rattle.leaf_table.specs.Turns.{Shared, is_founded, start_of}
-use Rattle.leaf_table.specs.Calls.{SeatView, base_seen, name_of, seen_of, state_seen, IsFresh}
+use Rattle.leaf_table.specs.Calls.{SeatView, SeesShut, base_seen, name_of, seen_of, state_seen, IsFresh}
 use Rattle.crash_moments.specs.Watched.{Watched}
 
 -- the names of the tables, the tables in the same order, and the seat at each
@@ -51,13 +51,6 @@ pub record AreSeated (x : Seated) : Type 0 where
 abbrev pub Spares : ℕ → Shared → SeatView → Type 0
 Spares n t v = n ≤ v.room
 
--- it knows that its table is open, or shut
-abbrev pub IsOpen : Shared → SeatView → Type 0
-IsOpen t v = (state_seen (base_seen t) v).live ≡ true
-
-abbrev pub IsShut : Shared → SeatView → Type 0
-IsShut t v = (state_seen (base_seen t) v).live ≡ false
-
 -- a table as its seat has seen it
 abbrev pub watched : Shared → SeatView → Watched
 watched t v = record { name = name_of t; base = start_of (base_seen t); seen = seen_of v }
@@ -78,4 +71,4 @@ with_seat x place v = record { names = x.names; tables = x.tables; seats = slice
 pub record IsUnused (t : Shared) (v : SeatView) : Type 0 where
   pub unused : v ≡ unused_seat t.site 0 1 1024
   pub seat : IsSeatOf v t.site
-  pub shut : IsShut t v
+  pub shut : SeesShut t v

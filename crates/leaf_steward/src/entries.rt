@@ -4,10 +4,10 @@ ghost use Rattle.std.specs.List.{AllByRecursion};
 ghost use Rattle.table_state.specs.Tables.{Table};
 ghost use Rattle.leaf_history.specs.History as history;
 ghost use Rattle.leaf_table.specs.Turns.{Shared, is_founded, MayHandIn};
-ghost use Rattle.leaf_table.specs.Calls.{SeatView, base_seen, state_seen, IsFresh};
+ghost use Rattle.leaf_table.specs.Calls.{SeatView, base_seen, state_seen, IsFresh, SeesOpen, SeesShut};
 ghost use Rattle.leaf_steward.specs.declared.notes.Note.{Note};
 ghost use Rattle.leaf_steward.specs.declared.notes.What.TheVariants as what;
-ghost use Rattle.leaf_steward.specs.Seated.{AtEach, AtPlace, IsOpen, IsShut, Spares};
+ghost use Rattle.leaf_steward.specs.Seated.{AtEach, AtPlace, Spares};
 ghost use Rattle.leaf_steward.specs.Making.{EachNoted, IsClosedNote, IsHandedNote, Makes, OneEntry, OpenedNotes, ShutsAt, TakesAt, WornAt};
 
 use crate::notes::{Notes, What};
@@ -32,7 +32,7 @@ impl<'t> Seats<'t> {
         notes: &mut Notes,
     ) -> Option<(u64, Pending)>
         requires table { table < length self.old.tables }
-        requires open_ { AtPlace IsOpen self.old table }
+        requires open_ { AtPlace SeesOpen self.old table }
         requires spares { AtPlace (Spares 1) self.old table }
         requires room { length notes.old < 32 }
         ensures took { IfSome result (λ r. (number : ℕ) × TakesAt (B.meaning berth.now).clock self.old table number r.0 r.1 self.new
@@ -84,7 +84,7 @@ impl<'t> Seats<'t> {
         notes: &mut Notes,
     ) -> TableState
         requires table { table < length self.old.tables }
-        requires open_ { AtPlace IsOpen self.old table }
+        requires open_ { AtPlace SeesOpen self.old table }
         requires spares { AtPlace (Spares 1) self.old table }
         requires room { length notes.old < 32 }
         ensures { (number : ℕ) × ShutsAt (B.meaning berth.now).clock self.old table number result.writes result self.new
@@ -111,11 +111,11 @@ impl<'t> Seats<'t> {
     )
         requires first { first ≤ length self.old.tables }
         requires none { notes.old ≡ [] }
-        requires open_ { AtEach (λ place t v. first ≤ place → IsOpen t v) self.old }
+        requires open_ { AtEach (λ place t v. first ≤ place → SeesOpen t v) self.old }
         requires spares { AtEach (λ place t v. first ≤ place → Spares 1 t v) self.old }
         ensures made { Makes (B.meaning berth.now).clock (B.meaning berth.now).clock self.old notes.new self.new }
         ensures each { (count : ℕ) × (first + count ≡ length self.old.tables) × EachNoted IsClosedNote first count notes.new }
-        ensures shut { AtEach (λ place t v. first ≤ place → IsShut t v) self.new }
+        ensures shut { AtEach (λ place t v. first ≤ place → SeesShut t v) self.new }
         ensures before { (place : ℕ) → place < first → slice_get self.new.seats place ≡ slice_get self.old.seats place }
     {
         for table in first..self.len() {
@@ -132,11 +132,11 @@ impl<'t> Seats<'t> {
         notes: &mut Notes,
     )
         requires none { notes.old ≡ [] }
-        requires shut { AtEach (λ place t v. IsShut t v) self.old }
+        requires shut { AtEach (λ place t v. SeesShut t v) self.old }
         requires spares { AtEach (λ place t v. Spares 1 t v) self.old }
         ensures made { Makes (B.meaning berth.now).clock (B.meaning berth.now).clock self.old notes.new self.new }
         ensures each { EachNoted IsHandedNote 0 (length self.old.tables) notes.new }
-        ensures shut { AtEach (λ place t v. IsShut t v) self.new }
+        ensures shut { AtEach (λ place t v. SeesShut t v) self.new }
     {
         for table in 0..self.len() {
             self.hand(rt, table, berth, gate, notes);
@@ -154,13 +154,13 @@ impl<'t> Seats<'t> {
     )
         requires none { notes.old ≡ [] }
         requires one { length tables ≡ length self.old.tables }
-        requires shut { AtEach (λ place t v. IsShut t v) self.old }
+        requires shut { AtEach (λ place t v. SeesShut t v) self.old }
         requires fresh { AtEach (λ place t v. IsFresh v) self.old }
         requires content { (place : ℕ) (t : Shared) (v : SeatView) (table : Table) → slice_get self.old.tables place ≡ Some t → slice_get self.old.seats place ≡ Some v
             → slice_get tables place ≡ Some table → MayHandIn (is_founded (base_seen t)) (state_seen (base_seen t) v) table.writes table }
         ensures made { Makes (B.meaning berth.now).clock (B.meaning berth.now).clock self.old notes.new self.new }
         ensures each { OpenedNotes 0 tables notes.new }
-        ensures open_ { AtEach (λ place t v. IsOpen t v) self.new }
+        ensures open_ { AtEach (λ place t v. SeesOpen t v) self.new }
         ensures spares { AtEach (λ place t v. Spares 1000 t v) self.new }
     {
         self.sits();
@@ -182,12 +182,12 @@ impl<'t> Seats<'t> {
         notes: &mut Notes,
     )
         requires table { table < length self.old.tables }
-        requires shut { AtPlace IsShut self.old table }
+        requires shut { AtPlace SeesShut self.old table }
         requires spares { AtPlace (Spares 1) self.old table }
         requires room { length notes.old < 32 }
         ensures entry { (number : ℕ) × OneEntry (B.meaning berth.now).clock self.old (record { table = table; number = number; what = what.Handed }) self.new
             × (notes.new ≡ notes.old ++ record { table = table; number = number; what = what.Handed } ∷ []) }
-        ensures shut { AtPlace IsShut self.new table }
+        ensures shut { AtPlace SeesShut self.new table }
     {
         let place = table as usize;
         let number = self.tables[place].done(rt, &mut self.seats[place], berth, gate);
@@ -205,13 +205,13 @@ impl<'t> Seats<'t> {
         notes: &mut Notes,
     )
         requires table { table < length self.old.tables }
-        requires shut { AtPlace IsShut self.old table }
+        requires shut { AtPlace SeesShut self.old table }
         requires fresh { AtPlace (λ t v. IsFresh v) self.old table }
         requires content { AtPlace (λ t v. MayHandIn (is_founded (base_seen t)) (state_seen (base_seen t) v) content.writes content) self.old table }
         requires room { length notes.old < 32 }
         ensures entry { (number : ℕ) × OneEntry (B.meaning berth.now).clock self.old (record { table = table; number = number; what = what.Opened content.writes }) self.new
             × (notes.new ≡ notes.old ++ record { table = table; number = number; what = what.Opened content.writes } ∷ []) }
-        ensures open_ { AtPlace IsOpen self.new table }
+        ensures open_ { AtPlace SeesOpen self.new table }
         ensures spares { AtPlace (Spares 1000) self.new table }
     {
         let place = table as usize;

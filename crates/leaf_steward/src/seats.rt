@@ -9,7 +9,7 @@ ghost use Rattle.leaf_steward.specs.Seated.{AreAlike, AreSeated, AtEach, AtPlace
 ghost use Rattle.leaf_steward.specs.Making.{WornAt};
 
 use leaf_model::Names;
-use leaf_table::{Seat, SharedTable};
+use leaf_table::{Seat, SharedTable, WORN};
 use std::alloc::AllocError;
 use std::marker::Model;
 
@@ -98,6 +98,3 @@ impl<'t> Seats<'t> {
         self.tables[place].meet(&mut self.seats[place], seat)
     }
 }
-
-/// A seat that has seen so many entries is worn.
-const WORN: u64 = 1 << 62;

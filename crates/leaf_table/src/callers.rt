@@ -17,8 +17,8 @@ use std::snapshot::Snapshot;
 use std::sync::Wait;
 use std::thread::Threads;
 
-/// From here on a seat makes no more entries.
-pub(crate) const WORN: u64 = 1 << 62;
+/// From so many entries on that it has seen, a seat makes no more.
+pub const WORN: u64 = 1 << 62;
 
 impl SharedTable {
     /// Adds rows to the table, where it is open.

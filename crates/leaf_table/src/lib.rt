@@ -16,6 +16,7 @@ ghost use Rattle.leaf_table.specs.Calls.{MakersKnown};
 ghost use Rattle.leaf_table.specs.Laws.{StewardKnows};
 
 pub use base::{Founds, Origin, TableBase};
+pub use callers::WORN;
 pub use fleet::{CallerSeats, FleetTables, StewardSeats};
 pub use replies::{ClosedTable, Reply, Taken};
 pub use shared::{Seat, SharedTable};

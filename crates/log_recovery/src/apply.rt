@@ -1,6 +1,6 @@
 // Applying a record to the table of its name.
-ghost use Rattle.std.specs.Prelude.{◌≡◌, ◌+◌, ◌-◌, ◌<◌, ◌≤◌, ◌^◌, List, [], length, map, IfOk, bytes_eq};
-ghost use Rattle.std.specs.List.{AllByRecursion, position};
+ghost use Rattle.std.specs.Prelude.{◌≡◌, ◌+◌, ◌-◌, ◌<◌, ◌≤◌, ◌^◌, List, [], length, map, IfOk};
+ghost use Rattle.std.specs.List.{AllByRecursion};
 ghost use Rattle.leaf_model.specs.Values.{IsWrite};
 ghost use Rattle.row_records.specs.Records.{LogRecord, IsRecord};
 ghost use Rattle.disk_backup.specs.Scanning.{record_is};
@@ -11,7 +11,7 @@ ghost use Rattle.log_recovery.specs.Applying.{Applies, HasApplied, MayApply, Rep
 
 use crate::fault::RecoveryFault;
 use disk_backup::FlushRecord;
-use leaf_model::{Names, Text, Write};
+use leaf_model::{Names, Write};
 use std::alloc::{AllocError, Global};
 use std::collections::VecDeque;
 use table_state::{AddFault, TableState};
@@ -39,16 +39,10 @@ pub fn apply(
     requires may { MayApply names.now (length flush.writes) (map bare tables.old.items) }
     ensures { (records : List LogRecord) → HasApplied names.now records (map bare tables.old.items) → Applies names.now records (record_is flush) result (map bare tables.new.items) }
 {
-    match place_of(names.as_slice(), flush.table.as_str()) {
+    match names.place_of(flush.table.as_str().as_bytes()) {
         None => Err(RecoveryFault::Stranger(flush.table)),
         Some(place) => Ok(replay_all(&mut tables[place], flush.writes.into_inner())?),
     }
-}
-
-fn place_of(names: &[Text], name: &str) -> Option<usize>
-    ensures { result ≡ position (bytes_eq name.now) names.now }
-{
-    names.iter().position(|other| name == other.as_str())
 }
 
 fn replay_all(table: &mut TableState, writes: Vec<Write>) -> Result<(), AddFault>

@@ -18,13 +18,12 @@ use Rattle.rollover_watch.specs.Watches.{Held}
 use Rattle.script_text.specs.declared.fleet.Fleet.{Fleet}
 use Rattle.script_text.specs.Commands.{leaf_count}
 use Rattle.transcript.specs.Counts.{CountsRose}
-use Rattle.leaf_moves.specs.Holds.{Hold}
+use Rattle.leaf_moves.specs.Holds.{Hold, berth_in}
 use Rattle.leaf_moves.specs.Stage.{IsDown, Leaf, Stands, seated_of}
 use Rattle.transcript.specs.Transcript.{Known}
 use Rattle.transcript.specs.Leaving.{AreKnown, IsKnown}
 use Rattle.transcript_leaf.specs.Session.{AreGrounded, AreInPlace, IsNewHold, StandsFirst}
-use Rattle.transcript_fleet.specs.Laws as sessions
-use Rattle.player.specs.Crew.{berth_in, column, new_holds, seated_at}
+use Rattle.player.specs.Crew.{column, new_holds, seated_at}
 use Rattle.play.specs.Played.{AreBases, IsBase, KeepsCounts}
 use Rattle.play.specs.Runs.{RunSoFar, berths_in, table_bases}
 use Rattle.play.proofs.Fleets.{AreNewTables, leaf_tables}
@@ -146,10 +145,6 @@ module _ {B : Type 0} (names : List (List ℕ)) (rows : List (List Shared)) (ste
   each_held from [] = refl
   each_held from (b ∷ bs) = ap (λ (os : List (Option B)). Some b ∷ os) (each_held (suc from) bs)
 
-  each_begun : (from : ℕ) (bs : List B) → map Some bs ≡ map (λ (x : Hold B). sessions.berth_in x) (holds_from from bs)
-  each_begun from [] = refl
-  each_begun from (b ∷ bs) = ap (λ (os : List (Option B)). Some b ∷ os) (each_begun (suc from) bs)
-
 -- ---- a crew over a new fleet
 
 module _ {B : Type 0} (base : ℕ → Option NamedStates) (meaning : B → Meaning) (berths : List B) (names : List (List ℕ)) (leaves : ℕ) (rows : List (List Shared)) (stewards callers : List (List SeatView))
@@ -208,7 +203,7 @@ module _ {B : Type 0} (base : ℕ → Option NamedStates) (meaning : B → Meani
       each = λ leaf old x l b at now held. subst (λ (c : B). KeepsCounts (meaning c) (meaning b)) (same_berth leaf old x l b at now held) (keeps_same (meaning b));
     };
     session = λ known is. begins meaning (berths_in xs) fleet base known xs (subst AreNames (sym named) are_names)
-        (ap (λ (ys : List (Hold B)). length ys) made ∙ (as_many_holds names rows stewards callers 0 taken ∙ (taken_are ∙ sym count))) begun (each_new known is);
+        (ap (λ (ys : List (Hold B)). length ys) made ∙ (as_many_holds names rows stewards callers 0 taken ∙ (taken_are ∙ sym count))) are_held (each_new known is);
     followed = λ known is histories on. refl;
   }
     where
@@ -217,9 +212,6 @@ module _ {B : Type 0} (base : ℕ → Option NamedStates) (meaning : B → Meani
 
       are_held : map Some (berths_in xs) ≡ map (λ (x : Hold B). berth_in x) xs
       are_held = ap (λ (bs : List B). map Some bs) had ∙ (each_held names rows stewards callers 0 taken ∙ ap (λ (ys : List (Hold B)). map (λ (x : Hold B). berth_in x) ys) (sym made))
-
-      begun : map Some (berths_in xs) ≡ map (λ (x : Hold B). sessions.berth_in x) xs
-      begun = ap (λ (bs : List B). map Some bs) had ∙ (each_begun names rows stewards callers 0 taken ∙ ap (λ (ys : List (Hold B)). map (λ (x : Hold B). sessions.berth_in x) ys) (sym made))
 
       same_berth : (leaf : ℕ) (old : B) (x : Hold B) (l : Leaf) (b : B) → slice_get (berths_in xs) leaf ≡ Some old → slice_get xs leaf ≡ Some x → x.held ≡ Some (l, b) → b ≡ old
       same_berth leaf old x l b at now held = same_some b old (sym (berth_there x l b held) ∙ berth_at (berths_in xs) xs are_held leaf old x at now)

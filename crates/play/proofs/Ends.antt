@@ -23,13 +23,12 @@ use Rattle.transcript.specs.Counts.{CountsRose}
 use Rattle.transcript.specs.Strangers.{Strangers}
 use Rattle.transcript.specs.Telling.{AreTold}
 use Rattle.transcript.specs.Transcript.{Known, Transcript, first_life, grounds_of}
-use Rattle.leaf_moves.specs.Holds.{Hold}
+use Rattle.leaf_moves.specs.Holds.{Hold, berth_in}
 use Rattle.transcript.specs.Leaving.{AtBerth, IsToldRun, IsWritten, LeavesBerth}
 use Rattle.leaf_moves.specs.Stage.{Leaf}
 use Rattle.transcript.specs.Watching.{HearsAll}
 use Rattle.transcript.specs.Moments.{MomentsRise, notes_told}
 use Rattle.transcript_fleet.specs.Laws.{IsToldFleet}
-use Rattle.player.specs.Crew.{berth_in}
 use Rattle.play.specs.Standing.{MayRun, MayRunAlone}
 use Rattle.play.specs.Played.{KeepsCounts, LeavesBerths, leaves_in, leaves_of, leaves_told}
 use Rattle.play.specs.Runs.{AreCounted, HoldsKeep, IsFleetOf, IsRun, ToldFleet, berths_in, fleet_named}

@@ -2,8 +2,7 @@
 use Rattle.std.proofs.Common.{◌≡◌, ℕ, List, Option, Some, None, sym, ap, ◌∙◌}
 use Rattle.std.specs.Prelude.{map, slice_get}
 use Rattle.leaf_moves.specs.Stage.{Leaf}
-use Rattle.leaf_moves.specs.Holds.{Hold}
-use Rattle.player.specs.Crew.{berth_in}
+use Rattle.leaf_moves.specs.Holds.{Hold, berth_in}
 use Rattle.transcript_leaf.proofs.Lists.{get_map, same_some}
 
 -- a leaf that is held, with its berth

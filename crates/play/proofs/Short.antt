@@ -20,10 +20,9 @@ use Rattle.transcript.specs.Pieces.{PlayedItem, all_lines, item_of, plays_in, sc
 use Rattle.transcript.specs.Transcript.{Known}
 use Rattle.transcript.specs.Leaving.{AreKnown, IsToldRun}
 use Rattle.transcript.specs.Watching.{HearsAll}
-use Rattle.leaf_moves.specs.Holds.{HasMet, Hold}
+use Rattle.leaf_moves.specs.Holds.{HasMet, Hold, berth_in}
 use Rattle.transcript_leaf.proofs.Lists.{within}
 use Rattle.transcript_fleet.proofs.Ending.{ended}
-use Rattle.player.specs.Crew.{berth_in}
 use Rattle.bursts.specs.Shortened.{BeginsItem}
 use Rattle.play.specs.Cut.{IsShortened, PlaysSome}
 use Rattle.play.specs.Played.{leaves_in, soak_leaves}

@@ -20,12 +20,12 @@ use Rattle.standing_feed.specs.declared.follower.Follower.{Follower}
 use Rattle.transcript_standing.specs.Followed.{FollowedAll, FollowsItem}
 use Rattle.transcript.specs.Leaving.{AreKnown}
 use Rattle.leaf_moves.specs.Stage.{Leaf}
-use Rattle.leaf_moves.specs.Holds.{GoOn, Hold, grounds_in}
+use Rattle.leaf_moves.specs.Holds.{GoOn, Hold, grounds_in, berth_in}
 use Rattle.leaf_moves.specs.Lanes.{PlaysItem}
 use Rattle.transcript.specs.Watching.{HearsAll}
 use Rattle.transcript_fleet.specs.Session.{Session}
 use Rattle.transcript_fleet.specs.Laws.{IsToldFleet}
-use Rattle.player.specs.Crew.{AllCounted, berth_in}
+use Rattle.player.specs.Crew.{AllCounted}
 use Rattle.play.specs.Standing.{MayRun}
 use Rattle.run_ends.specs.declared.status.Status.{Status}
 use Rattle.play.specs.Played.{KeepsCounts}

@@ -25,7 +25,7 @@ use player::Crew;
 use printed_lines::{Line, put_lines};
 use rollover_watch::Watch;
 use run_ends::{Status, write_all};
-use script_text::{Command, Item, Items};
+use script_text::{Command, Fleet, Item, Items};
 use standing_feed::Followers;
 use std::alloc::{AllocError, Global};
 use std::collections::VecDeque;
@@ -39,14 +39,6 @@ const PIECE: usize = 1_024; // lines that are put together and written at once
 enum WriteError {
     Failed,
     NoMemory,
-}
-
-/// A fleet that is to be made.
-#[derive(Drop)]
-struct FleetPlan {
-    machines: u32,
-    per_machine: u32,
-    names: Names,
 }
 
 /// How many leaves the fleet of these items has.
@@ -70,7 +62,7 @@ pub fn leaf_count(items: &Items) -> usize
 }
 
 /// The fleet of these items, where there is one.
-fn plan_of(items: &Items) -> Result<Option<FleetPlan>, AllocError>
+fn plan_of(items: &Items) -> Result<Option<Fleet>, AllocError>
     requires { AreItems items.now }
     ensures none { IfOk result (λ found. found ≡ None → items.now ≡ []) }
     ensures plan { IfOk result (λ found. IfSome found (λ plan. IsFleetOf items.now plan.machines plan.per_machine plan.names)) }
@@ -85,7 +77,7 @@ fn plan_of(items: &Items) -> Result<Option<FleetPlan>, AllocError>
                 },
             ),
             ..
-        ] => Ok(Some(FleetPlan {
+        ] => Ok(Some(Fleet {
             machines: *machines,
             per_machine: *per_machine,
             names: tables.copy()?,
@@ -130,7 +122,7 @@ pub fn play_items<N: Bases, R: Wait + Threads + Sync, K: Sink, B: Berth, G: Gate
 fn play_over<N: Bases, R: Wait + Threads + Sync, K: Sink, B: Berth, G: Gate>(
     rt: &R,
     alloc: Global,
-    plan: &FleetPlan,
+    plan: &Fleet,
     items: Items,
     sink: &mut K,
     berths: &mut Vec<B>,

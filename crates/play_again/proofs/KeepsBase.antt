@@ -15,9 +15,9 @@ use Rattle.row_records.specs.Records.{LogRecord}
 use Rattle.disk_backup.specs.Logs.{IsLog, writes_of}
 use Rattle.disk_backup.specs.Settling.{with_writes}
 use Rattle.disk_backup.specs.SoundLogs.{HasSoundLog}
-use Rattle.adopt.specs.declared.found.WhyDisk.TheVariants as why
-use Rattle.leaf_opening.specs.declared.ways.Way.{Way}
-use Rattle.leaf_opening.specs.declared.ways.Way.TheVariants.{Memory, Disk}
+use Rattle.leaf_words.specs.declared.ways.WhyDisk.TheVariants as why
+use Rattle.leaf_words.specs.declared.ways.Way.{Way}
+use Rattle.leaf_words.specs.declared.ways.Way.TheVariants.{Memory, Disk}
 use Rattle.leaf_opening.specs.Starts.{IsWayOf}
 use Rattle.crash_moments.specs.Left.{NamedStates, RegionLeft, closed, other_version, image}
 use Rattle.crash_states.specs.Standing.{Rests, tables_of}

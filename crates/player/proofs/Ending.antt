@@ -9,10 +9,10 @@ use Rattle.leaf_table.specs.Turns.{Shared}
 use Rattle.leaf_table.specs.Lists.{row}
 use Rattle.leaf_steward.specs.Seated.{Seated}
 use Rattle.leaf_steward.proofs.Seating.{same_at}
-use Rattle.leaf_moves.specs.Holds.{HasMet, Hold}
+use Rattle.leaf_moves.specs.Holds.{HasMet, Hold, berth_in}
 use Rattle.leaf_moves.specs.Stage.{Leaf, MeetAll}
 use Rattle.leaf_deeds.specs.declared.leaf.OneLeaf.{OneLeaf}
-use Rattle.player.specs.Crew.{berth_in, column}
+use Rattle.player.specs.Crew.{column}
 use Rattle.player.specs.Rows.{AreCalled, AreRows, MayMeet, OnlyColumn}
 use Rattle.leaf_deeds.specs.Held.{berth_of, seats_of, state_of}
 use Rattle.player.specs.Stage.{hold_at, own_berth}

@@ -43,14 +43,6 @@ new_holds leaf names tables stewards callers [] = []
 new_holds leaf names tables stewards callers (b ∷ berths) =
     record { tables = row tables leaf; callers = column leaf callers; held = Some (IsDown (seated_at names tables stewards leaf), b) } ∷ new_holds (suc leaf) names tables stewards callers berths
 
--- the berth of a leaf that is held
-abbrev pub berth_in : {B : Type 0} → Hold B → Option B
-berth_in {B} x = by x.held
-  where
-    by : Option (Leaf × B) → Option B
-    by None = None
-    by (Some l) = Some l.1
-
 -- ---- what is held
 
 -- a seat of callers at that table of each leaf

@@ -3,7 +3,7 @@ ghost use Rattle.std.specs.Prelude.{◌≡◌};
 ghost use Rattle.transcript.specs.Watching.{came_by, drained_by, started_by};
 ghost use Rattle.player.specs.Commands.{answer_of};
 
-use leaf_opening::Way;
+use leaf_words::Way;
 use printed_lines::Ending;
 use rollover_watch::{Drained, Started};
 

@@ -1,7 +1,5 @@
 // Queries of all leaves.
 ghost use Rattle.std.specs.Prelude.{◌≡◌, ◌⊎◌, ◌<◌, ◌^◌, ◌++◌, ℕ, List, length, slice_set, IfOk, IsErr};
-ghost use Rattle.std.specs.List.{position};
-ghost use Rattle.std.specs.Str.{bytes_eq};
 ghost use Rattle.leaf_model.specs.Groups.{groups};
 ghost use Rattle.leaf_history.specs.History.{Entry};
 ghost use Rattle.leaf_table.specs.Calls.{SeatView};
@@ -18,7 +16,7 @@ use crate::members::Members;
 use aggregator::{Fanned, Named, ask_all};
 use answer_text::lines;
 use berth_face::{Berth, Gate};
-use leaf_model::{Names, Query, Text, Texts};
+use leaf_model::{Names, Query, Texts};
 use leaf_table::{FleetTables, Seat};
 use printed_lines::{Line, Said};
 use std::alloc::{AllocError, Global};
@@ -72,17 +70,10 @@ pub fn place_of(names: &Names, name: &str) -> u32
     requires { length names.now < 2 ^ 32 }
     ensures { result ≡ place_among name.now names.now }
 {
-    let names = names.as_slice();
-    match position_of(names, name) {
+    match names.place_of(name.as_bytes()) {
         Some(place) => place as u32,
-        None => names.len() as u32,
+        None => names.as_slice().len() as u32,
     }
-}
-
-fn position_of(names: &[Text], name: &str) -> Option<usize>
-    ensures { result ≡ position (bytes_eq name.now) names.now }
-{
-    names.iter().position(|other| name == other.as_str())
 }
 
 // The lines of a query that was answered so by so many leaves: that of each leaf in their order, and the answer.

@@ -14,11 +14,11 @@ ghost use Rattle.printed_lines.specs.Lines.{IsOf};
 ghost use Rattle.script_text.specs.Commands.{leaf_count};
 ghost use Rattle.transcript.specs.Pieces.{place_among};
 ghost use Rattle.leaf_moves.specs.Stage.{Leaf, Stands, seated_of};
-ghost use Rattle.leaf_moves.specs.Holds.{Hold, AllMeet, HasMet};
+ghost use Rattle.leaf_moves.specs.Holds.{Hold, AllMeet, HasMet, berth_in};
 ghost use Rattle.leaf_moves.specs.Plays.{MayPlay};
 ghost use Rattle.leaf_moves.specs.Lanes.{CutsOff, TakesBack};
 ghost use Rattle.player.specs.Asked.{AsksLeaf};
-ghost use Rattle.player.specs.Crew.{AllPass, HasAll, HasFor, HasLeaf, HasSeats, MayTakeBack, PlaysWith, SameSeats, Spares, StillHas, berth_in, is_set, new_holds, seated_at};
+ghost use Rattle.player.specs.Crew.{AllPass, HasAll, HasFor, HasLeaf, HasSeats, MayTakeBack, PlaysWith, SameSeats, Spares, StillHas, is_set, new_holds, seated_at};
 
 use crate::ask::place_of;
 use crate::begin::{begin_all, copies};

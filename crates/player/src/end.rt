@@ -2,10 +2,10 @@
 ghost use Rattle.std.specs.Prelude.{◌≡◌, ◌+◌, ◌<◌, ◌≤◌, ◌++◌, ◌∷◌, ℕ, List, Option, Some, true, is_some, length, map, slice_get, vec_len, vec_capacity};
 ghost use Rattle.leaf_table.specs.Turns.{Shared};
 ghost use Rattle.leaf_table.specs.Lists.{lists_in};
-ghost use Rattle.leaf_moves.specs.Holds.{Hold, HasMet};
+ghost use Rattle.leaf_moves.specs.Holds.{Hold, HasMet, berth_in};
 ghost use Rattle.leaf_moves.specs.Stage.{Leaf, MeetAll};
 ghost use Rattle.leaf_deeds.specs.declared.leaf.OneLeaf.{OneLeaf};
-ghost use Rattle.player.specs.Crew.{HasLeaf, berth_in, column};
+ghost use Rattle.player.specs.Crew.{HasLeaf, column};
 ghost use Rattle.player.specs.Rows.{MayMeet, OnlyColumn};
 ghost use Rattle.leaf_deeds.specs.Held.{berth_of, seats_of, state_of};
 ghost use Rattle.player.specs.Stage.{hold_at, own_berth};

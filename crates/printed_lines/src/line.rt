@@ -1,6 +1,6 @@
 // The lines that a script's commands print.
 use leaf_model::{Text, Texts};
-use leaf_opening::Way;
+use leaf_words::Way;
 use rollover_plan::Wave;
 
 /// What an entry's line says after its number.

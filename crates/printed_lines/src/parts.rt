@@ -3,9 +3,8 @@ ghost use Rattle.std.specs.Prelude.{◌≡◌, ◌<◌, length, IfOk, string_byt
 ghost use Rattle.printed_lines.specs.Lines.{EndsOf, way_text, ending_text, deed_text, name_at, untold_word};
 
 use crate::line::{Deed, Ending, WhyUntold};
-use adopt::WhyDisk;
 use leaf_model::Names;
-use leaf_opening::Way;
+use leaf_words::{Way, WhyDisk};
 use std::alloc::{AllocError, Global};
 
 pub fn ending_string(alloc: Global, names: &Names, ending: &Ending) -> Result<String, AllocError>

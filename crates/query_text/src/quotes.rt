@@ -5,14 +5,8 @@ ghost use Rattle.query_text.specs.declared.tokens.Token.TheVariants as token;
 ghost use Rattle.query_text.specs.Tokens.{behind, quote_view, quote_from, quoted_token, stray};
 
 use crate::tokens::{Found, Token};
-use leaf_model::Text;
+use leaf_model::{MAX_NAME, MAX_TEXT, Text};
 use std::alloc::{AllocError, Global};
-
-/// The most bytes of a name.
-const MAX_NAME: usize = 255;
-
-/// The most bytes of a text.
-const MAX_TEXT: usize = 65_535;
 
 /// The inside of a quote without the doubling, and how many bytes it takes with its end.
 #[derive(Drop)]

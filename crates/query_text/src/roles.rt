@@ -5,10 +5,7 @@ ghost use Rattle.query_text.specs.Roles.{is_keyword, is_word, name_of, kind_of, 
 
 use crate::places::Kind;
 use crate::tokens::Token;
-use leaf_model::{Op, Text, Value, is_table_name};
-
-/// The most bytes of a name.
-const MAX_NAME: usize = 255;
+use leaf_model::{MAX_NAME, Op, Text, Value, is_table_name};
 
 /// The greatest limit.
 const MAX_LIMIT: i64 = 100_000;

@@ -2,7 +2,7 @@
 use Rattle.std.proofs.Common.{◌≡◌, ℕ, List, refl, ap, subst, ◌∙◌, inl, inr}
 use Rattle.region_layout.specs.Region.{IsAdoptable}
 use Rattle.region_layout.proofs.Images.{one_log_end}
-use Rattle.leaf_opening.specs.declared.ways.Way.TheVariants.{Memory, Disk}
+use Rattle.leaf_words.specs.declared.ways.Way.TheVariants.{Memory, Disk}
 use Rattle.leaf_opening.specs.declared.ways.OpenFault.TheVariants.{RegionFault, DiskFault, DiskDamaged, Stranger, NoMemory}
 use Rattle.leaf_opening.proofs.OneAnswer.{image_alone, image_why}
 use Rattle.region_inspect.specs.declared.seen.TableLine.{TableLine}

@@ -3,8 +3,8 @@ use Rattle.std.specs.Prelude.{◌≡◌, ℕ, List, Err, ⊤}
 use Rattle.region_layout.specs.Images.{TableImage, tables_of}
 use Rattle.region_layout.specs.Region.{IsAdoptable}
 use Rattle.adopt.specs.Adopting.{IsStranger}
-use Rattle.leaf_opening.specs.declared.ways.Way.{Way}
-use Rattle.leaf_opening.specs.declared.ways.Way.TheVariants.{Memory}
+use Rattle.leaf_words.specs.declared.ways.Way.{Way}
+use Rattle.leaf_words.specs.declared.ways.Way.TheVariants.{Memory}
 use Rattle.leaf_opening.specs.declared.ways.OpenFault.{OpenFault}
 use Rattle.leaf_opening.specs.declared.ways.OpenFault.TheVariants.{RegionFault, Stranger, NoMemory}
 use Rattle.leaf_opening.specs.OpenedLeaf.{OpenedLeaf}

@@ -8,7 +8,7 @@ use Rattle.region_layout.specs.declared.directory.Place.{Place}
 use Rattle.region_layout.specs.declared.directory.BlockPlaces.{BlockPlaces}
 use Rattle.region_layout.specs.declared.directory.TablePlaces.{TablePlaces}
 use Rattle.region_layout.specs.Region.{IsImage, block_in, parts_in, reads}
-use Rattle.adopt.specs.declared.found.WhyDisk.TheVariants as why
+use Rattle.leaf_words.specs.declared.ways.WhyDisk.TheVariants as why
 use Rattle.adopt.specs.Adopting.{IsWhy}
 use Rattle.region_inspect.specs.declared.seen.BlockLine.{BlockLine}
 use Rattle.region_inspect.specs.declared.seen.TableLine.{TableLine}

@@ -7,6 +7,7 @@ ghost use Rattle.leaf_model.specs.Names.{are_distinct};
 ghost use Rattle.region_layout.specs.Tests.{has_cell_name, do_not_fall, are_columns, has_columns, is_named, table_names, is_skip_of, is_table_places, end_by, end_of_place, end_of_block, end_of_table, is_directory};
 
 use crate::directory::{BlockPlaces, Directory, Place, TablePlaces};
+use leaf_model::MAX_NAME;
 
 /// Where the columns of a region begin.
 const FIRST_PLACE: u64 = 16;
@@ -15,7 +16,7 @@ fn has_cell_name(place: &Place) -> bool
     ensures { result ≡ has_cell_name place.now }
 {
     let name = place.name.as_str();
-    !name.is_empty() && name.len() <= 255 && name != "time"
+    !name.is_empty() && name.len() <= MAX_NAME && name != "time"
 }
 
 fn have_cell_names(places: &[Place]) -> bool

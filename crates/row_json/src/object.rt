@@ -10,18 +10,9 @@ ghost use Rattle.row_json.specs.Meaning.{IsThisRow, Refuses};
 ghost use Rattle.row_json.specs.Row.{row_of, row_of_data, row_of_members, time_of, cell_count, cells_of, cell_of, value_of, text_of, items_of};
 
 use crate::sets::set_in;
-use leaf_model::{Cell, Cells, Row, Text, Value};
+use leaf_model::{Cell, Cells, MAX_CELLS, MAX_NAME, MAX_TEXT, Row, Text, Value};
 use std::alloc::Global;
 use std::collections::BTreeMap;
-
-/// The most cells of a row.
-pub(crate) const MAX_CELLS: usize = 1024;
-
-/// The most bytes of a cell's name.
-pub(crate) const MAX_NAME: usize = 255;
-
-/// The most bytes of a text that a cell holds.
-pub(crate) const MAX_TEXT: usize = 65_535;
 
 /// Why a text is no row. `Name` and `Value` carry the name of the member at fault.
 #[derive(Debug, Drop)]

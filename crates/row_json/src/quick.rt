@@ -12,6 +12,7 @@ ghost use Rattle.row_json.specs.Quick.{AreOfRow, IsFine, Knows, data_of, natural
 
 use fast_float::Numeral;
 use json::{Reader, Scratch, Token};
+use leaf_model::{MAX_CELLS, MAX_NAME, MAX_TEXT};
 use std::alloc::Global;
 
 /// The room that reading a text takes. One is kept from text to text.
@@ -86,7 +87,7 @@ fn cell_in(name: &str, token: Token<'_>) -> Option<()>
     requires { is_time name.now ≡ false }
     ensures { IfSome result (λ _. (d : Data) × (data_of (token_of token.entry) ≡ Some d) × IsFine name.now d) }
 {
-    if name.is_empty() || name.len() > 255 {
+    if name.is_empty() || name.len() > MAX_NAME {
         return None;
     }
     match token {
@@ -94,7 +95,13 @@ fn cell_in(name: &str, token: Token<'_>) -> Option<()>
             let _integer = integer(text)?;
             Some(())
         }
-        Token::String(text) => { if text.len() > 65_535 { None } else { Some(()) } }
+        Token::String(text) => {
+            if text.len() > MAX_TEXT {
+                None
+            } else {
+                Some(())
+            }
+        }
         Token::Null => Some(()),
         _ => None,
     }
@@ -118,7 +125,7 @@ fn members_time(reader: &mut Reader<'_>) -> Option<i64>
 {
     let mut time = None;
     let mut count = 0usize;
-    'members: while count < 1024 {
+    'members: while count < MAX_CELLS {
         let Ok(found) = reader.next_key() else {
             return None;
         };

@@ -10,10 +10,9 @@ ghost use Rattle.row_json.specs.Row.{row_of};
 ghost use Rattle.row_json.specs.Quick.{Knows, data_of};
 ghost use Rattle.row_json.specs.QuickRow.{Ascend, IsMadeOf, IsPlace, Means, Puts};
 
-use crate::object::{MAX_CELLS, MAX_NAME, MAX_TEXT};
 use crate::quick::{RowRoom, integer, time_in};
 use json::{Reader, Scratch, Token};
-use leaf_model::{Cell, Cells, Row, Text, Value};
+use leaf_model::{Cell, Cells, MAX_CELLS, MAX_NAME, MAX_TEXT, Row, Text, Value};
 use std::alloc::Global;
 use std::cmp::Ordering;
 

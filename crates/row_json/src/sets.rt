@@ -7,12 +7,9 @@ ghost use Rattle.leaf_model.specs.Values.{IsValue};
 ghost use Rattle.row_json.specs.Row.{item_count, set_of, texts_with};
 
 use crate::object::RowFault;
-use leaf_model::{Text, Texts, Value};
+use leaf_model::{MAX_MEMBERS, Text, Texts, Value};
 use std::alloc::Global;
 use std::collections::BTreeSet;
-
-/// The most texts of an array, repeated ones counted.
-const MAX_TEXTS: usize = 1024;
 
 /// The texts of an array in order, each once. None where an item is no text.
 #[tactic(auto, using(crate::proofs::SetItems::text_put, crate::proofs::SetItems::put_length))]
@@ -68,7 +65,7 @@ pub(crate) fn set_in(
     ensures refused { IfErr result (λ fault. fault ≡ RowFault.NoMemory) }
     ensures is_value { IfOk result (λ found. IfSome found IsValue) }
 {
-    if items.len() > MAX_TEXTS {
+    if items.len() > MAX_MEMBERS {
         return Ok(None);
     }
     let Some(strings) = texts_in(alloc, items)? else {

@@ -6,7 +6,7 @@ ghost use Rattle.row_records.specs.Reading.{ReadsAs, add_at, write_at, writes_at
 
 use crate::fault::ReadError;
 use crate::row_reader::{name_of, rows_of, time_of, u32_at, u64_at};
-use leaf_model::{Row, Rows, Text, Value, Write, Writes};
+use leaf_model::{MAX_ROWS, Row, Rows, Text, Value, Write, Writes};
 use std::alloc::{AllocError, Global};
 
 /// A record that was read: whether its kind allows sets, its table's name, and its writes.
@@ -22,7 +22,7 @@ fn add_of(alloc: Global, bytes: &[u8]) -> Result<(Write, &[u8]), ReadError>
     ensures { ReadsAs (λ x. (x.0, x.1.now)) result (add_at bytes.now) }
 {
     let (count, rest) = u32_at(bytes)?;
-    if count > 100_000 {
+    if count as u64 > MAX_ROWS {
         return Err(ReadError::Broken);
     }
     let (rows, rest) = rows_of(alloc, count as u64, rest)?;

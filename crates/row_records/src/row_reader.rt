@@ -9,7 +9,7 @@ ghost use Rattle.row_records.specs.Bytes.{rows_bytes, StandsInFront};
 ghost use Rattle.row_records.specs.Reading.{ReadsAs, number_at, byte_at, text_at, name_at, time_at, long_text_at, texts_at, set_at, value_at, may_follow, cell_at, cells_at, row_at, rows_at, last_name};
 
 use crate::fault::ReadError;
-use leaf_model::{Cell, Cells, Row, Text, Texts, Value};
+use leaf_model::{Cell, Cells, MAX_CELLS, Row, Text, Texts, Value};
 use std::alloc::{AllocError, Global};
 
 /// The rows at the front of the bytes, and how many bytes they take; nothing where so many rows do not stand there.
@@ -225,7 +225,7 @@ fn row_of(alloc: Global, bytes: &[u8]) -> Result<(Row, &[u8]), ReadError>
 {
     let (time, rest) = time_of(bytes)?;
     let (count, rest) = u16_at(rest)?;
-    if count > 1024 {
+    if count as usize > MAX_CELLS {
         return Err(ReadError::Broken);
     }
     let (cells, rest) = cells_of(alloc, count, rest)?;

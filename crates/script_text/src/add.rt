@@ -2,6 +2,7 @@
 ghost use Rattle.std.specs.Prelude.{◌≡◌, ◌+◌, ◌≤◌, ◌<◌, ◌^◌, IfOk, IfSome, length};
 ghost use Rattle.std.specs.List.{AllByRecursion};
 ghost use Rattle.leaf_model.specs.Values.{IsRow};
+ghost use Rattle.leaf_model.specs.declared.limits.TheConstants.{MAX_ROWS};
 ghost use Rattle.script_text.specs.Lines.{lines_of};
 ghost use Rattle.script_text.specs.Words.{number_of, words_of};
 ghost use Rattle.script_text.specs.Commands.{IsFleet, add_of, leaf_count, row_count, rows_behind, target_words, within};
@@ -12,10 +13,10 @@ use crate::command::Command;
 use crate::fault::{ScriptFault, Why, fault_at};
 use crate::fleet::Fleet;
 use crate::lines::cut_lines;
-use crate::row_parts::{MAX_ROWS, read_rows};
+use crate::row_parts::read_rows;
 use crate::target::{target_in, target_words};
 use crate::words::number_of;
-use leaf_model::Rows;
+use leaf_model::{MAX_ROWS, Rows};
 use std::alloc::Global;
 use std::thread::Threads;
 

@@ -4,6 +4,7 @@ ghost use Rattle.std.specs.Borrow.{Bor};
 ghost use Rattle.std.specs.List.{AllByRecursion, AllZip};
 ghost use Rattle.row_json.specs.Row.{row_of};
 ghost use Rattle.leaf_model.specs.Values.{IsRow};
+ghost use Rattle.leaf_model.specs.declared.limits.TheConstants.{MAX_ROWS};
 ghost use Rattle.script_text.specs.Lines.{lines_of};
 ghost use Rattle.script_text.specs.declared.fault.Why.TheVariants as why;
 ghost use Rattle.script_text.specs.Commands.{on_line, rows_from};
@@ -20,9 +21,6 @@ use row_json::{RowFault, RowRoom, quick_row};
 use std::alloc::{AllocError, Global};
 use std::collections::VecDeque;
 use std::thread::Threads;
-
-/// The most rows of an add or a tail.
-pub const MAX_ROWS: u64 = 100_000;
 
 /// The rows that the lines of a text are, so many, where the line before them has this number. The first fault in the
 /// order of the lines decides, whichever part is read first.

@@ -1,5 +1,6 @@
 // A tail, and its rows.
 ghost use Rattle.std.specs.Prelude.{◌≡◌, ◌+◌, ◌≤◌, ◌<◌, ◌^◌, IfOk, IfSome, length, option_map};
+ghost use Rattle.leaf_model.specs.declared.limits.TheConstants.{MAX_ROWS};
 ghost use Rattle.script_text.specs.Lines.{lines_of};
 ghost use Rattle.script_text.specs.Words.{words_of};
 ghost use Rattle.script_text.specs.Commands.{IsFleet, TailForm, leaf_count, row_count, tail_of, tail_words};
@@ -10,7 +11,6 @@ use crate::add::{row_number, rows_behind};
 use crate::command::Command;
 use crate::fault::{ScriptFault, Why, fault_at};
 use crate::fleet::Fleet;
-use crate::row_parts::MAX_ROWS;
 use crate::target::table_in;
 use crate::words::{count_of, next_word};
 use leaf_model::is_table_name;

@@ -4,7 +4,7 @@ use Rattle.region_layout.specs.Head.{IsClosed}
 use Rattle.adopt.specs.Adopting.{HasNoStranger, IsNoImage, IsStranger}
 use Rattle.log_recovery.specs.Recovery.{IsRecoveryRefusal}
 use Rattle.log_recovery.specs.declared.fault.RecoveryFault.TheVariants as found
-use Rattle.leaf_opening.specs.declared.ways.Way.TheVariants.{Memory, Disk}
+use Rattle.leaf_words.specs.declared.ways.Way.TheVariants.{Memory, Disk}
 use Rattle.printed_lines.specs.declared.line.Ending.{Ending}
 use Rattle.printed_lines.specs.declared.line.Ending.TheVariants as ends
 use Rattle.transcript.specs.Pieces.{Piece, Acted}

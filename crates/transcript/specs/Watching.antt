@@ -1,8 +1,8 @@
 -- What the watches of a run hear: the events of its rollovers, as its leaves answered.
 use Rattle.std.specs.Prelude.{◌≡◌, ℕ, List, [], ◌∷◌, length, map, take}
 use Rattle.std.specs.List.{flat_map}
-use Rattle.leaf_opening.specs.declared.ways.Way.{Way}
-use Rattle.leaf_opening.specs.declared.ways.Way.TheVariants.{Memory, Disk}
+use Rattle.leaf_words.specs.declared.ways.Way.{Way}
+use Rattle.leaf_words.specs.declared.ways.Way.TheVariants.{Memory, Disk}
 use Rattle.rollover_watch.specs.declared.event.Drained.{Drained}
 use Rattle.rollover_watch.specs.declared.event.Drained.TheVariants as drained
 use Rattle.rollover_watch.specs.declared.event.Started.{Started}

@@ -13,10 +13,10 @@ use Rattle.transcript.specs.Transcript.{Known, first_life, grounds_of}
 use Rattle.transcript.specs.Moments.{MomentsRise, notes_told}
 use Rattle.transcript.specs.Leaving.{LeavesBerth}
 use Rattle.leaf_moves.specs.Stage.{Leaf}
-use Rattle.leaf_moves.specs.Holds.{GoOn, HasMet, Hold, seen_in}
+use Rattle.leaf_moves.specs.Holds.{GoOn, HasMet, Hold, seen_in, berth_in}
 use Rattle.transcript_leaf.specs.Session.{AreMet, IsWhole, LeafSession}
 use Rattle.transcript_fleet.specs.Session.{Session, nothing_yet}
-use Rattle.transcript_fleet.specs.Laws.{IsToldFleet, SessionsEnd, berth_in}
+use Rattle.transcript_fleet.specs.Laws.{IsToldFleet, SessionsEnd}
 use Rattle.transcript_leaf.proofs.Leaf.{leaf_history, leaf_leaves, leaf_lives, leaf_meets, leaf_order, leaf_strangers, meet_grows}
 use Rattle.transcript_leaf.proofs.Ended.{moments_all}
 use Rattle.transcript_leaf.proofs.Lists.{element_at, same_some, within}

@@ -8,12 +8,12 @@ use Rattle.script_text.specs.declared.fleet.Fleet.{Fleet}
 use Rattle.transcript.specs.Pieces.{Played, PlayedItem, One, Burst, all_pieces, plays_in}
 use Rattle.transcript.specs.Transcript.{Known}
 use Rattle.leaf_moves.specs.Stage.{Leaf}
-use Rattle.leaf_moves.specs.Holds.{AllMeet, Hold, seen_in}
+use Rattle.leaf_moves.specs.Holds.{AllMeet, Hold, seen_in, berth_in}
 use Rattle.leaf_moves.specs.Plays.{Plays}
 use Rattle.leaf_moves.specs.Lanes.{Fans, PlaysItem, PlaysOn}
 use Rattle.transcript_leaf.specs.Session.{AreMet, AreSame, IsWhole, LeafSession}
 use Rattle.transcript_fleet.specs.Session.{Session, Stretch, nothing_yet}
-use Rattle.transcript_fleet.specs.Laws.{SessionsBegin, SessionsGoOn, SessionsKnow, berth_in}
+use Rattle.transcript_fleet.specs.Laws.{SessionsBegin, SessionsGoOn, SessionsKnow}
 use Rattle.transcript_leaf.proofs.Leaf.{leaf_begins, leaf_in_turn, leaf_joined, leaf_lends, leaf_meets, meet_grows}
 use Rattle.transcript_leaf.proofs.Lists.{get_map, length_mapped, same_some}
 use Rattle.transcript_leaf.proofs.Terms.{Grows}

@@ -14,20 +14,11 @@ use Rattle.transcript.specs.Strangers.{Strangers}
 use Rattle.transcript.specs.Transcript.{Known, Transcript, grounds_of}
 use Rattle.transcript.specs.Moments.{MomentsRise, notes_told}
 use Rattle.transcript.specs.Leaving.{LeavesBerth}
-use Rattle.leaf_moves.specs.Stage.{Leaf}
-use Rattle.leaf_moves.specs.Holds.{GoOn, HasMet, Hold, grounds_in}
+use Rattle.leaf_moves.specs.Holds.{GoOn, HasMet, Hold, berth_in, grounds_in}
 use Rattle.leaf_moves.specs.Lanes.{PlaysItem}
 use Rattle.std.specs.List.{AllByRecursion}
 use Rattle.transcript_leaf.specs.Session.{IsNewHold}
 use Rattle.transcript_fleet.specs.Session.{Session}
-
--- what is held of a leaf with its berth
-abbrev pub berth_in : {B : Type 0} → Hold B → Option B
-berth_in {B} x = by x.held
-  where
-    by : Option (Leaf × B) → Option B
-    by None = None
-    by (Some l) = Some l.1
 
 -- a run begins over any berths
 abbrev pub SessionsBegin : {B : Type 0} → (B → Meaning) → List B → Type 0

@@ -4,7 +4,7 @@ use Rattle.std.specs.Prelude.{◌≢◌, IfSome, IsSome, IsTrue, is_some, option
 use Rattle.row_records.specs.Records.{LogRecord}
 use Rattle.berth_face.specs.Berth.{Meaning}
 use Rattle.adopt.specs.Adopting.{IsLeftBehind}
-use Rattle.leaf_opening.specs.declared.ways.Way.{Way}
+use Rattle.leaf_words.specs.declared.ways.Way.{Way}
 use Rattle.leaf_opening.specs.Starts.{IsWayOf, way_after}
 use Rattle.printed_lines.specs.declared.line.Said.TheVariants as said
 use Rattle.printed_lines.specs.declared.line.Ending.{Ending}

@@ -3,9 +3,9 @@ use Rattle.std.proofs.Common.{◌≡◌, ℕ, zero, suc, ◌+◌, ◌<◌, ◌�
 use Rattle.std.specs.Prelude.{IfSome, IsTrue, is_some, option_map, replicate}
 use Rattle.std.proofs.lemmas.List.{append-nil}
 use Rattle.berth_face.specs.Berth.{Meaning, Pair}
-use Rattle.adopt.specs.declared.found.WhyDisk.TheVariants as why
-use Rattle.leaf_opening.specs.declared.ways.Way.{Way}
-use Rattle.leaf_opening.specs.declared.ways.Way.TheVariants.{Memory, Disk}
+use Rattle.leaf_words.specs.declared.ways.WhyDisk.TheVariants as why
+use Rattle.leaf_words.specs.declared.ways.Way.{Way}
+use Rattle.leaf_words.specs.declared.ways.Way.TheVariants.{Memory, Disk}
 use Rattle.leaf_opening.specs.Starts.{IsWayOf}
 use Rattle.printed_lines.specs.declared.line.Said.TheVariants as said
 use Rattle.printed_lines.specs.declared.line.Ending.{Ending}

@@ -15,8 +15,8 @@ use Rattle.region_layout.specs.ImageWrites.{AreImagesOf}
 use Rattle.region_layout.specs.Region.{reads}
 use Rattle.region_layout.proofs.Images.{one_tables}
 use Rattle.log_recovery.specs.Recovery as recovery
-use Rattle.leaf_opening.specs.declared.ways.Way.{Way}
-use Rattle.leaf_opening.specs.declared.ways.Way.TheVariants.{Memory, Disk}
+use Rattle.leaf_words.specs.declared.ways.Way.{Way}
+use Rattle.leaf_words.specs.declared.ways.Way.TheVariants.{Memory, Disk}
 use Rattle.leaf_opening.specs.OpenedLeaf.{OpenedLeaf}
 use Rattle.leaf_opening.specs.Starts.{IsCome, disk_after}
 use Rattle.leaf_opening.proofs.Regions.{closed_no_image}

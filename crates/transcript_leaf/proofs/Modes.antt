@@ -3,7 +3,7 @@ use Rattle.std.proofs.Common.{◌≡◌, ℕ, zero, suc, List, [], ◌∷◌, le
 use Rattle.std.specs.Prelude.{IfSome, IsTrue, slice_get}
 use Rattle.std.specs.List.{AllByRecursion}
 use Rattle.berth_face.specs.Berth.{Meaning, Pair}
-use Rattle.leaf_opening.specs.declared.ways.Way.{Way}
+use Rattle.leaf_words.specs.declared.ways.Way.{Way}
 use Rattle.leaf_opening.specs.Starts.{IsWayOf}
 use Rattle.leaf_table.specs.Turns.{Shared, is_founded}
 use Rattle.leaf_table.specs.Calls.{base_seen, name_of}

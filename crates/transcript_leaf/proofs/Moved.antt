@@ -2,7 +2,7 @@
 use Rattle.std.proofs.Common.{◌≡◌, ℕ, suc, true, false, Bool, List, [], ◌∷◌, ◌++◌, length, map, Option, Some, None, refl, sym, ap, subst, ◌∙◌, arith}
 use Rattle.std.specs.Prelude.{IsTrue, IfSome, slice_get}
 use Rattle.berth_face.specs.Berth.{Meaning}
-use Rattle.leaf_opening.specs.declared.ways.Way.{Way}
+use Rattle.leaf_words.specs.declared.ways.Way.{Way}
 use Rattle.leaf_table.specs.Turns.{Shared}
 use Rattle.leaf_table.specs.Calls.{SeatView, name_of}
 use Rattle.leaf_steward.specs.declared.notes.Note.{Note}

@@ -5,8 +5,8 @@ use Rattle.std.proofs.lemmas.Bool.{cases_eq, cases_lt, eq-eqb}
 use Rattle.berth_face.specs.Berth.{Meaning, Pair}
 use Rattle.region_layout.specs.Head.{IsClosed}
 use Rattle.disk_backup.specs.Scanning.{BeginsScan}
-use Rattle.leaf_opening.specs.declared.ways.Way.{Way}
-use Rattle.leaf_opening.specs.declared.ways.Way.TheVariants.{Memory, Disk}
+use Rattle.leaf_words.specs.declared.ways.Way.{Way}
+use Rattle.leaf_words.specs.declared.ways.Way.TheVariants.{Memory, Disk}
 use Rattle.leaf_opening.specs.declared.ways.OpenFault.{OpenFault}
 use Rattle.leaf_opening.specs.declared.ways.OpenFault.TheVariants as opening
 use Rattle.leaf_opening.specs.Answers.{IsAnswer}

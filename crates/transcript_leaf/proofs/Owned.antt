@@ -6,7 +6,7 @@ use Rattle.region_layout.proofs.Heads.{shut_head}
 use Rattle.adopt.specs.Adopting.{HasNoStranger, IsStranger}
 use Rattle.log_recovery.specs.Recovery.{IsRecoveryRefusal}
 use Rattle.log_recovery.specs.declared.fault.RecoveryFault.TheVariants as found
-use Rattle.leaf_opening.specs.declared.ways.Way.{Way}
+use Rattle.leaf_words.specs.declared.ways.Way.{Way}
 use Rattle.leaf_opening.proofs.Regions.{left_closed}
 use Rattle.leaf_table.specs.Turns.{Shared}
 use Rattle.leaf_table.specs.Calls.{SeatView, name_of}

@@ -1,7 +1,7 @@
 -- What a deed of the leaf's steward makes of its life.
 use Rattle.std.specs.Prelude.{◌≡◌, ℕ, ◌≤◌, Bool, false, List, Option, Some, None, IfSome, is_some, map}
 use Rattle.berth_face.specs.Berth.{Meaning}
-use Rattle.leaf_opening.specs.declared.ways.Way.{Way}
+use Rattle.leaf_words.specs.declared.ways.Way.{Way}
 use Rattle.leaf_opening.specs.Starts.{IsWayOf}
 use Rattle.printed_lines.specs.declared.line.Ending.{Ending}
 use Rattle.printed_lines.specs.declared.line.Ending.TheVariants as ends

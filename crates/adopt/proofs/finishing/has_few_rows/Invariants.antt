@@ -1,5 +1,6 @@
 use Rattle.std.proofs.Common.{◌≡◌, ◌+◌, ◌≤◌, ◌^◌, drop}
-use Rattle.adopt.specs.Finishing.{IsCut, live_count}
+use Rattle.adopt.specs.Finishing.{live_count}
+use Rattle.table_state.specs.Stored.{IsCut}
 use Rattle.adopt.proofs.finishing.has_few_rows.Given as goal
 
 abbrev pub invariant-loop-block : goal.invariant-loop-block

@@ -43,7 +43,7 @@ returns c =
     let end = c.loop-i-test.false in
     let whole = ap bytes_in (take_all i texts (omega (arith, end))) in
     let left = c.loop-i.invariant.left in (
-      λ yes. set_is texts (omega (arith, c.if-texts-gt1024.false))
+      λ yes. set_is texts (omega (arith, c.if-texts-gt-MAX_MEMBERS.false))
           (λ k h. c.loop-i.invariant.utf8 k (omega (arith, end, h)))
           (λ k h. c.loop-i.invariant.up k (omega (arith, end, h)))
           (omega (arith, whole, left)),

@@ -11,4 +11,4 @@ returns-in-Some c =
 pub returns-in-None : goal.returns-in-None
 returns-in-None c =
     let at : position (bytes_eq c.args.name.now) c.args.names.now ≡ None = search rules in
-    ap length c.as_slice-names.ensures ∙ no_place c.args.name.now c.args.names.now at
+    ap length c.as_slice.ensures ∙ no_place c.args.name.now c.args.names.now at

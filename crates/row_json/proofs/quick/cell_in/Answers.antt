@@ -13,8 +13,8 @@ returns-in_ok-_integer-in-Number c =
     let good = good_name c.args.name.now (grind arith) (grind arith) in
     (number found.0, ap (λ t. data_of (token_of t)) c.in-Number.is ∙ ap (option_map number) found.1, fine_number c.args.name.now found.0 c.in_ok-_integer-in-Number._integer c.requires good found.2)
 
-pub returns-else-text-gt65535 : goal.returns-else-text-gt65535
-returns-else-text-gt65535 c =
+pub returns-else-text-gt-MAX_TEXT : goal.returns-else-text-gt-MAX_TEXT
+returns-else-text-gt-MAX_TEXT c =
     let good = good_name c.args.name.now (grind arith) (grind arith) in
     (string c.in-String.text.now, ap (λ t. data_of (token_of t)) c.in-String.is, fine_string c.args.name.now c.in-String.text.now c.requires good (grind arith))
 

@@ -8,16 +8,16 @@ use Rattle.row_json.specs.Row.{item_count, set_of, texts_with}
 use Rattle.row_json.proofs.SetItems.{texts_of, count_items, many_none, set_made, set_refused}
 use Rattle.row_json.proofs.sets.set_in.Goals as goal
 
-pub returns-then-len-gt-MAX_TEXTS-clause-exact : goal.returns-then-len-gt-MAX_TEXTS-clause-exact
-returns-then-len-gt-MAX_TEXTS-clause-exact c =
+pub returns-then-len-gt-MAX_MEMBERS-clause-exact : goal.returns-then-len-gt-MAX_MEMBERS-clause-exact
+returns-then-len-gt-MAX_MEMBERS-clause-exact c =
     let items = c.args.items.items in
-    sym (many_none (item_count (items_view items)) (texts_with [] (items_view items)) (omega (arith, c.if-len-gt-MAX_TEXTS.true, c.len.ensures, count_items items)))
+    sym (many_none (item_count (items_view items)) (texts_with [] (items_view items)) (omega (arith, c.if-len-gt-MAX_MEMBERS.true, c.len.ensures, count_items items)))
 
 pub returns-then-is_set-clause-exact : goal.returns-then-is_set-clause-exact
 returns-then-is_set-clause-exact c =
     let items = c.args.items.items in let keys = c.in-Some.strings.keys in
     let n = item_count (items_view items) in
-    let few : n ≤ 1024 = omega (arith, c.if-len-gt-MAX_TEXTS.false, c.len.ensures, count_items items) in
+    let few : n ≤ 1024 = omega (arith, c.if-len-gt-MAX_MEMBERS.false, c.len.ensures, count_items items) in
     let found = sym c.in_ok-strings.ensures.exact ∙ ap (option_map (λ (texts : BTreeSet (String Global)). map string_bytes texts.keys)) c.in-Some.is in
     let same = c.of-texts.ensures ∙ c.in_ok-own_texts.ensures.same in
     ap (λ t. Some (Set t)) same
@@ -28,7 +28,7 @@ pub returns-else-is_set-clause-exact : goal.returns-else-is_set-clause-exact
 returns-else-is_set-clause-exact c =
     let items = c.args.items.items in let keys = c.in-Some.strings.keys in
     let n = item_count (items_view items) in
-    let few : n ≤ 1024 = omega (arith, c.if-len-gt-MAX_TEXTS.false, c.len.ensures, count_items items) in
+    let few : n ≤ 1024 = omega (arith, c.if-len-gt-MAX_MEMBERS.false, c.len.ensures, count_items items) in
     let found = sym c.in_ok-strings.ensures.exact ∙ ap (option_map (λ (texts : BTreeSet (String Global)). map string_bytes texts.keys)) c.in-Some.is in
     let same = c.of-texts.ensures ∙ c.in_ok-own_texts.ensures.same in
     let least = subst (λ (f : Option (BTreeSet (String Global))). IfSome f (λ texts. length texts.keys ≤ length items)) c.in-Some.is c.in_ok-strings.ensures.few in

@@ -7,7 +7,7 @@ use Rattle.drain_copy.specs.declared.step.Next.TheVariants as next
 use Rattle.drain_copy.specs.Draining.{IsInRoom, IsStep, left}
 use Rattle.drain_copy.specs.Regions.{IsCutOrBegun, LeftFrom}
 use Rattle.berth_face.specs.Moments.{Throughout}
-use Rattle.leaf_opening.specs.declared.ways.Way.TheVariants.{Memory}
+use Rattle.leaf_words.specs.declared.ways.Way.TheVariants.{Memory}
 use Rattle.leaf_opening.specs.Starts.{IsWayOf}
 use Rattle.crash_states.specs.Standing.{Copies}
 use Rattle.leaf_steward.specs.Seated.{AreFounded, watched_by}

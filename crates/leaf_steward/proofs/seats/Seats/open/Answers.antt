@@ -1,8 +1,8 @@
 use Rattle.std.proofs.Common.{arith, rules}
 use Rattle.leaf_table.specs.Turns.{is_founded, MayHandIn}
-use Rattle.leaf_table.specs.Calls.{base_seen, state_seen, IsFresh}
+use Rattle.leaf_table.specs.Calls.{base_seen, state_seen, IsFresh, SeesOpen, SeesShut}
 use Rattle.leaf_steward.specs.declared.notes.What.TheVariants as what
-use Rattle.leaf_steward.specs.Seated.{IsOpen, IsShut, Spares}
+use Rattle.leaf_steward.specs.Seated.{Spares}
 use Rattle.leaf_steward.proofs.Seating.{sits_at, there, there_now, fresh_at, seated_after, spares_after, enters}
 use Rattle.leaf_steward.proofs.seats.Seats.open.Goals as goal
 
@@ -13,7 +13,7 @@ pub reopen-requires-clause-steward : goal.reopen-requires-clause-steward
 reopen-requires-clause-steward g c κs within = fresh_at (sits_at c.self.view_is c.self.invariant _ c.index-self-place.result _ c.requires.table c.index_mut.ensures.value) c.self.view_is c.requires.fresh
 
 pub reopen-requires-clause-shut : goal.reopen-requires-clause-shut
-reopen-requires-clause-shut g c κs within = there IsShut (sits_at c.self.view_is c.self.invariant _ c.index-self-place.result _ c.requires.table c.index_mut.ensures.value) c.self.view_is c.requires.shut
+reopen-requires-clause-shut g c κs within = there SeesShut (sits_at c.self.view_is c.self.invariant _ c.index-self-place.result _ c.requires.table c.index_mut.ensures.value) c.self.view_is c.requires.shut
 
 pub reopen-requires-clause-content : goal.reopen-requires-clause-content
 reopen-requires-clause-content g c κs within =
@@ -38,7 +38,7 @@ returns-clause-entry g c =
     (c.in-Ok.number, rw (← c.writes-writes.ensures) one, search rules)
 
 pub returns-clause-open_ : goal.returns-clause-open_
-returns-clause-open_ g c = there_now IsOpen (sits_at c.self.view_is c.self.invariant _ c.index-self-place.result _ c.requires.table c.index_mut.ensures.value) c.reopen.new.steward c.in-Ok.ensures.open
+returns-clause-open_ g c = there_now SeesOpen (sits_at c.self.view_is c.self.invariant _ c.index-self-place.result _ c.requires.table c.index_mut.ensures.value) c.reopen.new.steward c.in-Ok.ensures.open
 
 pub returns-clause-spares : goal.returns-clause-spares
 returns-clause-spares g c =

@@ -1,5 +1,5 @@
 use Rattle.std.proofs.Common.{rules}
-use Rattle.leaf_steward.specs.Seated.{IsOpen}
+use Rattle.leaf_table.specs.Calls.{SeesOpen}
 use Rattle.leaf_steward.proofs.Seating.{sits_at, there, steward_at, seated_after, shuts}
 use Rattle.leaf_steward.proofs.seats.Seats.shut.Goals as goal
 
@@ -10,7 +10,7 @@ pub shut-number-requires-clause-steward : goal.shut-number-requires-clause-stewa
 shut-number-requires-clause-steward g c κs within = steward_at (sits_at c.self.view_is c.self.invariant _ c.index-self-place.result _ c.requires.table c.index_mut.ensures.value) c.self.view_is c.requires.spares
 
 pub shut-number-requires-clause-open : goal.shut-number-requires-clause-open
-shut-number-requires-clause-open g c κs within = there IsOpen (sits_at c.self.view_is c.self.invariant _ c.index-self-place.result _ c.requires.table c.index_mut.ensures.value) c.self.view_is c.requires.open_
+shut-number-requires-clause-open g c κs within = there SeesOpen (sits_at c.self.view_is c.self.invariant _ c.index-self-place.result _ c.requires.table c.index_mut.ensures.value) c.self.view_is c.requires.open_
 
 pub invariant_of-self : goal.invariant_of-self
 invariant_of-self g c = seated_after (sits_at c.self.view_is c.self.invariant _ c.index-self-place.result _ c.requires.table c.index_mut.ensures.value) c.self.invariant c.shut-number.ensures.closed.made

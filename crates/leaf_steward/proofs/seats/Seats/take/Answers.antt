@@ -1,5 +1,5 @@
 use Rattle.std.proofs.Common.{refl, rules}
-use Rattle.leaf_steward.specs.Seated.{IsOpen}
+use Rattle.leaf_table.specs.Calls.{SeesOpen}
 use Rattle.leaf_steward.proofs.Seating.{sits_at, there, steward_at, seated_after, takes, worn_at, same_with}
 use Rattle.leaf_steward.proofs.seats.Seats.take.Goals as goal
 
@@ -10,7 +10,7 @@ pub take-requires-clause-steward : goal.take-requires-clause-steward
 take-requires-clause-steward g c κs within = steward_at (sits_at c.self.view_is c.self.invariant _ c.index-self-place.result _ c.requires.table c.index_mut.ensures.value) c.self.view_is c.requires.spares
 
 pub take-requires-clause-open : goal.take-requires-clause-open
-take-requires-clause-open g c κs within = there IsOpen (sits_at c.self.view_is c.self.invariant _ c.index-self-place.result _ c.requires.table c.index_mut.ensures.value) c.self.view_is c.requires.open_
+take-requires-clause-open g c κs within = there SeesOpen (sits_at c.self.view_is c.self.invariant _ c.index-self-place.result _ c.requires.table c.index_mut.ensures.value) c.self.view_is c.requires.open_
 
 pub returns-in_default-clause-worn : goal.returns-in_default-clause-worn
 returns-in_default-clause-worn g c =
