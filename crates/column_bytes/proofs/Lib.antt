@@ -1,4 +1,5 @@
 pub mod Parts
+pub mod Next
 pub mod Ends
 pub mod Spelled
 pub mod Laid

@@ -1,5 +1,5 @@
 -- The bytes of a dictionary that are written for sets.
-use Rattle.std.proofs.Common.{◌≡◌, ℕ, zero, suc, ◌+◌, ◌-◌, ◌*◌, ◌<◌, ◌≤◌, ◌^◌, List, [], ◌∷◌, ◌++◌, length, take, drop, map, slice_index, slice_index_or, refl, sym, ap, ap₂, subst, ◌∙◌, inl, inr, arith, append_assoc, append-nil, length-append}
+use Rattle.std.proofs.Common.{◌≡◌, ℕ, zero, suc, ◌+◌, ◌-◌, ◌*◌, ◌<◌, ◌≤◌, ◌^◌, List, [], ◌∷◌, ◌++◌, length, take, drop, slice_index, slice_index_or, refl, sym, ap, ap₂, subst, ◌∙◌, inl, inr, arith, append_assoc, append-nil, length-append}
 use Rattle.std.proofs.lemmas.Bool.{cases_lt}
 use Rattle.std.proofs.lemmas.List.{get_or_append_left, get_or-append-add, length-map, get_or-map, take_all, take_more}
 use Rattle.std.proofs.lemmas.List.FromFn.{fill_by_all, get_or-map-range_with_len, length-map-range_with_len}
@@ -13,7 +13,6 @@ use Rattle.column_bytes.specs.Sets.{AreNumbered, AreNumbers, AreSetCodes, AreSet
 use Rattle.column_bytes.proofs.Distinct.{texts_by_each}
 use Rattle.column_bytes.proofs.JoinedTexts.{end_more, end_upto}
 use Rattle.column_bytes.proofs.Parts.{length-texts}
-use Rattle.column_bytes.proofs.SetParts.{set_count_is}
 use Rattle.column_bytes.proofs.Spelled.{length-little, u32_front, u32_written}
 
 -- ---- numbers

@@ -1,9 +1,8 @@
 -- The two parts of a dictionary of sets, and the members of a set.
-use Rattle.std.proofs.Common.{◌≡◌, ℕ, zero, suc, ◌+◌, ◌-◌, ◌*◌, ◌<◌, ◌≤◌, List, [], length, take, drop, slice_index_or, refl, sym, ap, ◌∙◌, arith, length-append}
+use Rattle.std.proofs.Common.{◌≡◌, ℕ, suc, ◌+◌, ◌-◌, ◌<◌, List, [], length, slice_index_or, ◌∙◌, arith}
 use Rattle.std.proofs.lemmas.List.FromFn.{length-map-range_with_len, get_or-map-range_with_len}
-use Rattle.leaf_model.specs.Values.{IsSet}
-use Rattle.column_bytes.specs.Dictionary.{IsDictionary, text_at, text_count, text_from, texts_at}
-use Rattle.column_bytes.specs.Sets.{AreNumbered, AreSetEnds, member_at, set_at, set_in, sets_at, sets_part, texts_part, texts_size}
+use Rattle.column_bytes.specs.Dictionary.{text_at, text_count, text_from, texts_at}
+use Rattle.column_bytes.specs.Sets.{AreNumbered, AreSetEnds, member_at, set_at, set_in, sets_at, sets_part}
 use Rattle.column_bytes.proofs.Ends.{rises}
 use Rattle.column_bytes.proofs.Parts.{texts_at_place}
 

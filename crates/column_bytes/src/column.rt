@@ -8,7 +8,7 @@ use crate::integers::encode_integers;
 use crate::kind::Kind;
 use crate::set_codes::encode_sets;
 use crate::text_codes::encode_texts;
-use leaf_model::Value;
+use leaf_model::{MAX_TEXT, Value};
 use std::alloc::{AllocError, Global};
 use std::marker::Model;
 
@@ -46,7 +46,7 @@ fn is_of_kind(kind: Kind, cell: &Option<Value>) -> bool
     match cell {
         None => true,
         Some(Value::Int(_)) => kind == Kind::Ints,
-        Some(Value::Text(text)) => kind == Kind::Texts && text.as_str().len() <= 65535,
+        Some(Value::Text(text)) => kind == Kind::Texts && text.as_str().len() <= MAX_TEXT,
         Some(Value::Set(members)) => kind == Kind::Sets && members.is_set(),
     }
 }

@@ -9,6 +9,7 @@ mod in_order;
 mod integers;
 mod kind;
 mod laws;
+mod present;
 mod set_codes;
 mod set_numbers;
 mod set_ref;

@@ -7,6 +7,7 @@ ghost use Rattle.column_bytes.specs.Sets.{AreNumbered, AreSetEnds, IsSetDictiona
 
 use crate::fields::u32_at;
 use crate::texts::{ends_rise, is_dictionary, text_bytes, text_count, text_from};
+use leaf_model::{MAX_MEMBERS, MAX_TEXT};
 
 // Where the dictionary of texts in front ends, where that is within the bytes.
 fn texts_end(extra: &[u8]) -> Option<usize>
@@ -103,10 +104,10 @@ fn is_set_at(texts: &[u8], part: &[u8], k: usize) -> bool
     ensures { IsTrue result ↔ IsSet (set_at (texts_at texts.now) part.now k) }
 {
     let count = set_len(part, k);
-    if count > 1024 {
+    if count > MAX_MEMBERS {
         return false;
     }
-    let mut left: usize = 65535;
+    let mut left = MAX_TEXT;
     for i in 0..count {
         if !goes_up(texts, part, k, i) {
             return false;

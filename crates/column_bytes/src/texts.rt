@@ -3,6 +3,7 @@ ghost use Rattle.std.specs.Prelude.{◌≡◌, ℕ, suc, ◌+◌, ◌*◌, ◌<�
 ghost use Rattle.column_bytes.specs.Dictionary.{text_count, text_from, text_at, IsText, AreEnds, IsDictionary};
 
 use crate::fields::u32_at;
+use leaf_model::MAX_TEXT;
 
 /// How many texts a dictionary has.
 pub(crate) fn text_count(extra: &[u8]) -> u32
@@ -77,7 +78,7 @@ pub(crate) fn text_bytes(extra: &[u8], k: usize) -> &[u8]
 fn is_text(bytes: &[u8]) -> bool
     ensures { IsTrue result ↔ IsText bytes.now }
 {
-    bytes.len() <= 65535 && std::str::from_utf8(bytes).is_ok()
+    bytes.len() <= MAX_TEXT && std::str::from_utf8(bytes).is_ok()
 }
 
 fn are_texts(extra: &[u8]) -> bool

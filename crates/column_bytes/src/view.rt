@@ -7,6 +7,7 @@ ghost use Rattle.leaf_model.specs.declared.rows.Value.TheVariants.{Int};
 ghost use Rattle.column_bytes.specs.declared.kind.Kind.TheVariants.{Ints};
 ghost use Rattle.column_bytes.specs.declared.form.Form.{Form};
 ghost use Rattle.column_bytes.specs.Cells.{Coded, coded_of, cells_of, cell_at, value_at, value_of, kind_of, entries, entry_cells, has_entries, integer_cells, no_value, is_there, IsCode, IsExtra, AreCodes, book_of};
+ghost use Rattle.column_bytes.specs.Next.{AreBitsOf, TellsFirst};
 ghost use Rattle.column_bytes.specs.Column.{HasCells, IsColumn, IsPresence, coded_in, kind_in, presence_bits};
 
 use crate::fields::i64_at;
@@ -14,6 +15,7 @@ use crate::form::Form;
 use crate::header::{HEADER_LEN, Header, header_of};
 use crate::in_order::{fill_present, fill_values, offset_sum};
 use crate::kind::Kind;
+use crate::present::next_present;
 use crate::set_ref::SetRef;
 use crate::sets::{is_set_dictionary, set_count};
 use crate::slots::{slot_at, slot_behind};
@@ -34,6 +36,7 @@ pub struct ColumnView<'a> {
     form: Form,
     count: u32,
     presence: Option<PresenceBits<'a>>,
+    presence_bytes: &'a [u8],
     packed: Packed<'a>,
     extra: &'a [u8],
 }
@@ -46,7 +49,7 @@ impl<'a> Model for ColumnView<'a> {
 
     ghost view = { λ column. coded_of column.form column.count column.presence column.packed column.extra.now };
 
-    ghost invariant = { λ column. IsHeldColumn column.form column.count column.presence column.packed column.extra.now };
+    ghost invariant = { λ column. IsHeldColumn column.form column.count column.presence column.presence_bytes.now column.packed column.extra.now };
 }
 
 // The base and what is to be added to it, which the column's reading found to be an i64.
@@ -60,6 +63,7 @@ fn offset_value(base: i64, code: u64) -> i64
 fn presence_of(part: &[u8], all_there: bool, count: u32) -> Option<Option<PresenceBits<'_>>>
     ensures exact { IsSome result ↔ IsPresence (presence_bits all_there part.now count) part.now count }
     ensures view { IfSome result (λ presence. presence ≡ presence_bits all_there part.now count) }
+    ensures bytes { IfSome result (λ presence. IfSome presence (AreBitsOf count part.now)) }
 {
     if !all_there {
         return PresenceBits::view(part, count).map(Some);
@@ -224,8 +228,8 @@ pub(crate) fn view_of(bytes: &[u8]) -> Option<ColumnView<'_>>
     let Some(header) = header_of(bytes) else {
         return None;
     };
-    let part = &bytes[HEADER_LEN..header.codes_from];
-    let Some(presence) = presence_of(part, header.all_there, header.count) else {
+    let presence_bytes = &bytes[HEADER_LEN..header.codes_from];
+    let Some(presence) = presence_of(presence_bytes, header.all_there, header.count) else {
         return None;
     };
     let part = &bytes[header.codes_from..header.extra_from];
@@ -242,6 +246,7 @@ pub(crate) fn view_of(bytes: &[u8]) -> Option<ColumnView<'_>>
         form: header.form,
         count: header.count,
         presence,
+        presence_bytes,
         packed,
         extra,
     })
@@ -303,6 +308,13 @@ impl<'a> ColumnView<'a> {
         ensures { result ≡ is_some (cell_at self.now i) }
     {
         is_there(&self.presence, i)
+    }
+
+    /// The first place from `from` on that has a cell, or None where none has. Presence bits are read a byte at a time.
+    pub fn next_cell(&self, from: u32) -> Option<u32>
+        ensures { TellsFirst (λ i. is_some (cell_at self.now i)) from (length self.now.codes) result }
+    {
+        next_present(&self.presence, self.presence_bytes, from, self.count)
     }
 
     /// The integer that the cell at a place holds, given the integer that the cell before it holds, if there is one.

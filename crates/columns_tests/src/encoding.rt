@@ -67,6 +67,19 @@ fn are_same_in_order(
     Ok(same)
 }
 
+// Whether the cells that are there are met one after another.
+fn are_met(view: &ColumnView, cells: &[Option<Value>]) -> bool {
+    let mut from = 0;
+    let mut met = true;
+    for i in 0..view.len() {
+        if let Some(Some(_)) = cells.get(i as usize) {
+            met = met && view.next_cell(from) == Some(i);
+            from = i + 1;
+        }
+    }
+    met && view.next_cell(from).is_none()
+}
+
 fn is_read_back_counted<L: Ledger>(
     alloc: Global,
     kind: Kind,
@@ -84,6 +97,7 @@ fn is_read_back_counted<L: Ledger>(
             view.kind() == kind
                 && view.len() as usize == cells.len()
                 && are_same(&view, cells)
+                && are_met(&view, cells)
                 && are_same_in_order(alloc, &view, cells)?,
         ),
         Err(NoColumn) => Ok(false),
@@ -187,5 +201,21 @@ fn columns_of_the_greatest_length_are_read_back(rt: HostRuntime) -> Result<(), F
     );
     let longer = long_cell(alloc, 65536)?;
     assert_eq!(rt; read_back_len(alloc, Kind::Texts, &longer)?, None);
+    Ok(())
+}
+
+#[test]
+fn cells_behind_whole_bytes_of_missing_ones_are_met(rt: HostRuntime) -> Result<(), Fail> {
+    let alloc = rt.alloc();
+    let mut cells = Vec::new(alloc);
+    for i in 0..20i32 {
+        let is_there = i == 9 || i == 19;
+        cells.push(if is_there {
+            Some(Value::Int(i64::from(i)))
+        } else {
+            None
+        })?;
+    }
+    assert!(rt; read_back_len(alloc, Kind::Ints, &cells)?.is_some());
     Ok(())
 }

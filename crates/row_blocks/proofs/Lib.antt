@@ -5,6 +5,7 @@ pub mod Taking
 pub mod Earliest
 pub mod Sealed
 pub mod Standing
+pub mod Counted
 pub mod Accepted
 pub mod Adjacent
 pub mod LivePlaces

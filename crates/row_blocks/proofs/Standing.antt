@@ -1,5 +1,5 @@
 -- What stands at a place of a block's columns.
-use Rattle.std.proofs.Common.{◌≡◌, ℕ, zero, suc, ◌+◌, ◌<◌, ◌≤◌, Bool, true, false, List, [], ◌∷◌, ◌++◌, length, map, take, drop, slice_index_or, Option, Some, None, IfSome, is_some, if◌then◌else◌, refl, sym, ap, subst, ◌∙◌, arith}
+use Rattle.std.proofs.Common.{◌≡◌, ℕ, zero, suc, ◌+◌, ◌<◌, ◌≤◌, Bool, true, false, List, [], ◌∷◌, ◌++◌, length, map, take, drop, slice_index_or, Option, Some, None, IfSome, is_some, Result, Ok, Err, IfOk, IsTrue, ◌↔◌, if◌then◌else◌, refl, sym, ap, subst, ◌∙◌, arith}
 use Rattle.std.specs.Option.{option_and_then}
 use Rattle.std.specs.Int.{from_bool}
 use Rattle.std.specs.List.{AllByRecursion}
@@ -135,6 +135,13 @@ own_names i (c ∷ columns) sorted = by (value_in c.bytes i) (own_names i column
 
 pub own_names_fit : (i : ℕ) (columns : List BlockColumn) → length columns ≤ 1024 → IsStrictlySortedBy (slice_cmp nat_cmp) (map (λ (c : BlockColumn). c.name) columns) → FitARow (cells_at i columns)
 own_names_fit i columns few sorted = record { few = omega (arith, no_more_cells i columns, few); ascending = own_names i columns sorted }
+
+-- so only their number counts
+pub few_fit : (E : Type 0) (rows : ℕ) (columns : List BlockColumn) (found : Result Bool E) → IsStrictlySortedBy (slice_cmp nat_cmp) (map (λ (c : BlockColumn). c.name) columns)
+    → IfOk found (λ few. IsTrue few ↔ ((i : ℕ) → i < rows → length (cells_at i columns) ≤ 1024)) → IfOk found (λ fit. IsTrue fit ↔ ((i : ℕ) → i < rows → FitARow (cells_at i columns)))
+few_fit E rows columns (Ok b) sorted told =
+    (λ few i within. record { few = told.0 few i within; ascending = own_names i columns sorted }, λ fit. told.1 (λ i within. (fit i within).few))
+few_fit E rows columns (Err e) sorted told = tt
 
 -- ---- the cells are cells
 

@@ -6,6 +6,7 @@ pub mod Live
 pub mod Ordered
 pub mod Merging
 pub mod Places
+pub mod Counts
 pub mod Runs
 pub mod Times
 pub mod Deciding

@@ -23,7 +23,7 @@ fn range_of_parts(
     let Some(views) = views_of_others(alloc, rows, others)? else {
         return Err(BlockFault::NoRows);
     };
-    if do_ascend(others) && fit_rows(others, &views, rows) {
+    if do_ascend(others) && fit_rows(alloc, others, &views, rows)? {
         Ok(range_of(&times))
     } else {
         Err(BlockFault::NoRows)

@@ -5,6 +5,7 @@ mod accepting;
 mod block;
 mod blocks;
 mod column;
+mod counting;
 mod fault;
 mod headings;
 mod lending;

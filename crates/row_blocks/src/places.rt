@@ -1,12 +1,15 @@
 // Whether what stands at each place of a block is a row.
-ghost use Rattle.std.specs.Prelude.{◌≡◌, ◌↔◌, ℕ, ◌<◌, ◌≤◌, [], length, IsTrue, is_some, option_map, slice_index_or};
+ghost use Rattle.std.specs.Prelude.{◌≡◌, ◌↔◌, ℕ, ◌<◌, ◌≤◌, [], length, IfOk, IsTrue, is_some, option_map, slice_index_or};
 ghost use Rattle.std.specs.List.{AllByRecursion};
 ghost use Rattle.row_blocks.specs.Blocks.{IsOther, cells_at, value_in};
 ghost use Rattle.row_blocks.specs.Places.{AreSeen, FitARow, last_name, next_of, no_column};
 
 use crate::column::BlockColumn;
+use crate::counting::have_few_cells;
 use crate::rules::have_own_names;
 use column_bytes::ColumnView;
+use leaf_model::MAX_CELLS;
+use std::alloc::{AllocError, Global};
 
 /// Whether a column has a cell at a place.
 fn has_cell(columns: &[BlockColumn], views: &[ColumnView], k: usize, i: u32, rows: u32) -> bool
@@ -72,22 +75,39 @@ fn fit_a_row(columns: &[BlockColumn], views: &[ColumnView], i: u32, rows: u32) -
     requires inside { i < rows }
     ensures { IsTrue result ↔ FitARow (cells_at i columns.now) }
 {
-    count_at(columns, views, i, rows) <= 1024 && do_names_ascend(columns, views, i, rows)
+    count_at(columns, views, i, rows) <= MAX_CELLS && do_names_ascend(columns, views, i, rows)
 }
 
-/// Whether the cells at each place are those of a row. Where no two columns have one name, and there are few, they are.
-pub(crate) fn fit_rows(columns: &[BlockColumn], views: &[ColumnView], rows: u32) -> bool
+/// Whether the cells at each place are those of a row, place by place.
+fn fit_each_row(columns: &[BlockColumn], views: &[ColumnView], rows: u32) -> bool
     requires each { AllByRecursion (IsOther rows) columns.now }
     requires seen { AreSeen views.now columns.now }
     ensures { IsTrue result ↔ ((i : ℕ) → i < rows → FitARow (cells_at i columns.now)) }
 {
-    if columns.len() <= 1024 && have_own_names(columns) {
-        return true;
-    }
     for i in 0..rows {
         if !fit_a_row(columns, views, i, rows) {
             return false;
         }
     }
     true
+}
+
+/// Whether the cells at each place are those of a row. Where no two columns have one name, only how many there are is asked.
+pub(crate) fn fit_rows(
+    alloc: Global,
+    columns: &[BlockColumn],
+    views: &[ColumnView],
+    rows: u32,
+) -> Result<bool, AllocError>
+    requires each { AllByRecursion (IsOther rows) columns.now }
+    requires seen { AreSeen views.now columns.now }
+    ensures { IfOk result (λ fit. IsTrue fit ↔ ((i : ℕ) → i < rows → FitARow (cells_at i columns.now))) }
+{
+    if !have_own_names(columns) {
+        return Ok(fit_each_row(columns, views, rows));
+    }
+    if columns.len() <= MAX_CELLS {
+        return Ok(true);
+    }
+    have_few_cells(alloc, columns, views, rows)
 }

@@ -20,14 +20,14 @@ use crate::column::BlockColumn;
 use crate::headings::compare_columns;
 use crate::reading::view_of;
 use column_bytes::{ColumnView, Kind};
-use leaf_model::Text;
+use leaf_model::{MAX_NAME, Text};
 use std::alloc::{AllocError, Global};
 
 fn is_cell_name(name: &Text) -> bool
     ensures { IsTrue result ↔ IsCellName name.now }
 {
     let name = name.as_str();
-    !name.is_empty() && name.len() <= 255 && name != "time"
+    !name.is_empty() && name.len() <= MAX_NAME && name != "time"
 }
 
 /// What the bytes mean, where they are a column of so many cells.

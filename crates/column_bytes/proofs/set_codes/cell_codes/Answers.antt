@@ -1,4 +1,4 @@
-use Rattle.std.proofs.Common.{◌≡◌, ◌*◌, ◌<◌, ℕ, List, [], length, slice_index, slice_index_or, Option, None, IfSome, option_map, sym, ap, subst, ◌∙◌, arith}
+use Rattle.std.proofs.Common.{◌≡◌, ℕ, List, [], length, slice_index, Option, None, IfSome, option_map, sym, ap, subst, ◌∙◌, arith}
 use Rattle.std.specs.Borrow.{Bor}
 use Rattle.std.proofs.lemmas.List.{get_or_default, get_or-map, length_push, length-map}
 use Rattle.leaf_model.specs.Values.{bytes_in}
@@ -7,7 +7,7 @@ use Rattle.leaf_model.specs.declared.rows.Value.TheVariants as values
 use Rattle.column_bytes.specs.Cells.{lent_value, values_of}
 use Rattle.column_bytes.specs.Coding.{IsOfKind}
 use Rattle.column_bytes.specs.Dictionary.{texts_by}
-use Rattle.column_bytes.specs.Sets.{AreSetCodes, sets_by}
+use Rattle.column_bytes.specs.Sets.{AreSetCodes}
 use Rattle.column_bytes.specs.declared.kind.Kind.TheVariants as kinds
 use Rattle.column_bytes.proofs.Lent.{kind_here, length-values, value_here}
 use Rattle.column_bytes.proofs.SetCoding.{codes_none, set_coded_more}

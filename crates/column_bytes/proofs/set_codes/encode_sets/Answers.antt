@@ -1,4 +1,4 @@
-use Rattle.std.proofs.Common.{List, ℕ, ◌≡◌, ◌<◌, length, sym, subst, ◌∙◌, arith}
+use Rattle.std.proofs.Common.{List, ℕ, ◌<◌, length, sym, subst, arith}
 use Rattle.column_bytes.specs.Coding.{joined}
 use Rattle.column_bytes.proofs.SetBytes.{bytes_joined}
 use Rattle.column_bytes.proofs.set_codes.encode_sets.Goals as goal

@@ -1,10 +1,8 @@
-use Rattle.std.proofs.Common.{◌≡◌, ℕ, suc, ◌+◌, ◌<◌, ◌≤◌, List, [], length, take, slice_index_or, sym, ap, ap₂, subst, ◌∙◌, arith}
-use Rattle.std.specs.List.{AllByRecursion}
-use Rattle.std.specs.Str.{IsUtf8}
-use Rattle.std.proofs.lemmas.List.{get_or_default, length_push, take_all}
+use Rattle.std.proofs.Common.{◌≡◌, ◌+◌, ◌≤◌, [], length, slice_index_or, sym, ap, subst, ◌∙◌, arith}
+use Rattle.std.proofs.lemmas.List.{get_or_default, length_push}
 use Rattle.leaf_model.specs.Values.{IsSet, bytes_in}
 use Rattle.leaf_model.proofs.SetLaws.{bytes_more, bytes_upto}
-use Rattle.column_bytes.specs.Dictionary.{AreKept, AreTexts, IsText, with_text}
+use Rattle.column_bytes.specs.Dictionary.{AreKept, AreTexts}
 use Rattle.column_bytes.proofs.Distinct.{texts_by_each, texts_with}
 use Rattle.column_bytes.proofs.SetCoding.{bytes_with, grows_with, kept_on, kept_with, numbered_more}
 use Rattle.column_bytes.proofs.set_codes.numbers_of.Goals as goal

@@ -1,5 +1,4 @@
-use Rattle.std.proofs.Common.{ℕ, Vec, Global, ◌≡◌, ◌+◌, ◌++◌, [], take, slice_index_or, sym, ap, ap₂, ◌∙◌, append_assoc, arith}
-use Rattle.std.proofs.lemmas.List.{length-map}
+use Rattle.std.proofs.Common.{ℕ, Vec, Global, ◌≡◌, ◌++◌, [], take, slice_index_or, sym, ap, ap₂, ◌∙◌, append_assoc, arith}
 use Rattle.column_bytes.specs.Coding.{joined}
 use Rattle.column_bytes.specs.Sets.{number_bytes, numbers_in}
 use Rattle.column_bytes.proofs.JoinedTexts.{joined_more}

@@ -1,4 +1,4 @@
-use Rattle.std.proofs.Common.{◌≡◌, ◌++◌, length, sym, ap, subst, ◌∙◌, append_assoc, arith}
+use Rattle.std.proofs.Common.{◌≡◌, ◌++◌, sym, ap, subst, ◌∙◌, append_assoc, arith}
 use Rattle.column_bytes.specs.Coding.{joined}
 use Rattle.column_bytes.specs.Dictionary.{lent}
 use Rattle.column_bytes.specs.Sets.{number_bytes, numbers_in}

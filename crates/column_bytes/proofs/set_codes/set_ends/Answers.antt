@@ -1,4 +1,4 @@
-use Rattle.std.proofs.Common.{List, ℕ, Vec, Global, ◌≡◌, ◌+◌, ◌*◌, ◌<◌, ◌^◌, ◌++◌, [], length, slice_index_or, refl, sym, ap, below_more, ◌∙◌, length-append, arith}
+use Rattle.std.proofs.Common.{ℕ, Vec, Global, ◌≡◌, ◌+◌, ◌*◌, ◌<◌, ◌^◌, ◌++◌, [], length, slice_index_or, refl, sym, ap, below_more, ◌∙◌, length-append, arith}
 use Rattle.byteorder.specs.Endian.{little_bytes}
 use Rattle.column_bytes.specs.Fields.{u32_at}
 use Rattle.column_bytes.specs.Coding.{end_at}

@@ -1,4 +1,4 @@
-use Rattle.std.proofs.Common.{◌≡◌, ℕ, ◌+◌, ◌<◌, [], length, take, slice_index_or, refl, sym, ap, subst, below_more, ◌∙◌, arith}
+use Rattle.std.proofs.Common.{◌+◌, ◌<◌, [], length, slice_index_or, refl, sym, ap, subst, below_more, ◌∙◌, arith}
 use Rattle.std.specs.Str.{IsUtf8}
 use Rattle.std.proofs.lemmas.List.{take_all}
 use Rattle.leaf_model.specs.Values.{bytes_in}
@@ -9,12 +9,12 @@ use Rattle.column_bytes.specs.Sets.{set_at}
 use Rattle.column_bytes.proofs.SetParts.{set_count_is}
 use Rattle.column_bytes.proofs.sets.is_set_at.Goals as goal
 
-pub returns-then-count-gt1024 : goal.returns-then-count-gt1024
-returns-then-count-gt1024 c = (
+pub returns-then-count-gt-MAX_MEMBERS : goal.returns-then-count-gt-MAX_MEMBERS
+returns-then-count-gt-MAX_MEMBERS c = (
   λ f. absurd cc,
   λ is.
       let few = is.few in
-      absurd (omega (arith, c.set_len-count.ensures, set_count_is c.args.texts.now c.args.part.now c.args.k, few, c.if-count-gt1024.true)),
+      absurd (omega (arith, c.set_len-count.ensures, set_count_is c.args.texts.now c.args.part.now c.args.k, few, c.if-count-gt-MAX_MEMBERS.true)),
 )
 
 pub returns-then-not-goes_up : goal.returns-then-not-goes_up
@@ -60,7 +60,7 @@ returns c =
     let count = c.set_len-count.ensures in
     let whole = ap bytes_in (take_all i all (omega (arith, end, long, count))) in
     let left = c.loop-i.invariant.left in (
-      λ yes. set_is all (omega (arith, c.if-count-gt1024.false, long, count))
+      λ yes. set_is all (omega (arith, c.if-count-gt-MAX_MEMBERS.false, long, count))
           (λ j h. c.loop-i.invariant.utf8 j (omega (arith, end, h, long, count)))
           (λ j h. c.loop-i.invariant.up j (omega (arith, end, h, long, count)))
           (omega (arith, whole, left)),

@@ -1,7 +1,7 @@
 use Rattle.std.proofs.Common.{◌≡◌, List, ℕ, ◌<◌, take, drop, refl, sym, ap, subst, ◌∙◌}
 use Rattle.leaf_model.specs.Values.{IsSet}
 use Rattle.column_bytes.specs.Dictionary.{text_count, texts_at}
-use Rattle.column_bytes.specs.Sets.{AreNumbered, IsSetDictionary, set_at, sets_part, texts_part}
+use Rattle.column_bytes.specs.Sets.{AreNumbered, set_at, sets_part, texts_part}
 use Rattle.column_bytes.proofs.sets.is_set_dictionary.Goals as goal
 
 abbrev AreEach : List ℕ → List ℕ → Type 0

@@ -1,6 +1,6 @@
-use Rattle.std.proofs.Common.{◌≡◌, ℕ, suc, ◌+◌, ◌-◌, ◌<◌, length, sym, ap, subst, ◌∙◌, arith, rules}
+use Rattle.std.proofs.Common.{ℕ, ◌+◌, ◌<◌, length, sym, ap, subst, ◌∙◌, arith, rules}
 use Rattle.std.specs.Str.{IsUtf8}
-use Rattle.column_bytes.specs.Dictionary.{text_at, text_count, text_from}
+use Rattle.column_bytes.specs.Dictionary.{text_at, text_from}
 use Rattle.column_bytes.specs.Sets.{member_at}
 use Rattle.column_bytes.proofs.SetParts.{member_inside, set_text}
 use Rattle.column_bytes.proofs.sets.text_in.Goals as goal

@@ -1,4 +1,4 @@
-use Rattle.std.proofs.Common.{◌≡◌, List, ℕ, [], suc, ◌-◌, slice_index_or, sym, ap, ap₂, ◌∙◌, arith}
+use Rattle.std.proofs.Common.{List, ℕ, [], suc, ◌-◌, slice_index_or, ap, ap₂, ◌∙◌, arith}
 use Rattle.column_bytes.specs.Dictionary.{text_from, texts_at}
 use Rattle.column_bytes.specs.Sets.{set_at, sets_part, texts_part}
 use Rattle.column_bytes.proofs.SetParts.{set_count_is}

@@ -1,6 +1,6 @@
-use Rattle.std.proofs.Common.{◌≡◌, List, ℕ, suc, ◌-◌, length, sym, ap, ◌∙◌, arith}
-use Rattle.column_bytes.specs.Dictionary.{text_from, texts_at}
-use Rattle.column_bytes.specs.Sets.{set_at, sets_part, texts_part}
+use Rattle.std.proofs.Common.{List, ℕ, suc, ◌-◌, sym, ap, ◌∙◌, arith}
+use Rattle.column_bytes.specs.Dictionary.{text_from}
+use Rattle.column_bytes.specs.Sets.{sets_part, texts_part}
 use Rattle.column_bytes.proofs.SetParts.{set_count_is}
 use Rattle.column_bytes.proofs.sets.texts_in_set.Goals as goal
 

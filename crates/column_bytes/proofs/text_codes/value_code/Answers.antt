@@ -1,6 +1,5 @@
 use Rattle.std.proofs.Common.{List, ℕ, ◌≤◌, length, sym, subst}
 use Rattle.column_bytes.specs.declared.kind.Kind.TheVariants as kinds
-use Rattle.column_bytes.specs.Cells.{value_of}
 use Rattle.column_bytes.specs.Coding.{IsOfKind}
 use Rattle.column_bytes.specs.Dictionary.{AreTexts}
 use Rattle.column_bytes.proofs.Distinct.{texts_with}

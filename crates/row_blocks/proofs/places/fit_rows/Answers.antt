@@ -1,7 +1,10 @@
 use Rattle.std.proofs.Common.{refl}
-use Rattle.row_blocks.proofs.Standing.{own_names_fit}
+use Rattle.row_blocks.proofs.Standing.{few_fit, own_names_fit}
 use Rattle.row_blocks.proofs.places.fit_rows.Goals as goal
 
-pub returns-then-have_own_names : goal.returns-then-have_own_names
-returns-then-have_own_names c =
-    (λ yes i within. own_names_fit i c.args.columns.now c.if-columns-le1024.true (c.have_own_names.ensures c.if-have_own_names.true), λ fit. refl)
+pub returns-then-columns-le-MAX_CELLS : goal.returns-then-columns-le-MAX_CELLS
+returns-then-columns-le-MAX_CELLS c =
+    (λ same i within. own_names_fit i c.args.columns.now c.if-columns-le-MAX_CELLS.true (c.have_own_names.ensures c.if-not-have_own_names.false), λ fit. refl)
+
+pub returns : goal.returns
+returns c = few_fit _ c.args.rows c.args.columns.now c.have_few_cells.result (c.have_own_names.ensures c.if-not-have_own_names.false) c.have_few_cells.ensures
