@@ -1,16 +1,19 @@
 -- Taking the tables of an image by their names.
-use Rattle.std.proofs.Common.{◌≡◌, ℕ, zero, suc, ◌+◌, ◌<◌, ◌≤◌, ◌^◌, Bool, true, false, ◌||◌, cond, not, ltb, List, [], ◌∷◌, length, find, position, slice_get, slice_index_or, ◌++◌, Option, Some, None, unwrap_or, refl, sym, ap, ap₂, ◌∙◌, arith, ltb-true, ltb-false, subst}
+use Rattle.std.proofs.Common.{◌≡◌, ℕ, zero, suc, ◌+◌, ◌<◌, ◌≤◌, ◌^◌, Bool, true, false, ◌||◌, cond, not, ltb, List, [], ◌∷◌, length, find, position, slice_get, slice_index_or, ◌++◌, map, drop, Option, Some, None, unwrap_or, refl, sym, ap, ap₂, ◌∙◌, arith, ltb-true, ltb-false, subst}
 use Rattle.std.specs.Prelude.{◌≢◌, Contains}
 use Rattle.std.specs.List.{AllByRecursion, list_any, position_or_len, remove}
 use Rattle.std.specs.Str.{bytes_eq}
 use Rattle.std.proofs.lemmas.Slice.Eq.{bytes_eq-Decides}
 use Rattle.std.proofs.lemmas.List.Folds.{find_at}
-use Rattle.std.proofs.lemmas.List.{append_assoc}
+use Rattle.std.proofs.lemmas.List.{append_assoc, map-append}
 use Rattle.std.proofs.lemmas.Option.{slice_get_past}
+use Rattle.leaf_model.specs.declared.rows.Row.{Row}
 use Rattle.leaf_model.specs.Content.{Contents}
 use Rattle.row_records.specs.Records.{LogRecord}
+use Rattle.row_blocks.specs.Blocks.{Block}
+use Rattle.row_blocks.specs.Held.{columns_count, rows_and_cells}
 use Rattle.table_state.specs.declared.parts.Parts.{Parts}
-use Rattle.table_state.specs.Tables.{IsPartsOf, Table, bare, no_store}
+use Rattle.table_state.specs.Tables.{IsPartsOf, Table, bare, columns_most, no_store}
 use Rattle.region_layout.specs.Images.{TableImage}
 use Rattle.region_layout.specs.Head.{image_names}
 use Rattle.region_layout.specs.Images.{empty_image, is_named, table_named, table_of, tables_of}
@@ -31,6 +34,13 @@ made_by a b m n pending same count none = ap₂ (λ (c : Contents) (k : ℕ). ta
 
 pub made_of : (name : List ℕ) (parts : Parts) (t : Table) → IsPartsOf parts t → t.pending ≡ None → bare t ≡ table_of (image_of_parts name parts)
 made_of name parts t of none = made_by (table_of (image_of_parts name parts)).contents t.contents parts.writes t.writes t.pending of.contents of.writes none
+
+-- its tail is empty
+columns_by : (here blocks : List Block) (tail : List Row) → blocks ≡ here → tail ≡ [] → columns_count here + rows_and_cells tail ≡ columns_count blocks
+columns_by here blocks tail same none = ap₂ (λ (l : List Block) (rows : List Row). columns_count l + rows_and_cells rows) (sym same) none ∙ omega arith
+
+pub made_columns : (parts : Parts) (t : Table) → IsPartsOf parts t → columns_most t.store ≡ columns_count parts.blocks
+made_columns parts t of = columns_by t.store.blocks parts.blocks t.store.tail of.blocks of.tail
 
 -- ---- what one table's taking leaves for another name
 
@@ -56,11 +66,15 @@ found_elsewhere : (name other : List ℕ) (tables : List DrainTable) → other �
 found_elsewhere name other [] differs = refl
 found_elsewhere name other (t ∷ ts) differs = elsewhere_by name other t ts (without name ts) (has_name name t) refl differs (found_elsewhere name other ts differs)
 
+-- for each name what is told of its table
+abbrev pub each_told : {A : Type 0} → (TableImage → A) → List (List ℕ) → List DrainTable → List A
+each_told told names tables = map (λ name. told (table_named (images_of tables) name)) names
+
 -- the other names have the tables that they had
-tables_others : (name : List ℕ) (names : List (List ℕ)) (tables : List DrainTable) → AllByRecursion (λ other. other ≢ name) names → tables_of names (images_of (without name tables)) ≡ tables_of names (images_of tables)
-tables_others name [] tables others = refl
-tables_others name (other ∷ names) tables others =
-    ap₂ (λ (t : Table) (ts : List Table). t ∷ ts) (ap (λ (o : Option TableImage). table_of (unwrap_or o (empty_image other))) (found_elsewhere name other tables others.0)) (tables_others name names tables others.1)
+others_told : {A : Type 0} (told : TableImage → A) (name : List ℕ) (names : List (List ℕ)) (tables : List DrainTable) → AllByRecursion (λ other. other ≢ name) names → each_told told names (without name tables) ≡ each_told told names tables
+others_told told name [] tables others = refl
+others_told told name (other ∷ names) tables others =
+    ap₂ (λ t ts. t ∷ ts) (ap (λ (o : Option TableImage). told (unwrap_or o (empty_image other))) (found_elsewhere name other tables others.0)) (others_told told name names tables others.1)
 
 each_by : (P : DrainTable → Type 0) (t : DrainTable) (ts left : List DrainTable) (b : Bool) → P t → AllByRecursion P ts → AllByRecursion P left → AllByRecursion P (cond b ts (t ∷ left))
 each_by P t ts left true here rest more = rest
@@ -109,8 +123,8 @@ named_at name tables i e =
     let within = ltb-true (position_or_len p tables) (length tables) at.0 in
     (omega (arith, within, at.1), find_at p tables ∙ ap (slice_get tables) (sym at.1))
 
-pub taken_at : (name : List ℕ) (tables : List DrainTable) (t : DrainTable) → find (has_name name) tables ≡ Some t → table_of (table_named (images_of tables) name) ≡ table_of (image_of_parts t.name t.parts)
-taken_at name tables t e = ap (λ (o : Option TableImage). table_of (unwrap_or o (empty_image name))) (found_image name tables ∙ ap option_image e)
+pub taken_at : (name : List ℕ) (tables : List DrainTable) (t : DrainTable) → find (has_name name) tables ≡ Some t → table_named (images_of tables) name ≡ image_of_parts t.name t.parts
+taken_at name tables t e = ap (λ (o : Option TableImage). unwrap_or o (empty_image name)) (found_image name tables ∙ ap option_image e)
 
 pub removed_at : (name : List ℕ) (tables : List DrainTable) (i : ℕ) → position (has_name name) tables ≡ Some i → remove tables i ≡ without name tables
 removed_at name tables i e =
@@ -119,11 +133,11 @@ removed_at name tables i e =
     ap (λ (k : ℕ). remove tables k) at.1 ∙ sym (without_is name tables)
 
 -- it stands nowhere
-pub taken_nowhere : (name : List ℕ) (tables : List DrainTable) → position (has_name name) tables ≡ None → table_of (table_named (images_of tables) name) ≡ table_of (empty_image name)
+pub taken_nowhere : (name : List ℕ) (tables : List DrainTable) → position (has_name name) tables ≡ None → table_named (images_of tables) name ≡ empty_image name
 taken_nowhere name tables e =
     let p = has_name name in
     let past = ltb-false (position_or_len p tables) (length tables) (no_place_by (ltb (position_or_len p tables) (length tables)) (position_or_len p tables) e) in
-    ap (λ (o : Option TableImage). table_of (unwrap_or o (empty_image name))) (found_image name tables ∙ ap option_image (find_at p tables ∙ slice_get_past tables (position_or_len p tables) past))
+    ap (λ (o : Option TableImage). unwrap_or o (empty_image name)) (found_image name tables ∙ ap option_image (find_at p tables ∙ slice_get_past tables (position_or_len p tables) past))
 
 pub removed_nowhere : (name : List ℕ) (tables : List DrainTable) → position (has_name name) tables ≡ None → tables ≡ without name tables
 removed_nowhere name tables e =
@@ -138,13 +152,24 @@ each_at P (x ∷ xs) (suc i) t each at = each_at P xs i t each.1 at
 
 -- ---- one name after another
 
--- the table of the next name stands behind those that were taken
-pub one_more : (name : List ℕ) (names : List (List ℕ)) (tables : List DrainTable) (taken whole : List Table) (t : Table) → AllByRecursion (λ other. other ≢ name) names
-    → taken ++ tables_of (name ∷ names) (images_of tables) ≡ whole → t ≡ table_of (table_named (images_of tables) name) → (taken ++ t ∷ []) ++ tables_of names (images_of (without name tables)) ≡ whole
-one_more name names tables taken whole t others so_far is =
-    append_assoc taken (t ∷ []) (tables_of names (images_of (without name tables)))
-    ∙ ap₂ (λ (x : Table) (xs : List Table). taken ++ x ∷ xs) is (tables_others name names tables others)
+-- what is told of the table of the next name stands behind what is told of those that were taken
+pub one_more : {A : Type 0} (told : TableImage → A) (name : List ℕ) (names : List (List ℕ)) (tables : List DrainTable) (taken whole : List A) (t : A) → AllByRecursion (λ other. other ≢ name) names
+    → taken ++ each_told told (name ∷ names) tables ≡ whole → t ≡ told (table_named (images_of tables) name) → (taken ++ t ∷ []) ++ each_told told names (without name tables) ≡ whole
+one_more told name names tables taken whole t others so_far is =
+    append_assoc taken (t ∷ []) (each_told told names (without name tables))
+    ∙ ap₂ (λ x xs. taken ++ x ∷ xs) is (others_told told name names tables others)
     ∙ so_far
+
+-- and so it does where what is told of a table that was made is what is told of it in the image
+pub told_more : {A : Type 0} (told : TableImage → A) (of : Table → A) (name : List ℕ) (names : List (List ℕ)) (i : ℕ) (tables all : List DrainTable) (had : List Table) (taken : Table) (now : List Table) (left : List DrainTable)
+    → drop i names ≡ name ∷ drop (i + 1) names → AllByRecursion (λ other. other ≢ name) (drop (i + 1) names) → now ≡ had ++ taken ∷ [] → left ≡ without name tables
+    → map of had ++ each_told told (drop i names) tables ≡ each_told told names all → of taken ≡ told (table_named (images_of tables) name)
+    → map of now ++ each_told told (drop (i + 1) names) left ≡ each_told told names all
+told_more told of name names i tables all had taken now left item others pushed rest so_far is =
+    ap₂ (λ (l : List Table) (ts : List DrainTable). map of l ++ each_told told (drop (i + 1) names) ts) pushed rest
+    ∙ ap (λ l. l ++ each_told told (drop (i + 1) names) (without name tables)) (map-append of had (taken ∷ []))
+    ∙ one_more told name (drop (i + 1) names) tables (map of had) (each_told told names all) (of taken) others
+    (subst (λ (l : List (List ℕ)). map of had ++ each_told told l tables ≡ each_told told names all) item so_far) is
 
 -- ---- what all tables have
 

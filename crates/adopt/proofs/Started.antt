@@ -4,7 +4,7 @@ use Rattle.std.specs.List.{AllByRecursion}
 use Rattle.berth_face.specs.Berth.{Meaning, Passes, Ended, SameDisk}
 use Rattle.berth_face.specs.Moments.{Throughout}
 use Rattle.berth_face.proofs.Moments.{passes_none, passes_on}
-use Rattle.table_state.specs.Tables.{Table}
+use Rattle.table_state.specs.Tables.{HeldTables, Table}
 use Rattle.region_layout.specs.Head.{IsClosed}
 use Rattle.region_layout.proofs.Heads.{closed_head}
 use Rattle.region_layout.specs.Region.{IsAdoptable}
@@ -137,8 +137,8 @@ image_adopted names region new d got drained arranged took = (
 
 pub has_tables : (names : List (List ℕ)) (d : Drained) (got : Adopted) → IsDrained names d → AreArranged names d got → HasTables (length names) (Tables got)
 has_tables names d got drained arranged = (
-  ap length arranged.tables ∙ tables_size names (images_of d.tables),
-  subst (AllByRecursion (λ (t : Table). (t.pending ≡ None) × (t.writes < 2 ^ 63))) (sym arranged.tables) (each_adopted names d.tables drained.0.writes),
+  ap (λ (h : HeldTables). length h.each) arranged.tables ∙ tables_size names (images_of d.tables),
+  subst (λ (h : HeldTables). AllByRecursion (λ (t : Table). (t.pending ≡ None) × (t.writes < 2 ^ 63)) h.each) (sym arranged.tables) (each_adopted names d.tables drained.0.writes),
   subst (λ (n : ℕ). n < 2 ^ 63) (sym arranged.log_end) drained.1,
 )
 

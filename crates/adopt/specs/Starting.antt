@@ -6,7 +6,7 @@ use Rattle.berth_face.specs.Moments.{Throughout}
 use Rattle.table_state.specs.Tables.{Table}
 use Rattle.region_layout.specs.Images.{TableImage}
 use Rattle.region_layout.specs.Head.{IsClosed, image_names}
-use Rattle.region_layout.specs.Images.{tables_of}
+use Rattle.region_layout.specs.Images.{held_of}
 use Rattle.region_layout.specs.Region.{IsAdoptable}
 use Rattle.region_layout.specs.Drained.{images_of}
 use Rattle.adopt.specs.declared.found.AdoptFault.{AdoptFault}
@@ -45,14 +45,14 @@ pub record TookSome (first now : AdoptState) (old new : Meaning) : Type 0 where
 
 -- these are the tables of these names out of those of the image
 pub record AreArranged (names : List (List ℕ)) (d : Drained) (a : Adopted) : Type 0 where
-  pub tables : a.tables ≡ tables_of names (images_of d.tables)
+  pub tables : a.tables ≡ held_of names (images_of d.tables)
   pub log_end : a.log_end ≡ d.log_end
 
 -- The tables of these names out of the region's image, none of whose tables has another name; or why there are none.
 abbrev pub IsAdoption : List (List ℕ) → List ℕ → Adoption → Type 0
 IsAdoption names region (NoTables why) = IsWhyFor names region why
 IsAdoption names region (Stranger name) = IsStranger names region name
-IsAdoption names region (Tables a) = (images : List TableImage) × IsAdoptable region images a.log_end × (stranger_of names (image_names images) ≡ None) × (a.tables ≡ tables_of names images)
+IsAdoption names region (Tables a) = (images : List TableImage) × IsAdoptable region images a.log_end × (stranger_of names (image_names images) ≡ None) × (a.tables ≡ held_of names images)
 
 -- what an adoption comes to, and the region that it leaves
 abbrev pub Adopts : List (List ℕ) → List ℕ → List ℕ → Result Adoption AdoptFault → Type 0
@@ -64,4 +64,4 @@ Adopts names old new (Err NoMemory) = IsLeftBehind old new
 abbrev pub HasTables : ℕ → Adoption → Type 0
 HasTables count (NoTables why) = ⊤
 HasTables count (Stranger name) = ⊤
-HasTables count (Tables a) = (length a.tables ≡ count) × AllByRecursion (λ (t : Table). (t.pending ≡ None) × (t.writes < 2 ^ 63)) a.tables × (a.log_end < 2 ^ 63)
+HasTables count (Tables a) = (length a.tables.each ≡ count) × AllByRecursion (λ (t : Table). (t.pending ≡ None) × (t.writes < 2 ^ 63)) a.tables.each × (a.log_end < 2 ^ 63)

@@ -2,8 +2,9 @@
 ghost use Rattle.std.specs.Prelude.{◌≡◌, IfOk};
 ghost use Rattle.std.specs.List.{AllByRecursion, position};
 ghost use Rattle.leaf_model.specs.Names.{AreDistinct};
-ghost use Rattle.table_state.specs.Tables.{bare};
-ghost use Rattle.region_layout.specs.Images.{table_named, table_of, tables_of};
+ghost use Rattle.row_blocks.specs.Held.{columns_count};
+ghost use Rattle.table_state.specs.Tables.{bare, columns_most};
+ghost use Rattle.region_layout.specs.Images.{held_of, table_named, table_of};
 ghost use Rattle.region_layout.specs.Region.{image_of_parts};
 ghost use Rattle.region_layout.specs.Drained.{images_of};
 ghost use Rattle.adopt.specs.Finishing.{IsMade};
@@ -22,7 +23,7 @@ pub fn arranged(
 ) -> Result<Tables, AllocError>
     requires distinct { AreDistinct names.now }
     requires each { AllByRecursion IsMade drained.items }
-    ensures { IfOk result (λ arranged. arranged ≡ tables_of names.now (images_of drained.items)) }
+    ensures { IfOk result (λ arranged. arranged ≡ held_of names.now (images_of drained.items)) }
 {
     let mut tables = Vec::with_capacity(alloc, names.len())?;
     for name in names {
@@ -35,6 +36,7 @@ pub fn arranged(
 fn take_named(alloc: Global, name: &str, drained: &mut Vec<DrainTable>) -> TableState
     requires { AllByRecursion IsMade drained.old.items }
     ensures taken { bare result ≡ table_of (table_named (images_of drained.old.items) name.now) }
+    ensures columns { columns_most result.store ≡ (table_named (images_of drained.old.items) name.now).columns }
     ensures left { drained.new.items ≡ without name.now drained.old.items }
 {
     match place_of(name, drained) {
@@ -49,10 +51,11 @@ fn place_of(name: &str, drained: &[DrainTable]) -> Option<usize>
     drained.iter().position(|table| table.name.as_str() == name)
 }
 
-#[tactic(auto, using(crate::proofs::Arranging::made_of))]
+#[tactic(auto, using(crate::proofs::Arranging::made_of, crate::proofs::Arranging::made_columns))]
 fn made_table(table: DrainTable) -> TableState
     requires { IsMade table }
-    ensures { bare result ≡ table_of (image_of_parts table.name table.parts) }
+    ensures made { bare result ≡ table_of (image_of_parts table.name table.parts) }
+    ensures columns { columns_most result.store ≡ columns_count table.parts.blocks }
 {
     TableState::from_parts(table.parts)
 }

@@ -11,7 +11,7 @@ use Rattle.row_records.specs.Records.{LogRecord}
 use Rattle.leaf_history.specs.History.{HistoryState}
 use Rattle.berth_face.specs.Berth.{Meaning}
 use Rattle.berth_face.specs.Moments.{EachNow}
-use Rattle.table_state.specs.Tables.{Table}
+use Rattle.table_state.specs.Tables.{Table, added_count}
 use Rattle.region_layout.specs.Images.{TableImage}
 use Rattle.region_layout.specs.Images.{images_of, image_of, table_named, empty_image, is_named}
 use Rattle.disk_backup.specs.State.{LogState}
@@ -32,7 +32,7 @@ names_of ws = map (λ (w : Watched). w.name) ws
 image_named : (writes : List Write) (name : List ℕ) (ws : List Watched) (tables : List Table) → length tables ≡ length ws
     → ((place : ℕ) (w : Watched) (t : Table) → slice_get ws place ≡ Some w → slice_get tables place ≡ Some t → w.name ≡ name → IsImageOf writes (image_of w.name t))
     → (is_watched ws name ≡ false → writes ≡ []) → IsImageOf writes (table_named (images_of (names_of ws) tables) name)
-image_named writes name [] tables count each others = record { contents = ap content (sym (others refl)); count = ap (λ (l : List Write). length l) (sym (others refl)) }
+image_named writes name [] tables count each others = record { contents = ap content (sym (others refl)); count = ap (λ (l : List Write). length l) (sym (others refl)); few = omega arith }
 image_named writes name (w ∷ ws) [] count each others = absurd (omega (arith, count))
 image_named writes name (w ∷ ws) (t ∷ tables) count each others =
     by (bytes_eq w.name name) refl (image_named writes name ws tables (omega (arith, count)) (λ place v u at there named. each (suc place) v u at there named))
@@ -79,7 +79,11 @@ module _ (ws : List Watched) (owner : ℕ) (tables : List Table) (log : LogState
       each place w t at there named =
           let content_is : IsContentOf (now_of w) t = taken.contents place w t at there in
           let all : (now_of w).writes ≡ writes name = whole place w at ∙ ap writes named in
-          record { contents = content_is.contents ∙ ap content all; count = content_is.writes ∙ ap (λ (l : List Write). length l) all }
+          record {
+            contents = content_is.contents ∙ ap content all;
+            count = content_is.writes ∙ ap (λ (l : List Write). length l) all;
+            few = omega (arith, content_is.few, ap added_count all);
+          }
 
   pub planned_logs : EachNow (λ p. HasLog writes log.end p.disk) m
   planned_logs p left =

@@ -36,7 +36,7 @@ opening_told ws others least next a b result rests made = record {
 -- what is found may be opened
 pub found : (ws : List Watched) (others : NamedStates) (least : List ℕ → List Write) (next : Option LogRecord) (a b : Meaning) (o : Opened)
     → Rests ws others least next a → OpeningMade a b (Ok o) → Started (names_of ws) a b (opened_leaf (names_of ws) o) o.way → IsDurable b o
-    → (writes : List ℕ → List Write) × Finds ws o.log o.tables writes b
+    → (writes : List ℕ → List Write) × Finds ws o.log o.tables.each o.tables.columns writes b
 found ws others least next a b o rests made started durable =
     found_by ws others least next a b rests made.passes made.stands started.region (opened_leaf (names_of ws) o) o.way started.come started.disk made.disks durable
 

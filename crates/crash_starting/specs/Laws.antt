@@ -1,12 +1,12 @@
 -- Laws of a leaf that starts, as statements.
-use Rattle.std.specs.Prelude.{◌≡◌, ℕ, ◌<◌, List, [], length, slice_get, map, Option, Some, Result}
+use Rattle.std.specs.Prelude.{◌≡◌, ℕ, ◌<◌, ◌≤◌, List, [], length, slice_get, map, Option, Some, Result}
 use Rattle.region_layout.specs.Region.{reads}
 use Rattle.leaf_model.specs.declared.writes.Write.{Write}
 use Rattle.leaf_model.specs.Content.{content}
 use Rattle.row_records.specs.Records.{LogRecord}
 use Rattle.berth_face.specs.Berth.{Meaning, Passes}
 use Rattle.berth_face.specs.Moments.{Throughout}
-use Rattle.table_state.specs.Tables.{Table}
+use Rattle.table_state.specs.Tables.{Table, added_count}
 use Rattle.disk_backup.specs.State.{LogState}
 use Rattle.disk_backup.specs.Scanning.{BeginsScan}
 use Rattle.leaf_history.specs.History as history
@@ -37,10 +37,11 @@ pub record HasContent (writes : List Write) (t : Table) : Type 0 where
   pub contents : t.contents ≡ content writes
   pub count : t.writes ≡ length writes
 
--- the tables that were found may be opened: each log has just their writes
-pub record Finds (ws : List Watched) (log : LogState) (tables : List Table) (writes : List ℕ → List Write) (m : Meaning) : Type 0 where
+-- the tables that were found, which come to so many columns at most, may be opened: each log has just their writes
+pub record Finds (ws : List Watched) (log : LogState) (tables : List Table) (columns : List ℕ) (writes : List ℕ → List Write) (m : Meaning) : Type 0 where
   pub may : StandsToOpen ws log writes m
   pub contents : (place : ℕ) (w : Watched) (t : Table) → slice_get ws place ≡ Some w → slice_get tables place ≡ Some t → HasContent (writes w.name) t
+  pub few : (place : ℕ) (w : Watched) (n : ℕ) → slice_get ws place ≡ Some w → slice_get columns place ≡ Some n → n ≤ added_count (writes w.name)
 
 -- they were opened
 pub record Opens (ws ws' : List Watched) (owner : ℕ) (log : LogState) (writes : List ℕ → List Write) (m : Meaning) : Type 0 where

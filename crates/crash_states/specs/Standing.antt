@@ -3,7 +3,7 @@ use Rattle.std.specs.Prelude.{◌≡◌, ◌⊎◌, ℕ, ◌≤◌, true, false,
 use Rattle.leaf_model.specs.declared.writes.Write.{Write}
 use Rattle.leaf_model.specs.Content.{content}
 use Rattle.row_records.specs.Records.{LogRecord}
-use Rattle.table_state.specs.Tables.{Table}
+use Rattle.table_state.specs.Tables.{Table, added_count, columns_most}
 use Rattle.leaf_history.specs.History.{HistoryState}
 use Rattle.berth_face.specs.Berth.{Meaning}
 use Rattle.berth_face.specs.Moments.{EachNow}
@@ -101,10 +101,11 @@ pub record Copies (ws : List Watched) (drain : DrainState) (writes : List ℕ �
   pub each : (place : ℕ) (w : Watched) → slice_get ws place ≡ Some w → IsTreated (writes w.name) (now_of w)
   pub others : (name : List ℕ) → is_watched ws name ≡ false → writes name ≡ []
 
--- a table's content as it was when it was shut: what its writes come to
+-- a table's content as it was when it was shut: what its writes come to, in at most a column for each row and each cell that they add
 pub record IsContentOf (s : HistoryState) (t : Table) : Type 0 where
   pub contents : t.contents ≡ content s.writes
   pub writes : t.writes ≡ length s.writes
+  pub few : columns_most t.store ≤ added_count s.writes
 
 -- the same once the image is in the region
 pub record Holds (ws : List Watched) (image : List ℕ) (writes : List ℕ → List Write) (m : Meaning) : Type 0 where

@@ -35,7 +35,7 @@ others_short : (rows : ℕ) (columns : List BlockColumn) → AllByRecursion (IsO
 others_short rows [] each = tt
 others_short rows (c ∷ columns) each = ((each.0.name.text, each.0.name.short), others_short rows columns each.1)
 
-block_short : (b : Block) → IsBlock b → AllByRecursion (λ (c : BlockColumn). IsName c.name) b.columns
+pub block_short : (b : Block) → IsBlock b → AllByRecursion (λ (c : BlockColumn). IsName c.name) b.columns
 block_short b is =
     subst (λ (cs : List BlockColumn). AllByRecursion (λ (c : BlockColumn). IsName c.name) cs) (sym is.columns_are)
     (subst IsName (sym is.timed.name) time_short, others_short b.rows is.others is.each)
@@ -47,7 +47,7 @@ places_fit [] at each room = tt
 places_fit (c ∷ columns) at each room =
     (record { name = each.0; place = omega (arith, room); length = omega (arith, room) }, places_fit columns (at + length c.bytes) each.1 (omega (arith, room)))
 
-some_columns : (b : Block) → IsBlock b → 0 < length b.columns
+pub some_columns : (b : Block) → IsBlock b → 0 < length b.columns
 some_columns b is = subst (λ (cs : List BlockColumn). 0 < length cs) (sym is.columns_are) (omega arith)
 
 blocks_fit : (blocks : List Block) (at : ℕ) → AllByRecursion IsBlock blocks → list_any (λ (b : Block). nat_le (2 ^ 32) (length b.columns)) blocks ≡ false → at + blocks_size blocks < 2 ^ 63

@@ -18,7 +18,7 @@ use Rattle.column_bytes.specs.Column.{kind_in}
 use Rattle.row_blocks.specs.declared.column.BlockColumn.{BlockColumn}
 use Rattle.row_blocks.specs.Blocks.{Block, IsBlock, IsOther}
 use Rattle.row_blocks.specs.Headings.{heading, heading_cmp}
-use Rattle.row_blocks.specs.Held.{IsSkip}
+use Rattle.row_blocks.specs.Held.{IsSkip, columns_count}
 use Rattle.table_state.specs.Tables.{IsParts}
 use Rattle.region_layout.specs.declared.directory.Place.{Place}
 use Rattle.region_layout.specs.declared.directory.BlockPlaces.{BlockPlaces}
@@ -31,7 +31,7 @@ use Rattle.region_layout.specs.Written.{BlockFits, TableFits, MayBeWritten}
 use Rattle.region_layout.proofs.Ending.{table_columns}
 use Rattle.region_layout.proofs.Following.{InOrder, none_in_order, one_in_order, more_in_order}
 use Rattle.region_layout.proofs.Images.{table_in}
-use Rattle.drain_copy.specs.Planned.{columns_bytes, blocks_bytes, columns_size, blocks_size, tables_size, blocks_count, tables_count, places_from, blocks_from, table_from, tables_from, planned_directory}
+use Rattle.drain_copy.specs.Planned.{columns_bytes, blocks_bytes, columns_size, blocks_size, tables_size, tables_count, places_from, blocks_from, table_from, tables_from, planned_directory}
 
 -- ---- lengths
 
@@ -233,9 +233,9 @@ moved_on out now t rest tables blocks whole same is before so_far =
     ap (λ (l : List (List ℕ)). l ++ all_columns rest) (is ∙ ap (λ (bs : List Block). out ++ blocks_bytes bs) same) ∙ append_assoc out (blocks_bytes t.parts.blocks) (all_columns rest)
     ∙ ap (λ (ts : List DrainTable). out ++ all_columns ts) (sym before) ∙ so_far
 
-pub counted_on : (out now : ℕ) (t : DrainTable) (rest tables : List DrainTable) (blocks : List Block) (whole : ℕ) → blocks ≡ t.parts.blocks → now ≡ out + blocks_count blocks → tables ≡ t ∷ rest
+pub counted_on : (out now : ℕ) (t : DrainTable) (rest tables : List DrainTable) (blocks : List Block) (whole : ℕ) → blocks ≡ t.parts.blocks → now ≡ out + columns_count blocks → tables ≡ t ∷ rest
     → out + tables_count tables ≡ whole → now + tables_count rest ≡ whole
 counted_on out now t rest tables blocks whole same is before so_far =
-    let first : blocks_count blocks ≡ blocks_count t.parts.blocks = ap (λ (bs : List Block). blocks_count bs) same in
-    let all : tables_count tables ≡ blocks_count t.parts.blocks + tables_count rest = ap (λ (ts : List DrainTable). tables_count ts) before in
+    let first : columns_count blocks ≡ columns_count t.parts.blocks = ap (λ (bs : List Block). columns_count bs) same in
+    let all : tables_count tables ≡ columns_count t.parts.blocks + tables_count rest = ap (λ (ts : List DrainTable). tables_count ts) before in
     omega (arith, first, all, is, so_far)

@@ -5,3 +5,4 @@ pub mod Laying
 pub mod Reckoned
 pub mod Fitting
 pub mod Imaging
+pub mod Large

@@ -7,12 +7,13 @@ use Rattle.std.proofs.Math.Bool.{or-true}
 use Rattle.std.proofs.lemmas.List.Sums.{sum_by-cons}
 use Rattle.row_blocks.specs.declared.column.BlockColumn.{BlockColumn}
 use Rattle.row_blocks.specs.Blocks.{Block}
+use Rattle.row_blocks.specs.Held.{columns_count}
 use Rattle.region_layout.specs.declared.drained.DrainTable.{DrainTable}
 use Rattle.region_layout.specs.Drained.{column_entry, block_entry, table_entry, image_length, is_wide, has_no_room}
 use Rattle.region_layout.specs.Written.{directory_bytes}
 use Rattle.region_layout.proofs.Sizes.{place_size, block_size, table_size, directory_length as written_length}
 use Rattle.drain_copy.specs.declared.sizes.Sizes.{Sizes}
-use Rattle.drain_copy.specs.Planned.{columns_entries, blocks_entries, tables_entries, blocks_count, tables_count, tables_size, capped, Grew, HasRoom, places_from, blocks_from, tables_from, columns_size, blocks_size, planned_directory}
+use Rattle.drain_copy.specs.Planned.{columns_entries, blocks_entries, tables_entries, tables_count, tables_size, capped, Grew, HasRoom, places_from, blocks_from, tables_from, columns_size, blocks_size, planned_directory}
 use Rattle.drain_copy.proofs.Laying.{tables_length}
 
 sum_cons : (n : ℕ) (ns : List ℕ) → sum (n ∷ ns) ≡ n + sum ns
@@ -66,7 +67,7 @@ columns_few : (columns : List BlockColumn) → length columns ≤ columns_entrie
 columns_few [] = omega arith
 columns_few (c ∷ columns) = let more = columns_few columns in omega (arith, more)
 
-blocks_few : (blocks : List Block) → blocks_count blocks ≤ blocks_entries blocks
+blocks_few : (blocks : List Block) → columns_count blocks ≤ blocks_entries blocks
 blocks_few [] = omega arith
 blocks_few (b ∷ blocks) = let first = columns_few b.columns in let more = blocks_few blocks in omega (arith, first, more)
 
@@ -99,14 +100,21 @@ has_room tables none sizes n zero_columns zero_bytes nine narrow grew is fits =
     let short : image_length tables < 2 ^ 63 = subst (λ (k : ℕ). k < 2 ^ 63) (sym (image_length_is tables)) all.0 in
     record { room = or_from (nat_le (2 ^ 63) (image_length tables)) (list_any is_wide tables) (lt-leb (2 ^ 63) (image_length tables) short) narrow; columns = all.1; bytes = all.2 }
 
-pub lacks_room : (tables : List DrainTable) (none sizes : Sizes) (n : ℕ) → none.bytes ≡ 0 → none.entries ≡ 9
-    → Grew none sizes (tables_count tables) (tables_size tables) (tables_entries tables) → n ≡ capped (capped (sizes.bytes + sizes.entries) + 16) → 2 ^ 63 ≤ n → IsTrue (has_no_room tables)
-lacks_room tables none sizes n zero_bytes nine grew is passes =
+-- the sizes that were reckoned come to so much
+pub too_long : (tables : List DrainTable) (none sizes : Sizes) (n : ℕ) → none.bytes ≡ 0 → none.entries ≡ 9
+    → Grew none sizes (tables_count tables) (tables_size tables) (tables_entries tables) → n ≡ capped (capped (sizes.bytes + sizes.entries) + 16) → 2 ^ 63 ≤ n
+    → 2 ^ 63 ≤ 16 + tables_size tables + (9 + tables_entries tables)
+too_long tables none sizes n zero_bytes nine grew is passes =
     let size = tables_size tables in
     let rest = tables_entries tables in
     let b : capped sizes.bytes ≡ capped (0 + size) = grew.more_bytes ∙ ap (λ (k : ℕ). capped (k + size)) zero_bytes in
     let c : capped sizes.entries ≡ capped (9 + rest) = grew.more_entries ∙ ap (λ (k : ℕ). capped (k + rest)) nine in
-    let long : 2 ^ 63 ≤ image_length tables = subst (λ (k : ℕ). 2 ^ 63 ≤ k) (sym (image_length_is tables)) (sums_pass n sizes.bytes sizes.entries size rest b c is passes) in
+    sums_pass n sizes.bytes sizes.entries size rest b c is passes
+
+pub lacks_room : (tables : List DrainTable) (none sizes : Sizes) (n : ℕ) → none.bytes ≡ 0 → none.entries ≡ 9
+    → Grew none sizes (tables_count tables) (tables_size tables) (tables_entries tables) → n ≡ capped (capped (sizes.bytes + sizes.entries) + 16) → 2 ^ 63 ≤ n → IsTrue (has_no_room tables)
+lacks_room tables none sizes n zero_bytes nine grew is passes =
+    let long : 2 ^ 63 ≤ image_length tables = subst (λ (k : ℕ). 2 ^ 63 ≤ k) (sym (image_length_is tables)) (too_long tables none sizes n zero_bytes nine grew is passes) in
     or_left (nat_le (2 ^ 63) (image_length tables)) (list_any is_wide tables) (le-leb (2 ^ 63) (image_length tables) long)
 
 -- what an image is no longer than

@@ -1,8 +1,10 @@
 -- How a drain lays out its image.
-use Rattle.std.specs.Prelude.{◌≡◌, ℕ, ◌+◌, ◌-◌, ◌^◌, min, List, [], ◌∷◌, length, map, false}
-use Rattle.std.specs.List.{flat_map}
+use Rattle.std.specs.Prelude.{◌≡◌, ◌⊎◌, ℕ, ◌+◌, ◌-◌, ◌<◌, ◌≤◌, ◌^◌, min, List, [], ◌∷◌, length, map, slice_get, Some, false}
+use Rattle.std.specs.List.{AllByRecursion, flat_map}
 use Rattle.row_blocks.specs.declared.column.BlockColumn.{BlockColumn}
+use Rattle.row_blocks.specs.Columns.{MeanCells}
 use Rattle.row_blocks.specs.Blocks.{Block}
+use Rattle.row_blocks.specs.Held.{columns_count}
 use Rattle.region_layout.specs.declared.directory.Place.{Place}
 use Rattle.region_layout.specs.declared.directory.BlockPlaces.{BlockPlaces}
 use Rattle.region_layout.specs.declared.directory.TablePlaces.{TablePlaces}
@@ -33,15 +35,26 @@ abbrev pub tables_size : List DrainTable → ℕ
 tables_size [] = 0
 tables_size (t ∷ tables) = blocks_size t.parts.blocks + tables_size tables
 
--- ---- how many there are
+-- bytes that mean cells are fewer than 2^37
+abbrev pub IsShort : BlockColumn → Type 0
+IsShort c = (n : ℕ) → MeanCells c.bytes n → length c.bytes < 2 ^ 37
 
-abbrev pub blocks_count : List Block → ℕ
-blocks_count [] = 0
-blocks_count (b ∷ blocks) = length b.columns + blocks_count blocks
+-- of each column
+abbrev pub AreShort : Block → Type 0
+AreShort b = AllByRecursion IsShort b.columns
+
+abbrev pub HasShort : DrainTable → Type 0
+HasShort t = AllByRecursion AreShort t.parts.blocks
+
+-- ---- how many there are
 
 abbrev pub tables_count : List DrainTable → ℕ
 tables_count [] = 0
-tables_count (t ∷ tables) = blocks_count t.parts.blocks + tables_count tables
+tables_count (t ∷ tables) = columns_count t.parts.blocks + tables_count tables
+
+-- what it takes that no image can be made of tables: 2^25 columns, or a table with 2^63 writes
+abbrev pub NeedRoom : List DrainTable → Type 0
+NeedRoom tables = (2 ^ 25 ≤ tables_count tables) ⊎ ((place : ℕ) × (t : DrainTable) × (slice_get tables place ≡ Some t) × (2 ^ 63 ≤ t.parts.writes))
 
 -- ---- how long their entries in the directory are
 

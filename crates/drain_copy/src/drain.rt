@@ -17,7 +17,7 @@ ghost use Rattle.drain_copy.specs.declared.step.Next.TheVariants as next;
 ghost use Rattle.drain_copy.specs.declared.step.PlanFault.TheVariants as plan_fault;
 ghost use Rattle.drain_copy.specs.Draining.{Draining, DrainsFrom, IsInRoom, AllClosed, IsStep, held, directory_of, image_bytes};
 ghost use Rattle.drain_copy.specs.Regions.{IsCutOrBegun, LeftFrom};
-ghost use Rattle.drain_copy.specs.Planned.{tables_count, tables_size};
+ghost use Rattle.drain_copy.specs.Planned.{NeedRoom, tables_count, tables_size};
 
 use crate::moving::move_tables;
 use crate::planning::Plan;
@@ -79,6 +79,8 @@ impl Drain {
         ensures back { IfErr result (λ e. e.0 ≡ tables) }
         // NoRoom exactly where the tables make no image.
         ensures room { IfErr result (λ e. e.1 ≡ plan_fault.NoRoom ↔ IsTrue (has_no_room tables)) }
+        // A column is shorter than 2^37 bytes, so that takes many of them, or many writes.
+        ensures large { IfErr result (λ e. e.1 ≡ plan_fault.NoRoom → NeedRoom tables) }
         ensures fits { IfOk result (λ d. has_no_room tables ≡ false) }
     {
         let Some(sizes) = room(tables.as_slice()) else {

@@ -1,8 +1,9 @@
 // Columns moved out of their tables. There is room for them, so that nothing can fail.
 ghost use Rattle.std.specs.Prelude.{◌≡◌, ◌+◌, ◌≤◌, ◌++◌, length};
 ghost use Rattle.std.specs.VecDeque.{deque_capacity, deque_len};
+ghost use Rattle.row_blocks.specs.Held.{columns_count};
 ghost use Rattle.region_layout.specs.Drained.{all_columns};
-ghost use Rattle.drain_copy.specs.Planned.{blocks_bytes, blocks_count, columns_bytes, tables_count};
+ghost use Rattle.drain_copy.specs.Planned.{blocks_bytes, columns_bytes, tables_count};
 
 use region_layout::DrainTable;
 use row_blocks::{BlockColumn, ColumnBytes, RowBlock};
@@ -19,9 +20,9 @@ pub fn move_tables(tables: Vec<DrainTable>, out: &mut VecDeque<ColumnBytes>)
 }
 
 fn move_blocks(blocks: Vec<RowBlock>, out: &mut VecDeque<ColumnBytes>)
-    requires { deque_len out.old + blocks_count blocks.items ≤ deque_capacity out.old }
+    requires { deque_len out.old + columns_count blocks.items ≤ deque_capacity out.old }
     ensures items { out.new.items ≡ out.old.items ++ blocks_bytes blocks.items }
-    ensures len { deque_len out.new ≡ deque_len out.old + blocks_count blocks.items }
+    ensures len { deque_len out.new ≡ deque_len out.old + columns_count blocks.items }
     ensures capacity { deque_capacity out.new ≡ deque_capacity out.old }
 {
     let mut rest = VecDeque::from_vec(blocks);

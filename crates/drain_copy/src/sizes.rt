@@ -1,8 +1,13 @@
 // How large an image will be, reckoned before it is made.
-ghost use Rattle.std.specs.Prelude.{◌≡◌, ◌+◌, ◌^◌, nat_le, length, IfSome, IfNone, IsTrue};
-ghost use Rattle.std.specs.List.{list_any};
+ghost use Rattle.std.specs.Prelude.{◌≡◌, ◌+◌, ◌<◌, ◌≤◌, ◌^◌, ℕ, nat_le, length, IfSome, IfNone, IsTrue};
+ghost use Rattle.std.specs.List.{AllByRecursion, list_any};
+ghost use Rattle.row_blocks.specs.Columns.{MeanCells};
+ghost use Rattle.row_blocks.specs.Held.{columns_count};
+ghost use Rattle.table_state.specs.Tables.{IsParts};
+ghost use Rattle.region_layout.specs.Names.{IsName};
+ghost use Rattle.region_layout.specs.declared.drained.DrainTable.{DrainTable};
 ghost use Rattle.region_layout.specs.Drained.{column_entry, has_no_room, is_wide};
-ghost use Rattle.drain_copy.specs.Planned.{Grew, HasRoom, blocks_count, blocks_entries, blocks_size, columns_entries, columns_size, tables_count, tables_entries, tables_size};
+ghost use Rattle.drain_copy.specs.Planned.{AreShort, Grew, HasRoom, HasShort, IsShort, NeedRoom, blocks_entries, blocks_size, columns_entries, columns_size, tables_count, tables_entries, tables_size};
 
 use region_layout::DrainTable;
 use row_blocks::{BlockColumn, RowBlock};
@@ -20,9 +25,13 @@ pub struct Sizes {
 }
 
 /// The sizes of an image of tables, or None where there can be none.
-#[tactic(auto, using(crate::proofs::Reckoned::wide_has_none, crate::proofs::Reckoned::has_room, crate::proofs::Reckoned::lacks_room))]
+#[tactic(auto, using(crate::proofs::Reckoned::wide_has_none, crate::proofs::Reckoned::has_room, crate::proofs::Reckoned::lacks_room, crate::proofs::Large::wide_needs))]
 pub fn room(tables: &[DrainTable]) -> Option<Sizes>
+    requires few { length tables.now ≤ 16 }
+    requires names { AllByRecursion (λ (t : DrainTable). IsName t.name) tables.now }
+    requires parts { AllByRecursion (λ (t : DrainTable). IsParts t.parts) tables.now }
     ensures none { IfNone result (IsTrue (has_no_room tables.now)) }
+    ensures large { IfNone result (NeedRoom tables.now) }
     ensures some { IfSome result (λ sizes. HasRoom tables.now sizes) }
 {
     if any_is_wide(tables) {
@@ -65,7 +74,8 @@ fn has_many(block: &RowBlock) -> bool
 }
 
 fn with_tables(start: Sizes, tables: &[DrainTable]) -> Sizes
-    ensures { Grew start result (tables_count tables.now) (tables_size tables.now) (tables_entries tables.now) }
+    ensures grew { Grew start result (tables_count tables.now) (tables_size tables.now) (tables_entries tables.now) }
+    ensures short { AllByRecursion HasShort tables.now }
 {
     let mut sizes = start;
     for table in tables {
@@ -75,7 +85,8 @@ fn with_tables(start: Sizes, tables: &[DrainTable]) -> Sizes
 }
 
 fn with_table(start: Sizes, table: &DrainTable) -> Sizes
-    ensures { Grew start result (blocks_count table.now.parts.blocks) (blocks_size table.now.parts.blocks) (25 + length table.now.name + blocks_entries table.now.parts.blocks) }
+    ensures grew { Grew start result (columns_count table.now.parts.blocks) (blocks_size table.now.parts.blocks) (25 + length table.now.name + blocks_entries table.now.parts.blocks) }
+    ensures short { HasShort table.now }
 {
     let name = table.name.as_str().len() as u64;
     let begun = Sizes {
@@ -86,7 +97,8 @@ fn with_table(start: Sizes, table: &DrainTable) -> Sizes
 }
 
 fn with_blocks(start: Sizes, blocks: &[RowBlock]) -> Sizes
-    ensures { Grew start result (blocks_count blocks.now) (blocks_size blocks.now) (blocks_entries blocks.now) }
+    ensures grew { Grew start result (columns_count blocks.now) (blocks_size blocks.now) (blocks_entries blocks.now) }
+    ensures short { AllByRecursion AreShort blocks.now }
 {
     let mut sizes = start;
     for block in blocks {
@@ -96,7 +108,8 @@ fn with_blocks(start: Sizes, blocks: &[RowBlock]) -> Sizes
 }
 
 fn with_block(start: Sizes, block: &RowBlock) -> Sizes
-    ensures { Grew start result (length block.now.columns) (columns_size block.now.columns) (8 + columns_entries block.now.columns) }
+    ensures grew { Grew start result (length block.now.columns) (columns_size block.now.columns) (8 + columns_entries block.now.columns) }
+    ensures short { AreShort block.now }
 {
     let begun = Sizes {
         entries: start.entries.saturating_add(8),
@@ -106,7 +119,8 @@ fn with_block(start: Sizes, block: &RowBlock) -> Sizes
 }
 
 fn with_columns(start: Sizes, columns: &[BlockColumn]) -> Sizes
-    ensures { Grew start result (length columns.now) (columns_size columns.now) (columns_entries columns.now) }
+    ensures grew { Grew start result (length columns.now) (columns_size columns.now) (columns_entries columns.now) }
+    ensures short { AllByRecursion IsShort columns.now }
 {
     let mut sizes = start;
     for column in columns {
@@ -116,14 +130,24 @@ fn with_columns(start: Sizes, columns: &[BlockColumn]) -> Sizes
 }
 
 fn with_column(start: Sizes, column: &BlockColumn) -> Sizes
-    ensures { Grew start result 1 (length column.now.bytes) (column_entry column.now) }
+    ensures grew { Grew start result 1 (length column.now.bytes) (column_entry column.now) }
+    ensures short { IsShort column.now }
 {
     let name = column.name.as_str().len() as u64;
     Sizes {
         columns: start.columns.saturating_add(1),
         bytes: start
             .bytes
-            .saturating_add(column.bytes.as_slice().len() as u64),
+            .saturating_add(column_len(column.bytes.as_slice())),
         entries: start.entries.saturating_add(17).saturating_add(name),
     }
+}
+
+// A slice's elements are bytes: so a number in it has a bound, and a column whose parts are counted by such numbers too.
+#[tactic(auto, using(crate::proofs::Large::column_short))]
+fn column_len(bytes: &[u8]) -> u64
+    ensures length { result ≡ length bytes.now }
+    ensures short { (n : ℕ) → MeanCells bytes.now n → length bytes.now < 2 ^ 37 }
+{
+    bytes.len() as u64
 }

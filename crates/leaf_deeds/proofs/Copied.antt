@@ -25,14 +25,14 @@ use Rattle.leaf_steward.specs.Seated.{Seated, AreFounded, watched_by}
 use Rattle.leaf_steward.specs.Making.{Makes, EachNoted, IsHandedNote}
 use Rattle.leaf_machine.specs.declared.copying.Copied.{Copied}
 use Rattle.leaf_machine.specs.declared.copying.Copied.TheVariants as copied
-use Rattle.leaf_machine.specs.States.{Copying, GoesOnCopying, RestsOn, Shutting, columns_seen}
+use Rattle.leaf_machine.specs.States.{Copying, GoesOnCopying, RestsOn, Shutting, columns_added, columns_seen}
 use Rattle.leaf_machine.specs.Prepares.{IsCopyOf}
 use Rattle.leaf_machine.specs.Copies.{CopyGoesOn, IsCopyStep, LeavesRegion, berth_of_copy, seats_of_copy, IsUnderWay}
 use Rattle.leaf_machine.proofs.UpMaking.{makes_since}
 use Rattle.printed_lines.specs.declared.line.Ending.TheVariants as ending
 use Rattle.transcript.specs.Life.{MayMake}
 use Rattle.leaf_moves.specs.Steps as step
-use Rattle.leaf_moves.specs.Steps.{IsLongCopy, MakesStep, RegionStopped}
+use Rattle.leaf_moves.specs.Steps.{HasCopyLength, MakesStep, RegionStopped}
 use Rattle.leaf_deeds.specs.Steps.{AreLeft, Spends, copy_left}
 use Rattle.leaf_deeds.specs.Moves as move
 use Rattle.leaf_deeds.specs.Moves.{CopyEnds, CopyRests, CopyStands, MakesCopies}
@@ -101,9 +101,12 @@ failed_copy leaf fault = Err (leaf, fault)
 
 -- ---- how many steps it takes
 
--- a copy that begins takes three steps and one for each column
-pub copy_long : (x : Shutting) (c : Copying) → IsCopyOf x c → IsLongCopy x (copy_left c)
-copy_long x c is = subst (λ (n : Next). 3 + columns_seen x.serving.seated.tables x.serving.seated.seats ≤ left_from n c.drain.heap) (sym is.next) (let columns = is.columns in omega (arith, columns))
+-- a copy that begins takes three steps and one for each column; of founded tables there are no more than rows and cells that were added
+pub copy_long : (x : Shutting) (c : Copying) → IsCopyOf x c → HasCopyLength x (copy_left c)
+copy_long x c is = (
+  subst (λ (n : Next). 3 + columns_seen x.serving.seated.tables x.serving.seated.seats ≤ left_from n c.drain.heap) (sym is.next) (let columns = is.columns in omega (arith, columns)),
+  λ founded. subst (λ (n : Next). left_from n c.drain.heap ≤ 3 + columns_added x.serving.seated.tables x.serving.seated.seats) (sym is.next) (let few = is.few founded in omega (arith, few)),
+)
 
 last_left : (c : Copying) → c.drain.next ≡ next.Flag → copy_left c ≡ 1
 last_left c last = ap (λ (n : Next). left_from n c.drain.heap) last

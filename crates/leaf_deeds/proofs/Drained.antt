@@ -15,7 +15,7 @@ use Rattle.leaf_machine.specs.declared.preparing.Prepared.TheVariants as prepare
 use Rattle.leaf_machine.specs.declared.preparing.PrepareFault.{PrepareFault}
 use Rattle.leaf_machine.specs.declared.preparing.PrepareFault.TheVariants as fault
 use Rattle.leaf_machine.specs.States.{Shutting, Copying, GoesOnCopying, RestsOn, GoesOnServing, treated}
-use Rattle.leaf_machine.specs.Prepares.{AllTreated, IsTreatingStep, StepGoesOn, berth_of_step, seats_of_step}
+use Rattle.leaf_machine.specs.Prepares.{AllTreated, CrowdsStep, IsCrowded, IsTreatingStep, StepGoesOn, berth_of_step, seats_of_step}
 use Rattle.leaf_machine.proofs.UpMaking.{makes_join}
 use Rattle.leaf_moves.specs.Stage.{IsPreparing, Carries}
 use Rattle.leaf_moves.specs.Steps as step
@@ -61,6 +61,7 @@ so_far_none x m stop = record {
 -- what a step does
 pub record Stepped {B : Type 0} (meaning : B → Meaning) (y : Shutting) (n : Meaning) (notes : List Note) (r : Result (Prepared B) ((Shutting × B) × PrepareFault)) : Type 0 where
   pub one : IsTreatingStep y notes r
+  pub crowds : CrowdsStep y r
   pub made : Makes n.clock (meaning (berth_of_step r)).clock y.serving.seated notes (seats_of_step r)
   pub crash : IsTrue n.tells → AreFounded y.serving.seated → StepGoesOn meaning y n r
   pub region : IsTrue n.tells → (meaning (berth_of_step r)).held.region ≡ n.held.region
@@ -190,6 +191,7 @@ module _ {B : Type 0} (meaning : B → Meaning) (x : Shutting) (m : Meaning) (st
       pub shut_roomless : f ≡ fault.NoRoom → move.ShutsTables meaning x m stop (before ++ notes) (how.Roomless half) left'
       shut_roomless e =
           let one : IsTreatingStep leaf.0 notes (failed_step half fault.NoRoom) = subst (λ (g : PrepareFault). IsTreatingStep leaf.0 notes (failed_step half g)) e stepped.one in
+          let crowded : CrowdsStep leaf.0 (failed_step half fault.NoRoom) = subst (λ (g : PrepareFault). CrowdsStep leaf.0 (failed_step half g)) e stepped.crowds in
           let stays : leaf.0 ≡ half.0 = sym one.3 in
           record {
             ends = record {
@@ -197,6 +199,7 @@ module _ {B : Type 0} (meaning : B → Meaning) (x : Shutting) (m : Meaning) (st
               steps = subst (λ (z : Shutting). MakesSteps so_far.made (step.Shuts x) (before ++ notes) (step.Shuts z)) stays
                   (makes_still so_far.made (step.Shuts x) before notes (step.Shuts leaf.0) one.2 so_far.steps);
               all = subst AllTreated stays one.0;
+              crowded = subst (λ (z : Shutting). IsCrowded z.serving.seated) stays crowded;
               may = may_make stop left' (suc so_far.made) left_now;
               carries = half_carries;
               region = half_far.region;

@@ -100,7 +100,7 @@ module _ (x : Shutting) (m n o : Meaning) (leaf : Leaf) (stop left : Option ℕ)
   copy_own : IsCopied c o → HasNoStranger (seated_of leaf).names o.held.region
   copy_own copied =
       subst (λ (names : List (List ℕ)). HasNoStranger names o.held.region) whole_names
-      (copied_own ready.whole.serving.seated.names ready.whole.closed c.drain.image o.held.region ready.whole.serving.owing.log.end ready.copy.image copied)
+      (copied_own ready.whole.serving.seated.names ready.copy.tables c.drain.image o.held.region ready.whole.serving.owing.log.end ready.copy.are.names_are ready.copy.image copied)
 
   copy_moves : CopyRests c z notes n o → CopyEnds c left n o notes ends z → DrainMoves m o leaf stop (treating ++ notes) ends (IsDown z)
   copy_moves rests (move.done made copies last may noted memory copied ended) =
@@ -203,7 +203,7 @@ module _ {B : Type 0} (meaning : B → Meaning) (x : Shutting) (m : Meaning) (le
   -- the copy has no room
   pub drain_roomless : (whole : Shutting × B) → move.ShutsTables meaning x m stop before (how.Roomless whole) left → Drains m (meaning whole.1) leaf stop before ending.FaultRoom (IsPreparing whole.0)
   drain_roomless whole shut = record {
-    moves = step.roomless x whole.0 shut.ends.made shuts shut.ends.steps shut.ends.all shut.ends.may shut.ends.region refl refl;
+    moves = step.roomless x whole.0 shut.ends.made shuts shut.ends.steps shut.ends.all shut.ends.crowded shut.ends.may shut.ends.region refl refl;
     carries = begins_carries leaf x (IsPreparing whole.0) before m (meaning whole.1) shuts shut.ends.carries;
     reads = shut.reads;
   }

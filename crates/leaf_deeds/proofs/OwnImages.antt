@@ -4,8 +4,9 @@ use Rattle.std.specs.Prelude.{bytes_eq}
 use Rattle.std.specs.List.{list_any}
 use Rattle.std.proofs.lemmas.Bool.{or_left, or_right}
 use Rattle.std.proofs.lemmas.Slice.Eq.{bytes_eq-Decides}
-use Rattle.table_state.specs.Tables.{Table}
-use Rattle.region_layout.specs.Images.{TableImage, images_of}
+use Rattle.region_layout.specs.declared.drained.DrainTable.{DrainTable}
+use Rattle.region_layout.specs.Drained.{images_of}
+use Rattle.region_layout.specs.Images.{TableImage}
 use Rattle.region_layout.specs.Head.{IsClosed, image_names}
 use Rattle.region_layout.proofs.Heads.{closed_head}
 use Rattle.region_layout.specs.declared.directory.TablePlaces.{TablePlaces}
@@ -27,12 +28,11 @@ known true name others e = refl
 known false name others e = absurd cc
 
 -- of a list's last names none is a stranger to the list
-none_strange : (names before own : List (List ℕ)) (tables : List Table) → names ≡ before ++ own → stranger_of names (image_names (images_of own tables)) ≡ None
-none_strange names before [] tables is = refl
-none_strange names before (name ∷ own) [] is = refl
-none_strange names before (name ∷ own) (t ∷ ts) is =
-    known (list_any (bytes_eq name) names) name (stranger_of names (image_names (images_of own ts))) (is_among names before name own is)
-    ∙ none_strange names (before ++ name ∷ []) own ts (is ∙ sym (append_assoc before (name ∷ []) own))
+none_strange : (names before : List (List ℕ)) (tables : List DrainTable) → names ≡ before ++ map (λ (t : DrainTable). t.name) tables → stranger_of names (image_names (images_of tables)) ≡ None
+none_strange names before [] is = refl
+none_strange names before (t ∷ ts) is =
+    known (list_any (bytes_eq t.name) names) t.name (stranger_of names (image_names (images_of ts))) (is_among names before t.name (map (λ (t : DrainTable). t.name) ts) is)
+    ∙ none_strange names (before ++ t.name ∷ []) ts (is ∙ sym (append_assoc before (t.name ∷ []) (map (λ (t : DrainTable). t.name) ts)))
 
 -- ---- an adoptable region has just the names of its directory
 
@@ -51,8 +51,8 @@ image_own names region images log_end is none name s =
     none_some (stranger_of names (map (λ (t : TablePlaces). t.name) s.1.tables)) name (subst (λ (ns : List (List ℕ)). stranger_of names ns ≡ None) told none) s.4
 
 -- what a copy of a leaf's tables leaves: a closed region, or their image
-pub copied_own : (names : List (List ℕ)) (tables : List Table) (image region : List ℕ) (log_end : ℕ) → IsAdoptable image (images_of names tables) log_end → IsClosed region ⊎ (region ≡ image)
-    → HasNoStranger names region
-copied_own names tables image region log_end is (inl closed) = λ name s. closed_head region closed s.0 s.3.head
-copied_own names tables image region log_end is (inr whole) =
-    subst (λ (r : List ℕ). HasNoStranger names r) (sym whole) (image_own names image (images_of names tables) log_end is (none_strange names [] names tables refl))
+pub copied_own : (names : List (List ℕ)) (tables : List DrainTable) (image region : List ℕ) (log_end : ℕ) → map (λ (t : DrainTable). t.name) tables ≡ names → IsAdoptable image (images_of tables) log_end
+    → IsClosed region ⊎ (region ≡ image) → HasNoStranger names region
+copied_own names tables image region log_end named is (inl closed) = λ name s. closed_head region closed s.0 s.3.head
+copied_own names tables image region log_end named is (inr whole) =
+    subst (λ (r : List ℕ). HasNoStranger names r) (sym whole) (image_own names image (images_of tables) log_end is (none_strange names [] tables (sym named)))

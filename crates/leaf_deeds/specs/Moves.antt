@@ -16,7 +16,7 @@ use Rattle.leaf_steward.specs.declared.notes.Note.{Note}
 use Rattle.leaf_steward.specs.Seated.{Seated, AreFounded, watched_by}
 use Rattle.leaf_steward.specs.Making.{Makes, EachNoted, IsClosedNote, IsHandedNote}
 use Rattle.leaf_machine.specs.States.{Shutting, Copying, treated}
-use Rattle.leaf_machine.specs.Prepares.{Halts, Starves, AllTreated, IsCopyOf}
+use Rattle.leaf_machine.specs.Prepares.{Halts, Starves, AllTreated, IsCopyOf, IsCrowded}
 use Rattle.printed_lines.specs.declared.line.Ending.{Ending}
 use Rattle.printed_lines.specs.declared.line.Ending.TheVariants as ending
 use Rattle.transcript.specs.Life.{MayMake}
@@ -110,6 +110,7 @@ pub record IsRoomless (x : Shutting) (m : Meaning) (stop : Option ℕ) (notes : 
   pub made : ℕ
   pub steps : MakesSteps made (step.Shuts x) notes (step.Shuts y)
   pub all : AllTreated y
+  pub crowded : IsCrowded y.serving.seated
   pub may : MayMake stop (suc made)
   pub carries : Carries (IsPreparing x) (IsPreparing y) notes m m'
   pub region : SameRegion m m'

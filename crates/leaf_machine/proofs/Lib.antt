@@ -1,3 +1,4 @@
+pub mod ShutLists
 pub mod StartAlike
 pub mod StartMakes
 pub mod StartFaults
@@ -24,7 +25,9 @@ pub mod PrepSettles
 pub mod PrepNames
 pub mod PrepMeets
 pub mod PrepShuts
+pub mod PrepFew
 pub mod PrepTreats
 pub mod PrepKills
 pub mod PrepColumns
 pub mod PrepCopies
+pub mod PrepCrowded

@@ -48,6 +48,10 @@ module _ (t : Shared) (v w : SeatView) (clock n : ℕ) (sits : IsSeated t v) (ma
   pub flushed_content : (c : Table) → SeesShut t v → IsContent (state_seen (base_seen t) v) c → IsContent (state_seen (base_seen t) w) c
   flushed_content c shut is = subst (λ (s : HistoryState). IsContent s c) (sym (knows_shut shut)) (record { contents = is.contents; writes = is.writes })
 
+  -- nor its writes
+  pub flushed_writes : SeesShut t v → (state_seen (base_seen t) w).writes ≡ (state_seen (base_seen t) v).writes
+  flushed_writes shut = ap (λ (s : HistoryState). s.writes) (knows_shut shut)
+
   pub flushed_spares : (k : ℕ) → Spares (k + 1) t v → Spares k t w
   flushed_spares k spares = omega (arith, spares, made.room.1)
 
@@ -68,6 +72,9 @@ module _ (t : Shared) (v w : SeatView) (clock n : ℕ) (made : Made (base_seen t
 
   pub shut_taken : (state_seen (base_seen t) w).taken ≡ n
   shut_taken = ap (λ (s : HistoryState). s.taken) shut_knows ∙ sym shut_counted
+
+  pub shut_writes : (state_seen (base_seen t) w).writes ≡ before.writes
+  shut_writes = ap (λ (s : HistoryState). s.writes) shut_knows
 
   pub shut_content : (c : Table) → c.contents ≡ held before → c.writes ≡ n → IsContent (state_seen (base_seen t) w) c
   shut_content c contents writes = subst (λ (s : HistoryState). IsContent s c) (sym shut_knows) (record { contents = contents; writes = writes ∙ shut_counted })
@@ -103,6 +110,9 @@ module _ (t : Shared) (v u w : SeatView) (sits : IsSeated t v) (met : Told v u w
 
   pub met_content : (c : Table) → SeesShut t v → IsContent (state_seen (base_seen t) v) c → IsContent (state_seen (base_seen t) w) c
   met_content c shut is = subst (λ (s : HistoryState). IsContent s c) (sym (met_keeps.shut shut)) is
+
+  pub met_writes : SeesShut t v → (state_seen (base_seen t) w).writes ≡ (state_seen (base_seen t) v).writes
+  met_writes shut = ap (λ (s : HistoryState). s.writes) (met_keeps.shut shut)
 
   pub met_spares : (k : ℕ) → Spares k t v → Spares k t w
   met_spares k spares = omega (arith, spares, ap (λ (a : SeatView). a.room) met.view)

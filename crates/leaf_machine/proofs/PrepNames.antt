@@ -9,7 +9,8 @@ use Rattle.leaf_table.specs.Calls.{name_of}
 use Rattle.leaf_steward.specs.Seated.{Seated, AreSeated}
 use Rattle.leaf_steward.specs.Owing.{Owing}
 use Rattle.leaf_machine.specs.States.{Shutting, IsShutting, treated}
-use Rattle.leaf_machine.specs.Shut.{ShutState}
+use Rattle.leaf_machine.specs.Shut.{AreFewShut, AreNoMore, ShutState}
+use Rattle.leaf_machine.proofs.PrepFew.{less_few, less_length}
 use Rattle.leaf_machine.proofs.PrepHolds.{Holds, holds_of}
 use Rattle.leaf_machine.proofs.PrepSettles.{quiet_is}
 
@@ -44,9 +45,10 @@ abbrev pub IsWith : Seated → Owing → Meaning → ShutState → Type 0
 IsWith x o m t =
     IsShutting (record { serving = record { seated = x; owing = o }; closed = t.closed; waits = t.waits }) m
     × (t.names ≡ take (treated (record { serving = record { seated = x; owing = o }; closed = t.closed; waits = t.waits })) x.names)
+    × (length t.columns ≡ length t.closed) × AreFewShut x t.columns
 
 module _ (x : Seated) (o : Owing) (m : Meaning) (old new : ShutState) (is : IsWith x o m old) (sits : AreSeated x) (none : o.log.owed ≡ None) (waits : old.waits ≡ true) (closed : new.closed ≡ old.closed)
-    (d name : List ℕ) (slice : List (List ℕ)) (n : ℕ) (at : name ≡ slice_index_or slice (n - 1) d) (all : slice ≡ x.names) (len : n ≡ length old.closed) where
+    (less : AreNoMore new.columns old.columns) (d name : List ℕ) (slice : List (List ℕ)) (n : ℕ) (at : name ≡ slice_index_or slice (n - 1) d) (all : slice ≡ x.names) (len : n ≡ length old.closed) where
   abbrev before : Shutting
   before = record { serving = record { seated = x; owing = o }; closed = old.closed; waits = old.waits }
 
@@ -69,16 +71,26 @@ module _ (x : Seated) (o : Owing) (m : Meaning) (old new : ShutState) (is : IsWi
   sealed_is sealed =
       quiet_is new.closed new.waits x o m holds none (λ more. absurd (false≢true (sym sealed ∙ more))) is.0.stands
 
+  count_still : length new.columns ≡ length new.closed
+  count_still = less_length new.columns old.columns less ∙ is.2 ∙ ap (λ (l : List Table). length l) (sym closed)
+
+  few_still : AreFewShut x new.columns
+  few_still = less_few x new.columns old.columns less is.3
+
   pub seal_is : {T E : Type 0} (r : Result T E) → OnOk r ((new.names ≡ old.names ++ name ∷ []) × (new.waits ≡ false)) → OnErr r ((new.names ≡ old.names) × (new.waits ≡ true)) → IsWith x o m new
   seal_is (Ok v) done failed = (
     sealed_is done.1,
     done.0 ∙ ap₂ (λ (l : List (List ℕ)) (a : List ℕ). l ++ a ∷ []) is.1 named ∙ names_sealed before behind x.names d waits done.1 closed some (omega (arith, is.0.few, count)),
+    count_still,
+    few_still,
   )
   seal_is (Err e) done failed =
       let same : new.waits ≡ old.waits = failed.1 ∙ sym waits in (
         subst (λ (b : Bool). IsShutting (record { serving = record { seated = x; owing = o }; closed = new.closed; waits = b }) m) (sym same)
             (subst (λ (l : List Table). IsShutting (record { serving = record { seated = x; owing = o }; closed = l; waits = old.waits }) m) (sym closed) is.0),
         failed.0 ∙ is.1 ∙ ap₂ (λ (l : List Table) (b : Bool). take (if b then length l - 1 else length l) x.names) (sym closed) (sym same),
+        count_still,
+        few_still,
       )
 
 -- what holds of what stands there holds of what is equal to it

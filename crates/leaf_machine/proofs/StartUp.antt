@@ -24,7 +24,7 @@ none_owed : (P : LogRecord → Type 0) (owed : Option LogRecord) → owed ≡ No
 none_owed P owed none = subst (λ (o : Option LogRecord). IfSome o P) (sym none) tt
 
 module _ (x : Seated) (seated : AreSeated x) (a b : Meaning) (o : Opened) (y : Seated) (notes : List Note) where
-  stands_up : length o.tables ≡ length x.tables → Makes b.clock b.clock x notes y → OpenedNotes 0 o.tables notes → IsDown x a → Passes a b → (IsTrue a.tells → StartOpened x a b o)
+  stands_up : length o.tables.each ≡ length x.tables → Makes b.clock b.clock x notes y → OpenedNotes 0 o.tables.each notes → IsDown x a → Passes a b → (IsTrue a.tells → StartOpened x a b o)
       → UpStands (record { seated = y; owing = begun_log o.log }) b
   stands_up count makes each down passes opened = λ founded_now.
       let stood = down.stands (founded_same y x (sym (makes_tables b.clock b.clock x notes y makes)) founded_now) in (
@@ -32,7 +32,7 @@ module _ (x : Seated) (seated : AreSeated x) (a b : Meaning) (o : Opened) (y : S
         (start_runs x seated a b o y notes count makes each (founded_same y x (sym (makes_tables b.clock b.clock x notes y makes)) founded_now) 0 stood.1.0 stood.1.1 stood.1.2 stood.1.3 (opened stood.0)).0,
       )
 
-  pub up_is : length o.tables ≡ length x.tables → Makes b.clock b.clock x notes y → OpenedNotes 0 o.tables notes → IsDown x a → Passes a b → (IsTrue a.tells → StartOpened x a b o)
+  pub up_is : length o.tables.each ≡ length x.tables → Makes b.clock b.clock x notes y → OpenedNotes 0 o.tables.each notes → IsDown x a → Passes a b → (IsTrue a.tells → StartOpened x a b o)
       → o.log.owed ≡ None → AtEach (λ place t v. SeesOpen t v) y → AtEach (λ place t v. Spares 1000 t v) y → IsUp (record { seated = y; owing = begun_log o.log }) b
   up_is count makes each down passes opened none open_ spares = record {
     opened = open_;

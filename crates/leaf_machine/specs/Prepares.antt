@@ -1,25 +1,24 @@
 -- What a step of a leaf that shuts its tables does.
-use Rattle.std.specs.Prelude.{◌≡◌, ℕ, ◌<◌, ◌≤◌, true, false, List, [], ◌∷◌, ◌++◌, length, IsSome, IsTrue, None, Result, Ok, Err, ⊤}
+use Rattle.std.specs.Prelude.{◌≡◌, ℕ, ◌<◌, ◌≤◌, ◌^◌, true, false, List, [], ◌∷◌, ◌++◌, length, IsSome, IsTrue, None, Result, Ok, Err, ⊤}
 use Rattle.leaf_model.specs.declared.writes.Write.{Write}
 use Rattle.berth_face.specs.Berth.{Meaning}
 use Rattle.berth_face.specs.Causes.{Rose}
 use Rattle.table_state.specs.Tables.{Table}
 use Rattle.region_layout.specs.declared.drained.DrainTable.{DrainTable}
 use Rattle.region_layout.specs.Region.{IsAdoptable}
-use Rattle.region_layout.specs.Drained.{all_columns, has_no_room}
-use Rattle.region_layout.specs.Images.{images_of}
+use Rattle.region_layout.specs.Drained.{all_columns, has_no_room, images_of}
 use Rattle.drain_copy.specs.declared.step.Next.TheVariants as next
 use Rattle.drain_copy.specs.declared.step.PlanFault.{PlanFault}
 use Rattle.drain_copy.specs.declared.step.PlanFault.TheVariants as plan
 use Rattle.crash_states.specs.Standing.{Runs}
 use Rattle.leaf_steward.specs.declared.notes.Note.{Note}
 use Rattle.leaf_steward.specs.declared.notes.What.TheVariants as what
-use Rattle.leaf_steward.specs.Seated.{Seated, watched_by}
+use Rattle.leaf_steward.specs.Seated.{AreFounded, Seated, watched_by}
 use Rattle.leaf_machine.specs.declared.preparing.Prepared.{Prepared}
 use Rattle.leaf_machine.specs.declared.preparing.Prepared.TheVariants as prepared
 use Rattle.leaf_machine.specs.declared.preparing.PrepareFault.{PrepareFault}
 use Rattle.leaf_machine.specs.declared.preparing.PrepareFault.TheVariants.{DiskFault, NoRoom, NoMemory}
-use Rattle.leaf_machine.specs.States.{Serving, Shutting, Copying, GoesOn, GoesOnCopying, columns_seen, treated}
+use Rattle.leaf_machine.specs.States.{Serving, Shutting, Copying, GoesOn, GoesOnCopying, bulk_added, columns_added, columns_seen, treated}
 use Rattle.leaf_machine.specs.Flushes.{OwedNotes}
 use Rattle.leaf_machine.specs.Shut.{AreTablesOf}
 
@@ -106,15 +105,17 @@ told_of_plan plan.NoMemory = NoMemory
 abbrev pub HasNoRoom : Shutting → Type 0
 HasNoRoom x = (tables : List DrainTable) × AreTablesOf x.serving.seated.names x.closed tables × IsTrue (has_no_room tables)
 
--- the copy of a leaf all of whose tables are treated: it is an image of them, each that has rows has a column, and nothing of it is in the region yet
+-- the copy of a leaf all of whose tables are treated: it is an image of them, each that has rows has a column, those that are founded have no more columns than rows and cells were
+-- added to them, and nothing of it is in the region yet
 pub record IsCopyOf (x : Shutting) (c : Copying) : Type 0 where
   pub seated : c.seated ≡ x.serving.seated
   pub tables : List DrainTable
   pub are : AreTablesOf x.serving.seated.names x.closed tables
   pub has_room : has_no_room tables ≡ false
-  pub image : IsAdoptable c.drain.image (images_of x.serving.seated.names x.closed) x.serving.owing.log.end
+  pub image : IsAdoptable c.drain.image (images_of tables) x.serving.owing.log.end
   pub heap : c.drain.heap ≡ all_columns tables
   pub columns : columns_seen x.serving.seated.tables x.serving.seated.seats ≤ length c.drain.heap
+  pub few : AreFounded x.serving.seated → length c.drain.heap ≤ columns_added x.serving.seated.tables x.serving.seated.seats
   pub next : c.drain.next ≡ next.Begin
 
 abbrev pub berth_of_step : {B : Type 0} → Result (Prepared B) ((Shutting × B) × PrepareFault) → B
@@ -134,6 +135,16 @@ IsTreatingStep x notes (Ok (prepared.Ready leaf)) = AllTreated x × (notes ≡ [
 IsTreatingStep x notes (Err ((y, b), DiskFault)) = (treated x < length x.serving.seated.tables) × Halts x y notes
 IsTreatingStep x notes (Err ((y, b), NoRoom)) = AllTreated x × HasNoRoom x × (notes ≡ []) × (y ≡ x)
 IsTreatingStep x notes (Err ((y, b), NoMemory)) = Starves x y notes
+
+-- founded tables make no image only where 2^25 rows, cells and writes were added to them
+abbrev pub IsCrowded : Seated → Type 0
+IsCrowded x = AreFounded x → 2 ^ 25 ≤ bulk_added x.tables x.seats
+
+abbrev pub CrowdsStep : {B : Type 0} → Shutting → Result (Prepared B) ((Shutting × B) × PrepareFault) → Type 0
+CrowdsStep x (Ok step) = ⊤
+CrowdsStep x (Err (leaf, DiskFault)) = ⊤
+CrowdsStep x (Err (leaf, NoRoom)) = IsCrowded x.serving.seated
+CrowdsStep x (Err (leaf, NoMemory)) = ⊤
 
 abbrev pub StepGoesOn : {B : Type 0} → (B → Meaning) → Shutting → Meaning → Result (Prepared B) ((Shutting × B) × PrepareFault) → Type 0
 StepGoesOn meaning x m (Ok (prepared.More leaf)) = GoesOn x.serving leaf.0.serving m (meaning leaf.1)

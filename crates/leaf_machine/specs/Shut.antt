@@ -1,8 +1,13 @@
 -- The tables of a leaf that are shut, as it holds them for its drain.
-use Rattle.std.specs.Prelude.{◌≡◌, ℕ, Bool, true, false, List, [], ◌∷◌, map, Option, Some, None}
+use Rattle.std.specs.Prelude.{◌≡◌, ◌≤◌, ℕ, Bool, true, false, List, [], ◌∷◌, map, slice_get, Option, Some, None}
+use Rattle.std.specs.List.{AllZip}
 use Rattle.table_state.specs.declared.parts.Parts.{Parts}
-use Rattle.table_state.specs.Tables.{Table, bare, contents_of, no_store}
+use Rattle.row_blocks.specs.Held.{columns_count}
+use Rattle.table_state.specs.Tables.{Table, added_count, bare, columns_most, contents_of, no_store}
 use Rattle.region_layout.specs.declared.drained.DrainTable.{DrainTable}
+use Rattle.leaf_table.specs.Turns.{is_founded}
+use Rattle.leaf_table.specs.Calls.{base_seen, state_seen}
+use Rattle.leaf_steward.specs.Seated.{Seated, AtEach}
 
 -- what the parts of a table make, of which the disk is owed nothing
 abbrev pub table_of_parts : Parts → Table
@@ -16,15 +21,32 @@ pub record AreTablesOf (names : List (List ℕ)) (closed : List Table) (tables :
   pub names_are : map (λ (t : DrainTable). t.name) tables ≡ names
   pub closed_are : map drained_table tables ≡ closed
 
--- the names of those that are sealed, the content of all, and whether the last of them is not sealed yet
+-- the names of those that are sealed, the content of all, how many columns the rows of each come to at most, and whether the last of them is not sealed yet
 pub record ShutState : Type 0 where
   pub names : List (List ℕ)
   pub closed : List Table
+  pub columns : List ℕ
   pub waits : Bool
+
+-- no table comes to more columns than before
+abbrev pub AreNoMore : List ℕ → List ℕ → Type 0
+AreNoMore now before = AllZip (λ (n m : ℕ). n ≤ m) now before
+
+-- of shut tables that are founded: each comes to at most a column for each row and each cell that its writes add
+abbrev pub AreFewShut : Seated → List ℕ → Type 0
+AreFewShut x columns = AtEach (λ place t v. is_founded (base_seen t) ≡ true → (n : ℕ) → slice_get columns place ≡ Some n → n ≤ added_count (state_seen (base_seen t) v).writes) x
 
 abbrev pub last_table : Option Table → List Table
 last_table None = []
 last_table (Some t) = bare t ∷ []
+
+abbrev pub last_columns : Option Table → List ℕ
+last_columns None = []
+last_columns (Some t) = columns_most t.store ∷ []
+
+-- how many columns each of them has
+abbrev pub drained_columns : List DrainTable → List ℕ
+drained_columns tables = map (λ (t : DrainTable). columns_count t.parts.blocks) tables
 
 abbrev pub is_there : Option Table → Bool
 is_there None = false

@@ -4,7 +4,7 @@ use Rattle.leaf_model.specs.declared.writes.Write.{Write}
 use Rattle.row_records.specs.Records.{LogRecord}
 use Rattle.berth_face.specs.Berth.{Meaning}
 use Rattle.leaf_history.specs.History.{HistoryState, held, write_count}
-use Rattle.table_state.specs.Tables.{Table, least_columns}
+use Rattle.table_state.specs.Tables.{Table, added_count, least_columns}
 use Rattle.drain_copy.specs.declared.step.Next.TheVariants.{Nothing}
 use Rattle.drain_copy.specs.Draining.{DrainState}
 use Rattle.leaf_table.specs.Turns.{Shared}
@@ -37,13 +37,25 @@ pub record Copying : Type 0 where
 abbrev pub treated : Shutting → ℕ
 treated x = if x.waits then length x.closed - 1 else length x.closed
 
--- ---- how many columns tables have at least
+-- ---- how many columns tables have at least, and at most
 
 -- of tables as their seats have seen them last
 abbrev pub columns_seen : List Shared → List SeatView → ℕ
 columns_seen [] vs = 0
 columns_seen (t ∷ ts) [] = 0
 columns_seen (t ∷ ts) (v ∷ vs) = least_columns (held (state_seen (base_seen t) v)).rows + columns_seen ts vs
+
+-- the rows and cells that their writes add
+abbrev pub columns_added : List Shared → List SeatView → ℕ
+columns_added [] vs = 0
+columns_added (t ∷ ts) [] = 0
+columns_added (t ∷ ts) (v ∷ vs) = added_count (state_seen (base_seen t) v).writes + columns_added ts vs
+
+-- the same, with how many writes they are
+abbrev pub bulk_added : List Shared → List SeatView → ℕ
+bulk_added [] vs = 0
+bulk_added (t ∷ ts) [] = 0
+bulk_added (t ∷ ts) (v ∷ vs) = length (state_seen (base_seen t) v).writes + added_count (state_seen (base_seen t) v).writes + bulk_added ts vs
 
 -- ---- what region and disk hold, where the tables are founded
 

@@ -13,7 +13,7 @@ ghost use Rattle.leaf_steward.specs.Seated.{AreFounded, AreSeated, AtPlace, watc
 ghost use Rattle.leaf_steward.specs.Making.{EachNoted, IsClosedNote, Makes};
 ghost use Rattle.leaf_machine.specs.States.{RestsOn, treated};
 ghost use Rattle.leaf_machine.specs.declared.preparing.PrepareFault.TheVariants as prepare_fault;
-ghost use Rattle.leaf_machine.specs.Prepares.{Halts, IsTreatingStep, RoseStep, StepGoesOn, berth_of_step, seats_of_step, told_of_plan};
+ghost use Rattle.leaf_machine.specs.Prepares.{CrowdsStep, Halts, IsTreatingStep, RoseStep, StepGoesOn, berth_of_step, seats_of_step, told_of_plan};
 ghost use Rattle.leaf_machine.specs.PrepParts.{IsAllTreated, IsNextTreated, IsPartOfStep, RoseNext, Settles, ShutsNext};
 
 use crate::copying::Copying;
@@ -70,6 +70,7 @@ pub struct Preparing<'t, B: Berth> {
 
 impl<'t, B: Berth> Model for Preparing<'t, B> {
     ghost use Rattle.std.specs.Prelude.{◌≡◌, length, take};
+    ghost use Rattle.leaf_machine.specs.Shut.{AreFewShut};
     ghost use Rattle.leaf_machine.specs.States.{Shutting, IsShutting, treated};
 
     ghost Value = { Shutting × B };
@@ -78,7 +79,8 @@ impl<'t, B: Berth> Model for Preparing<'t, B> {
 
     ghost invariant = { λ leaf.
         IsShutting (record { serving = record { seated = leaf.seats; owing = leaf.log }; closed = leaf.tables.closed; waits = leaf.tables.waits }) (B.meaning leaf.berth)
-        × (leaf.tables.names ≡ take (treated (record { serving = record { seated = leaf.seats; owing = leaf.log }; closed = leaf.tables.closed; waits = leaf.tables.waits })) leaf.seats.names) };
+        × (leaf.tables.names ≡ take (treated (record { serving = record { seated = leaf.seats; owing = leaf.log }; closed = leaf.tables.closed; waits = leaf.tables.waits })) leaf.seats.names)
+        × (length leaf.tables.columns ≡ length leaf.tables.closed) × AreFewShut leaf.seats leaf.tables.columns };
 }
 
 impl<'t, B: Berth> Preparing<'t, B> {
@@ -131,6 +133,7 @@ impl<'t, B: Berth> Preparing<'t, B> {
         ensures region { IsTrue (B.meaning self.entry.1).tells → (B.meaning (berth_of_step result)).held.region ≡ (B.meaning self.entry.1).held.region }
         ensures time { Passes (B.meaning self.entry.1) (B.meaning (berth_of_step result)) }
         ensures cause { RoseStep (B.meaning self.entry.1).disk_faults (B.meaning (berth_of_step result)).disk_faults result }
+        ensures crowds { CrowdsStep self.entry.0 result }
         ensures reads { (B.meaning (berth_of_step result)).disk_reads ≡ (B.meaning self.entry.1).disk_reads }
     {
         notes.clear();
@@ -204,6 +207,7 @@ impl<'t, B: Berth> Preparing<'t, B> {
         ensures berth { berth_of_step result ≡ self.entry.1 }
         ensures seats { seats_of_step result ≡ self.entry.0.serving.seated }
         ensures cause { RoseStep (B.meaning self.entry.1).disk_faults (B.meaning self.entry.1).disk_faults result }
+        ensures crowds { CrowdsStep self.entry.0 result }
     {
         self.seats.sits();
         let Preparing {

@@ -1,9 +1,10 @@
 // The tables of a leaf that are shut: sealed and taken apart one by one, as a drain takes them.
 ghost use Rattle.std.specs.Prelude.{◌≡◌, ◌<◌, ◌++◌, ◌∷◌, [], length, None, true, false, OnOk, OnErr, vec_len, vec_capacity};
 ghost use Rattle.std.specs.List.{AllByRecursion};
-ghost use Rattle.table_state.specs.Tables.{IsParts, bare};
+ghost use Rattle.row_blocks.specs.Held.{columns_count};
+ghost use Rattle.table_state.specs.Tables.{IsParts, bare, columns_most};
 ghost use Rattle.region_layout.specs.declared.drained.DrainTable.{DrainTable};
-ghost use Rattle.leaf_machine.specs.Shut.{AreTablesOf, table_of_parts};
+ghost use Rattle.leaf_machine.specs.Shut.{AreNoMore, AreTablesOf, drained_columns, table_of_parts};
 
 use leaf_model::Text;
 use region_layout::{DrainTable, DrainTables};
@@ -23,13 +24,14 @@ impl Model for ShutTables {
     ghost use Rattle.std.specs.List.{AllByRecursion};
     ghost use Rattle.table_state.specs.Tables.{IsParts};
     ghost use Rattle.region_layout.specs.declared.drained.DrainTable.{DrainTable};
-    ghost use Rattle.leaf_machine.specs.Shut.{ShutState, drained_table, last_table, is_there};
+    ghost use Rattle.leaf_machine.specs.Shut.{ShutState, drained_columns, drained_table, last_columns, last_table, is_there};
 
     ghost Value = { ShutState };
 
     ghost view = { λ t. record {
       names = map (λ (d : DrainTable). d.name) t.sealed.items;
       closed = map drained_table t.sealed.items ++ last_table t.last;
+      columns = drained_columns t.sealed.items ++ last_columns t.last;
       waits = is_there t.last;
     } };
 
@@ -40,6 +42,7 @@ impl ShutTables {
     pub fn new(alloc: Global) -> ShutTables
         ensures names { result.names ≡ [] }
         ensures closed { result.closed ≡ [] }
+        ensures columns { result.columns ≡ [] }
         ensures waits { result.waits ≡ false }
     {
         ShutTables {
@@ -71,6 +74,7 @@ impl ShutTables {
         requires taken { table.pending ≡ None }
         ensures names { self.new.names ≡ self.old.names }
         ensures closed { self.new.closed ≡ self.old.closed ++ bare table ∷ [] }
+        ensures columns { self.new.columns ≡ self.old.columns ++ columns_most table.store ∷ [] }
         ensures waits { self.new.waits ≡ true }
     {
         self.last = Some(table);
@@ -80,6 +84,7 @@ impl ShutTables {
     pub fn seal(&mut self, name: &Text) -> Result<(), AllocError>
         requires waits { self.old.waits ≡ true }
         ensures closed { self.new.closed ≡ self.old.closed }
+        ensures columns { AreNoMore self.new.columns self.old.columns }
         ensures done { OnOk result ((self.new.names ≡ self.old.names ++ name.now ∷ []) × (self.new.waits ≡ false)) }
         ensures failed { OnErr result ((self.new.names ≡ self.old.names) × (self.new.waits ≡ true)) }
     {
@@ -100,6 +105,7 @@ impl ShutTables {
     pub fn into_tables(self) -> DrainTables
         requires sealed { self.waits ≡ false }
         ensures are { AreTablesOf self.names self.closed result }
+        ensures columns { drained_columns result ≡ self.columns }
         ensures parts { AllByRecursion (λ (t : DrainTable). IsParts t.parts) result }
     {
         DrainTables::of(self.sealed)
@@ -109,6 +115,7 @@ impl ShutTables {
     pub fn of(tables: DrainTables) -> ShutTables
         requires parts { AllByRecursion (λ (t : DrainTable). IsParts t.parts) tables }
         ensures are { AreTablesOf result.names result.closed tables }
+        ensures columns { result.columns ≡ drained_columns tables }
         ensures waits { result.waits ≡ false }
     {
         ShutTables {
@@ -119,11 +126,13 @@ impl ShutTables {
 }
 
 // Puts a table whose tail is sealed behind the others, for which there is room.
+#[tactic(auto, using(crate::proofs::ShutLists::sealed_columns))]
 fn keep(sealed: &mut Vec<DrainTable>, name: Text, table: TableState)
     requires room { vec_len sealed.old < vec_capacity sealed.old }
     requires taken { table.pending ≡ None }
     requires tail { table.store.tail ≡ [] }
-    ensures { (kept : DrainTable) × (sealed.new.items ≡ sealed.old.items ++ kept ∷ []) × (kept.name ≡ name) × (table_of_parts kept.parts ≡ bare table) × IsParts kept.parts }
+    ensures { (kept : DrainTable) × (sealed.new.items ≡ sealed.old.items ++ kept ∷ []) × (kept.name ≡ name) × (table_of_parts kept.parts ≡ bare table)
+        × (columns_count kept.parts.blocks ≡ columns_most table.store) × IsParts kept.parts }
 {
     let kept = DrainTable {
         name,

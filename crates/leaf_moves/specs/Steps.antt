@@ -23,10 +23,10 @@ use Rattle.leaf_machine.specs.declared.faults.StartFault.{StartFault}
 use Rattle.leaf_machine.specs.declared.faults.StartFault.TheVariants as fault
 use Rattle.leaf_machine.specs.declared.up.FlushReply.{FlushReply}
 use Rattle.leaf_machine.specs.declared.up.FlushReply.TheVariants as reply
-use Rattle.leaf_machine.specs.States.{Serving, Shutting, columns_seen, treated}
+use Rattle.leaf_machine.specs.States.{Serving, Shutting, columns_added, columns_seen, treated}
 use Rattle.leaf_machine.specs.Starts.{CameUp, IsExactRefusal, IsOpenedNote, IsStartRefused}
 use Rattle.leaf_machine.specs.Flushes as flushing
-use Rattle.leaf_machine.specs.Prepares.{Treats, Halts, Starves, AllTreated, begins}
+use Rattle.leaf_machine.specs.Prepares.{Treats, Halts, Starves, AllTreated, IsCrowded, begins}
 use Rattle.printed_lines.specs.declared.line.Said.{Said}
 use Rattle.printed_lines.specs.declared.line.Said.TheVariants as said
 use Rattle.printed_lines.specs.declared.line.Ending.{Ending}
@@ -216,9 +216,11 @@ pub data At : Type 0 where
   Shuts : (x : Shutting) → At
   Copies : (x : Shutting) (copy made : ℕ) → At
 
--- the copy of its tables takes that many steps: the begin, a column at least for each that has rows, the directory, and the flag
-abbrev pub IsLongCopy : Shutting → ℕ → Type 0
-IsLongCopy x copy = 3 + columns_seen x.serving.seated.tables x.serving.seated.seats ≤ copy
+-- the copy of its tables takes that many steps: the begin, the columns, the directory, and the flag. There are at least the columns that the rows ask for, and of founded tables at most
+-- one for each row and each cell that was added.
+abbrev pub HasCopyLength : Shutting → ℕ → Type 0
+HasCopyLength x copy = (3 + columns_seen x.serving.seated.tables x.serving.seated.seats ≤ copy)
+    × (AreFounded x.serving.seated → copy ≤ 3 + columns_added x.serving.seated.tables x.serving.seated.seats)
 
 -- One step that neither ends the drain nor fails: one table more is treated; or all are, and their copy is planned; or a step of the copy is made.
 pub data MakesStep (s : At) (notes : List Note) (t : At) : Type 0 where
@@ -232,7 +234,7 @@ pub data MakesStep (s : At) (notes : List Note) (t : At) : Type 0 where
   plans : (x : Shutting) (copy : ℕ)
       → s ≡ Shuts x
       → AllTreated x
-      → IsLongCopy x copy
+      → HasCopyLength x copy
       → notes ≡ []
       → t ≡ Copies x copy 0
       → MakesStep s notes t
@@ -290,6 +292,7 @@ pub data DrainMoves (m m' : Meaning) (leaf : Leaf) (stop : Option ℕ) (notes : 
       → BeginsShutting leaf x
       → MakesSteps n (Shuts x) notes (Shuts y)
       → AllTreated y
+      → IsCrowded y.serving.seated
       → MayMake stop (suc n)
       → (IsTrue m.tells → m'.held.region ≡ m.held.region)
       → ends ≡ ending.FaultRoom

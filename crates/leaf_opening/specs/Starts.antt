@@ -7,12 +7,12 @@ use Rattle.table_state.specs.Tables.{Table}
 use Rattle.region_layout.specs.Images.{TableImage}
 use Rattle.region_layout.specs.Head.{IsClosed, image_names}
 use Rattle.region_layout.specs.Region.{IsAdoptable}
-use Rattle.region_layout.specs.Images.{tables_of}
+use Rattle.region_layout.specs.Images.{held_of}
 use Rattle.leaf_words.specs.declared.ways.WhyDisk.{WhyDisk}
 use Rattle.leaf_words.specs.declared.ways.WhyDisk.TheVariants as why
 use Rattle.adopt.specs.Adopting.{IsWhy, IsBroken, IsLeftBehind, IsStranger, stranger_of}
 use Rattle.disk_backup.specs.Scanning.{begun, BeginsScan}
-use Rattle.log_recovery.specs.Recovery.{IsRecovered}
+use Rattle.log_recovery.specs.Recovery.{AreFew, IsRecovered}
 use Rattle.log_recovery.specs.Recovery as recovery
 use Rattle.log_recovery.specs.declared.fault.RecoveryFault.TheVariants as found
 use Rattle.leaf_words.specs.declared.ways.Way.{Way}
@@ -38,8 +38,8 @@ way_after (Disk why.NoImage) = Disk (why.Closed 0)
 -- how a leaf of these names comes to its tables and its log: those of the region's image; or those of the disk, as it reads then
 abbrev pub IsCome : List (List ℕ) → List ℕ → List ℕ → OpenedLeaf → Way → Type 0
 IsCome names region disk s Memory = (images : List TableImage) × (log_end : ℕ) × IsAdoptable region images log_end × (stranger_of names (image_names images) ≡ None)
-    × (s.tables ≡ tables_of names images) × (s.log ≡ record { end = log_end; owed = None; laid = false })
-IsCome names region disk s (Disk w) = IsWhy region w × IsRecovered names disk s.tables s.log
+    × (record { each = s.tables; columns = s.columns } ≡ held_of names images) × (s.log ≡ record { end = log_end; owed = None; laid = false })
+IsCome names region disk s (Disk w) = IsWhy region w × (x : IsRecovered names disk s.tables s.log) × AreFew names x.records s.columns
 
 -- what a start by this way leaves of the disk: a disk of at most one byte is begun before it is read
 abbrev pub disk_after : Way → List ℕ → List ℕ
@@ -67,7 +67,7 @@ IsOpeningRefusal names old new NoMemory = IsLeftBehind old.held.region new.held.
 
 -- the leaf that serves what was opened
 abbrev pub opened_leaf : List (List ℕ) → Opened → OpenedLeaf
-opened_leaf names o = record { names = names; tables = o.tables; log = o.log }
+opened_leaf names o = record { names = names; tables = o.tables.each; columns = o.tables.columns; log = o.log }
 
 -- ---- what a crash leaves while a leaf starts
 

@@ -38,9 +38,9 @@ pub fn open_tables<B: Berth>(
     berth: &mut B,
 ) -> Result<Opened, OpenFault>
     requires names { AreNames names.now }
-    ensures one { IfOk result (λ o. length o.tables ≡ length names.now) }
-    ensures fresh { IfOk result (λ o. AreFresh o.tables × (o.log.owed ≡ None)) }
-    ensures room { IfOk result (λ o. AllByRecursion (λ t. t.writes < 2 ^ 63) o.tables) }
+    ensures one { IfOk result (λ o. length o.tables.each ≡ length names.now) }
+    ensures fresh { IfOk result (λ o. AreFresh o.tables.each × (o.log.owed ≡ None)) }
+    ensures room { IfOk result (λ o. AllByRecursion (λ t. t.writes < 2 ^ 63) o.tables.each) }
     // Where the berth tells its contents.
     ensures told { IsTrue (B.meaning berth.old).tells → IfOk result (λ o. Started names.now (B.meaning berth.old) (B.meaning berth.new) (opened_leaf names.now o) o.way) }
     ensures way { IsTrue (B.meaning berth.old).tells → IfOk result (λ o. IsWayOf (B.meaning berth.old).held.region o.way) }

@@ -120,23 +120,23 @@ notes_fit P first place notes h few = let sum = h.1 in omega (arith, sum, few, n
 abbrev pub IsRunning : Shared → SeatView → Type 0
 IsRunning t v = SeesOpen t v × Spares 1000 t v
 
--- the next of the tables is taken off
-pub record Next (all rest : List Table) (k : ℕ) (t : Table) : Type 0 where
+-- the next of a list is taken off
+pub record Next {A : Type 0} (all rest : List A) (k : ℕ) (t : A) : Type 0 where
   pub within : k < length all
   pub at : slice_get all k ≡ Some t
   pub left : rest ≡ drop (k + 1) all
   pub taken : take (k + 1) all ≡ take k all ++ t ∷ []
 
-pub pop_next : (all before rest : List Table) (k : ℕ) (t : Table) → before ≡ drop k all → before ≡ t ∷ rest → Next all rest k t
-pop_next all before rest k t from is = next_of all rest k t (sym from ∙ is)
+pub pop_next : {A : Type 0} (all before rest : List A) (k : ℕ) (t : A) → before ≡ drop k all → before ≡ t ∷ rest → Next all rest k t
+pop_next {A} all before rest k t from is = next_of all rest k t (sym from ∙ is)
   where
-    none : List Table
+    none : List A
     none = []
 
-    no_more : (rest : List Table) (t : Table) → none ≡ t ∷ rest → ⊥
+    no_more : (rest : List A) (t : A) → none ≡ t ∷ rest → ⊥
     no_more rest t e = cc
 
-    next_of : (all rest : List Table) (k : ℕ) (t : Table) → drop k all ≡ t ∷ rest → Next all rest k t
+    next_of : (all rest : List A) (k : ℕ) (t : A) → drop k all ≡ t ∷ rest → Next all rest k t
     next_of [] rest zero t e = absurd (no_more rest t e)
     next_of [] rest (suc k) t e = absurd (no_more rest t e)
     next_of (x ∷ all) rest zero t e = record { within = omega arith; at = cc; left = cc; taken = cc }
@@ -144,7 +144,7 @@ pop_next all before rest k t from is = next_of all rest k t (sym from ∙ is)
       within = omega (arith, n.within);
       at = n.at;
       left = rw next n.left;
-      taken = rw next (ap (λ (l : List Table). x ∷ l) n.taken);
+      taken = rw next (ap (λ (l : List A). x ∷ l) n.taken);
     }
 
 pub none_left : (all rest : List Table) (k : ℕ) → rest ≡ drop k all → rest ≡ [] → length all ≤ k

@@ -239,6 +239,7 @@ shuts {x} {now} {place} {t} {v} h is clock closed w by = counted_as closed.table
       writes = by.writes;
       contents = by.contents;
       record_is = by.pending;
+      columns = by.columns;
       now = ap (λ (y : Seated). with_seat y place w) is;
     })
 

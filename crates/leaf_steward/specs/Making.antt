@@ -7,7 +7,7 @@ use Rattle.leaf_history.specs.History.{held}
 use Rattle.table_state.specs.Tables.{Table}
 use Rattle.row_records.specs.Records.{LogRecord}
 use Rattle.leaf_table.specs.declared.base.TableBase.{TableBase}
-use Rattle.leaf_table.specs.Turns.{Shared, untaken_record}
+use Rattle.leaf_table.specs.Turns.{HasFewColumns, Shared, is_founded, untaken_record}
 use Rattle.leaf_table.specs.Calls.{SeatView, Made, base_seen, name_of, state_before, IsFresh, IsWorn}
 use Rattle.leaf_steward.specs.declared.notes.Note.{Note}
 use Rattle.leaf_steward.specs.declared.notes.What.{What}
@@ -93,6 +93,7 @@ pub record ShutsAt (clock : ℕ) (x : Seated) (place number n : ℕ) (t : Table)
   pub writes : t.writes ≡ n
   pub contents : t.contents ≡ held (state_before (base_seen table) before made.between)
   pub record_is : t.pending ≡ untaken_record (name_of table) (state_before (base_seen table) before made.between)
+  pub columns : HasFewColumns (is_founded (base_seen table)) (state_before (base_seen table) before made.between).writes t
   pub now : y ≡ with_seat x place after
 
 -- the seat in that place is worn

@@ -1,8 +1,9 @@
 // The entries of the steward. None of them takes memory, and each carries the berth's clock as it is at the call.
 ghost use Rattle.std.specs.Prelude.{◌≡◌, ◌<◌, ◌≤◌, ◌+◌, ◌++◌, ◌∷◌, ℕ, List, [], length, drop, slice_get, Some, IfSome, IfNone, true};
 ghost use Rattle.std.specs.List.{AllByRecursion};
-ghost use Rattle.table_state.specs.Tables.{Table};
+ghost use Rattle.table_state.specs.Tables.{Table, added_count};
 ghost use Rattle.leaf_history.specs.History as history;
+ghost use Rattle.leaf_history.specs.History.{first_writes};
 ghost use Rattle.leaf_table.specs.Turns.{Shared, is_founded, MayHandIn};
 ghost use Rattle.leaf_table.specs.Calls.{SeatView, base_seen, state_seen, IsFresh, SeesOpen, SeesShut};
 ghost use Rattle.leaf_steward.specs.declared.notes.Note.{Note};
@@ -153,13 +154,15 @@ impl<'t> Seats<'t> {
         notes: &mut Notes,
     )
         requires none { notes.old ≡ [] }
-        requires one { length tables ≡ length self.old.tables }
+        requires one { length tables.each ≡ length self.old.tables }
         requires shut { AtEach (λ place t v. SeesShut t v) self.old }
         requires fresh { AtEach (λ place t v. IsFresh v) self.old }
         requires content { (place : ℕ) (t : Shared) (v : SeatView) (table : Table) → slice_get self.old.tables place ≡ Some t → slice_get self.old.seats place ≡ Some v
-            → slice_get tables place ≡ Some table → MayHandIn (is_founded (base_seen t)) (state_seen (base_seen t) v) table.writes table }
+            → slice_get tables.each place ≡ Some table → MayHandIn (is_founded (base_seen t)) (state_seen (base_seen t) v) table.writes table }
+        requires columns { (place : ℕ) (t : Shared) (v : SeatView) (table : Table) (n : ℕ) → slice_get self.old.tables place ≡ Some t → slice_get self.old.seats place ≡ Some v
+            → slice_get tables.each place ≡ Some table → slice_get tables.columns place ≡ Some n → is_founded (base_seen t) ≡ true → n ≤ added_count (first_writes (state_seen (base_seen t) v) table.writes) }
         ensures made { Makes (B.meaning berth.now).clock (B.meaning berth.now).clock self.old notes.new self.new }
-        ensures each { OpenedNotes 0 tables notes.new }
+        ensures each { OpenedNotes 0 tables.each notes.new }
         ensures open_ { AtEach (λ place t v. SeesOpen t v) self.new }
         ensures spares { AtEach (λ place t v. Spares 1000 t v) self.new }
     {

@@ -48,7 +48,7 @@ last_allowed : (founded : Bool) (s : HistoryState) (h : Turns) (e : turnstile.En
 last_allowed founded s [] e l = l.0
 last_allowed founded s (x ∷ h) e l = last_allowed founded (after_entry founded s (told x)) h e l.1
 
-last_hands : (name : List ℕ) (founded : Bool) (s : HistoryState) (h : Turns) (e : turnstile.Entry Turn Answer) → HandsFrom name founded s (h ++ e ∷ []) → Hands name (after founded s (history h)) e.call e.reply
+last_hands : (name : List ℕ) (founded : Bool) (s : HistoryState) (h : Turns) (e : turnstile.Entry Turn Answer) → HandsFrom name founded s (h ++ e ∷ []) → Hands name founded (after founded s (history h)) e.call e.reply
 last_hands name founded s [] e l = l.0
 last_hands name founded s (x ∷ h) e l = last_hands name founded (after_entry founded s (told x)) h e l.1
 
@@ -114,7 +114,7 @@ made_turn legal b name base clock v t a w c l =
     let size : length w.seen ≡ length h + 1 = ap (λ (x : Turns). length x) seen ∙ push_length h e in
     let room : w.room ≡ c.room = ap (λ (u : SeatView). u.room) c.view in
     let falls = c.room_falls in
-    let hands : Hands name (after f s (history v.seen ++ history c.between)) t a = subst (λ x. Hands name (after f s x) t a) split (last_hands name f s h e all.hands) in (
+    let hands : Hands name f (after f s (history v.seen ++ history c.between)) t a = subst (λ x. Hands name f (after f s x) t a) split (last_hands name f s h e all.hands) in (
       record {
         between = history c.between;
         seen = ap history seen ∙ (history_append h (e ∷ []) ∙ ap (λ x. x ++ told e ∷ []) split);
@@ -130,13 +130,14 @@ made_turn legal b name base clock v t a w c l =
 
 pub closed_by : (name : List ℕ) (base : Option TableBase) (clock : ℕ) (v : SeatView) (x : ClosedTable) (w : SeatView) → MadeTurn name base clock v turn.Shut (answer.Closed x.table) w → x.number ≡ length w.seen → x.writes ≡ x.table.writes → ClosedBy name base clock v x w
 closed_by name base clock v x w m number writes =
-    let fits : (n : ℕ) → x.table.writes ≡ n → (y : Made base clock v call.Shut (reply.Counted n) w) × HandsOut name (state_before base v y.between) turn.Shut (answer.Closed x.table) = λ n is. subst (λ k. (y : Made base clock v call.Shut (reply.Counted k) w) × HandsOut name (state_before base v y.between) turn.Shut (answer.Closed x.table)) is m in
+    let fits : (n : ℕ) → x.table.writes ≡ n → (y : Made base clock v call.Shut (reply.Counted n) w) × HandsOut name (is_founded base) (state_before base v y.between) turn.Shut (answer.Closed x.table) = λ n is. subst (λ k. (y : Made base clock v call.Shut (reply.Counted k) w) × HandsOut name (is_founded base) (state_before base v y.between) turn.Shut (answer.Closed x.table)) is m in
     let now = fits x.writes (sym writes) in record {
       number = number;
       made = now.0;
       writes = sym writes;
       contents = now.1.0;
       pending = now.1.1;
+      columns = now.1.2;
     }
 
 pub others_kept : (base : Option TableBase) (clock : ℕ) (v w : SeatView) (c : Call) (r : Reply) → (m : Made base clock v c r w) → IsSteward v → 0 < v.share → CallersKeep (state_seen base v) (state_before base v m.between)

@@ -17,7 +17,7 @@ use Rattle.leaf_table.specs.declared.replies.Reply.TheVariants as told
 use Rattle.leaf_table.specs.declared.replies.Taken.{Taken}
 use Rattle.leaf_table.specs.declared.replies.Taken.TheVariants as taken
 use Rattle.leaf_table.specs.declared.replies.ClosedTable.{ClosedTable}
-use Rattle.leaf_table.specs.Turns.{Shared, is_founded, start_of, call_of, reply_of, history, HandsOut, OverFew, untaken_record}
+use Rattle.leaf_table.specs.Turns.{Shared, is_founded, start_of, call_of, reply_of, history, HandsOut, HasFewColumns, OverFew, untaken_record}
 
 -- what the table was founded with, if it was
 abbrev pub base_seen : Shared → Option TableBase
@@ -99,7 +99,7 @@ pub record Made (base : Option TableBase) (clock : ℕ) (v : SeatView) (c : Call
 
 -- the same of a turn, with what it hands out
 abbrev pub MadeTurn : List ℕ → Option TableBase → ℕ → SeatView → Turn → Answer → SeatView → Type 0
-MadeTurn name base clock v t a w = (m : Made base clock v (call_of t) (reply_of a) w) × HandsOut name (state_before base v m.between) t a
+MadeTurn name base clock v t a w = (m : Made base clock v (call_of t) (reply_of a) w) × HandsOut name (is_founded base) (state_before base v m.between) t a
 
 -- a caller's seat
 abbrev pub IsCaller : SeatView → Type 0
@@ -165,6 +165,7 @@ pub record ClosedBy (name : List ℕ) (base : Option TableBase) (clock : ℕ) (v
   pub writes : x.table.writes ≡ x.writes
   pub contents : x.table.contents ≡ held (state_before base v made.between)
   pub pending : x.table.pending ≡ untaken_record name (state_before base v made.between)
+  pub columns : HasFewColumns (is_founded base) (state_before base v made.between).writes x.table
 
 -- the table was opened again with what was handed in; a worn seat has it back
 abbrev pub ReopenedBy : Option TableBase → ℕ → SeatView → ℕ → Table → Result ℕ Table → SeatView → Type 0

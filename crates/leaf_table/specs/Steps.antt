@@ -7,7 +7,8 @@ use Rattle.leaf_model.specs.declared.writes.Write.{Write}
 use Rattle.leaf_model.specs.declared.writes.Write.TheVariants.{Add}
 use Rattle.leaf_model.specs.Content.{kept_count, late_count, removed_count}
 use Rattle.leaf_model.specs.Groups.{groups}
-use Rattle.table_state.specs.Tables.{IsHeld, bare, table_with_write, empty_table}
+use Rattle.row_blocks.specs.Held.{rows_and_cells}
+use Rattle.table_state.specs.Tables.{IsHeld, bare, columns_most, table_with_write, empty_table}
 use Rattle.group_table.specs.Joined.{IsWithin}
 use Rattle.leaf_table.specs.declared.turns.Answer.{Answer}
 use Rattle.leaf_table.specs.declared.turns.Answer.TheVariants.{Added, Removed, Groups, Shut, Full, NoMemory, Took, Closed, Noted}
@@ -16,6 +17,7 @@ use Rattle.leaf_table.specs.declared.value.LeafTable.{LeafTable}
 -- rows are added where the table is open and has room for them
 abbrev pub AddsTo : LeafTable → List Row → Answer → LeafTable → Type 0
 AddsTo v rows (Added kept late) w = (v.live ≡ true) × (length v.table.contents.rows + kept_count v.table.contents rows ≤ 2 ^ 40) × (kept ≡ kept_count v.table.contents rows) × (late ≡ late_count v.table.contents rows) × (w.name ≡ v.name) × (w.live ≡ v.live) × (bare w.table ≡ table_with_write v.name v.table (Add rows))
+    × (columns_most w.table.store ≤ columns_most v.table.store + rows_and_cells rows)
 AddsTo v rows Full w = (v.live ≡ true) × (2 ^ 40 < length v.table.contents.rows + kept_count v.table.contents rows) × (w ≡ v)
 AddsTo v rows NoMemory w = (v.live ≡ true) × (w ≡ v)
 AddsTo v rows Shut w = (v.live ≡ false) × (w ≡ v)
@@ -28,6 +30,7 @@ AddsTo v rows Noted w = ⊥
 -- an expiry or a keep takes rows away where the table is open
 abbrev pub RemovesFrom : LeafTable → Write → Answer → LeafTable → Type 0
 RemovesFrom v write (Removed n) w = (v.live ≡ true) × (n ≡ removed_count v.table.contents write) × (w.name ≡ v.name) × (w.live ≡ v.live) × (bare w.table ≡ table_with_write v.name v.table write)
+    × (columns_most w.table.store ≤ columns_most v.table.store)
 RemovesFrom v write NoMemory w = (v.live ≡ true) × (w ≡ v)
 RemovesFrom v write Shut w = (v.live ≡ false) × (w ≡ v)
 RemovesFrom v write (Added kept late) w = ⊥

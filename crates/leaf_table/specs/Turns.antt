@@ -11,9 +11,9 @@ use Rattle.leaf_history.specs.Calls.{Call}
 use Rattle.leaf_history.specs.Calls as call
 use Rattle.leaf_history.specs.Replies.{Reply}
 use Rattle.leaf_history.specs.Replies as reply
-use Rattle.leaf_history.specs.History.{Entry, HistoryState, base_of, no_base, LegalFrom, OpenAllowed, after, after_entry, held, untaken, write_count}
+use Rattle.leaf_history.specs.History.{Entry, HistoryState, base_of, no_base, LegalFrom, OpenAllowed, after, after_entry, first_writes, held, untaken, write_count}
 use Rattle.row_records.specs.Records.{LogRecord, new_record}
-use Rattle.table_state.specs.Tables.{Table, IsHeld}
+use Rattle.table_state.specs.Tables.{Table, IsHeld, added_count, columns_most}
 use Rattle.group_table.specs.Joined.{IsWithin}
 use Rattle.leaf_table.specs.declared.base.TableBase.{TableBase}
 use Rattle.leaf_table.specs.declared.base.Origin.{Origin}
@@ -103,25 +103,29 @@ record_for name (w ∷ ws) = Some (new_record name (w ∷ ws))
 abbrev pub untaken_record : List ℕ → HistoryState → Option LogRecord
 untaken_record name s = record_for name (untaken s)
 
+-- a table that is founded comes to at most a column for each row and each cell that its writes add
+abbrev pub HasFewColumns : Bool → List Write → Table → Type 0
+HasFewColumns founded writes table = founded ≡ true → columns_most table.store ≤ added_count writes
+
 -- a take hands out the record of the writes that were not taken, and a shut the table with them
-abbrev pub HandsOut : List ℕ → HistoryState → Turn → Answer → Type 0
-HandsOut name s turn.Take (answer.Took writes pending) = pending ≡ untaken_record name s
-HandsOut name s turn.Take _ = ⊥
-HandsOut name s turn.Shut (answer.Closed table) = (table.contents ≡ held s) × (table.pending ≡ untaken_record name s)
-HandsOut name s turn.Shut _ = ⊥
-HandsOut name s _ _ = ⊤
+abbrev pub HandsOut : List ℕ → Bool → HistoryState → Turn → Answer → Type 0
+HandsOut name founded s turn.Take (answer.Took writes pending) = pending ≡ untaken_record name s
+HandsOut name founded s turn.Take _ = ⊥
+HandsOut name founded s turn.Shut (answer.Closed table) = (table.contents ≡ held s) × (table.pending ≡ untaken_record name s) × HasFewColumns founded s.writes table
+HandsOut name founded s turn.Shut _ = ⊥
+HandsOut name founded s _ _ = ⊤
 
 -- groups are told over what a table may hold, and are within what 2^40 rows give
 abbrev pub OverFew : HistoryState → Reply → Type 0
 OverFew s (reply.Groups gs) = IsHeld (held s) × AllByRecursion (IsWithin (2 ^ 40)) gs
 OverFew s _ = ⊤
 
-abbrev pub Hands : List ℕ → HistoryState → Turn → Answer → Type 0
-Hands name s t a = HandsOut name s t a × OverFew s (reply_of a)
+abbrev pub Hands : List ℕ → Bool → HistoryState → Turn → Answer → Type 0
+Hands name founded s t a = HandsOut name founded s t a × OverFew s (reply_of a)
 
 abbrev pub HandsFrom : List ℕ → Bool → HistoryState → Turns → Type 0
 HandsFrom name founded s [] = ⊤
-HandsFrom name founded s (e ∷ es) = Hands name s e.call e.reply × HandsFrom name founded (after_entry founded s (told e)) es
+HandsFrom name founded s (e ∷ es) = Hands name founded s e.call e.reply × HandsFrom name founded (after_entry founded s (told e)) es
 
 -- the turns are a legal history, and each hands out what it owes
 pub record LegalTurns (name : List ℕ) (base : Option TableBase) (h : Turns) : Type 0 where
@@ -133,7 +137,7 @@ abbrev pub state_after : Option TableBase → Turns → HistoryState
 state_after base h = after (is_founded base) (start_of base) (history h)
 
 -- an open table holds what its history says, and the record of the writes that were not taken
-pub record IsTableOf (name : List ℕ) (s : HistoryState) (n : ℕ) (v : LeafTable) : Type 0 where
+pub record IsTableOf (name : List ℕ) (founded : Bool) (s : HistoryState) (n : ℕ) (v : LeafTable) : Type 0 where
   pub named : v.name ≡ name
   pub short : length name ≤ 255
   pub live : v.live ≡ s.live
@@ -141,15 +145,17 @@ pub record IsTableOf (name : List ℕ) (s : HistoryState) (n : ℕ) (v : LeafTab
   pub writes : s.live ≡ true → v.table.writes ≡ write_count s
   pub pending : s.live ≡ true → v.table.pending ≡ untaken_record name s
   pub few : s.live ≡ true → v.table.writes < 2 ^ 63 + n
+  pub columns : s.live ≡ true → HasFewColumns founded s.writes v.table
 
 abbrev pub StandsFor : List ℕ → Option TableBase → Turns → LeafTable → Type 0
-StandsFor name base h v = IsTableOf name (state_after base h) (length h) v
+StandsFor name base h v = IsTableOf name (is_founded base) (state_after base h) (length h) v
 
--- a table that is handed in: nothing is pending, and it had n writes
+-- a table that is handed in: nothing is pending, it had n writes, and of a founded one these add a row or a cell for each column
 pub record MayHandIn (founded : Bool) (s : HistoryState) (n : ℕ) (table : Table) : Type 0 where
   pub pending : table.pending ≡ None
   pub writes : table.writes ≡ n
   pub small : n < 2 ^ 63
+  pub columns : HasFewColumns founded (first_writes s n) table
   pub allowed : OpenAllowed founded s n table.contents
 
 -- who may take which turn in this state: the steward shuts what is open and opens what is shut

@@ -46,7 +46,7 @@ module _ (records : List LogRecord) (r : LogRecord) where
   abbrev more : List LogRecord
   more = records ++ r ∷ []
 
-  only_by : (name : List ℕ) (same : Bool) → bytes_eq name r.name ≡ same → writes_of name more ≡ writes_of name records ++ cond same r.writes []
+  pub only_by : (name : List ℕ) (same : Bool) → bytes_eq name r.name ≡ same → writes_of name more ≡ writes_of name records ++ cond same r.writes []
   only_by name same e = writes_append name records (r ∷ []) ∙ ap (λ (l : List Write). writes_of name records ++ l) (last (bytes_eq name r.name) same e)
     where
       last : (b same : Bool) → b ≡ same → cond b (r.writes ++ []) [] ≡ cond same r.writes []
@@ -55,7 +55,7 @@ module _ (records : List LogRecord) (r : LogRecord) where
       last false true e = absurd cc
       last false false e = refl
 
-  writes_here : writes_of r.name more ≡ writes_of r.name records ++ r.writes
+  pub writes_here : writes_of r.name more ≡ writes_of r.name records ++ r.writes
   writes_here = only_by r.name true ((bytes_eq-Decides r.name r.name).1 refl)
 
   writes_other : (name : List ℕ) → bytes_eq name r.name ≡ false → writes_of name more ≡ writes_of name records

@@ -1,5 +1,5 @@
 -- How far a log was read, and why not further.
-use Rattle.std.proofs.Common.{◌≡◌, ℕ, zero, suc, ◌<◌, ◌≤◌, ◌^◌, inl, inr, Bool, List, [], ◌∷◌, ◌++◌, length, take, drop, min, None, refl, sym, ap, subst, ◌∙◌, length-append, arith}
+use Rattle.std.proofs.Common.{◌≡◌, ℕ, zero, suc, ◌<◌, ◌≤◌, ◌^◌, inl, inr, Bool, false, List, [], ◌∷◌, ◌++◌, length, take, drop, min, None, refl, sym, ap, subst, ◌∙◌, length-append, arith}
 use Rattle.std.specs.Prelude.{IfErr, IsTrue, Result, Ok, Err}
 use Rattle.std.specs.List.{AllByRecursion}
 use Rattle.std.proofs.lemmas.Bool.{cases_lt}
@@ -10,48 +10,68 @@ use Rattle.row_records.specs.Records.{LogRecord}
 use Rattle.table_state.specs.Tables.{Table}
 use Rattle.disk_backup.specs.declared.step.FlushRecord.{FlushRecord}
 use Rattle.disk_backup.specs.declared.step.LogStep.TheVariants.{Record}
-use Rattle.disk_backup.specs.Logs.{IsSound, open_records, writes_of}
-use Rattle.disk_backup.specs.State.{ScanState}
+use Rattle.disk_backup.specs.Logs.{ClosedLog, IsSound, open_records, writes_of}
+use Rattle.disk_backup.specs.State.{LogState, ScanState}
 use Rattle.disk_backup.specs.Scanning.{Scanned, StepIs, ScansOn, begun, record_is}
 use Rattle.disk_backup.proofs.Logs.{end_snoc}
 use Rattle.disk_backup.proofs.Beginning.{begun_short, begun_long}
 use Rattle.disk_backup.proofs.Scanned.{never_damaged, scanned_is_front}
 use Rattle.log_recovery.specs.declared.fault.RecoveryFault.{RecoveryFault}
 use Rattle.log_recovery.specs.declared.fault.RecoveryFault.TheVariants.{DiskDamaged, DiskFault, NoMemory, Stranger}
-use Rattle.log_recovery.specs.Recovery.{IfRead, IsTooLong, IsRecoveryRefusal, tables_of}
+use Rattle.log_recovery.specs.Recovery.{AreFew, IfRead, IsRecovered, IsTooLong, IsRecoveryRefusal, tables_of}
 use Rattle.log_recovery.specs.Applying.{HasApplied, Reached, count_of}
 use Rattle.disk_backup.proofs.SoundLogs.{writes_append}
 use Rattle.log_recovery.proofs.Applying.{few_writes, count_more}
 
+-- a log that ends here and is owed nothing
+abbrev log_ended : ℕ → LogState
+log_ended end = record { end = end; owed = None; laid = false }
+
 module _ (names : List (List ℕ)) (tells : Bool) (disk : List ℕ) where
   -- ---- the first gate
 
-  pub reached_none : (scan : ScanState) → scan.at ≡ 0 → (IsTrue tells → (scan.len ≡ length disk) × (0 < length disk)) → Reached names tells disk scan (tables_of names [])
-  reached_none scan start whole = record {
+  pub reached_none : (scan : ScanState) → scan.at ≡ 0 → (IsTrue tells → (scan.len ≡ length disk) × (0 < length disk)) → (columns : List ℕ) → AreFew names [] columns → Reached names tells disk scan (tables_of names []) columns
+  reached_none scan start whole columns columns_few = record {
     records = [];
     applied = record {
       known = refl;
       bounded = λ name k. let none : take k (writes_of name []) ≡ [] = take_all k [] (omega arith) in subst (λ (l : List Write). length (content l).rows ≤ 2 ^ 40) (sym none) (omega arith);
       tables_are = refl;
     };
+    columns_few = columns_few;
     few = omega arith;
     scanned = λ told. record { rest = disk; each = tt; is = refl; at_is = start; some = (whole told).1 };
     len = λ told. (whole told).0;
   }
 
-  module _ (scan : ScanState) (tables : List Table) (so_far : Reached names tells disk scan tables) where
+  module _ (scan : ScanState) (tables : List Table) (columns : List ℕ) (so_far : Reached names tells disk scan tables columns) where
     -- ---- one record more
 
-    pub reached_more : (later : ScanState) (flush : FlushRecord) (now : List Table)
+    pub reached_more : (later : ScanState) (flush : FlushRecord) (now : List Table) (counts : List ℕ)
         → (IsTrue tells → StepIs disk so_far.records scan.len (Record later flush)) → ScansOn scan (Record later flush)
-        → HasApplied names (so_far.records ++ record_is flush ∷ []) now → Reached names tells disk later now
-    reached_more later flush now step goes applied = record {
+        → HasApplied names (so_far.records ++ record_is flush ∷ []) now → AreFew names (so_far.records ++ record_is flush ∷ []) counts → Reached names tells disk later now counts
+    reached_more later flush now counts step goes applied columns_few = record {
       records = so_far.records ++ record_is flush ∷ [];
       applied = applied;
+      columns_few = columns_few;
       few = omega (arith, so_far.few, goes.0, count_more so_far.records (record_is flush));
       scanned = λ told. (step told).0;
       len = λ told. (step told).1 ∙ so_far.len told;
     }
+
+    -- the log's end was reached
+    pub reached_end : IsTrue tells → (log : LogState) → ClosedLog so_far.records log.end disk → log ≡ log_ended scan.at → (x : IsRecovered names disk tables log) × AreFew names x.records columns
+    reached_end told log closed is = (
+      record {
+        records = so_far.records;
+        closed = closed;
+        known = so_far.applied.known;
+        bounded = so_far.applied.bounded;
+        tables_are = so_far.applied.tables_are;
+        log_is = is ∙ ap log_ended (sym (ap (λ (l : LogState). l.end) is));
+      },
+      so_far.columns_few,
+    )
 
     abbrev IsSettled : Table → Type 0
     IsSettled t = (t.pending ≡ None) × (t.writes < 2 ^ 63)

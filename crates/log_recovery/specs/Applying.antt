@@ -12,7 +12,7 @@ use Rattle.disk_backup.specs.State.{ScanState}
 use Rattle.disk_backup.specs.Scanning.{Scanned}
 use Rattle.log_recovery.specs.declared.fault.RecoveryFault.{RecoveryFault}
 use Rattle.log_recovery.specs.declared.fault.RecoveryFault.TheVariants.{DiskFault, DiskDamaged, Stranger, NoMemory}
-use Rattle.log_recovery.specs.Recovery.{IsTooLong, stranger_in, tables_of}
+use Rattle.log_recovery.specs.Recovery.{AreFew, IsTooLong, stranger_in, tables_of}
 
 -- so many writes more: after none of them has the table more than 2^40 rows, or after some of them it would have
 abbrev pub ReplaysAll : Table → List Write → Result (Unit {0}) AddFault → Table → Type 0
@@ -47,9 +47,10 @@ Applies names records r (Err DiskFault) now = ⊥
 Applies names records r (Err NoMemory) now = ⊤
 
 -- some records were applied: where the berth tells its disk, those up to the scan's place
-pub record Reached (names : List (List ℕ)) (tells : Bool) (disk : List ℕ) (scan : ScanState) (tables : List Table) : Type 0 where
+pub record Reached (names : List (List ℕ)) (tells : Bool) (disk : List ℕ) (scan : ScanState) (tables : List Table) (columns : List ℕ) : Type 0 where
   pub records : List LogRecord
   pub applied : HasApplied names records tables
+  pub columns_few : AreFew names records columns
   pub few : count_of records ≤ scan.at
   pub scanned : IsTrue tells → Scanned disk records scan.at
   pub len : IsTrue tells → scan.len ≡ length disk

@@ -1,9 +1,9 @@
 -- The tables that a log gives back.
-use Rattle.std.specs.Prelude.{◌≡◌, ◌⊎◌, ℕ, ◌<◌, ◌^◌, Bool, true, false, not, List, [], ◌∷◌, ◌++◌, length, map, take, Option, None, option_map, ⊤, bytes_eq}
+use Rattle.std.specs.Prelude.{◌≡◌, ◌⊎◌, ℕ, ◌<◌, ◌≤◌, ◌^◌, Bool, true, false, not, List, [], ◌∷◌, ◌++◌, length, map, take, slice_get, Option, Some, None, option_map, ⊤, bytes_eq}
 use Rattle.std.specs.List.{find, list_any}
 use Rattle.leaf_model.specs.Content.{content}
 use Rattle.row_records.specs.Records.{LogRecord}
-use Rattle.table_state.specs.Tables.{Table, no_store}
+use Rattle.table_state.specs.Tables.{Table, added_count, no_store}
 use Rattle.disk_backup.specs.Logs.{ClosedLog, IsBounded, writes_of}
 use Rattle.disk_backup.specs.State.{LogState}
 use Rattle.disk_backup.specs.Scanning.{Scanned, Damaged}
@@ -17,6 +17,10 @@ table_of records name = record { contents = content (writes_of name records); wr
 -- the tables of these names, in their order
 abbrev pub tables_of : List (List ℕ) → List LogRecord → List Table
 tables_of names records = map (table_of records) names
+
+-- each table has at most a column for each row and each cell that the records add to it
+abbrev pub AreFew : List (List ℕ) → List LogRecord → List ℕ → Type 0
+AreFew names records columns = (place : ℕ) (name : List ℕ) (n : ℕ) → slice_get names place ≡ Some name → slice_get columns place ≡ Some n → n ≤ added_count (writes_of name records)
 
 abbrev pub is_stranger : List (List ℕ) → LogRecord → Bool
 is_stranger names r = not (list_any (bytes_eq r.name) names)

@@ -1,12 +1,12 @@
 // Applying a record to the table of its name.
-ghost use Rattle.std.specs.Prelude.{◌≡◌, ◌+◌, ◌-◌, ◌<◌, ◌≤◌, ◌^◌, List, [], length, map, IfOk};
+ghost use Rattle.std.specs.Prelude.{◌≡◌, ◌+◌, ◌-◌, ◌<◌, ◌≤◌, ◌^◌, List, [], ◌∷◌, ◌++◌, length, map, IfOk, OnOk};
 ghost use Rattle.std.specs.List.{AllByRecursion};
 ghost use Rattle.leaf_model.specs.Values.{IsWrite};
 ghost use Rattle.row_records.specs.Records.{LogRecord, IsRecord};
 ghost use Rattle.disk_backup.specs.Scanning.{record_is};
 ghost use Rattle.leaf_model.specs.Names.{AreDistinct};
-ghost use Rattle.table_state.specs.Tables.{bare};
-ghost use Rattle.log_recovery.specs.Recovery.{tables_of};
+ghost use Rattle.table_state.specs.Tables.{Table, added_count, bare, columns_most};
+ghost use Rattle.log_recovery.specs.Recovery.{AreFew, tables_of};
 ghost use Rattle.log_recovery.specs.Applying.{Applies, HasApplied, MayApply, ReplaysAll};
 
 use crate::fault::RecoveryFault;
@@ -18,7 +18,8 @@ use table_state::{AddFault, TableState};
 
 /// A table that had no write for each name.
 pub fn empty_tables(alloc: Global, names: &Names) -> Result<Vec<TableState>, AllocError>
-    ensures { IfOk result (λ tables. tables.items ≡ tables_of names.now []) }
+    ensures empty { IfOk result (λ tables. tables.items ≡ tables_of names.now []) }
+    ensures columns { IfOk result (λ tables. AreFew names.now [] (map (λ (t : Table). columns_most t.store) tables.items)) }
 {
     let mut tables = Vec::new(alloc);
     for _name in names.as_slice() {
@@ -37,7 +38,9 @@ pub fn apply(
     requires distinct { AreDistinct names.now }
     requires record { IsRecord (record_is flush) }
     requires may { MayApply names.now (length flush.writes) (map bare tables.old.items) }
-    ensures { (records : List LogRecord) → HasApplied names.now records (map bare tables.old.items) → Applies names.now records (record_is flush) result (map bare tables.new.items) }
+    ensures does { (records : List LogRecord) → HasApplied names.now records (map bare tables.old.items) → Applies names.now records (record_is flush) result (map bare tables.new.items) }
+    ensures columns { OnOk result ((records : List LogRecord) → AreFew names.now records (map (λ (t : Table). columns_most t.store) tables.old.items)
+        → AreFew names.now (records ++ record_is flush ∷ []) (map (λ (t : Table). columns_most t.store) tables.new.items)) }
 {
     match names.place_of(flush.table.as_str().as_bytes()) {
         None => Err(RecoveryFault::Stranger(flush.table)),
@@ -49,7 +52,8 @@ fn replay_all(table: &mut TableState, writes: Vec<Write>) -> Result<(), AddFault
     requires few { length table.old.contents.rows ≤ 2 ^ 40 }
     requires writes { AllByRecursion IsWrite writes.items }
     requires room { table.old.writes + length writes.items < 2 ^ 64 }
-    ensures { ReplaysAll table.old writes.items result table.new }
+    ensures does { ReplaysAll table.old writes.items result table.new }
+    ensures columns { columns_most table.new.store ≤ columns_most table.old.store + added_count writes.items }
 {
     let mut rest = VecDeque::from_vec(writes);
     while let Some(write) = rest.pop_front() {

@@ -8,8 +8,8 @@ ghost use Rattle.disk_backup.specs.Logs.{IsSound};
 ghost use Rattle.disk_backup.specs.Scanning.{StepsFrom, BeginsScan, begun};
 ghost use Rattle.log_recovery.specs.declared.fault.RecoveryFault.TheVariants as fault;
 ghost use Rattle.leaf_model.specs.Names.{AreDistinct};
-ghost use Rattle.table_state.specs.Tables.{bare};
-ghost use Rattle.log_recovery.specs.Recovery.{IfRead, IsRecovered, IsRecoveryRefusal, tables_of};
+ghost use Rattle.table_state.specs.Tables.{Table, bare, columns_most};
+ghost use Rattle.log_recovery.specs.Recovery.{AreFew, IfRead, IsRecovered, IsRecoveryRefusal, tables_of};
 
 use crate::apply::{apply, empty_tables};
 use crate::fault::RecoveryFault;
@@ -29,7 +29,7 @@ pub fn recover<B: Berth>(
 ) -> Result<Recovered, RecoveryFault>
     requires distinct { AreDistinct names.now }
     // What was read, and each answer that is a refusal, where the berth tells its contents.
-    ensures told { IsTrue (B.meaning berth.old).tells → IfOk result (λ r. IsRecovered names.now (B.meaning berth.new).held.disk r.tables r.log) }
+    ensures told { IsTrue (B.meaning berth.old).tells → IfOk result (λ r. (x : IsRecovered names.now (B.meaning berth.new).held.disk r.tables.each r.log) × AreFew names.now x.records r.tables.columns) }
     ensures refused { IsTrue (B.meaning berth.old).tells → IfErr result (IsRecoveryRefusal names.now (B.meaning berth.new).held.disk) }
     // A log that is sound is never damaged.
     ensures sound { IsTrue (B.meaning berth.old).tells → IsSound (B.meaning berth.old).held.disk → result ≢ Err fault.DiskDamaged }
@@ -42,9 +42,9 @@ pub fn recover<B: Berth>(
     ensures moments { IsTrue (B.meaning berth.old).tells
         → Throughout (StepsFrom (BeginsScan (length (B.meaning berth.old).held.disk)) (B.meaning berth.old)) (B.meaning berth.old) (B.meaning berth.new) }
     // On every berth, whether it tells its contents or not.
-    ensures one { IfOk result (λ r. length r.tables ≡ length names.now) }
+    ensures one { IfOk result (λ r. length r.tables.each ≡ length names.now) }
     ensures none_owed { IfOk result (λ r. (r.log.owed ≡ None) × (r.log.end < 2 ^ 63)) }
-    ensures settled { IfOk result (λ r. AllByRecursion (λ t. (t.pending ≡ None) × (t.writes < 2 ^ 63)) r.tables) }
+    ensures settled { IfOk result (λ r. AllByRecursion (λ t. (t.pending ≡ None) × (t.writes < 2 ^ 63)) r.tables.each) }
     ensures time { Passes (B.meaning berth.old) (B.meaning berth.new) }
     ensures cause { result ≡ Err fault.DiskFault → Rose (B.meaning berth.old).disk_faults (B.meaning berth.new).disk_faults }
 {
@@ -69,10 +69,12 @@ fn read_on<B: Berth>(
     requires start { scan.at ≡ 0 }
     requires whole { IsTrue (B.meaning berth.old).tells → (scan.len ≡ length (B.meaning berth.old).held.disk) × (0 < length (B.meaning berth.old).held.disk) }
     requires empty { map bare tables.old.items ≡ tables_of names.now [] }
+    requires columns { AreFew names.now [] (map (λ (t : Table). columns_most t.store) tables.old.items) }
     ensures stays { IsTrue (B.meaning berth.old).tells → Stays (B.meaning berth.old) (B.meaning berth.new) }
     ensures time { Passes (B.meaning berth.old) (B.meaning berth.new) }
     ensures cause { result ≡ Err fault.DiskFault → Rose (B.meaning berth.old).disk_faults (B.meaning berth.new).disk_faults }
-    ensures told { IsTrue (B.meaning berth.old).tells → IfOk result (λ log. IsRecovered names.now (B.meaning berth.old).held.disk (map bare tables.new.items) log) }
+    ensures told { IsTrue (B.meaning berth.old).tells → IfOk result (λ log. (x : IsRecovered names.now (B.meaning berth.old).held.disk (map bare tables.new.items) log)
+        × AreFew names.now x.records (map (λ (t : Table). columns_most t.store) tables.new.items)) }
     ensures refused { IsTrue (B.meaning berth.old).tells → IfErr result (IsRecoveryRefusal names.now (B.meaning berth.old).held.disk) }
     ensures one { OnOk result (length (map bare tables.new.items) ≡ length names.now) }
     ensures none_owed { IfOk result (λ log. (log.owed ≡ None) × (log.end < 2 ^ 63)) }

@@ -66,7 +66,7 @@ kill_ends names m m' leaf notes ends leaf' (step.not_up down empty held ended is
 drain_ends : (names : List (List ℕ)) (m m' : Meaning) (leaf : Leaf) (stop : Option ℕ) (notes : List Note) (ends : Ending) (leaf' : Leaf) → DrainMoves m m' leaf stop notes ends leaf' → EndsOf names ends
 drain_ends names m m' leaf stop notes ends leaf' (step.done x y z treating handing n copy made shuts steps last may part each is way own ended now) = subst (EndsOf names) (sym ended) tt
 drain_ends names m m' leaf stop notes ends leaf' (step.failed x y n copy made shuts steps may own ended now) = subst (EndsOf names) (sym ended) tt
-drain_ends names m m' leaf stop notes ends leaf' (step.roomless x y n shuts steps all may region ended now) = subst (EndsOf names) (sym ended) tt
+drain_ends names m m' leaf stop notes ends leaf' (step.roomless x y n shuts steps all crowded may region ended now) = subst (EndsOf names) (sym ended) tt
 drain_ends names m m' leaf stop notes ends leaf' (step.starved x y z treating starving n shuts steps may starves part is region ended now) = subst (EndsOf names) (sym ended) tt
 drain_ends names m m' leaf stop notes ends leaf' (step.halted x y z treating halting n shuts steps may more halts is region ended now) = subst (EndsOf names) (sym ended) tt
 drain_ends names m m' leaf stop notes ends leaf' (step.stopped x y z treating closing n count shuts all steps closed each part is region stands ended now) = subst (EndsOf names) (sym ended) tt

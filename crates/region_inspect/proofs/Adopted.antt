@@ -1,5 +1,6 @@
 -- An image that is shown is adopted.
 use Rattle.std.proofs.Common.{◌≡◌, ℕ, List, refl, ap, subst, ◌∙◌, inl, inr}
+use Rattle.table_state.specs.Tables.{HeldTables}
 use Rattle.region_layout.specs.Region.{IsAdoptable}
 use Rattle.region_layout.proofs.Images.{one_log_end}
 use Rattle.leaf_words.specs.declared.ways.Way.TheVariants.{Memory, Disk}
@@ -19,7 +20,7 @@ adopted names region disk version log_end lines s Memory shown come =
       way_is = refl;
       images = come.0;
       image = subst (λ (e : ℕ). IsAdoptable region come.0 e) same come.2;
-      tables = come.4;
+      tables = ap (λ (h : HeldTables). h.each) come.4;
       log = ap (λ l. l.end) come.5 ∙ same;
     }
 adopted names region disk version log_end lines s (Disk w) shown come =

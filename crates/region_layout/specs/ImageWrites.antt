@@ -1,14 +1,16 @@
 -- Which writes an image has of each name.
-use Rattle.std.specs.Prelude.{◌≡◌, ℕ, List, length}
+use Rattle.std.specs.Prelude.{◌≡◌, ◌≤◌, ℕ, List, length}
 use Rattle.leaf_model.specs.declared.writes.Write.{Write}
 use Rattle.leaf_model.specs.Content.{content}
+use Rattle.table_state.specs.Tables.{added_count}
 use Rattle.region_layout.specs.Images.{TableImage}
 use Rattle.region_layout.specs.Images.{contents_of, table_named}
 
--- the table of that name in an image has these writes
+-- the table of that name in an image has these writes, and at most a column for each row and each cell that they add
 pub record IsImageOf (writes : List Write) (t : TableImage) : Type 0 where
   pub contents : contents_of t ≡ content writes
   pub count : t.writes ≡ length writes
+  pub few : t.columns ≤ added_count writes
 
 -- an image has just these writes of each name
 abbrev pub AreImagesOf : (List ℕ → List Write) → List TableImage → Type 0

@@ -4,18 +4,20 @@ use Rattle.std.specs.List.{find}
 use Rattle.std.specs.Str.{bytes_eq}
 use Rattle.leaf_model.specs.declared.rows.Row.{Row}
 use Rattle.leaf_model.specs.Content.{Contents}
-use Rattle.table_state.specs.Tables.{Table, no_store}
+use Rattle.row_blocks.specs.Held.{columns_count}
+use Rattle.table_state.specs.Tables.{HeldTables, Table, no_store}
 
--- one table of an image: its name, the least time of a row, how many writes it accepted, and its rows
+-- one table of an image: its name, the least time of a row, how many writes it accepted, its rows, and how many columns these stand in
 pub record TableImage : Type 0 where
   pub name : List ℕ
   pub horizon : ℤ
   pub writes : ℕ
   pub rows : List Row
+  pub columns : ℕ
 
 -- a table of this name as an image has it
 abbrev pub image_of : List ℕ → Table → TableImage
-image_of name t = record { name = name; horizon = t.contents.horizon; writes = t.writes; rows = t.contents.rows }
+image_of name t = record { name = name; horizon = t.contents.horizon; writes = t.writes; rows = t.contents.rows; columns = columns_count t.store.blocks }
 
 -- tables and their names, place by place
 abbrev pub images_of : List (List ℕ) → List Table → List TableImage
@@ -33,7 +35,7 @@ table_of t = record { contents = contents_of t; writes = t.writes; pending = Non
 
 -- a table that had no write
 abbrev pub empty_image : List ℕ → TableImage
-empty_image name = record { name = name; horizon = pos 0; writes = 0; rows = [] }
+empty_image name = record { name = name; horizon = pos 0; writes = 0; rows = []; columns = 0 }
 
 -- the table has this name
 abbrev pub is_named : List ℕ → TableImage → Bool
@@ -46,3 +48,7 @@ table_named images name = unwrap_or (find (is_named name) images) (empty_image n
 -- for each name the table of an image, in the order of the names
 abbrev pub tables_of : List (List ℕ) → List TableImage → List Table
 tables_of names images = map (λ name. table_of (table_named images name)) names
+
+-- the same, with how many columns each has
+abbrev pub held_of : List (List ℕ) → List TableImage → HeldTables
+held_of names images = record { each = tables_of names images; columns = map (λ name. (table_named images name).columns) names }

@@ -16,7 +16,7 @@ use Rattle.region_layout.specs.declared.directory.TablePlaces.{TablePlaces}
 use Rattle.region_layout.specs.declared.directory.Directory.{Directory}
 use Rattle.row_blocks.specs.Blocks.{Block}
 use Rattle.row_blocks.specs.Columns.{MeanCells}
-use Rattle.row_blocks.specs.Held.{rows_held}
+use Rattle.row_blocks.specs.Held.{columns_count, rows_held}
 use Rattle.table_state.specs.Tables.{IsParts}
 use Rattle.region_layout.specs.Directory.{IsDirectory}
 use Rattle.region_layout.specs.Written.{directory_bytes}
@@ -61,7 +61,7 @@ parts_in region t = record { horizon = t.horizon; writes = t.writes; skip = t.sk
 
 -- a table of this name with these parts
 abbrev pub image_of_parts : List ℕ → Parts → TableImage
-image_of_parts name p = record { name = name; horizon = p.horizon; writes = p.writes; rows = rows_held p.blocks [] p.skip p.horizon }
+image_of_parts name p = record { name = name; horizon = p.horizon; writes = p.writes; rows = rows_held p.blocks [] p.skip p.horizon; columns = columns_count p.blocks }
 
 -- its columns mean rows, and are of kinds that the version allows
 pub record IsTableIn (version : ℕ) (region : List ℕ) (t : TablePlaces) : Type 0 where

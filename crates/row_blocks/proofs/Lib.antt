@@ -1,6 +1,7 @@
 pub mod Means
 pub mod Values
 pub mod Order
+pub mod Fewer
 pub mod Taking
 pub mod Earliest
 pub mod Sealed

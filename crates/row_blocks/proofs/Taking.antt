@@ -6,7 +6,7 @@ use Rattle.std.specs.Cmp.Lexicographic.{slice_cmp}
 use Rattle.std.specs.Ordering.{nat_cmp, is_eq, ordering_then}
 use Rattle.std.specs.declared.cmp.Ordering.{Ordering}
 use Rattle.std.specs.declared.cmp.Ordering.TheVariants.{Less, Equal, Greater}
-use Rattle.std.proofs.lemmas.List.{append-nil, length-map, get_or-map, map_push}
+use Rattle.std.proofs.lemmas.List.{append-nil, length-append, length-map, get_or-map, map_push}
 use Rattle.std.proofs.lemmas.List.Concat.{flat_map-append}
 use Rattle.std.proofs.lemmas.List.Elements.{All-from_recursion}
 use Rattle.leaf_model.specs.declared.rows.Value.{Value}
@@ -19,7 +19,8 @@ use Rattle.row_blocks.specs.Columns.{MeanCells, cells_in}
 use Rattle.row_blocks.specs.Headings.{Heading, heading, heading_of, heading_cmp, kind_of, kind_place}
 use Rattle.column_bytes.specs.Coding.{AreOfKind, IsOfKind}
 use Rattle.row_blocks.specs.Blocks.{IsOther, cell_of, cells_at, value_in}
-use Rattle.row_blocks.specs.Merging.{AreTaken, BeginsWith, HoldCells, IsBehind, IsEarliest, IsNotBefore, cells_of_rows, front_value, rest_after}
+use Rattle.row_blocks.specs.Merging.{AreTaken, BeginsWith, HoldCells, IsBehind, IsEarliest, IsNotBefore, cells_count, cells_of_rows, front_value, rest_after}
+use Rattle.row_blocks.proofs.Fewer.{one_fewer}
 use Rattle.row_blocks.proofs.Order.{exact_heading, heading_total}
 
 -- ---- lists
@@ -140,6 +141,7 @@ none_taken rows rests whole = record {
   ascend = tt;
   behind = tt;
   taken = λ i within. ap (λ (all : List (List Cell)). slice_index_or all i []) whole;
+  few = let same = ap cells_count whole in omega (arith, same);
 }
 
 pub one_more_taken : (rows : List Row) (columns : List BlockColumn) (rests : List (List Cell)) (c : Cell) (column : BlockColumn)
@@ -190,6 +192,9 @@ one_more_taken rows columns rests c column are taken first head mean cells =
           ∙ ap (λ (all : List Cell). cell_of h.name (front_value h rest) ++ all) (get_or-map (rest_after h) rests i [] [] inside)
           ∙ put_back h rest)
           ∙ taken.taken i within;
+      few =
+          let before = taken.few in let fewer = one_fewer c rests at first.0.2 in
+          omega (arith, length-append columns (column ∷ []), before, fewer);
     }
 
 -- where no cells are left the columns hold them all
@@ -200,6 +205,7 @@ all_taken rows columns rests taken none = record {
   cells = λ i within.
       let same = taken.same in
       sym (append-nil (cells_at i columns)) ∙ ap (λ (rest : List Cell). cells_at i columns ++ rest) (sym (none i (omega arith))) ∙ taken.taken i within;
+  few = let so_far = taken.few in omega (arith, so_far);
 }
 
 -- ---- the values of a column are of its kind

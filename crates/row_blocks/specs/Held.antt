@@ -1,5 +1,5 @@
 -- The rows that sealed blocks and a tail behind them hold.
-use Rattle.std.specs.Prelude.{◌≡◌, ℕ, ◌<◌, List, [], ◌∷◌, ◌++◌, drop, ℤ}
+use Rattle.std.specs.Prelude.{◌≡◌, ℕ, suc, ◌+◌, ◌<◌, List, [], ◌∷◌, ◌++◌, length, drop, ℤ}
 use Rattle.std.specs.List.{flat_map}
 use Rattle.leaf_model.specs.declared.rows.Row.{Row}
 use Rattle.leaf_model.specs.Content.{rows_from}
@@ -20,6 +20,16 @@ blocks_held blocks skip horizon = rows_from horizon (drop skip (block_rows block
 -- what one block holds so
 abbrev pub live_rows : ℕ → ℤ → Block → List Row
 live_rows skip horizon b = rows_from horizon (drop skip (rows_in b))
+
+-- how many columns the blocks have together
+abbrev pub columns_count : List Block → ℕ
+columns_count [] = 0
+columns_count (b ∷ blocks) = length b.columns + columns_count blocks
+
+-- the rows and their cells: sealed rows have no more columns
+abbrev pub rows_and_cells : List Row → ℕ
+rows_and_cells [] = 0
+rows_and_cells (row ∷ rows) = suc (length row.cells) + rows_and_cells rows
 
 -- a cut leaves some row of the first block
 abbrev pub IsSkip : ℕ → List Block → Type 0

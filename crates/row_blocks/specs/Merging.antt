@@ -1,5 +1,5 @@
 -- Rows taken apart into columns: what is left of each row's cells, and the column that comes next.
-use Rattle.std.specs.Prelude.{◌≡◌, ℕ, ◌<◌, ◌≤◌, take, List, [], ◌∷◌, ◌++◌, length, map, slice_index_or, Option, Some, None, option_map, if◌then◌else◌, ⊤}
+use Rattle.std.specs.Prelude.{◌≡◌, ℕ, ◌+◌, ◌<◌, ◌≤◌, take, List, [], ◌∷◌, ◌++◌, length, map, slice_index_or, Option, Some, None, option_map, if◌then◌else◌, ⊤}
 use Rattle.std.specs.Borrow.{Bor}
 use Rattle.std.specs.List.{AllByRecursion}
 use Rattle.std.specs.List.Sorted.{IsStrictlySortedBy}
@@ -84,16 +84,23 @@ pub record AreLent (rests : List (List Cell)) (values : List (Option (Bor Value)
   pub each : (k : ℕ) → k < count → option_map lent_value (slice_index_or values k None) ≡ value_under like (slice_index_or rests k [])
   pub none : (k : ℕ) → k < from → slice_index_or values k None ≡ None
 
--- these columns were taken off the rows, and these cells are left of each row
+-- how many cells there are
+abbrev pub cells_count : List (List Cell) → ℕ
+cells_count [] = 0
+cells_count (cells ∷ rests) = length cells + cells_count rests
+
+-- these columns were taken off the rows, each with a cell at least, and these cells are left of each row
 pub record AreTaken (rows : List Row) (columns : List BlockColumn) (rests : List (List Cell)) : Type 0 where
   pub same : length rests ≡ length rows
   pub each : AllByRecursion (IsOther (length rows)) columns
   pub ascend : IsStrictlySortedBy heading_cmp (map heading columns)
   pub behind : AllByRecursion (λ (c : BlockColumn). (i : ℕ) → i < length rests → IsBehind (heading c) (slice_index_or rests i [])) columns
   pub taken : (i : ℕ) → i < length rows → cells_at i columns ++ slice_index_or rests i [] ≡ slice_index_or (cells_of_rows rows) i []
+  pub few : length columns + cells_count rests ≤ cells_count (cells_of_rows rows)
 
--- the columns hold the cells of the rows
+-- the columns hold the cells of the rows, and there is no more than one for each cell
 pub record HoldCells (rows : List Row) (columns : List BlockColumn) : Type 0 where
   pub each : AllByRecursion (IsOther (length rows)) columns
   pub ascend : IsStrictlySortedBy heading_cmp (map heading columns)
   pub cells : (i : ℕ) → i < length rows → cells_at i columns ≡ slice_index_or (cells_of_rows rows) i []
+  pub few : length columns ≤ cells_count (cells_of_rows rows)

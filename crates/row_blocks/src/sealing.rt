@@ -10,6 +10,7 @@ ghost use Rattle.column_bytes.specs.declared.kind.Kind.TheVariants.{Ints};
 ghost use Rattle.row_blocks.specs.Blocks.{rows_in};
 ghost use Rattle.row_blocks.specs.Columns.{MeanCells, cells_in};
 ghost use Rattle.row_blocks.specs.Headings.{heading, heading_of};
+ghost use Rattle.row_blocks.specs.Held.{rows_and_cells};
 ghost use Rattle.row_blocks.specs.Merging.{AreTaken, HoldCells, lent, lent_rows};
 
 use crate::block::RowBlock;
@@ -122,12 +123,13 @@ fn other_columns<'a>(
     Ok(columns)
 }
 
-/// The block of 1 to 65,536 rows that are lent.
+/// The block of 1 to 65,536 rows that are lent: at most one column for each row and each cell.
 pub fn seal_refs(alloc: Global, rows: &[&Row]) -> Result<RowBlock, AllocError>
     requires some { 0 < length rows.now }
     requires few { length rows.now ≤ 65536 }
     requires rows { AllByRecursion IsRow (lent_rows rows.now) }
-    ensures { IfOk result (λ block. rows_in block ≡ lent_rows rows.now) }
+    ensures rows { IfOk result (λ block. rows_in block ≡ lent_rows rows.now) }
+    ensures few { IfOk result (λ block. length block.columns ≤ rows_and_cells (lent_rows rows.now)) }
 {
     let times = times_of(alloc, rows)?;
     let range = range_of(&times);
@@ -150,12 +152,13 @@ fn refs_to(alloc: Global, rows: &[Row]) -> Result<Vec<&Row>, AllocError>
     Ok(refs)
 }
 
-/// The block of 1 to 65,536 rows.
+/// The block of 1 to 65,536 rows: at most one column for each row and each cell.
 pub fn seal(alloc: Global, rows: &[Row]) -> Result<RowBlock, AllocError>
     requires some { 0 < length rows.now }
     requires few { length rows.now ≤ 65536 }
     requires rows { AllByRecursion IsRow rows.now }
-    ensures { IfOk result (λ block. rows_in block ≡ rows.now) }
+    ensures rows { IfOk result (λ block. rows_in block ≡ rows.now) }
+    ensures few { IfOk result (λ block. length block.columns ≤ rows_and_cells rows.now) }
 {
     let refs = refs_to(alloc, rows)?;
     seal_refs(alloc, refs.as_slice())

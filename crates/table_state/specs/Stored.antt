@@ -4,7 +4,7 @@ use Rattle.std.specs.List.{AllByRecursion}
 use Rattle.leaf_model.specs.declared.rows.Row.{Row}
 use Rattle.leaf_model.specs.Values.{IsTime}
 use Rattle.row_blocks.specs.Blocks.{Block, IsBlock}
-use Rattle.row_blocks.specs.Held.{IsSkip, block_rows, blocks_held}
+use Rattle.row_blocks.specs.Held.{IsSkip, block_rows, blocks_held, columns_count, rows_and_cells}
 use Rattle.row_blocks.specs.Live.{has_live}
 use Rattle.table_state.specs.Tables.{IsHeldRow, most_rows}
 
@@ -32,12 +32,13 @@ pub record Stands (blocks : List Block) (skip : ℕ) (tail : List Row) (horizon 
   pub counted : live ≡ length (sealed_rows blocks skip horizon)
   pub few : live + length tail ≤ most_rows
 
--- these rows were sealed behind the blocks
+-- these rows were sealed behind the blocks, with at most one column for each row and each cell
 pub record AreSealed (blocks : List Block) (rows : List Row) (now : List Block) : Type 0 where
   pub more : List Block
   pub is : now ≡ blocks ++ more
   pub each : AllByRecursion IsBlock more
   pub same : block_rows more ≡ rows
+  pub few : columns_count more ≤ rows_and_cells rows
 
 -- the cut of what is left where blocks without a live row leave
 abbrev pub skip_left : ℕ → ℤ → List Block → ℕ

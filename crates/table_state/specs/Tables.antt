@@ -5,11 +5,11 @@ use Rattle.std.specs.Ordering.{eq_by_cmp}
 use Rattle.std.specs.Set.{distinct_count}
 use Rattle.leaf_model.specs.declared.rows.Row.{Row}
 use Rattle.leaf_model.specs.declared.writes.Write.{Write}
-use Rattle.leaf_model.specs.declared.writes.Write.TheVariants.{Add}
+use Rattle.leaf_model.specs.declared.writes.Write.TheVariants.{Add, Expire, Keep}
 use Rattle.leaf_model.specs.Values.{IsRow, IsTime}
 use Rattle.leaf_model.specs.Content.{Contents, nothing, content_after, kept_count, late_count, removed_count}
 use Rattle.row_blocks.specs.Blocks.{Block, IsBlock}
-use Rattle.row_blocks.specs.Held.{IsSkip, rows_held}
+use Rattle.row_blocks.specs.Held.{IsSkip, columns_count, rows_and_cells, rows_held}
 use Rattle.row_blocks.specs.Headings.{Heading, heading_cmp, heading_of}
 use Rattle.row_records.specs.Records.{LogRecord}
 use Rattle.row_records.specs.Pending.{with_push}
@@ -42,6 +42,25 @@ pub record Table : Type 0 where
 -- all but how its rows stand
 abbrev pub bare : Table → Table
 bare t = record t { store = no_store }
+
+-- how many columns its rows come to at most, once its tail is sealed: those of the blocks, and for each row of the tail one and its cells
+abbrev pub columns_most : Store → ℕ
+columns_most s = columns_count s.blocks + rows_and_cells s.tail
+
+-- the rows and cells that writes add
+abbrev pub added_by : Write → ℕ
+added_by (Add rows) = rows_and_cells rows
+added_by (Expire horizon) = 0
+added_by (Keep n) = 0
+
+abbrev pub added_count : List Write → ℕ
+added_count [] = 0
+added_count (w ∷ ws) = added_by w + added_count ws
+
+-- tables that are handed on: what each holds, and how many columns its rows come to at most
+pub record HeldTables : Type 0 where
+  pub each : List Table
+  pub columns : List ℕ
 
 -- a table that had no write
 abbrev pub empty_table : Table

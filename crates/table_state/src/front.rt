@@ -2,7 +2,7 @@
 ghost use Rattle.std.specs.Prelude.{◌≡◌, ◌≤◌, drop, length, IfOk};
 ghost use Rattle.std.specs.List.{AllByRecursion};
 ghost use Rattle.row_blocks.specs.Blocks.{IsBlock};
-ghost use Rattle.row_blocks.specs.Held.{IsSkip, live_rows};
+ghost use Rattle.row_blocks.specs.Held.{IsSkip, columns_count, live_rows};
 ghost use Rattle.table_state.specs.Stored.{IsCut, sealed_rows, skip_left};
 ghost use Rattle.table_state.specs.Tables.{most_rows};
 
@@ -49,6 +49,7 @@ pub fn leave_live(blocks: &mut Blocks, skip: u32, horizon: i64) -> u32
     ensures cut { IsSkip result blocks.new }
     ensures sealed { AllByRecursion IsBlock blocks.new }
     ensures rows { sealed_rows blocks.new result horizon ≡ sealed_rows blocks.old skip horizon }
+    ensures columns { columns_count blocks.new ≤ columns_count blocks.old }
 {
     let left = skip_left(blocks.as_slice(), skip, horizon);
     blocks.retain_live(horizon);
@@ -88,6 +89,7 @@ pub fn cut_front(blocks: &mut Blocks, skip: u32, horizon: i64, gone: u64) -> u32
     ensures cut { IsSkip result blocks.new }
     ensures sealed { AllByRecursion IsBlock blocks.new }
     ensures rows { sealed_rows blocks.new result horizon ≡ drop gone (sealed_rows blocks.old skip horizon) }
+    ensures columns { columns_count blocks.new ≤ columns_count blocks.old }
 {
     let front = front_of(blocks.as_slice(), skip, horizon, gone);
     blocks.drop_first(front.blocks);

@@ -4,7 +4,7 @@ ghost use Rattle.std.specs.List.{AllByRecursion};
 ghost use Rattle.leaf_model.specs.Content.{rows_from};
 ghost use Rattle.leaf_model.specs.Values.{IsRow};
 ghost use Rattle.row_blocks.specs.Blocks.{IsBlock};
-ghost use Rattle.row_blocks.specs.Held.{block_rows};
+ghost use Rattle.row_blocks.specs.Held.{block_rows, columns_count, rows_and_cells};
 ghost use Rattle.row_blocks.specs.Merging.{lent_rows};
 ghost use Rattle.table_state.specs.Stored.{AreSealed, in_runs};
 ghost use Rattle.table_state.specs.Tables.{most_rows};
@@ -61,6 +61,7 @@ fn seal_runs(alloc: Global, rows: &[&Row]) -> Result<Vec<RowBlock>, AllocError>
     requires { AllByRecursion IsRow (lent_rows rows.now) }
     ensures rows { IfOk result (λ blocks. block_rows blocks.items ≡ take (in_runs (length rows.now)) (lent_rows rows.now)) }
     ensures each { IfOk result (λ blocks. AllByRecursion IsBlock blocks.items) }
+    ensures few { IfOk result (λ blocks. columns_count blocks.items ≤ rows_and_cells (take (in_runs (length rows.now)) (lent_rows rows.now))) }
 {
     let mut blocks = Vec::new(alloc);
     for i in 0..rows.len() / RUN {
@@ -85,6 +86,7 @@ fn whole_runs(
     requires few { length tail.now + kept < 2 ^ 64 }
     ensures rows { IfOk result (λ blocks. block_rows blocks.items ≡ take (in_runs (length (tail.now ++ rows_from horizon more.now))) (tail.now ++ rows_from horizon more.now)) }
     ensures each { IfOk result (λ blocks. AllByRecursion IsBlock blocks.items) }
+    ensures few { IfOk result (λ blocks. columns_count blocks.items ≤ rows_and_cells (take (in_runs (length (tail.now ++ rows_from horizon more.now))) (tail.now ++ rows_from horizon more.now))) }
 {
     if tail.len() as u64 + kept < RUN as u64 {
         return Ok(Vec::new(alloc));

@@ -1,9 +1,10 @@
 // One table: sealed blocks, and a tail of rows behind them.
-ghost use Rattle.std.specs.Prelude.{◌≡◌, ◌≤◌, ◌<◌, ◌-◌, ◌^◌, [], None, IfOk, length};
+ghost use Rattle.std.specs.Prelude.{◌≡◌, ◌+◌, ◌≤◌, ◌<◌, ◌-◌, ◌^◌, [], None, IfOk, length};
 ghost use Rattle.std.specs.List.{AllByRecursion};
 ghost use Rattle.leaf_model.specs.Values.{IsRow, IsTime, IsWrite};
 ghost use Rattle.leaf_model.specs.declared.writes.Write.TheVariants.{Add, Expire, Keep};
-ghost use Rattle.table_state.specs.Tables.{bare, empty_table, most_rows, replayed, Adds, IsParts, IsPartsOf, IsStored, MayWrite, Removes, Replays, Seals, Takes};
+ghost use Rattle.row_blocks.specs.Held.{rows_and_cells};
+ghost use Rattle.table_state.specs.Tables.{added_by, bare, columns_most, empty_table, most_rows, replayed, Adds, IsParts, IsPartsOf, IsStored, MayWrite, Removes, Replays, Seals, Takes};
 
 use crate::fault::{AddFault, Added};
 use crate::front::{copy_blocks, count_live, cut_front, leave_live};
@@ -62,7 +63,8 @@ impl TableState {
     pub fn add(&mut self, table: &Text, rows: Rows) -> Result<Added, AddFault>
         requires may { MayWrite table.now self.old }
         requires rows { AllByRecursion IsRow rows }
-        ensures { Adds table.now self.old rows result self.new }
+        ensures does { Adds table.now self.old rows result self.new }
+        ensures columns { columns_most self.new.store ≤ columns_most self.old.store + rows_and_cells rows }
     {
         let sealed = self.blocks.as_slice().len();
         let kept = prepare(
@@ -87,7 +89,8 @@ impl TableState {
     pub fn expire(&mut self, table: &Text, horizon: i64) -> Result<u64, AllocError>
         requires may { MayWrite table.now self.old }
         requires horizon { IsTime horizon }
-        ensures { Removes table.now self.old (Expire horizon) result self.new }
+        ensures does { Removes table.now self.old (Expire horizon) result self.new }
+        ensures columns { columns_most self.new.store ≤ columns_most self.old.store }
     {
         let held = self.rows();
         self.pending.push(table, &Write::Expire(horizon))?;
@@ -98,7 +101,8 @@ impl TableState {
     /// Leaves the last n rows in order of arrival, and answers how many it removed.
     pub fn keep(&mut self, table: &Text, n: u64) -> Result<u64, AllocError>
         requires may { MayWrite table.now self.old }
-        ensures { Removes table.now self.old (Keep n) result self.new }
+        ensures does { Removes table.now self.old (Keep n) result self.new }
+        ensures columns { columns_most self.new.store ≤ columns_most self.old.store }
     {
         let held = self.rows();
         self.pending.push(table, &Write::Keep(n))?;
@@ -110,7 +114,8 @@ impl TableState {
     pub fn replay(&mut self, write: Write) -> Result<(), AddFault>
         requires write { IsWrite write }
         requires room { self.old.writes < 2 ^ 64 - 1 }
-        ensures { Replays self.old write result self.new }
+        ensures does { Replays self.old write result self.new }
+        ensures columns { columns_most self.new.store ≤ columns_most self.old.store + added_by write }
     {
         match write {
             Write::Add(rows) => self.replay_add(rows),
@@ -128,7 +133,8 @@ impl TableState {
     fn replay_add(&mut self, rows: Rows) -> Result<(), AddFault>
         requires rows { AllByRecursion IsRow rows }
         requires room { self.old.writes < 2 ^ 64 - 1 }
-        ensures { Replays self.old (Add rows) result self.new }
+        ensures does { Replays self.old (Add rows) result self.new }
+        ensures columns { columns_most self.new.store ≤ columns_most self.old.store + rows_and_cells rows }
     {
         prepare(
             self.live,
@@ -149,6 +155,7 @@ impl TableState {
         ensures written { bare self.new ≡ replayed self.old (Expire horizon) }
         ensures fewer { length self.new.contents.rows ≤ length self.old.contents.rows }
         ensures few { length self.new.contents.rows ≤ most_rows }
+        ensures columns { columns_most self.new.store ≤ columns_most self.old.store }
     {
         masks_and_cuts();
         self.horizon = self.horizon.max(horizon);
@@ -164,6 +171,7 @@ impl TableState {
         ensures written { bare self.new ≡ replayed self.old (Keep n) }
         ensures fewer { length self.new.contents.rows ≤ length self.old.contents.rows }
         ensures few { length self.new.contents.rows ≤ most_rows }
+        ensures columns { columns_most self.new.store ≤ columns_most self.old.store }
     {
         let gone = cut_for(self.live + self.tail.len() as u64, n);
         let first = gone.min(self.live);
@@ -256,7 +264,8 @@ impl TableState {
 
     /// Makes a block of the rows behind the blocks, unless there are none.
     pub fn seal_tail(&mut self) -> Result<(), AllocError>
-        ensures { Seals self.old result self.new }
+        ensures does { Seals self.old result self.new }
+        ensures columns { columns_most self.new.store ≤ columns_most self.old.store }
     {
         if self.tail.is_empty() {
             return Ok(());

@@ -1,34 +1,36 @@
 // The tables of a leaf.
 ghost use Rattle.std.specs.Prelude.{◌≡◌, map};
-ghost use Rattle.table_state.specs.Tables.{bare};
+ghost use Rattle.table_state.specs.Tables.{Table, bare, columns_most};
 
 use crate::table::TableState;
 use std::marker::Model;
 
-/// Tables, in the order of their names. Contracts see them as a list, and nothing of how their rows stand.
+/// Tables, in the order of their names. Contracts see what each holds and how many columns its rows come to at most, and else nothing of how they stand.
 #[derive(Drop)]
 pub struct Tables {
     inner: Vec<TableState>,
 }
 
 impl Model for Tables {
-    ghost use Rattle.std.specs.Prelude.{List, map};
-    ghost use Rattle.table_state.specs.Tables.{Table, bare};
+    ghost use Rattle.std.specs.Prelude.{map};
+    ghost use Rattle.table_state.specs.Tables.{HeldTables, Table, bare, columns_most};
 
-    ghost Value = { List Table };
+    ghost Value = { HeldTables };
 
-    ghost view = { λ tables. map bare tables.inner.items };
+    ghost view = { λ tables. record { each = map bare tables.inner.items; columns = map (λ (t : Table). columns_most t.store) tables.inner.items } };
 }
 
 impl Tables {
     pub fn of(inner: Vec<TableState>) -> Tables
-        ensures { result ≡ map bare inner.items }
+        ensures each { result.each ≡ map bare inner.items }
+        ensures columns { result.columns ≡ map (λ (t : Table). columns_most t.store) inner.items }
     {
         Tables { inner }
     }
 
     pub fn into_inner(self) -> Vec<TableState>
-        ensures { map bare result.items ≡ self }
+        ensures each { map bare result.items ≡ self.each }
+        ensures columns { map (λ (t : Table). columns_most t.store) result.items ≡ self.columns }
     {
         self.inner
     }

@@ -1,6 +1,6 @@
 -- The life of one leaf, as its steward's deeds print it: in which state it is, what its next start prints, and what its next `opened` lines tell.
--- No rule looks at a table's history; how many columns tables have at least that are handed over is said from outside.
-use Rattle.std.specs.Prelude.{◌≡◌, ℕ, zero, suc, ◌+◌, ◌<◌, ◌≤◌, Bool, true, false, ◌&&◌, List, [], ◌∷◌, ◌++◌, length, map, Option, Some, None, IfSome, option_map, slice_set, replicate, ◌==◌, MatchBool, if◌then◌else◌, ⊤}
+-- No rule looks at a table's history; how many columns tables have at least and at most that are copied is said from outside.
+use Rattle.std.specs.Prelude.{◌≡◌, ℕ, zero, suc, ◌+◌, ◌<◌, ◌≤◌, ◌^◌, Bool, true, false, ◌&&◌, List, [], ◌∷◌, ◌++◌, length, map, Option, Some, None, IfSome, option_map, slice_set, replicate, ◌==◌, MatchBool, if◌then◌else◌, ⊤}
 use Rattle.leaf_words.specs.declared.ways.Way.{Way}
 use Rattle.leaf_words.specs.declared.ways.Way.TheVariants.{Memory, Disk}
 use Rattle.leaf_words.specs.declared.ways.WhyDisk.TheVariants as why
@@ -212,10 +212,24 @@ pub data Steps (tables copy : ℕ) : ℕ → Stage → List Noted → Stage → 
   more : (n : ℕ) (s : Stage) (notes : List Noted) (t : Stage) (fewer : ℕ) (first others : List Noted) (between : Stage)
       → n ≡ suc fewer → Step tables copy s first between → Steps tables copy fewer between others t → notes ≡ first ++ others → Steps tables copy n s notes t
 
--- How many steps the copy of tables takes that have so many columns or more: one for each column, the begin, the directory, and the flag. How many columns there are is no function of
--- the content.
+-- How many columns the tables of a leaf have when they are copied, which is no function of their content: at least so many, by the entries that hand them over; and at most so many, where
+-- the leaf's base is known. And how many rows, cells and writes were ever added to them.
+pub record Columns : Type 0 where
+  pub least : List Noted → ℕ
+  pub most : ℕ
+  pub bulk : ℕ
+
+-- How many steps the copy of tables takes that have so many columns or more: one for each column, the begin, the directory, and the flag.
 abbrev pub IsCopyLength : ℕ → ℕ → Type 0
 IsCopyLength columns copy = columns + 3 ≤ copy
+
+-- the same of so many columns or fewer
+abbrev pub IsCopyWithin : Bool → ℕ → ℕ → Type 0
+IsCopyWithin told columns copy = told ≡ true → copy ≤ columns + 3
+
+-- tables make no image only where there is so much of them
+abbrev pub IsCrowded : Bool → ℕ → Type 0
+IsCrowded told bulk = told ≡ true → 2 ^ 25 ≤ bulk
 
 -- the disk fails: before anything was flushed, or when the next table was closed
 pub data Halts (p : Progress) (notes : List Noted) (q : Progress) : Type 0 where
@@ -269,22 +283,22 @@ way_stopped (Copying zero) way = way
 way_stopped (Copying (suc made)) way = option_map (λ (w : Way). Disk (why.Closed 0)) way
 
 -- A drain makes its steps until one is the last and each table is handed over, which had at least the columns that are said of these entries; or one fails; or it has made as many as it was
--- to make, and the leaf is killed.
-pub data OfDrain (told : Bool) (tables : ℕ) (columns : List Noted → ℕ) (stop : Option ℕ) (life : Life) (notes : List Noted) (ending : Ending) (next : Life) : Type 0 where
+-- to make, and the leaf is killed. Of a copy that does not end no more steps were made than its columns ask for.
+pub data OfDrain (told : Bool) (tables : ℕ) (columns : Columns) (stop : Option ℕ) (life : Life) (notes : List Noted) (ending : Ending) (next : Life) : Type 0 where
   done : (copy n made : ℕ) (p : Progress) (treating handing : List Noted)
-      → IsCopyLength (columns handing) copy → BeginsAt life.mode p → Steps tables copy n (Shutting p) treating (Copying made) → suc made ≡ copy → MayMake stop (suc n)
+      → IsCopyLength (columns.least handing) copy → BeginsAt life.mode p → Steps tables copy n (Shutting p) treating (Copying made) → suc made ≡ copy → MayMake stop (suc n)
       → Notes 0 (replicate tables Handed) handing
       → notes ≡ treating ++ handing
       → ending ≡ ends.Done
       → next ≡ on life Down (claimed told Memory) treating
       → OfDrain told tables columns stop life notes ending next
   region_fails : (copy n made : ℕ) (p : Progress)
-      → IsCopyLength 0 copy → BeginsAt life.mode p → Steps tables copy n (Shutting p) notes (Copying made) → MayMake stop (suc n)
+      → IsCopyLength 0 copy → IsCopyWithin told columns.most copy → BeginsAt life.mode p → Steps tables copy n (Shutting p) notes (Copying made) → MayMake stop (suc n)
       → ending ≡ ends.FaultRegion
       → next ≡ on life Down None notes
       → OfDrain told tables columns stop life notes ending next
   no_room : (copy n : ℕ) (p q : Progress)
-      → IsCopyLength 0 copy → BeginsAt life.mode p → Steps tables copy n (Shutting p) notes (Shutting q) → q.treated ≡ tables → MayMake stop (suc n)
+      → IsCopyLength 0 copy → IsCrowded told columns.bulk → BeginsAt life.mode p → Steps tables copy n (Shutting p) notes (Shutting q) → q.treated ≡ tables → MayMake stop (suc n)
       → ending ≡ ends.FaultRoom
       → next ≡ on life (Preparing q) life.way notes
       → OfDrain told tables columns stop life notes ending next
@@ -301,7 +315,7 @@ pub data OfDrain (told : Bool) (tables : ℕ) (columns : List Noted → ℕ) (st
       → next ≡ failed life (Preparing r)
       → OfDrain told tables columns stop life notes ending next
   stops : (copy n : ℕ) (p : Progress) (s : Stage) (treating closing : List Noted)
-      → IsCopyLength 0 copy → BeginsAt life.mode p → Steps tables copy n (Shutting p) treating s → stop ≡ Some n → ClosesRest tables s closing
+      → IsCopyLength 0 copy → IsCopyWithin told columns.most copy → BeginsAt life.mode p → Steps tables copy n (Shutting p) treating s → stop ≡ Some n → ClosesRest tables s closing
       → notes ≡ treating ++ closing
       → ending ≡ ends.Stopped
       → next ≡ on life Down (way_stopped s life.way) treating
@@ -330,14 +344,14 @@ pub data OfKill (tables : ℕ) (life : Life) (notes : List Noted) (ending : Endi
 -- ---- all of it
 
 -- what a deed prints and leaves, of a leaf of so many tables, whose berth's base is known or not
-abbrev pub Does : Bool → ℕ → (List Noted → ℕ) → Deed → Life → List Noted → Ending → Life → Type 0
+abbrev pub Does : Bool → ℕ → Columns → Deed → Life → List Noted → Ending → Life → Type 0
 Does told tables columns Start life notes ending next = OfStart told tables life notes ending next
 Does told tables columns (Flush table) life notes ending next = OfFlush table life notes ending next
 Does told tables columns (Drain stop) life notes ending next = OfDrain told tables columns stop life notes ending next
 Does told tables columns Kill life notes ending next = OfKill tables life notes ending next
 
 -- The deeds among the pieces that are this leaf's, one after another. In a burst they stand in one lane.
-abbrev pub Lives : Bool → ℕ → (List Noted → ℕ) → ℕ → Life → List Piece → Life → Type 0
+abbrev pub Lives : Bool → ℕ → Columns → ℕ → Life → List Piece → Life → Type 0
 Lives told tables columns leaf life [] next = next ≡ life
 Lives told tables columns leaf life (Acted l deed notes ending ∷ pieces) next =
     MatchBool (l == leaf) ((between : Life) × Does told tables columns deed life notes ending between × Lives told tables columns leaf between pieces next) (Lives told tables columns leaf life pieces next)

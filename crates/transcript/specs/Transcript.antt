@@ -13,7 +13,7 @@ use Rattle.transcript.specs.Pieces.{Played, PlayedItem, all_lines, all_pieces, i
 use Rattle.transcript.specs.Shapes.{Prints}
 use Rattle.transcript.specs.Life.{Life, Down, Lives}
 use Rattle.transcript.specs.Histories.{Ground, IsHistoryOf, InOrder, shown}
-use Rattle.transcript.specs.Answers.{Answers, WornIsLong, columns_handed}
+use Rattle.transcript.specs.Answers.{Answers, WornIsLong, columns_of}
 
 -- What a leaf begins over, where that is known: the base of its berth, what region and disk read, the way of that region, and how many writes of each name that log has.
 pub record Known : Type 0 where
@@ -45,7 +45,7 @@ pub record Transcript (fleet : Fleet) (known : ℕ → Option Known) (items : Li
   pub prints : AllByRecursion (λ (p : Played). Prints fleet p.command p.pieces) (plays_in played)
   -- each leaf's steward, by the states of the leaf
   pub each_lives : (leaf : ℕ) → leaf < (leaf_count fleet) →
-      Lives (is_some (known leaf)) (length fleet.names) (columns_handed (grounds_of fleet known leaf) (histories leaf)) leaf (first_life (known leaf) fleet.names) (all_pieces played) (lives leaf)
+      Lives (is_some (known leaf)) (length fleet.names) (columns_of (grounds_of fleet known leaf) (histories leaf) (length fleet.names)) leaf (first_life (known leaf) fleet.names) (all_pieces played) (lives leaf)
   -- each table, by the numbers, and the order of those
   pub one_history : (leaf table : ℕ) → leaf < (leaf_count fleet) → table < length fleet.names →
       IsHistoryOf (grounds_of fleet known leaf table) (shown leaf table (all_pieces played)) (histories leaf table)

@@ -10,7 +10,7 @@ use Rattle.printed_lines.specs.declared.line.Ending.TheVariants as ends
 use Rattle.transcript.specs.Pieces.{Noted, Acted, Called, Piece, Says, Worn}
 use Rattle.transcript.specs.Strangers.{Behind, FitsStrangers, Strangers}
 use Rattle.transcript.specs.Life.{Life, Mode, Down, Up, Preparing}
-use Rattle.transcript.specs.Answers.{columns_handed}
+use Rattle.transcript.specs.Answers.{columns_of}
 use Rattle.transcript.specs.Transcript.{Known, first_life}
 use Rattle.leaf_moves.specs.Stage.{Leaf, IsDown, IsUp, IsPreparing, seated_of, seated_with, with_seats}
 use Rattle.transcript.specs.Moments.{MomentsRise}
@@ -160,7 +160,7 @@ pub held_between : (number : ℕ) (names : List (List ℕ)) (known : Option Know
 held_between number names known old before none more leaf m apart s = record {
   life = s.life;
   lives = λ grounds histories told.
-      lives_between (is_some known) (length names) (columns_handed grounds histories) number (first_life known names) s.life before none more apart (s.lives grounds histories told);
+      lives_between (is_some known) (length names) (columns_of grounds histories (length names)) number (first_life known names) s.life before none more apart (s.lives grounds histories told);
   moments = λ grounds histories told.
       subst (λ (ns : List Noted). MomentsRise histories old.clock ns m.clock) (sym (notes_between number before none more apart)) (s.moments grounds histories told);
   in_place = s.in_place;

@@ -111,7 +111,7 @@ start_opened known tables life m m' leaf x s notes way ends leaf' size mode may 
     let o = opening life.durable (length x.tables) notes (counts_opened known life m m' leaf x s notes way fits opens is told) each in record {
       next = opened_life (is_some known) way o.counts;
       hands = hands_nothing leaf';
-      does = λ least few. lives.opens way o.counts (down_mode life.mode x mode) may (way_opens known life m m' leaf x s notes way fits told) o.claimed_are (o.size ∙ size) o.told ends_are refl;
+      does = λ columns few more. lives.opens way o.counts (down_mode life.mode x mode) may (way_opens known life m m' leaf x s notes way fits told) o.claimed_are (o.size ∙ size) o.told ends_are refl;
       counts = acting.opened way o.counts ends_are o.told refl;
       mode = subst (λ (l : Leaf). FitsMode (Up None) l) (sym now) none;
       way = way_opened known m m' x s notes way o.counts told;
@@ -200,7 +200,7 @@ start_lives names known life m m' leaf notes ends leaf' in_place grounded stands
 start_lives names known life m m' leaf notes ends leaf' in_place grounded stands own mode fits opens (steps.refused x f is worn sound told notes_are ends_are same) = record {
   next = refused_life life f;
   hands = hands_nothing leaf';
-  does = λ least few. lives.refuses (down_mode life.mode x (subst (λ (l : Leaf). FitsMode life.mode l) is mode))
+  does = λ columns few more. lives.refuses (down_mode life.mode x (subst (λ (l : Leaf). FitsMode life.mode l) is mode))
       (subst (λ (e : Ending). IsStartRefusal (is_some known) life.begun e) (sym ends_are)
       (refusal (is_some known) life.begun f (undamaged names known m leaf x f in_place grounded stands is sound)
       (strangers_none names known life.begun m m' leaf x f in_place stands own is (where_known known leaf m (RefusalTold x m m' f) stands told))))
@@ -213,7 +213,7 @@ start_lives names known life m m' leaf notes ends leaf' in_place grounded stands
 start_lives names known life m m' leaf notes ends leaf' in_place grounded stands own mode fits opens (steps.not_down not notes_are same ends_are now) = record {
   next = life;
   hands = hands_nothing leaf';
-  does = λ least few. lives.not_down (not_resting leaf life.mode mode not) (noted_none notes notes_are) ends_are refl;
+  does = λ columns few more. lives.not_down (not_resting leaf life.mode mode not) (noted_none notes notes_are) ends_are refl;
   counts = acting.keeps refl (counts_stay life.durable notes notes_are);
   mode = subst (λ (l : Leaf). FitsMode life.mode l) (sym now) mode;
   way = way_stays known life life leaf m m' refl fits (same_held known leaf m m' stands same);
@@ -250,7 +250,7 @@ up_flushed known tables table life m m' leaf owed s s' notes r ends leaf' mode o
     let is : ends ≡ ending.Done = ends_are ∙ ap (λ (q : FlushReply). ending_of_flush q) reply_is in record {
       next = on life (Up None) life.way (noted_all notes);
       hands = hands_nothing leaf';
-      does = λ least few. lives.done owed (noted_all first) (noted_all (taken_and_flushed table taking flushed n)) n mode (owed_noted owed s.owing first owes noted) (taking, flushed, refl)
+      does = λ columns few more. lives.done owed (noted_all first) (noted_all (taken_and_flushed table taking flushed n)) n mode (owed_noted owed s.owing first owes noted) (taking, flushed, refl)
           (noted_split notes first (taken_and_flushed table taking flushed n) notes_are) is refl;
       counts = acting.keeps (ap (λ (e : Ending). is_disk_fault e) is) refl;
       mode = subst (λ (l : Leaf). FitsMode (Up None) l) (sym now) none;
@@ -261,7 +261,7 @@ up_flushed known tables table life m m' leaf owed s s' notes r ends leaf' mode o
     let left : Mode = Up (Some (record { table = table; count = n })) in record {
       next = failed life left;
       hands = hands_nothing leaf';
-      does = λ least few. lives.half owed (noted_all first) (noted_all (taken table taking n)) n mode (owed_noted owed s.owing first owes noted) (taking, refl)
+      does = λ columns few more. lives.half owed (noted_all first) (noted_all (taken table taking n)) n mode (owed_noted owed s.owing first owes noted) (taking, refl)
           (noted_split notes first (taken table taking n) notes_are) (ends_are ∙ ap (λ (q : FlushReply). ending_of_flush q) reply_is) refl;
       counts = acting.lost refl;
       mode = subst (λ (l : Leaf). FitsMode left l) (sym now) (there.0, there.1, owner_is, count_is);
@@ -271,7 +271,7 @@ up_flushed known tables table life m m' leaf owed s s' notes r ends leaf' mode o
     let is : ends ≡ ending.Worn = ends_are ∙ ap (λ (q : FlushReply). ending_of_flush q) reply_is in record {
       next = on life (Up None) life.way (noted_all notes);
       hands = hands_nothing leaf';
-      does = λ least few. lives.worn owed mode (owed_noted owed s.owing notes owes (subst (λ (ns : List Note). OwedNotes s.owing.log.owed s.owing ns) (sym notes_are) noted)) is refl;
+      does = λ columns few more. lives.worn owed mode (owed_noted owed s.owing notes owes (subst (λ (ns : List Note). OwedNotes s.owing.log.owed s.owing ns) (sym notes_are) noted)) is refl;
       counts = acting.keeps (ap (λ (e : Ending). is_disk_fault e) is) refl;
       mode = subst (λ (l : Leaf). FitsMode (Up None) l) (sym now) none;
       way = way_stays known life (on life (Up None) life.way (noted_all notes)) leaf m m' refl fits same;
@@ -281,7 +281,7 @@ up_flushed known tables table life m m' leaf owed s s' notes r ends leaf' mode o
     let still : IsOwedAs (Some told.0) s.owing = subst (λ (o : Option Owed). IsOwedAs o s.owing) told.1 owes in record {
       next = failed life (Up (Some told.0));
       hands = hands_nothing leaf';
-      does = λ least few. lives.stuck told.0 (mode ∙ ap (λ (o : Option Owed). Up o) told.1) (noted_none notes notes_are) (ends_are ∙ ap (λ (q : FlushReply). ending_of_flush q) reply_is) refl;
+      does = λ columns few more. lives.stuck told.0 (mode ∙ ap (λ (o : Option Owed). Up o) told.1) (noted_none notes notes_are) (ends_are ∙ ap (λ (q : FlushReply). ending_of_flush q) reply_is) refl;
       counts = acting.lost refl;
       mode = subst (λ (l : Leaf). FitsMode (Up (Some told.0)) l) (sym now) (still.0, owed_is ∙ still.1, owner_is ∙ still.2, count_is ∙ still.3);
       way = way_stays known life (failed life (Up (Some told.0))) leaf m m' refl fits same;
@@ -296,7 +296,7 @@ flush_lives known tables table life m m' leaf notes ends leaf' stands mode fits 
 flush_lives known tables table life m m' leaf notes ends leaf' stands mode fits (steps.not_up not notes_are same ends_are now) = record {
   next = life;
   hands = hands_nothing leaf';
-  does = λ least few. lives.not_up (not_serving leaf life.mode mode not) (noted_none notes notes_are) ends_are refl;
+  does = λ columns few more. lives.not_up (not_serving leaf life.mode mode not) (noted_none notes notes_are) ends_are refl;
   counts = acting.keeps (ap (λ (e : Ending). is_disk_fault e) ends_are) (counts_stay life.durable notes notes_are);
   mode = subst (λ (l : Leaf). FitsMode life.mode l) (sym now) mode;
   way = way_stays known life life leaf m m' refl fits (same_held known leaf m m' stands same);
@@ -330,7 +330,7 @@ killed known tables life m m' leaf p place count notes ends leaf' y begins from 
     let c = closed_noted place count notes each in record {
       next = on life Down life.way [];
       hands = hands_nothing leaf';
-      does = λ least few. lives.kills p begins
+      does = λ columns few more. lives.kills p begins
           (c.0, ap (λ (n : ℕ). n + length c.0) from ∙ (ap (λ (n : ℕ). place + n) c.1 ∙ size), subst (λ (n : ℕ). Notes n (map said.Closed c.0) (noted_all notes)) (sym from) c.2)
           ends_are refl;
       counts = acting.keeps (ap (λ (e : Ending). is_disk_fault e) ends_are) (counts_closed life.durable place count notes each);
@@ -355,7 +355,7 @@ kill_lives names known life m m' leaf notes ends leaf' in_place stands mode fits
 kill_lives names known life m m' leaf notes ends leaf' in_place stands mode fits (steps.not_up down notes_are same ends_are now) = record {
   next = life;
   hands = hands_nothing leaf';
-  does = λ least few. lives.not_up (resting_mode leaf life.mode mode down) (noted_none notes notes_are) ends_are refl;
+  does = λ columns few more. lives.not_up (resting_mode leaf life.mode mode down) (noted_none notes notes_are) ends_are refl;
   counts = acting.keeps (ap (λ (e : Ending). is_disk_fault e) ends_are) (counts_stay life.durable notes notes_are);
   mode = subst (λ (l : Leaf). FitsMode life.mode l) (sym now) mode;
   way = way_stays known life life leaf m m' refl fits (same_held known leaf m m' stands same);

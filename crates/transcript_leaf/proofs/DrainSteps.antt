@@ -1,23 +1,23 @@
 -- The steps of a drain: how it treats tables, how it copies, how it halts, and which counts its entries leave.
-use Rattle.std.proofs.Common.{◌≡◌, ℕ, zero, suc, ◌-◌, ◌<◌, Bool, true, false, List, [], ◌∷◌, ◌++◌, length, map, refl, sym, ap, subst, ◌∙◌, arith, Option, Some, None}
+use Rattle.std.proofs.Common.{◌≡◌, ℕ, zero, suc, ◌-◌, ◌<◌, ◌≤◌, Bool, true, false, List, [], ◌∷◌, ◌++◌, length, map, refl, sym, ap, subst, ◌∙◌, arith, Option, Some, None}
 use Rattle.std.specs.Prelude.{IsSome, if◌then◌else◌, replicate, ⊤}
 use Rattle.std.proofs.lemmas.List.{length-append}
 use Rattle.row_records.specs.Records.{LogRecord}
 use Rattle.table_state.specs.Tables.{Table}
 use Rattle.leaf_table.specs.Turns.{Shared}
 use Rattle.leaf_steward.specs.declared.notes.Note.{Note}
-use Rattle.leaf_steward.specs.Seated.{Seated}
+use Rattle.leaf_steward.specs.Seated.{Seated, AreFounded}
 use Rattle.leaf_steward.proofs.WatchMakes.{makes_tables}
 use Rattle.leaf_steward.specs.Owing.{Owing}
-use Rattle.leaf_machine.specs.States.{Shutting, treated}
+use Rattle.leaf_machine.specs.States.{Shutting, columns_added, treated}
 use Rattle.leaf_machine.specs.Prepares.{Treats, Halts, Starves}
 use Rattle.leaf_machine.specs.Prepares as prepares
 use Rattle.printed_lines.specs.declared.line.Said.{Said}
 use Rattle.printed_lines.specs.declared.line.Said.TheVariants as said
 use Rattle.transcript.specs.Pieces.{Noted}
-use Rattle.transcript.specs.Life.{IsCopyLength, Owed, Progress, Stage, Step, Steps, durable_after, durable_by, durable_with, first_open}
+use Rattle.transcript.specs.Life.{IsCopyLength, IsCopyWithin, Owed, Progress, Stage, Step, Steps, durable_after, durable_by, durable_with, first_open}
 use Rattle.transcript.specs.Life as life
-use Rattle.leaf_moves.specs.Steps.{At, IsLongCopy, MakesStep, MakesSteps, Part, noted_all}
+use Rattle.leaf_moves.specs.Steps.{At, HasCopyLength, MakesStep, MakesSteps, Part, noted_all}
 use Rattle.leaf_moves.specs.Steps as moves
 use Rattle.transcript_leaf.specs.Session.{IsOwedAs, IsProgressOf}
 use Rattle.transcript_leaf.proofs.NoteLines.{noted_none, noted_split, owed_noted}
@@ -146,13 +146,13 @@ steps_take copy n at ns t (moves.more k a notes b fewer first others between n_i
 -- a copy that is planned takes three steps or more, and one for each table that has rows
 abbrev IsLong : At → Type 0
 IsLong (moves.Shuts x) = ⊤
-IsLong (moves.Copies x copy made) = IsLongCopy x copy
+IsLong (moves.Copies x copy made) = HasCopyLength x copy
 
 step_long : (at : At) (ns : List Note) (t : At) → MakesStep at ns t → IsLong at → IsLong t
 step_long at ns t (moves.treats x y at_is few treats part t_is) long = subst IsLong (sym t_is) tt
 step_long at ns t (moves.plans x copy at_is all is none t_is) long = subst IsLong (sym t_is) is
 step_long at ns t (moves.copies x copy made at_is few none t_is) long =
-    let same : IsLongCopy x copy = subst IsLong at_is long in
+    let same : HasCopyLength x copy = subst IsLong at_is long in
     subst IsLong (sym t_is) same
 
 steps_long : (n : ℕ) (at : At) (ns : List Note) (t : At) → MakesSteps n at ns t → IsLong at → IsLong t
@@ -160,15 +160,26 @@ steps_long n at ns t (moves.none k a notes b n_is notes_are same) long = subst I
 steps_long n at ns t (moves.more k a notes b fewer first others between n_is step rest ns_are) long =
     steps_long fewer between others t rest (step_long at first between step long)
 
-pub copy_columns : (n copy made : ℕ) (x y : Shutting) (ns : List Note) → MakesSteps n (moves.Shuts x) ns (moves.Copies y copy made) → IsLongCopy y copy
+pub copy_columns : (n copy made : ℕ) (x y : Shutting) (ns : List Note) → MakesSteps n (moves.Shuts x) ns (moves.Copies y copy made) → HasCopyLength y copy
 copy_columns n copy made x y ns steps = steps_long n (moves.Shuts x) ns (moves.Copies y copy made) steps tt
 
 pub copy_long : (n copy made : ℕ) (x y : Shutting) (ns : List Note) → MakesSteps n (moves.Shuts x) ns (moves.Copies y copy made) → IsCopyLength 0 copy
-copy_long n copy made x y ns steps = let long = copy_columns n copy made x y ns steps in omega (arith, long)
+copy_long n copy made x y ns steps = let long = (copy_columns n copy made x y ns steps).0 in omega (arith, long)
+
+-- and where its tables are founded, no more than these ask for
+pub copy_within : (told : Bool) (most n copy made : ℕ) (x y : Shutting) (ns : List Note) → MakesSteps n (moves.Shuts x) ns (moves.Copies y copy made) → (told ≡ true → AreFounded y.serving.seated)
+    → (told ≡ true → columns_added y.serving.seated.tables y.serving.seated.seats ≤ most) → IsCopyWithin told most copy
+copy_within told most n copy made x y ns steps founded few = λ is.
+    let long = (copy_columns n copy made x y ns steps).1 (founded is) in
+    let all = few is in
+    omega (arith, long, all)
 
 -- the least that a copy takes
 pub least_copy : IsCopyLength 0 3
 least_copy = omega arith
+
+pub least_within : (told : Bool) (most : ℕ) → IsCopyWithin told most 3
+least_within told most = λ is. omega arith
 
 step_made : (tables copy : ℕ) (at : At) (ns : List Note) (t : At) (s : Stage) → TakesSteps copy t → FitsAt tables s at → MakesStep at ns t → StepMade tables copy s ns t
 step_made tables copy at ns t s takes fits (moves.treats x y at_is few treats part t_is) =

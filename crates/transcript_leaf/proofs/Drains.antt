@@ -1,6 +1,7 @@
 -- The life of a leaf behind a drain, by what that does to it.
-use Rattle.std.proofs.Common.{◌≡◌, ℕ, zero, suc, ◌+◌, ◌<◌, ◌≤◌, false, List, [], ◌++◌, length, map, refl, sym, ap, subst, ◌∙◌, arith, Option, Some, None}
+use Rattle.std.proofs.Common.{◌≡◌, ℕ, zero, suc, ◌+◌, ◌<◌, ◌≤◌, true, false, List, [], ◌++◌, length, map, refl, sym, ap, subst, ◌∙◌, arith, Option, Some, None}
 use Rattle.std.specs.Prelude.{IfSome, IsTrue, is_some, option_map, replicate}
+use Rattle.std.specs.List.{AllByRecursion}
 use Rattle.std.proofs.lemmas.List.{append-nil}
 use Rattle.berth_face.specs.Berth.{Meaning, Pair}
 use Rattle.leaf_words.specs.declared.ways.WhyDisk.TheVariants as why
@@ -11,15 +12,17 @@ use Rattle.printed_lines.specs.declared.line.Said.TheVariants as said
 use Rattle.printed_lines.specs.declared.line.Ending.{Ending}
 use Rattle.printed_lines.specs.declared.line.Ending.TheVariants as ending
 use Rattle.crash_moments.specs.Left.{NamedStates}
+use Rattle.leaf_table.specs.Turns.{Shared, is_founded}
+use Rattle.leaf_table.specs.Calls.{base_seen}
 use Rattle.leaf_steward.specs.declared.notes.Note.{Note}
 use Rattle.leaf_steward.specs.Seated.{Seated, AreFounded}
 use Rattle.leaf_steward.specs.Making.{EachNoted, IsClosedNote, IsHandedNote}
-use Rattle.leaf_machine.specs.States.{Shutting, columns_seen, treated}
-use Rattle.leaf_machine.specs.Prepares.{Halts, Starves, AllTreated}
+use Rattle.leaf_machine.specs.States.{Shutting, bulk_added, columns_added, columns_seen, treated}
+use Rattle.leaf_machine.specs.Prepares.{Halts, Starves, AllTreated, IsCrowded}
 use Rattle.printed_lines.specs.declared.line.Deed.TheVariants.{Drain}
 use Rattle.transcript.specs.Pieces.{Noted}
 use Rattle.transcript.specs.Transcript.{Known}
-use Rattle.transcript.specs.Life.{Life, Mode, Down, Up, Preparing, Progress, OfDrain, BeginsAt, ClosesRest, MayMake, claimed, durable_with, failed, first_open, on, way_stopped}
+use Rattle.transcript.specs.Life.{Columns, Life, Mode, Down, Up, Preparing, Progress, OfDrain, BeginsAt, ClosesRest, MayMake, claimed, durable_with, failed, first_open, on, way_stopped}
 use Rattle.transcript.specs.Life as life
 use Rattle.leaf_moves.specs.Stage.{Leaf, IsDown, IsUp, IsPreparing, Stands, seated_of}
 use Rattle.leaf_moves.specs.Steps.{BeginsShutting, DrainMoves, IsDownLeaf, MakesSteps, Part, RegionStopped, noted_all}
@@ -27,11 +30,12 @@ use Rattle.leaf_moves.specs.Steps as moves
 use Rattle.transcript_leaf.specs.Session.{AreGrounded, AreInPlace, FitsMode, FitsNext, IsProgressOf, StandsKnown}
 use Rattle.transcript_leaf.specs.Acting.{FitsWay, Hands, Lived}
 use Rattle.transcript_leaf.specs.Acting as acting
-use Rattle.transcript_leaf.proofs.Modes.{as_many, counts_stay, founded_known, resting_mode}
+use Rattle.transcript_leaf.proofs.Modes.{as_many, counts_stay, founded_known, founded_where, resting_mode}
 use Rattle.transcript_leaf.proofs.NoteLines.{closed_noted, handed_noted, noted_split}
 use Rattle.transcript_leaf.proofs.CountingNotes.{AreStewards}
-use Rattle.transcript_leaf.proofs.Handing.{begun_stewards, handed_columns, hands_nothing, steps_stewards}
-use Rattle.transcript_leaf.proofs.DrainSteps.{closed_still, copied, copy_columns, copy_long, durable_still, halts, handed_still, least_copy, starves, through}
+use Rattle.transcript_leaf.proofs.Handing.{begun_stewards, begun_tables, handed_columns, hands_nothing, steps_stewards, steps_tables}
+use Rattle.transcript_leaf.proofs.Adding.{hands_bulk, hands_most}
+use Rattle.transcript_leaf.proofs.DrainSteps.{closed_still, copied, copy_columns, copy_long, copy_within, durable_still, halts, handed_still, least_copy, least_within, starves, through}
 
 -- ---- what is known where the base is
 
@@ -113,7 +117,24 @@ begun (Preparing p) (IsPreparing y) x fits shuts = subst (λ (z : Shutting). Beg
   tables = refl;
 })
 
+-- the tables of a leaf with a base are founded, and so they are once they are copied
+founded_copy : (names : List (List ℕ)) (known : Option Known) (leaf : Leaf) (x y : Shutting) (n copy made : ℕ) (notes : List Note) → AreInPlace names (seated_of leaf) → AreGrounded known (seated_of leaf)
+    → BeginsShutting leaf x → MakesSteps n (moves.Shuts x) notes (moves.Copies y copy made) → is_some known ≡ true → AreFounded y.serving.seated
+founded_copy names known leaf x y n copy made notes place grounded shuts steps is =
+    let same : y.serving.seated.tables ≡ (seated_of leaf).tables = steps_tables n (moves.Shuts x) notes (moves.Copies y copy made) steps ∙ begun_tables leaf x shuts in
+    subst (λ (ts : List Shared). AllByRecursion (λ (t : Shared). is_founded (base_seen t) ≡ true) ts) (sym same) (founded_where names known (seated_of leaf) place grounded is)
+
+founded_shut : (names : List (List ℕ)) (known : Option Known) (leaf : Leaf) (x y : Shutting) (n : ℕ) (notes : List Note) → AreInPlace names (seated_of leaf) → AreGrounded known (seated_of leaf)
+    → BeginsShutting leaf x → MakesSteps n (moves.Shuts x) notes (moves.Shuts y) → is_some known ≡ true → AreFounded y.serving.seated
+founded_shut names known leaf x y n notes place grounded shuts steps is =
+    let same : y.serving.seated.tables ≡ (seated_of leaf).tables = steps_tables n (moves.Shuts x) notes (moves.Shuts y) steps ∙ begun_tables leaf x shuts in
+    subst (λ (ts : List Shared). AllByRecursion (λ (t : Shared). is_founded (base_seen t) ≡ true) ts) (sym same) (founded_where names known (seated_of leaf) place grounded is)
+
 -- ---- each way that a drain may end
+
+-- the columns that a copy has at most that did not end
+abbrev most_columns : Seated → ℕ
+most_columns x = columns_added x.tables x.seats
 
 module _ (known : Option Known) (tables : ℕ) (stop : Option ℕ) (old : Life) (m m' : Meaning) (leaf : Leaf) (x : Shutting)
     (stands : IfSome known (λ (k : Known). StandsKnown k leaf m)) (fits : FitsNext known old leaf m) (b : Begun old.mode leaf x) (size : length x.serving.seated.tables ≡ tables) where
@@ -130,15 +151,18 @@ module _ (known : Option Known) (tables : ℕ) (stop : Option ℕ) (old : Life) 
       let hands : Hands (IsDown z) = record {
         handed = noted_all handing;
         columns = columns_seen y.serving.seated.tables y.serving.seated.seats;
+        most = 0;
+        bulk = 0;
         told = λ grounds histories on. handed_columns grounds histories z on part.from part.to y.serving.seated handing (length x.serving.seated.tables) part.made noted
             (steps_stewards n (moves.Shuts x) treating (moves.Copies y copy made) steps stewards);
+        few = λ grounds histories on founded. (omega arith, omega arith);
       } in
-      let does : (least : List Noted → ℕ) → least hands.handed ≤ hands.columns → OfDrain (is_some known) tables least stop old (noted_all notes) ending.Done next =
-      λ least few. life.done copy n made b.at (noted_all treating) (noted_all handing) (let long = copy_columns n copy made x y treating steps in omega (arith, few, long)) b.begins
+      let does : (columns : Columns) → columns.least hands.handed ≤ hands.columns → OfDrain (is_some known) tables columns stop old (noted_all notes) ending.Done next =
+      λ columns few. life.done copy n made b.at (noted_all treating) (noted_all handing) (let long = (copy_columns n copy made x y treating steps).0 in omega (arith, few, long)) b.begins
       (copied tables n copy made x y treating b.at b.progress size steps) last may hand split refl refl in record {
         next = next;
         hands = hands;
-        does = does;
+        does = λ columns few more. does columns few;
         counts = acting.keeps refl
             (durable_still old.durable (noted_all treating) (noted_all handing) (handed_still 0 tables (noted_all handing) hand)
             ∙ ap (λ (ns : List Noted). durable_with old.durable ns) (sym split));
@@ -147,32 +171,37 @@ module _ (known : Option Known) (tables : ℕ) (stop : Option ℕ) (old : Life) 
       }
 
   -- the region failed
-  region_failed : (y : Shutting) (notes : List Note) (n copy made : ℕ) → MakesSteps n (moves.Shuts x) notes (moves.Copies y copy made) → MayMake stop (suc n)
+  region_failed : (y : Shutting) (notes : List Note) (n copy made : ℕ) → (is_some known ≡ true → AreFounded y.serving.seated)
+      → MakesSteps n (moves.Shuts x) notes (moves.Copies y copy made) → MayMake stop (suc n)
       → Lived known tables (Drain stop) old (noted_all notes) ending.FaultRegion (IsDown y.serving.seated) m'
-  region_failed y notes n copy made steps may =
+  region_failed y notes n copy made founded steps may =
       let next : Life = on old Down None (noted_all notes) in
-      let does : (least : List Noted → ℕ) → OfDrain (is_some known) tables least stop old (noted_all notes) ending.FaultRegion next =
-      λ least. life.region_fails copy n made b.at (copy_long n copy made x y notes steps) b.begins (copied tables n copy made x y notes b.at b.progress size steps) may refl refl in record {
+      let does : (columns : Columns) → (is_some known ≡ true → most_columns y.serving.seated ≤ columns.most) → OfDrain (is_some known) tables columns stop old (noted_all notes) ending.FaultRegion next =
+      λ columns more. life.region_fails copy n made b.at (copy_long n copy made x y notes steps) (copy_within (is_some known) columns.most n copy made x y notes steps founded more) b.begins
+      (copied tables n copy made x y notes b.at b.progress size steps) may refl refl in record {
         next = next;
-        hands = hands_nothing (IsDown y.serving.seated);
-        does = λ least few. does least;
+        hands = hands_most y.serving.seated;
+        does = λ columns few more. does columns (λ is. (more is).0);
         counts = acting.keeps refl refl;
         mode = tt;
         way = no_way known m' next refl;
       }
 
   -- the copy has no room
-  roomless : (y : Shutting) (notes : List Note) (n : ℕ) → MakesSteps n (moves.Shuts x) notes (moves.Shuts y) → AllTreated y → MayMake stop (suc n)
+  roomless : (y : Shutting) (notes : List Note) (n : ℕ) → (is_some known ≡ true → AreFounded y.serving.seated) → MakesSteps n (moves.Shuts x) notes (moves.Shuts y) → AllTreated y
+      → IsCrowded y.serving.seated → MayMake stop (suc n)
       → (IsTrue m.tells → m'.held.region ≡ m.held.region)
       → Lived known tables (Drain stop) old (noted_all notes) ending.FaultRoom (IsPreparing y) m'
-  roomless y notes n steps all may same =
+  roomless y notes n founded steps all crowded may same =
       let th = through tables 3 n x y notes b.at b.progress size steps in
       let next : Life = on old (Preparing th.q) old.way (noted_all notes) in
-      let does : (least : List Noted → ℕ) → OfDrain (is_some known) tables least stop old (noted_all notes) ending.FaultRoom next =
-      λ least. life.no_room 3 n b.at th.q least_copy b.begins th.run (th.progress.treated_are ∙ (all ∙ th.size)) may refl refl in record {
+      let bulk = bulk_added y.serving.seated.tables y.serving.seated.seats in
+      let does : (columns : Columns) → (is_some known ≡ true → bulk ≤ columns.bulk) → OfDrain (is_some known) tables columns stop old (noted_all notes) ending.FaultRoom next =
+      λ columns more. life.no_room 3 n b.at th.q least_copy (λ is. let much = crowded (founded is) in let ever = more is in omega (arith, much, ever)) b.begins th.run
+      (th.progress.treated_are ∙ (all ∙ th.size)) may refl refl in record {
         next = next;
-        hands = hands_nothing (IsPreparing y);
-        does = λ least few. does least;
+        hands = hands_bulk y;
+        does = λ columns few more. does columns (λ is. (more is).1);
         counts = acting.keeps refl refl;
         mode = th.progress;
         way = kept_way known old leaf m m' stands fits same next refl;
@@ -186,11 +215,11 @@ module _ (known : Option Known) (tables : ℕ) (stop : Option ℕ) (old : Life) 
       let th = through tables 3 n x y treating b.at b.progress size steps in
       let st = starves tables y z starving th.q th.size th.progress s in
       let next : Life = on old (Preparing st.0) old.way (noted_all notes) in
-      let does : (least : List Noted → ℕ) → OfDrain (is_some known) tables least stop old (noted_all notes) ending.FaultMemory next =
-      λ least. life.no_memory 3 n b.at th.q st.0 (noted_all treating) (noted_all starving) least_copy b.begins th.run st.1 may (noted_split notes treating starving notes_are) refl refl in record {
+      let does : (columns : Columns) → OfDrain (is_some known) tables columns stop old (noted_all notes) ending.FaultMemory next =
+      λ columns. life.no_memory 3 n b.at th.q st.0 (noted_all treating) (noted_all starving) least_copy b.begins th.run st.1 may (noted_split notes treating starving notes_are) refl refl in record {
         next = next;
         hands = hands_nothing (IsPreparing z);
-        does = λ least few. does least;
+        does = λ columns few more. does columns;
         counts = acting.keeps refl refl;
         mode = st.2;
         way = kept_way known old leaf m m' stands fits same next refl;
@@ -206,11 +235,11 @@ module _ (known : Option Known) (tables : ℕ) (stop : Option ℕ) (old : Life) 
       let hl = halts y z halting th.q th.progress h in
       let below : th.q.treated < tables = omega (arith, few, th.progress.treated_are, th.size) in
       let next : Life = failed old (Preparing hl.0) in
-      let does : (least : List Noted → ℕ) → OfDrain (is_some known) tables least stop old (noted_all notes) ending.FaultDisk next =
-      λ least. life.disk_fails 3 n b.at th.q hl.0 (noted_all treating) (noted_all halting) least_copy b.begins th.run below hl.1 may (noted_split notes treating halting notes_are) refl refl in record {
+      let does : (columns : Columns) → OfDrain (is_some known) tables columns stop old (noted_all notes) ending.FaultDisk next =
+      λ columns. life.disk_fails 3 n b.at th.q hl.0 (noted_all treating) (noted_all halting) least_copy b.begins th.run below hl.1 may (noted_split notes treating halting notes_are) refl refl in record {
         next = next;
         hands = hands_nothing (IsPreparing z);
-        does = λ least few. does least;
+        does = λ columns few more. does columns;
         counts = acting.lost refl;
         mode = hl.2;
         way = kept_way known old leaf m m' stands fits same next refl;
@@ -233,11 +262,11 @@ module _ (known : Option Known) (tables : ℕ) (stop : Option ℕ) (old : Life) 
         subst (λ (n : ℕ). life.Notes n (map said.Closed shut.0) (noted_all closing)) place shut.2,
       ) in
       let next : Life = on old Down (way_stopped (life.Shutting th.q) old.way) (noted_all treating) in
-      let does : (least : List Noted → ℕ) → OfDrain (is_some known) tables least stop old (noted_all notes) ending.Stopped next =
-      λ least. life.stops 3 n b.at (life.Shutting th.q) (noted_all treating) (noted_all closing) least_copy b.begins th.run stop_is rest split refl refl in record {
+      let does : (columns : Columns) → OfDrain (is_some known) tables columns stop old (noted_all notes) ending.Stopped next =
+      λ columns. life.stops 3 n b.at (life.Shutting th.q) (noted_all treating) (noted_all closing) least_copy (least_within (is_some known) columns.most) b.begins th.run stop_is rest split refl refl in record {
         next = next;
         hands = hands_nothing (IsDown z);
-        does = λ least few. does least;
+        does = λ columns few more. does columns;
         counts = acting.keeps refl
             (durable_still old.durable (noted_all treating) (noted_all closing) (closed_still (length y.closed) shut.0 (noted_all closing) shut.2)
             ∙ ap (λ (ns : List Noted). durable_with old.durable ns) (sym split));
@@ -246,17 +275,18 @@ module _ (known : Option Known) (tables : ℕ) (stop : Option ℕ) (old : Life) 
       }
 
   -- behind steps of the copy
-  stopped_copying : (y : Shutting) (notes : List Note) (n copy made : ℕ)
+  stopped_copying : (y : Shutting) (notes : List Note) (n copy made : ℕ) → (is_some known ≡ true → AreFounded y.serving.seated)
       → stop ≡ Some n → MakesSteps n (moves.Shuts x) notes (moves.Copies y copy made) → IfSome known (λ (k : Known). RegionStopped made m m')
       → Lived known tables (Drain stop) old (noted_all notes) ending.Stopped (IsDown y.serving.seated) m'
-  stopped_copying y notes n copy made stop_is steps region =
+  stopped_copying y notes n copy made founded stop_is steps region =
       let next : Life = on old Down (way_stopped (life.Copying made) old.way) (noted_all notes) in
-      let does : (least : List Noted → ℕ) → OfDrain (is_some known) tables least stop old (noted_all notes) ending.Stopped next =
-      λ least. life.stops copy n b.at (life.Copying made) (noted_all notes) [] (copy_long n copy made x y notes steps) b.begins (copied tables n copy made x y notes b.at b.progress size steps) stop_is refl
+      let does : (columns : Columns) → (is_some known ≡ true → most_columns y.serving.seated ≤ columns.most) → OfDrain (is_some known) tables columns stop old (noted_all notes) ending.Stopped next =
+      λ columns more. life.stops copy n b.at (life.Copying made) (noted_all notes) [] (copy_long n copy made x y notes steps)
+      (copy_within (is_some known) columns.most n copy made x y notes steps founded more) b.begins (copied tables n copy made x y notes b.at b.progress size steps) stop_is refl
       (sym (append-nil (noted_all notes))) refl refl in record {
         next = next;
-        hands = hands_nothing (IsDown y.serving.seated);
-        does = λ least few. does least;
+        hands = hands_most y.serving.seated;
+        does = λ columns few more. does columns (λ is. (more is).0);
         counts = acting.keeps refl refl;
         mode = tt;
         way = stopped_way known old leaf m m' made fits region next refl;
@@ -267,10 +297,10 @@ not_up : (known : Option Known) (tables : ℕ) (stop : Option ℕ) (old : Life) 
     → IfSome known (λ (k : Known). StandsKnown k leaf m) → FitsMode old.mode leaf → FitsNext known old leaf m → IsDownLeaf leaf → m'.held ≡ m.held
     → Lived known tables (Drain stop) old [] ending.NotUp leaf m'
 not_up known tables stop old m m' leaf stands mode fits down held =
-    let does : (least : List Noted → ℕ) → OfDrain (is_some known) tables least stop old [] ending.NotUp old = λ least. life.not_up (resting_mode leaf old.mode mode down) refl refl refl in record {
+    let does : (columns : Columns) → OfDrain (is_some known) tables columns stop old [] ending.NotUp old = λ columns. life.not_up (resting_mode leaf old.mode mode down) refl refl refl in record {
       next = old;
       hands = hands_nothing leaf;
-      does = λ least few. does least;
+      does = λ columns few more. does columns;
       counts = acting.keeps refl (counts_stay old.durable [] refl);
       mode = mode;
       way = kept_way known old leaf m m' stands fits (λ tells. ap (λ (h : Pair). h.region) held) old refl;
@@ -290,11 +320,13 @@ drain_lives names known stop old m m' leaf notes ends leaf' place grounded stewa
 drain_lives names known stop old m m' leaf notes ends leaf' place grounded stewards stands mode fits (moves.failed x y n copy made shuts steps may own ends_are leaf_is) =
     let b = begun old.mode leaf x mode shuts in
     rw (ends_are, leaf_is)
-    (region_failed known (length names) stop old m m' leaf x stands fits b (b.tables ∙ as_many names (seated_of leaf) place) y notes n copy made steps may)
-drain_lives names known stop old m m' leaf notes ends leaf' place grounded stewards stands mode fits (moves.roomless x y n shuts steps all may region ends_are leaf_is) =
+    (region_failed known (length names) stop old m m' leaf x stands fits b (b.tables ∙ as_many names (seated_of leaf) place) y notes n copy made
+    (founded_copy names known leaf x y n copy made notes place grounded shuts steps) steps may)
+drain_lives names known stop old m m' leaf notes ends leaf' place grounded stewards stands mode fits (moves.roomless x y n shuts steps all crowded may region ends_are leaf_is) =
     let b = begun old.mode leaf x mode shuts in
     rw (ends_are, leaf_is)
-    (roomless known (length names) stop old m m' leaf x stands fits b (b.tables ∙ as_many names (seated_of leaf) place) y notes n steps all may region)
+    (roomless known (length names) stop old m m' leaf x stands fits b (b.tables ∙ as_many names (seated_of leaf) place) y notes n
+    (founded_shut names known leaf x y n notes place grounded shuts steps) steps all crowded may region)
 drain_lives names known stop old m m' leaf notes ends leaf' place grounded stewards stands mode fits (moves.starved x y z treating starving n shuts steps may s part notes_are region ends_are leaf_is) =
     let b = begun old.mode leaf x mode shuts in
     rw (ends_are, leaf_is)
@@ -310,7 +342,8 @@ drain_lives names known stop old m m' leaf notes ends leaf' place grounded stewa
 drain_lives names known stop old m m' leaf notes ends leaf' place grounded stewards stands mode fits (moves.stopped_copying x y n copy made shuts stop_is steps region ends_are leaf_is) =
     let b = begun old.mode leaf x mode shuts in
     rw (ends_are, leaf_is)
-    (stopped_copying known (length names) stop old m m' leaf x stands fits b (b.tables ∙ as_many names (seated_of leaf) place) y notes n copy made stop_is steps
+    (stopped_copying known (length names) stop old m m' leaf x stands fits b (b.tables ∙ as_many names (seated_of leaf) place) y notes n copy made
+    (founded_copy names known leaf x y n copy made notes place grounded shuts steps) stop_is steps
     (promised (RegionStopped made m m') names known leaf m place grounded stands region))
 drain_lives names known stop old m m' leaf notes ends leaf' place grounded stewards stands mode fits (moves.not_up down notes_are held ends_are leaf_is) =
     rw (notes_are, ends_are, leaf_is) (not_up known (length names) stop old m m' leaf stands mode fits down held)

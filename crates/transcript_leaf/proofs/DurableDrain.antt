@@ -241,7 +241,7 @@ module _ (names : List (List ℕ)) (k : Known) (counts : List ℕ) (m m' : Meani
       done_later z down (part_ready k.base y.serving.seated handing z part now.0.ready)
       (subst (λ (c : List ℕ). AreDone k.base c z) (sym (by_treating treating handing are (all_handed 0 _ handing hands))) kept)
   drain_moves stop ends (DrainMoves.failed x y n copy made shuts steps may own is down) calm = copied_later x y n copy made shuts steps down
-  drain_moves stop ends (DrainMoves.roomless x y n shuts steps all may region is preparing) calm =
+  drain_moves stop ends (DrainMoves.roomless x y n shuts steps all crowded may region is preparing) calm =
       let now : IsCleanAndReady k.base (By notes) y = comes_to x n notes (Shuts y) shuts steps in
       shutting_later y preparing now.clean
   drain_moves stop ends (DrainMoves.starved x y z treating starving n shuts steps may starves part are region is preparing) calm =

@@ -1,7 +1,7 @@
 -- A start of a leaf of which the log's counts are known: it opens each table with just so many writes, and these are flushed then.
 use Rattle.std.proofs.Common.{◌≡◌, ℕ, zero, suc, ◌+◌, List, [], ◌∷◌, length, map, Option, Some, None, refl, sym, ap, subst, ◌∙◌, arith}
 use Rattle.std.specs.Prelude.{slice_get}
-use Rattle.table_state.specs.Tables.{Table}
+use Rattle.table_state.specs.Tables.{HeldTables, Table}
 use Rattle.berth_face.specs.Berth.{Meaning}
 use Rattle.row_records.specs.Records.{LogRecord}
 use Rattle.leaf_model.specs.declared.writes.Write.{Write}
@@ -72,7 +72,7 @@ from_image base ws least next m names disk s rests come = by (rests.region m.hel
         let writes_are : AreImagesOf (λ name. (tables_of base ws m name).writes) come.0 = subst (λ (ts : List TableImage). AreImagesOf (λ name. (tables_of base ws m name).writes) ts) same had in
         record {
           table = λ name. images.table_of (images.table_named come.0 name);
-          are = come.4;
+          are = ap (λ (h : HeldTables). h.each) come.4;
           has = λ name. (log.0, log_end, closed_is_log m.held.disk log.0 log_end log.1, (writes_are name).count ∙ sym (ap (λ (ws : List Write). length ws) (log.2 name)));
         }
 

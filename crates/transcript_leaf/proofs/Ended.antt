@@ -16,7 +16,7 @@ use Rattle.printed_lines.specs.Lines.{name_at}
 use Rattle.transcript.specs.Pieces.{Piece, PlayedItem, all_pieces}
 use Rattle.transcript.specs.Histories.{Ground, InOrder, IsHistoryOf, Shown, Tells, shown}
 use Rattle.transcript.specs.Strangers.{Strangers}
-use Rattle.transcript.specs.Answers.{columns_handed}
+use Rattle.transcript.specs.Answers.{columns_of}
 use Rattle.transcript.specs.Life.{Lives}
 use Rattle.transcript.specs.Transcript.{Known, first_life, ground_of}
 use Rattle.transcript.specs.Leaving.{LeavesBerth}
@@ -169,7 +169,7 @@ left {B} meaning number names known old items x k is now met l b held =
 
 pub lives_all : {B : Type 0} (meaning : B → Meaning) (number : ℕ) (names : List (List ℕ)) (known : Option Known) (old : Meaning) (items : List PlayedItem) (x : Hold B)
     → (now : LeafSession meaning number names known old [] (λ place. []) items x) → AreMet x → (l : Leaf) (b : B) (held : x.held ≡ Some (l, b))
-    → Lives (is_some known) (length names) (columns_handed (λ table. ground_of known (name_at names table)) (λ table. seen_in x table)) number (first_life known names) (all_pieces items)
+    → Lives (is_some known) (length names) (columns_of (λ table. ground_of known (name_at names table)) (λ table. seen_in x table) (length names)) number (first_life known names) (all_pieces items)
     (now.held l b held).1.life
 lives_all {B} meaning number names known old items x now met l b held =
     let is = (now.held l b held).1 in

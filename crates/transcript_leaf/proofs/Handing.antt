@@ -40,7 +40,7 @@ part_stewards x notes y part are place w sat =
     let v = element_at x.seats place (omega (arith, count, within y.seats place w sat)) in
     stewards_still v.0 w (notes_at part.from part.to x notes y place v.0 w part.made v.1 sat (are place v.0 v.1)).ids (are place v.0 v.1)
 
-abbrev seats_at : At → Seated
+abbrev pub seats_at : At → Seated
 seats_at (moves.Shuts x) = x.serving.seated
 seats_at (moves.Copies x copy made) = x.serving.seated
 
@@ -59,7 +59,29 @@ steps_stewards n s notes t (moves.none k a ns b n_is notes_are same) are = subst
 steps_stewards n s notes t (moves.more k a ns b fewer first others between n_is step rest ns_are) are =
     steps_stewards fewer between others t rest (step_stewards s first between step are)
 
--- a drain begins with the leaf's seats
+-- no step changes the tables
+step_tables : (s : At) (notes : List Note) (t : At) → MakesStep s notes t → (seats_at t).tables ≡ (seats_at s).tables
+step_tables s notes t (moves.treats x y s_is few treats part t_is) =
+    ap (λ (a : At). (seats_at a).tables) t_is
+    ∙ (makes_tables part.from part.to x.serving.seated notes y.serving.seated part.made ∙ ap (λ (a : At). (seats_at a).tables) (sym s_is))
+step_tables s notes t (moves.plans x copy s_is all long none t_is) =
+    let now : (seats_at t).tables ≡ x.serving.seated.tables = ap (λ (a : At). (seats_at a).tables) t_is in
+    now ∙ ap (λ (a : At). (seats_at a).tables) (sym s_is)
+step_tables s notes t (moves.copies x copy made s_is few none t_is) =
+    let now : (seats_at t).tables ≡ x.serving.seated.tables = ap (λ (a : At). (seats_at a).tables) t_is in
+    now ∙ ap (λ (a : At). (seats_at a).tables) (sym s_is)
+
+pub steps_tables : (n : ℕ) (s : At) (notes : List Note) (t : At) → MakesSteps n s notes t → (seats_at t).tables ≡ (seats_at s).tables
+steps_tables n s notes t (moves.none k a ns b n_is notes_are same) = ap (λ (a : At). (seats_at a).tables) same
+steps_tables n s notes t (moves.more k a ns b fewer first others between n_is step rest ns_are) = steps_tables fewer between others t rest ∙ step_tables s first between step
+
+-- a drain begins with the leaf's tables
+pub begun_tables : (leaf : Leaf) (x : Shutting) → BeginsShutting leaf x → x.serving.seated.tables ≡ (seated_of leaf).tables
+begun_tables (IsDown y) x begins = absurd begins
+begun_tables (IsUp s) x begins = ap (λ (y : Shutting). y.serving.seated.tables) begins
+begun_tables (IsPreparing y) x begins = ap (λ (y : Shutting). y.serving.seated.tables) begins
+
+-- and with its seats
 pub begun_stewards : (leaf : Leaf) (x : Shutting) → BeginsShutting leaf x → AreStewards (seated_of leaf) → AreStewards x.serving.seated
 begun_stewards (IsDown y) x begins are = absurd begins
 begun_stewards (IsUp s) x begins are = subst (λ (y : Shutting). AreStewards y.serving.seated) (sym begins) are
@@ -219,4 +241,4 @@ module _ (g : ℕ → Ground) (h : ℕ → List Entry) (z : Seated) (told : AreT
 
 -- a deed that hands nothing over
 pub hands_nothing : (leaf : Leaf) → Hands leaf
-hands_nothing leaf = record { handed = []; columns = 0; told = λ grounds histories on. omega arith }
+hands_nothing leaf = record { handed = []; columns = 0; most = 0; bulk = 0; told = λ grounds histories on. omega arith; few = λ grounds histories on founded. (omega arith, omega arith) }

@@ -1,4 +1,5 @@
 pub mod Acting
+pub mod Adding
 pub mod AsHanded
 pub mod Backs
 pub mod Beginning
@@ -53,3 +54,4 @@ pub mod Whole
 pub mod Rising
 pub mod Owning
 pub mod Owned
+pub mod Bounds

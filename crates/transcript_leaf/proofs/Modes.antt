@@ -1,6 +1,6 @@
 -- In which mode a leaf is, and what stays of its life where nothing was done.
 use Rattle.std.proofs.Common.{◌≡◌, ℕ, zero, suc, List, [], ◌∷◌, length, refl, sym, ap, subst, ◌∙◌, arith, true, Option, Some, None}
-use Rattle.std.specs.Prelude.{IfSome, IsTrue, slice_get}
+use Rattle.std.specs.Prelude.{IfSome, IsTrue, is_some, slice_get}
 use Rattle.std.specs.List.{AllByRecursion}
 use Rattle.berth_face.specs.Berth.{Meaning, Pair}
 use Rattle.leaf_words.specs.declared.ways.Way.{Way}
@@ -89,6 +89,10 @@ founded_known names k x in_place grounded = all_each (λ (t : Shared). is_founde
     let many = as_many names x in_place in
     let seat = element_at x.seats place (omega (arith, below, many, in_place.seats)) in
     (grounded place t seat.0 at seat.1).0)
+
+pub founded_where : (names : List (List ℕ)) (known : Option Known) (x : Seated) → AreInPlace names x → AreGrounded known x → is_some known ≡ true → AreFounded x
+founded_where names None x in_place grounded is = absurd cc
+founded_where names (Some k) x in_place grounded is = founded_known names k x in_place grounded
 
 -- ---- counts
 

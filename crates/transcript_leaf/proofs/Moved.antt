@@ -1,5 +1,5 @@
 -- What a deed of the steward leaves: the leaf in its place, its next start, and what stands of its berth.
-use Rattle.std.proofs.Common.{◌≡◌, ℕ, suc, true, false, Bool, List, [], ◌∷◌, ◌++◌, length, map, Option, Some, None, refl, sym, ap, subst, ◌∙◌, arith}
+use Rattle.std.proofs.Common.{◌≡◌, ℕ, suc, true, false, Bool, List, [], ◌∷◌, ◌++◌, length, map, Option, Some, None, refl, sym, ap, subst, ◌∙◌, le_refl, arith}
 use Rattle.std.specs.Prelude.{IsTrue, IfSome, slice_get}
 use Rattle.berth_face.specs.Berth.{Meaning}
 use Rattle.leaf_words.specs.declared.ways.Way.{Way}
@@ -24,7 +24,7 @@ use Rattle.printed_lines.specs.declared.line.Ending.TheVariants as ends_as
 use Rattle.printed_lines.specs.declared.line.Deed.{Deed}
 use Rattle.printed_lines.specs.declared.line.Deed.TheVariants.{Drain, Flush, Kill, Start}
 use Rattle.transcript.specs.Pieces.{Acted, Noted, Piece}
-use Rattle.transcript.specs.Life.{Life, Notes, durable_with}
+use Rattle.transcript.specs.Life.{Columns, Life, Notes, durable_with}
 use Rattle.transcript.specs.Transcript.{Known}
 use Rattle.leaf_moves.specs.Stage.{Carries, IsDown, IsUp, Leaf, seated_of}
 use Rattle.leaf_moves.specs.Steps.{DrainMoves, FlushMoves, KillMoves, Moves, StartMoves, StartsTold, ending_of, ending_of_flush, noted, noted_all}
@@ -116,7 +116,7 @@ kills_no_start m m' leaf notes ends leaf' (KillMoves.not_up down none held_is en
 drains_no_start : (stop : Option ℕ) (m m' : Meaning) (leaf : Leaf) (notes : List Note) (ends : Ending) (leaf' : Leaf) → DrainMoves m m' leaf stop notes ends leaf' → is_started ends ≡ false
 drains_no_start stop m m' leaf notes ends leaf' (DrainMoves.done x y z treating handing n copy made shuts steps last may part each notes_are memory own ends_are now) = ap is_started ends_are
 drains_no_start stop m m' leaf notes ends leaf' (DrainMoves.failed x y n copy made shuts steps may own ends_are now) = ap is_started ends_are
-drains_no_start stop m m' leaf notes ends leaf' (DrainMoves.roomless x y n shuts steps all may region ends_are now) = ap is_started ends_are
+drains_no_start stop m m' leaf notes ends leaf' (DrainMoves.roomless x y n shuts steps all crowded may region ends_are now) = ap is_started ends_are
 drains_no_start stop m m' leaf notes ends leaf' (DrainMoves.starved x y z treating starving n shuts steps may starves part notes_are region ends_are now) = ap is_started ends_are
 drains_no_start stop m m' leaf notes ends leaf' (DrainMoves.halted x y z treating halting n shuts steps may below halts notes_are region ends_are now) = ap is_started ends_are
 drains_no_start stop m m' leaf notes ends leaf' (DrainMoves.stopped x y z treating closing n count shuts stops steps closed each part notes_are region stands ends_are now) = ap is_started ends_are
@@ -221,12 +221,13 @@ pub known_moved : (number : ℕ) (names : List (List ℕ)) (kn : Option Known) (
 known_moved number names None old deed life pieces m m' met notes ends moved in_place grounded mode moves carries lived s = tt
 known_moved number names (Some k) old deed life pieces m m' met notes ends moved in_place grounded mode moves carries lived s =
     let on = stands_carried names k.base met moved notes m m' s.now.tells in_place grounded s.now.sound s.now.stands carries in
-    let does = lived.does (λ handed. 0) (omega arith) in
+    let columns : Columns = record { least = λ handed. 0; most = lived.hands.most; bulk = lived.hands.bulk } in
+    let does = lived.does columns (omega arith) (λ is. (le_refl lived.hands.most, le_refl lived.hands.bulk)) in
     record {
       now = record { tells = subst IsTrue (sym on.told.passes.tells) s.now.tells; sound = s.now.sound; stands = on.stands };
       told = told_on k.base names met moved old m m' s.told on;
-      named = named_act number names (λ handed. 0) k.held life pieces deed m m' met notes ends moved lived.next s.now.tells mode in_place.same_names moves does s.named;
+      named = named_act number names columns k.held life pieces deed m m' met notes ends moved lived.next s.now.tells mode in_place.same_names moves does s.named;
       own = λ begun.
           owned names k.base m m' met moved notes ends in_place s.now.tells (founded_all names (seated_of met) in_place k.base grounded) s.now.stands on life lived.next s.own begun
-          true (length names) (λ handed. 0) deed (noted_all notes) moves does;
+          true (length names) columns deed (noted_all notes) moves does;
     }

@@ -22,7 +22,7 @@ use Rattle.printed_lines.specs.declared.line.Ending.TheVariants as ending
 use Rattle.printed_lines.specs.declared.line.Deed.{Deed}
 use Rattle.printed_lines.specs.declared.line.Deed.TheVariants.{Start, Flush, Drain, Kill}
 use Rattle.transcript.specs.Pieces.{Piece, Acted, Noted}
-use Rattle.transcript.specs.Life.{Life, Mode, Down, Up, Owed, Does, OfStart, OfFlush, OfDrain, OfKill, BeginsAt, IsStartRefusal, Progress}
+use Rattle.transcript.specs.Life.{Columns, Life, Mode, Down, Up, Owed, Does, OfStart, OfFlush, OfDrain, OfKill, BeginsAt, IsStartRefusal, Progress}
 use Rattle.transcript.specs.Strangers.{Behind, FitsStrangers, Strangers}
 use Rattle.transcript.specs.Transcript.{Known, first_life}
 use Rattle.leaf_moves.specs.Stage.{Leaf, IsDown, IsUp, IsPreparing, seated_of}
@@ -51,21 +51,21 @@ flush_begun table life notes ends next (OfFlush.stuck o up none ended now) = beg
 flush_begun table life notes ends next (OfFlush.worn owed up owes ended now) = begun_of next _ now
 flush_begun table life notes ends next (OfFlush.not_up other none ended now) = begun_of next _ now
 
-pub drain_begun : (told : Bool) (tables : ℕ) (columns : List Noted → ℕ) (stop : Option ℕ) (life : Life) (notes : List Noted) (ends : Ending) (next : Life) → OfDrain told tables columns stop life notes ends next
+pub drain_begun : (told : Bool) (tables : ℕ) (columns : Columns) (stop : Option ℕ) (life : Life) (notes : List Noted) (ends : Ending) (next : Life) → OfDrain told tables columns stop life notes ends next
     → next.begun ≡ life.begun
 drain_begun told tables columns stop life notes ends next (OfDrain.done copy n made p treating handing size begins steps last may hands all ended now) = begun_of next _ now
-drain_begun told tables columns stop life notes ends next (OfDrain.region_fails copy n made p size begins steps may ended now) = begun_of next _ now
-drain_begun told tables columns stop life notes ends next (OfDrain.no_room copy n p q size begins steps treated may ended now) = begun_of next _ now
+drain_begun told tables columns stop life notes ends next (OfDrain.region_fails copy n made p size within begins steps may ended now) = begun_of next _ now
+drain_begun told tables columns stop life notes ends next (OfDrain.no_room copy n p q size crowded begins steps treated may ended now) = begun_of next _ now
 drain_begun told tables columns stop life notes ends next (OfDrain.no_memory copy n p q r treating starving size begins steps starves may all ended now) = begun_of next _ now
 drain_begun told tables columns stop life notes ends next (OfDrain.disk_fails copy n p q r treating halting size begins steps fewer halts may all ended now) = begun_of next _ now
-drain_begun told tables columns stop life notes ends next (OfDrain.stops copy n p s treating closing size begins steps stops closes all ended now) = begun_of next _ now
+drain_begun told tables columns stop life notes ends next (OfDrain.stops copy n p s treating closing size within begins steps stops closes all ended now) = begun_of next _ now
 drain_begun told tables columns stop life notes ends next (OfDrain.not_up down none ended now) = begun_of next _ now
 
 pub kill_begun : (tables : ℕ) (life : Life) (notes : List Noted) (ends : Ending) (next : Life) → OfKill tables life notes ends next → next.begun ≡ life.begun
 kill_begun tables life notes ends next (OfKill.kills p begins closes ended now) = begun_of next _ now
 kill_begun tables life notes ends next (OfKill.not_up down none ended now) = begun_of next _ now
 
-does_begun : (told : Bool) (tables : ℕ) (columns : List Noted → ℕ) (deed : Deed) (life : Life) (notes : List Noted) (ends : Ending) (next : Life) → Does told tables columns deed life notes ends next
+does_begun : (told : Bool) (tables : ℕ) (columns : Columns) (deed : Deed) (life : Life) (notes : List Noted) (ends : Ending) (next : Life) → Does told tables columns deed life notes ends next
     → life.begun ≡ true → next.begun ≡ true
 does_begun told tables columns Start life notes ends next does begun = start_begun told tables life notes ends next does begun
 does_begun told tables columns (Flush table) life notes ends next does begun = flush_begun table life notes ends next does ∙ begun
@@ -103,15 +103,15 @@ flush_rests table life notes ends next down (OfFlush.stuck o up none ended now) 
 flush_rests table life notes ends next down (OfFlush.worn owed up owes ended now) = absurd (down_up life.mode owed down up)
 flush_rests table life notes ends next down (OfFlush.not_up other none ended now) = record { now = now; ended = ended }
 
-drain_rests : (told : Bool) (tables : ℕ) (columns : List Noted → ℕ) (stop : Option ℕ) (life : Life) (notes : List Noted) (ends : Ending) (next : Life) → life.mode ≡ Down → OfDrain told tables columns stop life notes ends next
+drain_rests : (told : Bool) (tables : ℕ) (columns : Columns) (stop : Option ℕ) (life : Life) (notes : List Noted) (ends : Ending) (next : Life) → life.mode ≡ Down → OfDrain told tables columns stop life notes ends next
     → Rests life ends next
 drain_rests told tables columns stop life notes ends next down (OfDrain.done copy n made p treating handing size begins steps last may hands all ended now) = absurd (never_begins life.mode p down begins)
-drain_rests told tables columns stop life notes ends next down (OfDrain.region_fails copy n made p size begins steps may ended now) = absurd (never_begins life.mode p down begins)
-drain_rests told tables columns stop life notes ends next down (OfDrain.no_room copy n p q size begins steps treated may ended now) = absurd (never_begins life.mode p down begins)
+drain_rests told tables columns stop life notes ends next down (OfDrain.region_fails copy n made p size within begins steps may ended now) = absurd (never_begins life.mode p down begins)
+drain_rests told tables columns stop life notes ends next down (OfDrain.no_room copy n p q size crowded begins steps treated may ended now) = absurd (never_begins life.mode p down begins)
 drain_rests told tables columns stop life notes ends next down (OfDrain.no_memory copy n p q r treating starving size begins steps starves may all ended now) = absurd (never_begins life.mode p down begins)
 drain_rests told tables columns stop life notes ends next down (OfDrain.disk_fails copy n p q r treating halting size begins steps fewer halts may all ended now) =
     absurd (never_begins life.mode p down begins)
-drain_rests told tables columns stop life notes ends next down (OfDrain.stops copy n p s treating closing size begins steps stops closes all ended now) = absurd (never_begins life.mode p down begins)
+drain_rests told tables columns stop life notes ends next down (OfDrain.stops copy n p s treating closing size within begins steps stops closes all ended now) = absurd (never_begins life.mode p down begins)
 drain_rests told tables columns stop life notes ends next down (OfDrain.not_up is_down none ended now) = record { now = now; ended = ended }
 
 kill_rests : (tables : ℕ) (life : Life) (notes : List Noted) (ends : Ending) (next : Life) → life.mode ≡ Down → OfKill tables life notes ends next → Rests life ends next
@@ -144,7 +144,7 @@ kill_held m m' leaf notes ends leaf' down (KillMoves.not_up other none held ende
 drain_held : (stop : Option ℕ) (m m' : Meaning) (leaf : Leaf) (notes : List Note) (ends : Ending) (leaf' : Leaf) → IsDownLeaf leaf → DrainMoves m m' leaf stop notes ends leaf' → m'.held ≡ m.held
 drain_held stop m m' leaf notes ends leaf' down (DrainMoves.done x y z treating handing n copy made shuts steps last may part each notes_are memory own ends_are now) = absurd (never_shuts leaf x down shuts)
 drain_held stop m m' leaf notes ends leaf' down (DrainMoves.failed x y n copy made shuts steps may own ends_are now) = absurd (never_shuts leaf x down shuts)
-drain_held stop m m' leaf notes ends leaf' down (DrainMoves.roomless x y n shuts steps all may region ends_are now) = absurd (never_shuts leaf x down shuts)
+drain_held stop m m' leaf notes ends leaf' down (DrainMoves.roomless x y n shuts steps all crowded may region ends_are now) = absurd (never_shuts leaf x down shuts)
 drain_held stop m m' leaf notes ends leaf' down (DrainMoves.starved x y z treating starving n shuts steps may starves part notes_are region ends_are now) = absurd (never_shuts leaf x down shuts)
 drain_held stop m m' leaf notes ends leaf' down (DrainMoves.halted x y z treating halting n shuts steps may below halts notes_are region ends_are now) = absurd (never_shuts leaf x down shuts)
 drain_held stop m m' leaf notes ends leaf' down (DrainMoves.stopped x y z treating closing n count shuts stops steps closed each part notes_are region stands ends_are now) =
@@ -295,7 +295,7 @@ module _ (number : ℕ) (names : List (List ℕ)) (held : Pair) where
   start_goes tables life m m' leaf notes ends leaf' next tells down same_names mode read moves (OfStart.not_down up none ended now) = absurd (up mode)
 
   -- a deed of a leaf that was never up
-  fresh_goes : (tables : ℕ) (columns : List Noted → ℕ) (deed : Deed) (life : Life) (m m' : Meaning) (leaf : Leaf) (notes : List Note) (ends : Ending) (leaf' : Leaf) (next : Life) → IsTrue m.tells → IsDownLeaf leaf
+  fresh_goes : (tables : ℕ) (columns : Columns) (deed : Deed) (life : Life) (m m' : Meaning) (leaf : Leaf) (notes : List Note) (ends : Ending) (leaf' : Leaf) (next : Life) → IsTrue m.tells → IsDownLeaf leaf
       → (seated_of leaf).names ≡ names → life.mode ≡ Down → IsRead m → Moves deed m m' leaf notes ends leaf' → Does true tables columns deed life (noted_all notes) ends next → Goes life ends next m m'
   fresh_goes tables columns Start life m m' leaf notes ends leaf' next tells down same_names mode read moves does =
       start_goes tables life m m' leaf notes ends leaf' next tells down same_names mode read moves does
@@ -314,7 +314,7 @@ named_first number names k m same = record {
   on = λ more all. subst (λ (p : Pair). Strangers names k.held.disk number p.region more) (sym same) (all refl);
 }
 
-pub named_act : (number : ℕ) (names : List (List ℕ)) (columns : List Noted → ℕ) (held : Pair) (life : Life) (pieces : List Piece) (deed : Deed) (m m' : Meaning) (leaf : Leaf) (notes : List Note) (ends : Ending) (leaf' : Leaf) (next : Life)
+pub named_act : (number : ℕ) (names : List (List ℕ)) (columns : Columns) (held : Pair) (life : Life) (pieces : List Piece) (deed : Deed) (m m' : Meaning) (leaf : Leaf) (notes : List Note) (ends : Ending) (leaf' : Leaf) (next : Life)
     → IsTrue m.tells → FitsMode life.mode leaf → (seated_of leaf).names ≡ names → Moves deed m m' leaf notes ends leaf' → Does true (length names) columns deed life (noted_all notes) ends next
     → AreNamed number names held life pieces m → AreNamed number names held next (pieces ++ Acted number deed (noted_all notes) ends ∷ []) m'
 named_act number names columns held life pieces deed m m' leaf notes ends leaf' next tells fits same_names moves does named =

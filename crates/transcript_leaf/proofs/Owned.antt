@@ -24,7 +24,7 @@ use Rattle.printed_lines.specs.declared.line.Ending.TheVariants as ending
 use Rattle.printed_lines.specs.declared.line.Deed.{Deed}
 use Rattle.printed_lines.specs.declared.line.Deed.TheVariants.{Start, Flush, Drain, Kill}
 use Rattle.transcript.specs.Pieces.{Noted}
-use Rattle.transcript.specs.Life.{Does, Life, OfStart}
+use Rattle.transcript.specs.Life.{Columns, Does, Life, OfStart}
 use Rattle.leaf_moves.specs.Stage.{IsDown, IsUp, Leaf, Stands, StandsOn, seated_of}
 use Rattle.leaf_moves.specs.Steps.{DrainMoves, FlushMoves, KillMoves, Moves, RefusalTold, RegionStopped, StartMoves}
 use Rattle.transcript_leaf.specs.Session.{AreInPlace, IsOwn}
@@ -83,7 +83,7 @@ module _ (names : List (List ℕ)) (base : NamedStates) (m m' : Meaning) (met mo
   drain_region : (stop : Option ℕ) → DrainMoves m m' met stop notes ends moved → OwnsOn
   drain_region stop (DrainMoves.done x y z treating handing n copy made shuts steps last may part each notes_are memory copied ends_are now) own = of_names (copied base tells founded stands)
   drain_region stop (DrainMoves.failed x y n copy made shuts steps may copied ends_are now) own = of_names (copied base tells founded stands)
-  drain_region stop (DrainMoves.roomless x y n shuts steps all may region ends_are now) own = same_own names m m' (region tells) own
+  drain_region stop (DrainMoves.roomless x y n shuts steps all crowded may region ends_are now) own = same_own names m m' (region tells) own
   drain_region stop (DrainMoves.starved x y z treating starving n shuts steps may starves part notes_are region ends_are now) own = same_own names m m' (region tells) own
   drain_region stop (DrainMoves.halted x y z treating halting n shuts steps may below halts notes_are region ends_are now) own = same_own names m m' (region tells) own
   drain_region stop (DrainMoves.stopped x y z treating closing n count shuts stops steps closed each part notes_are region serves ends_are now) own = same_own names m m' (region tells) own
@@ -119,7 +119,7 @@ module _ (names : List (List ℕ)) (base : NamedStates) (m m' : Meaning) (met mo
     start_owned told tables noted (StartMoves.not_down up none held ended same) does =
         stays (held_own names m m' held) (begun_still told tables life noted ends next (not_started ends ended) does)
 
-    pub owned : (told : Bool) (tables : ℕ) (columns : List Noted → ℕ) (deed : Deed) (noted : List Noted) → Moves deed m m' met notes ends moved → Does told tables columns deed life noted ends next
+    pub owned : (told : Bool) (tables : ℕ) (columns : Columns) (deed : Deed) (noted : List Noted) → Moves deed m m' met notes ends moved → Does told tables columns deed life noted ends next
         → IsOwn names (seated_of moved) m'
     owned told tables columns Start noted moves does = start_owned told tables noted moves does
     owned told tables columns (Flush table) noted moves does = stays (flush_region table moves) (flush_begun table life noted ends next does)

@@ -121,7 +121,7 @@ drain_worn : (number : ℕ) (histories : ℕ → ℕ → List Entry) (heard : Li
     → DrainMoves m m' leaf stop notes ends leaf' → DeedIsLong number histories (Drain stop) heard ends
 drain_worn number histories heard stop m m' leaf notes ends leaf' (DrainMoves.done x y z treating handing n copy made shuts steps last may part each notes_are memory own ends_are now) = rw ends_are tt
 drain_worn number histories heard stop m m' leaf notes ends leaf' (DrainMoves.failed x y n copy made shuts steps may own ends_are now) = rw ends_are tt
-drain_worn number histories heard stop m m' leaf notes ends leaf' (DrainMoves.roomless x y n shuts steps all may region ends_are now) = rw ends_are tt
+drain_worn number histories heard stop m m' leaf notes ends leaf' (DrainMoves.roomless x y n shuts steps all crowded may region ends_are now) = rw ends_are tt
 drain_worn number histories heard stop m m' leaf notes ends leaf' (DrainMoves.starved x y z treating starving n shuts steps may starves part notes_are region ends_are now) = rw ends_are tt
 drain_worn number histories heard stop m m' leaf notes ends leaf' (DrainMoves.halted x y z treating halting n shuts steps may below halts notes_are region ends_are now) = rw ends_are tt
 drain_worn number histories heard stop m m' leaf notes ends leaf' (DrainMoves.stopped x y z treating closing n count shuts stops steps closed each part notes_are region stands ends_are now) = rw ends_are tt

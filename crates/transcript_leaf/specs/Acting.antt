@@ -1,5 +1,5 @@
 -- What a deed of the leaf's steward makes of its life.
-use Rattle.std.specs.Prelude.{◌≡◌, ℕ, ◌≤◌, Bool, false, List, Option, Some, None, IfSome, is_some, map}
+use Rattle.std.specs.Prelude.{◌≡◌, ℕ, ◌≤◌, Bool, true, false, List, Option, Some, None, IfSome, is_some, length, map}
 use Rattle.berth_face.specs.Berth.{Meaning}
 use Rattle.leaf_words.specs.declared.ways.Way.{Way}
 use Rattle.leaf_opening.specs.Starts.{IsWayOf}
@@ -9,12 +9,13 @@ use Rattle.printed_lines.specs.declared.line.Said.TheVariants.{Opened}
 use Rattle.printed_lines.specs.declared.line.Deed.{Deed}
 use Rattle.printed_lines.specs.declared.line.Deed.TheVariants.{Start}
 use Rattle.transcript.specs.Pieces.{Noted}
-use Rattle.transcript.specs.Life.{Life, Does, Notes, claimed, durable_with}
+use Rattle.transcript.specs.Life.{Columns, Life, Does, Notes, claimed, durable_with}
 use Rattle.transcript.specs.Counts.{is_disk_fault}
 use Rattle.leaf_history.specs.History.{Entry}
 use Rattle.transcript.specs.Histories.{Ground}
-use Rattle.transcript.specs.Answers.{columns_handed}
+use Rattle.transcript.specs.Answers.{bulk_ever, columns_ever, columns_handed}
 use Rattle.transcript.specs.Transcript.{Known}
+use Rattle.leaf_steward.specs.Seated.{AreFounded}
 use Rattle.leaf_moves.specs.Stage.{Leaf, seated_of}
 use Rattle.transcript_leaf.specs.Session.{AreToldOn, FitsMode}
 
@@ -34,17 +35,22 @@ abbrev pub FitsWay : Option Known → Life → Meaning → Type 0
 FitsWay None life m = life.way ≡ None
 FitsWay (Some k) life m = IfSome life.way (IsWayOf m.held.region)
 
--- what a deed hands over: tables, in these entries, that had so many columns: at least those that the histories tell
+-- What a deed hands over: tables, in these entries, that had so many columns: at least those that the histories tell. Behind a deed that does not end a copy these are the columns that it has
+-- at most, no more than rows and cells that the histories add to founded tables; and behind one whose copy has no room these are the rows, cells and writes of its tables.
 pub record Hands (leaf : Leaf) : Type 0 where
   pub handed : List Noted
   pub columns : ℕ
+  pub most : ℕ
+  pub bulk : ℕ
   pub told : (grounds : ℕ → Ground) (histories : ℕ → List Entry) → AreToldOn grounds histories (seated_of leaf) → columns_handed grounds histories handed ≤ columns
+  pub few : (grounds : ℕ → Ground) (histories : ℕ → List Entry) → AreToldOn grounds histories (seated_of leaf) → AreFounded (seated_of leaf)
+      → (most ≤ columns_ever grounds histories 0 (length (seated_of leaf).tables)) × (bulk ≤ bulk_ever grounds histories 0 (length (seated_of leaf).tables))
 
 -- the life behind a deed
 pub record Lived (known : Option Known) (tables : ℕ) (deed : Deed) (life : Life) (notes : List Noted) (ending : Ending) (leaf : Leaf) (m : Meaning) : Type 0 where
   pub next : Life
   pub hands : Hands leaf
-  pub does : (least : List Noted → ℕ) → least hands.handed ≤ hands.columns → Does (is_some known) tables least deed life notes ending next
+  pub does : (columns : Columns) → columns.least hands.handed ≤ hands.columns → (is_some known ≡ true → (hands.most ≤ columns.most) × (hands.bulk ≤ columns.bulk)) → Does (is_some known) tables columns deed life notes ending next
   pub counts : CountsGo (is_some known) deed life notes ending next
   pub mode : FitsMode next.mode leaf
   pub way : FitsWay known next m

@@ -26,7 +26,7 @@ use Rattle.transcript.specs.Life.{Life, Mode, Down, Up, Preparing, Owed, Progres
 use Rattle.transcript.specs.Histories.{Ground, InOrder, Shown, Shows, shown}
 use Rattle.transcript.specs.Strangers.{Strangers}
 use Rattle.transcript.specs.Moments.{MomentsRise, notes_told}
-use Rattle.transcript.specs.Answers.{columns_handed}
+use Rattle.transcript.specs.Answers.{columns_of}
 use Rattle.transcript.specs.Transcript.{Known, first_life, ground_of}
 use Rattle.transcript.specs.Leaving.{IsKnown}
 use Rattle.leaf_moves.specs.Stage.{Leaf, IsDown, IsUp, IsPreparing, seated_of, Stands, AreHandedNothing}
@@ -174,7 +174,7 @@ pub record AreToldOn (grounds : ℕ → Ground) (histories : ℕ → List Entry)
 pub record LeafHeld (number : ℕ) (names : List (List ℕ)) (known : Option Known) (old : Meaning) (pieces : List Piece) (leaf : Leaf) (m : Meaning) : Type 0 where
   pub life : Life
   pub lives : (grounds : ℕ → Ground) (histories : ℕ → List Entry) → AreToldOn grounds histories (seated_of leaf)
-      → Lives (is_some known) (length names) (columns_handed grounds histories) number (first_life known names) pieces life
+      → Lives (is_some known) (length names) (columns_of grounds histories (length names)) number (first_life known names) pieces life
   pub moments : (grounds : ℕ → Ground) (histories : ℕ → List Entry) → AreToldOn grounds histories (seated_of leaf) → MomentsRise histories old.clock (notes_told number pieces) m.clock
   pub in_place : AreInPlace names (seated_of leaf)
   pub grounded : AreGrounded known (seated_of leaf)

@@ -24,7 +24,7 @@ first_row (r ∷ rows) v one = refl
 pub may_open : (base : Option TableBase) (s : HistoryState) (table : Table) → base ≡ None → table ≡ empty_table → MayHandIn (is_founded base) s 0 table
 may_open base s table none empty =
     subst (λ (b : Option TableBase). MayHandIn (is_founded b) s 0 table) (sym none)
-    (subst (λ (t : Table). MayHandIn false s 0 t) (sym empty) (record { pending = refl; writes = refl; small = omega arith; allowed = tt }))
+    (subst (λ (t : Table). MayHandIn false s 0 t) (sym empty) (record { pending = refl; writes = refl; small = omega arith; columns = λ founded. absurd (cc founded); allowed = tt }))
 
 module _ {base : ℕ → ℕ → Option TableBase} {names : List (List ℕ)} {tables : List (List Shared)} {stewards callers : List (List SeatView)}
     (one : length names ≡ 1) (new : IsNewFleet base 2 names 1 tables stewards callers) where

@@ -1,6 +1,6 @@
-use Rattle.std.proofs.Common.{◌≡◌, ◌<◌, ◌^◌, ◌∙◌, List, length, IsTrue, Err, inl, sym, ap, subst}
+use Rattle.std.proofs.Common.{◌≡◌, ◌<◌, ◌^◌, ◌∙◌, length, IsTrue, Err, inl, sym, ap, subst}
 use Rattle.std.proofs.lemmas.Result.{err_from_is_err_and}
-use Rattle.table_state.specs.Tables.{Table}
+use Rattle.table_state.specs.Tables.{HeldTables}
 use Rattle.adopt.specs.Adopting.{IsLeftBehind}
 use Rattle.adopt.specs.Starting.{HasTables, IsAdoption}
 use Rattle.region_layout.specs.Head.{IsClosed}
@@ -90,17 +90,17 @@ returns-in_err-recovered-in-NoTables-clause-held g c =
 pub returns-in-Tables-clause-one : goal.returns-in-Tables-clause-one
 returns-in-Tables-clause-one g c =
     let adopted = subst (HasTables (length c.args.names.now)) c.in-Tables.is c.in_ok-found.ensures.adopted in
-    ap (λ (ts : List Table). length ts) c.from_image.ensures.tables ∙ adopted.0
+    ap (λ (ts : HeldTables). length ts.each) c.from_image.ensures.tables ∙ adopted.0
 
 pub returns-in-Tables-clause-fresh : goal.returns-in-Tables-clause-fresh
 returns-in-Tables-clause-fresh g c =
     let adopted = subst (HasTables (length c.args.names.now)) c.in-Tables.is c.in_ok-found.ensures.adopted in
-    (are_fresh c.from_image.result.tables (subst AreSettled (sym c.from_image.ensures.tables) adopted.1), ap (λ (l : LogState). l.owed) c.from_image.ensures.log)
+    (are_fresh c.from_image.result.tables.each (subst (λ (ts : HeldTables). AreSettled ts.each) (sym c.from_image.ensures.tables) adopted.1), ap (λ (l : LogState). l.owed) c.from_image.ensures.log)
 
 pub returns-in-Tables-clause-room : goal.returns-in-Tables-clause-room
 returns-in-Tables-clause-room g c =
     let adopted = subst (HasTables (length c.args.names.now)) c.in-Tables.is c.in_ok-found.ensures.adopted in
-    have_room c.from_image.result.tables (subst AreSettled (sym c.from_image.ensures.tables) adopted.1)
+    have_room c.from_image.result.tables.each (subst (λ (ts : HeldTables). AreSettled ts.each) (sym c.from_image.ensures.tables) adopted.1)
 
 pub returns-in-Tables-clause-told : goal.returns-in-Tables-clause-told
 returns-in-Tables-clause-told g c =
@@ -143,19 +143,19 @@ returns-in-Tables-clause-log_room g c =
 pub returns-in_ok-recovered-in-NoTables-clause-one :
     goal.returns-in_ok-recovered-in-NoTables-clause-one
 returns-in_ok-recovered-in-NoTables-clause-one g c =
-    ap (λ (ts : List Table). length ts) c.from_log.ensures.tables ∙ c.in_ok-recovered-in-NoTables.ensures.one
+    ap (λ (ts : HeldTables). length ts.each) c.from_log.ensures.tables ∙ c.in_ok-recovered-in-NoTables.ensures.one
 
 pub returns-in_ok-recovered-in-NoTables-clause-fresh :
     goal.returns-in_ok-recovered-in-NoTables-clause-fresh
 returns-in_ok-recovered-in-NoTables-clause-fresh g c = (
-  are_fresh c.from_log.result.tables (subst AreSettled (sym c.from_log.ensures.tables) c.in_ok-recovered-in-NoTables.ensures.settled),
+  are_fresh c.from_log.result.tables.each (subst (λ (ts : HeldTables). AreSettled ts.each) (sym c.from_log.ensures.tables) c.in_ok-recovered-in-NoTables.ensures.settled),
   ap (λ (l : LogState). l.owed) c.from_log.ensures.log ∙ c.in_ok-recovered-in-NoTables.ensures.none_owed.0,
 )
 
 pub returns-in_ok-recovered-in-NoTables-clause-room :
     goal.returns-in_ok-recovered-in-NoTables-clause-room
 returns-in_ok-recovered-in-NoTables-clause-room g c =
-    have_room c.from_log.result.tables (subst AreSettled (sym c.from_log.ensures.tables) c.in_ok-recovered-in-NoTables.ensures.settled)
+    have_room c.from_log.result.tables.each (subst (λ (ts : HeldTables). AreSettled ts.each) (sym c.from_log.ensures.tables) c.in_ok-recovered-in-NoTables.ensures.settled)
 
 pub returns-in_ok-recovered-in-NoTables-clause-told :
     goal.returns-in_ok-recovered-in-NoTables-clause-told
@@ -271,4 +271,4 @@ returns-in_ok-recovered-in-NoTables-clause-exact g c =
     let said = c.in_ok-recovered-in-NoTables.ensures in
     let why = subst (IsAdoption names old.region) c.in-NoTables.is (c.in_ok-found.ensures.told told).0 in
     exact_ok names old.region old.disk c.from_log.result.way _ c.from_log.ensures.way
-    (recovered_exact names old.region old.disk c.in-NoTables.why new.held.disk _ _ why (said.told told_mid) (said.disk told_mid ∙ ap begun (c.adopt.ensures.disk told)))
+    (recovered_exact names old.region old.disk c.in-NoTables.why new.held.disk _ _ why (said.told told_mid).0 (said.disk told_mid ∙ ap begun (c.adopt.ensures.disk told)))

@@ -7,11 +7,20 @@ use Rattle.log_recovery.specs.declared.fault.RecoveryFault.TheVariants as fault
 use Rattle.log_recovery.specs.Recovery.{IsRecoveryRefusal}
 use Rattle.table_state.specs.Tables.{bare}
 use Rattle.log_recovery.proofs.Applying.{bare_tables}
+use Rattle.log_recovery.proofs.Counting.{told_as}
 use Rattle.log_recovery.proofs.Reading.{err_is, err_read, never_refused}
 use Rattle.log_recovery.proofs.recovery.recover.Goals as goal
 
 pub read_on-requires-clause-empty : goal.read_on-requires-clause-empty
-read_on-requires-clause-empty g c κs within = ap (map bare) c.in_ok-tables.ensures ∙ bare_tables c.args.names.now []
+read_on-requires-clause-empty g c κs within = ap (map bare) c.in_ok-tables.ensures.empty ∙ bare_tables c.args.names.now []
+
+pub returns-clause-told : goal.returns-clause-told
+returns-clause-told g c =
+    λ told.
+    let mid = g.B.Berth.meaning c.begin.new.berth in
+    let told_mid : IsTrue mid.tells = subst IsTrue (sym c.begin.ensures.time.tells) told in
+    let same = ap (λ (p : Pair). p.disk) (sym (c.read_on.ensures.stays told_mid).held) in
+    told_as c.args.names.now c.in_ok-log.log same (sym c.of.ensures.each) (sym c.of.ensures.columns) (c.in_ok-log.ensures.told told_mid)
 
 pub returns-in_err-log-clause-sound : goal.returns-in_err-log-clause-sound
 returns-in_err-log-clause-sound g c =

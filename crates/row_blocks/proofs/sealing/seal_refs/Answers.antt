@@ -3,9 +3,11 @@ use Rattle.std.proofs.lemmas.List.{length-map}
 use Rattle.leaf_model.specs.declared.rows.Value.{Value}
 use Rattle.leaf_model.specs.declared.rows.Row.{Row}
 use Rattle.row_blocks.specs.declared.column.BlockColumn.{BlockColumn}
-use Rattle.row_blocks.specs.Blocks.{IsBlock, rows_in, times_of}
+use Rattle.row_blocks.specs.Blocks.{Block, IsBlock, rows_in, times_of}
 use Rattle.row_blocks.specs.Merging.{lent_rows}
 use Rattle.row_blocks.specs.Ordered.{IsRangeOf}
+use Rattle.row_blocks.specs.Held.{rows_and_cells}
+use Rattle.row_blocks.proofs.Fewer.{few_columns}
 use Rattle.row_blocks.proofs.Sealed.{counted_times, holds_times, means_rows, sealed, sealed_range}
 use Rattle.row_blocks.proofs.sealing.seal_refs.Goals as goal
 
@@ -47,8 +49,8 @@ of-requires-2-clause-range c =
     (holds_times rows c.deref-2.result.now column (c.deref-2.ensures.value ∙ c.in_ok-times.ensures) said.name said.kind said.means said.cells) c.in_ok-others.ensures
     (subst (λ (times : List ℤ). IsRangeOf times range) (c.deref.ensures.value ∙ c.in_ok-times.ensures) c.range_of-range.ensures)))
 
-pub returns : goal.returns
-returns c =
+pub returns-clause-rows : goal.returns-clause-rows
+returns-clause-rows c =
     let rows = lent_rows c.args.rows.now in
     let count : length rows ≡ length c.args.rows.now = length-map c.args.rows.now (λ (r : Bor Row). r.now) in
     let column = c.in_ok-first.first in let others = c.in_ok-others.others.items in let said = c.in_ok-first.ensures in
@@ -59,3 +61,14 @@ returns c =
     ∙ ap (λ (l : List BlockColumn). rows_in (record { rows = length rows; columns = l })) columns
     ∙ means_rows rows column others
     (holds_times rows c.deref-2.result.now column (c.deref-2.ensures.value ∙ c.in_ok-times.ensures) said.name said.kind said.means said.cells) c.in_ok-others.ensures
+
+pub returns-clause-few : goal.returns-clause-few
+returns-clause-few c =
+    let rows = lent_rows c.args.rows.now in
+    let count : length rows ≡ length c.args.rows.now = length-map c.args.rows.now (λ (r : Bor Row). r.now) in
+    let column = c.in_ok-first.first in let others = c.in_ok-others.others.items in
+    let columns : c.of.result ≡ column ∷ others
+    = c.of.ensures ∙ c.in_ok-append.ensures.items ∙ ap (λ (l : List BlockColumn). l ++ others) (c.in_ok-push.ensures.items ∙ ap (λ (l : List BlockColumn). l ++ column ∷ []) c.new-columns.ensures.items) in
+    subst (λ (b : Block). length b.columns ≤ rows_and_cells rows) (sym c.of-2.ensures)
+    (subst (λ (l : List BlockColumn). length l ≤ rows_and_cells rows) (sym columns)
+    (few_columns rows column others (omega (arith, count, c.requires.some)) c.in_ok-others.ensures))

@@ -1,12 +1,13 @@
-use Rattle.std.proofs.Common.{to_z, of_z, ℕ, List, ℤ, sym, ap, ap₂, subst, ◌∙◌}
+use Rattle.std.proofs.Common.{◌≤◌, to_z, of_z, ℕ, List, ℤ, sym, ap, ap₂, subst, ◌∙◌}
 use Rattle.std.specs.Prelude.{filter}
 use Rattle.std.specs.Int.{w64}
 use Rattle.std.specs.List.{AllByRecursion}
 use Rattle.std.proofs.lemmas.Int.{to_z-of_z}
 use Rattle.row_blocks.specs.Blocks.{Block, IsBlock}
-use Rattle.row_blocks.specs.Held.{IsSkip}
+use Rattle.row_blocks.specs.Held.{IsSkip, columns_count}
 use Rattle.row_blocks.specs.Live.{has_live}
 use Rattle.table_state.specs.Stored.{sealed_rows, skip_left}
+use Rattle.table_state.proofs.Counting.{columns_live}
 use Rattle.table_state.proofs.Fronts.{live_blocks, live_cut, live_left}
 use Rattle.table_state.proofs.front.leave_live.Goals as goal
 
@@ -31,3 +32,8 @@ returns-clause-rows c =
     ∙ ap₂ (λ (l : List Block) (n : ℕ). sealed_rows l n h) c.retain_live.ensures cut
     ∙ live_left c.args.skip h blocks c.requires.cut
     ∙ ap (λ (t : ℤ). sealed_rows blocks c.args.skip t) same
+
+pub returns-clause-columns : goal.returns-clause-columns
+returns-clause-columns c =
+    let h = to_z w64 (of_z w64 c.args.horizon) in
+    subst (λ (l : List Block). columns_count l ≤ columns_count c.args.blocks.now) (sym c.retain_live.ensures) (columns_live h c.args.blocks.now)

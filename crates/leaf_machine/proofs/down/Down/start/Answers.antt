@@ -19,7 +19,7 @@ use Rattle.leaf_machine.specs.States.{IsUp}
 use Rattle.leaf_machine.specs.Starts.{IsExactRefusal, IsOpenedNote, IsStartRefused, IsStart}
 use Rattle.leaf_machine.proofs.StartMakes.{makes_from, makes_names, makes_none, opened_each}
 use Rattle.leaf_machine.proofs.StartFaults.{exact_as, refused_as, start_as, told_disk, told_region}
-use Rattle.leaf_machine.proofs.StartOpening.{StartOpened, may_hand, opened_count, start_opened, start_runs}
+use Rattle.leaf_machine.proofs.StartOpening.{StartOpened, may_few, may_hand, opened_count, start_opened, start_runs}
 use Rattle.leaf_machine.proofs.StartRefusing.{StartRefused, down_on, failed, opening_refused, start_refused, worn_goes_on}
 use Rattle.leaf_machine.proofs.StartUp.{up_is}
 use Rattle.leaf_machine.proofs.down.Down.start.Goals as goal
@@ -57,6 +57,20 @@ open_all-requires-clause-content g c κs within =
     start_opened x m n o c.names.result.now c.names.ensures opening.time stands (opening.moments told) (opening.disks told) (opening.held told) (opening.told told) (opening.durable told) in
     may_hand x c.sits.ensures m n o c.sits.ensures.alike c.self.invariant.stands opened opening.fresh.0 opening.room
 
+pub open_all-requires-clause-columns : goal.open_all-requires-clause-columns
+open_all-requires-clause-columns g c κs within =
+    let x = c.self.inside.seats in
+    let o = c.in-Ok.opened in
+    let m = g.B.Berth.meaning c.self.inside.berth in
+    let n = g.B.Berth.meaning c.open_tables.new.berth in
+    let law = (g.met.B.Berth g.world.𝓛 g.world.𝓜 g.world.𝓡 ((λ s x. x), (λ x. x), (λ x. x), λ x. x)) in
+    let opening = c.in-Ok.ensures in
+    let opened : IsTrue m.tells → StartOpened x m n o = λ told.
+    let tells : IsTrue n.tells = subst IsTrue (sym opening.time.tells) told in
+    let stands : StandsNow n = record { reads = law.stands c.open_tables.new.berth tells; regions = λ p left. law.keeps_region c.open_tables.new.berth p tells left } in
+    start_opened x m n o c.names.result.now c.names.ensures opening.time stands (opening.moments told) (opening.disks told) (opening.held told) (opening.told told) (opening.durable told) in
+    may_few x c.sits.ensures m n o c.sits.ensures.alike c.self.invariant.stands opened
+
 pub invariant_of-up : goal.invariant_of-up
 invariant_of-up g c =
     let x = c.self.inside.seats in
@@ -87,7 +101,7 @@ returns-in-Ok-clause-start g c =
       makes_tables n.clock n.clock x c.open_all.new.notes y c.open_all.ensures.made,
       ap (λ (log : Owing). log.log.owed) c.of.ensures ∙ c.in-Ok.ensures.fresh.1,
       subst (λ (n : ℕ). EachNoted IsOpenedNote 0 n c.open_all.new.notes) (opened_count x o c.names.result.now c.sits.ensures c.names.ensures c.in-Ok.ensures.one)
-          (opened_each 0 o.tables c.open_all.new.notes c.open_all.ensures.each),
+          (opened_each 0 o.tables.each c.open_all.new.notes c.open_all.ensures.each),
     )
 
 pub returns-in-Ok-clause-made : goal.returns-in-Ok-clause-made

@@ -7,6 +7,9 @@ use Rattle.leaf_table.specs.Calls.{SeatView, base_seen, seen_of}
 use Rattle.crash_states.specs.Standing.{Runs}
 use Rattle.leaf_steward.specs.Seated.{Seated, AreFounded, AtPlace, watched_by, with_seat}
 use Rattle.leaf_machine.specs.States.{Shutting, IsShutting, treated}
+use Rattle.leaf_machine.specs.Shut.{AreFewShut}
+use Rattle.leaf_machine.proofs.PrepFew.{met_few}
+use Rattle.leaf_machine.proofs.PrepHolds.{holds_of}
 use Rattle.leaf_machine.proofs.PrepMeets.{met_goes, met_is}
 use Rattle.leaf_machine.proofs.PrepPlaces.{seat_at}
 use Rattle.leaf_machine.proofs.preparing.Preparing.meet.Goals as goal
@@ -26,10 +29,17 @@ invariant_of-self g c =
     let l = c.meet.ensures.learns at.0 at.1 at.2 at.3 in
     let closed = c.self.inside.tables.closed in
     let shut = c.self.inside.tables.waits in
+    let there : Shutting = record { serving = record { seated = x; owing = c.self.inside.log }; closed = closed; waits = shut } in
     subst
     (λ (s : Seated). IsShutting (record { serving = record { seated = s; owing = c.self.inside.log }; closed = closed; waits = shut }) m
-    × (c.self.inside.tables.names ≡ take (treated (record { serving = record { seated = s; owing = c.self.inside.log }; closed = closed; waits = shut })) s.names))
-    (sym l.1) (met_is x c.sits.ensures place at.0 at.1 c.args.seat.now l.0 at.2 at.3 l.2 l.3 l.4 c.self.inside.log closed shut m c.self.invariant.0, c.self.invariant.1)
+    × (c.self.inside.tables.names ≡ take (treated (record { serving = record { seated = s; owing = c.self.inside.log }; closed = closed; waits = shut })) s.names)
+    × (length c.self.inside.tables.columns ≡ length closed) × AreFewShut s c.self.inside.tables.columns)
+    (sym l.1) (
+      met_is x c.sits.ensures place at.0 at.1 c.args.seat.now l.0 at.2 at.3 l.2 l.3 l.4 c.self.inside.log closed shut m c.self.invariant.0,
+      c.self.invariant.1,
+      c.self.invariant.2,
+      met_few closed c.self.inside.tables.columns x (holds_of there m c.self.invariant.0) c.self.invariant.2 c.sits.ensures place at.0 at.1 l.0 at.2 at.3 c.args.seat.now l.2 l.3 l.4 c.self.invariant.3,
+    )
 
 pub returns-clause-learns : goal.returns-clause-learns
 returns-clause-learns g c =

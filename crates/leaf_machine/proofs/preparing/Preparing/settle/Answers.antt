@@ -2,6 +2,7 @@ use Rattle.std.proofs.Common.{sym, ap, subst, ◌∙◌}
 use Rattle.std.specs.Prelude.{take}
 use Rattle.leaf_machine.specs.States.{Serving, Shutting, treated}
 use Rattle.leaf_machine.specs.PrepParts.{IsPartOfStep}
+use Rattle.leaf_machine.proofs.PrepFew.{settled_few}
 use Rattle.leaf_machine.proofs.PrepSettles.{settle_part, settle_stands, settled_is, settled_names}
 use Rattle.leaf_machine.proofs.preparing.Preparing.settle.Goals as goal
 
@@ -15,6 +16,9 @@ invariant_of-self g c =
     let names = settled_names m'.clock x.serving.seated x.serving.owing c.args.notes.now c.settle_owed.result c.settle_owed.new.seats c.settle_owed.new.self c.settle_owed.new.notes says.settles in (
       settled_is x m m' c.self.invariant.0 c.sits.ensures m'.clock c.args.notes.now c.settle_owed.result c.settle_owed.new.seats c.settle_owed.new.self c.settle_owed.new.notes says.settles stands,
       c.self.invariant.1 ∙ ap (take (treated x)) (sym names),
+      c.self.invariant.2,
+      settled_few x m c.self.invariant.0 c.sits.ensures c.self.inside.tables.columns c.self.invariant.2 c.self.invariant.3 m'.clock c.args.notes.now c.settle_owed.result c.settle_owed.new.seats c.settle_owed.new.self
+          c.settle_owed.new.notes says.settles,
     )
 
 pub returns-clause-part : goal.returns-clause-part

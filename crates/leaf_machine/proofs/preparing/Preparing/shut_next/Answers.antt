@@ -1,4 +1,4 @@
-use Rattle.std.proofs.Common.{◌≡◌, ◌≤◌, ◌++◌, ◌∷◌, ℕ, false, List, [], length, None, sym, ap₂, subst, ◌∙◌}
+use Rattle.std.proofs.Common.{◌≡◌, ◌≤◌, ◌++◌, ◌∷◌, ℕ, false, List, [], length, None, sym, ap, ap₂, subst, ◌∙◌}
 use Rattle.std.specs.Prelude.{take}
 use Rattle.table_state.specs.Tables.{Table, bare}
 use Rattle.leaf_table.specs.Calls.{base_seen, state_seen}
@@ -7,6 +7,8 @@ use Rattle.leaf_steward.specs.Seated.{Seated, AreSeated, AtPlace}
 use Rattle.leaf_steward.specs.Owing.{Owing, Brings}
 use Rattle.leaf_machine.specs.States.{Shutting, IsShutting, treated}
 use Rattle.leaf_machine.specs.PrepParts.{IsPartOfStep, ShutsNext}
+use Rattle.leaf_machine.specs.Shut.{AreFewShut}
+use Rattle.leaf_machine.proofs.PrepFew.{brought_few, count_next}
 use Rattle.leaf_machine.proofs.PrepNames.{as_put, treated_put}
 use Rattle.leaf_machine.proofs.PrepShuts.{brought_is, brought_names, brought_next, brought_part, count_then, one_spare}
 use Rattle.leaf_machine.proofs.preparing.Preparing.shut_next.Goals as goal
@@ -68,10 +70,15 @@ invariant_of-self g c =
     let closed : List Table = x.closed ++ bare now ∷ [] in
     let there : Shutting = record { serving = record { seated = z; owing = o }; closed = tables.closed; waits = tables.waits } in
     let names = brought_names x m c.self.invariant.0 sits none place shut.0 next t now taken y shut.1 c.take_pending-pending.ensures m' z o result old mid new shut.2 brings c.bring.ensures.time c.bring.ensures.runs in
+    let had : List ℕ = c.self.inside.tables.columns in
+    let count = count_next x m c.self.invariant.0 sits none place shut.0 next t now taken y shut.1 c.take_pending-pending.ensures had c.self.invariant.2 c.self.invariant.3 in
+    let few = brought_few x m c.self.invariant.0 sits none place shut.0 next t now taken y shut.1 c.take_pending-pending.ensures had c.self.invariant.2 c.self.invariant.3 m'.clock z o result mid new brings in
     let treats : treated there ≡ treated x = treated_put x there (bare now) open_ c.put.ensures.waits c.put.ensures.closed in (
       as_put (λ l b. IsShutting (record { serving = record { seated = z; owing = o }; closed = l; waits = b }) m') closed tables.closed tables.waits c.put.ensures.closed c.put.ensures.waits
           (brought_is x m c.self.invariant.0 sits none place shut.0 next t now taken y shut.1 c.take_pending-pending.ensures m' z o result old mid new shut.2 brings c.bring.ensures.time c.bring.ensures.runs),
       c.put.ensures.names ∙ c.self.invariant.1 ∙ ap₂ (λ n l. take n l) (sym treats) (sym names),
+      ap (λ l. length l) c.put.ensures.columns ∙ count ∙ ap (λ l. length l) (sym c.put.ensures.closed),
+      subst (AreFewShut z) (sym c.put.ensures.columns) few,
     )
 
 pub returns-clause-next : goal.returns-clause-next

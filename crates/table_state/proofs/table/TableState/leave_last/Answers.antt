@@ -2,8 +2,10 @@ use Rattle.std.proofs.Common.{◌≡◌, ◌<◌, ◌≤◌, ◌+◌, ◌-◌, �
 use Rattle.std.specs.Int.{w64}
 use Rattle.leaf_model.specs.declared.rows.Row.{Row}
 use Rattle.leaf_model.specs.declared.writes.Write.TheVariants.{Keep}
+use Rattle.row_blocks.specs.Held.{columns_count, rows_and_cells}
 use Rattle.table_state.specs.Stored.{sealed_rows}
-use Rattle.table_state.specs.Tables.{Table, no_store, replayed}
+use Rattle.table_state.specs.Tables.{Table, columns_most, no_store, replayed}
+use Rattle.table_state.proofs.Counting.{kept_columns}
 use Rattle.table_state.proofs.Stood.{kept_rows}
 use Rattle.table_state.proofs.table.TableState.leave_last.Goals as goal
 
@@ -22,3 +24,10 @@ returns-clause-written c =
     (ap (λ (l : List Row). sealed_rows left cut h ++ l) rest
     ∙ kept_rows t.blocks t.skip t.tail.items h t.live c.self.invariant c.args.n gone first is low high full left cut front)
     ∙ ap (λ (x : Table). replayed x (Keep c.args.n)) c.self.view_is
+
+pub returns-clause-columns : goal.returns-clause-columns
+returns-clause-columns c =
+    let t = c.self.inside in let left = c.cut_front-self-inside.new.blocks in let gone = c.cut_for-gone.result in let first = c.min-first.result in
+    let rest : c.drop_first.new.rows.items ≡ drop (gone - first) t.tail.items = search rules in
+    subst (λ (x : Table). columns_count left + rows_and_cells c.drop_first.new.rows.items ≤ columns_most x.store) c.self.view_is
+    (kept_columns t.blocks left t.tail.items c.drop_first.new.rows.items c.cut_front-self-inside.ensures.columns (gone - first) rest)

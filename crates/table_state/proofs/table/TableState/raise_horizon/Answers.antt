@@ -5,8 +5,10 @@ use Rattle.leaf_model.specs.declared.writes.Write.TheVariants.{Expire}
 use Rattle.leaf_model.specs.Content.{Contents, rows_from}
 use Rattle.leaf_model.specs.Values.{IsTime}
 use Rattle.row_blocks.specs.Blocks.{Block}
+use Rattle.row_blocks.specs.Held.{columns_count, rows_and_cells}
 use Rattle.table_state.specs.Stored.{sealed_rows}
-use Rattle.table_state.specs.Tables.{Table, most_rows, no_store, replayed}
+use Rattle.table_state.specs.Tables.{Table, columns_most, most_rows, no_store, replayed}
+use Rattle.table_state.proofs.Counting.{expired_columns}
 use Rattle.table_state.proofs.Stood.{held_count, raised_contents, raised_few, raised_length, raised_stands}
 use Rattle.table_state.proofs.table.TableState.raise_horizon.Goals as goal
 
@@ -84,3 +86,10 @@ returns-clause-few c =
     let law = c.masks_and_cuts.ensures.horizons in
     let rest = subst (λ (z : ℤ). c.retain_from.new.rows.items ≡ rows_from z t.tail.items) same c.retain_from.ensures.rows in
     omega (arith, raised_length t.blocks t.skip t.tail.items t.horizon c.args.horizon now later t.live c.self.invariant law left cut rows c.retain_from.new.rows.items rest, c.self.invariant.few)
+
+pub returns-clause-columns : goal.returns-clause-columns
+returns-clause-columns c =
+    let t = c.self.inside in let left = c.leave_live-self-inside.new.blocks in let rest = c.retain_from.new.rows.items in
+    let now = to_z w64 (of_z w64 c.max-self-inside.result) in
+    subst (λ (x : Table). columns_count left + rows_and_cells rest ≤ columns_most x.store) c.self.view_is
+    (expired_columns t.blocks left t.tail.items rest c.leave_live-self-inside.ensures.columns (to_z w64 (of_z w64 now)) c.retain_from.ensures.rows)

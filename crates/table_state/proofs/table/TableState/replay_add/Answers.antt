@@ -3,8 +3,10 @@ use Rattle.std.specs.Int.{w64}
 use Rattle.leaf_model.specs.declared.rows.Row.{Row}
 use Rattle.leaf_model.specs.declared.writes.Write.TheVariants.{Add}
 use Rattle.leaf_model.specs.Content.{content_after, rows_from}
+use Rattle.row_blocks.specs.Held.{columns_count, rows_and_cells}
 use Rattle.table_state.specs.Stored.{in_runs, sealed_rows}
-use Rattle.table_state.specs.Tables.{Table, most_rows, no_store, replayed}
+use Rattle.table_state.specs.Tables.{Table, columns_most, most_rows, no_store, replayed}
+use Rattle.table_state.proofs.Counting.{add_columns}
 use Rattle.table_state.proofs.Stood.{add_rows, add_stands, held_count}
 use Rattle.table_state.proofs.table.TableState.replay_add.Goals as goal
 
@@ -19,8 +21,8 @@ invariant_of-self-2 c =
     add_stands t.blocks t.skip t.tail.items h t.live c.self.invariant c.args.rows c.as_slice.result.now c.requires.rows lent (to_z w64 (of_z w64 h)) at c.prepare.new.blocks c.in_ok-prepare.ensures.sealed c.admit.new.tail.items rest
     c.admit.result count few
 
-pub returns : goal.returns
-returns c =
+pub returns-clause-does : goal.returns-clause-does
+returns-clause-does c =
     let t = c.self.inside in let h = t.horizon in let all = t.tail.items ++ rows_from h c.args.rows in
     let lent : c.as_slice.result.now ≡ c.args.rows = search rules in
     let at : to_z w64 (of_z w64 h) ≡ h = search rules in
@@ -34,3 +36,12 @@ returns c =
       omega (arith, held_count t.blocks t.skip t.tail.items h t.live c.self.invariant, length-append (sealed_rows t.blocks t.skip h ++ t.tail.items) (rows_from h c.args.rows), few),
       ap made now,
     )
+
+pub returns-clause-columns : goal.returns-clause-columns
+returns-clause-columns c =
+    let t = c.self.inside in let h = t.horizon in let all = t.tail.items ++ rows_from h c.args.rows in
+    let lent : c.as_slice.result.now ≡ c.args.rows = search rules in
+    let at : to_z w64 (of_z w64 h) ≡ h = search rules in
+    let rest : c.admit.new.tail.items ≡ drop (in_runs (length all)) all = search rules in
+    subst (λ (x : Table). columns_count c.prepare.new.blocks + rows_and_cells c.admit.new.tail.items ≤ columns_most x.store + rows_and_cells c.args.rows) c.self.view_is
+    (add_columns t.blocks t.tail.items c.args.rows c.as_slice.result.now h (to_z w64 (of_z w64 h)) lent at c.prepare.new.blocks c.in_ok-prepare.ensures.sealed c.admit.new.tail.items rest)

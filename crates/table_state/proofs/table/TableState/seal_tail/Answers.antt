@@ -1,7 +1,9 @@
-use Rattle.std.proofs.Common.{◌≡◌, ◌+◌, ◌++◌, ℕ, List, [], length, sym, ap, subst, ◌∙◌, rules}
+use Rattle.std.proofs.Common.{◌≡◌, ◌≤◌, ◌+◌, ◌++◌, ℕ, List, [], length, sym, ap, subst, ◌∙◌, rules}
 use Rattle.leaf_model.specs.declared.rows.Row.{Row}
+use Rattle.row_blocks.specs.Held.{columns_count, rows_and_cells}
 use Rattle.table_state.specs.Stored.{Stands, sealed_rows}
-use Rattle.table_state.specs.Tables.{Table, bare, no_store}
+use Rattle.table_state.specs.Tables.{Table, bare, columns_most, no_store}
+use Rattle.table_state.proofs.Counting.{sealed_columns}
 use Rattle.table_state.proofs.Stood.{tail_rows, tail_stands}
 use Rattle.table_state.proofs.table.TableState.seal_tail.Goals as goal
 
@@ -13,8 +15,8 @@ invariant_of-self-2 c =
     (subst (λ (n : ℕ). Stands now t.skip [] t.horizon (t.live + n)) (sym count)
     (tail_stands t.blocks t.skip t.tail.items t.horizon t.live c.self.invariant now c.in_ok-seal_behind.ensures.sealed))
 
-pub returns : goal.returns
-returns c =
+pub returns-clause-does : goal.returns-clause-does
+returns-clause-does c =
     let t = c.self.inside in let now = c.seal_behind.new.blocks in (
       ap (λ (rows : List Row). record { contents = record { rows = rows; horizon = t.horizon }; writes = t.writes; pending = t.pending; store = no_store })
           (ap (λ (l : List Row). sealed_rows now t.skip t.horizon ++ l) c.clear.ensures.items
@@ -22,3 +24,9 @@ returns c =
           ∙ ap (λ (x : Table). bare x) c.self.view_is,
       c.clear.ensures.items,
     )
+
+pub returns-clause-columns : goal.returns-clause-columns
+returns-clause-columns c =
+    let t = c.self.inside in let now = c.seal_behind.new.blocks in
+    subst (λ (x : Table). columns_count now + rows_and_cells c.clear.new.self.items ≤ columns_most x.store) c.self.view_is
+    (sealed_columns t.blocks now t.tail.items c.clear.new.self.items c.in_ok-seal_behind.ensures.sealed c.clear.ensures.items)
