@@ -8,6 +8,7 @@ use Rattle.leaf_history.specs.Calls.{Call}
 use Rattle.leaf_history.specs.Calls as call
 use Rattle.leaf_history.specs.History.{Entry, HistoryState, after, after_entry, changed, is_refusal}
 use Rattle.table_state.specs.Tables.{added_count}
+use Rattle.log_recovery.proofs.Counting.{added_append}
 use Rattle.leaf_table.specs.Turns.{Shared, is_founded, start_of}
 use Rattle.leaf_table.specs.Calls.{SeatView, base_seen, seen_of, state_seen}
 use Rattle.leaf_steward.specs.Seated.{Seated, AreFounded}
@@ -19,10 +20,6 @@ use Rattle.transcript_leaf.specs.Session.{AreToldOn, ground_of_table}
 use Rattle.transcript_leaf.specs.Acting.{Hands}
 
 -- ---- the writes of a table
-
-added_append : (xs ys : List Write) → added_count (xs ++ ys) ≡ added_count xs + added_count ys
-added_append [] ys = omega arith
-added_append (x ∷ xs) ys = let others = added_append xs ys in omega (arith, others)
 
 -- the first of them add no more
 added_front : (n : ℕ) (ws : List Write) → added_count (take n ws) ≤ added_count ws
