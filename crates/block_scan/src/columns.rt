@@ -18,7 +18,7 @@ use crate::rows::rows_at;
 use crate::slots::{Slots, slots_of};
 use crate::times::times_seen;
 use group_table::fold_rows;
-use leaf_model::{Groups, Query};
+use leaf_model::{Groups, LentRows, Query};
 use std::alloc::{AllocError, Global};
 
 /// The groups of the rows at some places.
@@ -36,7 +36,7 @@ fn fold_places(
     ensures within { IfOk result (λ gs. AllByRecursion (IsWithin (length places.now)) gs) }
 {
     let found = rows_at(alloc, times, others, places)?;
-    fold_rows(alloc, query, found.as_slice())
+    fold_rows(alloc, query, &LentRows::Owned(found.as_slice()))
 }
 
 /// The groups of the rows at places that all pass, slot by slot, where what the aggregates look at is decoded.

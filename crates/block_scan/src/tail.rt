@@ -4,26 +4,36 @@ ghost use Rattle.std.specs.List.{AllByRecursion, list_all};
 ghost use Rattle.leaf_model.specs.declared.rows.Row.{Row};
 ghost use Rattle.leaf_model.specs.Content.{rows_from};
 ghost use Rattle.leaf_model.specs.Groups.{groups};
+ghost use Rattle.leaf_model.specs.Lent.{lent_rows};
 ghost use Rattle.group_table.specs.Joined.{IsWithin};
 
 use group_table::fold_rows;
-use leaf_model::{Groups, Query, Row};
+use leaf_model::{Groups, LentRows, Query, Row};
 use std::alloc::{AllocError, Global};
 
-fn are_live(rows: &[Row], horizon: i64) -> bool
-    ensures { result ≡ list_all (λ (row : Row). int_le horizon row.time) rows.now }
+fn are_live(rows: &LentRows, horizon: i64) -> bool
+    ensures { result ≡ list_all (λ (row : Row). int_le horizon row.time) (lent_rows rows.now) }
 {
-    rows.iter().all(|row| horizon <= row.time)
+    let mut left = *rows;
+    while let Some((first, others)) = left.split_first() {
+        if first.time < horizon {
+            return false;
+        }
+        left = others;
+    }
+    true
 }
 
-fn copy_live(alloc: Global, rows: &[Row], horizon: i64) -> Result<Vec<Row>, AllocError>
-    ensures { IfOk result (λ live. live.items ≡ rows_from horizon rows.now) }
+fn copy_live(alloc: Global, rows: &LentRows, horizon: i64) -> Result<Vec<Row>, AllocError>
+    ensures { IfOk result (λ live. live.items ≡ rows_from horizon (lent_rows rows.now)) }
 {
     let mut live = Vec::new(alloc);
-    for row in rows {
-        if horizon <= row.time {
-            live.push(row.copy()?)?;
+    let mut left = *rows;
+    while let Some((first, others)) = left.split_first() {
+        if horizon <= first.time {
+            live.push(first.own(alloc)?)?;
         }
+        left = others;
     }
     Ok(live)
 }
@@ -32,15 +42,15 @@ fn copy_live(alloc: Global, rows: &[Row], horizon: i64) -> Result<Vec<Row>, Allo
 pub(crate) fn fold_live(
     alloc: Global,
     query: &Query,
-    rows: &[Row],
+    rows: &LentRows,
     horizon: i64,
 ) -> Result<Groups, AllocError>
-    ensures groups { IfOk result (λ gs. gs ≡ groups query.now (rows_from horizon rows.now)) }
-    ensures within { IfOk result (λ gs. AllByRecursion (IsWithin (length (rows_from horizon rows.now))) gs) }
+    ensures groups { IfOk result (λ gs. gs ≡ groups query.now (rows_from horizon (lent_rows rows.now))) }
+    ensures within { IfOk result (λ gs. AllByRecursion (IsWithin (length (rows_from horizon (lent_rows rows.now)))) gs) }
 {
     if are_live(rows, horizon) {
         return fold_rows(alloc, query, rows);
     }
     let live = copy_live(alloc, rows, horizon)?;
-    fold_rows(alloc, query, live.as_slice())
+    fold_rows(alloc, query, &LentRows::Owned(live.as_slice()))
 }

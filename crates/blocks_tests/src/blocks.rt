@@ -13,11 +13,11 @@ use std::test::Fail;
 // The block of three rows.
 fn sealed(alloc: Global, bytes: &[u8]) -> Result<Option<RowBlock>, AllocError> {
     let rows = three_rows(alloc, bytes)?;
-    let rows = rows.as_slice();
-    if rows.is_empty() || rows.len() > 65536 {
+    let rows = rows.lend();
+    if rows.len() == 0 || rows.len() > 65536 {
         return Ok(None);
     }
-    let block = seal(alloc, rows)?;
+    let block = seal(alloc, &rows)?;
     Ok(Some(block))
 }
 

@@ -3,7 +3,7 @@ ghost use Rattle.std.specs.Prelude.{◌≤◌, IfOk, length};
 ghost use Rattle.std.specs.List.{AllByRecursion};
 ghost use Rattle.leaf_model.specs.Values.{IsRow};
 
-use leaf_model::{Row, Rows};
+use leaf_model::{PackedRows, Rows};
 use row_records::read_rows;
 use std::alloc::{AllocError, Global};
 
@@ -22,13 +22,13 @@ pub const CODED_LATER: &[u8] =
     b"\x0a\0\0\0\0\0\0\0\x01\0\x04code\x01\x05\0\0\0\0\0\0\0\x0b\0\0\0\0\0\0\0\x01\0\x04code\x01\x05\0\0\0\0\0\0\0\x0c\0\0\0\0\0\0\0\x01\0\x04code\x01\x05\0\0\0\0\0\0\0";
 
 /// So many rows, from their bytes.
-fn rows_of(alloc: Global, bytes: &[u8], count: u64) -> Result<Vec<Row>, AllocError>
-    ensures rows { IfOk result (λ rows. AllByRecursion IsRow rows.items) }
-    ensures few { IfOk result (λ rows. length rows.items ≤ count) }
+fn rows_of(alloc: Global, bytes: &[u8], count: u64) -> Result<PackedRows, AllocError>
+    ensures rows { IfOk result (λ rows. AllByRecursion IsRow rows) }
+    ensures few { IfOk result (λ rows. length rows ≤ count) }
 {
     match read_rows(alloc, bytes, count)? {
         Some((rows, _taken)) => Ok(rows),
-        None => Ok(Vec::new(alloc)),
+        None => Ok(PackedRows::new(alloc)),
     }
 }
 

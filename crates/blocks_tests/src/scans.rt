@@ -75,7 +75,7 @@ fn scan_table<L: Ledger, R: Threads + Sync>(
         alloc,
         query,
         table.blocks(),
-        table.tail_rows(),
+        &table.tail_rows(),
         table.skip(),
         table.horizon(),
         steps,

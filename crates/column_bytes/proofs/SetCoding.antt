@@ -1,5 +1,5 @@
 -- Sets that are put behind one another as the numbers of their texts, each once.
-use Rattle.std.proofs.Common.{◌≡◌, ℕ, zero, suc, ◌+◌, ◌<◌, ◌≤◌, Bool, true, false, ◌||◌, List, [], ◌∷◌, ◌++◌, length, slice_get, slice_index, slice_index_or, Option, Some, None, Vec, Global, if◌then◌else◌, bytes_eq, below_more, refl, sym, ap, ap₂, subst, ◌∙◌, inl, inr, arith}
+use Rattle.std.proofs.Common.{◌≡◌, ℕ, zero, suc, ◌+◌, ◌<◌, ◌≤◌, Bool, true, false, ◌||◌, List, [], ◌∷◌, ◌++◌, length, slice_get, slice_index, slice_index_or, Option, Some, None, Vec, Global, if◌then◌else◌, bytes_eq, below_more, refl, sym, ap, ap₂, subst, ◌∙◌, append_assoc, inl, inr, arith}
 use Rattle.std.specs.List.{list_any}
 use Rattle.std.proofs.lemmas.Bool.{cases_lt}
 use Rattle.std.proofs.lemmas.List.{get_or_append_left, length_push, length-map}
@@ -75,20 +75,32 @@ bytes_if false seen text = omega (arith, bytes_push seen text)
 pub bytes_with : (seen : List (List ℕ)) (text : List ℕ) → bytes_in (with_text seen text) ≤ bytes_in seen + length text
 bytes_with seen text = bytes_if (list_any (bytes_eq text) seen) seen text
 
--- one number more, which stands for the next text
-pub numbered_more : (members : List (List ℕ)) (numbers more : List ℕ) (old new : List (List ℕ)) (i n : ℕ) → length numbers ≡ i → more ≡ numbers ++ n ∷ [] → AreKept old new
-    → n < length new → slice_index_or new n [] ≡ slice_index_or members i []
-    → ((k : ℕ) → k < i → (slice_index numbers k < length old) × (slice_index_or old (slice_index numbers k) [] ≡ slice_index_or members k []))
-    → (k : ℕ) → k < i + 1 → (slice_index more k < length new) × (slice_index_or new (slice_index more k) [] ≡ slice_index_or members k [])
-numbered_more members numbers more old new i n len made kept below here before =
-    below_more (λ k. (slice_index more k < length new) × (slice_index_or new (slice_index more k) [] ≡ slice_index_or members k [])) i
-    (λ k h.
-    let was = before k h in
-    let stays = kept (slice_index numbers k) was.0 in
-    let same : slice_index more k ≡ slice_index numbers k = ap (λ xs. slice_index xs k) made ∙ get_or_append_left numbers (n ∷ []) 0 k (omega arith) in
-    (subst (λ m. m < length new) (sym same) stays.0, ap (λ m. slice_index_or new m []) same ∙ stays.1 ∙ was.1))
-    (let same : slice_index more i ≡ n = ap (λ xs. slice_index xs i) made ∙ ap (slice_index (numbers ++ n ∷ [])) (sym len) ∙ get_or-append_seam numbers n [] 0 in
-    (subst (λ m. m < length new) (sym same) below, ap (λ m. slice_index_or new m []) same ∙ here))
+-- ---- one number more, which stands for the next text
+
+pub numbered_more : (numbers : List ℕ) (old new : List (List ℕ)) (n : ℕ) → AreKept old new → AreNumbers (length old) numbers → n < length new → AreNumbers (length new) (numbers ++ n ∷ [])
+numbered_more [] old new n kept valid below zero h = below
+numbered_more [] old new n kept valid below (suc k) h = absurd (omega arith)
+numbered_more (m ∷ ms) old new n kept valid below zero h = (kept m (valid 0 (omega arith))).0
+numbered_more (m ∷ ms) old new n kept valid below (suc k) h = numbered_more ms old new n kept (λ j within. valid (suc j) (omega arith)) below k (omega arith)
+
+texts_by_more : (numbers : List ℕ) (old new : List (List ℕ)) (n : ℕ) → AreKept old new → AreNumbers (length old) numbers
+    → texts_by new (numbers ++ n ∷ []) ≡ texts_by old numbers ++ slice_index_or new n [] ∷ []
+texts_by_more [] old new n kept valid = refl
+texts_by_more (m ∷ ms) old new n kept valid = ap₂ (λ x xs. x ∷ xs) (kept m (valid 0 (omega arith))).1 (texts_by_more ms old new n kept (λ k h. valid (suc k) (omega arith)))
+
+-- its text goes from what is left to what is done
+pub parted_more : (numbers : List ℕ) (old new : List (List ℕ)) (n : ℕ) (text : List ℕ) (others left members : List (List ℕ)) → AreKept old new → AreNumbers (length old) numbers
+    → slice_index_or new n [] ≡ text → text ∷ others ≡ left → texts_by old numbers ++ left ≡ members → texts_by new (numbers ++ n ∷ []) ++ others ≡ members
+parted_more numbers old new n text others left members kept valid here parted before =
+    let done = texts_by old numbers in
+    ap (λ xs. xs ++ others) (texts_by_more numbers old new n kept valid)
+    ∙ append_assoc done (slice_index_or new n [] ∷ []) others
+    ∙ ap (λ t. done ++ t ∷ others) here ∙ ap (λ xs. done ++ xs) parted ∙ before
+
+-- the bytes of what is left
+pub bytes_left : (done left : List (List ℕ)) → bytes_in left ≤ bytes_in (done ++ left)
+bytes_left [] left = omega arith
+bytes_left (text ∷ done) left = let rest = bytes_left done left in omega (arith, rest)
 
 -- ---- one set more
 

@@ -1,6 +1,5 @@
 -- What presence, codes and what the codes stand for mean together: a list of cells.
-use Rattle.std.specs.Prelude.{◌≡◌, ℕ, ◌*◌, ◌<◌, Bool, true, false, List, [], length, map, slice_index, slice_index_or, ℤ, pos, ◌+ℤ◌, FitsSigned, Option, Some, None, option_map, if◌then◌else◌}
-use Rattle.std.specs.Borrow.{Bor}
+use Rattle.std.specs.Prelude.{◌≡◌, ℕ, ◌*◌, ◌<◌, Bool, true, false, List, [], length, map, slice_index, slice_index_or, ℤ, pos, ◌+ℤ◌, FitsSigned, Option, Some, None, if◌then◌else◌}
 use Rattle.std.specs.List.{range_with_len}
 use Rattle.std.specs.Int.{w64, div_ceil}
 use Rattle.bit_columns.specs.Bits.{codes, is_present, BitString, PackedCodes}
@@ -94,14 +93,6 @@ abbrev pub value_of : ValueRef → Value
 value_of (seen.Int n) = values.Int n
 value_of (seen.Text text) = values.Text text.now
 value_of (seen.Set members) = values.Set members
-
--- a value that is lent
-abbrev pub lent_value : Bor Value → Value
-lent_value value = value.now
-
--- some cells that are lent
-abbrev pub values_of : List (Option (Bor Value)) → List (Option Value)
-values_of cells = map (option_map lent_value) cells
 
 -- ---- what the parts of a column mean
 

@@ -1,6 +1,6 @@
 // A column of cells as bytes.
 ghost use Rattle.std.specs.Prelude.{◌≡◌, ◌<◌, ◌≤◌, ◌↔◌, ℕ, length, option_map, IfOk, IfSome, IsTrue};
-ghost use Rattle.column_bytes.specs.Cells.{lent_value, values_of};
+ghost use Rattle.leaf_model.specs.Lent.{each_value, lent_value};
 ghost use Rattle.column_bytes.specs.Column.{HasCells, kind_in};
 ghost use Rattle.column_bytes.specs.Coding.{AreOfKind, IsOfKind};
 
@@ -8,7 +8,7 @@ use crate::integers::encode_integers;
 use crate::kind::Kind;
 use crate::set_codes::encode_sets;
 use crate::text_codes::encode_texts;
-use leaf_model::{MAX_TEXT, Value};
+use leaf_model::{LentValue, MAX_TEXT, Value};
 use std::alloc::{AllocError, Global};
 use std::marker::Model;
 
@@ -63,17 +63,20 @@ pub fn are_of_kind(kind: Kind, cells: &[Option<Value>]) -> bool
     true
 }
 
-fn lend(cell: &Option<Value>) -> Option<&Value>
+fn lend(cell: &Option<Value>) -> Option<LentValue<'_>>
     ensures { option_map lent_value result ≡ cell.now }
 {
     match cell {
         None => None,
-        Some(value) => Some(value),
+        Some(value) => Some(LentValue::of(value)),
     }
 }
 
-fn lend_all(alloc: Global, cells: &[Option<Value>]) -> Result<Vec<Option<&Value>>, AllocError>
-    ensures { IfOk result (λ lent. values_of lent.items ≡ cells.now) }
+fn lend_all(
+    alloc: Global,
+    cells: &[Option<Value>],
+) -> Result<Vec<Option<LentValue<'_>>>, AllocError>
+    ensures { IfOk result (λ lent. each_value lent.items ≡ cells.now) }
 {
     let mut lent = Vec::with_capacity(alloc, cells.len())?;
     for cell in cells {
@@ -99,12 +102,12 @@ pub fn encode(alloc: Global, kind: Kind, cells: &[Option<Value>]) -> Result<Colu
 pub fn encode_refs(
     alloc: Global,
     kind: Kind,
-    cells: &[Option<&Value>],
+    cells: &[Option<LentValue>],
 ) -> Result<Column, AllocError>
     requires some { 0 < length cells.now }
     requires few { length cells.now ≤ 65536 }
-    requires kind { AreOfKind kind (values_of cells.now) }
-    ensures cells { IfOk result (λ column. HasCells column (length cells.now) (values_of cells.now)) }
+    requires kind { AreOfKind kind (each_value cells.now) }
+    ensures cells { IfOk result (λ column. HasCells column (length cells.now) (each_value cells.now)) }
     ensures kind { IfOk result (λ column. kind_in column ≡ kind) }
 {
     match kind {

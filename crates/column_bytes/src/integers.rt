@@ -1,11 +1,12 @@
 // Coding integers: by offsets from the least, or by the differences between neighbours.
 ghost use Rattle.std.specs.Prelude.{◌≡◌, ℕ, ◌+◌, ◌*◌, ◌<◌, ◌≤◌, ◌^◌, length, IfOk, IfSome, Some, option_map, pos, ◌+ℤ◌, ◌≤ℤ◌, FitsSigned, slice_index, slice_index_or, Option};
 ghost use Rattle.std.specs.Int.{w64};
+ghost use Rattle.leaf_model.specs.Lent.{each_value, lent_value};
 ghost use Rattle.leaf_model.specs.declared.rows.Value.{Value};
 ghost use Rattle.leaf_model.specs.declared.rows.Value.TheVariants.{Int};
 ghost use Rattle.column_bytes.specs.declared.kind.Kind.TheVariants.{Ints};
 ghost use Rattle.column_bytes.specs.Fields.{i64_at};
-ghost use Rattle.column_bytes.specs.Cells.{IsExtra, book_of, kind_of, lent_value, values_of};
+ghost use Rattle.column_bytes.specs.Cells.{IsExtra, book_of, kind_of};
 ghost use Rattle.column_bytes.specs.Column.{HasCells, kind_in};
 ghost use Rattle.column_bytes.specs.Coding.{IsOfKind, AreOfKind, AreIntegers, AreCodesOf};
 
@@ -13,24 +14,24 @@ use crate::form::Form;
 use crate::writer::{put_u64, write};
 use bit_columns::width_of;
 use delta_codes::delta;
-use leaf_model::Value;
+use leaf_model::LentValue;
 use std::alloc::{AllocError, Global};
 
 // The integer that a value is.
-fn integer_of(value: &Value) -> i64
-    requires { IsOfKind Ints value.now }
-    ensures { value.now ≡ Int result }
+fn integer_of(value: &LentValue) -> i64
+    requires { IsOfKind Ints (lent_value value.now) }
+    ensures { lent_value value.now ≡ Int result }
 {
     match value {
-        Value::Int(integer) => *integer,
-        Value::Text(_) | Value::Set(_) => unreachable!(),
+        LentValue::Int(integer) => *integer,
+        LentValue::Text(_) | LentValue::Set(_) => unreachable!(),
     }
 }
 
 // The first integer that is there, or 0.
-fn first_integer(cells: &[Option<&Value>]) -> i64 {
+fn first_integer(cells: &[Option<LentValue>]) -> i64 {
     for cell in cells {
-        if let Some(Value::Int(integer)) = cell {
+        if let Some(LentValue::Int(integer)) = cell {
             return *integer;
         }
     }
@@ -38,7 +39,7 @@ fn first_integer(cells: &[Option<&Value>]) -> i64 {
 }
 
 // The integer of a cell, or the one before where it is missing.
-fn integer_or(cell: &Option<&Value>, before: i64) -> i64
+fn integer_or(cell: &Option<LentValue>, before: i64) -> i64
     requires { IfSome (option_map lent_value cell.now) (IsOfKind Ints) }
     ensures { (value : Value) → option_map lent_value cell.now ≡ Some value → value ≡ Int result }
 {
@@ -49,9 +50,12 @@ fn integer_or(cell: &Option<&Value>, before: i64) -> i64
 }
 
 // An integer for each cell. A missing one has that of the cell before, so that it makes no code longer.
-pub(crate) fn integers_of(alloc: Global, cells: &[Option<&Value>]) -> Result<Vec<i64>, AllocError>
-    requires { AreOfKind Ints (values_of cells.now) }
-    ensures { IfOk result (λ integers. AreIntegers (values_of cells.now) integers.items) }
+pub(crate) fn integers_of(
+    alloc: Global,
+    cells: &[Option<LentValue>],
+) -> Result<Vec<i64>, AllocError>
+    requires { AreOfKind Ints (each_value cells.now) }
+    ensures { IfOk result (λ integers. AreIntegers (each_value cells.now) integers.items) }
 {
     let mut last = first_integer(cells);
     let mut integers = Vec::with_capacity(alloc, cells.len())?;
@@ -144,17 +148,17 @@ pub(crate) fn delta_coding(alloc: Global, integers: &[i64]) -> Result<Coding, Al
 pub(crate) fn write_integers(
     alloc: Global,
     form: Form,
-    cells: &[Option<&Value>],
+    cells: &[Option<LentValue>],
     integers: &[i64],
     coding: &Coding,
 ) -> Result<Vec<u8>, AllocError>
     requires some { 0 < length cells.now }
     requires few { length cells.now ≤ 65536 }
-    requires integers { AreIntegers (values_of cells.now) integers.now }
+    requires integers { AreIntegers (each_value cells.now) integers.now }
     requires extra { IsExtra form (length integers.now) coding.now.extra.items }
     requires small { length coding.now.extra.items ≤ 2 ^ 40 }
     requires codes { AreCodesOf integers.now coding.now.codes.items (book_of form (length integers.now) coding.now.extra.items) }
-    ensures cells { IfOk result (λ bytes. HasCells bytes.items (length cells.now) (values_of cells.now)) }
+    ensures cells { IfOk result (λ bytes. HasCells bytes.items (length cells.now) (each_value cells.now)) }
     ensures kind { IfOk result (λ bytes. kind_in bytes.items ≡ kind_of (book_of form (length cells.now) coding.now.extra.items)) }
 {
     write(alloc, form, cells, &coding.codes, &coding.extra)
@@ -163,12 +167,12 @@ pub(crate) fn write_integers(
 /// The bytes of a column of integers, in the form that takes fewer.
 pub(crate) fn encode_integers(
     alloc: Global,
-    cells: &[Option<&Value>],
+    cells: &[Option<LentValue>],
 ) -> Result<Vec<u8>, AllocError>
     requires some { 0 < length cells.now }
     requires few { length cells.now ≤ 65536 }
-    requires kind { AreOfKind Ints (values_of cells.now) }
-    ensures cells { IfOk result (λ bytes. HasCells bytes.items (length cells.now) (values_of cells.now)) }
+    requires kind { AreOfKind Ints (each_value cells.now) }
+    ensures cells { IfOk result (λ bytes. HasCells bytes.items (length cells.now) (each_value cells.now)) }
     ensures kind { IfOk result (λ bytes. kind_in bytes.items ≡ Ints) }
 {
     let integers = integers_of(alloc, cells)?;

@@ -1,12 +1,13 @@
 // Coding sets: each text once, each set once as the numbers of its texts, and a code for each cell.
 ghost use Rattle.std.specs.Prelude.{◌≡◌, ℕ, ◌+◌, ◌*◌, ◌<◌, ◌≤◌, ◌^◌, ◌++◌, List, [], length, map, slice_index_or, IfOk, IfSome, OnOk, Some, option_map};
 ghost use Rattle.std.specs.List.{All};
+ghost use Rattle.leaf_model.specs.Lent.{each_value, lent_texts, lent_value};
 ghost use Rattle.leaf_model.specs.Values.{IsSet, bytes_in};
 ghost use Rattle.leaf_model.specs.declared.rows.Value.{Value};
 ghost use Rattle.leaf_model.specs.declared.rows.Value.TheVariants as values;
 ghost use Rattle.column_bytes.specs.declared.kind.Kind.TheVariants as kinds;
 ghost use Rattle.column_bytes.specs.Fields.{u32_at};
-ghost use Rattle.column_bytes.specs.Cells.{Sets, lent_value, values_of};
+ghost use Rattle.column_bytes.specs.Cells.{Sets};
 ghost use Rattle.column_bytes.specs.Column.{HasCells, kind_in};
 ghost use Rattle.column_bytes.specs.Dictionary.{AreKept, AreTexts, lent, texts_by};
 ghost use Rattle.column_bytes.specs.Sets.{AreNumbers, AreSetCodes, IsSetDictionary, number_bytes, numbers_in, sets_at, sets_by};
@@ -17,39 +18,41 @@ use crate::set_numbers::SetNumbers;
 use crate::text_codes::dictionary_bytes;
 use crate::text_set::TextSet;
 use crate::writer::{put_u32, write};
-use leaf_model::{Texts, Value};
+use leaf_model::{LentTexts, LentValue};
 use std::alloc::{AllocError, Global};
 
 // The numbers of the texts of a set, in the set's order.
 fn numbers_of<'a>(
     alloc: Global,
-    members: &'a Texts,
+    members: &LentTexts<'a>,
     texts: &mut TextSet<'a>,
 ) -> Result<Vec<u32>, AllocError>
-    requires members { IsSet members.now }
-    requires few { length texts.old + length members.now ≤ 67108864 }
-    ensures numbers { IfOk result (λ numbers. AreNumbers (length texts.new) numbers.items × (texts_by texts.new numbers.items ≡ members.now)) }
+    requires members { IsSet (lent_texts members.now) }
+    requires few { length texts.old + length (lent_texts members.now) ≤ 67108864 }
+    ensures numbers { IfOk result (λ numbers. AreNumbers (length texts.new) numbers.items × (texts_by texts.new numbers.items ≡ lent_texts members.now)) }
     ensures kept { OnOk result (AreKept texts.old texts.new) }
     ensures texts { OnOk result (AreTexts texts.old → AreTexts texts.new) }
-    ensures grows { OnOk result (length texts.new ≤ length texts.old + length members.now) }
-    ensures bytes { OnOk result (bytes_in texts.new ≤ bytes_in texts.old + bytes_in members.now) }
+    ensures grows { OnOk result (length texts.new ≤ length texts.old + length (lent_texts members.now)) }
+    ensures bytes { OnOk result (bytes_in texts.new ≤ bytes_in texts.old + bytes_in (lent_texts members.now)) }
 {
-    let mut numbers = Vec::with_capacity(alloc, members.as_slice().len())?;
-    for text in members.as_slice() {
-        numbers.push(texts.code_of(text.as_str())? as u32)?;
+    let mut numbers = Vec::with_capacity(alloc, members.len())?;
+    let mut left = *members;
+    while let Some((text, others)) = left.split_first() {
+        numbers.push(texts.code_of(text)? as u32)?;
+        left = others;
     }
     Ok(numbers)
 }
 
 fn set_code<'a>(
     alloc: Global,
-    value: &'a Value,
+    value: &LentValue<'a>,
     texts: &mut TextSet<'a>,
     sets: &mut SetNumbers,
 ) -> Result<u64, AllocError>
-    requires kind { IsOfKind kinds.Sets value.now }
+    requires kind { IsOfKind kinds.Sets (lent_value value.now) }
     requires few { length texts.old ≤ 67107840 }
-    ensures code { IfOk result (λ code. (code < length sets.new) × (value.now ≡ values.Set (texts_by texts.new (slice_index_or sets.new code [])))) }
+    ensures code { IfOk result (λ code. (code < length sets.new) × (lent_value value.now ≡ values.Set (texts_by texts.new (slice_index_or sets.new code [])))) }
     ensures kept { OnOk result (AreKept texts.old texts.new) }
     ensures sets { OnOk result (AreKept sets.old sets.new) }
     ensures held { OnOk result (AreSetCodes texts.old sets.old → AreSetCodes texts.new sets.new) }
@@ -58,19 +61,19 @@ fn set_code<'a>(
     ensures bytes { OnOk result (bytes_in texts.new ≤ bytes_in texts.old + 65535) }
 {
     match value {
-        Value::Set(members) => {
+        LentValue::Set(members) => {
             let numbers = numbers_of(alloc, members, texts)?;
             let code = sets.code_of(numbers)?;
             Ok(code)
         }
-        Value::Int(_) | Value::Text(_) => unreachable!(),
+        LentValue::Int(_) | LentValue::Text(_) => unreachable!(),
     }
 }
 
 // The code of a cell's set, or the one before where the cell is missing.
 fn code_or<'a>(
     alloc: Global,
-    cell: &Option<&'a Value>,
+    cell: &Option<LentValue<'a>>,
     texts: &mut TextSet<'a>,
     sets: &mut SetNumbers,
     before: u64,
@@ -97,15 +100,15 @@ fn code_or<'a>(
 // A code for each cell. A missing one has that of the cell before, so that it makes no code longer.
 fn cell_codes<'a>(
     alloc: Global,
-    cells: &[Option<&'a Value>],
+    cells: &[Option<LentValue<'a>>],
     texts: &mut TextSet<'a>,
     sets: &mut SetNumbers,
 ) -> Result<Vec<u64>, AllocError>
     requires no_texts { texts.old ≡ [] }
     requires no_sets { sets.old ≡ [] }
     requires small { length cells.now ≤ 65536 }
-    requires kind { AreOfKind kinds.Sets (values_of cells.now) }
-    ensures coding { IfOk result (λ codes. IsCoding (values_of cells.now) codes.items (Sets (sets_by texts.new sets.new))) }
+    requires kind { AreOfKind kinds.Sets (each_value cells.now) }
+    ensures coding { IfOk result (λ codes. IsCoding (each_value cells.now) codes.items (Sets (sets_by texts.new sets.new))) }
     ensures held { OnOk result (AreSetCodes texts.new sets.new) }
     ensures few { OnOk result (length sets.new ≤ length cells.now) }
     ensures texts { OnOk result (length texts.new ≤ 67108864) }
@@ -180,11 +183,11 @@ fn set_dictionary_bytes(
 }
 
 /// The bytes of a column of sets.
-pub(crate) fn encode_sets(alloc: Global, cells: &[Option<&Value>]) -> Result<Vec<u8>, AllocError>
+pub(crate) fn encode_sets(alloc: Global, cells: &[Option<LentValue>]) -> Result<Vec<u8>, AllocError>
     requires some { 0 < length cells.now }
     requires few { length cells.now ≤ 65536 }
-    requires kind { AreOfKind kinds.Sets (values_of cells.now) }
-    ensures cells { IfOk result (λ bytes. HasCells bytes.items (length cells.now) (values_of cells.now)) }
+    requires kind { AreOfKind kinds.Sets (each_value cells.now) }
+    ensures cells { IfOk result (λ bytes. HasCells bytes.items (length cells.now) (each_value cells.now)) }
     ensures kind { IfOk result (λ bytes. kind_in bytes.items ≡ kinds.Sets) }
 {
     let mut texts = TextSet::new(alloc);

@@ -1,11 +1,12 @@
 // Coding texts: each text once, in the order of their first place, and a code for each place.
 ghost use Rattle.std.specs.Prelude.{◌≡◌, ℕ, ◌+◌, ◌*◌, ◌<◌, ◌≤◌, ◌^◌, ◌++◌, [], length, take, slice_index_or, IfOk, IfSome, OnOk, Some, option_map};
 ghost use Rattle.std.specs.List.{All};
+ghost use Rattle.leaf_model.specs.Lent.{each_value, lent_value};
 ghost use Rattle.leaf_model.specs.declared.rows.Value.{Value};
 ghost use Rattle.leaf_model.specs.declared.rows.Value.TheVariants as values;
 ghost use Rattle.column_bytes.specs.declared.kind.Kind.TheVariants as kinds;
 ghost use Rattle.column_bytes.specs.Fields.{u32_at};
-ghost use Rattle.column_bytes.specs.Cells.{Entries, lent_value, values_of};
+ghost use Rattle.column_bytes.specs.Cells.{Entries};
 ghost use Rattle.column_bytes.specs.Column.{HasCells, kind_in};
 ghost use Rattle.column_bytes.specs.Dictionary.{AreKept, AreTexts, IsDictionary, distinct, lent, texts_at, texts_by};
 ghost use Rattle.column_bytes.specs.Coding.{IsOfKind, AreOfKind, IsCoding, end_at, joined};
@@ -14,7 +15,7 @@ use crate::form::Form;
 use crate::text_set::TextSet;
 use crate::writer::{put_u32, write};
 use delta_codes::Codes;
-use leaf_model::{Text, Texts, Value};
+use leaf_model::{LentValue, Text, Texts};
 use std::alloc::{AllocError, Global};
 
 /// The texts of a list, each once, and a code for each of the list's places.
@@ -66,27 +67,27 @@ pub fn dictionary(alloc: Global, values: &[Text]) -> Result<Dict, AllocError>
     })
 }
 
-fn value_code<'a>(set: &mut TextSet<'a>, value: &'a Value) -> Result<u64, AllocError>
-    requires { IsOfKind kinds.Texts (value.now) }
+fn value_code<'a>(set: &mut TextSet<'a>, value: &LentValue<'a>) -> Result<u64, AllocError>
+    requires { IsOfKind kinds.Texts (lent_value value.now) }
     ensures below { IfOk result (λ code. code < length set.new) }
-    ensures code { IfOk result (λ code. value.now ≡ values.Text (slice_index_or set.new code [])) }
+    ensures code { IfOk result (λ code. lent_value value.now ≡ values.Text (slice_index_or set.new code [])) }
     ensures kept { OnOk result (AreKept set.old set.new) }
     ensures texts { OnOk result (AreTexts set.old → AreTexts set.new) }
     ensures grows { OnOk result (length set.new ≤ length set.old + 1) }
 {
     match value {
-        Value::Text(text) => {
-            let code = set.code_of(text.as_str())?;
+        LentValue::Text(text) => {
+            let code = set.code_of(text)?;
             Ok(code)
         }
-        Value::Int(_) | Value::Set(_) => unreachable!(),
+        LentValue::Int(_) | LentValue::Set(_) => unreachable!(),
     }
 }
 
 // The code of a cell's text, or the one before where the cell is missing.
 fn code_or<'a>(
     set: &mut TextSet<'a>,
-    cell: &Option<&'a Value>,
+    cell: &Option<LentValue<'a>>,
     before: u64,
 ) -> Result<u64, AllocError>
     requires { IfSome (option_map lent_value cell.now) (IsOfKind kinds.Texts) }
@@ -107,12 +108,12 @@ fn code_or<'a>(
 // A code for each cell. A missing one has that of the cell before, so that it makes no code longer.
 fn cell_codes<'a>(
     alloc: Global,
-    cells: &[Option<&'a Value>],
+    cells: &[Option<LentValue<'a>>],
     set: &mut TextSet<'a>,
 ) -> Result<Vec<u64>, AllocError>
     requires none { set.old ≡ [] }
-    requires kind { AreOfKind kinds.Texts (values_of cells.now) }
-    ensures coding { IfOk result (λ codes. IsCoding (values_of cells.now) codes.items (Entries set.new)) }
+    requires kind { AreOfKind kinds.Texts (each_value cells.now) }
+    ensures coding { IfOk result (λ codes. IsCoding (each_value cells.now) codes.items (Entries set.new)) }
     ensures texts { OnOk result (AreTexts set.new) }
     ensures few { OnOk result (length set.new ≤ length cells.now) }
 {
@@ -167,11 +168,14 @@ pub(crate) fn dictionary_bytes(alloc: Global, texts: &[&str]) -> Result<Vec<u8>,
 }
 
 /// The bytes of a column of texts.
-pub(crate) fn encode_texts(alloc: Global, cells: &[Option<&Value>]) -> Result<Vec<u8>, AllocError>
+pub(crate) fn encode_texts(
+    alloc: Global,
+    cells: &[Option<LentValue>],
+) -> Result<Vec<u8>, AllocError>
     requires some { 0 < length cells.now }
     requires few { length cells.now ≤ 65536 }
-    requires kind { AreOfKind kinds.Texts (values_of cells.now) }
-    ensures cells { IfOk result (λ bytes. HasCells bytes.items (length cells.now) (values_of cells.now)) }
+    requires kind { AreOfKind kinds.Texts (each_value cells.now) }
+    ensures cells { IfOk result (λ bytes. HasCells bytes.items (length cells.now) (each_value cells.now)) }
     ensures kind { IfOk result (λ bytes. kind_in bytes.items ≡ kinds.Texts) }
 {
     let mut set = TextSet::new(alloc);

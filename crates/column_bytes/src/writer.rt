@@ -2,7 +2,8 @@
 ghost use Rattle.std.specs.Prelude.{◌≡◌, ◌+◌, ◌*◌, ◌<◌, ◌≤◌, ◌^◌, ◌++◌, [], length, map, Bool, true, IfOk, OnOk, Option, is_some, if◌then◌else◌};
 ghost use Rattle.std.specs.Int.{div_ceil};
 ghost use Rattle.byteorder.specs.Endian.{little_bytes};
-ghost use Rattle.column_bytes.specs.Cells.{IsExtra, book_of, kind_of, there, values_of};
+ghost use Rattle.leaf_model.specs.Lent.{each_value};
+ghost use Rattle.column_bytes.specs.Cells.{IsExtra, book_of, kind_of, there};
 ghost use Rattle.column_bytes.specs.Column.{HasCells, IsPresence, kind_in, presence_bits};
 ghost use Rattle.column_bytes.specs.Coding.{IsCoding, column_bytes, form_byte, front_bytes, header_bytes, kind_byte};
 
@@ -10,7 +11,7 @@ use crate::form::Form;
 use crate::header::HEADER_LEN;
 use bit_columns::{pack, pack_bits, width_of};
 use byteorder::{ByteOrder, LittleEndian};
-use leaf_model::Value;
+use leaf_model::LentValue;
 use std::alloc::{AllocError, Global};
 
 pub(crate) fn put_u32(out: &mut Vec<u8>, number: u32) -> Result<(), AllocError>
@@ -119,7 +120,7 @@ fn are_all_there(present: &[bool]) -> bool
     true
 }
 
-fn present_in(alloc: Global, cells: &[Option<&Value>]) -> Result<Vec<bool>, AllocError>
+fn present_in(alloc: Global, cells: &[Option<LentValue>]) -> Result<Vec<bool>, AllocError>
     ensures { IfOk result (λ present. present.items ≡ map is_some cells.now) }
 {
     cells.iter().map(|cell| cell.is_some()).collect(alloc)
@@ -153,7 +154,7 @@ fn presence_of(alloc: Global, present: &[bool]) -> Result<Presence, AllocError>
 pub(crate) fn write(
     alloc: Global,
     form: Form,
-    cells: &[Option<&Value>],
+    cells: &[Option<LentValue>],
     codes: &[u64],
     extra: &[u8],
 ) -> Result<Vec<u8>, AllocError>
@@ -161,8 +162,8 @@ pub(crate) fn write(
     requires few { length cells.now ≤ 65536 }
     requires extra { IsExtra form (length cells.now) extra.now }
     requires small { length extra.now ≤ 2 ^ 40 }
-    requires coding { IsCoding (values_of cells.now) codes.now (book_of form (length cells.now) extra.now) }
-    ensures cells { IfOk result (λ bytes. HasCells bytes.items (length cells.now) (values_of cells.now)) }
+    requires coding { IsCoding (each_value cells.now) codes.now (book_of form (length cells.now) extra.now) }
+    ensures cells { IfOk result (λ bytes. HasCells bytes.items (length cells.now) (each_value cells.now)) }
     ensures kind { IfOk result (λ bytes. kind_in bytes.items ≡ kind_of (book_of form (length cells.now) extra.now)) }
 {
     let present = present_in(alloc, cells)?;

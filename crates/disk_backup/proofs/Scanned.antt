@@ -7,10 +7,10 @@ use Rattle.std.specs.List.{flat_map, AllByRecursion}
 use Rattle.std.specs.Int.{w64, from_le_bytes}
 use Rattle.std.proofs.lemmas.List.{take_at, drop_at, drop_more}
 use Rattle.row_records.specs.declared.record_reader.Flush.{Flush}
-use Rattle.row_records.specs.Bytes.{u64_bytes}
+use Rattle.leaf_model.specs.Bytes.{u64_bytes}
 use Rattle.row_records.specs.Records.{LogRecord, IsRecord, record_body, record_bytes, record_is}
 use Rattle.disk_backup.specs.Logs.{is_short, is_closed, ClosedLog, open_records}
-use Rattle.row_records.proofs.Fields.{wide64}
+use Rattle.leaf_model.proofs.Fields.{wide64}
 use Rattle.row_records.proofs.Once.{one_record}
 use Rattle.row_records.proofs.Pended.{writes_fit, size}
 use Rattle.row_records.specs.Bytes.{write_bytes}

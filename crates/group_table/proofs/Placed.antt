@@ -1,6 +1,6 @@
 -- A group goes into an ascending table at the place that a search finds.
 use Rattle.std.proofs.Common.{◌≡◌, ℕ, suc, zero, ◌≤◌, ◌<◌, true, false, List, [], ◌∷◌, ◌++◌, length, drop, take, refl, ap, arith}
-use Rattle.std.specs.List.{AllByRecursion, slice_index_or, slice_set, insert}
+use Rattle.std.specs.List.{AllByRecursion, slice_index_or, slice_set}
 use Rattle.std.specs.List.Sorted.{IsPartitionPoint, IsPartitionedBy}
 use Rattle.std.specs.Ordering.{is_lt, is_eq}
 use Rattle.std.specs.declared.cmp.Ordering.{Ordering}

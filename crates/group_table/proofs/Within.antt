@@ -1,5 +1,5 @@
 -- What rows can give stays within what rows can give when groups join, so that it fits.
-use Rattle.std.proofs.Common.{ℕ, ◌+◌, ◌^◌, ◌≤◌, List, [], ◌∷◌, arith}
+use Rattle.std.proofs.Common.{ℕ, ◌+◌, ◌^◌, ◌≤◌, ◌<◌, List, [], ◌∷◌, arith}
 use Rattle.std.specs.List.{AllByRecursion}
 use Rattle.std.proofs.lemmas.Int.{ints}
 use Rattle.std.specs.declared.cmp.Ordering.{Ordering}
@@ -53,17 +53,17 @@ pub joined_within : (m n : ℕ) (as_ bs : List Group) → AllByRecursion (IsWith
 joined_within m n [] bs v w = groups_grow n (m + n) bs (omega arith) w
 joined_within m n (a ∷ as_) bs v w = from_within m n a as_ v.0 (λ cs. joined_within m n as_ cs v.1) bs w
 
-fold_fits : (n : ℕ) (f : Fold) → n ≤ 2 ^ 63 → IsFoldWithin n f → FitsFold f
-fold_fits n f h w = record { seen = omega (arith, w.seen); sum = omega (arith, ints, w.low, w.high) }
+fold_fits : (n : ℕ) (f : Fold) → n < 2 ^ 64 → IsFoldWithin n f → FitsFold f
+fold_fits n f h w = record { seen = omega (arith, h, w.seen); sum = omega (arith, ints, h, w.low, w.high) }
 
-folds_fit : (n : ℕ) (fs : List Fold) → n ≤ 2 ^ 63 → AllByRecursion (IsFoldWithin n) fs → AllByRecursion FitsFold fs
+folds_fit : (n : ℕ) (fs : List Fold) → n < 2 ^ 64 → AllByRecursion (IsFoldWithin n) fs → AllByRecursion FitsFold fs
 folds_fit n [] h w = tt
 folds_fit n (f ∷ fs) h w = (fold_fits n f h w.0, folds_fit n fs h w.1)
 
-pub groups_fit : (n : ℕ) (gs : List Group) → n ≤ 2 ^ 63 → AllByRecursion (IsWithin n) gs → AllByRecursion FitsGroup gs
+pub groups_fit : (n : ℕ) (gs : List Group) → n < 2 ^ 64 → AllByRecursion (IsWithin n) gs → AllByRecursion FitsGroup gs
 groups_fit n [] h w = tt
 groups_fit n (g ∷ gs) h w = (record { count = omega (arith, w.0.count); folds = folds_fit n g.folds h w.0.folds }, groups_fit n gs h w.1)
 
 -- what `merge` asks of two tables, from the numbers of rows that they come from
-pub joined_fit : (m n : ℕ) (as_ bs : List Group) → m + n ≤ 2 ^ 63 → AllByRecursion (IsWithin m) as_ → AllByRecursion (IsWithin n) bs → AllByRecursion FitsGroup (joined as_ bs)
+pub joined_fit : (m n : ℕ) (as_ bs : List Group) → m + n < 2 ^ 64 → AllByRecursion (IsWithin m) as_ → AllByRecursion (IsWithin n) bs → AllByRecursion FitsGroup (joined as_ bs)
 joined_fit m n as_ bs h v w = groups_fit (m + n) (joined as_ bs) h (joined_within m n as_ bs v w)

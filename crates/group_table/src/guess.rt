@@ -1,6 +1,6 @@
 // Guesses at the places of keys in a table.
 use crate::reads::{Seen, see_key};
-use leaf_model::{Group, Key, Text};
+use leaf_model::{Group, Key, LentTexts};
 use std::alloc::{AllocError, Global};
 
 fn mix_word(mixed: u64, word: u64) -> u64 {
@@ -33,10 +33,12 @@ fn mix_text(mixed: u64, text: &str) -> u64 {
 }
 
 /// Text by text, and how many there are.
-fn mix_texts(mixed: u64, texts: &[Text]) -> u64 {
+fn mix_texts(mixed: u64, texts: &LentTexts) -> u64 {
     let mut mixed = mixed;
-    for text in texts {
-        mixed = mix_text(mixed, text.as_str());
+    let mut left = *texts;
+    while let Some((text, others)) = left.split_first() {
+        mixed = mix_text(mixed, text);
+        left = others;
     }
     mix_word(mixed, texts.len() as u64)
 }
@@ -45,8 +47,8 @@ fn mix(mixed: u64, seen: Seen) -> u64 {
     match seen {
         Seen::Missing => mix_word(mixed, 1),
         Seen::Int(n) => mix_word(mixed, u64::from_le_bytes(n.to_le_bytes())),
-        Seen::Text(text) => mix_text(mixed, text.as_str()),
-        Seen::Set(members) => mix_texts(mixed, members.as_slice()),
+        Seen::Text(text) => mix_text(mixed, text),
+        Seen::Set(members) => mix_texts(mixed, &members),
     }
 }
 

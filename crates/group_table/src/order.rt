@@ -27,14 +27,14 @@ fn compare_seen(a: Seen, b: Seen) -> Ordering
         Seen::Text(t) => match b {
             Seen::Missing => Ordering::Greater,
             Seen::Int(_m) => Ordering::Greater,
-            Seen::Text(u) => t.as_str().cmp(u.as_str()),
+            Seen::Text(u) => t.cmp(u),
             Seen::Set(_n) => Ordering::Less,
         },
         Seen::Set(members) => match b {
             Seen::Missing => Ordering::Greater,
             Seen::Int(_m) => Ordering::Greater,
             Seen::Text(_u) => Ordering::Greater,
-            Seen::Set(others) => members.compare(others),
+            Seen::Set(others) => members.compare(&others),
         },
     }
 }

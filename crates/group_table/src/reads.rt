@@ -2,9 +2,12 @@ ghost use Rattle.std.specs.Prelude.{◌≡◌, IfOk, option_and_then, map, Some,
 ghost use Rattle.std.specs.List.{list_all};
 ghost use Rattle.leaf_model.specs.Groups.{cell_value, value_of, op_accepts, set_accepts, cond_accepts, passes, key_of, as_int};
 ghost use Rattle.leaf_model.specs.Values.{time_name};
+ghost use Rattle.leaf_model.specs.Lent.{lent_cells, lent_row, lent_texts, lent_value};
 ghost use Rattle.group_table.specs.Reads.{seen_value, seen_key};
 
-use leaf_model::{Cell, Cond, Key, Keys, Op, Query, Row, Text, Texts, Value};
+use leaf_model::{
+    Cond, Key, Keys, LentCells, LentRow, LentTexts, LentValue, Op, Query, Text, Value,
+};
 use std::alloc::{AllocError, Global};
 use std::cmp::Ordering;
 
@@ -13,8 +16,8 @@ use std::cmp::Ordering;
 pub enum Seen<'a> {
     Missing,
     Int(i64),
-    Text(&'a Text),
-    Set(&'a Texts),
+    Text(&'a str),
+    Set(LentTexts<'a>),
 }
 
 fn is_time(name: &Text) -> bool
@@ -23,35 +26,37 @@ fn is_time(name: &Text) -> bool
     name.as_str() == "time"
 }
 
-fn seen_cell<'a>(name: &Text, cells: &'a [Cell]) -> Seen<'a>
-    ensures { seen_value result ≡ cell_value name.now cells.now }
+fn seen_cell<'a>(name: &Text, cells: &LentCells<'a>) -> Seen<'a>
+    ensures { seen_value result ≡ cell_value name.now (lent_cells cells.now) }
 {
-    for cell in cells {
-        if name.as_str() == cell.name.as_str() {
+    let mut left = *cells;
+    while let Some((cell, others)) = left.split_first() {
+        if name.as_str() == cell.name {
             return see(&cell.value);
         }
+        left = others;
     }
     Seen::Missing
 }
 
-fn see<'a>(value: &'a Value) -> Seen<'a>
-    ensures { seen_value result ≡ Some value.now }
+fn see<'a>(value: &LentValue<'a>) -> Seen<'a>
+    ensures { seen_value result ≡ Some (lent_value value.now) }
 {
     match value {
-        Value::Int(n) => Seen::Int(*n),
-        Value::Text(text) => Seen::Text(text),
-        Value::Set(members) => Seen::Set(members),
+        LentValue::Int(n) => Seen::Int(*n),
+        LentValue::Text(text) => Seen::Text(text),
+        LentValue::Set(members) => Seen::Set(*members),
     }
 }
 
 /// The name `time` is the row's time.
-pub fn look<'a>(name: &Text, row: &'a Row) -> Seen<'a>
-    ensures { seen_value result ≡ value_of name.now row.now }
+pub fn look<'a>(name: &Text, row: &LentRow<'a>) -> Seen<'a>
+    ensures { seen_value result ≡ value_of name.now (lent_row row.now) }
 {
     if is_time(name) {
         Seen::Int(row.time)
     } else {
-        seen_cell(name, row.cells.as_slice())
+        seen_cell(name, &row.cells)
     }
 }
 
@@ -70,8 +75,8 @@ pub fn accepts(op: &Op, order: Ordering) -> bool
     }
 }
 
-fn set_accepts(op: &Op, members: &Texts, text: &str) -> bool
-    ensures { result ≡ set_accepts op.now members.now text.now }
+fn set_accepts(op: &Op, members: &LentTexts, text: &str) -> bool
+    ensures { result ≡ set_accepts op.now (lent_texts members.now) text.now }
 {
     match op {
         Op::Has => members.holds(text),
@@ -79,8 +84,8 @@ fn set_accepts(op: &Op, members: &Texts, text: &str) -> bool
     }
 }
 
-fn meets(cond: &Cond, row: &Row) -> bool
-    ensures { result ≡ cond_accepts cond.now (value_of cond.now.name row.now) }
+fn meets(cond: &Cond, row: &LentRow) -> bool
+    ensures { result ≡ cond_accepts cond.now (value_of cond.now.name (lent_row row.now)) }
 {
     match look(&cond.name, row) {
         Seen::Missing => false,
@@ -91,19 +96,19 @@ fn meets(cond: &Cond, row: &Row) -> bool
         },
         Seen::Text(text) => match &cond.value {
             Value::Int(_m) => false,
-            Value::Text(other) => accepts(&cond.op, text.as_str().cmp(other.as_str())),
+            Value::Text(other) => accepts(&cond.op, text.cmp(other.as_str())),
             Value::Set(_members) => false,
         },
         Seen::Set(members) => match &cond.value {
             Value::Int(_m) => false,
-            Value::Text(text) => set_accepts(&cond.op, members, text.as_str()),
+            Value::Text(text) => set_accepts(&cond.op, &members, text.as_str()),
             Value::Set(_others) => false,
         },
     }
 }
 
-fn meets_all(conds: &[Cond], row: &Row) -> bool
-    ensures { result ≡ list_all (λ c. cond_accepts c (value_of c.name row.now)) conds.now }
+fn meets_all(conds: &[Cond], row: &LentRow) -> bool
+    ensures { result ≡ list_all (λ c. cond_accepts c (value_of c.name (lent_row row.now))) conds.now }
 {
     for cond in conds {
         if !meets(cond, row) {
@@ -113,8 +118,8 @@ fn meets_all(conds: &[Cond], row: &Row) -> bool
     true
 }
 
-pub fn is_passing(query: &Query, row: &Row) -> bool
-    ensures { result ≡ passes query.now row.now }
+pub fn is_passing(query: &Query, row: &LentRow) -> bool
+    ensures { result ≡ passes query.now (lent_row row.now) }
 {
     query.from <= row.time && row.time <= query.to && meets_all(query.conds.as_slice(), row)
 }
@@ -122,10 +127,10 @@ pub fn is_passing(query: &Query, row: &Row) -> bool
 /// What a row has under each of the names, in place of what was seen.
 pub fn look_all<'a>(
     names: &[Text],
-    row: &'a Row,
+    row: &LentRow<'a>,
     seen: &mut Vec<Seen<'a>>,
 ) -> Result<(), AllocError>
-    ensures { IfOk result (λ done. map seen_key seen.new.items ≡ map (λ name. key_of (value_of name row.now)) names.now) }
+    ensures { IfOk result (λ done. map seen_key seen.new.items ≡ map (λ name. key_of (value_of name (lent_row row.now))) names.now) }
 {
     seen.clear();
     for name in names {
@@ -141,19 +146,19 @@ pub fn see_key(key: &Key) -> Seen<'_>
     match key {
         Key::Missing => Seen::Missing,
         Key::Int(n) => Seen::Int(*n),
-        Key::Text(text) => Seen::Text(text),
-        Key::Set(members) => Seen::Set(members),
+        Key::Text(text) => Seen::Text(text.as_str()),
+        Key::Set(members) => Seen::Set(LentTexts::of(members)),
     }
 }
 
-fn own_key(seen: Seen) -> Result<Key, AllocError>
+fn own_key(alloc: Global, seen: Seen) -> Result<Key, AllocError>
     ensures { IfOk result (λ k. k ≡ seen_key seen.entry) }
 {
     match seen {
         Seen::Missing => Ok(Key::Missing),
         Seen::Int(n) => Ok(Key::Int(n)),
-        Seen::Text(text) => Ok(Key::Text(text.copy()?)),
-        Seen::Set(members) => Ok(Key::Set(members.copy()?)),
+        Seen::Text(text) => Ok(Key::Text(Text::of(String::from_str(alloc, text)?))),
+        Seen::Set(members) => Ok(Key::Set(members.own(alloc)?)),
     }
 }
 
@@ -162,13 +167,13 @@ pub fn own_keys(alloc: Global, seen: &[Seen]) -> Result<Keys, AllocError>
 {
     let mut keys: Vec<Key> = Vec::with_capacity(alloc, seen.len())?;
     for one in seen {
-        keys.push(own_key(*one)?)?;
+        keys.push(own_key(alloc, *one)?)?;
     }
     Ok(Keys::of(keys))
 }
 
-pub fn int_at(name: &Text, row: &Row) -> Option<i64>
-    ensures { result ≡ option_and_then as_int (value_of name.now row.now) }
+pub fn int_at(name: &Text, row: &LentRow) -> Option<i64>
+    ensures { result ≡ option_and_then as_int (value_of name.now (lent_row row.now)) }
 {
     match look(name, row) {
         Seen::Missing => None,

@@ -1,10 +1,11 @@
 // One row more in an ascending table of groups, in place.
-ghost use Rattle.std.specs.Prelude.{◌≡◌, IfOk, List, [], ◌∷◌, ◌++◌, ◌≤◌, ◌<◌, ◌^◌, length, map, take, drop, true};
+ghost use Rattle.std.specs.Prelude.{◌≡◌, IfOk, List, [], ◌∷◌, ◌++◌, ◌≤◌, ◌<◌, ◌-◌, ◌^◌, length, map, take, drop, true};
 ghost use Rattle.std.specs.List.{AllByRecursion};
 ghost use Rattle.std.specs.Vec.{vec_len};
 ghost use Rattle.leaf_model.specs.declared.groups.Key.{Key};
 ghost use Rattle.leaf_model.specs.declared.groups.Group.{Group};
 ghost use Rattle.leaf_model.specs.Groups.{group_of, fold_of, agg_ints};
+ghost use Rattle.leaf_model.specs.Lent.{lent_row};
 ghost use Rattle.group_table.specs.Reads.{seen_key};
 ghost use Rattle.group_table.specs.Joined.{joined_fold, joined_folds, joined_group, joined, IsWithin, IsFoldWithin};
 ghost use Rattle.group_table.specs.Table.{Ascends, keys_in, is_first, put_first};
@@ -13,7 +14,7 @@ use crate::join::join_fold;
 use crate::order::compare_with;
 use crate::reads::{Seen, own_keys};
 use crate::rows::{fold_row, folds_of_row};
-use leaf_model::{Agg, Fold, Folds, Group, Query, Row};
+use leaf_model::{Agg, Fold, Folds, Group, LentRow, Query};
 use std::alloc::{AllocError, Global};
 use std::cmp::Ordering;
 
@@ -77,19 +78,19 @@ pub fn find(table: &[Group], keys: &[Seen], guess: Option<usize>) -> Place
     }
 }
 
-fn add_cell(mine: &mut Fold, agg: &Agg, row: &Row)
-    requires { IsFoldWithin (2 ^ 62) mine.old }
-    ensures value { mine.new ≡ joined_fold mine.old (fold_of (agg_ints agg.now (row.now ∷ []))) }
-    ensures row { IsFoldWithin 1 (fold_of (agg_ints agg.now (row.now ∷ []))) }
+fn add_cell(mine: &mut Fold, agg: &Agg, row: &LentRow)
+    requires { IsFoldWithin (2 ^ 64 - 2) mine.old }
+    ensures value { mine.new ≡ joined_fold mine.old (fold_of (agg_ints agg.now (lent_row row.now ∷ []))) }
+    ensures row { IsFoldWithin 1 (fold_of (agg_ints agg.now (lent_row row.now ∷ []))) }
 {
     join_fold(mine, &fold_row(agg, row));
 }
 
-fn add_cells(mut folds: Vec<Fold>, aggs: &[Agg], row: &Row) -> Vec<Fold>
+fn add_cells(mut folds: Vec<Fold>, aggs: &[Agg], row: &LentRow) -> Vec<Fold>
     requires same { vec_len folds ≡ length aggs.now }
-    requires within { AllByRecursion (IsFoldWithin (2 ^ 62)) folds.items }
-    ensures value { result.items ≡ joined_folds folds.items (map (λ agg. fold_of (agg_ints agg (row.now ∷ []))) aggs.now) }
-    ensures row { AllByRecursion (IsFoldWithin 1) (map (λ agg. fold_of (agg_ints agg (row.now ∷ []))) aggs.now) }
+    requires within { AllByRecursion (IsFoldWithin (2 ^ 64 - 2)) folds.items }
+    ensures value { result.items ≡ joined_folds folds.items (map (λ agg. fold_of (agg_ints agg (lent_row row.now ∷ []))) aggs.now) }
+    ensures row { AllByRecursion (IsFoldWithin 1) (map (λ agg. fold_of (agg_ints agg (lent_row row.now ∷ []))) aggs.now) }
 {
     let mut i: usize = 0;
     while i < aggs.len() {
@@ -100,11 +101,11 @@ fn add_cells(mut folds: Vec<Fold>, aggs: &[Agg], row: &Row) -> Vec<Fold>
 }
 
 /// A row more in the group of its keys.
-pub fn add_to(alloc: Global, group: &mut Group, query: &Query, row: &Row)
+pub fn add_to(alloc: Global, group: &mut Group, query: &Query, row: &LentRow)
     requires same { length group.old.folds ≡ length query.now.aggs }
-    requires within { IsWithin (2 ^ 62) group.old }
-    ensures value { (ks : List Key) → group.new ≡ joined_group group.old (group_of query.now ks (row.now ∷ [])) }
-    ensures row { (ks : List Key) → IsWithin 1 (group_of query.now ks (row.now ∷ [])) }
+    requires within { IsWithin (2 ^ 64 - 2) group.old }
+    ensures value { (ks : List Key) → group.new ≡ joined_group group.old (group_of query.now ks (lent_row row.now ∷ [])) }
+    ensures row { (ks : List Key) → IsWithin 1 (group_of query.now ks (lent_row row.now ∷ [])) }
 {
     let folds = std::mem::replace(&mut group.folds, Folds::of(Vec::new(alloc)));
     group.count += 1;
@@ -118,15 +119,15 @@ pub fn put_row(
     mut table: Vec<Group>,
     place: Place,
     keys: &[Seen],
-    row: &Row,
+    row: &LentRow,
 ) -> Result<Vec<Group>, AllocError>
     requires bound { place.at ≤ vec_len table }
     requires there { place.is_there ≡ is_first (map seen_key keys.now) (drop place.at table.items) }
     requires inside { place.is_there ≡ true → place.at < vec_len table }
     requires same { AllByRecursion (λ (g : Group). length g.folds ≡ length query.now.aggs) table.items }
-    requires within { AllByRecursion (IsWithin (2 ^ 62)) table.items }
-    ensures value { IfOk result (λ gs. gs.items ≡ take place.at table.items ++ put_first (group_of query.now (map seen_key keys.now) (row.now ∷ [])) (drop place.at table.items)) }
-    ensures row { IfOk result (λ gs. AllByRecursion (IsWithin 1) (group_of query.now (map seen_key keys.now) (row.now ∷ []) ∷ [])) }
+    requires within { AllByRecursion (IsWithin (2 ^ 64 - 2)) table.items }
+    ensures value { IfOk result (λ gs. gs.items ≡ take place.at table.items ++ put_first (group_of query.now (map seen_key keys.now) (lent_row row.now ∷ [])) (drop place.at table.items)) }
+    ensures row { IfOk result (λ gs. AllByRecursion (IsWithin 1) (group_of query.now (map seen_key keys.now) (lent_row row.now ∷ []) ∷ [])) }
 {
     if place.is_there {
         add_to(alloc, &mut table[place.at], query, row);

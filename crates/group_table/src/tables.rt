@@ -1,8 +1,9 @@
 // The groups of the rows so far, in two ascending tables: a row's keys are new seldom, and a large table is dear to shift.
-ghost use Rattle.std.specs.Prelude.{◌≡◌, IfOk, List, [], ◌∷◌, ◌+◌, ◌^◌, ℕ};
+ghost use Rattle.std.specs.Prelude.{◌≡◌, IfOk, List, [], ◌∷◌, ◌+◌, ◌-◌, ◌^◌, ℕ};
 ghost use Rattle.std.specs.List.{AllByRecursion};
 ghost use Rattle.leaf_model.specs.declared.queries.Query.{Query};
 ghost use Rattle.leaf_model.specs.Groups.{groups};
+ghost use Rattle.leaf_model.specs.Lent.{lent_row};
 ghost use Rattle.group_table.specs.Joined.{joined, FitsGroup, IsWithin};
 ghost use Rattle.group_table.specs.Split.{IsSplit};
 
@@ -10,7 +11,7 @@ use crate::guess::{Guesses, mix_seen};
 use crate::join::join_tables;
 use crate::reads::{Seen, is_passing, look_all};
 use crate::table::{add_to, find, place_of, put_row};
-use leaf_model::{Group, Groups, Query, Row};
+use leaf_model::{Group, Groups, LentRow, Query};
 use std::alloc::{AllocError, Global};
 
 /// A table that no group is put into, and one for the rows whose keys were not found there.
@@ -42,7 +43,7 @@ impl Guessed {
 
     /// A settled table is dear to make again where it is large, and a fresh one to shift.
     fn is_due(&self, settled: usize, most: usize) -> bool {
-        self.missed >= settled.max(64).min(most).max(settled / 32)
+        self.missed >= settled.max(64).min(most).max(settled / 8)
     }
 }
 
@@ -53,10 +54,10 @@ pub fn add_row<'a>(
     mut tables: Tables,
     guessed: &mut Guessed,
     keys: &mut Vec<Seen<'a>>,
-    row: &'a Row,
+    row: &LentRow<'a>,
 ) -> Result<Tables, AllocError>
-    requires { IsSplit (2 ^ 62) query.now tables.settled.items tables.fresh.items }
-    ensures value { IfOk result (λ ts. joined ts.settled.items ts.fresh.items ≡ joined (joined tables.settled.items tables.fresh.items) (groups query.now (row.now ∷ []))) }
+    requires { IsSplit (2 ^ 64 - 2) query.now tables.settled.items tables.fresh.items }
+    ensures value { IfOk result (λ ts. joined ts.settled.items ts.fresh.items ≡ joined (joined tables.settled.items tables.fresh.items) (groups query.now (lent_row row.now ∷ []))) }
     ensures split { IfOk result (λ ts. (n : ℕ) → IsSplit n query.now tables.settled.items tables.fresh.items → IsSplit (n + 1) query.now ts.settled.items ts.fresh.items) }
 {
     if !is_passing(query, row) {

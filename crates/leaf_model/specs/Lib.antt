@@ -3,3 +3,8 @@ pub mod Sets
 pub mod Content
 pub mod Groups
 pub mod Names
+pub mod Bytes
+pub mod Reading
+pub mod Fronts
+pub mod Lent
+pub mod Packed

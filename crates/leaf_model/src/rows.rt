@@ -1,5 +1,5 @@
 // Rows: a time, and cells in the order of their names.
-ghost use Rattle.std.specs.Prelude.{◌≡◌, ◌≤◌, length, IfOk};
+ghost use Rattle.std.specs.Prelude.{◌≡◌, IfOk};
 
 use crate::text::{Text, Texts};
 use std::alloc::AllocError;
@@ -104,88 +104,5 @@ impl Row {
             time: self.time,
             cells: self.cells.copy()?,
         })
-    }
-}
-
-/// The rows of one add, at most 100,000. Contracts see them as the list.
-#[derive(Drop)]
-pub struct Rows {
-    inner: Vec<Row>,
-}
-
-impl Model for Rows {
-    ghost use Rattle.std.specs.Prelude.{List, ◌≤◌, length};
-    ghost use Rattle.leaf_model.specs.declared.rows.Row.{Row};
-
-    ghost Value = { List Row };
-
-    ghost view = { λ list. list.inner.items };
-
-    ghost invariant = { λ list. length list.inner.items ≤ 100000 };
-}
-
-impl Rows {
-    pub fn of(inner: Vec<Row>) -> Rows
-        requires { length inner.items ≤ 100000 }
-        ensures { result ≡ inner.items }
-    {
-        Rows { inner }
-    }
-
-    pub fn as_slice(&self) -> &[Row]
-        ensures { result.now ≡ self.now }
-    {
-        self.inner.as_slice()
-    }
-
-    pub fn into_inner(self) -> Vec<Row>
-        ensures { result.items ≡ self }
-    {
-        self.inner
-    }
-
-    pub fn copy(&self) -> Result<Rows, AllocError>
-        ensures { IfOk result (λ copy. copy ≡ self.now) }
-    {
-        let mut inner: Vec<Row> = Vec::new(*self.inner.allocator());
-        for item in self.inner.as_slice() {
-            inner.push(item.copy()?)?;
-        }
-        Ok(Rows { inner })
-    }
-}
-
-/// The rows of a table in order of arrival, of any number. Contracts see them as the list.
-#[derive(Drop)]
-pub struct TableRows {
-    inner: Vec<Row>,
-}
-
-impl Model for TableRows {
-    ghost use Rattle.std.specs.Prelude.{List};
-    ghost use Rattle.leaf_model.specs.declared.rows.Row.{Row};
-
-    ghost Value = { List Row };
-
-    ghost view = { λ list. list.inner.items };
-}
-
-impl TableRows {
-    pub fn of(inner: Vec<Row>) -> TableRows
-        ensures { result ≡ inner.items }
-    {
-        TableRows { inner }
-    }
-
-    pub fn as_slice(&self) -> &[Row]
-        ensures { result.now ≡ self.now }
-    {
-        self.inner.as_slice()
-    }
-
-    pub fn into_inner(self) -> Vec<Row>
-        ensures { result.items ≡ self }
-    {
-        self.inner
     }
 }

@@ -1,7 +1,7 @@
 // Writes: what changes a table.
 ghost use Rattle.std.specs.Prelude.{◌≡◌};
 
-use crate::rows::Rows;
+use crate::add_rows::Rows;
 use std::marker::Model;
 
 /// What changes a table: rows that are added, a horizon below which rows expire, or how many of the last rows to keep.

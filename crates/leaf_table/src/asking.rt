@@ -34,7 +34,7 @@ pub(crate) fn groups_of<L: Ledger, R: Threads + Sync>(
         alloc,
         query,
         table.blocks(),
-        table.tail_rows(),
+        &table.tail_rows(),
         table.skip(),
         table.horizon(),
         &mut steps,

@@ -5,8 +5,8 @@ use Rattle.std.specs.List.{flat_map}
 use Rattle.std.proofs.lemmas.Bool.{eqb-true, lt-ltb}
 use Rattle.std.proofs.lemmas.List.{drop_more, drop_all}
 use Rattle.std.proofs.lemmas.List.Concat.{flat_map-cons}
-use Rattle.row_records.specs.Reading.{◌>>=◌}
-use Rattle.row_records.proofs.Fields.{bind_some, held, some_is}
+use Rattle.leaf_model.specs.Reading.{◌>>=◌}
+use Rattle.leaf_model.proofs.Fields.{bind_some, held, some_is}
 use Rattle.region_layout.specs.declared.directory.Place.{Place}
 use Rattle.region_layout.specs.declared.directory.TablePlaces.{TablePlaces}
 use Rattle.region_layout.specs.declared.directory.BlockPlaces.{BlockPlaces}

@@ -1,8 +1,8 @@
 -- What was read, where it keeps its rules.
 use Rattle.std.proofs.Common.{◌≡◌, ℕ, ◌<◌, ◌^◌, Bool, true, false, cond, List, Option, Some, None, refl, sym, ap, subst, ◌∙◌}
 use Rattle.std.specs.Prelude.{IfSome}
-use Rattle.row_records.specs.Bytes.{IsBytes}
-use Rattle.row_records.proofs.Fields.{some_is}
+use Rattle.leaf_model.specs.Bytes.{IsBytes}
+use Rattle.leaf_model.proofs.Fields.{some_is}
 use Rattle.region_layout.specs.declared.directory.Directory.{Directory}
 use Rattle.region_layout.specs.Directory.{directory_at, IsDirectory}
 use Rattle.region_layout.specs.Tests.{is_directory}

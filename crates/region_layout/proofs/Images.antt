@@ -1,6 +1,6 @@
 -- Images of the same bytes are one, and their tables have distinct names.
 use Rattle.std.proofs.Common.{◌≡◌, ℕ, List, map, drop, sym, ap, ◌∙◌}
-use Rattle.row_records.proofs.Fields.{some_is}
+use Rattle.leaf_model.proofs.Fields.{some_is}
 use Rattle.region_layout.specs.Images.{TableImage}
 use Rattle.region_layout.specs.Head.{IsClosed}
 use Rattle.region_layout.proofs.Heads.{closed_head}

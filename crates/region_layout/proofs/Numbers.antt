@@ -2,9 +2,9 @@
 use Rattle.std.proofs.Common.{◌≡◌, ℕ, ◌^◌, ◌<◌, cond, ltb, List, ◌++◌, Some, None, refl, subst, arith}
 use Rattle.std.specs.Int.{w64}
 use Rattle.std.proofs.lemmas.Bool.{ltb-true, lt-ltb}
-use Rattle.row_records.specs.Bytes.{u64_bytes, IsBytes}
-use Rattle.row_records.specs.Reading.{number_at}
-use Rattle.row_records.proofs.Fields.{bind_some, held, some_is, Takes, wide64, number_takes, number_again}
+use Rattle.leaf_model.specs.Bytes.{u64_bytes, IsBytes}
+use Rattle.leaf_model.specs.Reading.{number_at}
+use Rattle.leaf_model.proofs.Fields.{bind_some, held, some_is, Takes, wide64, number_takes, number_again}
 use Rattle.region_layout.specs.Reading.{below_2_63_at}
 
 pub low_takes : (bytes : List ℕ) (x : ℕ × List ℕ) → IsBytes bytes → below_2_63_at bytes ≡ Some x → Takes bytes (u64_bytes x.0) x.1 × (x.0 < 2 ^ 63)

@@ -2,11 +2,12 @@
 use Rattle.std.proofs.Common.{◌≡◌, ℕ, zero, suc, ◌-◌, ◌+◌, ◌≤◌, ◌<◌, List, [], ◌∷◌, ◌++◌, length, Option, Some, None, refl, ap, subst, ◌∙◌, append_assoc, length-append, arith}
 use Rattle.std.specs.List.{flat_map, AllByRecursion}
 use Rattle.std.proofs.lemmas.List.Concat.{flat_map-cons}
-use Rattle.row_records.specs.Bytes.{IsBytes}
+use Rattle.leaf_model.specs.Bytes.{IsBytes}
 use Rattle.row_records.specs.declared.fault.ReadError.{ReadError}
 use Rattle.row_records.specs.declared.fault.ReadError.TheVariants as errors
-use Rattle.row_records.specs.Reading.{◌>>=◌, ReadFails, many_at}
-use Rattle.row_records.proofs.Fields.{bind_some, some_is, Takes, Takes-then}
+use Rattle.leaf_model.specs.Reading.{◌>>=◌, many_at}
+use Rattle.row_records.specs.Reading.{ReadFails}
+use Rattle.leaf_model.proofs.Fields.{bind_some, some_is, Takes, Takes-then}
 use Rattle.row_records.proofs.Loop.{with_first, one_more, no_more}
 
 -- no items, and the bytes

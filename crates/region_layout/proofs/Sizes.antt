@@ -3,8 +3,8 @@ use Rattle.std.proofs.Common.{◌≡◌, ℕ, ◌+◌, ◌*◌, ◌/◌, ◌≤�
 use Rattle.std.specs.List.{flat_map, sum, AllByRecursion}
 use Rattle.std.proofs.lemmas.List.Concat.{flat_map-cons}
 use Rattle.std.proofs.lemmas.List.Sums.{sum-map, sum_by-cons}
-use Rattle.row_records.specs.Bytes.{i64_bytes, u32_bytes, u64_bytes, IsBytes}
-use Rattle.row_records.specs.Reading.{many_at}
+use Rattle.leaf_model.specs.Bytes.{i64_bytes, u32_bytes, u64_bytes, IsBytes}
+use Rattle.leaf_model.specs.Reading.{many_at}
 use Rattle.region_layout.specs.declared.directory.Place.{Place}
 use Rattle.region_layout.specs.declared.directory.BlockPlaces.{BlockPlaces}
 use Rattle.region_layout.specs.declared.directory.TablePlaces.{TablePlaces}

@@ -6,7 +6,7 @@ use Rattle.std.specs.List.Sorted.{IsSortedByKey}
 use Rattle.std.specs.Int.{w32, w64}
 use Rattle.leaf_model.specs.Values.{IsCellName, IsTime, time_name}
 use Rattle.leaf_model.specs.Groups.{text_cmp}
-use Rattle.row_records.specs.Reading.{◌>>=◌, byte_at, many_at, number_at, name_at, time_at}
+use Rattle.leaf_model.specs.Reading.{◌>>=◌, byte_at, many_at, number_at, name_at, time_at}
 use Rattle.region_layout.specs.Names.{IsName}
 use Rattle.region_layout.specs.Reading.{below_2_63_at}
 use Rattle.leaf_model.specs.Names.{AreDistinct}

@@ -1,7 +1,7 @@
 -- Reading from left to right: a field is a value and the bytes after it, or nothing.
 use Rattle.std.specs.Prelude.{ℕ, ◌^◌, List, nat_lt, if◌then◌else◌, Option, Some, None}
 use Rattle.std.specs.Int.{w64}
-use Rattle.row_records.specs.Reading.{◌>>=◌, number_at}
+use Rattle.leaf_model.specs.Reading.{◌>>=◌, number_at}
 
 -- a number below 2^63
 unfoldable pub below_2_63_at : List ℕ → Option (ℕ × List ℕ)

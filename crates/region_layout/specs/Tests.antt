@@ -7,7 +7,7 @@ use Rattle.std.specs.Ordering.{is_gt}
 use Rattle.leaf_model.specs.Values.{time_name}
 use Rattle.leaf_model.specs.Groups.{text_cmp}
 use Rattle.leaf_model.specs.Names.{are_distinct}
-use Rattle.row_records.specs.Reading.{◌>>=◌}
+use Rattle.leaf_model.specs.Reading.{◌>>=◌}
 use Rattle.region_layout.specs.declared.directory.Place.{Place}
 use Rattle.region_layout.specs.declared.directory.BlockPlaces.{BlockPlaces}
 use Rattle.region_layout.specs.declared.directory.TablePlaces.{TablePlaces}

@@ -3,7 +3,7 @@ use Rattle.std.specs.Prelude.{ℕ, ◌<◌, ◌≤◌, ◌^◌, List, ◌∷◌,
 use Rattle.std.specs.Prelude as prelude
 use Rattle.std.specs.List.{AllByRecursion, flat_map}
 use Rattle.leaf_model.specs.Values.{IsTime}
-use Rattle.row_records.specs.Bytes.{name_bytes, u32_bytes, u64_bytes, i64_bytes}
+use Rattle.leaf_model.specs.Bytes.{name_bytes, u32_bytes, u64_bytes, i64_bytes}
 use Rattle.region_layout.specs.Names.{IsName}
 use Rattle.region_layout.specs.declared.directory.Place.{Place}
 use Rattle.region_layout.specs.declared.directory.BlockPlaces.{BlockPlaces}

@@ -2,7 +2,8 @@
 ghost use Rattle.std.specs.Prelude.{◌≡◌, ◌*◌, ◌<◌, length, Err};
 ghost use Rattle.std.specs.Int.{w32};
 ghost use Rattle.row_records.specs.declared.fault.ReadError.TheVariants.{Broken};
-ghost use Rattle.row_records.specs.Reading.{ReadsAs, many_at, number_at};
+ghost use Rattle.leaf_model.specs.Reading.{many_at, number_at};
+ghost use Rattle.row_records.specs.Reading.{ReadsAs};
 ghost use Rattle.region_layout.specs.Reading.{below_2_63_at};
 ghost use Rattle.region_layout.specs.Directory.{place_at, block_at, table_at, directory_at};
 

@@ -1,7 +1,7 @@
 // A directory as bytes, at the end of what was written before.
 ghost use Rattle.std.specs.Prelude.{◌≡◌, ◌≤◌, ◌++◌, length, OnOk};
 ghost use Rattle.std.specs.List.{flat_map, AllByRecursion};
-ghost use Rattle.row_records.specs.Bytes.{name_bytes, i64_bytes, u32_bytes, u64_bytes};
+ghost use Rattle.leaf_model.specs.Bytes.{name_bytes, i64_bytes, u32_bytes, u64_bytes};
 ghost use Rattle.region_layout.specs.Written.{place_bytes, block_bytes, table_bytes, directory_bytes, PlaceFits, BlockFits, TableFits, MayBeWritten};
 
 use crate::directory::{BlockPlaces, Directory, Place, TablePlaces};

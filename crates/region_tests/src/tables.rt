@@ -5,7 +5,7 @@ ghost use Rattle.leaf_model.specs.Values.{IsRow};
 ghost use Rattle.region_layout.specs.Names.{IsName};
 ghost use Rattle.table_state.specs.Tables.{IsParts};
 
-use leaf_model::{Cell, Row, Rows, Text, Value, Write};
+use leaf_model::{Cell, PackedRows, Row, Rows, Text, Value, Write};
 use region_layout::DrainTable;
 use row_records::read_rows;
 use std::alloc::{AllocError, Global};
@@ -18,7 +18,7 @@ fn rows_of(alloc: Global, bytes: &[u8], count: u64) -> Result<Rows, AllocError>
 {
     match read_rows(alloc, bytes, count)? {
         Some((rows, _taken)) => Ok(Rows::of(rows)),
-        None => Ok(Rows::of(Vec::new(alloc))),
+        None => Ok(Rows::of(PackedRows::new(alloc))),
     }
 }
 

@@ -1,5 +1,5 @@
 -- Of cells in the order of their headings, those at the front under one heading are a column, and what stands behind them is left of the rows.
-use Rattle.std.proofs.Common.{◌≡◌, ◌⊎◌, inl, inr, ℕ, zero, suc, ◌+◌, ◌-◌, ◌<◌, ◌≤◌, Bool, true, false, List, [], ◌∷◌, ◌++◌, length, map, take, drop, set, cond, slice_index_or, Option, Some, None, option_map, if◌then◌else◌, refl, sym, ap, subst, ◌∙◌, Bor, arith, eq-eqb, eqb-true}
+use Rattle.std.proofs.Common.{◌≡◌, ◌⊎◌, inl, inr, ℕ, zero, suc, ◌+◌, ◌-◌, ◌<◌, ◌≤◌, Bool, true, false, List, [], ◌∷◌, ◌++◌, length, map, take, drop, set, cond, slice_index_or, Option, Some, None, option_map, if◌then◌else◌, refl, sym, ap, subst, ◌∙◌, arith, eq-eqb, eqb-true}
 use Rattle.std.specs.List.{All, AllByRecursion, filter, last_or, prefix_len}
 use Rattle.std.specs.List.Sorted.{IsStrictlySortedBy}
 use Rattle.std.specs.Cmp.Lexicographic.{slice_cmp}
@@ -14,7 +14,8 @@ use Rattle.std.proofs.lemmas.List.Elements.{All-from_recursion, All-take, filter
 use Rattle.std.proofs.lemmas.List.Sums.{prefix_len-le-length}
 use Rattle.leaf_model.specs.declared.rows.Value.{Value}
 use Rattle.leaf_model.specs.declared.rows.Cell.{Cell}
-use Rattle.column_bytes.specs.Cells.{lent_value, values_of}
+use Rattle.leaf_model.specs.declared.lent_cells.LentValue.{LentValue}
+use Rattle.leaf_model.specs.Lent.{each_value, lent_cell, lent_value}
 use Rattle.column_bytes.specs.Coding.{AreOfKind}
 use Rattle.row_blocks.specs.declared.runs.PlacedCell.{PlacedCell}
 use Rattle.leaf_model.specs.declared.rows.Row.{Row}
@@ -30,20 +31,20 @@ use Rattle.row_blocks.proofs.Order.{exact_heading, heading_total}
 use Rattle.row_blocks.proofs.Taking.{AreCells, after_name, all_taken, fronts_are_of_kind, one_more_taken, rest_are}
 
 abbrev pub cell_in : PlacedCell → Cell
-cell_in p = p.cell.now
+cell_in p = lent_cell p.cell
 
 abbrev pub heading_at : PlacedCell → Heading
-heading_at p = heading_of p.cell.now
+heading_at p = heading_of (lent_cell p.cell)
 
 -- ---- the cells of one row
 
 pub row_cells-append : (i : ℕ) (ps qs : List PlacedCell) → row_cells i (ps ++ qs) ≡ row_cells i ps ++ row_cells i qs
 row_cells-append i ps qs = ap (map cell_in) (filter-append (is_at i) ps qs) ∙ map-append cell_in (filter (is_at i) ps) (filter (is_at i) qs)
 
-row_cells-front : (p : PlacedCell) (ps : List PlacedCell) → row_cells p.place (p ∷ ps) ≡ p.cell.now ∷ row_cells p.place ps
+row_cells-front : (p : PlacedCell) (ps : List PlacedCell) → row_cells p.place (p ∷ ps) ≡ lent_cell p.cell ∷ row_cells p.place ps
 row_cells-front p ps = ap (λ (b : Bool). map cell_in (cond b (p ∷ filter (is_at p.place) ps) (filter (is_at p.place) ps))) (eq-eqb p.place p.place refl)
 
-pub each_cell : (P : Cell → Type 0) (i : ℕ) (ps : List PlacedCell) → AllByRecursion (λ (p : PlacedCell). P p.cell.now) ps → AllByRecursion P (row_cells i ps)
+pub each_cell : (P : Cell → Type 0) (i : ℕ) (ps : List PlacedCell) → AllByRecursion (λ (p : PlacedCell). P (lent_cell p.cell)) ps → AllByRecursion P (row_cells i ps)
 each_cell P i [] all = tt
 each_cell P i (p ∷ ps) all = by (is_at i p) (each_cell P i ps all.1)
   where
@@ -57,14 +58,14 @@ last_or_push : {A : Type 0} (o : Option A) (xs : List A) (x : A) → last_or o (
 last_or_push o [] x = refl
 last_or_push o (y ∷ xs) x = last_or_push (Some y) xs x
 
-abbrev ValuesAre : List (Option (Bor Value)) → List PlacedCell → ℕ → Type 0
+abbrev ValuesAre : List (Option LentValue) → List PlacedCell → ℕ → Type 0
 ValuesAre values cells i = option_map lent_value (slice_index_or values i None) ≡ last_value (row_cells i cells)
 
-pub one_more_lent : (values : List (Option (Bor Value))) (done all : List PlacedCell) (p : PlacedCell) (value : Bor Value) → all ≡ done ++ p ∷ []
-    → value.now ≡ p.cell.now.value → p.place < length values → (i : ℕ) → ValuesAre values done i → ValuesAre (set values p.place (Some value)) all i
+pub one_more_lent : (values : List (Option LentValue)) (done all : List PlacedCell) (p : PlacedCell) (value : LentValue) → all ≡ done ++ p ∷ []
+    → lent_value value ≡ (lent_cell p.cell).value → p.place < length values → (i : ℕ) → ValuesAre values done i → ValuesAre (set values p.place (Some value)) all i
 one_more_lent values done all p value all_are value_is within i before = by (is_at i p) refl
   where
-    here : option_map lent_value (slice_index_or (set values p.place (Some value)) p.place None) ≡ Some p.cell.now.value
+    here : option_map lent_value (slice_index_or (set values p.place (Some value)) p.place None) ≡ Some (lent_cell p.cell).value
     here = ap (option_map lent_value) (get_or-set_same values p.place (Some value) None within) ∙ ap (λ (v : Value). Some v) value_is
 
     more : row_cells i all ≡ row_cells i done ++ map cell_in (cond (is_at i p) (p ∷ []) [])
@@ -73,8 +74,8 @@ one_more_lent values done all p value all_are value_is within i before = by (is_
     by : (b : Bool) → is_at i p ≡ b → ValuesAre (set values p.place (Some value)) all i
     by true e =
         ap (λ (k : ℕ). option_map lent_value (slice_index_or (set values p.place (Some value)) k None)) (sym (eqb-true p.place i e)) ∙ here
-        ∙ sym (last_or_push None (map (λ (c : Cell). c.value) (row_cells i done)) p.cell.now.value)
-        ∙ ap (last_or None) (sym (map-append (λ (c : Cell). c.value) (row_cells i done) (p.cell.now ∷ [])))
+        ∙ sym (last_or_push None (map (λ (c : Cell). c.value) (row_cells i done)) (lent_cell p.cell).value)
+        ∙ ap (last_or None) (sym (map-append (λ (c : Cell). c.value) (row_cells i done) (lent_cell p.cell ∷ [])))
         ∙ ap last_value (ap (λ (b : Bool). row_cells i done ++ map cell_in (cond b (p ∷ []) [])) (sym e) ∙ sym more)
     by false e =
         ap (option_map lent_value) (get_or-set_other values p.place i (Some value) None (λ (same : i ≡ p.place). let both : true ≡ false = sym (eq-eqb p.place i (sym same)) ∙ e in absurd cc))
@@ -83,10 +84,10 @@ one_more_lent values done all p value all_are value_is within i before = by (is_
 
 -- ---- cells that rise
 
-name_before : (p q : PlacedCell) → slice_cmp nat_cmp p.cell.now.name q.cell.now.name ≡ Less → comes_before q p ≡ false
-name_before p q e = ap is_lt (heading_total.antisymm (heading_at q) (heading_at p) ∙ ap ordering_reverse (after_name p.cell.now q.cell.now e))
+name_before : (p q : PlacedCell) → slice_cmp nat_cmp (lent_cell p.cell).name (lent_cell q.cell).name ≡ Less → comes_before q p ≡ false
+name_before p q e = ap is_lt (heading_total.antisymm (heading_at q) (heading_at p) ∙ ap ordering_reverse (after_name (lent_cell p.cell) (lent_cell q.cell) e))
 
-names_before : (p : PlacedCell) (ps : List PlacedCell) → AllByRecursion (λ (name : List ℕ). slice_cmp nat_cmp p.cell.now.name name ≡ Less) (names_of (map cell_in ps))
+names_before : (p : PlacedCell) (ps : List PlacedCell) → AllByRecursion (λ (name : List ℕ). slice_cmp nat_cmp (lent_cell p.cell).name name ≡ Less) (names_of (map cell_in ps))
     → AllByRecursion (λ q. comes_before q p ≡ false) ps
 names_before p [] up = tt
 names_before p (q ∷ ps) up = (name_before p q up.0, names_before p ps up.1)
@@ -120,16 +121,16 @@ all_still_before h p (q ∷ ps) before up = (still_before h p q before up.0, all
 abbrev NotBehind : Heading → Cell → Type 0
 NotBehind h c = heading_cmp h (heading_of c) ≡ Greater → ⊥
 
-not_behind : (p q : PlacedCell) → comes_before q p ≡ false → NotBehind (heading_at p) q.cell.now
+not_behind : (p q : PlacedCell) → comes_before q p ≡ false → NotBehind (heading_at p) (lent_cell q.cell)
 not_behind p q up e =
     let both : true ≡ false = sym (ap is_lt (heading_total.antisymm (heading_at q) (heading_at p) ∙ ap ordering_reverse e)) ∙ up in
     absurd cc
 
-none_behind : (p : PlacedCell) (ps : List PlacedCell) → AllByRecursion (λ q. comes_before q p ≡ false) ps → AllByRecursion (λ (q : PlacedCell). NotBehind (heading_at p) q.cell.now) ps
+none_behind : (p : PlacedCell) (ps : List PlacedCell) → AllByRecursion (λ q. comes_before q p ≡ false) ps → AllByRecursion (λ (q : PlacedCell). NotBehind (heading_at p) (lent_cell q.cell)) ps
 none_behind p [] up = tt
 none_behind p (q ∷ ps) up = (not_behind p q up.0, none_behind p ps up.1)
 
-pub first_earliest : (p : PlacedCell) (ps : List PlacedCell) → Rise (p ∷ ps) → AllByRecursion (λ (q : PlacedCell). NotBehind (heading_at p) q.cell.now) (p ∷ ps)
+pub first_earliest : (p : PlacedCell) (ps : List PlacedCell) → Rise (p ∷ ps) → AllByRecursion (λ (q : PlacedCell). NotBehind (heading_at p) (lent_cell q.cell)) (p ∷ ps)
 first_earliest p ps rise =
     ((λ e. let both : Equal ≡ Greater = sym (tied_itself heading_total (heading_at p)) ∙ e in absurd cc), none_behind p ps rise.0)
 
@@ -149,7 +150,7 @@ run_alike h (p ∷ ps) = by (heading_cmp h (heading_at p)) refl (run_alike h ps)
         subst (λ (n : ℕ). AllByRecursion (λ (q : PlacedCell). heading_cmp h (heading_at q) ≡ Equal) (take n (p ∷ ps))) (next (prefix_len (comes_under h) ps)) (e, others)
     by Greater e others = tt
 
-pub behind_later : (h : Heading) (ps : List PlacedCell) → Rise ps → AllByRecursion (λ (p : PlacedCell). NotBehind h p.cell.now) ps
+pub behind_later : (h : Heading) (ps : List PlacedCell) → Rise ps → AllByRecursion (λ (p : PlacedCell). NotBehind h (lent_cell p.cell)) ps
     → AllByRecursion (λ (p : PlacedCell). heading_cmp h (heading_at p) ≡ Less) (drop (prefix_len (comes_under h) ps) ps)
 behind_later h [] rise all = tt
 behind_later h (p ∷ ps) rise all = by (heading_cmp h (heading_at p)) refl (behind_later h ps rise.1 all.1)
@@ -228,11 +229,11 @@ module _ (rests : List (List Cell)) (p : PlacedCell) (ps : List PlacedCell) (are
       by [] all = tt
       by (c ∷ cells) all = all.0
 
-  begins : BeginsWith p.cell.now (slice_index_or rests p.place [])
-  begins = subst (BeginsWith p.cell.now) (sym (row_cells-front p ps) ∙ hold p.place) refl
+  begins : BeginsWith (lent_cell p.cell) (slice_index_or rests p.place [])
+  begins = subst (BeginsWith (lent_cell p.cell)) (sym (row_cells-front p ps) ∙ hold p.place) refl
 
-  pub is_earliest : IsEarliest (Some p.cell.now) rests
-  is_earliest = ((p.place, begins_inside p.cell.now rests p.place begins, begins), λ i within. not_before i)
+  pub is_earliest : IsEarliest (Some (lent_cell p.cell)) rests
+  is_earliest = ((p.place, begins_inside (lent_cell p.cell) rests p.place begins, begins), λ i within. not_before i)
 
 -- ---- rows and columns
 
@@ -272,7 +273,7 @@ pub record IsRun (rests : List (List Cell)) (p : PlacedCell) (ps : List PlacedCe
   pub few : count ≤ length ps
   pub places : All (λ (q : PlacedCell). q.place < length rests) (take count ps)
   pub values : (i : ℕ) → last_value (row_cells i (take count ps)) ≡ front_value (heading_at p) (slice_index_or rests i [])
-  pub earliest : IsEarliest (Some p.cell.now) rests
+  pub earliest : IsEarliest (Some (lent_cell p.cell)) rests
   pub rise : Rise (drop count ps)
   pub hold : HoldRests (map (rest_after (heading_at p)) rests) (drop count ps)
 
@@ -303,17 +304,17 @@ next_run rows columns cells from count p are left within item counted =
     (subst (λ (l : List PlacedCell). IsRun left.rests p l (prefix_len (comes_under (heading_at p)) l)) (sym split)
     (run_of left.rests p (drop (suc from) cells) each (subst Rise split left.rise) (subst (HoldRests left.rests) split left.hold)))
 
-pub run_values : (rests : List (List Cell)) (p : PlacedCell) (ps : List PlacedCell) (count : ℕ) (values : List (Option (Bor Value))) → IsRun rests p ps count → length values ≡ length rests
-    → ((i : ℕ) → i < length values → option_map lent_value (slice_index_or values i None) ≡ last_value (row_cells i (take count ps))) → values_of values ≡ map (front_value (heading_at p)) rests
+pub run_values : (rests : List (List Cell)) (p : PlacedCell) (ps : List PlacedCell) (count : ℕ) (values : List (Option LentValue)) → IsRun rests p ps count → length values ≡ length rests
+    → ((i : ℕ) → i < length values → option_map lent_value (slice_index_or values i None) ≡ last_value (row_cells i (take count ps))) → each_value values ≡ map (front_value (heading_at p)) rests
 run_values rests p ps count values is same lent =
     let h = heading_at p in
-    let counted : length (values_of values) ≡ length (map (front_value h) rests) = length-map values (option_map lent_value) ∙ same ∙ sym (length-map rests (front_value h)) in
-    same_by_places (values_of values) (map (front_value h) rests) counted (λ k below.
+    let counted : length (each_value values) ≡ length (map (front_value h) rests) = length-map values (option_map lent_value) ∙ same ∙ sym (length-map rests (front_value h)) in
+    same_by_places (each_value values) (map (front_value h) rests) counted (λ k below.
     let here : k < length values = omega (arith, below, length-map values (option_map lent_value)) in
     get_or-map (option_map lent_value) values k None None here ∙ lent k here ∙ is.values k ∙ sym (get_or-map (front_value h) rests k [] None (omega (arith, here, same))))
 
-pub run_kind : (rows : List Row) (columns : List BlockColumn) (ps : List PlacedCell) (p : PlacedCell) (values : List (Option (Bor Value))) → AllByRecursion IsRow rows → (left : AreLeft rows columns ps)
-    → values_of values ≡ map (front_value (heading_at p)) left.rests → AreOfKind (heading_at p).kind (values_of values)
+pub run_kind : (rows : List Row) (columns : List BlockColumn) (ps : List PlacedCell) (p : PlacedCell) (values : List (Option LentValue)) → AllByRecursion IsRow rows → (left : AreLeft rows columns ps)
+    → each_value values ≡ map (front_value (heading_at p)) left.rests → AreOfKind (heading_at p).kind (each_value values)
 run_kind rows columns ps p values are left fronts =
     subst (AreOfKind (heading_at p).kind) (sym fronts) (fronts_are_of_kind (heading_at p) left.rests (λ i within. rests_are rows columns left.rests are left.taken i))
 
@@ -322,7 +323,7 @@ pub run_taken : (rows : List Row) (columns : List BlockColumn) (ps : List Placed
     → AreLeft rows (columns ++ column ∷ []) (drop count ps)
 run_taken rows columns ps p count column are left is head mean cells = record {
   rests = map (rest_after (heading_at p)) left.rests;
-  taken = one_more_taken rows columns left.rests p.cell.now column are left.taken is.earliest head (subst (MeanCells column.bytes) (sym left.taken.same) mean) cells;
+  taken = one_more_taken rows columns left.rests (lent_cell p.cell) column are left.taken is.earliest head (subst (MeanCells column.bytes) (sym left.taken.same) mean) cells;
   rise = is.rise;
   hold = is.hold;
 }

@@ -1,5 +1,5 @@
 -- The values under the earliest heading, one row more.
-use Rattle.std.proofs.Common.{◌≡◌, ℕ, suc, ◌+◌, ◌<◌, ◌≤◌, List, [], ◌∷◌, length, map, set, take, slice_index_or, Option, Some, None, IfSome, option_map, if◌then◌else◌, below_more, refl, sym, ap, ap₂, subst, ◌∙◌, Bor, arith}
+use Rattle.std.proofs.Common.{◌≡◌, ℕ, suc, ◌+◌, ◌<◌, ◌≤◌, List, [], ◌∷◌, length, map, set, take, slice_index_or, Option, Some, None, IfSome, option_map, if◌then◌else◌, below_more, refl, sym, ap, ap₂, subst, ◌∙◌, arith}
 use Rattle.std.specs.Ordering.{is_eq, is_gt}
 use Rattle.std.specs.declared.cmp.Ordering.{Ordering}
 use Rattle.std.specs.declared.cmp.Ordering.TheVariants.{Less, Equal, Greater}
@@ -7,9 +7,12 @@ use Rattle.std.proofs.lemmas.Cmp.{tied_itself}
 use Rattle.std.proofs.lemmas.List.{get_or-map, get_or-set_other, get_or-set_same, get_or-take, length-map, length-set, length-take-le, take_all, take_more}
 use Rattle.leaf_model.specs.declared.rows.Value.{Value}
 use Rattle.leaf_model.specs.declared.rows.Cell.{Cell}
-use Rattle.column_bytes.specs.Cells.{lent_value, values_of}
+use Rattle.leaf_model.specs.declared.lent_cells.LentCell.{LentCell}
+use Rattle.leaf_model.specs.declared.lent_cells.LentCells.{LentCells}
+use Rattle.leaf_model.specs.declared.lent_cells.LentValue.{LentValue}
+use Rattle.leaf_model.specs.Lent.{each_cells, each_value, lent_cell, lent_cells, lent_value}
 use Rattle.row_blocks.specs.Headings.{Heading, heading_of, heading_cmp}
-use Rattle.row_blocks.specs.Merging.{AreLent, IsEarliest, IsNotBefore, earlier, front, front_cmp, front_value, lent, value_under}
+use Rattle.row_blocks.specs.Merging.{AreLent, IsEarliest, IsNotBefore, earlier, front, front_cmp, front_value, value_under}
 use Rattle.row_blocks.proofs.Earliest.{earliest_more}
 use Rattle.row_blocks.proofs.Order.{exact_heading, heading_total}
 
@@ -64,8 +67,8 @@ none_sooner (Some a) (c ∷ rest) (d ∷ cells) e behind = by (heading_cmp (head
 
 -- ---- one row more
 
-pub inside_lent : (rests : List (Bor (List Cell))) (i : ℕ) → i < length rests → i < length (lent rests)
-inside_lent rests i within = omega (arith, length-map rests (λ (r : Bor (List Cell)). r.now), within)
+pub inside_lent : (rests : List LentCells) (i : ℕ) → i < length rests → i < length (each_cells rests)
+inside_lent rests i within = omega (arith, length-map rests lent_cells, within)
 
 first_more : (rests : List (List Cell)) (like : Option Cell) (i : ℕ) → i < length rests → IsEarliest like (take i rests)
     → IsEarliest (earlier like (front (slice_index_or rests i []))) (take (i + 1) rests)
@@ -73,14 +76,14 @@ first_more rests like i within first =
     subst (IsEarliest (earlier like (front (slice_index_or rests i [])))) (sym (take_more rests i [] within))
     (earliest_more like (take i rests) (slice_index_or rests i []) first)
 
-set_here : (values new : List (Option (Bor Value))) (i : ℕ) (value : Option (Bor Value)) → new ≡ set values i value → i < length values → slice_index_or new i None ≡ value
-set_here values new i value is within = ap (λ (l : List (Option (Bor Value))). slice_index_or l i None) is ∙ get_or-set_same values i value None within
+set_here : (values new : List (Option LentValue)) (i : ℕ) (value : Option LentValue) → new ≡ set values i value → i < length values → slice_index_or new i None ≡ value
+set_here values new i value is within = ap (λ (l : List (Option LentValue)). slice_index_or l i None) is ∙ get_or-set_same values i value None within
 
-set_before : (values new : List (Option (Bor Value))) (i k : ℕ) (value : Option (Bor Value)) → new ≡ set values i value → k < i → slice_index_or new k None ≡ slice_index_or values k None
+set_before : (values new : List (Option LentValue)) (i k : ℕ) (value : Option LentValue) → new ≡ set values i value → k < i → slice_index_or new k None ≡ slice_index_or values k None
 set_before values new i k value is below =
-    ap (λ (l : List (Option (Bor Value))). slice_index_or l k None) is ∙ get_or-set_other values i k value None (λ (same : k ≡ i). omega (arith, same, below))
+    ap (λ (l : List (Option LentValue)). slice_index_or l k None) is ∙ get_or-set_other values i k value None (λ (same : k ≡ i). omega (arith, same, below))
 
-lent_more : (rests : List (List Cell)) (values new : List (Option (Bor Value))) (like : Option Cell) (from i : ℕ) (value : Option (Bor Value))
+lent_more : (rests : List (List Cell)) (values new : List (Option LentValue)) (like : Option Cell) (from i : ℕ) (value : Option LentValue)
     → AreLent rests values like from i → i < length rests → new ≡ set values i value
     → earlier like (front (slice_index_or rests i [])) ≡ like → option_map lent_value value ≡ value_under like (slice_index_or rests i [])
     → AreLent rests new like from (i + 1)
@@ -88,7 +91,7 @@ lent_more rests values new like from i value was within is stays under =
     let inside : i < length values = omega (arith, was.same, within) in
     let up = was.within in
     record {
-      same = ap (λ (l : List (Option (Bor Value))). length l) is ∙ length-set values i value ∙ was.same;
+      same = ap (λ (l : List (Option LentValue)). length l) is ∙ length-set values i value ∙ was.same;
       within = omega (arith, up);
       first = subst (λ (c : Option Cell). IsEarliest c (take (i + 1) rests)) stays (first_more rests like i within was.first);
       each = below_more (λ k. option_map lent_value (slice_index_or new k None) ≡ value_under like (slice_index_or rests k [])) i
@@ -97,14 +100,14 @@ lent_more rests values new like from i value was within is stays under =
       none = λ k below. set_before values new i k value is (omega (arith, below, up)) ∙ was.none k below;
     }
 
-pub lent_later : (rests : List (List Cell)) (values new : List (Option (Bor Value))) (like : Option Cell) (from i : ℕ)
+pub lent_later : (rests : List (List Cell)) (values new : List (Option LentValue)) (like : Option Cell) (from i : ℕ)
     → AreLent rests values like from i → i < length rests → new ≡ set values i None → front_cmp like (slice_index_or rests i []) ≡ Less
     → AreLent rests new like from (i + 1)
 lent_later rests values new like from i was within is order =
     let beside = later like (slice_index_or rests i []) order in
     lent_more rests values new like from i None was within is beside.0 (sym beside.1)
 
-pub lent_alike : (rests : List (List Cell)) (values new : List (Option (Bor Value))) (like : Option Cell) (from i : ℕ) (value : Option (Bor Value))
+pub lent_alike : (rests : List (List Cell)) (values new : List (Option LentValue)) (like : Option Cell) (from i : ℕ) (value : Option LentValue)
     → AreLent rests values like from i → i < length rests → new ≡ set values i value → front_cmp like (slice_index_or rests i []) ≡ Equal
     → option_map lent_value value ≡ option_map (λ (c : Cell). c.value) (front (slice_index_or rests i []))
     → AreLent rests new like from (i + 1)
@@ -112,7 +115,7 @@ lent_alike rests values new like from i value was within is order first =
     let beside = alike like (slice_index_or rests i []) order in
     lent_more rests values new like from i value was within is beside.0 (first ∙ sym beside.1)
 
-pub lent_anew : (rests : List (List Cell)) (values mid new : List (Option (Bor Value))) (like now : Option Cell) (from i : ℕ) (value : Option (Bor Value))
+pub lent_anew : (rests : List (List Cell)) (values mid new : List (Option LentValue)) (like now : Option Cell) (from i : ℕ) (value : Option LentValue)
     → AreLent rests values like from i → i < length rests → length mid ≡ length values → ((k : ℕ) → k < i → slice_index_or mid k None ≡ None)
     → new ≡ set mid i value → front_cmp like (slice_index_or rests i []) ≡ Greater → now ≡ front (slice_index_or rests i [])
     → option_map lent_value value ≡ option_map (λ (c : Cell). c.value) (front (slice_index_or rests i []))
@@ -124,7 +127,7 @@ lent_anew rests values mid new like now from i value was within counted gone is 
     let behind : (k : ℕ) → k < i → StayBehind like (slice_index_or rests k [])
     = λ k below. subst (StayBehind like) (get_or-take i rests k [] below) (stays_at like (take i rests) k was.first (omega (arith, length-take-le i rests some, below))) in
     subst (λ (c : Option Cell). AreLent rests new c i (i + 1)) (sym here) (record {
-      same = ap (λ (l : List (Option (Bor Value))). length l) is ∙ length-set mid i value ∙ counted ∙ was.same;
+      same = ap (λ (l : List (Option LentValue)). length l) is ∙ length-set mid i value ∙ counted ∙ was.same;
       within = omega arith;
       first = subst (λ (c : Option Cell). IsEarliest c (take (i + 1) rests)) (sooner like rest order) (first_more rests like i within was.first);
       each = below_more (λ k. option_map lent_value (slice_index_or new k None) ≡ value_under (front rest) (slice_index_or rests k [])) i
@@ -141,7 +144,7 @@ same_by_places [] (y ∷ ys) counted each = absurd (omega (arith, counted))
 same_by_places (x ∷ xs) [] counted each = absurd (omega (arith, counted))
 same_by_places (x ∷ xs) (y ∷ ys) counted each = ap₂ (λ z zs. z ∷ zs) (each 0 (omega arith)) (same_by_places xs ys (omega (arith, counted)) (λ k below. each (suc k) (omega (arith, below))))
 
-pub none_lent : (rests : List (List Cell)) (values : List (Option (Bor Value))) → length values ≡ length rests → AreLent rests values None 0 0
+pub none_lent : (rests : List (List Cell)) (values : List (Option LentValue)) → length values ≡ length rests → AreLent rests values None 0 0
 none_lent rests values same = record {
   same = same;
   within = omega arith;
@@ -150,34 +153,34 @@ none_lent rests values same = record {
   none = λ k below. absurd (omega (arith, below));
 }
 
-pub all_first : (rests : List (List Cell)) (values : List (Option (Bor Value))) (like : Option Cell) (from n : ℕ) → AreLent rests values like from n → length rests ≤ n → IsEarliest like rests
+pub all_first : (rests : List (List Cell)) (values : List (Option LentValue)) (like : Option Cell) (from n : ℕ) → AreLent rests values like from n → length rests ≤ n → IsEarliest like rests
 all_first rests values like from n are past = subst (IsEarliest like) (take_all n rests past) are.first
 
-pub all_lent : (rests : List (List Cell)) (values : List (Option (Bor Value))) (c : Cell) (from n : ℕ) → AreLent rests values (Some c) from n → length rests ≤ n
-    → values_of values ≡ map (front_value (heading_of c)) rests
+pub all_lent : (rests : List (List Cell)) (values : List (Option LentValue)) (c : Cell) (from n : ℕ) → AreLent rests values (Some c) from n → length rests ≤ n
+    → each_value values ≡ map (front_value (heading_of c)) rests
 all_lent rests values c from n are past =
     let h = heading_of c in
-    let counted : length (values_of values) ≡ length (map (front_value h) rests) = length-map values (option_map lent_value) ∙ are.same ∙ sym (length-map rests (front_value h)) in
-    same_by_places (values_of values) (map (front_value h) rests) counted (λ k below.
+    let counted : length (each_value values) ≡ length (map (front_value h) rests) = length-map values (option_map lent_value) ∙ are.same ∙ sym (length-map rests (front_value h)) in
+    same_by_places (each_value values) (map (front_value h) rests) counted (λ k below.
     let here : k < length values = omega (arith, below, length-map values (option_map lent_value)) in
     let inside : k < length rests = omega (arith, here, are.same) in
     get_or-map (option_map lent_value) values k None None here ∙ are.each k (omega (arith, inside, past)) ∙ sym (get_or-map (front_value h) rests k [] None inside))
 
 -- what was lent of one row
-pub front_at : (h : Heading) (values : List (Option (Bor Value))) (rests : List (Bor (List Cell))) (i : ℕ) (rest : Bor (List Cell))
-    → values_of values ≡ map (front_value h) (lent rests) → i < length rests → slice_index_or rests i rest ≡ rest
-    → option_map lent_value (slice_index_or values i None) ≡ front_value h rest.now
+pub front_at : (h : Heading) (values : List (Option LentValue)) (rests : List LentCells) (i : ℕ) (rest : LentCells)
+    → each_value values ≡ map (front_value h) (each_cells rests) → i < length rests → slice_index_or rests i rest ≡ rest
+    → option_map lent_value (slice_index_or values i None) ≡ front_value h (lent_cells rest)
 front_at h values rests i rest fronts within rest_is =
     let counted : length values ≡ length rests
-    = sym (length-map values (option_map lent_value)) ∙ ap (λ (l : List (Option Value)). length l) fronts ∙ length-map (lent rests) (front_value h) ∙ length-map rests (λ (r : Bor (List Cell)). r.now) in
+    = sym (length-map values (option_map lent_value)) ∙ ap (λ (l : List (Option Value)). length l) fronts ∙ length-map (each_cells rests) (front_value h) ∙ length-map rests lent_cells in
     let inside : i < length values = omega (arith, counted, within) in
     sym (get_or-map (option_map lent_value) values i None None inside)
     ∙ ap (λ (l : List (Option Value)). slice_index_or l i None) fronts
-    ∙ get_or-map (front_value h) (lent rests) i [] None (inside_lent rests i within)
-    ∙ ap (front_value h) (get_or-map (λ (r : Bor (List Cell)). r.now) rests i rest [] within ∙ ap (λ (r : Bor (List Cell)). r.now) rest_is)
+    ∙ get_or-map (front_value h) (each_cells rests) i [] None (inside_lent rests i within)
+    ∙ ap (front_value h) (get_or-map lent_cells rests i rest [] within ∙ ap lent_cells rest_is)
 
 -- the same of a cell that is lent
-pub all_values : (rests : List (List Cell)) (values : List (Option (Bor Value))) (cell : Option (Bor Cell)) (from n : ℕ) → AreLent rests values (option_map (λ (c : Bor Cell). c.now) cell) from n
-    → length rests ≤ n → IfSome cell (λ (like : Bor Cell). values_of values ≡ map (front_value (heading_of like.now)) rests)
+pub all_values : (rests : List (List Cell)) (values : List (Option LentValue)) (cell : Option LentCell) (from n : ℕ) → AreLent rests values (option_map lent_cell cell) from n
+    → length rests ≤ n → IfSome cell (λ (like : LentCell). each_value values ≡ map (front_value (heading_of (lent_cell like))) rests)
 all_values rests values None from n are past = tt
-all_values rests values (Some c) from n are past = all_lent rests values c.now from n are past
+all_values rests values (Some c) from n are past = all_lent rests values (lent_cell c) from n are past

@@ -1,5 +1,5 @@
 -- The times and the columns of the other cells are a block, which means the rows.
-use Rattle.std.proofs.Common.{◌≡◌, ℕ, ◌<◌, ◌≤◌, List, ◌∷◌, length, map, slice_index_or, ℤ, pos, Option, Some, None, IfSome, refl, sym, ap, subst, ◌∙◌, Bor, arith}
+use Rattle.std.proofs.Common.{◌≡◌, ℕ, ◌<◌, ◌≤◌, List, ◌∷◌, length, map, slice_index_or, ℤ, pos, Option, Some, None, IfSome, refl, sym, ap, subst, ◌∙◌, arith}
 use Rattle.std.specs.List.{AllByRecursion}
 use Rattle.std.proofs.lemmas.List.{get_or-map, length-map}
 use Rattle.std.proofs.lemmas.List.FromFn.{fill_by_all}
@@ -7,6 +7,8 @@ use Rattle.leaf_model.specs.declared.rows.Value.{Value}
 use Rattle.leaf_model.specs.declared.rows.Value.TheVariants.{Int}
 use Rattle.leaf_model.specs.declared.rows.Cell.{Cell}
 use Rattle.leaf_model.specs.declared.rows.Row.{Row}
+use Rattle.leaf_model.specs.declared.lent_rows.LentRow.{LentRow}
+use Rattle.leaf_model.specs.Lent.{each_row, lent_row}
 use Rattle.leaf_model.specs.Values.{IsRow, time_name}
 use Rattle.column_bytes.specs.Coding.{AreOfKind, IsOfKind}
 use Rattle.column_bytes.specs.Column.{kind_in}
@@ -15,14 +17,14 @@ use Rattle.row_blocks.specs.declared.column.BlockColumn.{BlockColumn}
 use Rattle.row_blocks.specs.Columns.{MeanCells, cells_in}
 use Rattle.row_blocks.specs.Blocks.{Block, IsBlock, IsTimeCell, row_at, rows_in, time_of, times_of, value_in}
 use Rattle.row_blocks.specs.declared.times.TimeRange.{TimeRange}
-use Rattle.row_blocks.specs.Merging.{HoldCells, lent_rows}
+use Rattle.row_blocks.specs.Merging.{HoldCells}
 use Rattle.row_blocks.specs.Ordered.{IsRangeOf}
 use Rattle.row_blocks.proofs.Taking.{cells_at_row, no_row, row_is}
 
 -- as many times as rows
-pub counted_times : (rows : List (Bor Row)) (times : List ℤ) → times ≡ times_of (lent_rows rows) → length times ≡ length rows
+pub counted_times : (rows : List LentRow) (times : List ℤ) → times ≡ times_of (each_row rows) → length times ≡ length rows
 counted_times rows times same =
-    ap (λ (l : List ℤ). length l) same ∙ length-map (lent_rows rows) (λ (row : Row). row.time) ∙ length-map rows (λ (row : Bor Row). row.now)
+    ap (λ (l : List ℤ). length l) same ∙ length-map (each_row rows) (λ (row : Row). row.time) ∙ length-map rows lent_row
 
 pub are_ints : (times : List ℤ) → AreOfKind Ints (map (λ (t : ℤ). Some (Int t)) times)
 are_ints times i within =

@@ -1,6 +1,5 @@
 -- Rows taken apart into columns: what is left of each row's cells, and the column that comes next.
 use Rattle.std.specs.Prelude.{◌≡◌, ℕ, ◌+◌, ◌<◌, ◌≤◌, take, List, [], ◌∷◌, ◌++◌, length, map, slice_index_or, Option, Some, None, option_map, if◌then◌else◌, ⊤}
-use Rattle.std.specs.Borrow.{Bor}
 use Rattle.std.specs.List.{AllByRecursion}
 use Rattle.std.specs.List.Sorted.{IsStrictlySortedBy}
 use Rattle.std.specs.declared.cmp.Ordering.{Ordering}
@@ -9,18 +8,11 @@ use Rattle.std.specs.Ordering.{is_eq, is_gt}
 use Rattle.leaf_model.specs.declared.rows.Value.{Value}
 use Rattle.leaf_model.specs.declared.rows.Cell.{Cell}
 use Rattle.leaf_model.specs.declared.rows.Row.{Row}
-use Rattle.column_bytes.specs.Cells.{lent_value}
+use Rattle.leaf_model.specs.declared.lent_cells.LentValue.{LentValue}
+use Rattle.leaf_model.specs.Lent.{lent_value}
 use Rattle.row_blocks.specs.declared.column.BlockColumn.{BlockColumn}
 use Rattle.row_blocks.specs.Headings.{Heading, heading, heading_of, heading_cmp}
 use Rattle.row_blocks.specs.Blocks.{IsOther, cells_at}
-
--- what some cells that are lent are
-abbrev pub lent : List (Bor (List Cell)) → List (List Cell)
-lent rests = map (λ (rest : Bor (List Cell)). rest.now) rests
-
--- what some rows that are lent are
-abbrev pub lent_rows : List (Bor Row) → List Row
-lent_rows rows = map (λ (row : Bor Row). row.now) rows
 
 abbrev pub cells_of_rows : List Row → List (List Cell)
 cells_of_rows rows = map (λ (row : Row). row.cells) rows
@@ -70,14 +62,18 @@ abbrev pub value_under : Option Cell → List Cell → Option Value
 value_under None cells = None
 value_under (Some c) cells = front_value (heading_of c) cells
 
--- the heading of a cell, if there is one yet, beside that of the first cell: no cell comes behind all, and behind no cells
+-- the heading of a cell, if there is one yet, beside that of another: no cell comes behind all
+abbrev pub first_cmp : Option Cell → Cell → Ordering
+first_cmp None c = Greater
+first_cmp (Some a) c = heading_cmp (heading_of a) (heading_of c)
+
+-- the same beside the first of some cells: no cells come behind all
 abbrev pub front_cmp : Option Cell → List Cell → Ordering
 front_cmp like [] = Less
-front_cmp None (c ∷ cells) = Greater
-front_cmp (Some a) (c ∷ cells) = heading_cmp (heading_of a) (heading_of c)
+front_cmp like (c ∷ cells) = first_cmp like c
 
 -- of the first so many rows this is a first cell under the earliest heading, which none before a place has, and these are the values under it
-pub record AreLent (rests : List (List Cell)) (values : List (Option (Bor Value))) (like : Option Cell) (from count : ℕ) : Type 0 where
+pub record AreLent (rests : List (List Cell)) (values : List (Option LentValue)) (like : Option Cell) (from count : ℕ) : Type 0 where
   pub same : length values ≡ length rests
   pub within : from ≤ count
   pub first : IsEarliest like (take count rests)

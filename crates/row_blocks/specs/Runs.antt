@@ -4,6 +4,7 @@ use Rattle.std.specs.List.{AllByRecursion, filter, last_or}
 use Rattle.std.specs.Ordering.{is_eq, is_lt}
 use Rattle.leaf_model.specs.declared.rows.Value.{Value}
 use Rattle.leaf_model.specs.declared.rows.Cell.{Cell}
+use Rattle.leaf_model.specs.Lent.{lent_cell}
 use Rattle.row_blocks.specs.declared.runs.PlacedCell.{PlacedCell}
 use Rattle.row_blocks.specs.Headings.{Heading, heading_cmp, heading_of}
 
@@ -13,7 +14,7 @@ is_at i p = p.place == i
 
 -- the cells of the row at a place
 abbrev pub row_cells : ℕ → List PlacedCell → List Cell
-row_cells i cells = map (λ (p : PlacedCell). p.cell.now) (filter (is_at i) cells)
+row_cells i cells = map (λ (p : PlacedCell). lent_cell p.cell) (filter (is_at i) cells)
 
 -- they are what is left of each row's cells
 abbrev pub HoldRests : List (List Cell) → List PlacedCell → Type 0
@@ -21,7 +22,7 @@ HoldRests rests cells = (i : ℕ) → row_cells i cells ≡ slice_index_or rests
 
 -- a cell comes under an earlier heading than another
 abbrev pub comes_before : PlacedCell → PlacedCell → Bool
-comes_before p q = is_lt (heading_cmp (heading_of p.cell.now) (heading_of q.cell.now))
+comes_before p q = is_lt (heading_cmp (heading_of (lent_cell p.cell)) (heading_of (lent_cell q.cell)))
 
 -- no element is less than one that stands before it
 abbrev pub Rises : {X : Type 0} → (X → X → Bool) → List X → Type 0
@@ -34,7 +35,7 @@ Rise cells = Rises comes_before cells
 
 -- a cell comes under the heading
 abbrev pub comes_under : Heading → PlacedCell → Bool
-comes_under h p = is_eq (heading_cmp h (heading_of p.cell.now))
+comes_under h p = is_eq (heading_cmp h (heading_of (lent_cell p.cell)))
 
 -- the value of the last of some cells
 abbrev pub last_value : List Cell → Option Value

@@ -1,22 +1,23 @@
 // What tells the columns of a block apart: a name and a kind.
 ghost use Rattle.std.specs.Prelude.{◌≡◌, ◌==◌};
 ghost use Rattle.column_bytes.specs.Column.{kind_in};
+ghost use Rattle.leaf_model.specs.Lent.{lent_cell, lent_value};
 ghost use Rattle.row_blocks.specs.Headings.{heading, heading_cmp, heading_of, kind_of, kind_place};
 ghost use Rattle.std.specs.Ordering.{nat_cmp};
 
 use crate::column::BlockColumn;
 use column_bytes::Kind;
-use leaf_model::{Cell, Value};
+use leaf_model::{LentCell, LentValue};
 use std::cmp::Ordering;
 
 /// The kind of the column that a value belongs in.
-pub(crate) fn kind_of(value: &Value) -> Kind
-    ensures { result ≡ kind_of value.now }
+pub(crate) fn kind_of(value: &LentValue) -> Kind
+    ensures { result ≡ kind_of (lent_value value.now) }
 {
     match value {
-        Value::Int(_) => Kind::Ints,
-        Value::Text(_) => Kind::Texts,
-        Value::Set(_) => Kind::Sets,
+        LentValue::Int(_) => Kind::Ints,
+        LentValue::Text(_) => Kind::Texts,
+        LentValue::Set(_) => Kind::Sets,
     }
 }
 
@@ -61,10 +62,10 @@ fn compare_kinds(a: Kind, b: Kind) -> Ordering
 }
 
 /// The order of the columns that two cells belong in.
-pub(crate) fn compare_cells(a: &Cell, b: &Cell) -> Ordering
-    ensures { result ≡ heading_cmp (heading_of a.now) (heading_of b.now) }
+pub(crate) fn compare_cells(a: &LentCell, b: &LentCell) -> Ordering
+    ensures { result ≡ heading_cmp (heading_of (lent_cell a.now)) (heading_of (lent_cell b.now)) }
 {
-    match a.name.as_str().cmp(b.name.as_str()) {
+    match a.name.cmp(b.name) {
         Ordering::Less => Ordering::Less,
         Ordering::Equal => compare_kinds(kind_of(&a.value), kind_of(&b.value)),
         Ordering::Greater => Ordering::Greater,

@@ -24,4 +24,4 @@ pub use blocks::Blocks;
 pub use column::{BlockColumn, BlockColumns, ColumnBytes};
 pub use fault::BlockFault;
 pub use rows::{own_value, push_cell};
-pub use sealing::{seal, seal_refs};
+pub use sealing::seal;

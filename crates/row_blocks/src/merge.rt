@@ -1,19 +1,22 @@
 // Rows taken apart into columns: what is left of the rows' cells.
 ghost use Rattle.std.specs.Prelude.{◌≡◌, length, map, option_map, IfOk};
-ghost use Rattle.column_bytes.specs.Cells.{lent_value, values_of};
+ghost use Rattle.leaf_model.specs.Lent.{each_cells, each_row, each_value, lent_cells, lent_value};
 ghost use Rattle.row_blocks.specs.Headings.{Heading};
-ghost use Rattle.row_blocks.specs.Merging.{cells_of_rows, front_value, lent, lent_rows, rest_after};
+ghost use Rattle.row_blocks.specs.Merging.{cells_of_rows, front_value, rest_after};
 
-use leaf_model::{Cell, Row, Value};
+use leaf_model::{LentCells, LentRow, LentValue};
 use std::alloc::{AllocError, Global};
 
 /// The cells of each row.
-pub(crate) fn rests_of<'a>(alloc: Global, rows: &[&'a Row]) -> Result<Vec<&'a [Cell]>, AllocError>
-    ensures { IfOk result (λ rests. lent rests.items ≡ cells_of_rows (lent_rows rows.now)) }
+pub(crate) fn rests_of<'a>(
+    alloc: Global,
+    rows: &[LentRow<'a>],
+) -> Result<Vec<LentCells<'a>>, AllocError>
+    ensures { IfOk result (λ rests. each_cells rests.items ≡ cells_of_rows (each_row rows.now)) }
 {
     let mut rests = Vec::with_capacity(alloc, rows.len())?;
     for row in rows {
-        rests.push(row.cells.as_slice())?;
+        rests.push(row.cells)?;
     }
     Ok(rests)
 }
@@ -22,7 +25,7 @@ pub(crate) fn rests_of<'a>(alloc: Global, rows: &[&'a Row]) -> Result<Vec<&'a [C
 pub(crate) fn no_values<'a>(
     alloc: Global,
     rows: usize,
-) -> Result<Vec<Option<&'a Value>>, AllocError>
+) -> Result<Vec<Option<LentValue<'a>>>, AllocError>
     ensures { IfOk result (λ values. length values.items ≡ rows) }
 {
     let mut values = Vec::with_capacity(alloc, rows)?;
@@ -33,24 +36,24 @@ pub(crate) fn no_values<'a>(
 }
 
 /// The cells without the first, where its value was lent.
-fn rest_after<'a>(value: &Option<&Value>, rest: &'a [Cell]) -> &'a [Cell]
-    ensures { (h : Heading) → option_map lent_value value.now ≡ front_value h rest.now → result.now ≡ rest_after h rest.now }
+fn rest_after<'a>(value: &Option<LentValue>, rest: &LentCells<'a>) -> LentCells<'a>
+    ensures { (h : Heading) → option_map lent_value value.now ≡ front_value h (lent_cells rest.now) → lent_cells result ≡ rest_after h (lent_cells rest.now) }
 {
     if value.is_none() {
-        return rest;
+        return *rest;
     }
-    match rest {
-        [] => rest,
-        [_, others @ ..] => others,
+    match rest.split_first() {
+        None => *rest,
+        Some((_first, others)) => others,
     }
 }
 
 /// What is left of each row's cells behind the column whose values were lent.
-pub(crate) fn move_on<'a>(values: &[Option<&Value>], rests: &mut [&'a [Cell]])
+pub(crate) fn move_on<'a>(values: &[Option<LentValue>], rests: &mut [LentCells<'a>])
     requires { length values.now ≡ length rests.old }
-    ensures { (h : Heading) → values_of values.now ≡ map (front_value h) (lent rests.old) → lent rests.new ≡ map (rest_after h) (lent rests.old) }
+    ensures { (h : Heading) → each_value values.now ≡ map (front_value h) (each_cells rests.old) → each_cells rests.new ≡ map (rest_after h) (each_cells rests.old) }
 {
     for i in 0..rests.len() {
-        rests[i] = rest_after(&values[i], rests[i]);
+        rests[i] = rest_after(&values[i], &rests[i]);
     }
 }

@@ -4,46 +4,50 @@ ghost use Rattle.std.specs.List.{All, prefix_len};
 ghost use Rattle.std.specs.List.Sorted.{IsStrictlySortedBy};
 ghost use Rattle.std.specs.Ordering.{nat_cmp};
 ghost use Rattle.std.specs.Cmp.Lexicographic.{slice_cmp};
-ghost use Rattle.column_bytes.specs.Cells.{lent_value};
+ghost use Rattle.leaf_model.specs.Lent.{each_cells, lent_cell, lent_cells, lent_value};
 ghost use Rattle.row_blocks.specs.declared.runs.PlacedCell.{PlacedCell};
 ghost use Rattle.row_blocks.specs.Headings.{heading_of};
-ghost use Rattle.row_blocks.specs.Merging.{lent};
 ghost use Rattle.row_blocks.specs.Places.{names_of};
 ghost use Rattle.row_blocks.specs.Runs.{HoldRests, Rise, comes_under, last_value, row_cells};
 
 use crate::headings::compare_cells;
 use crate::lending::forget;
-use leaf_model::{Cell, Value};
+use leaf_model::{LentCell, LentCells, LentValue};
 use std::alloc::{AllocError, Global};
 
 /// A cell, and the place of its row.
 #[derive(Clone, Copy)]
 pub(crate) struct PlacedCell<'a> {
     pub place: usize,
-    pub cell: &'a Cell,
+    pub cell: LentCell<'a>,
 }
 
 /// Adds the cells of the row at a place.
 fn push_row<'a>(
     place: usize,
-    rest: &'a [Cell],
+    rest: &LentCells<'a>,
     cells: &mut Vec<PlacedCell<'a>>,
 ) -> Result<(), AllocError>
-    ensures { OnOk result ((i : ℕ) → row_cells i cells.new.items ≡ row_cells i cells.old.items ++ (if place == i then rest.now else [])) }
+    ensures { OnOk result ((i : ℕ) → row_cells i cells.new.items ≡ row_cells i cells.old.items ++ (if place == i then lent_cells rest.now else [])) }
 {
-    for cell in rest {
+    let mut left = *rest;
+    while let Some((cell, others)) = left.split_first() {
         cells.push(PlacedCell { place, cell })?;
+        left = others;
     }
     Ok(())
 }
 
 /// The cells that are left of each row, one row after another.
-fn placed_cells<'a>(alloc: Global, rests: &[&'a [Cell]]) -> Result<Vec<PlacedCell<'a>>, AllocError>
-    ensures { IfOk result (λ cells. HoldRests (lent rests.now) cells.items) }
+fn placed_cells<'a>(
+    alloc: Global,
+    rests: &[LentCells<'a>],
+) -> Result<Vec<PlacedCell<'a>>, AllocError>
+    ensures { IfOk result (λ cells. HoldRests (each_cells rests.now) cells.items) }
 {
     let mut cells = Vec::new(alloc);
     for place in 0..rests.len() {
-        push_row(place, rests[place], &mut cells)?;
+        push_row(place, &rests[place], &mut cells)?;
     }
     Ok(cells)
 }
@@ -54,17 +58,17 @@ fn sort(cells: &mut Vec<PlacedCell>) -> Result<(), AllocError>
     ensures rise { OnOk result (Rise cells.new.items) }
     ensures cells { OnOk result ((i : ℕ) → row_cells i cells.new.items ≡ row_cells i cells.old.items) }
 {
-    cells.sort_by(|a, b| compare_cells(a.cell, b.cell))
+    cells.sort_by(|a, b| compare_cells(&a.cell, &b.cell))
 }
 
 /// The cells that are left of the rows, in the order of their headings.
 pub(crate) fn in_order<'a>(
     alloc: Global,
-    rests: &[&'a [Cell]],
+    rests: &[LentCells<'a>],
 ) -> Result<Vec<PlacedCell<'a>>, AllocError>
-    requires { (i : ℕ) → IsStrictlySortedBy (slice_cmp nat_cmp) (names_of (slice_index_or (lent rests.now) i [])) }
+    requires { (i : ℕ) → IsStrictlySortedBy (slice_cmp nat_cmp) (names_of (slice_index_or (each_cells rests.now) i [])) }
     ensures rise { IfOk result (λ cells. Rise cells.items) }
-    ensures cells { IfOk result (λ cells. HoldRests (lent rests.now) cells.items) }
+    ensures cells { IfOk result (λ cells. HoldRests (each_cells rests.now) cells.items) }
 {
     let mut cells = placed_cells(alloc, rests)?;
     sort(&mut cells)?;
@@ -72,11 +76,11 @@ pub(crate) fn in_order<'a>(
 }
 
 /// How many cells at the front come under the heading of a cell.
-pub(crate) fn run_len(like: &Cell, cells: &[PlacedCell]) -> usize
-    ensures { result ≡ prefix_len (comes_under (heading_of like.now)) cells.now }
+pub(crate) fn run_len(like: &LentCell, cells: &[PlacedCell]) -> usize
+    ensures { result ≡ prefix_len (comes_under (heading_of (lent_cell like.now))) cells.now }
 {
     for i in 0..cells.len() {
-        if !compare_cells(like, cells[i].cell).is_eq() {
+        if !compare_cells(like, &cells[i].cell).is_eq() {
             return i;
         }
     }
@@ -84,13 +88,13 @@ pub(crate) fn run_len(like: &Cell, cells: &[PlacedCell]) -> usize
 }
 
 /// Lends the values of these cells, each at its row's place, and none at any other.
-pub(crate) fn lend_run<'a>(cells: &[PlacedCell<'a>], values: &mut [Option<&'a Value>])
+pub(crate) fn lend_run<'a>(cells: &[PlacedCell<'a>], values: &mut [Option<LentValue<'a>>])
     requires { All (λ (p : PlacedCell). p.place < length values.old) cells.now }
     ensures same { length values.new ≡ length values.old }
     ensures values { (i : ℕ) → i < length values.old → option_map lent_value (slice_index_or values.new i None) ≡ last_value (row_cells i cells.now) }
 {
     forget(values, 0, values.len());
     for placed in cells {
-        values[placed.place] = Some(&placed.cell.value);
+        values[placed.place] = Some(placed.cell.value);
     }
 }

@@ -2,8 +2,8 @@
 ghost use Rattle.std.specs.Prelude.{◌≡◌, ◌<◌, ◌≤◌, length, map, ℤ, Some, IfOk};
 ghost use Rattle.std.specs.List.{AllByRecursion};
 ghost use Rattle.leaf_model.specs.declared.rows.Value.TheVariants.{Int};
+ghost use Rattle.leaf_model.specs.Lent.{each_cells, each_row, each_value, lent_cell, lent_rows};
 ghost use Rattle.leaf_model.specs.Values.{IsRow, time_name};
-ghost use Rattle.column_bytes.specs.Cells.{values_of};
 ghost use Rattle.column_bytes.specs.Column.{kind_in};
 ghost use Rattle.column_bytes.specs.Coding.{AreOfKind};
 ghost use Rattle.column_bytes.specs.declared.kind.Kind.TheVariants.{Ints};
@@ -11,7 +11,7 @@ ghost use Rattle.row_blocks.specs.Blocks.{rows_in};
 ghost use Rattle.row_blocks.specs.Columns.{MeanCells, cells_in};
 ghost use Rattle.row_blocks.specs.Headings.{heading, heading_of};
 ghost use Rattle.row_blocks.specs.Held.{rows_and_cells};
-ghost use Rattle.row_blocks.specs.Merging.{AreTaken, HoldCells, lent, lent_rows};
+ghost use Rattle.row_blocks.specs.Merging.{AreTaken, HoldCells};
 
 use crate::block::RowBlock;
 use crate::column::{BlockColumn, BlockColumns, ColumnBytes};
@@ -21,7 +21,7 @@ use crate::merge::{move_on, no_values, rests_of};
 use crate::runs::{in_order, lend_run, run_len};
 use crate::times::{range_of, time_cells, times_of};
 use column_bytes::{Kind, encode, encode_refs};
-use leaf_model::{Cell, Row, Text, Value};
+use leaf_model::{LentCell, LentCells, LentRow, LentRows, LentValue, Text};
 use std::alloc::{AllocError, Global};
 
 /// The column of the times.
@@ -44,25 +44,25 @@ fn times_column(alloc: Global, times: &[i64]) -> Result<BlockColumn, AllocError>
 /// The column of these values, under the heading of a cell.
 fn column_like(
     alloc: Global,
-    like: &Cell,
-    values: &[Option<&Value>],
+    like: &LentCell,
+    values: &[Option<LentValue>],
 ) -> Result<BlockColumn, AllocError>
     requires some { 0 < length values.now }
     requires few { length values.now ≤ 65536 }
-    requires kind { AreOfKind (heading_of like.now).kind (values_of values.now) }
-    ensures heading { IfOk result (λ column. heading column ≡ heading_of like.now) }
+    requires kind { AreOfKind (heading_of (lent_cell like.now)).kind (each_value values.now) }
+    ensures heading { IfOk result (λ column. heading column ≡ heading_of (lent_cell like.now)) }
     ensures means { IfOk result (λ column. MeanCells column.bytes (length values.now)) }
-    ensures cells { IfOk result (λ column. cells_in column.bytes ≡ values_of values.now) }
+    ensures cells { IfOk result (λ column. cells_in column.bytes ≡ each_value values.now) }
 {
     let bytes = encode_refs(alloc, kind_of(&like.value), values)?;
     Ok(BlockColumn {
-        name: like.name.copy()?,
+        name: Text::of(String::from_str(alloc, like.name)?),
         bytes: ColumnBytes::of(bytes.into_bytes()),
     })
 }
 
 /// How many walks over all rows cost no more than a sort of their cells, which looks at a cell once for each binary digit of their number.
-fn walks_worth(rests: &[&[Cell]]) -> usize {
+fn walks_worth(rests: &[LentCells]) -> usize {
     let mut cells = 0usize;
     for rest in rests {
         cells = cells.saturating_add(rest.len());
@@ -74,15 +74,15 @@ fn walks_worth(rests: &[&[Cell]]) -> usize {
 /// The first columns of the rows' cells, each taken in a walk over all rows, and what is left of the cells.
 fn walked_columns<'a>(
     alloc: Global,
-    rows: &[&'a Row],
-    values: &mut [Option<&'a Value>],
-) -> Result<(Vec<BlockColumn>, Vec<&'a [Cell]>), AllocError>
-    requires some { 0 < length (lent_rows rows.now) }
-    requires few { length (lent_rows rows.now) ≤ 65536 }
-    requires rows { AllByRecursion IsRow (lent_rows rows.now) }
-    requires places { length values.old ≡ length (lent_rows rows.now) }
+    rows: &[LentRow<'a>],
+    values: &mut [Option<LentValue<'a>>],
+) -> Result<(Vec<BlockColumn>, Vec<LentCells<'a>>), AllocError>
+    requires some { 0 < length (each_row rows.now) }
+    requires few { length (each_row rows.now) ≤ 65536 }
+    requires rows { AllByRecursion IsRow (each_row rows.now) }
+    requires places { length values.old ≡ length (each_row rows.now) }
     ensures same { length values.new ≡ length values.old }
-    ensures taken { IfOk result (λ taken. AreTaken (lent_rows rows.now) taken.0.items (lent taken.1.items)) }
+    ensures taken { IfOk result (λ taken. AreTaken (each_row rows.now) taken.0.items (each_cells taken.1.items)) }
 {
     let mut rests = rests_of(alloc, rows)?;
     let mut columns = Vec::new(alloc);
@@ -90,7 +90,7 @@ fn walked_columns<'a>(
         let Some(like) = lend_earliest(&rests, values) else {
             break;
         };
-        columns.push(column_like(alloc, like, values)?)?;
+        columns.push(column_like(alloc, &like, values)?)?;
         move_on(values, &mut rests);
     }
     Ok((columns, rests))
@@ -100,14 +100,14 @@ fn walked_columns<'a>(
 /// in a walk over all rows while that pays, and then from the cells that are left, which are sorted.
 fn other_columns<'a>(
     alloc: Global,
-    rows: &[&'a Row],
-    values: &mut [Option<&'a Value>],
+    rows: &[LentRow<'a>],
+    values: &mut [Option<LentValue<'a>>],
 ) -> Result<Vec<BlockColumn>, AllocError>
-    requires some { 0 < length (lent_rows rows.now) }
-    requires few { length (lent_rows rows.now) ≤ 65536 }
-    requires rows { AllByRecursion IsRow (lent_rows rows.now) }
-    requires places { length values.old ≡ length (lent_rows rows.now) }
-    ensures { IfOk result (λ columns. HoldCells (lent_rows rows.now) columns.items) }
+    requires some { 0 < length (each_row rows.now) }
+    requires few { length (each_row rows.now) ≤ 65536 }
+    requires rows { AllByRecursion IsRow (each_row rows.now) }
+    requires places { length values.old ≡ length (each_row rows.now) }
+    ensures { IfOk result (λ columns. HoldCells (each_row rows.now) columns.items) }
 {
     let (mut columns, rests) = walked_columns(alloc, rows, values)?;
     let sorted = in_order(alloc, &rests)?;
@@ -115,21 +115,21 @@ fn other_columns<'a>(
     let mut from = 0;
     while from < cells.len() {
         let first = cells[from].cell;
-        let to = from + run_len(first, &cells[from..]);
+        let to = from + run_len(&first, &cells[from..]);
         lend_run(&cells[from..to], values);
-        columns.push(column_like(alloc, first, values)?)?;
+        columns.push(column_like(alloc, &first, values)?)?;
         from = to;
     }
     Ok(columns)
 }
 
-/// The block of 1 to 65,536 rows that are lent: at most one column for each row and each cell.
-pub fn seal_refs(alloc: Global, rows: &[&Row]) -> Result<RowBlock, AllocError>
+/// The block of these rows.
+fn seal_refs(alloc: Global, rows: &[LentRow]) -> Result<RowBlock, AllocError>
     requires some { 0 < length rows.now }
     requires few { length rows.now ≤ 65536 }
-    requires rows { AllByRecursion IsRow (lent_rows rows.now) }
-    ensures rows { IfOk result (λ block. rows_in block ≡ lent_rows rows.now) }
-    ensures few { IfOk result (λ block. length block.columns ≤ rows_and_cells (lent_rows rows.now)) }
+    requires rows { AllByRecursion IsRow (each_row rows.now) }
+    ensures rows { IfOk result (λ block. rows_in block ≡ each_row rows.now) }
+    ensures few { IfOk result (λ block. length block.columns ≤ rows_and_cells (each_row rows.now)) }
 {
     let times = times_of(alloc, rows)?;
     let range = range_of(&times);
@@ -142,23 +142,26 @@ pub fn seal_refs(alloc: Global, rows: &[&Row]) -> Result<RowBlock, AllocError>
     Ok(RowBlock::of(rows.len() as u32, range, BlockColumns::of(columns)))
 }
 
-fn refs_to(alloc: Global, rows: &[Row]) -> Result<Vec<&Row>, AllocError>
-    ensures { IfOk result (λ refs. lent_rows refs.items ≡ rows.now) }
+/// Each of the rows by itself.
+fn refs_to<'a>(alloc: Global, rows: &LentRows<'a>) -> Result<Vec<LentRow<'a>>, AllocError>
+    ensures { IfOk result (λ refs. each_row refs.items ≡ lent_rows rows.now) }
 {
     let mut refs = Vec::with_capacity(alloc, rows.len())?;
-    for row in rows {
+    let mut left = *rows;
+    while let Some((row, others)) = left.split_first() {
         refs.push(row)?;
+        left = others;
     }
     Ok(refs)
 }
 
 /// The block of 1 to 65,536 rows: at most one column for each row and each cell.
-pub fn seal(alloc: Global, rows: &[Row]) -> Result<RowBlock, AllocError>
-    requires some { 0 < length rows.now }
-    requires few { length rows.now ≤ 65536 }
-    requires rows { AllByRecursion IsRow rows.now }
-    ensures rows { IfOk result (λ block. rows_in block ≡ rows.now) }
-    ensures few { IfOk result (λ block. length block.columns ≤ rows_and_cells rows.now) }
+pub fn seal(alloc: Global, rows: &LentRows) -> Result<RowBlock, AllocError>
+    requires some { 0 < length (lent_rows rows.now) }
+    requires few { length (lent_rows rows.now) ≤ 65536 }
+    requires rows { AllByRecursion IsRow (lent_rows rows.now) }
+    ensures rows { IfOk result (λ block. rows_in block ≡ lent_rows rows.now) }
+    ensures few { IfOk result (λ block. length block.columns ≤ rows_and_cells (lent_rows rows.now)) }
 {
     let refs = refs_to(alloc, rows)?;
     seal_refs(alloc, refs.as_slice())

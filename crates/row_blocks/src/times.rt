@@ -1,11 +1,11 @@
 // The times of a block, and their range.
 ghost use Rattle.std.specs.Prelude.{◌≡◌, ◌<◌, length, map, ℤ, IfOk, Some};
 ghost use Rattle.leaf_model.specs.declared.rows.Value.TheVariants.{Int};
+ghost use Rattle.leaf_model.specs.Lent.{each_row};
 ghost use Rattle.row_blocks.specs.Blocks.{times_of};
-ghost use Rattle.row_blocks.specs.Merging.{lent_rows};
 ghost use Rattle.row_blocks.specs.Ordered.{IsRangeOf};
 
-use leaf_model::{Row, Value};
+use leaf_model::{LentRow, Value};
 use std::alloc::{AllocError, Global};
 
 /// What one pass over some times finds.
@@ -35,8 +35,8 @@ pub(crate) fn range_of(times: &[i64]) -> TimeRange
     TimeRange { from, to, in_order }
 }
 
-pub(crate) fn times_of(alloc: Global, rows: &[&Row]) -> Result<Vec<i64>, AllocError>
-    ensures { IfOk result (λ times. times.items ≡ times_of (lent_rows rows.now)) }
+pub(crate) fn times_of(alloc: Global, rows: &[LentRow]) -> Result<Vec<i64>, AllocError>
+    ensures { IfOk result (λ times. times.items ≡ times_of (each_row rows.now)) }
 {
     let mut times = Vec::with_capacity(alloc, rows.len())?;
     for row in rows {

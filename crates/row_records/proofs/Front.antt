@@ -1,21 +1,15 @@
 -- Rows at the front of some bytes, and the bytes that were written before.
-use Rattle.std.proofs.Common.{◌≡◌, ℕ, ◌-◌, ◌*◌, ◌/◌, ◌≤◌, ◌<◌, List, [], ◌∷◌, ◌++◌, length, take, drop, Option, Some, None, refl, sym, ap, ◌∙◌, append_assoc, length-append, arith}
+use Rattle.std.proofs.Common.{◌≡◌, ℕ, ◌-◌, ◌*◌, ◌/◌, ◌≤◌, ◌<◌, List, [], ◌∷◌, ◌++◌, length, drop, Option, Some, None, refl, sym, ap, ◌∙◌, length-append, arith}
 use Rattle.std.specs.List.{AllByRecursion}
-use Rattle.std.proofs.lemmas.List.{take_at, drop_at, take-append-drop}
+use Rattle.std.proofs.lemmas.List.{drop_at}
 use Rattle.std.proofs.lemmas.List.Concat.{flat_map-cons}
 use Rattle.leaf_model.specs.declared.rows.Row.{Row}
 use Rattle.leaf_model.specs.Values.{IsRow}
-use Rattle.row_records.specs.Bytes.{row_bytes, rows_bytes, BeginsWith, IsBytes, StandsInFront}
-use Rattle.row_records.specs.Reading.{rows_at}
-use Rattle.row_records.proofs.Fields.{some_is}
-use Rattle.row_records.proofs.Records.{rows_take, rows_again}
-
--- what begins with more begins with less
-pub begins_within : (before added mid now : List ℕ) → mid ≡ before ++ added → BeginsWith mid now → BeginsWith before now
-begins_within before added mid now e h =
-    let left = drop (length mid) now in
-    let parts : now ≡ before ++ (added ++ left) = sym (take-append-drop (length mid) now) ∙ ap (λ (w : List ℕ). w ++ left) (h ∙ e) ∙ append_assoc before added left in
-    ap (take (length before)) parts ∙ take_at before (added ++ left) (length before) refl
+use Rattle.leaf_model.specs.Bytes.{row_bytes, rows_bytes, IsBytes}
+use Rattle.row_records.specs.Bytes.{StandsInFront}
+use Rattle.leaf_model.specs.Reading.{rows_at}
+use Rattle.leaf_model.proofs.Fields.{some_is}
+use Rattle.leaf_model.proofs.ReadRows.{rows_take, rows_again}
 
 -- a row takes ten bytes at least
 row_size : (row : Row) → 10 ≤ length (row_bytes row)

@@ -4,7 +4,9 @@ use Rattle.std.specs.List.{flat_map}
 use Rattle.std.proofs.lemmas.List.{take_at, drop_at, append-nil}
 use Rattle.std.proofs.lemmas.List.Concat.{flat_map-cons, flat_map-append}
 use Rattle.leaf_model.specs.declared.writes.Write.{Write}
-use Rattle.row_records.specs.Bytes.{u64_bytes, name_bytes, write_bytes}
+use Rattle.leaf_model.specs.declared.writes.Write.TheVariants.{Add, Expire, Keep}
+use Rattle.leaf_model.specs.Bytes.{u64_bytes, name_bytes}
+use Rattle.row_records.specs.Bytes.{said_bytes, write_bytes, write_kind}
 use Rattle.row_records.specs.Records.{LogRecord, record_body, record_bytes, record_kind}
 use Rattle.row_records.specs.Pending.{pending_bytes, with_write}
 
@@ -68,3 +70,9 @@ pushed r write k count size number =
 -- all but the gate
 pub ungated : (bytes : List ℕ) → take (length (bytes ++ 0 ∷ []) - 1) (bytes ++ 0 ∷ []) ≡ bytes
 ungated bytes = take_at bytes (0 ∷ []) (length (bytes ++ 0 ∷ []) - 1) (omega (arith, length-append bytes (0 ∷ [])))
+
+-- a write is its kind and what is said behind it
+pub kind_and_said : (write : Write) → write_kind write ∷ said_bytes write ≡ write_bytes write
+kind_and_said (Add rows) = refl
+kind_and_said (Expire horizon) = refl
+kind_and_said (Keep n) = refl

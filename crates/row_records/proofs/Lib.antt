@@ -1,10 +1,8 @@
 pub mod Loop
 pub mod Texts
-pub mod Fields
-pub mod Cells
 pub mod Records
 pub mod Growing
 pub mod Pended
 pub mod Front
 pub mod Once
-pub mod Sets
+pub mod Behind

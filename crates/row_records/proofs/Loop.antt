@@ -1,12 +1,11 @@
 -- Reading items one after the other, as a loop does.
 use Rattle.std.proofs.Common.{◌≡◌, ℕ, suc, ◌-◌, ◌+◌, ◌≤◌, ◌<◌, List, [], ◌∷◌, ◌++◌, Option, Some, None, refl, sym, ap, ◌∙◌, append_assoc, arith}
 use Rattle.std.proofs.lemmas.List.{append-nil}
-use Rattle.leaf_model.specs.declared.rows.Row.{Row}
-use Rattle.leaf_model.specs.declared.rows.Cell.{Cell}
 use Rattle.leaf_model.specs.declared.writes.Write.{Write}
 use Rattle.row_records.specs.declared.fault.ReadError.{ReadError}
 use Rattle.row_records.specs.declared.fault.ReadError.TheVariants as errors
-use Rattle.row_records.specs.Reading.{◌>>=◌, ReadFails, cell_at, cells_at, row_at, rows_at, long_text_at, texts_at, write_at, writes_at, last_name}
+use Rattle.leaf_model.specs.Reading.{◌>>=◌}
+use Rattle.row_records.specs.Reading.{ReadFails, write_at, writes_at}
 
 -- what was read before, and what is still read
 abbrev pub with_front : {A : Type 0} → List A → Option (List A × List ℕ) → Option (List A × List ℕ)
@@ -37,56 +36,6 @@ one_more count i lt = omega arith
 
 pub no_more : (count i : ℕ) → count ≤ i → count - i ≡ 0
 no_more count i le = omega arith
-
--- ---- cells
-
-pub cell_read : (count i : ℕ) (last bytes : List ℕ) (c : Cell) (after : List ℕ) → i < count → cell_at last bytes ≡ Some (c, after) → cells_at (count - i) last bytes ≡ with_first c (cells_at (count - (i + 1)) c.name after)
-unfolding cells_at
-cell_read count i last bytes c after lt h = rw (one_more count i lt, h) refl
-
-pub cell_fails : (e : ReadError) (count i : ℕ) (last bytes : List ℕ) → i < count → ReadFails e (cell_at last bytes) → ReadFails e (cells_at (count - i) last bytes)
-unfolding cells_at
-cell_fails errors.Memory count i last bytes lt h = tt
-cell_fails errors.Broken count i last bytes lt h = rw (one_more count i lt, h) refl
-
-pub cells_done : (count i : ℕ) (last bytes : List ℕ) → count ≤ i → cells_at (count - i) last bytes ≡ Some ([], bytes)
-unfolding cells_at
-cells_done count i last bytes le = rw (no_more count i le) refl
-
-pub last_of : (front : List Cell) (c : Cell) → last_name (front ++ c ∷ []) ≡ c.name
-last_of [] c = refl
-last_of (a ∷ []) c = refl
-last_of (a ∷ b ∷ front) c = last_of (b ∷ front) c
-
--- ---- rows
-
-pub row_read : (count i : ℕ) (bytes : List ℕ) (row : Row) (after : List ℕ) → i < count → row_at bytes ≡ Some (row, after) → rows_at (count - i) bytes ≡ with_first row (rows_at (count - (i + 1)) after)
-unfolding rows_at
-row_read count i bytes row after lt h = rw (one_more count i lt, h) refl
-
-pub row_fails : (e : ReadError) (count i : ℕ) (bytes : List ℕ) → i < count → ReadFails e (row_at bytes) → ReadFails e (rows_at (count - i) bytes)
-unfolding rows_at
-row_fails errors.Memory count i bytes lt h = tt
-row_fails errors.Broken count i bytes lt h = rw (one_more count i lt, h) refl
-
-pub rows_done : (count i : ℕ) (bytes : List ℕ) → count ≤ i → rows_at (count - i) bytes ≡ Some ([], bytes)
-unfolding rows_at
-rows_done count i bytes le = rw (no_more count i le) refl
-
--- ---- texts
-
-pub text_read : (count i : ℕ) (bytes text after : List ℕ) → i < count → long_text_at bytes ≡ Some (text, after) → texts_at (count - i) bytes ≡ with_first text (texts_at (count - (i + 1)) after)
-unfolding texts_at
-text_read count i bytes text after lt h = rw (one_more count i lt, h) refl
-
-pub text_fails : (e : ReadError) (count i : ℕ) (bytes : List ℕ) → i < count → ReadFails e (long_text_at bytes) → ReadFails e (texts_at (count - i) bytes)
-unfolding texts_at
-text_fails errors.Memory count i bytes lt h = tt
-text_fails errors.Broken count i bytes lt h = rw (one_more count i lt, h) refl
-
-pub texts_done : (count i : ℕ) (bytes : List ℕ) → count ≤ i → texts_at (count - i) bytes ≡ Some ([], bytes)
-unfolding texts_at
-texts_done count i bytes le = rw (no_more count i le) refl
 
 -- ---- writes
 

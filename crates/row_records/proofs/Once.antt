@@ -5,11 +5,12 @@ use Rattle.std.specs.Int.{w64, from_le_bytes}
 use Rattle.std.proofs.lemmas.List.{take_at, drop_at}
 use Rattle.leaf_model.specs.declared.rows.Row.{Row}
 use Rattle.leaf_model.specs.Values.{IsRow}
-use Rattle.row_records.specs.Bytes.{u64_bytes, rows_bytes}
+use Rattle.leaf_model.specs.Bytes.{u64_bytes, rows_bytes}
 use Rattle.row_records.specs.Records.{LogRecord, IsRecord, record_body, record_bytes}
 use Rattle.row_records.specs.Reading.{record_of}
-use Rattle.row_records.proofs.Fields.{wide64, some_is}
-use Rattle.row_records.proofs.Records.{rows_again, record_again}
+use Rattle.leaf_model.proofs.Fields.{wide64, some_is}
+use Rattle.leaf_model.proofs.ReadRows.{rows_again}
+use Rattle.row_records.proofs.Records.{record_again}
 use Rattle.row_records.proofs.Front.{front_again, rows_and_rest}
 
 -- Bytes that begin with as many rows begin with the same rows.

@@ -6,12 +6,13 @@ use Rattle.std.proofs.lemmas.Bool.{false≢true}
 use Rattle.std.proofs.lemmas.List.Concat.{flat_map-cons}
 use Rattle.leaf_model.specs.declared.writes.Write.{Write}
 use Rattle.leaf_model.specs.declared.writes.Write.TheVariants.{Add, Expire, Keep}
-use Rattle.row_records.specs.Bytes.{u64_bytes, name_bytes, write_bytes, IsBytes}
+use Rattle.leaf_model.specs.Bytes.{u64_bytes, name_bytes, IsBytes}
+use Rattle.row_records.specs.Bytes.{write_bytes}
 use Rattle.leaf_model.specs.Values.{IsWrite}
 use Rattle.row_records.specs.Records.{LogRecord, IsRecord, record_body, record_bytes}
 use Rattle.row_records.specs.Reading.{record_of}
 use Rattle.row_records.specs.Pending.{allows_sets, pending_bytes, pending_count, pending_of, with_write, with_push}
-use Rattle.row_records.proofs.Fields.{IsBytes-take}
+use Rattle.leaf_model.proofs.Fields.{IsBytes-take}
 use Rattle.row_records.proofs.Records.{record_found, record_again}
 use Rattle.row_records.proofs.Growing.{ungated, fields_of}
 

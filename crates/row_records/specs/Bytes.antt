@@ -1,53 +1,11 @@
--- Writes and rows as bytes.
-use Rattle.std.specs.Prelude.{◌≡◌, ℕ, ◌<◌, List, ◌∷◌, ◌++◌, length, take, drop, get_or, ℤ}
-use Rattle.std.specs.List.{flat_map, AllByRecursion}
-use Rattle.std.specs.Int.{w16, w32, w64, to_le_bytes, cast_unsigned}
-use Rattle.leaf_model.specs.declared.rows.Value.{Value}
-use Rattle.leaf_model.specs.declared.rows.Value.TheVariants.{Int, Text, Set}
-use Rattle.leaf_model.specs.declared.rows.Cell.{Cell}
+-- Writes as bytes.
+use Rattle.std.specs.Prelude.{◌≡◌, ℕ, List, ◌∷◌, ◌++◌, length, drop}
+use Rattle.std.specs.List.{AllByRecursion}
 use Rattle.leaf_model.specs.declared.rows.Row.{Row}
 use Rattle.leaf_model.specs.Values.{IsRow}
+use Rattle.leaf_model.specs.Bytes.{u32_bytes, u64_bytes, i64_bytes, rows_bytes}
 use Rattle.leaf_model.specs.declared.writes.Write.{Write}
 use Rattle.leaf_model.specs.declared.writes.Write.TheVariants.{Add, Expire, Keep}
-
--- numbers, little endian
-abbrev pub u16_bytes : ℕ → List ℕ
-u16_bytes n = to_le_bytes w16 n
-
-abbrev pub u32_bytes : ℕ → List ℕ
-u32_bytes n = to_le_bytes w32 n
-
-abbrev pub u64_bytes : ℕ → List ℕ
-u64_bytes n = to_le_bytes w64 n
-
-abbrev pub i64_bytes : ℤ → List ℕ
-i64_bytes n = to_le_bytes w64 (cast_unsigned w64 n)
-
--- a byte of length, and the name
-abbrev pub name_bytes : List ℕ → List ℕ
-name_bytes name = length name ∷ name
-
--- a text behind its length
-abbrev pub text_bytes : List ℕ → List ℕ
-text_bytes t = u16_bytes (length t) ++ t
-
--- a 1 and an integer, a 2 and a text, or a 3 and the texts of a set behind their number
-abbrev pub value_bytes : Value → List ℕ
-value_bytes (Int n) = 1 ∷ i64_bytes n
-value_bytes (Text t) = 2 ∷ text_bytes t
-value_bytes (Set members) = 3 ∷ (u16_bytes (length members) ++ flat_map text_bytes members)
-
--- the name, and the value
-abbrev pub cell_bytes : Cell → List ℕ
-cell_bytes c = name_bytes c.name ++ value_bytes c.value
-
--- the time, the number of cells, and the cells
-abbrev pub row_bytes : Row → List ℕ
-row_bytes row = i64_bytes row.time ++ u16_bytes (length row.cells) ++ flat_map cell_bytes row.cells
-
--- rows, one after another
-abbrev pub rows_bytes : List Row → List ℕ
-rows_bytes rows = flat_map row_bytes rows
 
 -- a 1 and rows behind their number, a 2 and a horizon, or a 3 and how many rows to keep
 abbrev pub write_bytes : Write → List ℕ
@@ -55,17 +13,20 @@ write_bytes (Add rows) = 1 ∷ (u32_bytes (length rows) ++ rows_bytes rows)
 write_bytes (Expire horizon) = 2 ∷ i64_bytes horizon
 write_bytes (Keep n) = 3 ∷ u64_bytes n
 
+-- the number of a write's kind, and what is said behind it
+abbrev pub write_kind : Write → ℕ
+write_kind (Add rows) = 1
+write_kind (Expire horizon) = 2
+write_kind (Keep n) = 3
+
+abbrev pub said_bytes : Write → List ℕ
+said_bytes (Add rows) = u32_bytes (length rows) ++ rows_bytes rows
+said_bytes (Expire horizon) = i64_bytes horizon
+said_bytes (Keep n) = u64_bytes n
+
 -- so many rows stand at the front of the bytes, and take so many of them
 pub record StandsInFront (count : ℕ) (bytes : List ℕ) (rows : List Row) (taken : ℕ) : Type 0 where
   pub each : AllByRecursion IsRow rows
   pub count_is : length rows ≡ count
   pub taken_is : taken ≡ length (rows_bytes rows)
   pub begins : bytes ≡ rows_bytes rows ++ drop taken bytes
-
--- each number is a byte
-abbrev pub IsBytes : List ℕ → Type 0
-IsBytes bytes = (i : ℕ) → get_or bytes i 0 < 256
-
--- what stands now begins with what stood before
-abbrev pub BeginsWith : List ℕ → List ℕ → Type 0
-BeginsWith before now = take (length before) now ≡ before

@@ -9,7 +9,8 @@ use Rattle.leaf_model.specs.declared.writes.Write.TheVariants.{Add}
 use Rattle.leaf_model.specs.declared.writes.Write.{Write}
 use Rattle.leaf_model.specs.Values.{IsWrite}
 use Rattle.row_records.specs.declared.record_reader.Flush.{Flush}
-use Rattle.row_records.specs.Bytes.{name_bytes, u64_bytes, write_bytes}
+use Rattle.leaf_model.specs.Bytes.{name_bytes, u64_bytes}
+use Rattle.row_records.specs.Bytes.{write_bytes}
 
 -- whether its kind allows sets, a table's name, and its writes, the first one first
 pub record LogRecord : Type 0 where

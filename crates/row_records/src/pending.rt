@@ -1,6 +1,6 @@
 ghost use Rattle.std.specs.Prelude.{◌≡◌, ◌≤◌, length, Option, Some, None, true, OnOk, OnErr, IfSome, IsSome};
 ghost use Rattle.leaf_model.specs.Values.{IsWrite};
-ghost use Rattle.row_records.specs.Bytes.{IsBytes};
+ghost use Rattle.leaf_model.specs.Bytes.{IsBytes};
 ghost use Rattle.row_records.specs.Records.{IsRecord};
 ghost use Rattle.row_records.specs.Pending.{allows_sets, pending_bytes, pending_count, pending_of, with_push};
 

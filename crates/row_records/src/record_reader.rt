@@ -1,12 +1,13 @@
 // Reading a record: the table's name and its writes.
 ghost use Rattle.std.specs.Prelude.{◌≡◌, IfOk, IfSome, Some, option_map};
 ghost use Rattle.std.specs.List.{list_any};
+ghost use Rattle.leaf_model.specs.Lent.{lent_row, lent_rows, lent_value};
 ghost use Rattle.row_records.specs.Records.{LogRecord, IsRecord, has_set, has_sets, is_set_value, record_bytes, record_is, row_has_set};
 ghost use Rattle.row_records.specs.Reading.{ReadsAs, add_at, write_at, writes_at, flush_at, whole_at, body_of, record_of};
 
 use crate::fault::ReadError;
 use crate::row_reader::{name_of, rows_of, time_of, u32_at, u64_at};
-use leaf_model::{MAX_ROWS, Row, Rows, Text, Value, Write, Writes};
+use leaf_model::{LentRow, LentRows, LentValue, MAX_ROWS, Rows, Text, Write, Writes};
 use std::alloc::{AllocError, Global};
 
 /// A record that was read: whether its kind allows sets, its table's name, and its writes.
@@ -86,35 +87,46 @@ fn whole_of(alloc: Global, sets: bool, bytes: &[u8]) -> Result<Flush, ReadError>
     Ok(Flush { sets, name, writes })
 }
 
-fn is_set_value(value: &Value) -> bool
-    ensures { result ≡ is_set_value value.now }
+fn is_set_value(value: &LentValue) -> bool
+    ensures { result ≡ is_set_value (lent_value value.now) }
 {
     match value {
-        Value::Set(_members) => true,
-        Value::Int(_) | Value::Text(_) => false,
+        LentValue::Set(_members) => true,
+        LentValue::Int(_) | LentValue::Text(_) => false,
     }
 }
 
-fn row_has_set(row: &Row) -> bool
-    ensures { result ≡ row_has_set row.now }
+fn row_has_set(row: &LentRow) -> bool
+    ensures { result ≡ row_has_set (lent_row row.now) }
 {
-    row.cells
-        .as_slice()
-        .iter()
-        .any(|cell| is_set_value(&cell.value))
+    let mut left = row.cells;
+    while let Some((first, others)) = left.split_first() {
+        if is_set_value(&first.value) {
+            return true;
+        }
+        left = others;
+    }
+    false
 }
 
-fn have_set(rows: &[Row]) -> bool
-    ensures { result ≡ list_any row_has_set rows.now }
+fn have_set(rows: &LentRows) -> bool
+    ensures { result ≡ list_any row_has_set (lent_rows rows.now) }
 {
-    rows.iter().any(|row| row_has_set(row))
+    let mut left = *rows;
+    while let Some((first, others)) = left.split_first() {
+        if row_has_set(&first) {
+            return true;
+        }
+        left = others;
+    }
+    false
 }
 
 fn has_set(write: &Write) -> bool
     ensures { result ≡ has_set write.now }
 {
     match write {
-        Write::Add(rows) => have_set(rows.as_slice()),
+        Write::Add(rows) => have_set(&rows.lend()),
         Write::Expire(_) | Write::Keep(_) => false,
     }
 }

@@ -2,33 +2,40 @@
 ghost use Rattle.std.specs.Prelude.{ℕ, List, ◌≡◌, ◌≤◌, ◌<◌, ◌+◌, ◌-◌, ◌++◌, ◌∷◌, [], length, take, drop, OnOk, OnErr, IfOk, Some};
 ghost use Rattle.std.specs.Int.{w64, to_le_bytes};
 ghost use Rattle.leaf_model.specs.Values.{IsWrite};
-ghost use Rattle.row_records.specs.Bytes.{write_bytes, u64_bytes};
-ghost use Rattle.row_records.specs.Records.{LogRecord, new_record};
+ghost use Rattle.leaf_model.specs.Bytes.{u64_bytes, BeginsWith};
+ghost use Rattle.row_records.specs.Bytes.{said_bytes, write_kind};
+ghost use Rattle.row_records.specs.Records.{LogRecord, new_record, record_body};
 ghost use Rattle.row_records.specs.Pending.{pending_bytes, with_write};
 
-use crate::row_writer::{lay_rows, put_name};
-use leaf_model::Write;
+use leaf_model::{Write, put_name};
 use std::alloc::{AllocError, Global};
 
-pub(crate) fn put_write(out: &mut Vec<u8>, write: &Write) -> Result<(), AllocError>
+/// The number of a write's kind.
+fn kind_of(write: &Write) -> u8
+    ensures { result ≡ write_kind write.now }
+{
+    match write {
+        Write::Add(_rows) => 1,
+        Write::Expire(_) => 2,
+        Write::Keep(_) => 3,
+    }
+}
+
+/// Puts what a write says behind its kind at the end; where that is much, there is room for a gate too.
+fn put_said(out: &mut Vec<u8>, write: &Write) -> Result<(), AllocError>
     requires { IsWrite write.now }
-    ensures { OnOk result (out.new.items ≡ out.old.items ++ write_bytes write.now) }
+    ensures put { OnOk result (out.new.items ≡ out.old.items ++ said_bytes write.now) }
+    ensures begins { OnErr result (BeginsWith out.old.items out.new.items) }
 {
     match write {
         Write::Add(rows) => {
-            let rows = rows.as_slice();
-            out.push(1)?;
+            let bytes = rows.bytes();
+            out.reserve(bytes.len() + 5)?;
             out.extend_from_slice(&(rows.len() as u32).to_le_bytes())?;
-            lay_rows(out, rows)
+            out.extend_from_slice(bytes)
         }
-        Write::Expire(horizon) => {
-            out.push(2)?;
-            out.extend_from_slice(&horizon.to_le_bytes())
-        }
-        Write::Keep(rows) => {
-            out.push(3)?;
-            out.extend_from_slice(&rows.to_le_bytes())
-        }
+        Write::Expire(horizon) => out.extend_from_slice(&horizon.to_le_bytes()),
+        Write::Keep(rows) => out.extend_from_slice(&rows.to_le_bytes()),
     }
 }
 
@@ -40,34 +47,69 @@ fn overwrite(bytes: &mut [u8], at: usize, number: u64)
     bytes[at..at + 8].copy_from_slice(&number.to_le_bytes());
 }
 
+/// Puts the body of a record of one write at the end.
+fn put_body(out: &mut Vec<u8>, table: &str, write: &Write) -> Result<(), AllocError>
+    requires short { length table.now ≤ 255 }
+    requires write { IsWrite write.now }
+    ensures { OnOk result (out.new.items ≡ out.old.items ++ record_body (new_record table.now (write.now ∷ []))) }
+{
+    out.push(2)?;
+    put_name(out, table)?;
+    out.extend_from_slice(&1u64.to_le_bytes())?;
+    out.push(kind_of(write))?;
+    put_said(out, write)
+}
+
 /// A record of one write, with a closed gate after it.
 pub(crate) fn first_record(alloc: Global, table: &str, write: &Write) -> Result<Vec<u8>, AllocError>
     requires short { length table.now ≤ 255 }
     requires write { IsWrite write.now }
     ensures { IfOk result (λ bytes. bytes.items ≡ pending_bytes (Some (new_record table.now (write.now ∷ [])))) }
 {
-    let mut body = Vec::new(alloc);
-    body.push(2)?;
-    put_name(&mut body, table)?;
-    body.extend_from_slice(&1u64.to_le_bytes())?;
-    put_write(&mut body, write)?;
     let mut bytes = Vec::new(alloc);
-    bytes.extend_from_slice(&(body.len() as u64).to_le_bytes())?;
-    bytes.extend_from_slice(&body)?;
+    bytes.extend_from_slice(&0u64.to_le_bytes())?;
+    put_body(&mut bytes, table, write)?;
+    let len = bytes.len() as u64 - 8;
+    overwrite(bytes.as_mut_slice(), 0, len);
     bytes.push(0)?;
     Ok(bytes)
 }
 
-/// Puts bytes in the place of the last one.
-fn replace_last(bytes: &mut Vec<u8>, added: &[u8]) -> Result<(), AllocError>
-    requires bytes { 0 < length bytes.old.items }
-    requires added { 0 < length added.now }
-    ensures added { OnOk result (bytes.new.items ≡ take (length bytes.old.items - 1) bytes.old.items ++ added.now) }
+/// Puts what a write says behind its kind, and a closed gate, at the end.
+fn lay_behind(out: &mut Vec<u8>, write: &Write) -> Result<(), AllocError>
+    requires { IsWrite write.now }
+    ensures put { OnOk result (out.new.items ≡ out.old.items ++ (said_bytes write.now ++ 0 ∷ [])) }
+    ensures begins { OnErr result (BeginsWith out.old.items out.new.items) }
+{
+    put_said(out, write)?;
+    out.push(0)?;
+    Ok(())
+}
+
+/// The same, or nothing.
+fn put_behind(out: &mut Vec<u8>, write: &Write) -> Result<(), AllocError>
+    requires { IsWrite write.now }
+    ensures put { OnOk result (out.new.items ≡ out.old.items ++ (said_bytes write.now ++ 0 ∷ [])) }
+    ensures kept { OnErr result (out.new.items ≡ out.old.items) }
+{
+    let len = out.len();
+    let done = lay_behind(out, write);
+    if done.is_err() {
+        out.truncate(len);
+    }
+    done
+}
+
+/// Puts a write and a closed gate in the place of the last byte, or nothing.
+fn put_more(bytes: &mut Vec<u8>, write: &Write) -> Result<(), AllocError>
+    requires gate { 0 < length bytes.old.items }
+    requires write { IsWrite write.now }
+    ensures put { OnOk result (bytes.new.items ≡ take (length bytes.old.items - 1) bytes.old.items ++ write_kind write.now ∷ (said_bytes write.now ++ 0 ∷ [])) }
     ensures kept { OnErr result (bytes.new.items ≡ bytes.old.items) }
 {
-    let last = bytes.len() - 1;
-    bytes.extend_from_slice(&added[1..])?;
-    bytes[last] = added[0];
+    let gate = bytes.len() - 1;
+    put_behind(bytes, write)?;
+    bytes[gate] = kind_of(write);
     Ok(())
 }
 
@@ -95,10 +137,7 @@ pub(crate) fn add_write(
     ensures added { (r : LogRecord) → bytes.old.items ≡ pending_bytes (Some r) → name_len ≡ length r.name → count ≡ length r.writes + 1 → OnOk result (bytes.new.items ≡ pending_bytes (Some (with_write write.now r))) }
     ensures kept { OnErr result (bytes.new.items ≡ bytes.old.items) }
 {
-    let mut added = Vec::new(*bytes.allocator());
-    put_write(&mut added, write)?;
-    added.push(0)?;
-    replace_last(bytes, &added)?;
+    put_more(bytes, write)?;
     renumber(bytes.as_mut_slice(), name_len, count);
     Ok(())
 }

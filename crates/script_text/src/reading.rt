@@ -362,8 +362,8 @@ fn row_count(command: &Command) -> u64
     ensures { result ≡ row_count command.now }
 {
     match command {
-        Command::Add { rows, .. } => rows.as_slice().len() as u64,
-        Command::Tail { rows, .. } => rows.as_slice().len() as u64,
+        Command::Add { rows, .. } => rows.len() as u64,
+        Command::Tail { rows, .. } => rows.len() as u64,
         Command::Fleet { .. }
         | Command::Expire { .. }
         | Command::Keep { .. }

@@ -1,5 +1,5 @@
 // The rows of an add or a tail, read by threads side by side.
-ghost use Rattle.std.specs.Prelude.{◌≡◌, ◌+◌, ◌≤◌, ◌<◌, ◌^◌, IfOk, List, ℕ, length};
+ghost use Rattle.std.specs.Prelude.{◌≡◌, ◌+◌, ◌≤◌, ◌<◌, ◌^◌, ◌++◌, IfOk, List, OnOk, ℕ, length};
 ghost use Rattle.std.specs.Borrow.{Bor};
 ghost use Rattle.std.specs.List.{AllByRecursion, AllZip};
 ghost use Rattle.row_json.specs.Row.{row_of};
@@ -11,11 +11,10 @@ ghost use Rattle.script_text.specs.Commands.{on_line, rows_from};
 ghost use Rattle.script_text.specs.Parts.{IsPartRead, fault_behind};
 ghost use Rattle.script_text.specs.Script.{IfAt, ParsesAs};
 
-use crate::ends::line_count;
 use crate::fault::{ScriptFault, Why, fault_at};
 use crate::lines::{cut_line, without_return};
 use crate::parts::{MANY_LINES, parts_of};
-use leaf_model::{Row, Rows, TableRows};
+use leaf_model::{LentRow, PackedRows, Row, Rows};
 use rayon::prelude::*;
 use row_json::{RowFault, RowRoom, quick_row};
 use std::alloc::{AllocError, Global};
@@ -43,14 +42,26 @@ pub fn read_rows<R: Threads + Sync>(
     }
     let parts = parts_of(alloc, text)?;
     let mut read = VecDeque::from_vec(read_each(rt, alloc, parts.as_slice())?);
-    let mut rows = Vec::with_capacity(alloc, count as usize)?;
+    let mut rows = PackedRows::new(alloc);
     while let Some(part) = read.pop_front() {
         match part {
-            Ok(part) => rows.append(&mut part.into_inner())?,
+            Ok(part) => put_behind(&mut rows, part)?,
             Err(fault) => return Err(fault_behind(number + rows.len() as u64, fault)),
         }
     }
     Ok(Rows::of(rows))
+}
+
+/// Puts a part's rows behind the others; where there are none yet, the part's bytes are the beginning.
+#[tactic(auto, using(crate::proofs::OneMore::none_before))]
+fn put_behind(rows: &mut PackedRows, part: PackedRows) -> Result<(), AllocError>
+    ensures { OnOk result (rows.new ≡ rows.old ++ part) }
+{
+    if rows.len() == 0 {
+        *rows = part;
+        return Ok(());
+    }
+    rows.append(&part)
 }
 
 /// The same, read by one thread.
@@ -64,7 +75,7 @@ fn read_alone(alloc: Global, text: &[u8], number: u64, count: u64) -> Result<Row
     ensures count { IfOk result (λ rows. length rows ≡ count) }
 {
     match read_part(alloc, text) {
-        Ok(rows) => Ok(Rows::of(rows.into_inner())),
+        Ok(rows) => Ok(Rows::of(rows)),
         Err(fault) => Err(fault_behind(number, fault)),
     }
 }
@@ -74,41 +85,42 @@ fn read_each<R: Threads + Sync>(
     rt: &R,
     alloc: Global,
     parts: &[&[u8]],
-) -> Result<Vec<Result<TableRows, ScriptFault>>, AllocError>
+) -> Result<Vec<Result<PackedRows, ScriptFault>>, AllocError>
     ensures { IfOk result (λ read. AllZip (λ (part : Bor (List ℕ)) rows. IsPartRead part.now rows) parts.now read.items) }
 {
     parts
         .par_iter()
         .with_min_len(1)
         .map(
-            |part: &&[u8]| -> Result<TableRows, ScriptFault>
+            |part: &&[u8]| -> Result<PackedRows, ScriptFault>
                 ensures { IsPartRead part.now.now result }
             { read_one(alloc, part) },
         )
         .collect(rt, alloc)
 }
 
-fn read_one(alloc: Global, part: &[u8]) -> Result<TableRows, ScriptFault>
+fn read_one(alloc: Global, part: &[u8]) -> Result<PackedRows, ScriptFault>
     ensures { IsPartRead part.now result }
 {
     read_part(alloc, part)
 }
 
 /// The rows that the lines of a part are, where its first line has the number 1.
-fn read_part(alloc: Global, part: &[u8]) -> Result<TableRows, ScriptFault>
+fn read_part(alloc: Global, part: &[u8]) -> Result<PackedRows, ScriptFault>
     ensures exact { ParsesAs (λ rows. rows) result (rows_from 1 (lines_of part.now)) }
     ensures are_rows { IfOk result (AllByRecursion IsRow) }
 {
-    let mut rows = Vec::with_capacity(alloc, line_count(part) as usize)?;
+    let mut rows = PackedRows::new(alloc);
     let mut room = RowRoom::new(alloc);
     let mut rest = part;
     while !rest.is_empty() {
         let (line, after) = cut_line(rest);
         let number = rows.len() as u64 + 1;
-        rows.push(row(alloc, &mut room, without_return(line), number)?)?;
+        let read = row(alloc, &mut room, without_return(line), number)?;
+        rows.push(&LentRow::of(&read))?;
         rest = after;
     }
-    Ok(TableRows::of(rows))
+    Ok(rows)
 }
 
 /// The row that the line of this number is. One that is seen as its members come is made at once.

@@ -65,7 +65,7 @@ row_by i u v false is low = rw is (record {
   ascending = ((refl, tt), (tt, tt));
 })
 
-row_fits : (seed i : ℕ) → i < 2 ^ 63 → IsRow (row_at seed i)
+pub row_fits : (seed i : ℕ) → i < 2 ^ 63 → IsRow (row_at seed i)
 unfolding row_at
 row_fits seed i low = row_by i (word seed (2 * i)) (word seed (2 * i + 1)) (word seed (2 * i + 1) % 4 == 0) refl low
 

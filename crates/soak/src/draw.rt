@@ -3,7 +3,7 @@ ghost use Rattle.std.specs.Prelude.{◌≡◌, ◌+◌, ◌-◌, ◌*◌, ◌^�
 ghost use Rattle.soak.specs.Soak.{generator_behind, row_at, rows_between};
 
 use crate::row::row_with;
-use leaf_model::{Row, Rows};
+use leaf_model::{LentRow, PackedRows, Row, Rows};
 use rand_core::utils::NextWord;
 use rand_pcg::Lcg64Xsh32;
 use std::alloc::{AllocError, Global};
@@ -51,10 +51,10 @@ impl Draw {
         ensures next { IfOk result (λ _. self.new.next ≡ end) }
         ensures exact { IfOk result (λ rows. rows ≡ rows_between self.old.seed self.old.next end) }
     {
-        let mut rows = Vec::new(alloc);
+        let mut rows = PackedRows::new(alloc);
         while self.next < end {
             let row = self.row(alloc)?;
-            rows.push(row)?;
+            rows.push(&LentRow::of(&row))?;
         }
         Ok(Rows::of(rows))
     }

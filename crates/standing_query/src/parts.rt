@@ -11,7 +11,7 @@ use crate::fed::Fed;
 use crate::late::without_late;
 use crate::shown::time_in;
 use group_table::{fold_rows, merge};
-use leaf_model::{Groups, Query, Row, Rows};
+use leaf_model::{Groups, LentRows, Query, Row, Rows};
 use std::alloc::{AllocError, Global};
 use std::mem::replace;
 
@@ -133,7 +133,7 @@ impl Parts {
         if MOST_ROWS - self.rows < count {
             return Err(AllocError);
         }
-        let part = fold_rows(alloc, spread, rows)?;
+        let part = fold_rows(alloc, spread, &LentRows::Owned(rows))?;
         self.rows += count;
         put_part(alloc, &mut self.list, part)?;
         Ok(())
@@ -147,12 +147,12 @@ impl Parts {
         ensures memory { IfErr result (λ _. late < length rows) }
         ensures room { vec_capacity self.old.list ≤ vec_capacity self.new.list }
     {
-        let rows = rows.into_inner();
         if late >= rows.len() as u64 {
             return Ok(());
         }
         let alloc = *self.list.allocator();
-        let kept = without_late(alloc, rows, late)?;
+        let own = rows.lend().own(alloc)?;
+        let kept = without_late(alloc, own, late)?;
         self.put(spread, kept.as_slice())
     }
 

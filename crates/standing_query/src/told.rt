@@ -10,7 +10,7 @@ use crate::parts::are_empty;
 use crate::shown::row_shown;
 use crate::times::groups_times;
 use group_table::{fold_rows, merge};
-use leaf_model::{Group, Groups, Query, Text};
+use leaf_model::{Group, Groups, LentRows, Query, Text};
 use std::alloc::{AllocError, Global};
 use std::slice::from_ref;
 
@@ -29,7 +29,7 @@ fn told_one(
         return Ok(Groups::of(Vec::new(alloc)));
     }
     let row = row_shown(alloc, names, group.keys.as_slice())?;
-    let once = fold_rows(alloc, query, from_ref(&row))?;
+    let once = fold_rows(alloc, query, &LentRows::Owned(from_ref(&row)))?;
     Ok(groups_times(alloc, once, group.count))
 }
 

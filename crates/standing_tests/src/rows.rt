@@ -1,10 +1,11 @@
 // Rows with a time, a code and a host, a query over them, a state that is fed entries, and what groups have to be.
-ghost use Rattle.std.specs.Prelude.{◌≡◌, ◌+◌, IfOk};
+ghost use Rattle.std.specs.Prelude.{◌≡◌, ◌+◌, ◌≤◌, IfOk, IsUtf8, length};
+ghost use Rattle.leaf_model.specs.Values.{IsRow};
 
 use group_table::fold_rows;
 use leaf_model::{
-    Agg, Aggs, Cell, Cells, Cond, Conds, Group, Groups, Key, Names, Op, Query, Row, Rows, Text,
-    Value,
+    Agg, Aggs, Cell, Cells, Cond, Conds, Group, Groups, Key, LentRow, Names, Op, PackedRows, Query,
+    Row, Rows, Text, Value,
 };
 use standing_query::{Fed, Standing};
 use std::alloc::{AllocError, Global};
@@ -31,23 +32,43 @@ pub fn first() -> &'static [Spelled] {
 /// An add of which two rows are late where the horizon is 3.
 pub const FOUR: &[Spelled] = &[(6, 4, "b"), (2, 9, "a"), (8, 3, "a"), (1, 8, "a")];
 
-pub fn text(alloc: Global, letters: &str) -> Result<Text, AllocError> {
+pub fn text(alloc: Global, letters: &str) -> Result<Text, AllocError>
+    ensures { IfOk result (λ text. text ≡ letters.now) }
+{
     Ok(Text::of(String::from_str(alloc, letters)?))
 }
 
-fn cell(alloc: Global, name: &str, value: Value) -> Result<Cell, AllocError> {
+fn cell(alloc: Global, name: &str, value: Value) -> Result<Cell, AllocError>
+    ensures { IfOk result (λ cell. (cell.name ≡ name.now) × (cell.value ≡ value)) }
+{
     Ok(Cell {
         name: text(alloc, name)?,
         value,
     })
 }
 
-/// The row of a time, a code and a host.
-fn row(alloc: Global, time: i64, code: i64, host: &str) -> Result<Row, AllocError> {
-    let host = Value::Text(text(alloc, host)?);
+/// The text of a host; there is none that is too long for a row.
+fn host_text(alloc: Global, host: &str) -> Result<Text, AllocError>
+    ensures utf8 { IfOk result (λ text. IsUtf8 text) }
+    ensures short { IfOk result (λ text. length text ≤ 65535) }
+{
+    if host.len() > 65535 {
+        return Err(AllocError);
+    }
+    text(alloc, host)
+}
+
+/// The row of a time, a code and a host; there is none before the time 0.
+fn row(alloc: Global, time: i64, code: i64, host: &str) -> Result<Row, AllocError>
+    ensures { IfOk result IsRow }
+{
+    if time < 0 {
+        return Err(AllocError);
+    }
+    let host = host_text(alloc, host)?;
     let mut cells = Vec::new(alloc);
     cells.push(cell(alloc, "code", Value::Int(code))?)?;
-    cells.push(cell(alloc, "host", host)?)?;
+    cells.push(cell(alloc, "host", Value::Text(host))?)?;
     Ok(Row {
         time,
         cells: Cells::of(cells),
@@ -55,10 +76,11 @@ fn row(alloc: Global, time: i64, code: i64, host: &str) -> Result<Row, AllocErro
 }
 
 /// Rows of a time, a code and a host each.
-pub fn rows_of(alloc: Global, table: &[Spelled]) -> Result<Vec<Row>, AllocError> {
-    let mut rows = Vec::new(alloc);
+pub fn rows_of(alloc: Global, table: &[Spelled]) -> Result<PackedRows, AllocError> {
+    let mut rows = PackedRows::new(alloc);
     for (time, code, host) in table {
-        rows.push(row(alloc, *time, *code, host)?)?;
+        let row = row(alloc, *time, *code, host)?;
+        rows.push(&LentRow::of(&row))?;
     }
     Ok(rows)
 }
@@ -77,7 +99,8 @@ pub enum Step {
 /// What a state is fed of an add.
 fn added(alloc: Global, table: &[Spelled], late: u64) -> Result<Fed, AllocError> {
     let mut rows = rows_of(alloc, table)?;
-    rows.truncate(100_000);
+    let most = rows.len().min(100_000);
+    rows.truncate(most);
     Ok(Fed::Added {
         rows: Rows::of(rows),
         late,
@@ -146,8 +169,9 @@ pub fn feed(alloc: Global, standing: &mut Standing, step: Step) -> Result<(), Al
 pub fn settle(alloc: Global, standing: &mut Standing, table: &[Spelled]) -> Result<(), AllocError> {
     let number = next_number(standing)?;
     let mut rows = rows_of(alloc, table)?;
-    rows.truncate(100_000);
-    let groups = fold_rows(alloc, standing.spread(), rows.as_slice())?;
+    let most = rows.len().min(100_000);
+    rows.truncate(most);
+    let groups = fold_rows(alloc, standing.spread(), &rows.lend())?;
     standing.settle(number, groups)
 }
 

@@ -29,7 +29,7 @@ pub fn tells(
     };
     let asked = query(alloc)?;
     let rows = rows_of(alloc, left)?;
-    let folded = fold_rows(alloc, &asked, rows.as_slice())?;
+    let folded = fold_rows(alloc, &asked, &rows.lend())?;
     Ok(are_groups(&groups, want) && are_groups(&folded, want))
 }
 

@@ -1,15 +1,12 @@
 -- How many columns blocks have, and how many rows and cells there are: of lists behind one another, and of what is left of a list.
-use Rattle.std.proofs.Common.{cond, ◌≡◌, ℕ, zero, suc, ◌+◌, ◌-◌, ◌*◌, ◌≤◌, Bool, true, false, List, [], ◌∷◌, ◌++◌, length, take, drop, filter, ℤ, int_le, sym, ap, subst, ◌∙◌, Bor, arith}
-use Rattle.std.specs.Prelude.{slice_range}
+use Rattle.std.proofs.Common.{cond, ◌≡◌, ℕ, zero, suc, ◌+◌, ◌≤◌, Bool, true, false, List, [], ◌∷◌, ◌++◌, length, take, drop, filter, ℤ, int_le, sym, ap, ◌∙◌, arith}
 use Rattle.std.proofs.lemmas.List.{take-append-drop}
 use Rattle.leaf_model.specs.declared.rows.Row.{Row}
 use Rattle.leaf_model.specs.Content.{rows_from}
 use Rattle.row_blocks.specs.Blocks.{Block}
 use Rattle.row_blocks.specs.Held.{columns_count, rows_and_cells}
 use Rattle.row_blocks.specs.Live.{has_live}
-use Rattle.row_blocks.specs.Merging.{lent_rows}
 use Rattle.table_state.specs.Stored.{AreSealed, in_runs}
-use Rattle.table_state.proofs.Runs.{lent_range, take_sum}
 
 -- ---- columns
 
@@ -54,34 +51,16 @@ rows_behind (suc n) (row ∷ rows) = omega (arith, rows_behind n rows)
 rows_split : (n : ℕ) (rows : List Row) → rows_and_cells (take n rows) + rows_and_cells (drop n rows) ≡ rows_and_cells rows
 rows_split n rows = sym (rows_append (take n rows) (drop n rows)) ∙ ap rows_and_cells (take-append-drop n rows)
 
--- ---- whole runs
-
-pub run_columns : (refs : List (Bor Row)) (i : ℕ) (blocks now : List Block) (b : Block) → columns_count blocks ≤ rows_and_cells (take (i * 65536) (lent_rows refs))
-    → length b.columns ≤ rows_and_cells (lent_rows (slice_range refs (i * 65536) ((i + 1) * 65536))) → now ≡ blocks ++ b ∷ [] → columns_count now ≤ rows_and_cells (take ((i + 1) * 65536) (lent_rows refs))
-run_columns refs i blocks now b so_far few pushed =
-    let rows = lent_rows refs in
-    let a = i * 65536 in
-    let k = (i + 1) * 65536 - a in
-    let run = ap rows_and_cells (lent_range refs a ((i + 1) * 65536)) in
-    let whole = ap rows_and_cells (take_sum a k ((i + 1) * 65536) rows (omega arith)) ∙ rows_append (take a rows) (take k (drop a rows)) in
-    let count = ap columns_count pushed ∙ columns_append blocks (b ∷ []) in
-    omega (arith, so_far, few, run, whole, count)
-
 -- ---- an add
 
 -- whole runs are sealed, and the others stand in the tail
-pub add_columns : (blocks : List Block) (tail more lent : List Row) (h z : ℤ) → lent ≡ more → z ≡ h → (now : List Block)
-    → AreSealed blocks (take (in_runs (length (tail ++ rows_from z lent))) (tail ++ rows_from z lent)) now → (rest : List Row)
-    → rest ≡ drop (in_runs (length (tail ++ rows_from h more))) (tail ++ rows_from h more)
-    → columns_count now + rows_and_cells rest ≤ columns_count blocks + rows_and_cells tail + rows_and_cells more
-add_columns blocks tail more lent h z same at now sealed rest left =
-    let all = tail ++ rows_from h more in
-    let gone = in_runs (length all) in
-    let lately = subst (λ (l : List Row). AreSealed blocks (take (in_runs (length (tail ++ rows_from h l))) (tail ++ rows_from h l)) now) same
-    (subst (λ (t : ℤ). AreSealed blocks (take (in_runs (length (tail ++ rows_from t lent))) (tail ++ rows_from t lent)) now) at sealed) in
-    let count = ap columns_count lately.is ∙ columns_append blocks lately.more in
+pub add_columns : (blocks : List Block) (tail more all : List Row) (h : ℤ) → all ≡ tail ++ rows_from h more → (now : List Block) → AreSealed blocks (take (in_runs (length all)) all) now → (rest : List Row)
+    → rest ≡ drop (in_runs (length all)) all → columns_count now + rows_and_cells rest ≤ columns_count blocks + rows_and_cells tail + rows_and_cells more
+add_columns blocks tail more all h put now sealed rest left =
+    let count = ap columns_count sealed.is ∙ columns_append blocks sealed.more in
     let behind = ap rows_and_cells left in
-    omega (arith, lately.few, count, behind, rows_split gone all, rows_append tail (rows_from h more), rows_late h more)
+    let whole = ap rows_and_cells put in
+    omega (arith, sealed.few, count, behind, rows_split (in_runs (length all)) all, whole, rows_append tail (rows_from h more), rows_late h more)
 
 -- ---- rows that leave, and a tail that is sealed
 

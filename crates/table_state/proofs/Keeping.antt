@@ -35,14 +35,6 @@ pub each_from : (h : ℤ) (xs : List Row) → AllByRecursion IsRow xs → AllByR
 each_from h [] a = tt
 each_from h (x ∷ xs) a = one_from h x (rows_from h xs) (int_le h x.time) refl a.0 (each_from h xs a.1)
 
-one_late : (x : Row) (rest : List Row) (b : Bool) → IsRow x → AllByRecursion IsRow rest → AllByRecursion IsRow (cond b (x ∷ rest) rest)
-one_late x rest true is a = (is, a)
-one_late x rest false is a = a
-
-pub each_late : (h : ℤ) (xs : List Row) → AllByRecursion IsRow xs → AllByRecursion IsRow (rows_from h xs)
-each_late h [] a = tt
-each_late h (x ∷ xs) a = one_late x (rows_from h xs) (int_le h x.time) a.0 (each_late h xs a.1)
-
 one_more : (x : Row) (rest : List Row) (b : Bool) (n : ℕ) → length rest ≤ n → length (cond b (x ∷ rest) rest) ≤ suc n
 one_more x rest true n h = omega arith
 one_more x rest false n h = omega arith

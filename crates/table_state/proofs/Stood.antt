@@ -132,22 +132,22 @@ module _ (blocks : List Block) (skip : ℕ) (tail : List Row) (h : ℤ) (live : 
         ∙ append_assoc old (take gone all) (drop gone all) ∙ ap (λ (l : List Row). old ++ l) (take-append-drop gone all) ∙ sym (append_assoc old tail (rows_from h more))
 
 -- the same, by what is known of the calls
-module _ (blocks : List Block) (skip : ℕ) (tail : List Row) (h : ℤ) (live : ℕ) (s : Stands blocks skip tail h live) (more lent : List Row) (are : AllByRecursion IsRow more) (same : lent ≡ more)
-    (z : ℤ) (at : z ≡ h) (now : List Block) (is : AreSealed blocks (take (in_runs (length (tail ++ rows_from z lent))) (tail ++ rows_from z lent)) now) (rest : List Row)
-    (left : rest ≡ drop (in_runs (length (tail ++ rows_from h more))) (tail ++ rows_from h more)) where
+module _ (blocks : List Block) (skip : ℕ) (tail : List Row) (h : ℤ) (live : ℕ) (s : Stands blocks skip tail h live) (more : List Row) (are : AllByRecursion IsRow more) (full : List Row)
+    (put : full ≡ tail ++ rows_from h more) (now : List Block) (is : AreSealed blocks (take (in_runs (length full)) full) now) (rest : List Row) (left : rest ≡ drop (in_runs (length full)) full) where
   behind : AreSealed blocks (take (in_runs (length (tail ++ rows_from h more))) (tail ++ rows_from h more)) now
-  behind =
-      subst (λ (l : List Row). AreSealed blocks (take (in_runs (length (tail ++ rows_from h l))) (tail ++ rows_from h l)) now) same
-      (subst (λ (t : ℤ). AreSealed blocks (take (in_runs (length (tail ++ rows_from t lent))) (tail ++ rows_from t lent)) now) at is)
+  behind = subst (λ (l : List Row). AreSealed blocks (take (in_runs (length l)) l) now) put is
 
-  pub add_stands : (count : ℕ) → count ≡ in_runs (length (tail ++ rows_from h more)) → live + length tail + length (rows_from h more) ≤ most_rows → Stands now skip rest h (live + count)
+  others : rest ≡ drop (in_runs (length (tail ++ rows_from h more))) (tail ++ rows_from h more)
+  others = left ∙ ap (λ (l : List Row). drop (in_runs (length l)) l) put
+
+  pub add_stands : (count : ℕ) → count ≡ in_runs (length full) → live + length tail + length (rows_from h more) ≤ most_rows → Stands now skip rest h (live + count)
   add_stands count e few =
-      subst (λ (l : List Row). Stands now skip l h (live + count)) (sym left)
-      (subst (λ (n : ℕ). Stands now skip (drop (in_runs (length (tail ++ rows_from h more))) (tail ++ rows_from h more)) h (live + n)) (sym e)
+      subst (λ (l : List Row). Stands now skip l h (live + count)) (sym others)
+      (subst (λ (n : ℕ). Stands now skip (drop (in_runs (length (tail ++ rows_from h more))) (tail ++ rows_from h more)) h (live + n)) (sym (e ∙ ap (λ (l : List Row). in_runs (length l)) put))
       (added_stands blocks skip tail h live s more are now behind few))
 
   pub add_rows : sealed_rows now skip h ++ rest ≡ (sealed_rows blocks skip h ++ tail) ++ rows_from h more
-  add_rows = ap (λ (l : List Row). sealed_rows now skip h ++ l) left ∙ added_rows blocks skip tail h live s more are now behind
+  add_rows = ap (λ (l : List Row). sealed_rows now skip h ++ l) others ∙ added_rows blocks skip tail h live s more are now behind
 
 -- ---- an expiry
 

@@ -1,158 +1,108 @@
 // Rows that are added: whole runs of them are sealed, the others stand in the tail.
-ghost use Rattle.std.specs.Prelude.{◌≡◌, ◌+◌, ◌*◌, ◌≤◌, ◌<◌, ◌^◌, ◌++◌, drop, take, length, vec_len, vec_capacity, Err, IfOk, IfErr, OnOk, OnErr};
+ghost use Rattle.std.specs.Prelude.{◌≡◌, ◌+◌, ◌<◌, ◌≤◌, ◌++◌, drop, take, length, Err, IfOk, OnOk, OnErr};
 ghost use Rattle.std.specs.List.{AllByRecursion};
 ghost use Rattle.leaf_model.specs.Content.{rows_from};
+ghost use Rattle.leaf_model.specs.Lent.{lent_rows};
 ghost use Rattle.leaf_model.specs.Values.{IsRow};
 ghost use Rattle.row_blocks.specs.Blocks.{IsBlock};
 ghost use Rattle.row_blocks.specs.Held.{block_rows, columns_count, rows_and_cells};
-ghost use Rattle.row_blocks.specs.Merging.{lent_rows};
 ghost use Rattle.table_state.specs.Stored.{AreSealed, in_runs};
 ghost use Rattle.table_state.specs.Tables.{most_rows};
 ghost use Rattle.table_state.specs.declared.fault.AddFault.TheVariants as fault;
 
 use crate::fault::AddFault;
-use crate::held::{append_reserved, drop_first, make_room, retain_from};
-use leaf_model::Row;
-use row_blocks::{Blocks, RowBlock, seal, seal_refs};
+use crate::held::{MOST_ROWS, count_from, drop_front};
+use leaf_model::{LentRows, PackedRows};
+use row_blocks::{Blocks, RowBlock, seal};
 use std::alloc::{AllocError, Global};
 
 /// How many rows are sealed as one block while rows are added.
 const RUN: usize = 65536;
 
-fn lend_all(alloc: Global, rows: &[Row]) -> Result<Vec<&Row>, AllocError>
-    ensures { IfOk result (λ refs. lent_rows refs.items ≡ rows.now) }
-{
-    let mut refs = Vec::with_capacity(alloc, rows.len())?;
-    for row in rows {
-        refs.push(row)?;
-    }
-    Ok(refs)
-}
-
-fn lend_from(alloc: Global, horizon: i64, rows: &[Row]) -> Result<Vec<&Row>, AllocError>
-    ensures { IfOk result (λ refs. lent_rows refs.items ≡ rows_from horizon rows.now) }
-{
-    let mut refs = Vec::with_capacity(alloc, rows.len())?;
-    for row in rows {
-        if row.time >= horizon {
-            refs.push(row)?;
-        }
-    }
-    Ok(refs)
-}
-
-/// The rows of the tail and those of the new ones that are not late, as they stand.
-fn lend_rows<'a>(
-    alloc: Global,
-    tail: &'a [Row],
-    horizon: i64,
-    more: &'a [Row],
-) -> Result<Vec<&'a Row>, AllocError>
-    ensures { IfOk result (λ refs. lent_rows refs.items ≡ tail.now ++ rows_from horizon more.now) }
-{
-    let mut refs = lend_all(alloc, tail)?;
-    let mut others = lend_from(alloc, horizon, more)?;
-    refs.append(&mut others)?;
-    Ok(refs)
-}
-
 /// The blocks of the whole runs of rows.
-fn seal_runs(alloc: Global, rows: &[&Row]) -> Result<Vec<RowBlock>, AllocError>
+fn runs_of(alloc: Global, rows: &LentRows) -> Result<Vec<RowBlock>, AllocError>
     requires { AllByRecursion IsRow (lent_rows rows.now) }
-    ensures rows { IfOk result (λ blocks. block_rows blocks.items ≡ take (in_runs (length rows.now)) (lent_rows rows.now)) }
+    ensures rows { IfOk result (λ blocks. block_rows blocks.items ≡ take (in_runs (length (lent_rows rows.now))) (lent_rows rows.now)) }
     ensures each { IfOk result (λ blocks. AllByRecursion IsBlock blocks.items) }
-    ensures few { IfOk result (λ blocks. columns_count blocks.items ≤ rows_and_cells (take (in_runs (length rows.now)) (lent_rows rows.now))) }
+    ensures few { IfOk result (λ blocks. columns_count blocks.items ≤ rows_and_cells (take (in_runs (length (lent_rows rows.now))) (lent_rows rows.now))) }
 {
     let mut blocks = Vec::new(alloc);
-    for i in 0..rows.len() / RUN {
-        let block = seal_refs(alloc, &rows[i * RUN..(i + 1) * RUN])?;
+    let mut left = *rows;
+    while left.len() >= RUN {
+        let (run, others) = left.split_at(RUN);
+        let block = seal(alloc, &run)?;
         block.is_block();
         blocks.push(block)?;
+        left = others;
     }
     Ok(blocks)
 }
 
-/// The blocks of the whole runs of the tail and those of the new rows that are not late, of which there are `kept`.
-fn whole_runs(
-    alloc: Global,
-    tail: &[Row],
-    horizon: i64,
-    more: &[Row],
-    kept: u64,
-) -> Result<Vec<RowBlock>, AllocError>
-    requires tail { AllByRecursion IsRow tail.now }
-    requires more { AllByRecursion IsRow more.now }
-    requires kept { kept ≡ length (rows_from horizon more.now) }
-    requires few { length tail.now + kept < 2 ^ 64 }
-    ensures rows { IfOk result (λ blocks. block_rows blocks.items ≡ take (in_runs (length (tail.now ++ rows_from horizon more.now))) (tail.now ++ rows_from horizon more.now)) }
-    ensures each { IfOk result (λ blocks. AllByRecursion IsBlock blocks.items) }
-    ensures few { IfOk result (λ blocks. columns_count blocks.items ≤ rows_and_cells (take (in_runs (length (tail.now ++ rows_from horizon more.now))) (tail.now ++ rows_from horizon more.now))) }
+/// Seals the whole runs at the front of the tail behind the blocks, and leaves the tail as it is. Rows that are no whole run are not looked at.
+fn seal_runs(blocks: &mut Blocks, tail: &PackedRows) -> Result<(), AllocError>
+    ensures sealed { OnOk result (AreSealed blocks.old (take (in_runs (length tail.now)) tail.now) blocks.new) }
+    ensures refused { OnErr result (blocks.new ≡ blocks.old) }
 {
-    if tail.len() as u64 + kept < RUN as u64 {
-        return Ok(Vec::new(alloc));
-    }
-    let refs = lend_rows(alloc, tail, horizon, more)?;
-    seal_runs(alloc, refs.as_slice())
+    tail.are_rows();
+    let sealed = runs_of(tail.allocator(), &tail.lend())?;
+    blocks.append(sealed)
 }
 
-/// What an add may fail at: counts the rows that are not late, makes room for them in the tail, and seals the whole runs behind the blocks.
+/// What an add may fail at: puts those of the new rows that are not late behind the tail, unless there would be more than 2^40 rows, seals the whole runs, and answers how many rows were put.
 pub fn prepare(
     live: u64,
     blocks: &mut Blocks,
-    tail: &mut Vec<Row>,
+    tail: &mut PackedRows,
     horizon: i64,
-    more: &[Row],
+    more: &LentRows,
 ) -> Result<u64, AddFault>
-    requires tail { AllByRecursion IsRow tail.old.items }
-    requires more { AllByRecursion IsRow more.now }
-    requires held { live + length tail.old.items ≤ most_rows }
-    requires few { length more.now ≤ most_rows }
-    ensures tail { tail.new.items ≡ tail.old.items }
-    ensures few { IfOk result (λ kept. kept ≤ length more.now) }
-    ensures count { IfOk result (λ kept. kept ≡ length (rows_from horizon more.now)) }
-    ensures fits { IfOk result (λ kept. live + length tail.old.items + kept ≤ most_rows) }
-    ensures room { IfOk result (λ kept. vec_len tail.new + kept ≤ vec_capacity tail.new) }
-    ensures sealed { OnOk result (AreSealed blocks.old (take (in_runs (length (tail.old.items ++ rows_from horizon more.now))) (tail.old.items ++ rows_from horizon more.now)) blocks.new) }
-    ensures refused { OnErr result (blocks.new ≡ blocks.old) }
-    ensures full { result ≡ Err fault.Full → most_rows < live + length tail.old.items + length (rows_from horizon more.now) }
+    requires more { AllByRecursion IsRow (lent_rows more.now) }
+    requires held { live + length tail.old ≤ most_rows }
+    requires few { length (lent_rows more.now) ≤ most_rows }
+    ensures few { IfOk result (λ kept. kept ≤ length (lent_rows more.now)) }
+    ensures count { IfOk result (λ kept. kept ≡ length (rows_from horizon (lent_rows more.now))) }
+    ensures fits { IfOk result (λ kept. live + length tail.old + kept ≤ most_rows) }
+    ensures put { OnOk result (tail.new ≡ tail.old ++ rows_from horizon (lent_rows more.now)) }
+    ensures sealed { OnOk result (AreSealed blocks.old (take (in_runs (length tail.new)) tail.new) blocks.new) }
+    ensures blocks { OnErr result (blocks.new ≡ blocks.old) }
+    ensures tail { OnErr result (tail.new ≡ tail.old) }
+    ensures full { result ≡ Err fault.Full → most_rows < live + length tail.old + length (rows_from horizon (lent_rows more.now)) }
 {
-    let kept = make_room(live, tail, horizon, more)?;
-    let alloc = *tail.allocator();
-    let Ok(sealed) = whole_runs(alloc, tail.as_slice(), horizon, more, kept) else {
+    let kept = count_from(horizon, more);
+    let before = tail.len();
+    if live + before as u64 + kept > MOST_ROWS {
+        return Err(AddFault::Full);
+    }
+    if tail.extend_from(more, horizon).is_err() {
         return Err(AddFault::NoMemory);
-    };
-    if blocks.append(sealed).is_err() {
+    }
+    if seal_runs(blocks, tail).is_err() {
+        tail.truncate(before);
         return Err(AddFault::NoMemory);
     }
     Ok(kept)
 }
 
-/// Puts those of the new rows that are not late behind the tail, for which there is room, lets go of the whole runs, and answers how many rows those were.
-pub fn admit(tail: &mut Vec<Row>, horizon: i64, mut more: Vec<Row>) -> u64
-    requires { vec_len tail.old + length (rows_from horizon more.items) ≤ vec_capacity tail.old }
-    ensures rows { tail.new.items ≡ drop (in_runs (length (tail.old.items ++ rows_from horizon more.items))) (tail.old.items ++ rows_from horizon more.items) }
-    ensures gone { result ≡ in_runs (length (tail.old.items ++ rows_from horizon more.items)) }
+/// Lets go of the whole runs at the front of the tail, and answers how many rows those were.
+pub fn drop_runs(tail: &mut PackedRows) -> u64
+    ensures rows { tail.new ≡ drop (in_runs (length tail.old)) tail.old }
+    ensures gone { result ≡ in_runs (length tail.old) }
 {
-    retain_from(&mut more, horizon);
-    append_reserved(tail, &mut more);
-    if tail.len() < RUN {
-        return 0;
-    }
     let gone = tail.len() / RUN * RUN;
-    drop_first(tail, gone);
+    drop_front(tail, gone);
     gone as u64
 }
 
-/// Seals rows as one block behind the others.
-pub fn seal_behind(blocks: &mut Blocks, rows: &Vec<Row>) -> Result<(), AllocError>
-    requires some { 0 < length rows.now.items }
-    requires few { length rows.now.items ≤ 65536 }
-    requires rows { AllByRecursion IsRow rows.now.items }
-    ensures sealed { OnOk result (AreSealed blocks.old rows.now.items blocks.new) }
+/// Seals the rows of the tail as one block behind the others, and leaves the tail as it is.
+pub fn seal_behind(blocks: &mut Blocks, tail: &PackedRows) -> Result<(), AllocError>
+    requires some { 0 < length tail.now }
+    requires few { length tail.now ≤ 65536 }
+    ensures sealed { OnOk result (AreSealed blocks.old tail.now blocks.new) }
     ensures refused { OnErr result (blocks.new ≡ blocks.old) }
 {
-    let alloc = *rows.allocator();
-    let block = seal(alloc, rows.as_slice())?;
+    tail.are_rows();
+    let alloc = tail.allocator();
+    let block = seal(alloc, &tail.lend())?;
     block.is_block();
     let mut more = Vec::with_capacity(alloc, 1)?;
     more.push(block)?;

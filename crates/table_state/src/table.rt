@@ -1,6 +1,7 @@
 // One table: sealed blocks, and a tail of rows behind them.
 ghost use Rattle.std.specs.Prelude.{◌≡◌, ◌+◌, ◌≤◌, ◌<◌, ◌-◌, ◌^◌, [], None, IfOk, length};
 ghost use Rattle.std.specs.List.{AllByRecursion};
+ghost use Rattle.leaf_model.specs.Lent.{lent_rows};
 ghost use Rattle.leaf_model.specs.Values.{IsRow, IsTime, IsWrite};
 ghost use Rattle.leaf_model.specs.declared.writes.Write.TheVariants.{Add, Expire, Keep};
 ghost use Rattle.row_blocks.specs.Held.{rows_and_cells};
@@ -8,11 +9,11 @@ ghost use Rattle.table_state.specs.Tables.{added_by, bare, columns_most, empty_t
 
 use crate::fault::{AddFault, Added};
 use crate::front::{copy_blocks, count_live, cut_front, leave_live};
-use crate::held::{copy_rows, drop_first, retain_from, rows_of};
+use crate::held::drop_front;
 use crate::parts::Parts;
-use crate::sealing::{admit, prepare, seal_behind};
+use crate::sealing::{drop_runs, prepare, seal_behind};
 use expiry::{cut_for, masks_and_cuts};
-use leaf_model::{Row, Rows, Text, Write};
+use leaf_model::{LentRows, PackedRows, Row, Rows, Text, Write};
 use row_blocks::Blocks;
 use row_records::Pending;
 use std::alloc::{AllocError, Global};
@@ -25,7 +26,7 @@ pub struct TableState {
     blocks: Blocks,
     skip: u32,
     live: u64,
-    tail: Vec<Row>,
+    tail: PackedRows,
     horizon: i64,
     writes: u64,
     pending: Pending,
@@ -38,9 +39,9 @@ impl Model for TableState {
 
     ghost Value = { Table };
 
-    ghost view = { λ t. record { contents = record { rows = sealed_rows t.blocks t.skip t.horizon ++ t.tail.items; horizon = t.horizon }; writes = t.writes; pending = t.pending; store = record { blocks = t.blocks; skip = t.skip; tail = t.tail.items } } };
+    ghost view = { λ t. record { contents = record { rows = sealed_rows t.blocks t.skip t.horizon ++ t.tail; horizon = t.horizon }; writes = t.writes; pending = t.pending; store = record { blocks = t.blocks; skip = t.skip; tail = t.tail } } };
 
-    ghost invariant = { λ t. Stands t.blocks t.skip t.tail.items t.horizon t.live };
+    ghost invariant = { λ t. Stands t.blocks t.skip t.tail t.horizon t.live };
 }
 
 impl TableState {
@@ -52,7 +53,7 @@ impl TableState {
             blocks: Blocks::new(alloc),
             skip: 0,
             live: 0,
-            tail: Vec::new(alloc),
+            tail: PackedRows::new(alloc),
             horizon: 0,
             writes: 0,
             pending: Pending::new(alloc),
@@ -67,20 +68,21 @@ impl TableState {
         ensures columns { columns_most self.new.store ≤ columns_most self.old.store + rows_and_cells rows }
     {
         let sealed = self.blocks.as_slice().len();
+        let before = self.tail.len();
         let kept = prepare(
             self.live,
             &mut self.blocks,
             &mut self.tail,
             self.horizon,
-            rows.as_slice(),
+            &rows.lend(),
         )?;
-        let late = rows.as_slice().len() as u64 - kept;
-        let write = Write::Add(rows);
-        if self.pending.push(table, &write).is_err() {
+        let late = rows.len() as u64 - kept;
+        if self.pending.push(table, &Write::Add(rows)).is_err() {
             self.blocks.truncate(sealed);
+            self.tail.truncate(before);
             return Err(AddFault::NoMemory);
         }
-        self.live += admit(&mut self.tail, self.horizon, rows_of(write));
+        self.live += drop_runs(&mut self.tail);
         self.writes += 1;
         Ok(Added { kept, late })
     }
@@ -141,9 +143,9 @@ impl TableState {
             &mut self.blocks,
             &mut self.tail,
             self.horizon,
-            rows.as_slice(),
+            &rows.lend(),
         )?;
-        self.live += admit(&mut self.tail, self.horizon, rows.into_inner());
+        self.live += drop_runs(&mut self.tail);
         self.writes += 1;
         Ok(())
     }
@@ -161,7 +163,7 @@ impl TableState {
         self.horizon = self.horizon.max(horizon);
         self.skip = leave_live(&mut self.blocks, self.skip, self.horizon);
         self.live = count_live(self.blocks.as_slice(), self.skip, self.horizon);
-        retain_from(&mut self.tail, self.horizon);
+        self.tail.retain_from(self.horizon);
         self.writes += 1;
     }
 
@@ -177,7 +179,7 @@ impl TableState {
         let first = gone.min(self.live);
         self.skip = cut_front(&mut self.blocks, self.skip, self.horizon, first);
         self.live -= first;
-        drop_first(&mut self.tail, (gone - first) as usize);
+        drop_front(&mut self.tail, (gone - first) as usize);
         self.writes += 1;
     }
 
@@ -217,10 +219,10 @@ impl TableState {
     }
 
     /// The rows behind the blocks, in order of arrival.
-    pub fn tail_rows(&self) -> &[Row]
-        ensures { result.now ≡ self.now.store.tail }
+    pub fn tail_rows(&self) -> LentRows<'_>
+        ensures { lent_rows result ≡ self.now.store.tail }
     {
-        self.tail.as_slice()
+        self.tail.lend()
     }
 
     /// How many rows of the first block are cut away.
@@ -249,7 +251,7 @@ impl TableState {
         ensures { IfOk result (λ rows. rows.items ≡ self.now.contents.rows) }
     {
         let mut rows = copy_blocks(alloc, self.blocks.as_slice(), self.skip, self.horizon)?;
-        let mut tail = copy_rows(alloc, self.tail.as_slice())?;
+        let mut tail = self.tail.lend().own(alloc)?;
         rows.append(&mut tail)?;
         Ok(rows)
     }
@@ -258,7 +260,7 @@ impl TableState {
     pub fn take_pending(&mut self) -> Pending
         ensures { Takes self.old result self.new }
     {
-        let none = Pending::new(*self.tail.allocator());
+        let none = Pending::new(self.tail.allocator());
         replace(&mut self.pending, none)
     }
 
@@ -267,7 +269,7 @@ impl TableState {
         ensures does { Seals self.old result self.new }
         ensures columns { columns_most self.new.store ≤ columns_most self.old.store }
     {
-        if self.tail.is_empty() {
+        if self.tail.len() == 0 {
             return Ok(());
         }
         seal_behind(&mut self.blocks, &self.tail)?;
@@ -304,7 +306,7 @@ impl TableState {
             blocks: Blocks::of(blocks),
             skip: parts.skip,
             live,
-            tail: Vec::new(alloc),
+            tail: PackedRows::new(alloc),
             horizon: parts.horizon,
             writes: parts.writes,
             pending: Pending::new(alloc),

@@ -3,7 +3,7 @@ ghost use Rattle.std.specs.Prelude.{IfOk};
 ghost use Rattle.std.specs.List.{AllByRecursion};
 ghost use Rattle.leaf_model.specs.Values.{IsRow};
 
-use leaf_model::{Agg, Aggs, Conds, Names, Query, Rows, Text};
+use leaf_model::{Agg, Aggs, Conds, Names, PackedRows, Query, Rows, Text};
 use row_records::read_rows;
 use std::alloc::{AllocError, Global};
 
@@ -16,7 +16,7 @@ pub fn one_row(alloc: Global) -> Result<Rows, AllocError>
 {
     match read_rows(alloc, ROW, 1)? {
         Some((rows, _taken)) => Ok(Rows::of(rows)),
-        None => Ok(Rows::of(Vec::new(alloc))),
+        None => Ok(Rows::of(PackedRows::new(alloc))),
     }
 }
 

@@ -1,6 +1,10 @@
-use Rattle.std.proofs.Common.{◌≡◌, take}
+use Rattle.std.proofs.Common.{◌≡◌, ◌++◌, length}
 use Rattle.leaf_model.specs.Content.{rows_from}
+use Rattle.leaf_model.specs.Lent.{lent_rows}
 use Rattle.block_scan.proofs.tail.copy_live.Given as goal
 
-abbrev pub invariant-loop-row : goal.invariant-loop-row
-invariant-loop-row l = l.live.items ≡ rows_from l.horizon (take l.row-index l.rows)
+abbrev pub invariant-loop-first : goal.invariant-loop-first
+invariant-loop-first l = l.live.items ++ rows_from l.horizon (lent_rows l.left) ≡ rows_from l.horizon (lent_rows l.rows)
+
+abbrev pub decreases-loop-first : goal.decreases-loop-first
+decreases-loop-first l = length (lent_rows l.left)

@@ -1,8 +1,7 @@
 use Rattle.std.proofs.Common.{◌≡◌, length, Option, None, IfSome, option_map, sym, subst, ◌∙◌, arith}
-use Rattle.std.specs.Borrow.{Bor}
+use Rattle.leaf_model.specs.declared.lent_cells.LentValue.{LentValue}
 use Rattle.std.proofs.lemmas.List.{get_or_default}
-use Rattle.leaf_model.specs.declared.rows.Value.{Value}
-use Rattle.column_bytes.specs.Cells.{lent_value}
+use Rattle.leaf_model.specs.Lent.{lent_value}
 use Rattle.column_bytes.specs.Coding.{IsOfKind}
 use Rattle.column_bytes.specs.declared.kind.Kind.TheVariants.{Ints}
 use Rattle.column_bytes.proofs.Lent.{kind_here, length-values, value_here}
@@ -12,7 +11,7 @@ pub integer_or-last-requires : goal.integer_or-last-requires
 integer_or-last-requires c =
     let cells = c.args.cells.now in let i = c.loop-cell.cell-index in
     let here = c.cell-item.is ∙ get_or_default cells i c.cell-item.result None c.loop-cell-test.true in
-    subst (λ (cell : Option (Bor Value)). IfSome (option_map lent_value cell) (IsOfKind Ints)) (sym here) (kind_here Ints cells i c.loop-cell-test.true c.requires)
+    subst (λ (cell : Option LentValue). IfSome (option_map lent_value cell) (IsOfKind Ints)) (sym here) (kind_here Ints cells i c.loop-cell-test.true c.requires)
 
 pub returns : goal.returns
 returns c =

@@ -1,10 +1,9 @@
 use Rattle.std.proofs.Common.{◌≡◌, ℕ, List, [], length, slice_index, Option, None, IfSome, option_map, sym, ap, subst, ◌∙◌, arith}
-use Rattle.std.specs.Borrow.{Bor}
+use Rattle.leaf_model.specs.declared.lent_cells.LentValue.{LentValue}
 use Rattle.std.proofs.lemmas.List.{get_or_default, get_or-map, length_push, length-map}
 use Rattle.leaf_model.specs.Values.{bytes_in}
-use Rattle.leaf_model.specs.declared.rows.Value.{Value}
 use Rattle.leaf_model.specs.declared.rows.Value.TheVariants as values
-use Rattle.column_bytes.specs.Cells.{lent_value, values_of}
+use Rattle.leaf_model.specs.Lent.{each_value, lent_value}
 use Rattle.column_bytes.specs.Coding.{IsOfKind}
 use Rattle.column_bytes.specs.Dictionary.{texts_by}
 use Rattle.column_bytes.specs.Sets.{AreSetCodes}
@@ -27,7 +26,7 @@ pub code_or-requires-clause-kind : goal.code_or-requires-clause-kind
 code_or-requires-clause-kind c =
     let cells = c.args.cells.now in let i = c.loop-cell.cell-index in
     let here = c.cell-item.is ∙ get_or_default cells i c.cell-item.result None c.loop-cell-test.true in
-    subst (λ (cell : Option (Bor Value)). IfSome (option_map lent_value cell) (IsOfKind kinds.Sets)) (sym here) (kind_here kinds.Sets cells i c.loop-cell-test.true c.requires.kind)
+    subst (λ (cell : Option LentValue). IfSome (option_map lent_value cell) (IsOfKind kinds.Sets)) (sym here) (kind_here kinds.Sets cells i c.loop-cell-test.true c.requires.kind)
 
 pub loop-cell-preserved : goal.loop-cell-preserved
 loop-cell-preserved c =
@@ -42,7 +41,7 @@ loop-cell-preserved c =
       few_texts = omega (arith, found.few, was.few_texts);
       bytes = omega (arith, found.bytes, was.bytes);
       same = omega (arith, ap length c.in_ok-push.ensures.items, length_push codes c.in_ok-last.last, was.same);
-      each = set_coded_more (values_of cells) codes c.push.new.self.items c.loop-cell.texts c.code_or.new.texts c.loop-cell.sets c.code_or.new.sets i c.in_ok-last.last
+      each = set_coded_more (each_value cells) codes c.push.new.self.items c.loop-cell.texts c.code_or.new.texts c.loop-cell.sets c.code_or.new.sets i c.in_ok-last.last
           was.same c.in_ok-push.ensures.items found.kept found.sets was.held.numbers
           (λ value e. found.code value (ap (option_map lent_value) here ∙ value_here cells i c.loop-cell-test.true ∙ e)) was.each;
     }

@@ -2,7 +2,7 @@ use Rattle.std.proofs.Common.{◌≡◌, ℕ, ◌*◌, ◌<◌, ◌≤◌, [], l
 use Rattle.leaf_model.specs.Values.{bytes_in}
 use Rattle.leaf_model.specs.declared.rows.Value.{Value}
 use Rattle.leaf_model.specs.declared.rows.Value.TheVariants.{Set}
-use Rattle.column_bytes.specs.Cells.{values_of}
+use Rattle.leaf_model.specs.Lent.{each_value}
 use Rattle.column_bytes.specs.Dictionary.{texts_by}
 use Rattle.column_bytes.specs.Sets.{AreSetCodes}
 use Rattle.column_bytes.proofs.set_codes.cell_codes.Given as goal
@@ -14,6 +14,6 @@ invariant-loop-cell l = record {
   few_texts : length l.texts ≤ 1024 * l.cell-index;
   bytes : bytes_in l.texts ≤ 65535 * l.cell-index;
   same : length l.codes.items ≡ l.cell-index;
-  each : (k : ℕ) → k < l.cell-index → (value : Value) → slice_index_or (values_of l.cells) k None ≡ Some value
+  each : (k : ℕ) → k < l.cell-index → (value : Value) → slice_index_or (each_value l.cells) k None ≡ Some value
       → (slice_index l.codes.items k < length l.sets) × (value ≡ Set (texts_by l.texts (slice_index_or l.sets (slice_index l.codes.items k) [])));
 }

@@ -1,4 +1,6 @@
 use Rattle.std.proofs.Common.{sym, subst}
+use Rattle.leaf_model.specs.declared.lent_cells.LentValue.{LentValue}
+use Rattle.leaf_model.specs.Lent.{lent_value}
 use Rattle.leaf_model.specs.Values.{IsSet}
 use Rattle.column_bytes.specs.declared.kind.Kind.TheVariants as kinds
 use Rattle.column_bytes.specs.Coding.{IsOfKind}
@@ -10,6 +12,6 @@ pub returns-clause-held : goal.returns-clause-held
 returns-clause-held c =
     let new = c.numbers_of.new.texts in
     let found = c.in_ok-numbers-in-Set.ensures in
-    let is = subst (IsOfKind kinds.Sets) c.in-Set.is c.requires.kind in
+    let is = subst (λ (value : LentValue). IsOfKind kinds.Sets (lent_value value)) c.in-Set.is c.requires.kind in
     λ held. subst (AreSetCodes new) (sym c.in_ok-code-in-Set.ensures.sets)
     (codes_with c.args.texts.now new c.args.sets.now c.in_ok-numbers-in-Set.numbers.items found.kept (found.texts held.each_text) found.numbers.0 (subst IsSet (sym found.numbers.1) is) held)

@@ -1,8 +1,7 @@
 use Rattle.std.proofs.Common.{◌≡◌, length, Option, None, IfSome, option_map, sym, ap, subst, ◌∙◌, arith}
-use Rattle.std.specs.Borrow.{Bor}
+use Rattle.leaf_model.specs.declared.lent_cells.LentValue.{LentValue}
 use Rattle.std.proofs.lemmas.List.{get_or_default, length_push}
-use Rattle.leaf_model.specs.declared.rows.Value.{Value}
-use Rattle.column_bytes.specs.Cells.{lent_value, values_of}
+use Rattle.leaf_model.specs.Lent.{each_value, lent_value}
 use Rattle.column_bytes.specs.Coding.{IsOfKind}
 use Rattle.column_bytes.specs.declared.kind.Kind.TheVariants.{Texts}
 use Rattle.column_bytes.proofs.Lent.{kind_here, length-values, value_here}
@@ -13,7 +12,7 @@ pub code_or-requires : goal.code_or-requires
 code_or-requires c =
     let cells = c.args.cells.now in let i = c.loop-cell.cell-index in
     let here = c.cell-item.is ∙ get_or_default cells i c.cell-item.result None c.loop-cell-test.true in
-    subst (λ (cell : Option (Bor Value)). IfSome (option_map lent_value cell) (IsOfKind Texts)) (sym here) (kind_here Texts cells i c.loop-cell-test.true c.requires.kind)
+    subst (λ (cell : Option LentValue). IfSome (option_map lent_value cell) (IsOfKind Texts)) (sym here) (kind_here Texts cells i c.loop-cell-test.true c.requires.kind)
 
 pub loop-cell-preserved : goal.loop-cell-preserved
 loop-cell-preserved c =
@@ -26,7 +25,7 @@ loop-cell-preserved c =
       texts = found.texts was.texts;
       few = omega (arith, found.grows, was.few);
       same = omega (arith, ap length c.in_ok-push.ensures.items, length_push codes c.in_ok-last.last, was.same);
-      each = coded_more (values_of cells) codes c.push.new.self.items c.loop-cell.set c.code_or.new.set i c.in_ok-last.last was.same c.in_ok-push.ensures.items found.kept
+      each = coded_more (each_value cells) codes c.push.new.self.items c.loop-cell.set c.code_or.new.set i c.in_ok-last.last was.same c.in_ok-push.ensures.items found.kept
           (λ value e. found.code value (ap (option_map lent_value) here ∙ value_here cells i c.loop-cell-test.true ∙ e)) was.each;
     }
 

@@ -1,4 +1,6 @@
-use Rattle.std.proofs.Common.{List, ℕ, ◌≤◌, length, sym, subst}
+use Rattle.std.proofs.Common.{◌≤◌, length, sym, subst}
+use Rattle.leaf_model.specs.declared.lent_cells.LentValue.{LentValue}
+use Rattle.leaf_model.specs.Lent.{lent_value}
 use Rattle.column_bytes.specs.declared.kind.Kind.TheVariants as kinds
 use Rattle.column_bytes.specs.Coding.{IsOfKind}
 use Rattle.column_bytes.specs.Dictionary.{AreTexts}
@@ -7,6 +9,6 @@ use Rattle.column_bytes.proofs.text_codes.value_code.Goals as goal
 
 pub returns-clause-texts : goal.returns-clause-texts
 returns-clause-texts c =
-    let text = c.as_str.result.now in
-    let short = subst (λ (t : List ℕ). length t ≤ 65535) (sym c.as_str.ensures) (subst (IsOfKind kinds.Texts) c.in-Text.is c.requires) in
+    let text = c.in-Text.text.now in
+    let short : length text ≤ 65535 = subst (λ (value : LentValue). IsOfKind kinds.Texts (lent_value value)) c.in-Text.is c.requires in
     λ are. subst AreTexts (sym c.in_ok-code-in-Text.ensures.texts) (texts_with c.args.set.now text are (record { utf8 = c.code_of.ensures.utf8; short = short }))

@@ -2,7 +2,8 @@ use Rattle.std.proofs.Math.Nat.{mul-le-mul_left}
 use Rattle.std.proofs.Common.{List, ◌^◌, ◌≡◌, ℕ, ◌*◌, ◌≤◌, if◌then◌else◌, length, is_some, refl, sym, ap, ap₂, subst, ◌∙◌, arith}
 use Rattle.std.proofs.lemmas.List.{length-map}
 use Rattle.bit_columns.specs.Bits.{IsBits, codes}
-use Rattle.column_bytes.specs.Cells.{there, values_of}
+use Rattle.leaf_model.specs.Lent.{each_value}
+use Rattle.column_bytes.specs.Cells.{there}
 use Rattle.column_bytes.specs.Column.{IsPresence, presence_bits}
 use Rattle.column_bytes.specs.Coding.{column_bytes, front_bytes}
 use Rattle.column_bytes.proofs.Spelled.{ReadsColumn, column_reads}
@@ -52,7 +53,7 @@ returns-clause-cells c =
     let made = c.in_ok-presence.presence in let packed = c.in_ok-packed.packed.items in
     let n = length c.args.cells.now in
     let count : length list ≡ n = c.requires.coding.same ∙ length-values c.args.cells.now in
-    laid c.args.form (values_of c.args.cells.now) list c.args.extra.now made.bytes.items packed c.in_ok-bytes.bytes.items n width marker made.all_there
+    laid c.args.form (each_value c.args.cells.now) list c.args.extra.now made.bytes.items packed c.in_ok-bytes.bytes.items n width marker made.all_there
     (reads c) (length-values c.args.cells.now) c.requires.some c.requires.few c.width_of-width.ensures.few
     (marker_small made.all_there) (marker_says made.all_there)
     (part c)

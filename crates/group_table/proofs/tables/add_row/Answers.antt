@@ -1,6 +1,7 @@
-use Rattle.std.proofs.Common.{rules, ◌≡◌, true, false, [], ◌∷◌, ◌+◌, ◌^◌, drop, length, map, slice_index_or, slice_set, sym, ap, subst, ◌∙◌, arith}
+use Rattle.std.proofs.Common.{rules, ◌≡◌, true, false, [], ◌∷◌, ◌+◌, drop, length, map, slice_index_or, slice_set, sym, ap, subst, ◌∙◌, arith}
 use Rattle.leaf_model.specs.declared.groups.Group.{Group}
 use Rattle.leaf_model.specs.Groups.{group_of, keys_of, key_of, value_of, passes}
+use Rattle.leaf_model.specs.Lent.{lent_row}
 use Rattle.group_table.specs.Reads.{seen_key}
 use Rattle.group_table.specs.Joined.{joined, joined_group}
 use Rattle.group_table.specs.Table.{is_first}
@@ -12,9 +13,9 @@ use Rattle.group_table.proofs.tables.add_row.Goals as goal
 
 pub returns-then-not-is_passing-clause-value : goal.returns-then-not-is_passing-clause-value
 returns-then-not-is_passing-clause-value c =
-    let stays : passes c.args.query.now c.args.row.now ≡ false = search (rules, c.is_passing.ensures, c.if-not-is_passing.true) in
+    let stays : passes c.args.query.now (lent_row c.args.row.now) ≡ false = search (rules, c.is_passing.ensures, c.if-not-is_passing.true) in
     let both = joined c.args.tables.settled.items c.args.tables.fresh.items in
-    sym (ap (joined both) (no_row c.args.query.now c.args.row.now stays) ∙ joined-nil both)
+    sym (ap (joined both) (no_row c.args.query.now (lent_row c.args.row.now) stays) ∙ joined-nil both)
 
 pub returns-then-not-is_passing-clause-split : goal.returns-then-not-is_passing-clause-split
 returns-then-not-is_passing-clause-split c = λ n split. split_grows n (n + 1) _ _ _ (omega arith) split
@@ -40,7 +41,7 @@ put_row-requires-clause-same c = (made_table c.args.query.now c.args.tables.fres
 pub returns-then-place-clause-value : goal.returns-then-place-clause-value
 returns-then-place-clause-value c =
     let q = c.args.query.now in
-    let row = c.args.row.now in
+    let row = lent_row c.args.row.now in
     let passing : passes q row ≡ true = search (rules, c.is_passing.ensures, c.if-not-is_passing.false) in
     let names = c.as_slice.ensures in
     let keys = map seen_key c.look_all.new.seen.items in
@@ -59,7 +60,7 @@ returns-then-place-clause-value c =
 pub returns-then-place-clause-split : goal.returns-then-place-clause-split
 returns-then-place-clause-split c =
     let q = c.args.query.now in
-    let row = c.args.row.now in
+    let row = lent_row c.args.row.now in
     let passing : passes q row ≡ true = search (rules, c.is_passing.ensures, c.if-not-is_passing.false) in
     let names = c.as_slice.ensures in
     let keys = map seen_key c.look_all.new.seen.items in
@@ -79,7 +80,7 @@ returns-then-place-clause-split c =
 pub returns-clause-value : goal.returns-clause-value
 returns-clause-value c =
     let q = c.args.query.now in
-    let row = c.args.row.now in
+    let row = lent_row c.args.row.now in
     let passing : passes q row ≡ true = search (rules, c.is_passing.ensures, c.if-not-is_passing.false) in
     let names = c.as_slice.ensures in
     let keys = map seen_key c.look_all.new.seen.items in
@@ -92,7 +93,7 @@ returns-clause-value c =
 pub returns-clause-split : goal.returns-clause-split
 returns-clause-split c =
     let q = c.args.query.now in
-    let row = c.args.row.now in
+    let row = lent_row c.args.row.now in
     let passing : passes q row ≡ true = search (rules, c.is_passing.ensures, c.if-not-is_passing.false) in
     let names = c.as_slice.ensures in
     let keys = map seen_key c.look_all.new.seen.items in

@@ -1,5 +1,4 @@
-use Rattle.std.proofs.Common.{◌≡◌, [], ◌∙◌}
-use Rattle.group_table.specs.Joined.{joined}
+use Rattle.std.proofs.Common.{◌∙◌}
 use Rattle.group_table.proofs.Laws.{joined-nil}
 use Rattle.group_table.proofs.Split.{settled_all}
 use Rattle.group_table.proofs.tables.make_room.Goals as goal

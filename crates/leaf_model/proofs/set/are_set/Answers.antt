@@ -1,4 +1,4 @@
-use Rattle.std.proofs.Common.{◌≡◌, ℕ, ◌+◌, ◌<◌, [], length, take, slice_index_or, refl, sym, ap, subst, below_more, ◌∙◌, arith}
+use Rattle.std.proofs.Common.{◌+◌, [], length, slice_index_or, refl, sym, ap, subst, below_more, ◌∙◌, arith}
 use Rattle.std.specs.Str.{IsUtf8}
 use Rattle.std.proofs.lemmas.List.{get_or_default, take_all}
 use Rattle.leaf_model.specs.Values.{bytes_in}

@@ -1,6 +1,6 @@
 use Rattle.std.proofs.Common.{◌+◌, ◌-◌}
 use Rattle.std.proofs.lemmas.Result.{err_from_is_err_and}
-use Rattle.row_records.specs.Reading.{many_at}
+use Rattle.leaf_model.specs.Reading.{many_at}
 use Rattle.row_records.proofs.Loop.{goes_on, ends, is_done}
 use Rattle.region_layout.specs.Directory.{block_at}
 use Rattle.region_layout.proofs.Repeating.{item_read, item_fails, items_done}

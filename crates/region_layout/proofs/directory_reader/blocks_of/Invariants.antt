@@ -1,6 +1,6 @@
 use Rattle.std.proofs.Common.{◌≡◌, ◌-◌}
 use Rattle.row_records.proofs.Loop.{with_front}
-use Rattle.row_records.specs.Reading.{many_at}
+use Rattle.leaf_model.specs.Reading.{many_at}
 use Rattle.region_layout.specs.Directory.{block_at}
 use Rattle.region_layout.proofs.directory_reader.blocks_of.Given as goal
 

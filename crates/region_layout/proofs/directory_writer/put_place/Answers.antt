@@ -1,5 +1,5 @@
 use Rattle.std.proofs.Common.{◌∙◌, ◌++◌, ℕ, List, ap}
-use Rattle.row_records.specs.Bytes.{name_bytes, u64_bytes}
+use Rattle.leaf_model.specs.Bytes.{name_bytes, u64_bytes}
 use Rattle.region_layout.proofs.Answered.{on_ok}
 use Rattle.region_layout.specs.Written.{place_bytes}
 use Rattle.region_layout.proofs.Putting.{three_put}

@@ -1,5 +1,5 @@
 use Rattle.std.proofs.Common.{◌∙◌, ◌++◌, ℕ, List, ap}
-use Rattle.row_records.specs.Bytes.{name_bytes, i64_bytes, u64_bytes}
+use Rattle.leaf_model.specs.Bytes.{name_bytes, i64_bytes, u64_bytes}
 use Rattle.region_layout.proofs.Answered.{on_ok}
 use Rattle.region_layout.proofs.Putting.{three_put}
 use Rattle.region_layout.proofs.directory_writer.put_table_head.Goals as goal

@@ -1,5 +1,5 @@
 use Rattle.std.proofs.Common.{◌≡◌, ℕ, ◌<◌, length, None, option_map, slice_index_or, take}
-use Rattle.column_bytes.specs.Cells.{lent_value}
+use Rattle.leaf_model.specs.Lent.{lent_value}
 use Rattle.row_blocks.specs.Runs.{last_value, row_cells}
 use Rattle.row_blocks.proofs.runs.lend_run.Given as goal
 

@@ -1,7 +1,7 @@
 use Rattle.std.proofs.Common.{take}
-use Rattle.row_blocks.specs.Merging.{lent}
+use Rattle.leaf_model.specs.Lent.{each_cells}
 use Rattle.row_blocks.specs.Runs.{HoldRests}
 use Rattle.row_blocks.proofs.runs.placed_cells.Given as goal
 
 abbrev pub invariant-loop-place : goal.invariant-loop-place
-invariant-loop-place l = HoldRests (lent (take l.place l.rests)) l.cells.items
+invariant-loop-place l = HoldRests (each_cells (take l.place l.rests)) l.cells.items

@@ -1,15 +1,15 @@
-use Rattle.std.proofs.Common.{◌≡◌, ℕ, ◌+◌, ◌-◌, ◌<◌, ◌≤◌, List, [], ◌∷◌, ◌++◌, length, map, take, drop, get_or, slice_index_or, sym, ap, subst, ◌∙◌, Bor, arith}
+use Rattle.std.proofs.Common.{◌≡◌, ℕ, ◌+◌, ◌-◌, ◌<◌, ◌≤◌, List, [], ◌∷◌, ◌++◌, length, map, take, drop, get_or, slice_index_or, sym, ap, subst, ◌∙◌, arith}
 use Rattle.std.specs.List.{All}
 use Rattle.std.specs.List.Sorted.{IsStrictlySortedBy}
 use Rattle.std.specs.Cmp.Lexicographic.{slice_cmp}
 use Rattle.std.specs.Ordering.{nat_cmp}
 use Rattle.std.proofs.lemmas.List.{drop-drop, drop_all, get_or_default, length-drop}
-use Rattle.leaf_model.specs.declared.rows.Cell.{Cell}
-use Rattle.column_bytes.specs.Cells.{values_of}
+use Rattle.leaf_model.specs.declared.lent_cells.LentCells.{LentCells}
+use Rattle.leaf_model.specs.Lent.{each_cells, each_row, each_value}
 use Rattle.row_blocks.specs.declared.column.BlockColumn.{BlockColumn}
 use Rattle.row_blocks.specs.declared.runs.PlacedCell.{PlacedCell}
 use Rattle.row_blocks.specs.Columns.{MeanCells}
-use Rattle.row_blocks.specs.Merging.{front_value, lent, lent_rows}
+use Rattle.row_blocks.specs.Merging.{front_value}
 use Rattle.row_blocks.specs.Places.{names_of}
 use Rattle.row_blocks.specs.Runs.{HoldRests, Rise, last_value, row_cells}
 use Rattle.row_blocks.proofs.FrontRun.{AreLeft, IsRun, heading_at, next_run, none_left_over, rests_are, run_kind, run_taken, run_values}
@@ -18,25 +18,25 @@ use Rattle.row_blocks.proofs.sealing.other_columns.Goals as goal
 pub in_order-requires : goal.in_order-requires
 in_order-requires c = λ i.
     let rests = c.in_ok-columns.rests.items in
-    subst (λ (l : List (Bor (List Cell))). IsStrictlySortedBy (slice_cmp nat_cmp) (names_of (slice_index_or (lent l) i []))) (sym c.deref.ensures.value)
-    (rests_are (lent_rows c.args.rows.now) c.in_ok-columns.columns.items (lent rests) c.requires.rows c.in_ok-columns.ensures.taken i).ascending
+    subst (λ (l : List LentCells). IsStrictlySortedBy (slice_cmp nat_cmp) (names_of (slice_index_or (each_cells l) i []))) (sym c.deref.ensures.value)
+    (rests_are (each_row c.args.rows.now) c.in_ok-columns.columns.items (each_cells rests) c.requires.rows c.in_ok-columns.ensures.taken i).ascending
 
 pub loop-from-init : goal.loop-from-init
 loop-from-init c = record {
   within = omega arith;
   same = c.in_ok-columns.ensures.same ∙ c.requires.places;
   left = record {
-    rests = lent c.in_ok-columns.rests.items;
+    rests = each_cells c.in_ok-columns.rests.items;
     taken = c.in_ok-columns.ensures.taken;
     rise = subst Rise (sym c.as_slice-cells.ensures.value) c.in_ok-sorted.ensures.rise;
-    hold = subst (λ (l : List (Bor (List Cell))). HoldRests (lent l) c.as_slice-cells.result.now) c.deref.ensures.value
-        (subst (HoldRests (lent c.deref.result.now)) (sym c.as_slice-cells.ensures.value) c.in_ok-sorted.ensures.cells);
+    hold = subst (λ (l : List LentCells). HoldRests (each_cells l) c.as_slice-cells.result.now) c.deref.ensures.value
+        (subst (HoldRests (each_cells c.deref.result.now)) (sym c.as_slice-cells.ensures.value) c.in_ok-sorted.ensures.cells);
   };
 }
 
 pub overflow_add-to : goal.overflow_add-to
 overflow_add-to c =
-    let rows = lent_rows c.args.rows.now in let columns = c.loop-from.columns.items in let left = c.loop-from.invariant.left in
+    let rows = each_row c.args.rows.now in let columns = c.loop-from.columns.items in let left = c.loop-from.invariant.left in
     let cells = c.as_slice-cells.result.now in let from = c.loop-from.from in let count = c.run_len.result in let item = c.index-cells-from.result in let first = get_or cells from item in
     let run : IsRun left.rests first (drop from cells) count = next_run rows columns cells from count first c.requires.rows left c.loop-from-test.true (get_or_default cells from item first c.loop-from-test.true) c.run_len.ensures in
     let few : from + count ≤ length cells = omega (arith, run.few, length-drop from cells, c.loop-from.invariant.within) in
@@ -44,7 +44,7 @@ overflow_add-to c =
 
 pub slice_bounds-lend_run-end : goal.slice_bounds-lend_run-end
 slice_bounds-lend_run-end c =
-    let rows = lent_rows c.args.rows.now in let columns = c.loop-from.columns.items in let left = c.loop-from.invariant.left in
+    let rows = each_row c.args.rows.now in let columns = c.loop-from.columns.items in let left = c.loop-from.invariant.left in
     let cells = c.as_slice-cells.result.now in let from = c.loop-from.from in let count = c.run_len.result in let item = c.index-cells-from.result in let first = get_or cells from item in
     let run : IsRun left.rests first (drop from cells) count = next_run rows columns cells from count first c.requires.rows left c.loop-from-test.true (get_or_default cells from item first c.loop-from-test.true) c.run_len.ensures in
     let few : from + count ≤ length cells = omega (arith, run.few, length-drop from cells, c.loop-from.invariant.within) in
@@ -52,7 +52,7 @@ slice_bounds-lend_run-end c =
 
 pub lend_run-requires : goal.lend_run-requires
 lend_run-requires c =
-    let rows = lent_rows c.args.rows.now in let columns = c.loop-from.columns.items in let left = c.loop-from.invariant.left in
+    let rows = each_row c.args.rows.now in let columns = c.loop-from.columns.items in let left = c.loop-from.invariant.left in
     let cells = c.as_slice-cells.result.now in let from = c.loop-from.from in let count = c.run_len.result in let item = c.index-cells-from.result in let first = get_or cells from item in
     let run : IsRun left.rests first (drop from cells) count = next_run rows columns cells from count first c.requires.rows left c.loop-from-test.true (get_or_default cells from item first c.loop-from-test.true) c.run_len.ensures in
     let part : from + count - from ≡ count = omega arith in
@@ -62,32 +62,32 @@ lend_run-requires c =
 
 pub column_like-requires-clause-kind : goal.column_like-requires-clause-kind
 column_like-requires-clause-kind c =
-    let rows = lent_rows c.args.rows.now in let columns = c.loop-from.columns.items in let left = c.loop-from.invariant.left in
+    let rows = each_row c.args.rows.now in let columns = c.loop-from.columns.items in let left = c.loop-from.invariant.left in
     let cells = c.as_slice-cells.result.now in let from = c.loop-from.from in let count = c.run_len.result in let item = c.index-cells-from.result in let first = get_or cells from item in
     let run : IsRun left.rests first (drop from cells) count = next_run rows columns cells from count first c.requires.rows left c.loop-from-test.true (get_or_default cells from item first c.loop-from-test.true) c.run_len.ensures in
     let part : from + count - from ≡ count = omega arith in
     let same : length c.lend_run.new.values ≡ length left.rests = c.lend_run.ensures.same ∙ c.loop-from.invariant.same ∙ sym left.taken.same in
-    let fronts : values_of c.lend_run.new.values ≡ map (front_value (heading_at first)) left.rests
+    let fronts : each_value c.lend_run.new.values ≡ map (front_value (heading_at first)) left.rests
     = run_values left.rests first (drop from cells) count c.lend_run.new.values run same
     (λ i within. c.lend_run.ensures.values i (omega (arith, within, c.lend_run.ensures.same)) ∙ ap (λ (n : ℕ). last_value (row_cells i (take n (drop from cells)))) part) in
     run_kind rows columns (drop from cells) first c.lend_run.new.values c.requires.rows left fronts
 
 pub loop-from-smaller : goal.loop-from-smaller
 loop-from-smaller c =
-    let rows = lent_rows c.args.rows.now in let columns = c.loop-from.columns.items in let left = c.loop-from.invariant.left in
+    let rows = each_row c.args.rows.now in let columns = c.loop-from.columns.items in let left = c.loop-from.invariant.left in
     let cells = c.as_slice-cells.result.now in let from = c.loop-from.from in let count = c.run_len.result in let item = c.index-cells-from.result in let first = get_or cells from item in
     let run : IsRun left.rests first (drop from cells) count = next_run rows columns cells from count first c.requires.rows left c.loop-from-test.true (get_or_default cells from item first c.loop-from-test.true) c.run_len.ensures in
     omega (arith, run.some, c.loop-from-test.true)
 
 pub loop-from-preserved : goal.loop-from-preserved
 loop-from-preserved c =
-    let rows = lent_rows c.args.rows.now in let columns = c.loop-from.columns.items in let left = c.loop-from.invariant.left in
+    let rows = each_row c.args.rows.now in let columns = c.loop-from.columns.items in let left = c.loop-from.invariant.left in
     let cells = c.as_slice-cells.result.now in let from = c.loop-from.from in let count = c.run_len.result in let item = c.index-cells-from.result in let first = get_or cells from item in
     let run : IsRun left.rests first (drop from cells) count = next_run rows columns cells from count first c.requires.rows left c.loop-from-test.true (get_or_default cells from item first c.loop-from-test.true) c.run_len.ensures in
     let few : from + count ≤ length cells = omega (arith, run.few, length-drop from cells, c.loop-from.invariant.within) in
     let part : from + count - from ≡ count = omega arith in
     let same : length c.lend_run.new.values ≡ length left.rests = c.lend_run.ensures.same ∙ c.loop-from.invariant.same ∙ sym left.taken.same in
-    let fronts : values_of c.lend_run.new.values ≡ map (front_value (heading_at first)) left.rests
+    let fronts : each_value c.lend_run.new.values ≡ map (front_value (heading_at first)) left.rests
     = run_values left.rests first (drop from cells) count c.lend_run.new.values run same
     (λ i within. c.lend_run.ensures.values i (omega (arith, within, c.lend_run.ensures.same)) ∙ ap (λ (n : ℕ). last_value (row_cells i (take n (drop from cells)))) part) in
     let column = c.in_ok-column_like.field-0 in
@@ -105,4 +105,4 @@ loop-from-preserved c =
 pub returns : goal.returns
 returns c =
     let cells = c.as_slice-cells.result.now in let from = c.loop-from.from in
-    none_left_over (lent_rows c.args.rows.now) c.loop-from.columns.items (drop from cells) c.loop-from.invariant.left (drop_all from cells (omega (arith, c.loop-from-test.false)))
+    none_left_over (each_row c.args.rows.now) c.loop-from.columns.items (drop from cells) c.loop-from.invariant.left (drop_all from cells (omega (arith, c.loop-from-test.false)))

@@ -1,10 +1,9 @@
-use Rattle.std.proofs.Common.{◌≡◌, ◌<◌, ◌≤◌, ℕ, List, [], ◌∷◌, ◌++◌, length, ℤ, Option, sym, ap, subst, ◌∙◌, Bor, arith}
+use Rattle.std.proofs.Common.{◌≡◌, ◌<◌, ◌≤◌, ℕ, List, [], ◌∷◌, ◌++◌, length, ℤ, Option, sym, ap, subst, ◌∙◌, arith}
 use Rattle.std.proofs.lemmas.List.{length-map}
-use Rattle.leaf_model.specs.declared.rows.Value.{Value}
-use Rattle.leaf_model.specs.declared.rows.Row.{Row}
+use Rattle.leaf_model.specs.declared.lent_cells.LentValue.{LentValue}
+use Rattle.leaf_model.specs.Lent.{each_row, lent_row}
 use Rattle.row_blocks.specs.declared.column.BlockColumn.{BlockColumn}
 use Rattle.row_blocks.specs.Blocks.{Block, IsBlock, rows_in, times_of}
-use Rattle.row_blocks.specs.Merging.{lent_rows}
 use Rattle.row_blocks.specs.Ordered.{IsRangeOf}
 use Rattle.row_blocks.specs.Held.{rows_and_cells}
 use Rattle.row_blocks.proofs.Fewer.{few_columns}
@@ -19,12 +18,12 @@ times_column-requires-clause-few c = omega (arith, c.requires.few, counted_times
 
 pub other_columns-requires-clause-places : goal.other_columns-requires-clause-places
 other_columns-requires-clause-places c =
-    ap (λ (l : List (Option (Bor Value))). length l) c.deref_mut.ensures.value ∙ c.in_ok-values.ensures ∙ sym (length-map c.args.rows.now (λ (r : Bor Row). r.now))
+    ap (λ (l : List (Option LentValue)). length l) c.deref_mut.ensures.value ∙ c.in_ok-values.ensures ∙ sym (length-map c.args.rows.now lent_row)
 
 pub of-requires-2-clause-block : goal.of-requires-2-clause-block
 of-requires-2-clause-block c =
-    let rows = lent_rows c.args.rows.now in
-    let count : length rows ≡ length c.args.rows.now = length-map c.args.rows.now (λ (r : Bor Row). r.now) in
+    let rows = each_row c.args.rows.now in
+    let count : length rows ≡ length c.args.rows.now = length-map c.args.rows.now lent_row in
     let column = c.in_ok-first.first in let others = c.in_ok-others.others.items in let said = c.in_ok-first.ensures in
     let columns : c.of.result ≡ column ∷ others
     = c.of.ensures ∙ c.in_ok-append.ensures.items ∙ ap (λ (l : List BlockColumn). l ++ others) (c.in_ok-push.ensures.items ∙ ap (λ (l : List BlockColumn). l ++ column ∷ []) c.new-columns.ensures.items) in
@@ -37,8 +36,8 @@ of-requires-2-clause-block c =
 
 pub of-requires-2-clause-range : goal.of-requires-2-clause-range
 of-requires-2-clause-range c =
-    let rows = lent_rows c.args.rows.now in
-    let count : length rows ≡ length c.args.rows.now = length-map c.args.rows.now (λ (r : Bor Row). r.now) in
+    let rows = each_row c.args.rows.now in
+    let count : length rows ≡ length c.args.rows.now = length-map c.args.rows.now lent_row in
     let column = c.in_ok-first.first in let others = c.in_ok-others.others.items in let said = c.in_ok-first.ensures in
     let range = c.range_of-range.result in
     let columns : c.of.result ≡ column ∷ others
@@ -51,8 +50,8 @@ of-requires-2-clause-range c =
 
 pub returns-clause-rows : goal.returns-clause-rows
 returns-clause-rows c =
-    let rows = lent_rows c.args.rows.now in
-    let count : length rows ≡ length c.args.rows.now = length-map c.args.rows.now (λ (r : Bor Row). r.now) in
+    let rows = each_row c.args.rows.now in
+    let count : length rows ≡ length c.args.rows.now = length-map c.args.rows.now lent_row in
     let column = c.in_ok-first.first in let others = c.in_ok-others.others.items in let said = c.in_ok-first.ensures in
     let columns : c.of.result ≡ column ∷ others
     = c.of.ensures ∙ c.in_ok-append.ensures.items ∙ ap (λ (l : List BlockColumn). l ++ others) (c.in_ok-push.ensures.items ∙ ap (λ (l : List BlockColumn). l ++ column ∷ []) c.new-columns.ensures.items) in
@@ -64,8 +63,8 @@ returns-clause-rows c =
 
 pub returns-clause-few : goal.returns-clause-few
 returns-clause-few c =
-    let rows = lent_rows c.args.rows.now in
-    let count : length rows ≡ length c.args.rows.now = length-map c.args.rows.now (λ (r : Bor Row). r.now) in
+    let rows = each_row c.args.rows.now in
+    let count : length rows ≡ length c.args.rows.now = length-map c.args.rows.now lent_row in
     let column = c.in_ok-first.first in let others = c.in_ok-others.others.items in
     let columns : c.of.result ≡ column ∷ others
     = c.of.ensures ∙ c.in_ok-append.ensures.items ∙ ap (λ (l : List BlockColumn). l ++ others) (c.in_ok-push.ensures.items ∙ ap (λ (l : List BlockColumn). l ++ column ∷ []) c.new-columns.ensures.items) in

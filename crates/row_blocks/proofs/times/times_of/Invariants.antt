@@ -1,7 +1,7 @@
 use Rattle.std.proofs.Common.{◌≡◌, take}
+use Rattle.leaf_model.specs.Lent.{each_row}
 use Rattle.row_blocks.specs.Blocks.{times_of}
-use Rattle.row_blocks.specs.Merging.{lent_rows}
 use Rattle.row_blocks.proofs.times.times_of.Given as goal
 
 abbrev pub invariant-loop-row : goal.invariant-loop-row
-invariant-loop-row l = l.times.items ≡ times_of (lent_rows (take l.row-index l.rows))
+invariant-loop-row l = l.times.items ≡ times_of (each_row (take l.row-index l.rows))

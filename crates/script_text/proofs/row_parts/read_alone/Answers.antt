@@ -7,8 +7,7 @@ use Rattle.script_text.proofs.row_parts.read_alone.Goals as goal
 pub of-requires : goal.of-requires
 of-requires c =
     let many : length c.in-Ok.rows ≡ c.args.count = (alone_read c.args.number (lines_of c.args.text.now) c.in-Ok.rows c.in-Ok.ensures.exact).1 ∙ c.requires.lines in
-    let same : length c.into_inner.result.items ≡ length c.in-Ok.rows = ap (λ (rows : List Row). length rows) c.into_inner.ensures in
-    omega (arith, many, same, c.requires.few)
+    omega (arith, many, c.requires.few)
 
 pub fault_behind-requires : goal.fault_behind-requires
 fault_behind-requires c =
@@ -17,7 +16,7 @@ fault_behind-requires c =
 
 pub returns-in-Ok-clause-count : goal.returns-in-Ok-clause-count
 returns-in-Ok-clause-count c =
-    ap (λ (rows : List Row). length rows) (c.of.ensures ∙ c.into_inner.ensures) ∙ (alone_read c.args.number (lines_of c.args.text.now) c.in-Ok.rows c.in-Ok.ensures.exact).1 ∙ c.requires.lines
+    ap (λ (rows : List Row). length rows) c.of.ensures ∙ (alone_read c.args.number (lines_of c.args.text.now) c.in-Ok.rows c.in-Ok.ensures.exact).1 ∙ c.requires.lines
 
 pub returns-in-Err-clause-exact : goal.returns-in-Err-clause-exact
 returns-in-Err-clause-exact c =

@@ -1,6 +1,6 @@
 use Rattle.std.proofs.Common.{rules, ◌<◌, ◌^◌, ◌∙◌, length, sym, ap, subst, arith}
 use Rattle.row_records.specs.Pending.{allows_sets, pending_bytes, pending_count}
-use Rattle.row_records.specs.Bytes.{IsBytes}
+use Rattle.leaf_model.specs.Bytes.{IsBytes}
 use Rattle.row_records.proofs.Pended.{few, room, gone_on}
 use Rattle.row_records.proofs.pending.Pending.go_on.Goals as goal
 

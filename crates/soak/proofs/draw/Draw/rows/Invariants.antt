@@ -7,7 +7,7 @@ invariant-loop-self l =
     (l.self.seed ≡ l.fn.self.seed)
     × (l.fn.self.next ≤ l.self.next)
     × (l.self.next ≤ l.end)
-    × (l.rows.items ≡ rows_between l.fn.self.seed l.fn.self.next l.self.next)
+    × (l.rows ≡ rows_between l.fn.self.seed l.fn.self.next l.self.next)
 
 abbrev pub decreases-loop-self : goal.decreases-loop-self
 decreases-loop-self l = l.end - l.self.next

@@ -1,5 +1,4 @@
-use Rattle.std.proofs.Common.{◌≡◌, ◌≤◌, ◌+◌, ◌-◌, ◌++◌, ℕ, List, Option, Some, length, drop, ap₂, subst, to_z, of_z, arith, rules}
-use Rattle.std.specs.Int.{w64}
+use Rattle.std.proofs.Common.{◌≡◌, ◌≤◌, ◌+◌, ◌-◌, ◌++◌, ℕ, List, Option, Some, length, drop, ap₂, subst, arith, rules}
 use Rattle.leaf_model.specs.declared.rows.Row.{Row}
 use Rattle.leaf_model.specs.declared.writes.Write.TheVariants.{Add}
 use Rattle.leaf_model.specs.Content.{kept_count, late_count, rows_from}
@@ -14,43 +13,39 @@ use Rattle.table_state.proofs.table.TableState.add.Goals as goal
 
 pub invariant_of-self-2 : goal.invariant_of-self-2
 invariant_of-self-2 c =
-    let t = c.self.inside in let h = t.horizon in let all = t.tail.items ++ rows_from h c.args.rows in
-    let lent : c.as_slice.result.now ≡ c.args.rows = search rules in
-    let at : to_z w64 (of_z w64 h) ≡ h = search rules in
-    let rest : c.admit.new.tail.items ≡ drop (in_runs (length all)) all = search rules in
-    let count : c.admit.result ≡ in_runs (length all) = search rules in
-    let few : t.live + length t.tail.items + length (rows_from h c.args.rows) ≤ most_rows = search rules in
-    add_stands t.blocks t.skip t.tail.items h t.live c.self.invariant c.args.rows c.as_slice.result.now c.requires.rows lent (to_z w64 (of_z w64 h)) at c.prepare.new.blocks c.in_ok-kept.ensures.sealed c.admit.new.tail.items rest
-    c.admit.result count few
+    let t = c.self.inside in let h = t.horizon in let all = c.prepare.new.tail in
+    let put : all ≡ t.tail ++ rows_from h c.args.rows = search rules in
+    let rest : c.drop_runs.new.tail ≡ drop (in_runs (length all)) all = search rules in
+    let count : c.drop_runs.result ≡ in_runs (length all) = search rules in
+    let few : t.live + length t.tail + length (rows_from h c.args.rows) ≤ most_rows = search rules in
+    add_stands t.blocks t.skip t.tail h t.live c.self.invariant c.args.rows c.requires.rows all put c.prepare.new.blocks c.in_ok-kept.ensures.sealed c.drop_runs.new.tail rest c.drop_runs.result count few
 
 pub returns-clause-does : goal.returns-clause-does
 returns-clause-does c =
-    let t = c.self.inside in let h = t.horizon in let all = t.tail.items ++ rows_from h c.args.rows in
-    let lent : c.as_slice.result.now ≡ c.args.rows = search rules in
-    let at : to_z w64 (of_z w64 h) ≡ h = search rules in
-    let rest : c.admit.new.tail.items ≡ drop (in_runs (length all)) all = search rules in
+    let t = c.self.inside in let h = t.horizon in let all = c.prepare.new.tail in
+    let put : all ≡ t.tail ++ rows_from h c.args.rows = search rules in
+    let rest : c.drop_runs.new.tail ≡ drop (in_runs (length all)) all = search rules in
     let kept : c.in_ok-kept.kept ≡ length (rows_from h c.args.rows) = search rules in
-    let len : length c.as_slice-2.result.now ≡ length c.args.rows = search rules in
+    let len : c.len.result ≡ length c.args.rows = search rules in
     let pushed : c.push.new.self ≡ Some (with_push c.args.table.now (Add c.args.rows) t.pending) = search rules in
-    let table : Table = record { contents = record { rows = sealed_rows c.prepare.new.blocks t.skip h ++ c.admit.new.tail.items; horizon = h }; writes = t.writes + 1; pending = c.push.new.self; store = no_store } in
+    let table : Table = record { contents = record { rows = sealed_rows c.prepare.new.blocks t.skip h ++ c.drop_runs.new.tail; horizon = h }; writes = t.writes + 1; pending = c.push.new.self; store = no_store } in
     let made : List Row → Option LogRecord → Table = λ rows p. record { contents = record { rows = rows; horizon = h }; writes = t.writes + 1; pending = p; store = no_store } in
     let P : Table → Type 0
     = λ x. (length x.contents.rows + kept_count x.contents c.args.rows ≤ most_rows) × (c.in_ok-kept.kept ≡ kept_count x.contents c.args.rows)
-    × (length c.as_slice-2.result.now - c.in_ok-kept.kept ≡ late_count x.contents c.args.rows) × (table ≡ table_with_write c.args.table.now x (Add c.args.rows)) in
+    × (c.len.result - c.in_ok-kept.kept ≡ late_count x.contents c.args.rows) × (table ≡ table_with_write c.args.table.now x (Add c.args.rows)) in
     subst P c.self.view_is (
-      omega (arith, held_count t.blocks t.skip t.tail.items h t.live c.self.invariant, c.in_ok-kept.ensures.fits, kept),
+      omega (arith, held_count t.blocks t.skip t.tail h t.live c.self.invariant, c.in_ok-kept.ensures.fits, kept),
       kept,
       ap₂ (λ (m n : ℕ). m - n) len kept,
       ap₂ made
-          (add_rows t.blocks t.skip t.tail.items h t.live c.self.invariant c.args.rows c.as_slice.result.now c.requires.rows lent (to_z w64 (of_z w64 h)) at c.prepare.new.blocks c.in_ok-kept.ensures.sealed c.admit.new.tail.items rest)
+          (add_rows t.blocks t.skip t.tail h t.live c.self.invariant c.args.rows c.requires.rows all put c.prepare.new.blocks c.in_ok-kept.ensures.sealed c.drop_runs.new.tail rest)
           pushed,
     )
 
 pub returns-clause-columns : goal.returns-clause-columns
 returns-clause-columns c =
-    let t = c.self.inside in let h = t.horizon in let all = t.tail.items ++ rows_from h c.args.rows in
-    let lent : c.as_slice.result.now ≡ c.args.rows = search rules in
-    let at : to_z w64 (of_z w64 h) ≡ h = search rules in
-    let rest : c.admit.new.tail.items ≡ drop (in_runs (length all)) all = search rules in
-    subst (λ (x : Table). columns_count c.prepare.new.blocks + rows_and_cells c.admit.new.tail.items ≤ columns_most x.store + rows_and_cells c.args.rows) c.self.view_is
-    (add_columns t.blocks t.tail.items c.args.rows c.as_slice.result.now h (to_z w64 (of_z w64 h)) lent at c.prepare.new.blocks c.in_ok-kept.ensures.sealed c.admit.new.tail.items rest)
+    let t = c.self.inside in let h = t.horizon in let all = c.prepare.new.tail in
+    let put : all ≡ t.tail ++ rows_from h c.args.rows = search rules in
+    let rest : c.drop_runs.new.tail ≡ drop (in_runs (length all)) all = search rules in
+    subst (λ (x : Table). columns_count c.prepare.new.blocks + rows_and_cells c.drop_runs.new.tail ≤ columns_most x.store + rows_and_cells c.args.rows) c.self.view_is
+    (add_columns t.blocks t.tail c.args.rows all h put c.prepare.new.blocks c.in_ok-kept.ensures.sealed c.drop_runs.new.tail rest)

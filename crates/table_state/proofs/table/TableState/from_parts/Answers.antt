@@ -20,8 +20,8 @@ invariant_of-result c =
     let same : to_z w64 (of_z w64 p.horizon) ≡ p.horizon = search rules in
     let slice : c.as_slice.result.now ≡ p.blocks = search rules in
     let blocks : c.of.result ≡ p.blocks = search rules in
-    subst (λ (t : ℤ). Stands c.of.result p.skip c.new.result.items t c.count_live-live.result) (sym same)
-    (parts_stand p c.of.result c.new.result.items c.count_live-live.result c.requires blocks c.new.ensures.items
+    subst (λ (t : ℤ). Stands c.of.result p.skip c.new.result t c.count_live-live.result) (sym same)
+    (parts_stand p c.of.result c.new.result c.count_live-live.result c.requires blocks c.new.ensures
     (c.count_live-live.ensures ∙ ap₂ (λ (l : List Block) (t : ℤ). length (sealed_rows l p.skip t)) slice same))
 
 pub returns-clause-of : goal.returns-clause-of
@@ -29,5 +29,5 @@ returns-clause-of c =
     let p = c.args.parts in
     let same : to_z w64 (of_z w64 p.horizon) ≡ p.horizon = search rules in
     let blocks : c.of.result ≡ p.blocks = search rules in
-    subst (λ (t : ℤ). IsPartsOf p (standing c.of.result p.skip c.new.result.items t p.writes c.new-2.result)) (sym same)
-    (parts_told p c.of.result c.new.result.items c.new-2.result blocks c.new.ensures.items)
+    subst (λ (t : ℤ). IsPartsOf p (standing c.of.result p.skip c.new.result t p.writes c.new-2.result)) (sym same)
+    (parts_told p c.of.result c.new.result c.new-2.result blocks c.new.ensures)

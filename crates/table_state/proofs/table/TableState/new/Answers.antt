@@ -3,7 +3,7 @@ use Rattle.table_state.proofs.Stood.{none_stand, none_told}
 use Rattle.table_state.proofs.table.TableState.new.Goals as goal
 
 pub invariant_of-result : goal.invariant_of-result
-invariant_of-result c = none_stand c.new.result c.new-2.result.items (pos 0) c.new.ensures c.new-2.ensures.items (search rules)
+invariant_of-result c = none_stand c.new.result c.new-2.result (pos 0) c.new.ensures c.new-2.ensures (search rules)
 
 pub returns : goal.returns
-returns c = none_told c.new.result c.new-2.result.items c.new-3.result c.new.ensures c.new-2.ensures.items c.new-3.ensures
+returns c = none_told c.new.result c.new-2.result c.new-3.result c.new.ensures c.new-2.ensures c.new-3.ensures

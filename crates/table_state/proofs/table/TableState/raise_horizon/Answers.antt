@@ -23,7 +23,7 @@ count_live-self-inside-requires-clause-few c =
     let rows = subst (λ (z : ℤ). sealed_rows left cut z ≡ sealed_rows t.blocks t.skip z) same c.leave_live-self-inside.ensures.rows in
     let law = c.masks_and_cuts.ensures.horizons in
     subst (λ (l : List Block). length (sealed_rows l cut (to_z w64 (of_z w64 now))) ≤ most_rows) (sym c.as_slice.ensures)
-    (subst (λ (z : ℤ). length (sealed_rows left cut z) ≤ most_rows) (sym same) (raised_few t.blocks t.skip t.tail.items t.horizon c.args.horizon now later t.live c.self.invariant law left cut rows))
+    (subst (λ (z : ℤ). length (sealed_rows left cut z) ≤ most_rows) (sym same) (raised_few t.blocks t.skip t.tail t.horizon c.args.horizon now later t.live c.self.invariant law left cut rows))
 
 pub invariant_of-self : goal.invariant_of-self
 invariant_of-self c =
@@ -35,10 +35,10 @@ invariant_of-self c =
     let same : to_z w64 (of_z w64 now) ≡ now = ap (λ (z : ℤ). to_z w64 (of_z w64 z)) fits in
     let rows = subst (λ (z : ℤ). sealed_rows left cut z ≡ sealed_rows t.blocks t.skip z) same c.leave_live-self-inside.ensures.rows in
     let law = c.masks_and_cuts.ensures.horizons in
-    let rest = subst (λ (z : ℤ). c.retain_from.new.rows.items ≡ rows_from z t.tail.items) same c.retain_from.ensures.rows in
+    let rest = subst (λ (z : ℤ). c.retain_from.new.self ≡ rows_from z t.tail) same c.retain_from.ensures in
     let time : IsTime now = search rules in
     let count = c.count_live-self-inside.ensures ∙ ap₂ (λ (l : List Block) (z : ℤ). length (sealed_rows l cut z)) c.as_slice.ensures same in
-    raised_stands t.blocks t.skip t.tail.items t.horizon c.args.horizon now later t.live c.self.invariant law left cut rows c.retain_from.new.rows.items c.count_live-self-inside.result rest time
+    raised_stands t.blocks t.skip t.tail t.horizon c.args.horizon now later t.live c.self.invariant law left cut rows c.retain_from.new.self c.count_live-self-inside.result rest time
     c.leave_live-self-inside.ensures.cut c.leave_live-self-inside.ensures.sealed count
 
 pub returns-clause-written : goal.returns-clause-written
@@ -51,9 +51,9 @@ returns-clause-written c =
     let same : to_z w64 (of_z w64 now) ≡ now = ap (λ (z : ℤ). to_z w64 (of_z w64 z)) fits in
     let rows = subst (λ (z : ℤ). sealed_rows left cut z ≡ sealed_rows t.blocks t.skip z) same c.leave_live-self-inside.ensures.rows in
     let law = c.masks_and_cuts.ensures.horizons in
-    let rest = subst (λ (z : ℤ). c.retain_from.new.rows.items ≡ rows_from z t.tail.items) same c.retain_from.ensures.rows in
+    let rest = subst (λ (z : ℤ). c.retain_from.new.self ≡ rows_from z t.tail) same c.retain_from.ensures in
     let made : Contents → Table = λ k. record { contents = k; writes = t.writes + 1; pending = t.pending; store = no_store } in
-    ap made (raised_contents t.blocks t.skip t.tail.items t.horizon c.args.horizon now later t.live c.self.invariant law left cut rows c.retain_from.new.rows.items rest)
+    ap made (raised_contents t.blocks t.skip t.tail t.horizon c.args.horizon now later t.live c.self.invariant law left cut rows c.retain_from.new.self rest)
     ∙ ap (λ (x : Table). replayed x (Expire c.args.horizon)) c.self.view_is
 
 pub returns-clause-fewer : goal.returns-clause-fewer
@@ -66,12 +66,12 @@ returns-clause-fewer c =
     let same : to_z w64 (of_z w64 now) ≡ now = ap (λ (z : ℤ). to_z w64 (of_z w64 z)) fits in
     let rows = subst (λ (z : ℤ). sealed_rows left cut z ≡ sealed_rows t.blocks t.skip z) same c.leave_live-self-inside.ensures.rows in
     let law = c.masks_and_cuts.ensures.horizons in
-    let rest = subst (λ (z : ℤ). c.retain_from.new.rows.items ≡ rows_from z t.tail.items) same c.retain_from.ensures.rows in
-    let P : Table → Type 0 = λ x. length (sealed_rows left cut now ++ c.retain_from.new.rows.items) ≤ length x.contents.rows in
+    let rest = subst (λ (z : ℤ). c.retain_from.new.self ≡ rows_from z t.tail) same c.retain_from.ensures in
+    let P : Table → Type 0 = λ x. length (sealed_rows left cut now ++ c.retain_from.new.self) ≤ length x.contents.rows in
     subst P c.self.view_is (omega (
       arith,
-      raised_length t.blocks t.skip t.tail.items t.horizon c.args.horizon now later t.live c.self.invariant law left cut rows c.retain_from.new.rows.items rest,
-      held_count t.blocks t.skip t.tail.items t.horizon t.live c.self.invariant,
+      raised_length t.blocks t.skip t.tail t.horizon c.args.horizon now later t.live c.self.invariant law left cut rows c.retain_from.new.self rest,
+      held_count t.blocks t.skip t.tail t.horizon t.live c.self.invariant,
     ))
 
 pub returns-clause-few : goal.returns-clause-few
@@ -84,12 +84,12 @@ returns-clause-few c =
     let same : to_z w64 (of_z w64 now) ≡ now = ap (λ (z : ℤ). to_z w64 (of_z w64 z)) fits in
     let rows = subst (λ (z : ℤ). sealed_rows left cut z ≡ sealed_rows t.blocks t.skip z) same c.leave_live-self-inside.ensures.rows in
     let law = c.masks_and_cuts.ensures.horizons in
-    let rest = subst (λ (z : ℤ). c.retain_from.new.rows.items ≡ rows_from z t.tail.items) same c.retain_from.ensures.rows in
-    omega (arith, raised_length t.blocks t.skip t.tail.items t.horizon c.args.horizon now later t.live c.self.invariant law left cut rows c.retain_from.new.rows.items rest, c.self.invariant.few)
+    let rest = subst (λ (z : ℤ). c.retain_from.new.self ≡ rows_from z t.tail) same c.retain_from.ensures in
+    omega (arith, raised_length t.blocks t.skip t.tail t.horizon c.args.horizon now later t.live c.self.invariant law left cut rows c.retain_from.new.self rest, c.self.invariant.few)
 
 pub returns-clause-columns : goal.returns-clause-columns
 returns-clause-columns c =
-    let t = c.self.inside in let left = c.leave_live-self-inside.new.blocks in let rest = c.retain_from.new.rows.items in
+    let t = c.self.inside in let left = c.leave_live-self-inside.new.blocks in let rest = c.retain_from.new.self in
     let now = to_z w64 (of_z w64 c.max-self-inside.result) in
     subst (λ (x : Table). columns_count left + rows_and_cells rest ≤ columns_most x.store) c.self.view_is
-    (expired_columns t.blocks left t.tail.items rest c.leave_live-self-inside.ensures.columns (to_z w64 (of_z w64 now)) c.retain_from.ensures.rows)
+    (expired_columns t.blocks left t.tail rest c.leave_live-self-inside.ensures.columns (to_z w64 (of_z w64 now)) c.retain_from.ensures)

@@ -1,5 +1,4 @@
-use Rattle.std.proofs.Common.{◌≡◌, ◌≤◌, ◌+◌, ◌++◌, List, length, drop, ap, subst, to_z, of_z, arith, length-append, rules}
-use Rattle.std.specs.Int.{w64}
+use Rattle.std.proofs.Common.{◌≡◌, ◌≤◌, ◌+◌, ◌++◌, List, length, drop, ap, subst, arith, length-append, rules}
 use Rattle.leaf_model.specs.declared.rows.Row.{Row}
 use Rattle.leaf_model.specs.declared.writes.Write.TheVariants.{Add}
 use Rattle.leaf_model.specs.Content.{content_after, rows_from}
@@ -12,36 +11,32 @@ use Rattle.table_state.proofs.table.TableState.replay_add.Goals as goal
 
 pub invariant_of-self-2 : goal.invariant_of-self-2
 invariant_of-self-2 c =
-    let t = c.self.inside in let h = t.horizon in let all = t.tail.items ++ rows_from h c.args.rows in
-    let lent : c.as_slice.result.now ≡ c.args.rows = search rules in
-    let at : to_z w64 (of_z w64 h) ≡ h = search rules in
-    let rest : c.admit.new.tail.items ≡ drop (in_runs (length all)) all = search rules in
-    let count : c.admit.result ≡ in_runs (length all) = search rules in
-    let few : t.live + length t.tail.items + length (rows_from h c.args.rows) ≤ most_rows = search rules in
-    add_stands t.blocks t.skip t.tail.items h t.live c.self.invariant c.args.rows c.as_slice.result.now c.requires.rows lent (to_z w64 (of_z w64 h)) at c.prepare.new.blocks c.in_ok-prepare.ensures.sealed c.admit.new.tail.items rest
-    c.admit.result count few
+    let t = c.self.inside in let h = t.horizon in let all = c.prepare.new.tail in
+    let put : all ≡ t.tail ++ rows_from h c.args.rows = search rules in
+    let rest : c.drop_runs.new.tail ≡ drop (in_runs (length all)) all = search rules in
+    let count : c.drop_runs.result ≡ in_runs (length all) = search rules in
+    let few : t.live + length t.tail + length (rows_from h c.args.rows) ≤ most_rows = search rules in
+    add_stands t.blocks t.skip t.tail h t.live c.self.invariant c.args.rows c.requires.rows all put c.prepare.new.blocks c.in_ok-prepare.ensures.sealed c.drop_runs.new.tail rest c.drop_runs.result count few
 
 pub returns-clause-does : goal.returns-clause-does
 returns-clause-does c =
-    let t = c.self.inside in let h = t.horizon in let all = t.tail.items ++ rows_from h c.args.rows in
-    let lent : c.as_slice.result.now ≡ c.args.rows = search rules in
-    let at : to_z w64 (of_z w64 h) ≡ h = search rules in
-    let rest : c.admit.new.tail.items ≡ drop (in_runs (length all)) all = search rules in
-    let few : t.live + length t.tail.items + length (rows_from h c.args.rows) ≤ most_rows = search rules in
-    let now = add_rows t.blocks t.skip t.tail.items h t.live c.self.invariant c.args.rows c.as_slice.result.now c.requires.rows lent (to_z w64 (of_z w64 h)) at c.prepare.new.blocks c.in_ok-prepare.ensures.sealed c.admit.new.tail.items rest in
-    let table : Table = record { contents = record { rows = sealed_rows c.prepare.new.blocks t.skip h ++ c.admit.new.tail.items; horizon = h }; writes = t.writes + 1; pending = t.pending; store = no_store } in
+    let t = c.self.inside in let h = t.horizon in let all = c.prepare.new.tail in
+    let put : all ≡ t.tail ++ rows_from h c.args.rows = search rules in
+    let rest : c.drop_runs.new.tail ≡ drop (in_runs (length all)) all = search rules in
+    let few : t.live + length t.tail + length (rows_from h c.args.rows) ≤ most_rows = search rules in
+    let now = add_rows t.blocks t.skip t.tail h t.live c.self.invariant c.args.rows c.requires.rows all put c.prepare.new.blocks c.in_ok-prepare.ensures.sealed c.drop_runs.new.tail rest in
+    let table : Table = record { contents = record { rows = sealed_rows c.prepare.new.blocks t.skip h ++ c.drop_runs.new.tail; horizon = h }; writes = t.writes + 1; pending = t.pending; store = no_store } in
     let made : List Row → Table = λ rows. record { contents = record { rows = rows; horizon = h }; writes = t.writes + 1; pending = t.pending; store = no_store } in
     let P : Table → Type 0 = λ x. (length (content_after x.contents (Add c.args.rows)).rows ≤ most_rows) × (table ≡ replayed x (Add c.args.rows)) in
     subst P c.self.view_is (
-      omega (arith, held_count t.blocks t.skip t.tail.items h t.live c.self.invariant, length-append (sealed_rows t.blocks t.skip h ++ t.tail.items) (rows_from h c.args.rows), few),
+      omega (arith, held_count t.blocks t.skip t.tail h t.live c.self.invariant, length-append (sealed_rows t.blocks t.skip h ++ t.tail) (rows_from h c.args.rows), few),
       ap made now,
     )
 
 pub returns-clause-columns : goal.returns-clause-columns
 returns-clause-columns c =
-    let t = c.self.inside in let h = t.horizon in let all = t.tail.items ++ rows_from h c.args.rows in
-    let lent : c.as_slice.result.now ≡ c.args.rows = search rules in
-    let at : to_z w64 (of_z w64 h) ≡ h = search rules in
-    let rest : c.admit.new.tail.items ≡ drop (in_runs (length all)) all = search rules in
-    subst (λ (x : Table). columns_count c.prepare.new.blocks + rows_and_cells c.admit.new.tail.items ≤ columns_most x.store + rows_and_cells c.args.rows) c.self.view_is
-    (add_columns t.blocks t.tail.items c.args.rows c.as_slice.result.now h (to_z w64 (of_z w64 h)) lent at c.prepare.new.blocks c.in_ok-prepare.ensures.sealed c.admit.new.tail.items rest)
+    let t = c.self.inside in let h = t.horizon in let all = c.prepare.new.tail in
+    let put : all ≡ t.tail ++ rows_from h c.args.rows = search rules in
+    let rest : c.drop_runs.new.tail ≡ drop (in_runs (length all)) all = search rules in
+    subst (λ (x : Table). columns_count c.prepare.new.blocks + rows_and_cells c.drop_runs.new.tail ≤ columns_most x.store + rows_and_cells c.args.rows) c.self.view_is
+    (add_columns t.blocks t.tail c.args.rows all h put c.prepare.new.blocks c.in_ok-prepare.ensures.sealed c.drop_runs.new.tail rest)

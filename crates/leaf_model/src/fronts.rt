@@ -1,0 +1,28 @@
+// What stands at the front of bytes, in which more may follow.
+ghost use Rattle.std.specs.Prelude.{IsSome};
+ghost use Rattle.leaf_model.specs.Reading.{rows_at, texts_at};
+ghost use Rattle.leaf_model.specs.Fronts.{any_cells_at};
+
+/// Texts at the front of bytes, each behind its length.
+#[derive(Clone, Copy)]
+pub struct SpelledTexts<'a> {
+    pub(crate) bytes: &'a [u8],
+    pub(crate) count: u16,
+    ghost spelled: { IsSome (texts_at count bytes.now) },
+}
+
+/// Cells at the front of bytes.
+#[derive(Clone, Copy)]
+pub struct SpelledCells<'a> {
+    pub(crate) bytes: &'a [u8],
+    pub(crate) count: u16,
+    ghost spelled: { IsSome (any_cells_at count bytes.now) },
+}
+
+/// Rows at the front of bytes.
+#[derive(Clone, Copy)]
+pub struct SpelledRows<'a> {
+    pub(crate) bytes: &'a [u8],
+    pub(crate) count: usize,
+    ghost spelled: { IsSome (rows_at count bytes.now) },
+}

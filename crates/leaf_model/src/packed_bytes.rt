@@ -1,0 +1,96 @@
+// Packed rows and their bytes: one row more, other rows behind them, and rows that stand in bytes already.
+ghost use Rattle.std.specs.Prelude.{◌≡◌, ◌+◌, ◌≤◌, ◌++◌, ◌∷◌, [], length, IfOk, OnErr, OnOk, Some};
+ghost use Rattle.leaf_model.specs.Values.{IsRow};
+ghost use Rattle.leaf_model.specs.Bytes.{rows_bytes};
+ghost use Rattle.leaf_model.specs.Reading.{rows_at};
+ghost use Rattle.leaf_model.specs.Lent.{lent_row};
+ghost use Rattle.leaf_model.specs.Packed.{packed_rows};
+
+use crate::lent_rows::LentRow;
+use crate::packed_rows::{PackedRows, know};
+use crate::row_writer::put_row;
+use std::alloc::{AllocError, Global};
+
+impl PackedRows {
+    /// Puts a row behind the others.
+    pub fn push(&mut self, row: &LentRow) -> Result<(), AllocError>
+        requires { IsRow (lent_row row.now) }
+        ensures put { OnOk result (self.new ≡ self.old ++ lent_row row.now ∷ []) }
+        ensures kept { OnErr result (self.new ≡ self.old) }
+    {
+        know(self.count, self.bytes.as_slice());
+        put_whole(&mut self.bytes, row)?;
+        self.count = with_more(self.bytes.as_slice(), self.count, 1);
+        Ok(())
+    }
+
+    /// Puts other rows behind these.
+    pub fn append(&mut self, others: &PackedRows) -> Result<(), AllocError>
+        ensures put { OnOk result (self.new ≡ self.old ++ others.now) }
+        ensures kept { OnErr result (self.new ≡ self.old) }
+    {
+        know(self.count, self.bytes.as_slice());
+        know(others.count, others.bytes.as_slice());
+        self.bytes.extend_from_slice(others.bytes.as_slice())?;
+        self.count = with_more(self.bytes.as_slice(), self.count, others.count);
+        Ok(())
+    }
+
+    /// The bytes that spell them.
+    pub fn bytes(&self) -> &[u8]
+        ensures { result.now ≡ rows_bytes self.now }
+    {
+        know(self.count, self.bytes.as_slice());
+        self.bytes.as_slice()
+    }
+
+    pub fn copy(&self) -> Result<PackedRows, AllocError>
+        ensures { IfOk result (λ copy. copy ≡ self.now) }
+    {
+        let mut bytes = Vec::with_capacity(*self.bytes.allocator(), self.bytes.len())?;
+        bytes.extend_from_slice(self.bytes.as_slice())?;
+        Ok(PackedRows {
+            bytes,
+            count: self.count,
+        })
+    }
+
+    /// A copy of so many rows that stand at the front of bytes, before `rest`.
+    pub fn read(
+        alloc: Global,
+        bytes: &[u8],
+        count: usize,
+        rest: &[u8],
+    ) -> Result<PackedRows, AllocError>
+        requires { rows_at count bytes.now ≡ Some (packed_rows count bytes.now, rest.now) }
+        ensures { IfOk result (λ rows. rows ≡ packed_rows count bytes.now) }
+    {
+        let len = bytes.len() - rest.len();
+        let mut own = Vec::with_capacity(alloc, len)?;
+        own.extend_from_slice(&bytes[..len])?;
+        Ok(PackedRows { bytes: own, count })
+    }
+}
+
+/// Puts a row's bytes at the end, or nothing.
+fn put_whole(out: &mut Vec<u8>, row: &LentRow) -> Result<(), AllocError>
+    requires { IsRow (lent_row row.now) }
+    ensures put { OnOk result (out.new.items ≡ out.old.items ++ rows_bytes (lent_row row.now ∷ [])) }
+    ensures kept { OnErr result (out.new.items ≡ out.old.items) }
+{
+    let len = out.len();
+    let done = put_row(out, row);
+    if done.is_err() {
+        out.truncate(len);
+    }
+    done
+}
+
+/// How many rows there are with some more, which all take some byte.
+pub(crate) fn with_more(bytes: &[u8], count: usize, more: usize) -> usize
+    requires { count + more ≤ length bytes.now }
+    ensures { result ≡ count + more }
+{
+    let _bytes = bytes;
+    count + more
+}
