@@ -1,11 +1,14 @@
 -- Packed rows whose bytes were put together, or cut out of others.
-use Rattle.std.proofs.Common.{◌≡◌, ℕ, ◌+◌, ◌-◌, ◌≤◌, List, [], ◌∷◌, ◌++◌, length, take, Some, refl, sym, ap, ◌∙◌, length-append, arith}
+use Rattle.std.proofs.Common.{◌≡◌, ℕ, ℤ, Option, true, ◌+◌, ◌-◌, ◌<◌, ◌≤◌, List, [], ◌∷◌, ◌++◌, length, take, Some, refl, sym, ap, subst, ◌∙◌, length-append, arith}
+use Rattle.std.specs.Prelude.{IsSome, int_le}
 use Rattle.std.proofs.lemmas.List.{take_at}
 use Rattle.leaf_model.specs.declared.rows.Row.{Row}
 use Rattle.leaf_model.specs.Values.{IsRow}
 use Rattle.leaf_model.specs.Bytes.{rows_bytes, IsBytes}
-use Rattle.leaf_model.specs.Reading.{rows_at}
-use Rattle.leaf_model.specs.Packed.{packed_rows, IsPacked}
+use Rattle.leaf_model.specs.Reading.{row_at, rows_at}
+use Rattle.leaf_model.specs.Packed.{packed_rows, AreFrom, IsPacked}
+use Rattle.leaf_model.specs.Fronts.{front_of}
+use Rattle.leaf_model.proofs.LentLaws.{rows_done, rows_open}
 use Rattle.leaf_model.proofs.ReadRows.{rows_take}
 use Rattle.leaf_model.proofs.PackedLaws.{few_rows, more_packed}
 
@@ -40,3 +43,18 @@ cut_packed count bytes rest own fits e is =
       counted = t.1;
       rows_fit = t.2;
     }
+
+-- ---- rows none of which is below a horizon
+
+from_row : (horizon : ℤ) (row : Row) (others : List Row) → int_le horizon row.time ≡ true → AreFrom horizon others → AreFrom horizon (row ∷ others)
+from_row horizon row others le same = rw le (ap (λ (w : List Row). row ∷ w) same)
+
+pub from_pass : (horizon : ℤ) (count i : ℕ) (rest : List ℕ) (row : Row) (after : List ℕ) → i < count → row_at rest ≡ Some (row, after) → IsSome (rows_at (count - i) rest) → int_le horizon row.time ≡ true
+    → AreFrom horizon (packed_rows (count - (i + 1)) after) → AreFrom horizon (packed_rows (count - i) rest)
+from_pass horizon count i rest row after lt e some le all =
+    let opened = rows_open (count - i) rest row after (omega (arith, lt)) some e in
+    let less : count - (i + 1) ≡ count - i - 1 = omega (arith, lt) in
+    subst (AreFrom horizon) (sym opened.front) (from_row horizon row (packed_rows (count - i - 1) after) le (subst (λ (n : ℕ). AreFrom horizon (packed_rows n after)) less all))
+
+pub from_none : (horizon : ℤ) (count i : ℕ) (rest : List ℕ) → count ≤ i → AreFrom horizon (packed_rows (count - i) rest)
+from_none horizon count i rest le = subst (AreFrom horizon) (sym (ap (λ (r : Option (List Row × List ℕ)). front_of r) (rows_done count i rest le))) refl

@@ -288,12 +288,6 @@ few_from horizon (row ∷ rows) = by (int_le horizon row.time) (rows_from horizo
 pub few_kept : (rows : List Row) (horizon : ℤ) (bytes : List ℕ) (total i from to kept : ℕ) → IsMoved rows horizon bytes total i from to kept → kept ≤ i
 few_kept rows horizon bytes total i from to kept m = omega (arith, m.counted, few_from horizon (take i rows), length-take i rows)
 
--- the bytes of so many rows at the front
-pub spelling : (count : ℕ) (bytes : List ℕ) (rows : List Row) (rest : List ℕ) → IsBytes bytes → rows_at count bytes ≡ Some (rows, rest) → (bytes ≡ rows_bytes rows ++ rest) × (length bytes ≡ length (rows_bytes rows) + length rest) × (count ≡ length rows)
-spelling count bytes rows rest fits e =
-    let t = rows_take count bytes (rows, rest) fits e in
-    (t.0.parts, ap (λ (w : List ℕ). length w) t.0.parts ∙ length-append (rows_bytes rows) rest, sym t.1)
-
 -- ---- what each method leaves
 
 carried : (count : ℕ) (slice bytes : List ℕ) → slice ≡ bytes → IsPacked count slice (packed_rows count slice) → IsPacked count bytes (packed_rows count bytes)

@@ -1,7 +1,8 @@
 -- Rows as bytes of their own.
-use Rattle.std.specs.Prelude.{◌≡◌, ℕ, List, [], Some, length}
+use Rattle.std.specs.Prelude.{◌≡◌, ℕ, ℤ, List, [], Some, length}
 use Rattle.std.specs.List.{AllByRecursion}
 use Rattle.leaf_model.specs.declared.rows.Row.{Row}
+use Rattle.leaf_model.specs.Content.{rows_from}
 use Rattle.leaf_model.specs.Values.{IsRow}
 use Rattle.leaf_model.specs.Bytes.{rows_bytes}
 use Rattle.leaf_model.specs.Reading.{rows_at}
@@ -20,3 +21,7 @@ pub record IsPacked (count : ℕ) (bytes : List ℕ) (rows : List Row) : Type 0 
   pub spelled : bytes ≡ rows_bytes rows
   pub counted : length rows ≡ count
   pub rows_fit : AllByRecursion IsRow rows
+
+-- none of the rows is below the horizon
+abbrev pub AreFrom : ℤ → List Row → Type 0
+AreFrom horizon rows = rows_from horizon rows ≡ rows

@@ -1,5 +1,5 @@
 // Rows that are spelled one behind another, in bytes of their own.
-ghost use Rattle.std.specs.Prelude.{◌≡◌, ◌+◌, ◌≤◌, ◌++◌, ℕ, List, [], drop, length, take, IfOk, IsSome, IsTrue, OnErr, OnOk};
+ghost use Rattle.std.specs.Prelude.{◌≡◌, ◌+◌, ◌≤◌, ◌++◌, ℕ, List, [], drop, length, take, IfOk, IfSome, IsSome, IsTrue, OnErr, OnOk};
 ghost use Rattle.std.specs.List.{AllByRecursion};
 ghost use Rattle.leaf_model.specs.declared.rows.Row.{Row};
 ghost use Rattle.leaf_model.specs.Content.{rows_from};
@@ -7,7 +7,7 @@ ghost use Rattle.leaf_model.specs.Values.{IsRow};
 ghost use Rattle.leaf_model.specs.Bytes.{row_bytes, rows_bytes, BeginsWith};
 ghost use Rattle.leaf_model.specs.Reading.{row_at, rows_at};
 ghost use Rattle.leaf_model.specs.Lent.{lent_rows, spelled_rows};
-ghost use Rattle.leaf_model.specs.Packed.{packed_rows, ArePacked, IsPacked};
+ghost use Rattle.leaf_model.specs.Packed.{packed_rows, AreFrom, ArePacked, IsPacked};
 
 use crate::fronts::SpelledRows;
 use crate::lent_rows::{LentRows, behind_rows, row_in};
@@ -232,29 +232,52 @@ fn put_from(out: &mut Vec<u8>, rows: &LentRows, horizon: i64) -> Result<usize, A
     ensures counted { IfOk result (λ count. count ≡ length (rows_from horizon (lent_rows rows.now))) }
     ensures kept { OnErr result (out.new.items ≡ out.old.items) }
 {
-    match rows {
-        LentRows::Spelled(spelled) if are_from(rows, horizon) => put_spelled(out, spelled),
-        _ => put_each(out, rows, horizon),
+    match bytes_from(rows, horizon) {
+        Some(bytes) => {
+            out.extend_from_slice(bytes)?;
+            Ok(rows.len())
+        }
+        None => put_each(out, rows, horizon),
     }
 }
 
-/// Puts spelled rows at the end as they stand; how many these are.
-fn put_spelled(out: &mut Vec<u8>, rows: &SpelledRows) -> Result<usize, AllocError>
-    ensures put { OnOk result (out.new.items ≡ out.old.items ++ rows_bytes (spelled_rows rows.now)) }
-    ensures counted { IfOk result (λ count. count ≡ length (spelled_rows rows.now)) }
-    ensures kept { OnErr result (out.new.items ≡ out.old.items) }
+/// The bytes of rows that are spelled, where none of them is below the horizon.
+fn bytes_from<'a>(rows: &LentRows<'a>, horizon: i64) -> Option<&'a [u8]>
+    ensures bytes { IfSome result (λ bytes. bytes.now ≡ rows_bytes (lent_rows rows.now)) }
+    ensures all { IfSome result (λ _. AreFrom horizon (lent_rows rows.now)) }
 {
-    out.extend_from_slice(spelling(rows.count, rows.bytes))?;
-    Ok(rows.count)
+    match rows {
+        LentRows::Owned(_) => None,
+        LentRows::Spelled(rows) => {
+            let rest = behind_from(rows.bytes, rows.count, horizon)?;
+            Some(spelling(rows.count, rows.bytes, rest))
+        }
+    }
 }
 
-/// The bytes at the front that spell so many rows.
-fn spelling(count: usize, bytes: &[u8]) -> &[u8]
+/// What follows so many rows at the front of bytes, where none of them is below the horizon.
+fn behind_from(bytes: &[u8], count: usize, horizon: i64) -> Option<&[u8]>
     requires { IsSome (rows_at count bytes.now) }
-    ensures bytes { result.now ≡ rows_bytes (packed_rows count bytes.now) }
-    ensures counted { count ≡ length (packed_rows count bytes.now) }
+    ensures behind { IfSome result (λ rest. rows_at count bytes.now ≡ Some (packed_rows count bytes.now, rest.now)) }
+    ensures all { IfSome result (λ _. AreFrom horizon (packed_rows count bytes.now)) }
 {
-    let len = bytes.len() - behind_rows(count, bytes).len();
+    let mut rest = bytes;
+    for _ in 0..count {
+        let (row, after) = row_in(rest);
+        if row.time < horizon {
+            return None;
+        }
+        rest = after;
+    }
+    Some(rest)
+}
+
+/// The bytes that spell so many rows, before what follows them.
+fn spelling<'a>(count: usize, bytes: &'a [u8], rest: &[u8]) -> &'a [u8]
+    requires { rows_at count bytes.now ≡ Some (packed_rows count bytes.now, rest.now) }
+    ensures { result.now ≡ rows_bytes (packed_rows count bytes.now) }
+{
+    let len = bytes.len() - rest.len();
     &bytes[..len]
 }
 

@@ -1,3 +1,4 @@
+mod Late
 mod Keeping
 mod Fronts
 mod Runs

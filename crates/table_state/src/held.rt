@@ -1,15 +1,25 @@
 // Plain work on a table's rows.
-ghost use Rattle.std.specs.Prelude.{◌≡◌, ◌≤◌, drop, length, vec_len};
+ghost use Rattle.std.specs.Prelude.{◌≡◌, ◌+◌, ◌≤◌, ◌↔◌, drop, length, vec_len, IsTrue};
 ghost use Rattle.leaf_model.specs.Content.{rows_from};
 ghost use Rattle.leaf_model.specs.Lent.{lent_rows};
+ghost use Rattle.table_state.specs.Tables.{most_rows};
 
 use leaf_model::{LentRows, PackedRows, Row};
 
 /// The most rows that a table holds.
 pub const MOST_ROWS: u64 = 1 << 40;
 
+/// Whether a table that holds so many rows has room for those of some more that are not late. These are counted only where all together would be too many.
+pub fn has_room(held: u64, horizon: i64, more: &LentRows) -> bool
+    requires held { held ≤ most_rows }
+    requires few { length (lent_rows more.now) ≤ most_rows }
+    ensures { IsTrue result ↔ held + length (rows_from horizon (lent_rows more.now)) ≤ most_rows }
+{
+    held + more.len() as u64 <= MOST_ROWS || held + count_from(horizon, more) <= MOST_ROWS
+}
+
 /// How many of the rows are not late.
-pub fn count_from(horizon: i64, rows: &LentRows) -> u64
+fn count_from(horizon: i64, rows: &LentRows) -> u64
     ensures few { result ≤ length (lent_rows rows.now) }
     ensures count { result ≡ length (rows_from horizon (lent_rows rows.now)) }
 {

@@ -11,7 +11,7 @@ ghost use Rattle.table_state.specs.Tables.{most_rows};
 ghost use Rattle.table_state.specs.declared.fault.AddFault.TheVariants as fault;
 
 use crate::fault::AddFault;
-use crate::held::{MOST_ROWS, count_from, drop_front};
+use crate::held::{drop_front, has_room};
 use leaf_model::{LentRows, PackedRows};
 use row_blocks::{Blocks, RowBlock, seal};
 use std::alloc::{AllocError, Global};
@@ -68,9 +68,8 @@ pub fn prepare(
     ensures tail { OnErr result (tail.new ≡ tail.old) }
     ensures full { result ≡ Err fault.Full → most_rows < live + length tail.old + length (rows_from horizon (lent_rows more.now)) }
 {
-    let kept = count_from(horizon, more);
     let before = tail.len();
-    if live + before as u64 + kept > MOST_ROWS {
+    if !has_room(live + before as u64, horizon, more) {
         return Err(AddFault::Full);
     }
     if tail.extend_from(more, horizon).is_err() {
@@ -80,7 +79,7 @@ pub fn prepare(
         tail.truncate(before);
         return Err(AddFault::NoMemory);
     }
-    Ok(kept)
+    Ok((tail.len() - before) as u64)
 }
 
 /// Lets go of the whole runs at the front of the tail, and answers how many rows those were.
