@@ -63,12 +63,6 @@ impl Rows {
         self.packed.bytes()
     }
 
-    pub fn into_inner(self) -> PackedRows
-        ensures { result ≡ self }
-    {
-        self.packed
-    }
-
     pub fn copy(&self) -> Result<Rows, AllocError>
         ensures { IfOk result (λ copy. copy ≡ self.now) }
     {
