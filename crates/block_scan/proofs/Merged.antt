@@ -11,6 +11,7 @@ use Rattle.leaf_model.specs.declared.groups.Group.{Group}
 use Rattle.leaf_model.specs.Content.{rows_from}
 use Rattle.leaf_model.specs.Groups.{groups}
 use Rattle.group_table.specs.Joined.{FitsGroup, IsWithin, joined}
+use Rattle.group_table.specs.Kept.{IsStart}
 use Rattle.group_table.proofs.Within.{groups_grow, joined_fit}
 use Rattle.row_blocks.specs.Blocks.{Block}
 use Rattle.row_blocks.specs.Held.{blocks_held, rows_held}
@@ -112,9 +113,15 @@ module _ (q : Query) (blocks : List Block) (tail : List Row) (skip : ℕ) (horiz
   pub few_seen : length (rows_held blocks tail skip horizon) ≤ 2 ^ 40 → length (flat_map seen_rows views) ≤ 2 ^ 40
   few_seen few = omega (arith, few, total, stands.few)
 
-  pub tail_fits : (all last : List Group) → length (rows_held blocks tail skip horizon) ≤ 2 ^ 40 → AllByRecursion (IsWithin (length (flat_map seen_rows views))) all
-      → AllByRecursion (IsWithin (length (rows_from horizon tail))) last → AllByRecursion FitsGroup (joined all last)
-  tail_fits all last few first second = joined_fit (length (flat_map seen_rows views)) (length (rows_from horizon tail)) all last (omega (arith, few, total, stands.few)) first second
+  -- onto these groups those of the tail may be folded
+  pub all_start : (all : List Group) → length (rows_held blocks tail skip horizon) ≤ 2 ^ 40 → all ≡ groups q (flat_map seen_rows views) → AllByRecursion (IsWithin (length (flat_map seen_rows views))) all
+      → IsStart q (length (rows_from horizon tail)) all
+  all_start all few is within = record {
+    made = record { rows = flat_map seen_rows views; is = is };
+    most = length (flat_map seen_rows views);
+    within = within;
+    few = omega (arith, few, total, stands.few);
+  }
 
   pub all_groups : (all : List Group) → all ≡ groups q (flat_map seen_rows views) → all ≡ groups q (blocks_held blocks skip horizon)
   all_groups all is = is ∙ stands.same

@@ -18,7 +18,6 @@ mod reading;
 mod rows;
 mod scanning;
 mod slots;
-mod tail;
 mod threads;
 mod times;
 mod view;

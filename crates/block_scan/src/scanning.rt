@@ -9,8 +9,7 @@ ghost use Rattle.block_scan.specs.Scanning.{most_steps};
 
 use crate::block::read_blocks;
 use crate::parts::fold_blocks;
-use crate::tail::fold_live;
-use group_table::merge;
+use group_table::fold_onto;
 use leaf_model::{Groups, LentRows, Query, Steps};
 use row_blocks::Blocks;
 use std::alloc::{AllocError, Global};
@@ -18,7 +17,7 @@ use std::sync::ledger::Ledger;
 use std::thread::Threads;
 
 /// The groups of the rows that pass, without the first `skip` rows of the blocks and without those below the horizon.
-/// Columns are read in the caller's thread, a step each; then the blocks are folded in threads.
+/// Columns are read in the caller's thread, a step each; then the blocks are folded in threads, and the tail onto their groups.
 pub fn scan<L: Ledger, R: Threads + Sync>(
     rt: &R,
     alloc: Global,
@@ -37,6 +36,5 @@ pub fn scan<L: Ledger, R: Threads + Sync>(
 {
     let views = read_blocks(alloc, query, blocks.as_slice(), skip, horizon, steps)?;
     let all = fold_blocks(rt, alloc, query, views.as_slice())?;
-    let last = fold_live(alloc, query, tail, horizon)?;
-    merge(alloc, all, last)
+    fold_onto(alloc, query, all, tail, horizon)
 }

@@ -11,7 +11,7 @@ use Rattle.leaf_model.specs.declared.lent_rows.LentRows.{LentRows}
 use Rattle.leaf_model.specs.declared.rows.Row.{Row}
 use Rattle.leaf_model.specs.Groups.{keys_cmp}
 use Rattle.leaf_model.specs.Lent.{rows_parted}
-use Rattle.group_table.specs.declared.reads.Seen.{Seen}
+use Rattle.leaf_model.specs.declared.lent_cells.LentValue.{LentValue}
 use Rattle.group_table.specs.Reads.{seen_key}
 use Rattle.group_table.specs.Joined.{joined_fold, joined_folds}
 
@@ -31,13 +31,13 @@ cut_folds (f ∷ fs) [] = refl
 cut_folds (f ∷ fs) (h ∷ hs) = ap (λ rest. joined_fold f h ∷ rest) (cut_folds fs hs)
 
 -- the same, where the keys on the right are still a row's
-pub left_ends_with : (a : List Key) (b : List Seen) → length a ≤ length b → keys_cmp (drop (length a) a) (map seen_key (drop (length a) b)) ≡ nat_cmp (length a) (length b)
+pub left_ends_with : (a : List Key) (b : List (Option LentValue)) → length a ≤ length b → keys_cmp (drop (length a) a) (map seen_key (drop (length a) b)) ≡ nat_cmp (length a) (length b)
 left_ends_with [] [] h = refl
 left_ends_with [] (y ∷ b) h = zero_first (length b)
 left_ends_with (x ∷ a) [] h = absurd (omega arith)
 left_ends_with (x ∷ a) (y ∷ b) h = left_ends_with a b (omega arith) ∙ one_less (length a) (length b)
 
-pub right_ends_with : (a : List Key) (b : List Seen) → length b ≤ length a → keys_cmp (drop (length b) a) (map seen_key (drop (length b) b)) ≡ nat_cmp (length a) (length b)
+pub right_ends_with : (a : List Key) (b : List (Option LentValue)) → length b ≤ length a → keys_cmp (drop (length b) a) (map seen_key (drop (length b) b)) ≡ nat_cmp (length a) (length b)
 right_ends_with [] [] h = refl
 right_ends_with (x ∷ a) [] h = zero_last (length a)
 right_ends_with [] (y ∷ b) h = absurd (omega arith)
@@ -68,3 +68,11 @@ first_left xs i x rest h = let more = drop_more xs i x (left_inside xs i x rest 
 
 pub rest_left : {X : Type 0} (xs : List X) (i : ℕ) (x : X) (rest : List X) → drop i xs ≡ x ∷ rest → rest ≡ drop (i + 1) xs
 rest_left xs i x rest h = let more = drop_more xs i x (left_inside xs i x rest h) in cc
+
+-- both parts of what is left are shorter, where some were taken
+pub parts_shorter : {X : Type 0} (r : ℕ) (xs left front back : List X) → r < length xs → (0 < length xs → 0 < r) → left ≡ drop r xs → (k : ℕ) → front ≡ take k left → back ≡ drop k left
+    → (length front < length xs) × (length back < length xs)
+parts_shorter r xs left front back lt some is k f b =
+    let all = three_lengths r xs left front back (omega (arith, lt)) is k f b in
+    let taken : 0 < r = some (omega (arith, lt)) in
+    (omega (arith, all, taken), omega (arith, all, taken))

@@ -1,14 +1,18 @@
-// Rows folded into a table of groups.
-ghost use Rattle.std.specs.Prelude.{◌≡◌, ◌≤◌, ◌<◌, IfOk, drop, length, take};
+// Rows folded into a table of groups, or onto one that is there.
+ghost use Rattle.std.specs.Prelude.{◌≡◌, ◌≤◌, ◌<◌, ◌+◌, ◌++◌, ℕ, List, [], IfOk, drop, length, take};
 ghost use Rattle.std.specs.List.{AllByRecursion};
+ghost use Rattle.std.specs.Vec.{vec_len};
+ghost use Rattle.leaf_model.specs.declared.rows.Row.{Row};
+ghost use Rattle.leaf_model.specs.Content.{rows_from};
 ghost use Rattle.leaf_model.specs.Groups.{groups};
 ghost use Rattle.leaf_model.specs.Lent.{lent_rows};
 ghost use Rattle.group_table.specs.Joined.{IsWithin};
+ghost use Rattle.group_table.specs.Kept.{IsStart, kept};
 
 use crate::join::merge;
-use crate::reads::Seen;
-use crate::tables::{Guessed, Tables, add_row, join_both, make_room};
-use leaf_model::{Groups, LentRows, Query};
+use crate::seen::{SeenRow, sought_by};
+use crate::tables::{Guessed, Tables, join_both, take_row};
+use leaf_model::{Groups, LentRows, LentValue, Query};
 use std::alloc::{AllocError, Global};
 
 /// So many rows go into the fresh table before it is settled, and no more rows are taken where so many groups are settled.
@@ -18,6 +22,11 @@ pub struct Limits {
     pub settled: usize,
 }
 
+const LIMITS: Limits = Limits {
+    fresh: 1024,
+    settled: 16384,
+};
+
 /// A table of the first so many rows, and the rows that are left.
 #[derive(Drop)]
 struct Filled<'a> {
@@ -26,32 +35,65 @@ struct Filled<'a> {
     left: LentRows<'a>,
 }
 
+/// Room for what a row has of each that is looked for.
+fn room_for<'a>(alloc: Global, count: usize) -> Result<Vec<Option<LentValue<'a>>>, AllocError>
+    ensures { IfOk result (λ room. vec_len room ≡ count) }
+{
+    Ok(vec![in alloc; None; count]?)
+}
+
+fn no_groups(alloc: Global) -> Groups
+    ensures { result ≡ [] }
+{
+    Groups::of(Vec::new(alloc))
+}
+
+/// A table that is settled.
+fn begun(alloc: Global, start: Groups) -> Tables
+    ensures settled { result.settled.items ≡ start }
+    ensures fresh { result.fresh.items ≡ [] }
+{
+    Tables {
+        settled: start.into_inner(),
+        fresh: Vec::new(alloc),
+    }
+}
+
 /// Takes rows until the table is full.
 fn fill<'a>(
     alloc: Global,
     query: &Query,
+    start: Groups,
     rows: &LentRows<'a>,
+    horizon: Option<i64>,
     limits: Limits,
 ) -> Result<Filled<'a>, AllocError>
+    requires start { IsStart query.now (length (kept horizon (lent_rows rows.now))) start }
     ensures bound { IfOk result (λ first. first.rows ≤ length (lent_rows rows.now)) }
     ensures some { IfOk result (λ first. 0 < length (lent_rows rows.now) → 0 < first.rows) }
-    ensures value { IfOk result (λ first. first.table ≡ groups query.now (take first.rows (lent_rows rows.now))) }
+    ensures value { (xs : List Row) → start ≡ groups query.now xs → IfOk result (λ first. first.table ≡ groups query.now (xs ++ kept horizon (take first.rows (lent_rows rows.now)))) }
     ensures left { IfOk result (λ first. lent_rows first.left ≡ drop first.rows (lent_rows rows.now)) }
-    ensures within { IfOk result (λ first. AllByRecursion (IsWithin first.rows) first.table) }
+    ensures within { (m : ℕ) → AllByRecursion (IsWithin m) start → IfOk result (λ first. AllByRecursion (IsWithin (m + length (kept horizon (take first.rows (lent_rows rows.now))))) first.table) }
 {
-    let mut tables = Tables {
-        settled: Vec::new(alloc),
-        fresh: Vec::new(alloc),
-    };
-    let mut guessed = Guessed::new(alloc)?;
-    let mut keys: Vec<Seen> = Vec::new(alloc);
+    let sought = sought_by(alloc, query)?;
+    let mut seen = room_for(alloc, sought.len())?;
+    let mut tables = begun(alloc, start);
+    let mut guessed = Guessed::of(alloc, tables.settled.as_slice())?;
     let most = rows.len();
     let mut left = *rows;
     let mut i: usize = 0;
     while i < most && (i == 0 || tables.settled.len() < limits.settled) {
-        let (row, others) = left.split_first().unwrap();
-        tables = make_room(alloc, tables, &mut guessed, limits.fresh)?;
-        tables = add_row(alloc, query, tables, &mut guessed, &mut keys, &row)?;
+        let (row, others) = left.split_seen(sought.as_slice(), &mut seen).unwrap();
+        let row = SeenRow::of(query, &row, seen.as_slice());
+        tables = take_row(
+            alloc,
+            query,
+            tables,
+            &mut guessed,
+            &row,
+            horizon,
+            limits.fresh,
+        )?;
         left = others;
         i += 1;
     }
@@ -64,20 +106,23 @@ fn fill<'a>(
 pub fn fold_within(
     alloc: Global,
     query: &Query,
+    start: Groups,
     rows: &LentRows,
+    horizon: Option<i64>,
     limits: Limits,
 ) -> Result<Groups, AllocError>
-    ensures value { IfOk result (λ gs. gs ≡ groups query.now (lent_rows rows.now)) }
-    ensures within { IfOk result (λ gs. AllByRecursion (IsWithin (length (lent_rows rows.now))) gs) }
+    requires start { IsStart query.now (length (kept horizon (lent_rows rows.now))) start }
+    ensures value { (xs : List Row) → start ≡ groups query.now xs → IfOk result (λ gs. gs ≡ groups query.now (xs ++ kept horizon (lent_rows rows.now))) }
+    ensures within { (m : ℕ) → AllByRecursion (IsWithin m) start → IfOk result (λ gs. AllByRecursion (IsWithin (m + length (kept horizon (lent_rows rows.now)))) gs) }
 {
-    let first = fill(alloc, query, rows, limits)?;
+    let first = fill(alloc, query, start, rows, horizon, limits)?;
     if first.rows == rows.len() {
         return Ok(first.table);
     }
     let (front, back) = first.left.split_at(first.left.len() / 2);
-    let folded = fold_within(alloc, query, &front, limits)?;
+    let folded = fold_within(alloc, query, no_groups(alloc), &front, horizon, limits)?;
     let mine = merge(alloc, first.table, folded)?;
-    let theirs = fold_within(alloc, query, &back, limits)?;
+    let theirs = fold_within(alloc, query, no_groups(alloc), &back, horizon, limits)?;
     merge(alloc, mine, theirs)
 }
 
@@ -86,9 +131,24 @@ pub fn fold_rows(alloc: Global, query: &Query, rows: &LentRows) -> Result<Groups
     ensures value { IfOk result (λ gs. gs ≡ groups query.now (lent_rows rows.now)) }
     ensures within { IfOk result (λ gs. AllByRecursion (IsWithin (length (lent_rows rows.now))) gs) }
 {
-    let limits = Limits {
-        fresh: 1024,
-        settled: 16384,
-    };
-    fold_within(alloc, query, rows, limits)
+    let none = no_groups(alloc);
+    if rows.len() == 0 {
+        return Ok(none);
+    }
+    fold_within(alloc, query, none, rows, None, LIMITS)
+}
+
+/// The groups of some rows, with those of the rows from the horizon on.
+pub fn fold_onto(
+    alloc: Global,
+    query: &Query,
+    start: Groups,
+    rows: &LentRows,
+    horizon: i64,
+) -> Result<Groups, AllocError>
+    requires { IsStart query.now (length (rows_from horizon (lent_rows rows.now))) start }
+    ensures value { (xs : List Row) → start ≡ groups query.now xs → IfOk result (λ gs. gs ≡ groups query.now (xs ++ rows_from horizon (lent_rows rows.now))) }
+    ensures within { (m : ℕ) → AllByRecursion (IsWithin m) start → IfOk result (λ gs. AllByRecursion (IsWithin (m + length (rows_from horizon (lent_rows rows.now)))) gs) }
+{
+    fold_within(alloc, query, start, rows, Some(horizon), LIMITS)
 }

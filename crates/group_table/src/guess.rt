@@ -1,6 +1,6 @@
 // Guesses at the places of keys in a table.
-use crate::reads::{Seen, see_key};
-use leaf_model::{Group, Key, LentTexts};
+use crate::seen::see_key;
+use leaf_model::{Group, Key, LentTexts, LentValue};
 use std::alloc::{AllocError, Global};
 
 fn mix_word(mixed: u64, word: u64) -> u64 {
@@ -43,17 +43,23 @@ fn mix_texts(mixed: u64, texts: &LentTexts) -> u64 {
     mix_word(mixed, texts.len() as u64)
 }
 
-fn mix(mixed: u64, seen: Seen) -> u64 {
+fn mix_value(mixed: u64, value: &LentValue) -> u64 {
+    match value {
+        LentValue::Int(n) => mix_word(mixed, u64::from_le_bytes(n.to_le_bytes())),
+        LentValue::Text(text) => mix_text(mixed, text),
+        LentValue::Set(members) => mix_texts(mixed, members),
+    }
+}
+
+fn mix(mixed: u64, seen: Option<LentValue>) -> u64 {
     match seen {
-        Seen::Missing => mix_word(mixed, 1),
-        Seen::Int(n) => mix_word(mixed, u64::from_le_bytes(n.to_le_bytes())),
-        Seen::Text(text) => mix_text(mixed, text),
-        Seen::Set(members) => mix_texts(mixed, &members),
+        None => mix_word(mixed, 1),
+        Some(value) => mix_value(mixed, &value),
     }
 }
 
 /// A number made of a row's keys, never 0.
-pub fn mix_seen(keys: &[Seen]) -> u32 {
+pub fn mix_seen(keys: &[Option<LentValue>]) -> u32 {
     let mut mixed: u64 = 0;
     for key in keys {
         mixed = mix(mixed, *key);

@@ -7,9 +7,10 @@ mod join;
 mod order;
 mod reads;
 mod rows;
+mod seen;
 mod table;
 mod tables;
 
-pub use fold::fold_rows;
+pub use fold::{fold_onto, fold_rows};
 pub use join::merge;
 pub use reads::accepts;

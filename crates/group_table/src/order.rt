@@ -1,46 +1,54 @@
 // The order of a group's keys and a row's.
-ghost use Rattle.std.specs.Prelude.{◌≡◌, map};
-ghost use Rattle.leaf_model.specs.Groups.{key_cmp, keys_cmp};
+ghost use Rattle.std.specs.Prelude.{◌≡◌, map, Some};
+ghost use Rattle.leaf_model.specs.Groups.{key_cmp, key_of, keys_cmp};
+ghost use Rattle.leaf_model.specs.Lent.{lent_value};
 ghost use Rattle.group_table.specs.Reads.{seen_key};
 
-use crate::reads::{Seen, see_key};
-use leaf_model::Key;
+use crate::seen::see_key;
+use leaf_model::{Key, LentValue};
 use std::cmp::Ordering;
 
-/// Missing, then integers, then texts by their bytes, then sets as lists of texts.
-fn compare_seen(a: Seen, b: Seen) -> Ordering
+/// Integers, then texts by their bytes, then sets as lists of texts.
+fn compare_values(a: &LentValue, b: &LentValue) -> Ordering
+    ensures { result ≡ key_cmp (key_of (Some (lent_value a.now))) (key_of (Some (lent_value b.now))) }
+{
+    match a {
+        LentValue::Int(n) => match b {
+            LentValue::Int(m) => n.cmp(m),
+            LentValue::Text(_u) => Ordering::Less,
+            LentValue::Set(_n) => Ordering::Less,
+        },
+        LentValue::Text(t) => match b {
+            LentValue::Int(_m) => Ordering::Greater,
+            LentValue::Text(u) => t.cmp(u),
+            LentValue::Set(_n) => Ordering::Less,
+        },
+        LentValue::Set(members) => match b {
+            LentValue::Int(_m) => Ordering::Greater,
+            LentValue::Text(_u) => Ordering::Greater,
+            LentValue::Set(others) => members.compare(others),
+        },
+    }
+}
+
+/// What is missing stands before every value.
+fn compare_seen(a: Option<LentValue>, b: Option<LentValue>) -> Ordering
     ensures { result ≡ key_cmp (seen_key a.entry) (seen_key b.entry) }
 {
     match a {
-        Seen::Missing => match b {
-            Seen::Missing => Ordering::Equal,
-            Seen::Int(_m) => Ordering::Less,
-            Seen::Text(_u) => Ordering::Less,
-            Seen::Set(_n) => Ordering::Less,
+        None => match b {
+            None => Ordering::Equal,
+            Some(_other) => Ordering::Less,
         },
-        Seen::Int(n) => match b {
-            Seen::Missing => Ordering::Greater,
-            Seen::Int(m) => n.cmp(&m),
-            Seen::Text(_u) => Ordering::Less,
-            Seen::Set(_n) => Ordering::Less,
-        },
-        Seen::Text(t) => match b {
-            Seen::Missing => Ordering::Greater,
-            Seen::Int(_m) => Ordering::Greater,
-            Seen::Text(u) => t.cmp(u),
-            Seen::Set(_n) => Ordering::Less,
-        },
-        Seen::Set(members) => match b {
-            Seen::Missing => Ordering::Greater,
-            Seen::Int(_m) => Ordering::Greater,
-            Seen::Text(_u) => Ordering::Greater,
-            Seen::Set(others) => members.compare(&others),
+        Some(value) => match b {
+            None => Ordering::Greater,
+            Some(other) => compare_values(&value, &other),
         },
     }
 }
 
 /// Lists of keys compare from the left, as `Keys::compare`; a row's keys are not copied yet.
-pub fn compare_with(a: &[Key], b: &[Seen]) -> Ordering
+pub fn compare_with(a: &[Key], b: &[Option<LentValue>]) -> Ordering
     ensures { result ≡ keys_cmp a.now (map seen_key b.now) }
 {
     let mut i: usize = 0;

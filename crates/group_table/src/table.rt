@@ -1,20 +1,20 @@
 // One row more in an ascending table of groups, in place.
-ghost use Rattle.std.specs.Prelude.{◌≡◌, IfOk, List, [], ◌∷◌, ◌++◌, ◌≤◌, ◌<◌, ◌-◌, ◌^◌, length, map, take, drop, true};
+ghost use Rattle.std.specs.Prelude.{◌≡◌, IfOk, List, [], ◌∷◌, ◌++◌, ◌≤◌, ◌<◌, ◌-◌, ◌^◌, length, map, take, drop, true, option_map};
 ghost use Rattle.std.specs.List.{AllByRecursion};
 ghost use Rattle.std.specs.Vec.{vec_len};
 ghost use Rattle.leaf_model.specs.declared.groups.Key.{Key};
 ghost use Rattle.leaf_model.specs.declared.groups.Group.{Group};
-ghost use Rattle.leaf_model.specs.Groups.{group_of, fold_of, agg_ints};
-ghost use Rattle.leaf_model.specs.Lent.{lent_row};
-ghost use Rattle.group_table.specs.Reads.{seen_key};
+ghost use Rattle.leaf_model.specs.Groups.{agg_ints, fold_of, group_of};
+ghost use Rattle.leaf_model.specs.Lent.{each_value, lent_value};
+ghost use Rattle.group_table.specs.Reads.{AreSeen, seen_fold, seen_folds, seen_key, seen_row};
 ghost use Rattle.group_table.specs.Joined.{joined_fold, joined_folds, joined_group, joined, IsWithin, IsFoldWithin};
 ghost use Rattle.group_table.specs.Table.{Ascends, keys_in, is_first, put_first};
 
 use crate::join::join_fold;
 use crate::order::compare_with;
-use crate::reads::{Seen, own_keys};
 use crate::rows::{fold_row, folds_of_row};
-use leaf_model::{Agg, Fold, Folds, Group, LentRow, Query};
+use crate::seen::{SeenRow, own_keys};
+use leaf_model::{Agg, Fold, Folds, Group, LentValue, Query};
 use std::alloc::{AllocError, Global};
 use std::cmp::Ordering;
 
@@ -25,7 +25,7 @@ pub struct Place {
     pub is_there: bool,
 }
 
-fn stands_at(table: &[Group], place: usize, keys: &[Seen]) -> bool
+fn stands_at(table: &[Group], place: usize, keys: &[Option<LentValue>]) -> bool
     ensures value { result ≡ is_first (map seen_key keys.now) (drop place table.now) }
     ensures inside { result ≡ true → place < length table.now }
 {
@@ -36,7 +36,7 @@ fn stands_at(table: &[Group], place: usize, keys: &[Seen]) -> bool
 }
 
 /// Past the groups whose keys are below these.
-fn search_for(table: &[Group], keys: &[Seen]) -> usize
+fn search_for(table: &[Group], keys: &[Option<LentValue>]) -> usize
     requires { Ascends (keys_in table.now) }
     ensures bound { result ≤ length table.now }
     ensures place { (g : Group) → g.keys ≡ map seen_key keys.now → joined table.now (g ∷ []) ≡ take result table.now ++ put_first g (drop result table.now) }
@@ -45,7 +45,7 @@ fn search_for(table: &[Group], keys: &[Seen]) -> usize
 }
 
 /// Where those keys stand, or would stand, in an ascending table.
-pub fn place_of(table: &[Group], keys: &[Seen]) -> Place
+pub fn place_of(table: &[Group], keys: &[Option<LentValue>]) -> Place
     requires { Ascends (keys_in table.now) }
     ensures bound { result.at ≤ length table.now }
     ensures there { result.is_there ≡ is_first (map seen_key keys.now) (drop result.at table.now) }
@@ -58,7 +58,7 @@ pub fn place_of(table: &[Group], keys: &[Seen]) -> Place
 }
 
 /// Where those keys stand. With no guess they are not looked for.
-pub fn find(table: &[Group], keys: &[Seen], guess: Option<usize>) -> Place
+pub fn find(table: &[Group], keys: &[Option<LentValue>], guess: Option<usize>) -> Place
     requires { Ascends (keys_in table.now) }
     ensures there { result.is_there ≡ true → is_first (map seen_key keys.now) (drop result.at table.now) ≡ true }
     ensures inside { result.is_there ≡ true → result.at < length table.now }
@@ -78,38 +78,50 @@ pub fn find(table: &[Group], keys: &[Seen], guess: Option<usize>) -> Place
     }
 }
 
-fn add_cell(mine: &mut Fold, agg: &Agg, row: &LentRow)
+fn add_cell(mine: &mut Fold, agg: &Agg, seen: Option<LentValue>)
     requires { IsFoldWithin (2 ^ 64 - 2) mine.old }
-    ensures value { mine.new ≡ joined_fold mine.old (fold_of (agg_ints agg.now (lent_row row.now ∷ []))) }
-    ensures row { IsFoldWithin 1 (fold_of (agg_ints agg.now (lent_row row.now ∷ []))) }
+    ensures value { mine.new ≡ joined_fold mine.old (seen_fold agg.now (option_map lent_value seen.entry)) }
+    ensures row { IsFoldWithin 1 (seen_fold agg.now (option_map lent_value seen.entry)) }
 {
-    join_fold(mine, &fold_row(agg, row));
+    join_fold(mine, &fold_row(agg, seen));
 }
 
-fn add_cells(mut folds: Vec<Fold>, aggs: &[Agg], row: &LentRow) -> Vec<Fold>
+fn add_cells(mut folds: Vec<Fold>, aggs: &[Agg], seen: &[Option<LentValue>]) -> Vec<Fold>
     requires same { vec_len folds ≡ length aggs.now }
+    requires seen { length seen.now ≡ length aggs.now }
     requires within { AllByRecursion (IsFoldWithin (2 ^ 64 - 2)) folds.items }
-    ensures value { result.items ≡ joined_folds folds.items (map (λ agg. fold_of (agg_ints agg (lent_row row.now ∷ []))) aggs.now) }
-    ensures row { AllByRecursion (IsFoldWithin 1) (map (λ agg. fold_of (agg_ints agg (lent_row row.now ∷ []))) aggs.now) }
+    ensures value { result.items ≡ joined_folds folds.items (seen_folds aggs.now (each_value seen.now)) }
+    ensures row { AllByRecursion (IsFoldWithin 1) (seen_folds aggs.now (each_value seen.now)) }
 {
     let mut i: usize = 0;
     while i < aggs.len() {
-        add_cell(&mut folds[i], &aggs[i], row);
+        add_cell(&mut folds[i], &aggs[i], seen[i]);
         i += 1;
     }
     folds
 }
 
+fn add_folds(folds: Vec<Fold>, query: &Query, row: &SeenRow) -> Vec<Fold>
+    requires seen { AreSeen query.now row.now }
+    requires same { vec_len folds ≡ length query.now.aggs }
+    requires within { AllByRecursion (IsFoldWithin (2 ^ 64 - 2)) folds.items }
+    ensures value { result.items ≡ joined_folds folds.items (map (λ agg. fold_of (agg_ints agg (seen_row row.now ∷ []))) query.now.aggs) }
+    ensures row { AllByRecursion (IsFoldWithin 1) (map (λ agg. fold_of (agg_ints agg (seen_row row.now ∷ []))) query.now.aggs) }
+{
+    add_cells(folds, query.aggs.as_slice(), row.aggs)
+}
+
 /// A row more in the group of its keys.
-pub fn add_to(alloc: Global, group: &mut Group, query: &Query, row: &LentRow)
+pub fn add_to(alloc: Global, group: &mut Group, query: &Query, row: &SeenRow)
+    requires seen { AreSeen query.now row.now }
     requires same { length group.old.folds ≡ length query.now.aggs }
     requires within { IsWithin (2 ^ 64 - 2) group.old }
-    ensures value { (ks : List Key) → group.new ≡ joined_group group.old (group_of query.now ks (lent_row row.now ∷ [])) }
-    ensures row { (ks : List Key) → IsWithin 1 (group_of query.now ks (lent_row row.now ∷ [])) }
+    ensures value { (ks : List Key) → group.new ≡ joined_group group.old (group_of query.now ks (seen_row row.now ∷ [])) }
+    ensures row { (ks : List Key) → IsWithin 1 (group_of query.now ks (seen_row row.now ∷ [])) }
 {
     let folds = std::mem::replace(&mut group.folds, Folds::of(Vec::new(alloc)));
     group.count += 1;
-    group.folds = Folds::of(add_cells(folds.into_inner(), query.aggs.as_slice(), row));
+    group.folds = Folds::of(add_folds(folds.into_inner(), query, row));
 }
 
 /// A row of those keys, at their place.
@@ -118,23 +130,24 @@ pub fn put_row(
     query: &Query,
     mut table: Vec<Group>,
     place: Place,
-    keys: &[Seen],
-    row: &LentRow,
+    keys: &[Option<LentValue>],
+    row: &SeenRow,
 ) -> Result<Vec<Group>, AllocError>
+    requires seen { AreSeen query.now row.now }
     requires bound { place.at ≤ vec_len table }
     requires there { place.is_there ≡ is_first (map seen_key keys.now) (drop place.at table.items) }
     requires inside { place.is_there ≡ true → place.at < vec_len table }
     requires same { AllByRecursion (λ (g : Group). length g.folds ≡ length query.now.aggs) table.items }
     requires within { AllByRecursion (IsWithin (2 ^ 64 - 2)) table.items }
-    ensures value { IfOk result (λ gs. gs.items ≡ take place.at table.items ++ put_first (group_of query.now (map seen_key keys.now) (lent_row row.now ∷ [])) (drop place.at table.items)) }
-    ensures row { IfOk result (λ gs. AllByRecursion (IsWithin 1) (group_of query.now (map seen_key keys.now) (lent_row row.now ∷ []) ∷ [])) }
+    ensures value { IfOk result (λ gs. gs.items ≡ take place.at table.items ++ put_first (group_of query.now (map seen_key keys.now) (seen_row row.now ∷ [])) (drop place.at table.items)) }
+    ensures row { IfOk result (λ gs. AllByRecursion (IsWithin 1) (group_of query.now (map seen_key keys.now) (seen_row row.now ∷ []) ∷ [])) }
 {
     if place.is_there {
         add_to(alloc, &mut table[place.at], query, row);
         return Ok(table);
     }
     let keys = own_keys(alloc, keys)?;
-    let folds = folds_of_row(alloc, query.aggs.as_slice(), row)?;
+    let folds = folds_of_row(alloc, query, row)?;
     table.insert(
         place.at,
         Group {

@@ -1,15 +1,18 @@
 // The groups of the rows so far, in two ascending tables: a row's keys are new seldom, and a large table is dear to shift.
-ghost use Rattle.std.specs.Prelude.{◌≡◌, IfOk, List, [], ◌∷◌, ◌+◌, ◌-◌, ◌^◌, ℕ};
+ghost use Rattle.std.specs.Prelude.{◌≡◌, IfOk, List, [], ◌∷◌, ◌+◌, ◌-◌, ◌^◌, ℕ, length, true};
 ghost use Rattle.std.specs.List.{AllByRecursion};
 ghost use Rattle.leaf_model.specs.declared.queries.Query.{Query};
 ghost use Rattle.leaf_model.specs.Groups.{groups};
 ghost use Rattle.leaf_model.specs.Lent.{lent_row};
+ghost use Rattle.group_table.specs.Kept.{is_kept, kept};
+ghost use Rattle.group_table.specs.Reads.{AreSeen, seen_row};
 ghost use Rattle.group_table.specs.Joined.{joined, FitsGroup, IsWithin};
 ghost use Rattle.group_table.specs.Split.{IsSplit};
 
 use crate::guess::{Guesses, mix_seen};
 use crate::join::join_tables;
-use crate::reads::{Seen, is_passing, look_all};
+use crate::reads::is_passing;
+use crate::seen::SeenRow;
 use crate::table::{add_to, find, place_of, put_row};
 use leaf_model::{Group, Groups, LentRow, Query};
 use std::alloc::{AllocError, Global};
@@ -29,11 +32,13 @@ pub struct Guessed {
 }
 
 impl Guessed {
-    pub fn new(alloc: Global) -> Result<Guessed, AllocError> {
-        Ok(Guessed {
+    pub fn of(alloc: Global, settled: &[Group]) -> Result<Guessed, AllocError> {
+        let mut guessed = Guessed {
             settled: Guesses::new(alloc, 0)?,
             missed: 0,
-        })
+        };
+        guessed.renew(alloc, settled)?;
+        Ok(guessed)
     }
 
     fn renew(&mut self, alloc: Global, settled: &[Group]) -> Result<(), AllocError> {
@@ -47,32 +52,31 @@ impl Guessed {
     }
 }
 
-/// The tables with one row more: in the settled one where its keys are found there. `keys` is room for them.
-pub fn add_row<'a>(
+/// The tables with one row more: in the settled one where its keys are found there.
+fn add_row(
     alloc: Global,
     query: &Query,
     mut tables: Tables,
     guessed: &mut Guessed,
-    keys: &mut Vec<Seen<'a>>,
-    row: &LentRow<'a>,
+    row: &SeenRow,
 ) -> Result<Tables, AllocError>
-    requires { IsSplit (2 ^ 64 - 2) query.now tables.settled.items tables.fresh.items }
-    ensures value { IfOk result (λ ts. joined ts.settled.items ts.fresh.items ≡ joined (joined tables.settled.items tables.fresh.items) (groups query.now (lent_row row.now ∷ []))) }
+    requires seen { AreSeen query.now row.now }
+    requires split { IsSplit (2 ^ 64 - 2) query.now tables.settled.items tables.fresh.items }
+    ensures value { IfOk result (λ ts. joined ts.settled.items ts.fresh.items ≡ joined (joined tables.settled.items tables.fresh.items) (groups query.now (seen_row row.now ∷ []))) }
     ensures split { IfOk result (λ ts. (n : ℕ) → IsSplit n query.now tables.settled.items tables.fresh.items → IsSplit (n + 1) query.now ts.settled.items ts.fresh.items) }
 {
     if !is_passing(query, row) {
         return Ok(tables);
     }
-    look_all(query.keys.as_slice(), row, keys)?;
-    let guess = guessed.settled.guess(mix_seen(keys.as_slice()));
-    let place = find(tables.settled.as_slice(), keys.as_slice(), guess);
+    let guess = guessed.settled.guess(mix_seen(row.keys));
+    let place = find(tables.settled.as_slice(), row.keys, guess);
     if place.is_there {
         add_to(alloc, &mut tables.settled[place.at], query, row);
         return Ok(tables);
     }
     guessed.missed = guessed.missed.saturating_add(1);
-    let place = place_of(tables.fresh.as_slice(), keys.as_slice());
-    let fresh = put_row(alloc, query, tables.fresh, place, keys.as_slice(), row)?;
+    let place = place_of(tables.fresh.as_slice(), row.keys);
+    let fresh = put_row(alloc, query, tables.fresh, place, row.keys, row)?;
     Ok(Tables {
         settled: tables.settled,
         fresh,
@@ -88,7 +92,7 @@ pub fn join_both(alloc: Global, tables: Tables) -> Result<Groups, AllocError>
 }
 
 /// Settles all groups where enough rows went into the fresh table.
-pub fn make_room(
+fn make_room(
     alloc: Global,
     tables: Tables,
     guessed: &mut Guessed,
@@ -107,4 +111,36 @@ pub fn make_room(
         settled,
         fresh: Vec::new(alloc),
     })
+}
+
+/// Whether a row counts.
+fn is_kept(row: &LentRow, horizon: Option<i64>) -> bool
+    ensures { result ≡ is_kept horizon (lent_row row.now) }
+{
+    match horizon {
+        None => true,
+        Some(horizon) => horizon <= row.time,
+    }
+}
+
+/// The tables with one row more, where it counts.
+pub fn take_row(
+    alloc: Global,
+    query: &Query,
+    tables: Tables,
+    guessed: &mut Guessed,
+    row: &SeenRow,
+    horizon: Option<i64>,
+    most: usize,
+) -> Result<Tables, AllocError>
+    requires seen { AreSeen query.now row.now }
+    requires split { is_kept horizon (seen_row row.now) ≡ true → IsSplit (2 ^ 64 - 2) query.now tables.settled.items tables.fresh.items }
+    ensures value { IfOk result (λ ts. joined ts.settled.items ts.fresh.items ≡ joined (joined tables.settled.items tables.fresh.items) (groups query.now (kept horizon (seen_row row.now ∷ [])))) }
+    ensures split { IfOk result (λ ts. (n : ℕ) → IsSplit n query.now tables.settled.items tables.fresh.items → IsSplit (n + length (kept horizon (seen_row row.now ∷ []))) query.now ts.settled.items ts.fresh.items) }
+{
+    if !is_kept(row.row, horizon) {
+        return Ok(tables);
+    }
+    let tables = make_room(alloc, tables, guessed, most)?;
+    Ok(add_row(alloc, query, tables, guessed, row)?)
 }

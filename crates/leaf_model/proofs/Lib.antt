@@ -10,3 +10,4 @@ pub mod ReadRows
 pub mod LentLaws
 pub mod PackedLaws
 pub mod PackedBytes
+pub mod SeenLaws

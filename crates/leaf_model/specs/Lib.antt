@@ -8,3 +8,4 @@ pub mod Reading
 pub mod Fronts
 pub mod Lent
 pub mod Packed
+pub mod Looks

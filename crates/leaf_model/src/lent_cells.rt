@@ -106,7 +106,7 @@ fn value_in(bytes: &[u8]) -> (LentValue<'_>, &[u8])
 
 /// A cell at the front of bytes, and what follows it.
 #[tactic(auto, unfolding(crate::specs::Fronts::any_cell_at))]
-fn cell_in(bytes: &[u8]) -> (LentCell<'_>, &[u8])
+pub(crate) fn cell_in(bytes: &[u8]) -> (LentCell<'_>, &[u8])
     requires { IsSome (any_cell_at bytes.now) }
     ensures { any_cell_at bytes.now ≡ Some (lent_cell result.0, result.1.now) }
 {

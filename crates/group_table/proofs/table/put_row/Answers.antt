@@ -1,7 +1,6 @@
 use Rattle.std.proofs.Common.{rules, ◌≡◌, true, [], ◌∷◌, drop, map, slice_index_or, slice_set, sym, ap, ◌∙◌}
 use Rattle.leaf_model.specs.Groups.{group_of}
-use Rattle.leaf_model.specs.Lent.{lent_row}
-use Rattle.group_table.specs.Reads.{seen_key}
+use Rattle.group_table.specs.Reads.{seen_key, seen_row}
 use Rattle.group_table.specs.Joined.{joined_group}
 use Rattle.group_table.specs.Table.{is_first}
 use Rattle.group_table.proofs.Placed.{put_into}
@@ -12,7 +11,7 @@ returns-then-place-clause-value c =
     let items = c.args.table.items in
     let at = c.args.place.at in
     let ks = map seen_key c.args.keys.now in
-    let g = group_of c.args.query.now ks (lent_row c.args.row.now ∷ []) in
+    let g = group_of c.args.query.now ks (seen_row c.args.row.now ∷ []) in
     let mine = c.index_mut.result.now in
     let first : is_first ks (drop at items) ≡ true = search (rules, c.requires.there, c.if-place.true) in
     let old : slice_index_or items at mine ≡ mine = search (rules, c.index_mut.ensures.value) in

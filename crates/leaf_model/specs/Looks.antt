@@ -1,0 +1,38 @@
+-- What is looked for in rows.
+use Rattle.std.specs.Prelude.{ℕ, List, [], ◌∷◌, map, ℤ, Bool, false, Option, Some, None, if◌then◌else◌, bytes_eq}
+use Rattle.leaf_model.specs.declared.rows.Value.{Value}
+use Rattle.leaf_model.specs.declared.rows.Value.TheVariants as values
+use Rattle.leaf_model.specs.declared.rows.Cell.{Cell}
+use Rattle.leaf_model.specs.declared.rows.Row.{Row}
+use Rattle.leaf_model.specs.declared.looks.Sought.{Sought}
+use Rattle.leaf_model.specs.declared.looks.Sought.TheVariants as sought
+use Rattle.leaf_model.specs.Groups.{cell_value}
+
+-- what a row has of it
+abbrev pub sought_in : Row → Sought → Option Value
+sought_in row sought.Time = Some (values.Int row.time)
+sought_in row (sought.Cell name) = cell_value name.now row.cells
+
+-- what is there of it before any cell of the row was looked at
+abbrev pub begun_one : ℤ → Sought → Option Value
+begun_one time sought.Time = Some (values.Int time)
+begun_one time (sought.Cell name) = None
+
+abbrev pub begun : ℤ → List Sought → List (Option Value)
+begun time all = map (begun_one time) all
+
+-- whether a cell of that name is it
+abbrev pub is_sought : Sought → List ℕ → Bool
+is_sought sought.Time name = false
+is_sought (sought.Cell other) name = bytes_eq other.now name
+
+-- what will be there behind some cells, where that is there now: a cell counts where nothing is
+abbrev pub filled_one : Sought → Option Value → List Cell → Option Value
+filled_one s (Some value) cells = Some value
+filled_one s None [] = None
+filled_one s None (c ∷ cs) = if is_sought s c.name then Some c.value else filled_one s None cs
+
+abbrev pub filled : List Sought → List (Option Value) → List Cell → List (Option Value)
+filled [] values cells = []
+filled (s ∷ ss) [] cells = []
+filled (s ∷ ss) (v ∷ vs) cells = filled_one s v cells ∷ filled ss vs cells
