@@ -11,7 +11,7 @@ use Rattle.leaf_model.specs.declared.groups.Group.{Group}
 use Rattle.leaf_model.specs.Content.{rows_from}
 use Rattle.leaf_model.specs.Groups.{groups}
 use Rattle.group_table.specs.Joined.{FitsGroup, IsWithin, joined}
-use Rattle.group_table.specs.Kept.{IsStart}
+use Rattle.group_table.specs.Kept.{MayGrow}
 use Rattle.group_table.proofs.Within.{groups_grow, joined_fit}
 use Rattle.row_blocks.specs.Blocks.{Block}
 use Rattle.row_blocks.specs.Held.{blocks_held, rows_held}
@@ -115,7 +115,7 @@ module _ (q : Query) (blocks : List Block) (tail : List Row) (skip : ℕ) (horiz
 
   -- onto these groups those of the tail may be folded
   pub all_start : (all : List Group) → length (rows_held blocks tail skip horizon) ≤ 2 ^ 40 → all ≡ groups q (flat_map seen_rows views) → AllByRecursion (IsWithin (length (flat_map seen_rows views))) all
-      → IsStart q (length (rows_from horizon tail)) all
+      → MayGrow q (length (rows_from horizon tail)) all
   all_start all few is within = record {
     made = record { rows = flat_map seen_rows views; is = is };
     most = length (flat_map seen_rows views);

@@ -9,7 +9,7 @@ use Rattle.leaf_model.specs.Groups.{groups}
 use Rattle.std.specs.List.{AllByRecursion}
 use Rattle.group_table.specs.Joined.{joined, IsWithin}
 use Rattle.group_table.specs.Split.{IsMade, IsSplit}
-use Rattle.group_table.specs.Kept.{IsStart, is_kept, kept}
+use Rattle.group_table.specs.Kept.{MayGrow, is_kept, kept}
 use Rattle.group_table.proofs.Laws.{groups-append, joined-nil}
 use Rattle.group_table.proofs.Ends.{first_left, three_parts}
 use Rattle.group_table.proofs.Split.{none_made}
@@ -70,7 +70,7 @@ three_counts h r rows left front back is k f b =
 pub within_none : (m : ℕ) (gs : List Group) → gs ≡ [] → AllByRecursion (IsWithin m) gs
 within_none m gs none = subst (AllByRecursion (IsWithin m)) (sym none) tt
 
-pub no_start : (q : Query) (n : ℕ) (gs : List Group) → gs ≡ [] → n < 2 ^ 64 → IsStart q n gs
+pub no_start : (q : Query) (n : ℕ) (gs : List Group) → gs ≡ [] → n < 2 ^ 64 → MayGrow q n gs
 no_start q n gs none few = record { made = record { rows = []; is = none }; most = 0; within = within_none 0 gs none; few = omega (arith, few) }
 
 -- a settled table alone

@@ -15,8 +15,8 @@ is_kept (Some horizon) row = int_le horizon row.time
 abbrev pub kept : Option ℤ → List Row → List Row
 kept horizon rows = filter (is_kept horizon) rows
 
--- the groups of some rows, of which there are so few that n more fit
-pub record IsStart (q : Query) (n : ℕ) (gs : List Group) : Type 0 where
+-- groups of some rows, so few that those of n more rows may join them
+pub record MayGrow (q : Query) (n : ℕ) (gs : List Group) : Type 0 where
   pub made : IsMade q gs
   pub most : ℕ
   pub within : AllByRecursion (IsWithin most) gs

@@ -7,7 +7,7 @@ ghost use Rattle.leaf_model.specs.Content.{rows_from};
 ghost use Rattle.leaf_model.specs.Groups.{groups};
 ghost use Rattle.leaf_model.specs.Lent.{lent_rows};
 ghost use Rattle.group_table.specs.Joined.{IsWithin};
-ghost use Rattle.group_table.specs.Kept.{IsStart, kept};
+ghost use Rattle.group_table.specs.Kept.{MayGrow, kept};
 
 use crate::join::merge;
 use crate::seen::{SeenRow, sought_by};
@@ -68,7 +68,7 @@ fn fill<'a>(
     horizon: Option<i64>,
     limits: Limits,
 ) -> Result<Filled<'a>, AllocError>
-    requires start { IsStart query.now (length (kept horizon (lent_rows rows.now))) start }
+    requires start { MayGrow query.now (length (kept horizon (lent_rows rows.now))) start }
     ensures bound { IfOk result (λ first. first.rows ≤ length (lent_rows rows.now)) }
     ensures some { IfOk result (λ first. 0 < length (lent_rows rows.now) → 0 < first.rows) }
     ensures value { (xs : List Row) → start ≡ groups query.now xs → IfOk result (λ first. first.table ≡ groups query.now (xs ++ kept horizon (take first.rows (lent_rows rows.now)))) }
@@ -111,7 +111,7 @@ pub fn fold_within(
     horizon: Option<i64>,
     limits: Limits,
 ) -> Result<Groups, AllocError>
-    requires start { IsStart query.now (length (kept horizon (lent_rows rows.now))) start }
+    requires start { MayGrow query.now (length (kept horizon (lent_rows rows.now))) start }
     ensures value { (xs : List Row) → start ≡ groups query.now xs → IfOk result (λ gs. gs ≡ groups query.now (xs ++ kept horizon (lent_rows rows.now))) }
     ensures within { (m : ℕ) → AllByRecursion (IsWithin m) start → IfOk result (λ gs. AllByRecursion (IsWithin (m + length (kept horizon (lent_rows rows.now)))) gs) }
 {
@@ -146,7 +146,7 @@ pub fn fold_onto(
     rows: &LentRows,
     horizon: i64,
 ) -> Result<Groups, AllocError>
-    requires { IsStart query.now (length (rows_from horizon (lent_rows rows.now))) start }
+    requires { MayGrow query.now (length (rows_from horizon (lent_rows rows.now))) start }
     ensures value { (xs : List Row) → start ≡ groups query.now xs → IfOk result (λ gs. gs ≡ groups query.now (xs ++ rows_from horizon (lent_rows rows.now))) }
     ensures within { (m : ℕ) → AllByRecursion (IsWithin m) start → IfOk result (λ gs. AllByRecursion (IsWithin (m + length (rows_from horizon (lent_rows rows.now)))) gs) }
 {

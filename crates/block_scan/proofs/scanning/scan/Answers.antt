@@ -9,7 +9,7 @@ use Rattle.leaf_model.specs.Content.{rows_from}
 use Rattle.leaf_model.specs.Groups.{groups}
 use Rattle.leaf_model.specs.Lent.{lent_rows}
 use Rattle.group_table.specs.Joined.{IsWithin}
-use Rattle.group_table.specs.Kept.{IsStart}
+use Rattle.group_table.specs.Kept.{MayGrow}
 use Rattle.row_blocks.specs.Blocks.{Block}
 use Rattle.row_blocks.specs.Held.{blocks_held}
 use Rattle.block_scan.specs.Seen.{SeenBlock, StandFor, seen_rows}
@@ -27,7 +27,7 @@ fold_onto-requires g c =
     let start = all_start q c.args.blocks.now (lent_rows c.args.tail.now) c.args.skip h views stands c.in_ok-all.all c.requires.few
     (c.in_ok-all.ensures.groups ∙ ap (λ (l : List SeenBlock). groups q (flat_map seen_rows l)) c.as_slice-2.ensures.value)
     (subst (λ (l : List SeenBlock). AllByRecursion (IsWithin (length (flat_map seen_rows l))) c.in_ok-all.all) c.as_slice-2.ensures.value c.in_ok-all.ensures.within) in
-    subst (λ (z : ℤ). IsStart q (length (rows_from z (lent_rows c.args.tail.now))) c.in_ok-all.all) (sym (to_z-of_z w64 h c.ranges.horizon)) start
+    subst (λ (z : ℤ). MayGrow q (length (rows_from z (lent_rows c.args.tail.now))) c.in_ok-all.all) (sym (to_z-of_z w64 h c.ranges.horizon)) start
 
 pub returns-clause-groups : goal.returns-clause-groups
 returns-clause-groups g c =
