@@ -303,6 +303,7 @@ fn lay_from(out: &mut Vec<u8>, rows: &LentRows, horizon: i64) -> Result<usize, A
     ensures counted { IfOk result (λ count. count ≡ length (rows_from horizon (lent_rows rows.now))) }
     ensures begins { OnErr result (BeginsWith out.old.items out.new.items) }
 {
+    // A usize holds the number of all rows, and so the count below.
     let _most = rows.len();
     let mut added = 0;
     let mut left = *rows;

@@ -23,6 +23,7 @@ fn count_from(horizon: i64, rows: &LentRows) -> u64
     ensures few { result ≤ length (lent_rows rows.now) }
     ensures count { result ≡ length (rows_from horizon (lent_rows rows.now)) }
 {
+    // A usize holds the number of all rows, and so the count below.
     let _most = rows.len();
     let mut kept = 0;
     let mut left = *rows;
