@@ -124,29 +124,28 @@ pub fn add_to(alloc: Global, group: &mut Group, query: &Query, row: &SeenRow)
     group.folds = Folds::of(add_folds(folds.into_inner(), query, row));
 }
 
-/// A row of those keys, at their place.
+/// A row at the place of its keys.
 pub fn put_row(
     alloc: Global,
     query: &Query,
     mut table: Vec<Group>,
     place: Place,
-    keys: &[Option<LentValue>],
     row: &SeenRow,
 ) -> Result<Vec<Group>, AllocError>
     requires seen { AreSeen query.now row.now }
     requires bound { place.at ≤ vec_len table }
-    requires there { place.is_there ≡ is_first (map seen_key keys.now) (drop place.at table.items) }
+    requires there { place.is_there ≡ is_first (map seen_key row.now.keys.now) (drop place.at table.items) }
     requires inside { place.is_there ≡ true → place.at < vec_len table }
     requires same { AllByRecursion (λ (g : Group). length g.folds ≡ length query.now.aggs) table.items }
     requires within { AllByRecursion (IsWithin (2 ^ 64 - 2)) table.items }
-    ensures value { IfOk result (λ gs. gs.items ≡ take place.at table.items ++ put_first (group_of query.now (map seen_key keys.now) (seen_row row.now ∷ [])) (drop place.at table.items)) }
-    ensures row { IfOk result (λ gs. AllByRecursion (IsWithin 1) (group_of query.now (map seen_key keys.now) (seen_row row.now ∷ []) ∷ [])) }
+    ensures value { IfOk result (λ gs. gs.items ≡ take place.at table.items ++ put_first (group_of query.now (map seen_key row.now.keys.now) (seen_row row.now ∷ [])) (drop place.at table.items)) }
+    ensures row { IfOk result (λ gs. AllByRecursion (IsWithin 1) (group_of query.now (map seen_key row.now.keys.now) (seen_row row.now ∷ []) ∷ [])) }
 {
     if place.is_there {
         add_to(alloc, &mut table[place.at], query, row);
         return Ok(table);
     }
-    let keys = own_keys(alloc, keys)?;
+    let keys = own_keys(alloc, row.keys)?;
     let folds = folds_of_row(alloc, query, row)?;
     table.insert(
         place.at,

@@ -76,7 +76,7 @@ fn add_row(
     }
     guessed.missed = guessed.missed.saturating_add(1);
     let place = place_of(tables.fresh.as_slice(), row.keys);
-    let fresh = put_row(alloc, query, tables.fresh, place, row.keys, row)?;
+    let fresh = put_row(alloc, query, tables.fresh, place, row)?;
     Ok(Tables {
         settled: tables.settled,
         fresh,
