@@ -54,16 +54,22 @@ fn high_word(all: u128) -> u64
     (all >> 64) as u64
 }
 
+/// How many bytes so many codes take, at most.
+fn room_for(count: usize, width: u8) -> usize {
+    count.saturating_mul(usize::from(width)) / 8 + 8
+}
+
 impl BitWriter {
-    fn new(alloc: Global) -> BitWriter
-        ensures value { result.value ≡ 0 }
-        ensures bits { result.bits ≡ 0 }
+    /// No bits, with room for so many bytes.
+    fn with_room(alloc: Global, bytes: usize) -> Result<BitWriter, AllocError>
+        ensures value { IfOk result (λ writer. writer.value ≡ 0) }
+        ensures bits { IfOk result (λ writer. writer.bits ≡ 0) }
     {
-        BitWriter {
-            bytes: Vec::new(alloc),
+        Ok(BitWriter {
+            bytes: Vec::with_capacity(alloc, bytes)?,
             waiting: 0,
             count: 0,
-        }
+        })
     }
 
     fn push(&mut self, value: u64, width: u32) -> Result<(), AllocError>
@@ -108,7 +114,7 @@ pub fn pack(alloc: Global, values: &[u64], width: u8) -> Result<Vec<u8>, AllocEr
     ensures whole { IfOk result (λ bytes. IsBits bytes.items (length values.now * width)) }
     ensures codes { IfOk result (λ bytes. codes bytes.items width (length values.now) ≡ values.now) }
 {
-    let mut writer = BitWriter::new(alloc);
+    let mut writer = BitWriter::with_room(alloc, room_for(values.len(), width))?;
     for value in values {
         writer.push(*value, u32::from(width))?;
     }
@@ -121,7 +127,7 @@ pub fn pack_bits(alloc: Global, bits: &[bool]) -> Result<Vec<u8>, AllocError>
     ensures whole { IfOk result (λ bytes. IsBits bytes.items (length bits.now)) }
     ensures bits { IfOk result (λ bytes. presence bytes.items (length bits.now) ≡ bits.now) }
 {
-    let mut writer = BitWriter::new(alloc);
+    let mut writer = BitWriter::with_room(alloc, room_for(bits.len(), 1))?;
     for bit in bits {
         writer.push(u64::from(*bit), 1)?;
     }
