@@ -1,13 +1,18 @@
 // A column of cells as bytes.
-ghost use Rattle.std.specs.Prelude.{◌≡◌, ◌<◌, ◌≤◌, ◌↔◌, ℕ, length, option_map, IfOk, IfSome, IsTrue};
+ghost use Rattle.std.specs.Prelude.{◌≡◌, ◌<◌, ◌≤◌, ◌↔◌, ℕ, List, Option, length, map, is_some, option_map, IfOk, IfSome, IsTrue};
+ghost use Rattle.leaf_model.specs.declared.rows.Value.{Value};
 ghost use Rattle.leaf_model.specs.Lent.{each_value, lent_value};
+ghost use Rattle.column_bytes.specs.declared.kind.Kind.TheVariants.{Ints, Texts};
+ghost use Rattle.column_bytes.specs.Cells.{Entries};
 ghost use Rattle.column_bytes.specs.Column.{HasCells, kind_in};
-ghost use Rattle.column_bytes.specs.Coding.{AreOfKind, IsOfKind};
+ghost use Rattle.column_bytes.specs.Coding.{AreIntegers, AreOfKind, IsCoding, IsOfKind};
+ghost use Rattle.column_bytes.specs.Dictionary.{AreTexts};
 
-use crate::integers::encode_integers;
+use crate::integers::{encode_integers, integer_column};
 use crate::kind::Kind;
 use crate::set_codes::encode_sets;
-use crate::text_codes::encode_texts;
+use crate::text_codes::{encode_texts, text_column};
+use crate::text_set::TextSet;
 use leaf_model::{LentValue, MAX_TEXT, Value};
 use std::alloc::{AllocError, Global};
 use std::marker::Model;
@@ -95,6 +100,41 @@ pub fn encode(alloc: Global, kind: Kind, cells: &[Option<Value>]) -> Result<Colu
 {
     let lent = lend_all(alloc, cells)?;
     encode_refs(alloc, kind, &lent)
+}
+
+/// The bytes of a column of integers, in the form that takes fewer: one for each of 1 to 65,536 cells, and where none is there any stands.
+pub fn encode_numbers(
+    alloc: Global,
+    integers: &[i64],
+    present: &[bool],
+) -> Result<Column, AllocError>
+    requires some { 0 < length integers.now }
+    requires few { length integers.now ≤ 65536 }
+    requires same { length present.now ≡ length integers.now }
+    ensures cells { (cells : List (Option Value)) → map is_some cells ≡ present.now → AreIntegers cells integers.now → IfOk result (λ column. HasCells column (length present.now) cells) }
+    ensures kind { IfOk result (λ column. kind_in column ≡ Ints) }
+{
+    let bytes = integer_column(alloc, integers, present)?;
+    Ok(Column { bytes })
+}
+
+/// The bytes of a column of texts: a code for each of 1 to 65,536 cells, and where none is there any stands.
+pub fn encode_codes(
+    alloc: Global,
+    set: &TextSet,
+    codes: &[u64],
+    present: &[bool],
+) -> Result<Column, AllocError>
+    requires some { 0 < length codes.now }
+    requires few { length codes.now ≤ 65536 }
+    requires same { length present.now ≡ length codes.now }
+    requires texts { AreTexts set.now }
+    requires each { length set.now ≤ length codes.now }
+    ensures cells { (cells : List (Option Value)) → map is_some cells ≡ present.now → IsCoding cells codes.now (Entries set.now) → IfOk result (λ column. HasCells column (length present.now) cells) }
+    ensures kind { IfOk result (λ column. kind_in column ≡ Texts) }
+{
+    let bytes = text_column(alloc, set, codes, present)?;
+    Ok(Column { bytes })
 }
 
 /// The bytes of a column of 1 to 65,536 cells that are lent, each that is there of the kind: integers in the form that takes

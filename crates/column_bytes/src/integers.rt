@@ -1,5 +1,5 @@
 // Coding integers: by offsets from the least, or by the differences between neighbours.
-ghost use Rattle.std.specs.Prelude.{◌≡◌, ℕ, ◌+◌, ◌*◌, ◌<◌, ◌≤◌, ◌^◌, length, IfOk, IfSome, Some, option_map, pos, ◌+ℤ◌, ◌≤ℤ◌, FitsSigned, slice_index, slice_index_or, Option};
+ghost use Rattle.std.specs.Prelude.{◌≡◌, ℕ, ◌+◌, ◌*◌, ◌<◌, ◌≤◌, ◌^◌, length, map, List, is_some, IfOk, IfSome, Some, option_map, pos, ◌+ℤ◌, ◌≤ℤ◌, FitsSigned, slice_index, slice_index_or, Option};
 ghost use Rattle.std.specs.Int.{w64};
 ghost use Rattle.leaf_model.specs.Lent.{each_value, lent_value};
 ghost use Rattle.leaf_model.specs.declared.rows.Value.{Value};
@@ -11,9 +11,8 @@ ghost use Rattle.column_bytes.specs.Column.{HasCells, kind_in};
 ghost use Rattle.column_bytes.specs.Coding.{IsOfKind, AreOfKind, AreIntegers, AreCodesOf};
 
 use crate::form::Form;
-use crate::writer::{put_u64, write};
-use bit_columns::width_of;
-use delta_codes::delta;
+use crate::writer::{present_in, put_u64, write};
+use delta_codes::{delta, zigzag};
 use leaf_model::LentValue;
 use std::alloc::{AllocError, Global};
 
@@ -38,8 +37,8 @@ fn first_integer(cells: &[Option<LentValue>]) -> i64 {
     0
 }
 
-// The integer of a cell, or the one before where it is missing.
-fn integer_or(cell: &Option<LentValue>, before: i64) -> i64
+/// The integer of a cell, or the one before where it is missing.
+pub fn integer_or(cell: &Option<LentValue>, before: i64) -> i64
     requires { IfSome (option_map lent_value cell.now) (IsOfKind Ints) }
     ensures { (value : Value) → option_map lent_value cell.now ≡ Some value → value ≡ Int result }
 {
@@ -109,17 +108,6 @@ pub(crate) struct Coding {
     pub extra: Vec<u8>,
 }
 
-impl Coding {
-    // How many bytes the codes and what stands behind them take.
-    fn size(&self) -> usize
-        requires codes { length self.now.codes.items ≤ 65536 }
-        requires extra { length self.now.extra.items ≤ 2 ^ 40 }
-    {
-        let bits = self.codes.len() * width_of(&self.codes) as usize;
-        bits.div_ceil(8) + self.extra.len()
-    }
-}
-
 fn offset_coding(alloc: Global, integers: &[i64]) -> Result<Coding, AllocError>
     requires some { 0 < length integers.now }
     ensures extra { IfOk result (λ coding. length coding.extra.items ≡ 8) }
@@ -148,23 +136,84 @@ pub(crate) fn delta_coding(alloc: Global, integers: &[i64]) -> Result<Coding, Al
 pub(crate) fn write_integers(
     alloc: Global,
     form: Form,
-    cells: &[Option<LentValue>],
+    present: &[bool],
     integers: &[i64],
     coding: &Coding,
 ) -> Result<Vec<u8>, AllocError>
-    requires some { 0 < length cells.now }
-    requires few { length cells.now ≤ 65536 }
-    requires integers { AreIntegers (each_value cells.now) integers.now }
+    requires some { 0 < length integers.now }
+    requires few { length integers.now ≤ 65536 }
+    requires same { length present.now ≡ length integers.now }
     requires extra { IsExtra form (length integers.now) coding.now.extra.items }
     requires small { length coding.now.extra.items ≤ 2 ^ 40 }
     requires codes { AreCodesOf integers.now coding.now.codes.items (book_of form (length integers.now) coding.now.extra.items) }
-    ensures cells { IfOk result (λ bytes. HasCells bytes.items (length cells.now) (each_value cells.now)) }
-    ensures kind { IfOk result (λ bytes. kind_in bytes.items ≡ kind_of (book_of form (length cells.now) coding.now.extra.items)) }
+    ensures cells { (cells : List (Option Value)) → map is_some cells ≡ present.now → AreIntegers cells integers.now → IfOk result (λ bytes. HasCells bytes.items (length present.now) cells) }
+    ensures kind { IfOk result (λ bytes. kind_in bytes.items ≡ kind_of (book_of form (length integers.now) coding.now.extra.items)) }
 {
-    write(alloc, form, cells, &coding.codes, &coding.extra)
+    write(alloc, form, present, &coding.codes, &coding.extra)
 }
 
-/// The bytes of a column of integers, in the form that takes fewer.
+// How many bits a number takes.
+fn bits_of(number: u64) -> usize
+    ensures { result ≤ 64 }
+{
+    (64 - number.leading_zeros()) as usize
+}
+
+// How many bytes codes of a width take.
+fn packed_len(count: usize, width: usize) -> usize
+    requires count { count ≤ 65536 }
+    requires width { width ≤ 64 }
+    ensures { result ≤ 524288 }
+{
+    (count * width).div_ceil(8)
+}
+
+// Whether the differences between neighbours take fewer bytes than the offsets from the least: both are measured in one walk.
+fn is_delta_shorter(integers: &[i64]) -> bool
+    requires some { 0 < length integers.now }
+    requires few { length integers.now ≤ 65536 }
+{
+    let mut before = integers[0];
+    let mut least = before;
+    let mut most = before;
+    let mut ones = 0u64;
+    for i in 0..integers.len() {
+        let integer = integers[i];
+        if i % 64 != 0 {
+            ones |= zigzag(integer.wrapping_sub(before));
+        }
+        before = integer;
+        least = least.min(integer);
+        most = most.max(integer);
+    }
+    let count = integers.len();
+    let offset = packed_len(count, bits_of(most.abs_diff(least))) + 8;
+    let delta = packed_len(count, bits_of(ones)) + 8 * count.div_ceil(64);
+    delta < offset
+}
+
+/// The bytes of a column of integers, in the form that takes fewer: one for each cell, and where none is there any stands.
+pub(crate) fn integer_column(
+    alloc: Global,
+    integers: &[i64],
+    present: &[bool],
+) -> Result<Vec<u8>, AllocError>
+    requires some { 0 < length integers.now }
+    requires few { length integers.now ≤ 65536 }
+    requires same { length present.now ≡ length integers.now }
+    ensures cells { (cells : List (Option Value)) → map is_some cells ≡ present.now → AreIntegers cells integers.now → IfOk result (λ bytes. HasCells bytes.items (length present.now) cells) }
+    ensures kind { IfOk result (λ bytes. kind_in bytes.items ≡ Ints) }
+{
+    if is_delta_shorter(integers) {
+        let delta = delta_coding(alloc, integers)?;
+        write_integers(alloc, Form::Delta, present, integers, &delta)
+    } else {
+        let offset = offset_coding(alloc, integers)?;
+        write_integers(alloc, Form::Offset, present, integers, &offset)
+    }
+}
+
+/// The bytes of a column of integers.
 pub(crate) fn encode_integers(
     alloc: Global,
     cells: &[Option<LentValue>],
@@ -176,11 +225,6 @@ pub(crate) fn encode_integers(
     ensures kind { IfOk result (λ bytes. kind_in bytes.items ≡ Ints) }
 {
     let integers = integers_of(alloc, cells)?;
-    let offset = offset_coding(alloc, &integers)?;
-    let delta = delta_coding(alloc, &integers)?;
-    if delta.size() < offset.size() {
-        write_integers(alloc, Form::Delta, cells, &integers, &delta)
-    } else {
-        write_integers(alloc, Form::Offset, cells, &integers, &offset)
-    }
+    let present = present_in(alloc, cells)?;
+    integer_column(alloc, &integers, &present)
 }

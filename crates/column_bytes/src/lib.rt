@@ -22,10 +22,12 @@ mod value;
 mod view;
 mod writer;
 
-pub use column::{Column, are_of_kind, encode, encode_refs};
+pub use column::{Column, are_of_kind, encode, encode_codes, encode_numbers, encode_refs};
+pub use integers::integer_or;
 pub use kind::Kind;
 pub use laws::one_reading;
 pub use set_ref::SetRef;
-pub use text_codes::{Dict, dictionary};
+pub use text_codes::{Dict, code_or, dictionary};
+pub use text_set::TextSet;
 pub use value::ValueRef;
 pub use view::{ColumnView, NoColumn};

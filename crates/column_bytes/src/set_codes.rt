@@ -17,7 +17,7 @@ use crate::form::Form;
 use crate::set_numbers::SetNumbers;
 use crate::text_codes::dictionary_bytes;
 use crate::text_set::TextSet;
-use crate::writer::{put_u32, write};
+use crate::writer::{present_in, put_u32, write};
 use leaf_model::{LentTexts, LentValue};
 use std::alloc::{AllocError, Global};
 
@@ -194,5 +194,6 @@ pub(crate) fn encode_sets(alloc: Global, cells: &[Option<LentValue>]) -> Result<
     let mut sets = SetNumbers::new(alloc);
     let codes = cell_codes(alloc, cells, &mut texts, &mut sets)?;
     let extra = set_dictionary_bytes(alloc, texts.as_slice(), sets.as_slice())?;
-    write(alloc, Form::Sets, cells, &codes, &extra)
+    let present = present_in(alloc, cells)?;
+    write(alloc, Form::Sets, &present, &codes, &extra)
 }

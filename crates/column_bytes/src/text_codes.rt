@@ -1,5 +1,5 @@
 // Coding texts: each text once, in the order of their first place, and a code for each place.
-ghost use Rattle.std.specs.Prelude.{◌≡◌, ℕ, ◌+◌, ◌*◌, ◌<◌, ◌≤◌, ◌^◌, ◌++◌, [], length, take, slice_index_or, IfOk, IfSome, OnOk, Some, option_map};
+ghost use Rattle.std.specs.Prelude.{◌≡◌, ℕ, ◌+◌, ◌*◌, ◌<◌, ◌≤◌, ◌^◌, ◌++◌, [], length, take, slice_index_or, IfOk, IfSome, OnOk, Some, option_map, List, Option, map, is_some};
 ghost use Rattle.std.specs.List.{All};
 ghost use Rattle.leaf_model.specs.Lent.{each_value, lent_value};
 ghost use Rattle.leaf_model.specs.declared.rows.Value.{Value};
@@ -13,7 +13,7 @@ ghost use Rattle.column_bytes.specs.Coding.{IsOfKind, AreOfKind, IsCoding, end_a
 
 use crate::form::Form;
 use crate::text_set::TextSet;
-use crate::writer::{put_u32, write};
+use crate::writer::{present_in, put_u32, write};
 use delta_codes::Codes;
 use leaf_model::{LentValue, Text, Texts};
 use std::alloc::{AllocError, Global};
@@ -84,8 +84,8 @@ fn value_code<'a>(set: &mut TextSet<'a>, value: &LentValue<'a>) -> Result<u64, A
     }
 }
 
-// The code of a cell's text, or the one before where the cell is missing.
-fn code_or<'a>(
+/// The code of a cell's text, or the one before where the cell is missing.
+pub fn code_or<'a>(
     set: &mut TextSet<'a>,
     cell: &Option<LentValue<'a>>,
     before: u64,
@@ -167,6 +167,25 @@ pub(crate) fn dictionary_bytes(alloc: Global, texts: &[&str]) -> Result<Vec<u8>,
     Ok(bytes)
 }
 
+/// The bytes of a column of texts: a code for each cell, and where none is there any stands.
+pub(crate) fn text_column(
+    alloc: Global,
+    set: &TextSet,
+    codes: &[u64],
+    present: &[bool],
+) -> Result<Vec<u8>, AllocError>
+    requires some { 0 < length codes.now }
+    requires few { length codes.now ≤ 65536 }
+    requires same { length present.now ≡ length codes.now }
+    requires texts { AreTexts set.now }
+    requires each { length set.now ≤ length codes.now }
+    ensures cells { (cells : List (Option Value)) → map is_some cells ≡ present.now → IsCoding cells codes.now (Entries set.now) → IfOk result (λ bytes. HasCells bytes.items (length present.now) cells) }
+    ensures kind { IfOk result (λ bytes. kind_in bytes.items ≡ kinds.Texts) }
+{
+    let extra = dictionary_bytes(alloc, set.as_slice())?;
+    write(alloc, Form::Dictionary, present, codes, &extra)
+}
+
 /// The bytes of a column of texts.
 pub(crate) fn encode_texts(
     alloc: Global,
@@ -180,6 +199,6 @@ pub(crate) fn encode_texts(
 {
     let mut set = TextSet::new(alloc);
     let codes = cell_codes(alloc, cells, &mut set)?;
-    let extra = dictionary_bytes(alloc, set.as_slice())?;
-    write(alloc, Form::Dictionary, cells, &codes, &extra)
+    let present = present_in(alloc, cells)?;
+    text_column(alloc, &set, &codes, &present)
 }

@@ -8,7 +8,7 @@ use std::marker::Model;
 
 /// Contracts see the texts in the order of their codes.
 #[derive(Drop)]
-pub(crate) struct TextSet<'a> {
+pub struct TextSet<'a> {
     texts: IndexSet<&'a str>,
 }
 
@@ -22,7 +22,7 @@ impl<'a> Model for TextSet<'a> {
 }
 
 impl<'a> TextSet<'a> {
-    pub(crate) fn new(alloc: Global) -> TextSet<'a>
+    pub fn new(alloc: Global) -> TextSet<'a>
         ensures { result ≡ [] }
     {
         TextSet {

@@ -1,8 +1,8 @@
 // Writing a column: the header, and the three parts behind it.
-ghost use Rattle.std.specs.Prelude.{◌≡◌, ◌+◌, ◌*◌, ◌<◌, ◌≤◌, ◌^◌, ◌++◌, [], length, map, Bool, true, IfOk, OnOk, Option, is_some, if◌then◌else◌};
+ghost use Rattle.std.specs.Prelude.{◌≡◌, ◌+◌, ◌*◌, ◌<◌, ◌≤◌, ◌^◌, ◌++◌, [], length, map, List, Bool, true, IfOk, OnOk, Option, is_some, if◌then◌else◌};
 ghost use Rattle.std.specs.Int.{div_ceil};
 ghost use Rattle.byteorder.specs.Endian.{little_bytes};
-ghost use Rattle.leaf_model.specs.Lent.{each_value};
+ghost use Rattle.leaf_model.specs.declared.rows.Value.{Value};
 ghost use Rattle.column_bytes.specs.Cells.{IsExtra, book_of, kind_of, there};
 ghost use Rattle.column_bytes.specs.Column.{HasCells, IsPresence, kind_in, presence_bits};
 ghost use Rattle.column_bytes.specs.Coding.{IsCoding, column_bytes, form_byte, front_bytes, header_bytes, kind_byte};
@@ -120,7 +120,11 @@ fn are_all_there(present: &[bool]) -> bool
     true
 }
 
-fn present_in(alloc: Global, cells: &[Option<LentValue>]) -> Result<Vec<bool>, AllocError>
+/// Which of the cells are there.
+pub(crate) fn present_in(
+    alloc: Global,
+    cells: &[Option<LentValue>],
+) -> Result<Vec<bool>, AllocError>
     ensures { IfOk result (λ present. present.items ≡ map is_some cells.now) }
 {
     cells.iter().map(|cell| cell.is_some()).collect(alloc)
@@ -150,24 +154,24 @@ fn presence_of(alloc: Global, present: &[bool]) -> Result<Presence, AllocError>
     }
 }
 
-/// The bytes of a column of these cells, with a code for each, and what the codes stand for.
+/// The bytes of a column whose cells are there as said, with a code for each, and what the codes stand for.
 pub(crate) fn write(
     alloc: Global,
     form: Form,
-    cells: &[Option<LentValue>],
+    present: &[bool],
     codes: &[u64],
     extra: &[u8],
 ) -> Result<Vec<u8>, AllocError>
-    requires some { 0 < length cells.now }
-    requires few { length cells.now ≤ 65536 }
-    requires extra { IsExtra form (length cells.now) extra.now }
+    requires some { 0 < length present.now }
+    requires few { length present.now ≤ 65536 }
+    requires same { length codes.now ≡ length present.now }
+    requires extra { IsExtra form (length present.now) extra.now }
     requires small { length extra.now ≤ 2 ^ 40 }
-    requires coding { IsCoding (each_value cells.now) codes.now (book_of form (length cells.now) extra.now) }
-    ensures cells { IfOk result (λ bytes. HasCells bytes.items (length cells.now) (each_value cells.now)) }
-    ensures kind { IfOk result (λ bytes. kind_in bytes.items ≡ kind_of (book_of form (length cells.now) extra.now)) }
+    ensures cells { (cells : List (Option Value)) → map is_some cells ≡ present.now → IsCoding cells codes.now (book_of form (length present.now) extra.now)
+        → IfOk result (λ bytes. HasCells bytes.items (length present.now) cells) }
+    ensures kind { IfOk result (λ bytes. kind_in bytes.items ≡ kind_of (book_of form (length present.now) extra.now)) }
 {
-    let present = present_in(alloc, cells)?;
-    let presence = presence_of(alloc, &present)?;
+    let presence = presence_of(alloc, present)?;
     let width = width_of(codes);
     let packed = pack(alloc, codes, width)?;
     let front = front_of(form, width, presence.all_there);

@@ -1,6 +1,7 @@
 -- The times and the columns of the other cells are a block, which means the rows.
-use Rattle.std.proofs.Common.{◌≡◌, ℕ, ◌<◌, ◌≤◌, List, ◌∷◌, length, map, slice_index_or, ℤ, pos, Option, Some, None, IfSome, refl, sym, ap, subst, ◌∙◌, arith}
+use Rattle.std.proofs.Common.{◌≡◌, ℕ, zero, suc, ◌<◌, ◌≤◌, List, [], ◌∷◌, length, map, slice_index_or, ℤ, pos, Bool, true, replicate, is_some, unwrap_or, Option, Some, None, refl, sym, ap, subst, ◌∙◌, arith}
 use Rattle.std.specs.List.{AllByRecursion}
+use Rattle.std.specs.List.Sorted.{IsStrictlySortedBy}
 use Rattle.std.proofs.lemmas.List.{get_or-map, length-map}
 use Rattle.std.proofs.lemmas.List.FromFn.{fill_by_all}
 use Rattle.leaf_model.specs.declared.rows.Value.{Value}
@@ -10,14 +11,14 @@ use Rattle.leaf_model.specs.declared.rows.Row.{Row}
 use Rattle.leaf_model.specs.declared.lent_rows.LentRow.{LentRow}
 use Rattle.leaf_model.specs.Lent.{each_row, lent_row}
 use Rattle.leaf_model.specs.Values.{IsRow, time_name}
-use Rattle.column_bytes.specs.Coding.{AreOfKind, IsOfKind}
+use Rattle.column_bytes.specs.Coding.{AreIntegers}
 use Rattle.column_bytes.specs.Column.{kind_in}
 use Rattle.column_bytes.specs.declared.kind.Kind.TheVariants.{Ints}
 use Rattle.row_blocks.specs.declared.column.BlockColumn.{BlockColumn}
 use Rattle.row_blocks.specs.Columns.{MeanCells, cells_in}
 use Rattle.row_blocks.specs.Blocks.{Block, IsBlock, IsTimeCell, row_at, rows_in, time_of, times_of, value_in}
 use Rattle.row_blocks.specs.declared.times.TimeRange.{TimeRange}
-use Rattle.row_blocks.specs.Merging.{HoldCells}
+use Rattle.row_blocks.specs.Merging.{AreBare, HoldCells, cells_of_rows}
 use Rattle.row_blocks.specs.Ordered.{IsRangeOf}
 use Rattle.row_blocks.proofs.Taking.{cells_at_row, no_row, row_is}
 
@@ -26,10 +27,43 @@ pub counted_times : (rows : List LentRow) (times : List ℤ) → times ≡ times
 counted_times rows times same =
     ap (λ (l : List ℤ). length l) same ∙ length-map (each_row rows) (λ (row : Row). row.time) ∙ length-map rows lent_row
 
-pub are_ints : (times : List ℤ) → AreOfKind Ints (map (λ (t : ℤ). Some (Int t)) times)
-are_ints times i within =
-    let inside : i < length times = omega (arith, length-map times (λ (t : ℤ). Some (Int t))) in
-    subst (λ (v : Option Value). IfSome v (IsOfKind Ints)) (sym (get_or-map (λ (t : ℤ). Some (Int t)) times i (pos 0) None inside)) tt
+-- as many times as rows that are lent
+pub counted_by : (rows : List Row) (times : List ℤ) → times ≡ times_of rows → length times ≡ length rows
+counted_by rows times same = ap (λ (l : List ℤ). length l) same ∙ length-map rows (λ (row : Row). row.time)
+
+-- where no row has a cell, no column holds them
+none_there : (rows : List Row) (i : ℕ) → AreBare rows → slice_index_or (cells_of_rows rows) i [] ≡ []
+none_there [] i bare = refl
+none_there (row ∷ rows) zero bare = bare.0
+none_there (row ∷ rows) (suc i) bare = none_there rows i bare.1
+
+pub hold_none : (rows : List Row) → AreBare rows → HoldCells rows []
+unfolding IsStrictlySortedBy
+hold_none rows bare = record {
+  each = tt;
+  ascend = tt;
+  cells = λ i within. sym (none_there rows i bare);
+  few = omega arith;
+}
+
+abbrev pub time_cells : List ℤ → List (Option Value)
+time_cells times = map (λ (t : ℤ). Some (Int t)) times
+
+-- the times are integers, and each is there
+pub all_marked : (times : List ℤ) → map is_some (time_cells times) ≡ replicate (length times) true
+all_marked [] = refl
+all_marked (t ∷ times) = ap (λ (l : List Bool). true ∷ l) (all_marked times)
+
+some_int : (t : ℤ) (value : Value) → Some (Int t) ≡ Some value → value ≡ Int t
+some_int t value e = sym (ap (λ (o : Option Value). unwrap_or o (Int t)) e)
+
+pub are_integers : (times : List ℤ) → AreIntegers (time_cells times) times
+are_integers times = record {
+  same = sym (length-map times (λ (t : ℤ). Some (Int t)));
+  each = λ i value within e.
+      let inside : i < length times = omega (arith, within, length-map times (λ (t : ℤ). Some (Int t))) in
+      some_int (slice_index_or times i (pos 0)) value (sym (get_or-map (λ (t : ℤ). Some (Int t)) times i (pos 0) None inside) ∙ e);
+}
 
 -- a column of the times of some rows
 pub record HoldsTimes (rows : List Row) (column : BlockColumn) : Type 0 where

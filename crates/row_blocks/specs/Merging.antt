@@ -100,3 +100,7 @@ pub record HoldCells (rows : List Row) (columns : List BlockColumn) : Type 0 whe
   pub ascend : IsStrictlySortedBy heading_cmp (map heading columns)
   pub cells : (i : ℕ) → i < length rows → cells_at i columns ≡ slice_index_or (cells_of_rows rows) i []
   pub few : length columns ≤ cells_count (cells_of_rows rows)
+
+-- no row has a cell
+abbrev pub AreBare : List Row → Type 0
+AreBare rows = AllByRecursion (λ (row : Row). row.cells ≡ []) rows

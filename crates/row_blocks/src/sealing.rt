@@ -1,5 +1,5 @@
 // Sealing rows into a block: the times first, and then column by column what is left of the rows' cells.
-ghost use Rattle.std.specs.Prelude.{◌≡◌, ◌<◌, ◌≤◌, length, map, ℤ, Some, IfOk};
+ghost use Rattle.std.specs.Prelude.{◌≡◌, ◌<◌, ◌≤◌, length, map, replicate, true, ℤ, Some, IfOk, IfSome};
 ghost use Rattle.std.specs.List.{AllByRecursion};
 ghost use Rattle.leaf_model.specs.declared.rows.Value.TheVariants.{Int};
 ghost use Rattle.leaf_model.specs.Lent.{each_cells, each_row, each_value, lent_cell, lent_rows};
@@ -7,11 +7,11 @@ ghost use Rattle.leaf_model.specs.Values.{IsRow, time_name};
 ghost use Rattle.column_bytes.specs.Column.{kind_in};
 ghost use Rattle.column_bytes.specs.Coding.{AreOfKind};
 ghost use Rattle.column_bytes.specs.declared.kind.Kind.TheVariants.{Ints};
-ghost use Rattle.row_blocks.specs.Blocks.{rows_in};
+ghost use Rattle.row_blocks.specs.Blocks.{rows_in, times_of};
 ghost use Rattle.row_blocks.specs.Columns.{MeanCells, cells_in};
 ghost use Rattle.row_blocks.specs.Headings.{heading, heading_of};
 ghost use Rattle.row_blocks.specs.Held.{rows_and_cells};
-ghost use Rattle.row_blocks.specs.Merging.{AreTaken, HoldCells};
+ghost use Rattle.row_blocks.specs.Merging.{AreBare, AreTaken, HoldCells};
 
 use crate::block::RowBlock;
 use crate::column::{BlockColumn, BlockColumns, ColumnBytes};
@@ -19,8 +19,8 @@ use crate::headings::kind_of;
 use crate::lending::lend_earliest;
 use crate::merge::{move_on, no_values, rests_of};
 use crate::runs::{in_order, lend_run, run_len};
-use crate::times::{range_of, time_cells, times_of};
-use column_bytes::{Kind, encode, encode_refs};
+use crate::times::{range_of, times_of};
+use column_bytes::{encode_numbers, encode_refs};
 use leaf_model::{LentCell, LentCells, LentRow, LentRows, LentValue, Text};
 use std::alloc::{AllocError, Global};
 
@@ -33,12 +33,19 @@ fn times_column(alloc: Global, times: &[i64]) -> Result<BlockColumn, AllocError>
     ensures means { IfOk result (λ column. MeanCells column.bytes (length times.now)) }
     ensures cells { IfOk result (λ column. cells_in column.bytes ≡ map (λ (t : ℤ). Some (Int t)) times.now) }
 {
-    let cells = time_cells(alloc, times)?;
-    let bytes = encode(alloc, Kind::Ints, &cells)?;
+    let marks = all_there(alloc, times.len())?;
+    let bytes = encode_numbers(alloc, times, &marks)?;
     Ok(BlockColumn {
         name: Text::of(String::from_str(alloc, "time")?),
         bytes: ColumnBytes::of(bytes.into_bytes()),
     })
+}
+
+/// A mark for each of so many cells, which are all there.
+fn all_there(alloc: Global, count: usize) -> Result<Vec<bool>, AllocError>
+    ensures { IfOk result (λ marks. marks.items ≡ replicate count true) }
+{
+    Ok(vec![in alloc; true; count]?)
 }
 
 /// The column of these values, under the heading of a cell.
@@ -155,7 +162,41 @@ fn refs_to<'a>(alloc: Global, rows: &LentRows<'a>) -> Result<Vec<LentRow<'a>>, A
     Ok(refs)
 }
 
-/// The block of 1 to 65,536 rows: at most one column for each row and each cell.
+/// The times of the rows, where none of them has a cell.
+fn bare_times(alloc: Global, rows: &LentRows) -> Result<Option<Vec<i64>>, AllocError>
+    ensures times { IfOk result (λ found. IfSome found (λ times. times.items ≡ times_of (lent_rows rows.now))) }
+    ensures bare { IfOk result (λ found. IfSome found (λ _. AreBare (lent_rows rows.now))) }
+{
+    let mut times = Vec::with_capacity(alloc, rows.len())?;
+    let mut left = *rows;
+    while let Some((row, others)) = left.split_first() {
+        if row.cells.len() > 0 {
+            return Ok(None);
+        }
+        times.push(row.time)?;
+        left = others;
+    }
+    Ok(Some(times))
+}
+
+/// The block of rows that have these times, and no cells.
+fn seal_bare(alloc: Global, rows: &LentRows, times: &[i64]) -> Result<RowBlock, AllocError>
+    requires some { 0 < length (lent_rows rows.now) }
+    requires few { length (lent_rows rows.now) ≤ 65536 }
+    requires rows { AllByRecursion IsRow (lent_rows rows.now) }
+    requires times { times.now ≡ times_of (lent_rows rows.now) }
+    requires bare { AreBare (lent_rows rows.now) }
+    ensures rows { IfOk result (λ block. rows_in block ≡ lent_rows rows.now) }
+    ensures few { IfOk result (λ block. length block.columns ≤ rows_and_cells (lent_rows rows.now)) }
+{
+    let range = range_of(times);
+    let first = times_column(alloc, times)?;
+    let mut columns = Vec::new(alloc);
+    columns.push(first)?;
+    Ok(RowBlock::of(times.len() as u32, range, BlockColumns::of(columns)))
+}
+
+/// The block of 1 to 65,536 rows: at most one column for each row and each cell. Of rows without cells nothing is laid out but their times.
 pub fn seal(alloc: Global, rows: &LentRows) -> Result<RowBlock, AllocError>
     requires some { 0 < length (lent_rows rows.now) }
     requires few { length (lent_rows rows.now) ≤ 65536 }
@@ -163,6 +204,11 @@ pub fn seal(alloc: Global, rows: &LentRows) -> Result<RowBlock, AllocError>
     ensures rows { IfOk result (λ block. rows_in block ≡ lent_rows rows.now) }
     ensures few { IfOk result (λ block. length block.columns ≤ rows_and_cells (lent_rows rows.now)) }
 {
-    let refs = refs_to(alloc, rows)?;
-    seal_refs(alloc, refs.as_slice())
+    match bare_times(alloc, rows)? {
+        Some(times) => seal_bare(alloc, rows, &times),
+        None => {
+            let refs = refs_to(alloc, rows)?;
+            seal_refs(alloc, refs.as_slice())
+        }
+    }
 }

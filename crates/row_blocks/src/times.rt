@@ -1,11 +1,10 @@
 // The times of a block, and their range.
-ghost use Rattle.std.specs.Prelude.{◌≡◌, ◌<◌, length, map, ℤ, IfOk, Some};
-ghost use Rattle.leaf_model.specs.declared.rows.Value.TheVariants.{Int};
+ghost use Rattle.std.specs.Prelude.{◌≡◌, ◌<◌, length, IfOk};
 ghost use Rattle.leaf_model.specs.Lent.{each_row};
 ghost use Rattle.row_blocks.specs.Blocks.{times_of};
 ghost use Rattle.row_blocks.specs.Ordered.{IsRangeOf};
 
-use leaf_model::{LentRow, Value};
+use leaf_model::LentRow;
 use std::alloc::{AllocError, Global};
 
 /// What one pass over some times finds.
@@ -43,15 +42,4 @@ pub(crate) fn times_of(alloc: Global, rows: &[LentRow]) -> Result<Vec<i64>, Allo
         times.push(row.time)?;
     }
     Ok(times)
-}
-
-/// The cells of a column of times.
-pub(crate) fn time_cells(alloc: Global, times: &[i64]) -> Result<Vec<Option<Value>>, AllocError>
-    ensures { IfOk result (λ cells. cells.items ≡ map (λ (t : ℤ). Some (Int t)) times.now) }
-{
-    let mut cells = Vec::with_capacity(alloc, times.len())?;
-    for time in times {
-        cells.push(Some(Value::Int(*time)))?;
-    }
-    Ok(cells)
 }

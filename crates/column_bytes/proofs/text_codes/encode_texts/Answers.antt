@@ -1,13 +1,17 @@
-use Rattle.std.proofs.Common.{List, ℕ, ◌<◌, length, sym, subst, arith}
-use Rattle.column_bytes.specs.Coding.{joined}
-use Rattle.column_bytes.specs.Dictionary.{AreTexts}
-use Rattle.column_bytes.proofs.JoinedTexts.{joined_small}
+use Rattle.std.proofs.Common.{◌≡◌, List, ℕ, Bool, IfOk, length, map, is_some, sym, ap, subst, ◌∙◌}
+use Rattle.std.proofs.lemmas.List.{length-map}
+use Rattle.leaf_model.specs.Lent.{each_value}
+use Rattle.column_bytes.specs.Cells.{Entries}
+use Rattle.column_bytes.specs.Coding.{IsCoding}
+use Rattle.column_bytes.specs.Column.{HasCells}
+use Rattle.column_bytes.proofs.Lent.{there_same}
 use Rattle.column_bytes.proofs.text_codes.encode_texts.Goals as goal
 
-pub dictionary_bytes-requires-clause-texts : goal.dictionary_bytes-requires-clause-texts
-dictionary_bytes-requires-clause-texts c = subst AreTexts (sym c.as_slice.ensures) c.in_ok-codes.ensures.texts
-
-pub dictionary_bytes-requires-clause-small : goal.dictionary_bytes-requires-clause-small
-dictionary_bytes-requires-clause-small c =
-    subst (λ (texts : List (List ℕ)). length (joined texts) < 4294967296) (sym c.as_slice.ensures)
-    (joined_small c.cell_codes.new.set c.in_ok-codes.ensures.texts (omega (arith, c.in_ok-codes.ensures.few, c.requires.few)))
+pub returns-clause-cells : goal.returns-clause-cells
+returns-clause-cells c =
+    let cells = c.args.cells.now in
+    let marks : c.deref-2.result.now ≡ map is_some cells = c.deref-2.ensures.value ∙ c.in_ok-present.ensures in
+    let coding : IsCoding (each_value cells) c.deref.result.now (Entries c.cell_codes.new.set)
+    = subst (λ (list : List ℕ). IsCoding (each_value cells) list (Entries c.cell_codes.new.set)) (sym c.deref.ensures.value) c.in_ok-codes.ensures.coding in
+    subst (λ (n : ℕ). IfOk c.text_column.result (λ bytes. HasCells bytes.items n (each_value cells))) (ap (λ (l : List Bool). length l) marks ∙ length-map cells is_some)
+    (c.text_column.ensures.cells (each_value cells) (sym (there_same cells) ∙ sym marks) coding)
