@@ -15,3 +15,4 @@ pub mod Passing
 pub mod Lent
 pub mod Sorting
 pub mod FrontRun
+pub mod Halves

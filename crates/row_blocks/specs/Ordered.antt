@@ -1,5 +1,6 @@
 -- Times that never fall, and what is at or after a horizon among them.
-use Rattle.std.specs.Prelude.{◌≡◌, ℕ, ◌<◌, ◌≤◌, true, false, List, length, slice_index_or, ℤ, pos, ◌≤ℤ◌, int_le}
+use Rattle.std.specs.Prelude.{◌≡◌, ℕ, ◌<◌, ◌≤◌, true, false, List, length, slice_index_or, ℤ, pos, ◌≤ℤ◌, int_le, Option, IfSome, Vec, IsPermutation}
+use Rattle.std.specs.declared.alloc.Global.{Global}
 use Rattle.row_blocks.specs.declared.times.TimeRange.{TimeRange}
 use Rattle.row_blocks.specs.Blocks.{Block, IsRange}
 use Rattle.row_blocks.specs.Live.{time_at}
@@ -19,3 +20,13 @@ pub record IsFirstLive (skip place : ℕ) (horizon : ℤ) (b : Block) : Type 0 w
   pub within : place ≤ b.rows
   pub below : (i : ℕ) → skip ≤ i → i < place → int_le horizon (time_at b i) ≡ false
   pub above : (i : ℕ) → place ≤ i → i < b.rows → int_le horizon (time_at b i) ≡ true
+
+-- where there are times, they are these in their order
+abbrev pub AreSorted : List ℤ → Option (Vec ℤ Global) → Type 0
+AreSorted times sorted = IfSome sorted (λ v. IsPermutation times v.items × NeverFall v.items)
+
+-- of some times, exactly those from a place on are at or after the horizon
+pub record Parts (times : List ℤ) (horizon : ℤ) (place : ℕ) : Type 0 where
+  pub within : place ≤ length times
+  pub below : (i : ℕ) → i < place → int_le horizon (slice_index_or times i (pos 0)) ≡ false
+  pub above : (i : ℕ) → place ≤ i → i < length times → int_le horizon (slice_index_or times i (pos 0)) ≡ true

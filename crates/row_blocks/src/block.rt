@@ -1,5 +1,5 @@
 // A sealed block.
-ghost use Rattle.std.specs.Prelude.{◌≡◌, ◌<◌, ◌≤◌, true, length, option_map, IfOk, IfErr};
+ghost use Rattle.std.specs.Prelude.{◌≡◌, ◌<◌, ◌≤◌, true, length, option_map, IfOk, IfErr, IfSome, IsPermutation};
 ghost use Rattle.std.specs.List.{find};
 ghost use Rattle.row_blocks.specs.declared.column.BlockColumn.{BlockColumn};
 ghost use Rattle.row_blocks.specs.declared.fault.BlockFault.TheVariants.{NoRows};
@@ -10,6 +10,7 @@ use crate::accepting::range_of_block;
 use crate::column::{BlockColumn, BlockColumns};
 use crate::fault::BlockFault;
 use crate::headings::{is_kind, kind_in};
+use crate::in_order::{FEW_CUTS, TimeOrder, sorted_times};
 use crate::times::TimeRange;
 use column_bytes::Kind;
 use leaf_model::Text;
@@ -22,17 +23,18 @@ pub struct RowBlock {
     rows: u32,
     range: TimeRange,
     columns: BlockColumns,
+    order: TimeOrder,
 }
 
 impl Model for RowBlock {
     ghost use Rattle.row_blocks.specs.Blocks.{Block, IsBlock, rows_in, times_of};
-    ghost use Rattle.row_blocks.specs.Ordered.{IsRangeOf};
+    ghost use Rattle.row_blocks.specs.Ordered.{AreSorted, IsRangeOf};
 
     ghost Value = { Block };
 
     ghost view = { λ b. record { rows = b.rows; columns = b.columns } };
 
-    ghost invariant = { λ b. IsBlock (record { rows = b.rows; columns = b.columns }) × IsRangeOf (times_of (rows_in (record { rows = b.rows; columns = b.columns }))) b.range };
+    ghost invariant = { λ b. IsBlock (record { rows = b.rows; columns = b.columns }) × IsRangeOf (times_of (rows_in (record { rows = b.rows; columns = b.columns }))) b.range × AreSorted (times_of (rows_in (record { rows = b.rows; columns = b.columns }))) b.order.sorted };
 }
 
 impl RowBlock {
@@ -46,6 +48,7 @@ impl RowBlock {
             rows,
             range,
             columns,
+            order: TimeOrder::new(),
         }
     }
 
@@ -75,6 +78,30 @@ impl RowBlock {
         ensures { result ≡ true → NeverFall (times_of (rows_in self.now)) }
     {
         self.range.in_order
+    }
+
+    /// The times in their order, where they were sorted.
+    pub(crate) fn sorted(&self) -> Option<&[i64]>
+        ensures { IfSome result (λ sorted. IsPermutation (times_of (rows_in self.now)) sorted.now × NeverFall sorted.now) }
+    {
+        match &self.order.sorted {
+            Some(sorted) => Some(sorted.as_slice()),
+            None => None,
+        }
+    }
+
+    /// Sorts the times of a block whose times fall, once so many horizons have cut it, if there is memory.
+    pub fn note_horizon(&mut self, alloc: Global, horizon: i64)
+        ensures { self.new ≡ self.old }
+    {
+        if self.order.sorted.is_some() || self.range.in_order || horizon <= self.range.from {
+            return;
+        }
+        if self.order.cuts < FEW_CUTS {
+            self.order.cuts += 1;
+            return;
+        }
+        self.order.sorted = sorted_times(alloc, self);
     }
 
     /// The columns, that of the times first.

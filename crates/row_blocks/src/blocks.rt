@@ -79,4 +79,20 @@ impl Blocks {
     {
         self.inner.retain(|block| block.has_live(horizon));
     }
+
+    /// Lets each block know of a horizon, so that it may sort its times. A block that finds no memory goes on without.
+    pub fn note_horizon(&mut self, horizon: i64)
+        ensures { self.new ≡ self.old }
+    {
+        note_each(&mut self.inner, horizon);
+    }
+}
+
+fn note_each(blocks: &mut Vec<RowBlock>, horizon: i64)
+    ensures { blocks.new.items ≡ blocks.old.items }
+{
+    let alloc = *blocks.allocator();
+    for place in 0..blocks.len() {
+        blocks[place].note_horizon(alloc, horizon);
+    }
 }

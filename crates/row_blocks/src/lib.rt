@@ -8,6 +8,7 @@ mod column;
 mod counting;
 mod fault;
 mod headings;
+mod in_order;
 mod lending;
 mod live;
 mod merge;

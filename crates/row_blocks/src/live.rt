@@ -6,6 +6,7 @@ ghost use Rattle.row_blocks.specs.Live.{AreTimesOf, has_live, time_at};
 ghost use Rattle.row_blocks.specs.Ordered.{IsFirstLive, NeverFall};
 
 use crate::block::RowBlock;
+use crate::in_order::first_from;
 use crate::reading::view_of;
 use column_bytes::{ColumnView, ValueRef};
 
@@ -45,7 +46,7 @@ fn is_live(block: &RowBlock, times: &ColumnView, place: u32, horizon: i64) -> bo
 
 /// The time at a place of a walk that begins at `skip`, given the time before it: the first is decoded alone, each other one from that before it.
 #[inline(always)]
-fn walked_time(block: &RowBlock, times: &ColumnView, skip: u32, place: u32, before: i64) -> i64
+pub(crate) fn walked_time(block: &RowBlock, times: &ColumnView, skip: u32, place: u32, before: i64) -> i64
     requires times { AreTimesOf times.now block.now }
     requires behind { skip ≤ place }
     requires place { place < block.now.rows }
@@ -71,6 +72,20 @@ fn count_from(block: &RowBlock, times: &ColumnView, skip: u32, horizon: i64) -> 
         live += u32::from(horizon <= time);
     }
     live
+}
+
+/// The same, by a look at the times in their order where they were sorted and none is cut away.
+fn count_out_of_order(block: &RowBlock, skip: u32, horizon: i64) -> u32
+    requires skip { skip ≤ block.now.rows }
+    ensures { result ≡ length (live_rows skip horizon block.now) }
+{
+    block.is_block();
+    if skip == 0 {
+        if let Some(sorted) = block.sorted() {
+            return (sorted.len() - first_from(sorted, horizon)) as u32;
+        }
+    }
+    count_from(block, &times_view(block), skip, horizon)
 }
 
 fn place_from(block: &RowBlock, times: &ColumnView, skip: u32, horizon: i64, n: u32) -> u32
@@ -130,7 +145,7 @@ impl RowBlock {
         } else if self.in_order() {
             self.rows() - first_live(self, &times_view(self), skip, horizon)
         } else {
-            count_from(self, &times_view(self), skip, horizon)
+            count_out_of_order(self, skip, horizon)
         }
     }
 

@@ -1,0 +1,80 @@
+// The times of a block in their order, for horizons that cut it often.
+ghost use Rattle.std.specs.Prelude.{◌≡◌, ◌<◌, ◌≤◌, ℕ, length, take, pos, slice_index_or, int_le, false, true, None, IfOk, IfSome, IsPermutation};
+ghost use Rattle.row_blocks.specs.Blocks.{rows_in, times_of};
+ghost use Rattle.row_blocks.specs.Held.{live_rows};
+ghost use Rattle.row_blocks.specs.Live.{AreTimesOf};
+ghost use Rattle.row_blocks.specs.Ordered.{AreSorted, NeverFall, Parts};
+
+use crate::block::RowBlock;
+use crate::live::{times_view, walked_time};
+use crate::times::range_of;
+use column_bytes::ColumnView;
+use std::alloc::{AllocError, Global};
+
+/// So many horizons may cut a block before its times are sorted, since a sort takes as long as some walks.
+pub(crate) const FEW_CUTS: u32 = 8;
+
+/// The times of a block whose times fall: in their order, once horizons have cut it often.
+#[derive(Debug, Drop)]
+pub(crate) struct TimeOrder {
+    pub(crate) cuts: u32,
+    pub(crate) sorted: Option<Vec<i64>>,
+}
+
+impl TimeOrder {
+    /// No horizon has cut the block.
+    pub(crate) fn new() -> TimeOrder
+        ensures { result.sorted ≡ None }
+    {
+        TimeOrder {
+            cuts: 0,
+            sorted: None,
+        }
+    }
+}
+
+/// The times of the rows.
+fn all_times(alloc: Global, block: &RowBlock, view: &ColumnView) -> Result<Vec<i64>, AllocError>
+    requires times { AreTimesOf view.now block.now }
+    ensures { IfOk result (λ times. times.items ≡ times_of (rows_in block.now)) }
+{
+    let mut times = Vec::with_capacity(alloc, block.rows() as usize)?;
+    let mut time = 0;
+    for place in 0..block.rows() {
+        time = walked_time(block, view, 0, place, time);
+        times.push(time)?;
+    }
+    Ok(times)
+}
+
+/// The times of the rows in their order. Where there is no memory there are none.
+pub(crate) fn sorted_times(alloc: Global, block: &RowBlock) -> Option<Vec<i64>>
+    ensures { AreSorted (times_of (rows_in block.now)) result }
+{
+    let Ok(mut times) = all_times(alloc, block, &times_view(block)) else {
+        return None;
+    };
+    times.sort_unstable();
+    if times.is_empty() || !range_of(&times).in_order {
+        return None;
+    }
+    Some(times)
+}
+
+/// The first of some times in order that is at the horizon or behind it.
+pub(crate) fn first_from(sorted: &[i64], horizon: i64) -> usize
+    requires order { NeverFall sorted.now }
+    ensures { Parts sorted.now horizon result }
+{
+    let mut first = 0;
+    let mut end = sorted.len();
+    'halves: while first < end {
+        let middle = first + (end - first) / 2;
+        if horizon <= sorted[middle] {
+            end = middle;
+        } else {
+            first = middle + 1;
+        }
+    }
+    first
+}
