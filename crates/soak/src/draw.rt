@@ -1,9 +1,10 @@
 // Rows that are drawn one after another.
 ghost use Rattle.std.specs.Prelude.{◌≡◌, ◌+◌, ◌-◌, ◌*◌, ◌^◌, ◌<◌, ◌≤◌, IfOk};
-ghost use Rattle.soak.specs.Soak.{generator_behind, row_at, rows_between};
+ghost use Rattle.soak.specs.Hosts.{AreHosts};
+ghost use Rattle.soak.specs.Soak.{generator_behind, row_at, row_with, rows_between};
 
-use crate::row::row_with;
-use leaf_model::{LentRow, PackedRows, Row, Rows};
+use crate::row::{each_host, put_row};
+use leaf_model::{Cell, PackedRows, Rows};
 use rand_core::utils::NextWord;
 use rand_pcg::Lcg64Xsh32;
 use std::alloc::{AllocError, Global};
@@ -29,18 +30,39 @@ impl Draw {
         }
     }
 
-    /// The next row. It counts as drawn where memory ran out, too.
-    fn row(&mut self, alloc: Global) -> Result<Row, AllocError>
+    /// The two words of the next row, which counts as drawn.
+    fn words(&mut self) -> (u32, u32)
         requires { self.old.next + 1 < 2 ^ 32 }
         ensures seed { self.new.seed ≡ self.old.seed }
         ensures next { self.new.next ≡ self.old.next + 1 }
-        ensures exact { IfOk result (λ row. row ≡ row_at self.old.seed self.old.next) }
+        ensures row { row_with self.old.next result.0 result.1 ≡ row_at self.old.seed self.old.next }
     {
-        let number = self.next;
         let host = self.generator.next_word();
         let code = self.generator.next_word();
-        self.next = number + 1;
-        row_with(alloc, number, host, code)
+        self.next += 1;
+        (host, code)
+    }
+
+    /// The same, where the cells of each host stand ready.
+    fn drawn(
+        &mut self,
+        alloc: Global,
+        cells: &mut [Cell],
+        end: u32,
+    ) -> Result<PackedRows, AllocError>
+        requires order { self.old.next ≤ end }
+        requires hosts { AreHosts cells.old }
+        ensures seed { self.new.seed ≡ self.old.seed }
+        ensures next { IfOk result (λ _. self.new.next ≡ end) }
+        ensures exact { IfOk result (λ rows. rows ≡ rows_between self.old.seed self.old.next end) }
+    {
+        let mut rows = PackedRows::new(alloc);
+        while self.next < end {
+            let number = self.next;
+            let (host, code) = self.words();
+            put_row(&mut rows, cells, number, host, code)?;
+        }
+        Ok(rows)
     }
 
     /// The rows from the next one up to but without the row of this number.
@@ -51,11 +73,8 @@ impl Draw {
         ensures next { IfOk result (λ _. self.new.next ≡ end) }
         ensures exact { IfOk result (λ rows. rows ≡ rows_between self.old.seed self.old.next end) }
     {
-        let mut rows = PackedRows::new(alloc);
-        while self.next < end {
-            let row = self.row(alloc)?;
-            rows.push(&LentRow::of(&row))?;
-        }
+        let mut cells = each_host(alloc)?;
+        let rows = self.drawn(alloc, cells.as_mut_slice(), end)?;
         Ok(Rows::of(rows))
     }
 }
