@@ -5,6 +5,7 @@ mod object;
 mod quick;
 mod quick_rows;
 mod sets;
+mod walk;
 
 pub use object::{RowFault, row, row_meaning};
 pub use quick::{RowRoom, quick_time};

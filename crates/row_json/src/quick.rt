@@ -10,6 +10,7 @@ ghost use Rattle.leaf_model.specs.Values.{time_name};
 ghost use Rattle.row_json.specs.Row.{is_time, row_of};
 ghost use Rattle.row_json.specs.Quick.{AreOfRow, IsFine, Knows, data_of, natural_of};
 
+use crate::walk::plain_time;
 use fast_float::Numeral;
 use json::{Reader, Scratch, Token};
 use leaf_model::{MAX_CELLS, MAX_NAME, MAX_TEXT};
@@ -156,12 +157,22 @@ fn text_time(text: &str, scratch: &mut Scratch) -> Option<i64>
     Some(time)
 }
 
+/// The same, where most rows are of the plainest form.
+fn utf8_time(text: &str, scratch: &mut Scratch) -> Option<i64>
+    ensures { IfSome result (λ time. (all : Members) × (read text.now ≡ Some (object all)) × AreOfRow time all) }
+{
+    match plain_time(text.as_bytes()) {
+        Some(time) => Some(time),
+        None => text_time(text, scratch),
+    }
+}
+
 /// The time of the row that a text is, where that is seen as its members come; None says nothing of the text.
 pub fn quick_time(room: &mut RowRoom, text: &[u8]) -> Option<i64>
     ensures { IfSome result (λ time. (cells : List Cell) × (row_of text.now ≡ Ok (record { time = time; cells = cells }))) }
 {
     match simdutf8::basic::from_utf8(text) {
-        Ok(text) => text_time(text, &mut room.scratch),
+        Ok(text) => utf8_time(text, &mut room.scratch),
         Err(_) => None,
     }
 }

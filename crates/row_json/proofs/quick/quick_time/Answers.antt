@@ -5,4 +5,4 @@ use Rattle.row_json.proofs.Seen.{quick_is}
 use Rattle.row_json.proofs.quick.quick_time.Goals as goal
 
 pub returns-in-Ok : goal.returns-in-Ok
-returns-in-Ok c = quick_is c.text_time.result c.args.text.now (search rules) (grind arith)
+returns-in-Ok c = quick_is c.utf8_time.result c.args.text.now (search rules) (grind arith)

@@ -1,0 +1,237 @@
+// The time of a row of the plainest form: no blanks, no escapes, and texts, integers and nulls alone. It is seen in one walk over the bytes.
+ghost use Rattle.std.specs.Prelude.{◌≡◌, ◌<◌, ◌≤◌, ◌++◌, ◌∷◌, [], ℕ, List, length, Some, Ok, IfSome, IsTrue, false, true, slice_index, ◌==◌};
+ghost use Rattle.std.specs.List.{prefix_len};
+ghost use Rattle.json.specs.Json.{members, value};
+ghost use Rattle.json.specs.Lex.{fresh, token, between, lex};
+ghost use Rattle.json.specs.Token.{string};
+ghost use Rattle.json.specs.Run.{is_plain};
+ghost use Rattle.serde_json.specs.Data.{Data, Num, Members, no_members, null, number, object, put};
+ghost use Rattle.serde_json.specs.Data as held;
+ghost use Rattle.serde_json.specs.Find.{as_i64};
+ghost use Rattle.serde_json.specs.Read.{converted, of_members, read};
+ghost use Rattle.leaf_model.specs.declared.rows.Cell.{Cell};
+ghost use Rattle.row_json.specs.Row.{is_bad_name, is_time, row_of};
+ghost use Rattle.row_json.specs.Quick.{AreOfRow, IsFine, Knows, natural_of};
+ghost use Rattle.row_json.specs.Plain.{HasDigits, IsNatural, Reads, ReadsKey, is_ended, tokens_from};
+
+use leaf_model::{MAX_CELLS, MAX_NAME, MAX_TEXT};
+
+/// Digits are read while their number is below this, so that one more leaves it an i64.
+const MOST: u64 = 100_000_000_000_000_000;
+
+/// How many bytes at the front of a text stand in a string as they are.
+fn plain_len(text: &[u8]) -> usize
+    ensures value { result ≡ prefix_len is_plain text.now }
+    ensures bound { result ≤ length text.now }
+{
+    let mut at = 0;
+    'plain: while at < text.len() && text[at] != b'"' && text[at] != b'\\' && text[at] >= 0x20 {
+        at += 1;
+    }
+    at
+}
+
+/// The string without escapes that a text begins with, and what stands behind it.
+#[inline(always)]
+fn quoted(text: &[u8]) -> Option<(&[u8], &[u8])>
+    ensures { IfSome result (λ cut. lex between text.now ≡ token (string cut.0.now) ∷ lex between cut.1.now) }
+{
+    if text.is_empty() || text[0] != b'"' {
+        return None;
+    }
+    let inside = &text[1..];
+    let len = plain_len(inside);
+    if len >= inside.len() || inside[len] != b'"' {
+        return None;
+    }
+    Some((&inside[..len], &inside[len + 1..]))
+}
+
+/// The name that a member begins with, and what stands behind its colon.
+#[inline(always)]
+fn name_at(text: &[u8]) -> Option<(&[u8], &[u8])>
+    ensures { IfSome result (λ cut. ReadsKey text.now cut.0.now cut.1.now) }
+{
+    let (name, rest) = quoted(text)?;
+    if rest.is_empty() || rest[0] != b':' {
+        return None;
+    }
+    Some((name, &rest[1..]))
+}
+
+/// Whether a value that stands before the text has ended.
+#[inline(always)]
+fn is_ended(text: &[u8]) -> bool
+    ensures { result ≡ is_ended text.now }
+{
+    !text.is_empty() && (text[0] == b',' || text[0] == b'}')
+}
+
+/// The text that a member holds, and what stands behind it.
+#[inline(always)]
+fn text_at(text: &[u8]) -> Option<(&[u8], &[u8])>
+    ensures { IfSome result (λ cut. Reads text.now cut.1.now (held.string cut.0.now)) }
+{
+    let (inside, rest) = quoted(text)?;
+    if !is_ended(rest) {
+        return None;
+    }
+    Some((inside, rest))
+}
+
+/// What stands behind a null.
+#[inline(always)]
+fn null_at(text: &[u8]) -> Option<&[u8]>
+    ensures { IfSome result (λ rest. Reads text.now rest.now null) }
+{
+    if text.len() < 4 || text[0] != b'n' || text[1] != b'u' || text[2] != b'l' || text[3] != b'l' {
+        return None;
+    }
+    let rest = &text[4..];
+    if !is_ended(rest) {
+        return None;
+    }
+    Some(rest)
+}
+
+/// The number that the first digits of a text write, and how many they are.
+#[inline(always)]
+fn digits(text: &[u8]) -> (u64, usize)
+    ensures { HasDigits text.now result.0 result.1 }
+{
+    let mut number = 0u64;
+    let mut at = 0;
+    'digits: while at < text.len() && b'0' <= text[at] && text[at] <= b'9' && number < MOST {
+        number = number * 10 + u64::from(text[at] - b'0');
+        at += 1;
+    }
+    (number, at)
+}
+
+/// The number that a text begins with, and what stands behind it.
+#[inline(always)]
+fn natural_at(text: &[u8]) -> Option<(u64, &[u8])>
+    ensures ended { IfSome result (λ cut. is_ended cut.1.now ≡ true) }
+    ensures is { IfSome result (λ cut. (ds : List ℕ) × (text.now ≡ ds ++ cut.1.now) × IsNatural ds cut.0) }
+{
+    let (number, len) = digits(text);
+    if len == 0 || len > 1 && text[0] == b'0' {
+        return None;
+    }
+    let rest = &text[len..];
+    if !is_ended(rest) {
+        return None;
+    }
+    Some((number, rest))
+}
+
+/// The integer that a member holds, and what stands behind it.
+#[inline(always)]
+fn integer_at(text: &[u8]) -> Option<(i64, &[u8])>
+    ensures { IfSome result (λ cut. (num : Num) × Reads text.now cut.1.now (number num) × (as_i64 num ≡ Some cut.0)) }
+{
+    if text.is_empty() || text[0] != b'-' {
+        let (number, rest) = natural_at(text)?;
+        return Some((number as i64, rest));
+    }
+    let (number, rest) = natural_at(&text[1..])?;
+    if number == 0 {
+        return None;
+    }
+    Some((-(number as i64), rest))
+}
+
+/// What stands behind what a cell of this name may hold.
+#[inline(always)]
+fn cell_at<'a>(name: &[u8], text: &'a [u8]) -> Option<&'a [u8]>
+    requires other { is_time name.now ≡ false }
+    requires good { is_bad_name name.now ≡ false }
+    ensures { IfSome result (λ rest. (d : Data) × Reads text.now rest.now d × IsFine name.now d) }
+{
+    if text.is_empty() {
+        return None;
+    }
+    if text[0] == b'"' {
+        let (held, rest) = text_at(text)?;
+        if held.len() > MAX_TEXT {
+            return None;
+        }
+        return Some(rest);
+    }
+    if text[0] == b'n' {
+        return null_at(text);
+    }
+    let (_, rest) = integer_at(text)?;
+    Some(rest)
+}
+
+fn is_time(name: &[u8]) -> bool
+    ensures { result ≡ is_time name.now }
+{
+    name == b"time".as_slice()
+}
+
+/// The time that the row's time is, and what stands behind it.
+#[inline(always)]
+fn time_at(text: &[u8]) -> Option<(i64, &[u8])>
+    ensures { IfSome result (λ cut. (d : Data) × Reads text.now cut.1.now d × (natural_of d ≡ Some cut.0)) }
+{
+    let (time, rest) = integer_at(text)?;
+    if time < 0 {
+        return None;
+    }
+    Some((time, rest))
+}
+
+/// The time behind the member of this name more, and what stands behind it, where it is fine.
+#[inline(always)]
+fn member_at<'a>(
+    time: Option<i64>,
+    name: &[u8],
+    text: &'a [u8],
+) -> Option<(Option<i64>, &'a [u8])>
+    ensures { IfSome result (λ cut. (d : Data) × Reads text.now cut.1.now d × IsFine name.now d × ((old : Members) → Knows time old → Knows cut.0 (put name.now d old))) }
+{
+    if is_time(name) {
+        let (now, rest) = time_at(text)?;
+        return Some((Some(now), rest));
+    }
+    if name.is_empty() || name.len() > MAX_NAME {
+        return None;
+    }
+    let rest = cell_at(name, text)?;
+    Some((time, rest))
+}
+
+/// The time of the members up to the brace that closes their object and ends the text, where each is fine and they are at most 1,024.
+fn members_time(text: &[u8]) -> Option<i64>
+    ensures { IfSome result (λ time. (all : Members) × (converted (λ ms. of_members ms no_members) (members (value 126) (length (tokens_from fresh text.now)) (tokens_from fresh text.now)) ≡ Some (all, [])) × AreOfRow time all) }
+{
+    let mut rest = text;
+    let mut time = None;
+    let mut count = 0usize;
+    'members: while count < MAX_CELLS {
+        let (name, held) = name_at(rest)?;
+        let (now, after) = member_at(time, name, held)?;
+        if after.is_empty() {
+            return None;
+        }
+        if after[0] != b',' {
+            return if after.len() == 1 && after[0] == b'}' { now } else { None };
+        }
+        time = now;
+        rest = &after[1..];
+        count += 1;
+    }
+    None
+}
+
+/// The time of the row of the plainest form that a text is; None says nothing of the text.
+pub(crate) fn plain_time(text: &[u8]) -> Option<i64>
+    ensures { IfSome result (λ time. (all : Members) × (read text.now ≡ Some (object all)) × AreOfRow time all) }
+{
+    if text.is_empty() || text[0] != b'{' {
+        return None;
+    }
+    members_time(&text[1..])
+}
