@@ -10,6 +10,9 @@ use leaf_table::{FleetTables, Reply, Seat};
 use std::sync::Wait;
 use std::thread::{Threads, join_mut};
 
+/// Leaves with fewer rows are asked by the thread that asks the others: to start one takes as long as to look at some thousand rows.
+const FEW_ROWS: u64 = 16_384;
+
 /// What is asked of which table of each leaf.
 #[derive(Clone, Copy)]
 pub struct Question<'q> {
@@ -18,7 +21,7 @@ pub struct Question<'q> {
     pub table: u32,
 }
 
-/// Asks the leaves from the first on, as many as there are seats, each in a thread of its own where one can be made.
+/// Asks the leaves from the first on, as many as there are seats, those with many rows in threads of their own where these can be made.
 #[cycle(halves)]
 pub fn ask_each<'q, R: Threads + Wait + Sync, G: Gate>(
     rt: &R,
@@ -41,7 +44,7 @@ pub fn ask_each<'q, R: Threads + Wait + Sync, G: Gate>(
     ask_both(rt, gate, question, first, low, front, high, back);
 }
 
-// Asks both halves at once. The second begins behind the first.
+// Asks both halves, at once where both have many rows. The second begins behind the first.
 #[cycle(halves)]
 fn ask_both<'q, R: Threads + Wait + Sync, G: Gate>(
     rt: &R,
@@ -60,6 +63,11 @@ fn ask_both<'q, R: Threads + Wait + Sync, G: Gate>(
     ensures high { Asked question.now.query.now question.now.fleet.now question.now.table (first + length low.old) high.old back.new high.new }
 {
     let next = first + low.len() as u32;
+    if has_few(question, first, low.len()) || has_few(question, next, high.len()) {
+        ask_each(rt, gate, question, first, low, front);
+        ask_each(rt, gate, question, next, high, back);
+        return;
+    }
     let mut one = ||
         requires { IsSync R.row × IsSync G.row × (0 < length low.now) × MayAsk question.now.fleet.now question.now.table first low.now front.now }
         ensures { Asked question.entry.now.query.now question.entry.now.fleet.now question.entry.now.table first low.entry.now front.exit.now low.exit.now }
@@ -69,6 +77,11 @@ fn ask_both<'q, R: Threads + Wait + Sync, G: Gate>(
         ensures { Asked question.entry.now.query.now question.entry.now.fleet.now question.entry.now.table next high.entry.now back.exit.now high.exit.now }
     { ask_each(rt, gate, question, next, high, back) };
     join_mut(rt, &mut one, &mut other);
+}
+
+// Whether so many leaves have few rows together.
+fn has_few(question: &Question<'_>, first: u32, count: usize) -> bool {
+    question.fleet.weight(question.table, first, count) < FEW_ROWS
 }
 
 // Asks the first leaf, where there is a seat at it.

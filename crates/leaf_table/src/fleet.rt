@@ -131,6 +131,19 @@ impl FleetTables {
     {
         self.leaves[leaf as usize].as_slice()
     }
+
+    /// About how many rows the tables of that number have at so many leaves from the first on. Nothing is claimed of it.
+    pub fn weight(&self, table: u32, first: u32, count: usize) -> u64 {
+        let mut weight = 0u64;
+        for leaf in first as usize..(first as usize).saturating_add(count) {
+            if let Some(tables) = self.leaves.get(leaf) {
+                if let Some(shared) = tables.get(table as usize) {
+                    weight = weight.saturating_add(shared.weight());
+                }
+            }
+        }
+        weight
+    }
 }
 
 // As many rows of seats, with no seat in them.

@@ -12,6 +12,7 @@ use leaf_model::Text;
 use std::alloc::{AllocError, Global};
 use std::marker::{Brand, Model};
 use std::sync::Wait;
+use std::sync::atomic::{AtomicU64, Ordering};
 use std::thread::Threads;
 use table_state::TableState;
 use turnstile::{Clock, Turnstile};
@@ -26,6 +27,8 @@ pub struct SharedTable {
     pub(crate) table: u32,
     pub(crate) name: Text,
     pub(crate) turns: Turnstile<LeafTable>,
+    /// About how many rows there are: a hint, of which nothing is claimed.
+    pub(crate) weight: AtomicU64,
 }
 
 impl Model for SharedTable {
@@ -71,6 +74,7 @@ impl SharedTable {
             table,
             name: name.copy()?,
             turns,
+            weight: AtomicU64::new(0),
         };
         Ok((shared, steward, caller))
     }
@@ -130,8 +134,32 @@ impl SharedTable {
         ensures seat { IsSeatOf seat.new self.now.site }
         ensures made { MadeTurn (name_of self.now) (base_seen self.now) C.now seat.old turn result seat.new }
     {
-        self.turns
-            .call::<C, R, G>(rt, seat, turn, gate, self.leaf, self.table)
+        let opened = rows_opened(&turn);
+        let answer = self
+            .turns
+            .call::<C, R, G>(rt, seat, turn, gate, self.leaf, self.table);
+        self.weigh(opened, &answer);
+        answer
+    }
+
+    /// About how many rows the table has. Nothing is claimed of it.
+    pub fn weight(&self) -> u64 {
+        self.weight.load(Ordering::SeqCst)
+    }
+
+    // Notes what a turn did to the number of rows.
+    fn weigh(&self, opened: u64, answer: &Answer) {
+        match answer {
+            Answer::Added { kept, .. } => {
+                self.weight.fetch_add(*kept, Ordering::SeqCst);
+            }
+            Answer::Removed(rows) => {
+                self.weight.fetch_sub(*rows, Ordering::SeqCst);
+            }
+            Answer::Closed(_) => self.weight.store(0, Ordering::SeqCst),
+            Answer::Noted if opened > 0 => self.weight.store(opened, Ordering::SeqCst),
+            _ => {}
+        }
     }
 
     // Takes one turn at the clock C, which is the berth's.
@@ -169,5 +197,13 @@ impl SharedTable {
         ensures made { MadeTurn (name_of self.now) (base_seen self.now) (B.meaning berth.now).clock steward.old turn result steward.new }
     {
         self.turn_at::<Brand, R, B, G>(rt, steward, turn, berth, gate)
+    }
+}
+
+// How many rows a table has that is opened.
+fn rows_opened(turn: &Turn) -> u64 {
+    match turn {
+        Turn::Open { table, .. } => table.rows(),
+        _ => 0,
     }
 }
