@@ -93,15 +93,15 @@ abbrev pub MayCome : Bool → Way → Type 0
 MayCome told (Disk why.NoImage) = told ≡ false
 MayCome told _ = ⊤
 
--- how a start is refused; over a berth whose base is known a damaged log is not told, and no stranger of a leaf that was up before
-abbrev pub IsStartRefusal : Bool → Bool → Ending → Type 0
-IsStartRefusal told begun ends.FaultRegion = ⊤
-IsStartRefusal told begun ends.FaultDisk = ⊤
-IsStartRefusal told begun ends.FaultMemory = ⊤
-IsStartRefusal told begun (ends.FaultStranger name) = (told && begun) ≡ false
-IsStartRefusal told begun (ends.FaultWorn table) = ⊤
-IsStartRefusal told begun ends.FaultDamaged = told ≡ false
-IsStartRefusal told begun _ = ⊥
+-- how a start is refused; over a berth whose base is known a damaged log is not told, and no stranger of a leaf that was up before; a seat is told as worn of a table that the leaf has
+abbrev pub IsStartRefusal : Bool → Bool → ℕ → Ending → Type 0
+IsStartRefusal told begun tables ends.FaultRegion = ⊤
+IsStartRefusal told begun tables ends.FaultDisk = ⊤
+IsStartRefusal told begun tables ends.FaultMemory = ⊤
+IsStartRefusal told begun tables (ends.FaultStranger name) = (told && begun) ≡ false
+IsStartRefusal told begun tables (ends.FaultWorn table) = table < tables
+IsStartRefusal told begun tables ends.FaultDamaged = told ≡ false
+IsStartRefusal told begun tables _ = ⊥
 
 -- what the start behind a refused one prints: nothing is touched for a worn seat; a region that failed is not known; else an open flag was closed
 abbrev pub way_refused : Ending → Option Way → Option Way
@@ -121,7 +121,7 @@ pub data OfStart (told : Bool) (tables : ℕ) (life : Life) (notes : List Noted)
       → next ≡ record { mode = Up None; way = claimed told (way_after way); durable = claimed told counts; begun = true }
       → OfStart told tables life notes ending next
   refuses : life.mode ≡ Down
-      → IsStartRefusal told life.begun ending
+      → IsStartRefusal told life.begun tables ending
       → notes ≡ []
       → next ≡ on life Down (way_refused ending life.way) []
       → OfStart told tables life notes ending next

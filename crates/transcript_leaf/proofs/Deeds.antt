@@ -1,5 +1,5 @@
 -- The life behind a deed, by what it does to a leaf: starts, flushes and kills.
-use Rattle.std.proofs.Common.{◌≡◌, ℕ, suc, ◌+◌, Bool, true, false, ◌&&◌, List, [], ◌∷◌, length, map, refl, sym, ap, subst, ◌∙◌, arith, Option, Some, None}
+use Rattle.std.proofs.Common.{◌≡◌, ℕ, suc, ◌+◌, ◌<◌, Bool, true, false, ◌&&◌, List, [], ◌∷◌, length, map, refl, sym, ap, subst, ◌∙◌, arith, Option, Some, None}
 use Rattle.std.specs.Prelude.{◌≢◌, IfSome, IsSome, IsTrue, is_some, option_map, ⊤}
 use Rattle.row_records.specs.Records.{LogRecord}
 use Rattle.berth_face.specs.Berth.{Meaning}
@@ -29,12 +29,12 @@ use Rattle.transcript.specs.Life as lives
 use Rattle.transcript.specs.Counts.{is_disk_fault}
 use Rattle.transcript.specs.Transcript.{Known}
 use Rattle.leaf_moves.specs.Stage.{Leaf, IsDown, IsUp, Stands, seated_of}
-use Rattle.leaf_moves.specs.Steps.{FlushMoves, KillMoves, Moves, RefusalTold, RegionRefused, StartMoves, StartsTold, ending_of, ending_of_flush, noted_all, said_of_note}
+use Rattle.leaf_moves.specs.Steps.{FlushMoves, IsWornFor, KillMoves, Moves, RefusalTold, RegionRefused, StartMoves, StartsTold, ending_of, ending_of_flush, noted_all, said_of_note}
 use Rattle.leaf_moves.specs.Steps as steps
 use Rattle.transcript_leaf.specs.Session.{AreGrounded, AreInPlace, FitsMode, FitsNext, IsOwedAs, IsOwn, StandsKnown}
 use Rattle.transcript_leaf.specs.Acting.{FitsWay, Lived}
 use Rattle.transcript_leaf.specs.Acting as acting
-use Rattle.transcript_leaf.proofs.Lists.{clash_bool}
+use Rattle.transcript_leaf.proofs.Lists.{clash_bool, within}
 use Rattle.transcript_leaf.proofs.Owned.{never_stranger}
 use Rattle.transcript_leaf.proofs.Ways.{comes_known, may_come, same_way, way_left}
 use Rattle.transcript_leaf.proofs.Modes.{as_many, counts_stay, down_mode, founded_known, not_resting, not_serving, preparing_mode, resting_mode, same_held, up_mode, way_stays, where_known}
@@ -119,22 +119,23 @@ start_opened known tables life m m' leaf x s notes way ends leaf' size mode may 
 
 -- ---- a start that is refused
 
-refusal : (told begun : Bool) (f : StartFault) → (told ≡ true → f ≢ fault.DiskDamaged) → (told ≡ true → begun ≡ true → (name : List ℕ) → f ≢ fault.Stranger name) → IsStartRefusal told begun (ending_of f)
-refusal told begun fault.RegionFault not own = tt
-refusal told begun fault.DiskFault not own = tt
-refusal told begun fault.DiskDamaged not own = by told not
+refusal : (told begun : Bool) (tables : ℕ) (f : StartFault) → (told ≡ true → f ≢ fault.DiskDamaged) → (told ≡ true → begun ≡ true → (name : List ℕ) → f ≢ fault.Stranger name)
+    → ((table : ℕ) → f ≡ fault.Worn table → table < tables) → IsStartRefusal told begun tables (ending_of f)
+refusal told begun tables fault.RegionFault not own among = tt
+refusal told begun tables fault.DiskFault not own among = tt
+refusal told begun tables fault.DiskDamaged not own among = by told not
   where
     by : (b : Bool) → (b ≡ true → fault.DiskDamaged ≢ fault.DiskDamaged) → b ≡ false
     by true h = absurd (h refl refl)
     by false h = refl
-refusal told begun (fault.Stranger name) not own = by told begun own
+refusal told begun tables (fault.Stranger name) not own among = by told begun own
   where
     by : (a b : Bool) → (a ≡ true → b ≡ true → (n : List ℕ) → fault.Stranger name ≢ fault.Stranger n) → (a && b) ≡ false
     by true true h = absurd (h refl refl name refl)
     by true false h = refl
     by false b h = refl
-refusal told begun fault.NoMemory not own = tt
-refusal told begun (fault.Worn table) not own = tt
+refusal told begun tables fault.NoMemory not own among = tt
+refusal told begun tables (fault.Worn table) not own among = among table refl
 
 undamaged : (names : List (List ℕ)) (known : Option Known) (m : Meaning) (leaf : Leaf) (x : Seated) (f : StartFault)
     → AreInPlace names (seated_of leaf) → AreGrounded known (seated_of leaf) → IfSome known (λ (k : Known). StandsKnown k leaf m) → leaf ≡ IsDown x
@@ -187,6 +188,20 @@ way_refuses (Some k) life m m' leaf x f fits told = refused_way f life.way m m' 
 
 -- ---- starts
 
+-- a seat that is worn is one of the leaf's
+worn_among : (names : List (List ℕ)) (leaf : Leaf) (x : Seated) (f : StartFault) → AreInPlace names (seated_of leaf) → leaf ≡ IsDown x → IsWornFor x f → (table : ℕ) → f ≡ fault.Worn table
+    → table < length names
+worn_among names leaf x (fault.Worn t) place is worn table e =
+    let below = within x.seats t worn.0 worn.1 in
+    let size : length x.seats ≡ length names = ap (λ (l : Leaf). length (seated_of l).seats) (sym is) ∙ place.seats in
+    let same : t ≡ table = cc in
+    omega (arith, below, size, same)
+worn_among names leaf x fault.RegionFault place is worn table e = cc
+worn_among names leaf x fault.DiskFault place is worn table e = cc
+worn_among names leaf x fault.DiskDamaged place is worn table e = cc
+worn_among names leaf x (fault.Stranger name) place is worn table e = cc
+worn_among names leaf x fault.NoMemory place is worn table e = cc
+
 pub start_lives : (names : List (List ℕ)) (known : Option Known) (life : Life) (m m' : Meaning) (leaf : Leaf) (notes : List Note) (ends : Ending) (leaf' : Leaf)
     → AreInPlace names (seated_of leaf) → AreGrounded known (seated_of leaf) → IfSome known (λ (k : Known). StandsKnown k leaf m)
     → IfSome known (λ (k : Known). life.begun ≡ true → IsOwn names (seated_of leaf) m)
@@ -201,9 +216,10 @@ start_lives names known life m m' leaf notes ends leaf' in_place grounded stands
   next = refused_life life f;
   hands = hands_nothing leaf';
   does = λ columns few more. lives.refuses (down_mode life.mode x (subst (λ (l : Leaf). FitsMode life.mode l) is mode))
-      (subst (λ (e : Ending). IsStartRefusal (is_some known) life.begun e) (sym ends_are)
-      (refusal (is_some known) life.begun f (undamaged names known m leaf x f in_place grounded stands is sound)
-      (strangers_none names known life.begun m m' leaf x f in_place stands own is (where_known known leaf m (RefusalTold x m m' f) stands told))))
+      (subst (λ (e : Ending). IsStartRefusal (is_some known) life.begun (length names) e) (sym ends_are)
+      (refusal (is_some known) life.begun (length names) f (undamaged names known m leaf x f in_place grounded stands is sound)
+      (strangers_none names known life.begun m m' leaf x f in_place stands own is (where_known known leaf m (RefusalTold x m m' f) stands told))
+      (worn_among names leaf x f in_place is worn)))
       (noted_none notes notes_are)
       (ap (λ (e : Ending). on life Down (way_refused e life.way) []) (sym ends_are));
   counts = acting.keeps refl (ap (λ (ns : List Note). durable_with life.durable (noted_all ns)) (sym notes_are));

@@ -260,11 +260,11 @@ module _ (number : ℕ) (names : List (List ℕ)) (held : Pair) where
   }
 
   -- a start that life tells as refused
-  refused_goes : (life : Life) (m m' : Meaning) (leaf : Leaf) (notes : List Note) (ends : Ending) (leaf' : Leaf) (next : Life) → IsTrue m.tells → IsDownLeaf leaf → (seated_of leaf).names ≡ names
-      → IsRead m → IsStartRefusal true life.begun ends → next.mode ≡ Down → next.begun ≡ life.begun → StartMoves m m' leaf notes ends leaf' → Goes life ends next m m'
-  refused_goes life m m' leaf notes ends leaf' next tells down same_names read refusal mode begun (StartMoves.opened x s way is owed each told ended now) =
-      absurd (subst (λ (e : Ending). IsStartRefusal true life.begun e) ended refusal)
-  refused_goes life m m' leaf notes ends leaf' next tells down same_names read refusal mode begun (StartMoves.refused x f is worn undamaged told none ended same) =
+  refused_goes : (tables : ℕ) (life : Life) (m m' : Meaning) (leaf : Leaf) (notes : List Note) (ends : Ending) (leaf' : Leaf) (next : Life) → IsTrue m.tells → IsDownLeaf leaf → (seated_of leaf).names ≡ names
+      → IsRead m → IsStartRefusal true life.begun tables ends → next.mode ≡ Down → next.begun ≡ life.begun → StartMoves m m' leaf notes ends leaf' → Goes life ends next m m'
+  refused_goes tables life m m' leaf notes ends leaf' next tells down same_names read refusal mode begun (StartMoves.opened x s way is owed each told ended now) =
+      absurd (subst (λ (e : Ending). IsStartRefusal true life.begun tables e) ended refusal)
+  refused_goes tables life m m' leaf notes ends leaf' next tells down same_names read refusal mode begun (StartMoves.refused x f is worn undamaged told none ended same) =
       let own : x.names ≡ names = sym (ap (λ (l : Leaf). (seated_of l).names) is) ∙ same_names in
       let exact : IsExactRefusal names m.held f = subst (λ (ns : List (List ℕ)). IsExactRefusal ns m.held f) own (told tells).exact in
       record {
@@ -272,7 +272,7 @@ module _ (number : ℕ) (names : List (List ℕ)) (held : Pair) where
         on = λ fresh more all.
             subst (λ (e : Ending). Says m e more) (sym ended) (refused_fits m f read exact, behind_refused f m m' (On more) (told tells).region (all (begun ∙ fresh)));
       }
-  refused_goes life m m' leaf notes ends leaf' next tells down same_names read refusal mode begun (StartMoves.not_down up none still ended same) = absurd (up down)
+  refused_goes tables life m m' leaf notes ends leaf' next tells down same_names read refusal mode begun (StartMoves.not_down up none still ended same) = absurd (up down)
 
   -- one that opened the tables
   opened_on : (m m' : Meaning) (leaf : Leaf) (notes : List Note) (ends : Ending) (leaf' : Leaf) (way : Way) (more : List Piece) → IsTrue m.tells → IsDownLeaf leaf → (seated_of leaf).names ≡ names
@@ -291,7 +291,7 @@ module _ (number : ℕ) (names : List (List ℕ)) (held : Pair) where
     on = λ fresh more all. opened_on m m' leaf notes ends leaf' way more tells down same_names read ended moves;
   }
   start_goes tables life m m' leaf notes ends leaf' next tells down same_names mode read moves (OfStart.refuses is_down refusal none now) =
-      refused_goes life m m' leaf notes ends leaf' next tells down same_names read refusal (mode_of next _ now) (begun_of next _ now) moves
+      refused_goes tables life m m' leaf notes ends leaf' next tells down same_names read refusal (mode_of next _ now) (begun_of next _ now) moves
   start_goes tables life m m' leaf notes ends leaf' next tells down same_names mode read moves (OfStart.not_down up none ended now) = absurd (up mode)
 
   -- a deed of a leaf that was never up
