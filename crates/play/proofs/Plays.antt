@@ -1,5 +1,5 @@
 -- A play goes on by one item.
-use Rattle.std.proofs.Common.{◌≡◌, ℕ, ◌+◌, ◌==◌, ◌&&◌, Bool, List, [], ◌∷◌, ◌++◌, refl, sym, ap, ap₂, subst, ◌∙◌, arith, Option, Some, None, inl, inr, length-append}
+use Rattle.std.proofs.Common.{◌≡◌, ◌⊎◌, ℕ, ◌+◌, ◌==◌, ◌&&◌, Bool, List, [], ◌∷◌, ◌++◌, refl, sym, ap, ap₂, subst, ◌∙◌, arith, Option, Some, None, inl, inr, length-append}
 use Rattle.std.specs.Prelude.{if◌then◌else◌, slice_get, IfOk, IsOk, OnErr, OnOk, Result, Ok, Err, Vec, ◌≤◌, length, map}
 use Rattle.std.specs.Global.{Global}
 use Rattle.std.specs.Io.KnownBytes.{Appends}
@@ -238,11 +238,11 @@ pub stops_one : {B E : Type 0} (meaning : B → Meaning) (fleet : Fleet) (x : It
     → StopsAt meaning fleet fs xs ys was now watching watched x
 stops_one meaning fleet x T fs xs ys was now watching watched lines (inr none) front still = StopsAt.unplayed none.holds (still none.refused) none.watches
 stops_one meaning fleet x T fs xs ys was now watching watched (Ok ls) (inl d) front still =
-    StopsAt.short d.went.played d.went.begun d.went.plays d.went.counted d.went.heard (subst (λ ks. WritesFront was now (lines_text fleet.names ks)) d.went.lines_are.1 front)
+    StopsAt.short d.went.played d.went.begun d.went.plays d.went.counted d.went.heard (inl (d.went.lines_are.0, subst (λ ks. WritesFront was now (lines_text fleet.names ks)) d.went.lines_are.1 front))
     (λ histories on. let e = d.did histories on in (e.0, e.1))
 stops_one meaning fleet x T fs xs ys was now watching watched (Err e) (inl d) front still =
     StopsAt.short d.went.played d.went.begun d.went.plays d.went.counted d.went.heard
-    (subst (λ o. WritesFront was o (lines_text fleet.names (item_lines d.went.played))) (sym (still refl)) (none_written was (lines_text fleet.names (item_lines d.went.played))))
+    (inr (still refl))
     (λ histories on. let k = d.did histories on in (k.0, k.1))
 
 -- what was told of a fleet, with what its standing queries tell
@@ -294,6 +294,11 @@ last_snoc (q ∷ r ∷ ps) p = last_snoc (r ∷ ps) p
 rest_within : (piece front rest : List ℕ) → piece ≡ front ++ rest → length rest ≤ length piece
 rest_within piece front rest is = omega (arith, ap (λ (l : List ℕ). length l) is, length-append front rest)
 
+-- what was written of an item: a front of the text of one that was played whole, or nothing
+front_of : (was now : Option (List ℕ)) (text : List ℕ) {A : Type 0} → (A × WritesFront was now text) ⊎ (now ≡ was) → (w : WritesFront was now text) × (A ⊎ (w.0 ≡ text))
+front_of was now text (inl f) = (f.1, inl f.0)
+front_of was now text {A} (inr same) = subst (λ (o : Option (List ℕ)). (w : WritesFront was o text) × (A ⊎ (w.0 ≡ text))) (sym same) ((text, record { front = []; is = refl; bytes = appends_nothing was }), inr refl)
+
 -- ---- a run that stops
 
 module _ {B : Type 0} (base : ℕ → Option NamedStates) (meaning : B → Meaning) (fleet : Fleet) (olds : List B) (was : Option (List ℕ)) (watching : List Held) where
@@ -306,6 +311,7 @@ module _ {B : Type 0} (base : ℕ → Option NamedStates) (meaning : B → Meani
     rest = [];
     text = all_written was written (lines_text fleet.names (all_lines run.played)) run.text;
     last = omega arith;
+    cut = inl (more, ap (λ (is : List Item). is ++ more) (sym run.items_are));
     heard = run.heard;
     counted = run.counted;
     keeps = run.keeps;
@@ -318,10 +324,15 @@ module _ {B : Type 0} (base : ℕ → Option NamedStates) (meaning : B → Meani
   pub run_cut : (written after : Option (List ℕ)) (between watched : List Held) (items more : List Item) (x : Item) (fs : List Follower) (xs ys : List (Hold B)) (p : PlayedItem)
       → RunSoFar base meaning fleet olds was written watching between items fs xs → AllPass meaning xs ys → AreFollowers fleet fs
       → BeginsItem (item_of p) x → PlaysItem meaning fleet xs p ys → AllCounted meaning (all_pieces (p ∷ [])) xs ys → HearsAll fleet (plays_of p) between watched
-      → WritesFront written after (lines_text fleet.names (item_lines p))
+      → ((item_of p ≡ x) × WritesFront written after (lines_text fleet.names (item_lines p))) ⊎ (after ≡ written)
       → ((histories : ℕ → ℕ → List Entry) → GoOn ys histories → (gs : List Follower) × DoesItself fleet (grounds_in ys) histories p fs gs)
       → RunShort base meaning fleet olds was after watching watched (items ++ x ∷ more) ys
-  run_cut written after between watched items more x fs xs ys p run passes followers begins plays counts heard front did =
+  run_cut written after between watched items more x fs xs ys p run passes followers begins plays counts heard wrote did =
+      let piece : List ℕ = lines_text fleet.names (item_lines p) in
+      let found : (w : WritesFront written after piece) × ((item_of p ≡ x) ⊎ (w.0 ≡ piece)) = front_of written after piece wrote in
+      let front : WritesFront written after piece = found.0 in
+      let items_so : map item_of (run.played ++ p ∷ []) ≡ items ++ item_of p ∷ [] =
+      map-append item_of run.played (p ∷ []) ∙ ap (λ (is : List Item). is ++ item_of p ∷ []) run.items_are in
       let lines : lines_text fleet.names (all_lines (run.played ++ p ∷ [])) ≡ lines_text fleet.names (all_lines run.played) ++ lines_text fleet.names (item_lines p) =
       ap (λ (ls : List Line). lines_text fleet.names ls) (lines_snoc run.played p) ∙ flat_map-append (line_text fleet.names) (all_lines run.played) (item_lines p) in
       record {
@@ -332,6 +343,10 @@ module _ {B : Type 0} (base : ℕ → Option NamedStates) (meaning : B → Meani
             (front_behind was written after (lines_text fleet.names (all_lines run.played)) (lines_text fleet.names (item_lines p)) front.0 run.text front.1);
         last = subst (λ (ls : List Line). length front.0 ≤ length (lines_text fleet.names ls)) (sym (last_snoc run.played p))
             (rest_within (lines_text fleet.names (item_lines p)) front.1.front front.0 front.1.is);
+        cut = elim found.1 [
+          | inl same ↦ inl (more, sym (ap (λ (is : List Item). is ++ more) items_so ∙ (append_assoc items (item_of p ∷ []) more ∙ ap (λ (i : Item). items ++ i ∷ more) same)))
+          | inr is ↦ inr (is ∙ sym (ap (λ (ls : List Line). lines_text fleet.names ls) (last_snoc run.played p)))
+        ];
         heard = subst (λ (qs : List Played). HearsAll fleet qs watching watched) (sym (plays_snoc run.played p))
             (heard_on fleet (plays_in run.played) (plays_of p) watching between watched run.heard heard);
         counted = λ leaf old y l new at now held.

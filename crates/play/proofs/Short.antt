@@ -103,6 +103,7 @@ module _ {B : Type 0} (meaning : B → Meaning) (first rest own : List B) (xs : 
     rest = run.rest;
     written = run.text;
     last = run.last;
+    cut = run.cut;
     told = λ known bases. let here : AreKnown meaning first first base known = (λ leaf old at. bases leaf old (front_at first rest leaf (within first leaf old at) ∙ at)) in elim (fleet_begins items (map item_of run.played) run.some) [
       | inl none ↦ of_none known (none_played run.played none)
       | inr same ↦

@@ -1,5 +1,5 @@
 -- What a run that ends before its time has played and written: no word of it is new but how lists begin.
-use Rattle.std.specs.Prelude.{◌≡◌, ℕ, ◌≤◌, List, [], ◌∷◌, ◌++◌, length, map, Option}
+use Rattle.std.specs.Prelude.{◌≡◌, ◌⊎◌, ℕ, ◌≤◌, List, [], ◌∷◌, ◌++◌, length, map, Option}
 use Rattle.berth_face.specs.Berth.{Meaning}
 use Rattle.berth_face.specs.Streams.{Written}
 use Rattle.crash_moments.specs.Left.{NamedStates}
@@ -39,4 +39,6 @@ module _ {B : Type 0} (meaning : B → Meaning) (olds news : List B) where
     pub rest : List ℕ
     pub written : Written was now (lines_text (script_fleet items).names (all_lines played)) rest
     pub last : length rest ≤ length (lines_text (script_fleet items).names (last_lines played))
+    -- nothing is written of a burst of which not all was played
+    pub cut : Begins (map item_of played) items ⊎ (rest ≡ lines_text (script_fleet items).names (last_lines played))
     pub told : (known : ℕ → Option Known) → AreKnown meaning olds news base known → IsToldRun meaning olds news (map item_of played) known (all_lines played) before after

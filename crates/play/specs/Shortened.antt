@@ -20,7 +20,7 @@ use Rattle.transcript.specs.Leaving.{AreKnown}
 use Rattle.leaf_moves.specs.Holds.{GoOn, Hold, grounds_in}
 use Rattle.leaf_moves.specs.Lanes.{PlaysItem}
 use Rattle.transcript.specs.Watching.{HearsAll}
-use Rattle.bursts.specs.Shortened.{BeginsItem}
+use Rattle.bursts.specs.Shortened.{Begins, BeginsItem}
 use Rattle.play.specs.Cut.{IsShortened, PlaysSome, last_lines}
 use Rattle.player.specs.Crew.{AllCounted}
 use Rattle.transcript_fleet.specs.Session.{Session}
@@ -39,6 +39,7 @@ pub record RunShort {B : Type 0} (base : ℕ → Option NamedStates) (meaning : 
   pub rest : List ℕ
   pub text : Written was written (lines_text fleet.names (all_lines played)) rest
   pub last : length rest ≤ length (lines_text fleet.names (last_lines played))
+  pub cut : Begins (map item_of played) items ⊎ (rest ≡ lines_text fleet.names (last_lines played))
   pub heard : HearsAll fleet (plays_in played) watching watched
   pub counted : AreCounted meaning olds xs (all_pieces played)
   pub keeps : HoldsKeep meaning olds xs
@@ -93,6 +94,6 @@ pub data StopsAt {B : Type 0} (meaning : B → Meaning) (fleet : Fleet) (olds : 
       → PlaysItem meaning fleet xs played ys
       → AllCounted meaning (all_pieces (played ∷ [])) xs ys
       → HearsAll fleet (plays_of played) watching watched
-      → WritesFront was written (lines_text fleet.names (item_lines played))
+      → ((item_of played ≡ item) × WritesFront was written (lines_text fleet.names (item_lines played))) ⊎ (written ≡ was)
       → ((histories : ℕ → ℕ → List Entry) → GoOn ys histories → (between : List Follower) × DoesItself fleet (grounds_in ys) histories played olds between)
       → StopsAt meaning fleet olds xs ys was written watching watched item
