@@ -4,8 +4,11 @@ ghost use Rattle.berth_face.specs.Berth.{OpenedOn, Pair};
 ghost use Rattle.berth_face.specs.Causes.{Rose};
 ghost use Rattle.region_layout.specs.Region.{reads};
 ghost use Rattle.crash_moments.specs.Left.{Left, NamedStates};
-ghost use Rattle.run_ends.specs.Outcome.{IfScript, UnlessCutOff};
-ghost use Rattle.play.specs.Outcome.{IsDone, IsTextRefused, UnlessPlayed, verdict};
+ghost use Rattle.berth_face.specs.Streams.{TakesAtMost};
+ghost use Rattle.run_ends.specs.Outcome.{IfScript, UnlessCutOff, UnlessWritten, TakesText};
+ghost use Rattle.run_ends.specs.Source.{most_taken};
+ghost use Rattle.row_count.specs.Outcome.{IsCutShort};
+ghost use Rattle.play.specs.Outcome.{IsDone, IsTextRefused, IfCount, IfInspect, IfUnread, UnlessPlayed, verdict};
 ghost use Rattle.play.specs.Played.{LeavesBerths, leaves_asked};
 ghost use Rattle.play.specs.Shortened.{IfShort, IsShort};
 ghost use Rattle.play.specs.Words.{request_of};
@@ -54,7 +57,18 @@ pub fn run_over<R: Wait + Threads + Sync, S: Source, K: Sink, B: Berth, G: Gate>
     ensures write_fault { IfOk result (λ status. status ≡ Status.WriteFault → Rose (K.faults sink.old) (K.faults sink.new)) }
     ensures exact { IfOk result (λ status. IfSome (S.left source.old)
         (λ text. UnlessCutOff status (status ≡ verdict (length berths.old.items) (request_of (map string_bytes words.now)) text))) }
+    ensures takes { TakesAtMost (S.left source.old) (S.left source.new) most_taken }
+    ensures too_long { IfOk result (λ status. TakesText status (S.left source.old) (S.left source.new)) }
+    ensures unread { IfUnread (request_of (map string_bytes words.now)) (source.new ≡ source.old) }
+    ensures unwritten { IfOk result (λ status. UnlessPlayed status (sink.new ≡ sink.old)) }
     ensures unplayed { IfOk result (λ status. UnlessPlayed status (berths.new ≡ berths.old)) }
+    ensures unwatched { IfOk result (λ status. UnlessPlayed status (watches.new ≡ watches.old)) }
+    ensures count_unwritten { IfCount (request_of (map string_bytes words.now)) (λ range. IfOk result (λ status. UnlessWritten status (sink.new ≡ sink.old))) }
+    ensures count_cut_short { IfCount (request_of (map string_bytes words.now)) (λ range. IfOk result (λ status. status ≡ Status.WriteFault →
+        IsCutShort range (S.left source.old) (S.left source.new) (K.written sink.old) (K.written sink.new))) }
+    ensures count_unplayed { IfCount (request_of (map string_bytes words.now)) (λ range. berths.new ≡ berths.old) }
+    ensures count_unwatched { IfCount (request_of (map string_bytes words.now)) (λ range. watches.new ≡ watches.old) }
+    ensures inspect_unwatched { IfInspect (request_of (map string_bytes words.now)) (λ leaf. watches.new ≡ watches.old) }
     ensures berths { LeavesBerths B.meaning (leaves_asked (request_of (map string_bytes words.now)) (S.left source.old)) berths.old.items berths.new.items }
 {
     let known = keep_all(alloc, berths)?;
