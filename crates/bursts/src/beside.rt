@@ -157,8 +157,16 @@ fn threads_for<'t, B: Berth>(lanes: &[LaneWork<'t, B>]) -> usize
     requires { 0 < length lanes.now }
     ensures { 0 < result }
 {
-    let busy = lanes.iter().filter(|lane| lane.is_busy()).count();
-    if busy < 2 { 1 } else { lanes.len() }
+    let mut has_one = false;
+    for lane in lanes {
+        if lane.is_busy() {
+            if has_one {
+                return lanes.len();
+            }
+            has_one = true;
+        }
+    }
+    1
 }
 
 // Plays a lane with what was cut off for it.
