@@ -3,6 +3,7 @@ ghost use Rattle.std.specs.Prelude.{◌≡◌, ◌+◌, ◌-◌, ◌^◌, ◌≤
 ghost use Rattle.berth_face.specs.Causes.{Rose, HasCause};
 ghost use Rattle.berth_files.specs.Files.{MeansFiles, counting};
 
+use crate::access::Access;
 use crate::calls::FileCalls;
 use crate::folder::FolderFiles;
 use crate::leaf_file::LeafFile;
@@ -44,12 +45,13 @@ impl FileBerth<FolderFiles> {
         rt: HostRuntime,
         folder: &str,
         leaf: u32,
+        access: Access,
     ) -> Result<FileBerth<FolderFiles>, AllocError>
         ensures region_faults { IfOk result (λ b. (⟦<FileBerth<FolderFiles> as Berth>⟧.meaning b).region_faults ≡ 0) }
         ensures disk_faults { IfOk result (λ b. (⟦<FileBerth<FolderFiles> as Berth>⟧.meaning b).disk_faults ≡ 0) }
         ensures disk_reads { IfOk result (λ b. (⟦<FileBerth<FolderFiles> as Berth>⟧.meaning b).disk_reads ≡ 0) }
     {
-        Ok(FileBerth::over(FolderFiles::new(rt, folder, leaf)?))
+        Ok(FileBerth::over(FolderFiles::new(rt, folder, leaf, access)?))
     }
 }
 

@@ -10,6 +10,10 @@ use berth_face::Failed;
 /// The two files of a leaf, by six calls. Each clause says what a call gives and keeps where the
 /// files tell what they hold. That the system's files keep these clauses is trusted; all that is
 /// said of a `FileBerth` is proved over every pair of files that keep them.
+///
+/// Linux keeps them if the program ends, however it ends. If the machine goes down, it keeps them of
+/// a region in memory beside a disk on a device. A region on a device keeps all but `keeps_region`,
+/// which tells what it keeps instead. A disk in memory does not keep `sync_disk` then.
 pub trait FileCalls {
     /// What the files hold, and what a crash at each moment may leave of them. Its counts of faults and of reads say nothing.
     ghost holds: { Self → Meaning };
@@ -46,6 +50,7 @@ pub trait FileCalls {
         ensures time { GoesOn (holds self.old) (holds self.new) };
 
     /// Gives the disk's file to the device, and its entry in the folder. After it, a crash leaves the disk that a read gives.
+    /// The folder's own entry in its parent is not synced: that is up to whoever made the folder.
     fn sync_disk(&mut self) -> Result<(), Failed>
         ensures told { IsTrue (holds self.old).tells → DiskSynced result (holds self.old) (holds self.new) }
         ensures time { GoesOn (holds self.old) (holds self.new) };
@@ -54,6 +59,9 @@ pub trait FileCalls {
     ghost stands: { (f : Self) → IsTrue (holds f).tells → (holds f).leaves (holds f).clock (holds f).held };
 
     /// A crash now leaves the region that reads give, or with the machine loses it.
+    ///
+    /// If the machine goes down, a region on a device holds what reads give, or any bytes behind a
+    /// closed flag, which a start uses no more than a region that is lost. That is tried, and not proved.
     ghost keeps_region: { (f : Self) (p : Pair) → IsTrue (holds f).tells → (holds f).leaves (holds f).clock p → (p.region ≡ (holds f).held.region) ⊎ (p.region ≡ []) };
 
     /// A file is shorter than 2^63 bytes.

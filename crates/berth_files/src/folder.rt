@@ -4,6 +4,7 @@ ghost use Rattle.std.specs.Io.{ReadsAtMost};
 ghost use Rattle.std.proofs.lemmas.Bool.{false≢true};
 ghost use Rattle.berth_face.specs.Berth.{untold};
 
+use crate::access::Access;
 use crate::calls::FileCalls;
 use crate::kept::Kept;
 use crate::leaf_file::LeafFile;
@@ -12,8 +13,14 @@ use std::alloc::AllocError;
 
 /// Two files of one folder, `leaf-L.region` and `leaf-L.disk`, each made at its first write. They tell nothing of what they hold.
 ///
-/// Each file is opened when it is first found, and stays open. A file that may not be both read and
-/// written is a fault at each call.
+/// Each file is opened when it is first found, and stays open. While it is open it is locked, so the
+/// lock goes when the program ends, however it ends. A file that another program has locked is a fault
+/// at each call, as is one that may not be both read and written. On a file system without locks
+/// nothing keeps two programs apart.
+///
+/// A write at place 0 of the region stands between two syncs of its file, since the flag is written
+/// there. So if the machine goes down, a region on a disk has an open flag only over bytes that were
+/// synced. A flag that was closed is closed on the disk before anything else is written.
 #[derive(Drop)]
 pub struct FolderFiles {
     region: Kept,
@@ -22,12 +29,17 @@ pub struct FolderFiles {
 
 impl FolderFiles {
     /// The files of a leaf in a folder. Neither is opened or made yet, and the folder need not be there.
-    pub fn new(rt: HostRuntime, folder: &str, leaf: u32) -> Result<FolderFiles, AllocError> {
+    pub fn new(
+        rt: HostRuntime,
+        folder: &str,
+        leaf: u32,
+        access: Access,
+    ) -> Result<FolderFiles, AllocError> {
         let region = format!(in rt.alloc(); "{folder}/leaf-{leaf}.region")?;
         let disk = format!(in rt.alloc(); "{folder}/leaf-{leaf}.disk")?;
         Ok(FolderFiles {
-            region: Kept::new(rt, folder, region)?,
-            disk: Kept::new(rt, folder, disk)?,
+            region: Kept::new(rt, folder, region, access)?,
+            disk: Kept::new(rt, folder, disk, access)?,
         })
     }
 }
@@ -57,6 +69,8 @@ impl FileCalls for FolderFiles {
 
     fn write_all(&mut self, file: LeafFile, at: u64, bytes: &[u8]) -> Result<(), Failed> {
         match file {
+            // The region's flag stands there.
+            LeafFile::Region if at == 0 => self.region.write_synced(at, bytes),
             LeafFile::Region => self.region.write_all(at, bytes),
             LeafFile::Disk => self.disk.write_all(at, bytes),
         }

@@ -2,12 +2,17 @@
 ghost use Rattle.std.specs.Prelude.{◌+◌, ◌^◌, ◌<◌, length, IfOk};
 ghost use Rattle.std.specs.Io.{ReadsAtMost};
 
+use crate::access::Access;
 use crate::whole::LIMIT;
 use berth_face::Failed;
 use std::alloc::AllocError;
-use std::fs::{File, OpenOptions};
+use std::fs::{File, OpenOptions, TryLockError};
 use std::io::ErrorKind;
+use std::mem;
 use std::os::unix::fs::FileExt;
+
+/// How many bytes are written again at once.
+const PIECE: usize = 4096;
 
 /// A file of a folder, which is made at its first write. One that is not there holds nothing.
 #[derive(Drop)]
@@ -15,20 +20,36 @@ pub(crate) struct Kept {
     rt: HostRuntime,
     folder: String,
     path: String,
+    access: Access,
     file: Option<File>,
+    /// Whether a call was told that the file is not there, and none failed since.
+    is_missing: bool,
     /// Whether the folder's own entry of the file was synced since the file was opened.
-    entered: bool,
+    is_entered: bool,
+    /// The first place that may have been written since the last sync that succeeded, or `LIMIT`.
+    unsynced: u64,
+    /// Whether a sync failed, and none succeeded since.
+    is_doubted: bool,
 }
 
 impl Kept {
-    pub(crate) fn new(rt: HostRuntime, folder: &str, path: String) -> Result<Kept, AllocError> {
+    pub(crate) fn new(
+        rt: HostRuntime,
+        folder: &str,
+        path: String,
+        access: Access,
+    ) -> Result<Kept, AllocError> {
         let folder = format!(in rt.alloc(); "{folder}")?;
         Ok(Kept {
             rt,
             folder,
             path,
+            access,
             file: None,
-            entered: false,
+            is_missing: false,
+            is_entered: false,
+            unsynced: 0,
+            is_doubted: false,
         })
     }
 
@@ -57,22 +78,38 @@ impl Kept {
     pub(crate) fn write_all(&mut self, at: u64, bytes: &[u8]) -> Result<(), Failed>
         requires { at + length bytes.now < 2 ^ 63 }
     {
-        self.made()?.write_all_at(bytes, at).map_err(|_| Failed)
+        let file = self.made(at)?;
+        file.write_all_at(bytes, at).map_err(|_| Failed)
+    }
+
+    /// Writes all of a piece between two syncs: it reaches the device behind all that was written before.
+    pub(crate) fn write_synced(&mut self, at: u64, bytes: &[u8]) -> Result<(), Failed>
+        requires { at + length bytes.now < 2 ^ 63 }
+    {
+        self.made(at)?;
+        self.sync()?;
+        self.write_all(at, bytes)?;
+        self.sync()
     }
 
     /// Lengthens the file by zeros. A length not above the present one changes nothing.
     pub(crate) fn lengthen(&mut self, len: u64) -> Result<(), Failed>
         requires { len < 2 ^ 63 }
     {
-        let file = self.made()?;
-        if len_of(file)? < len {
+        let file = self.made(len)?;
+        let now = len_of(file)?;
+        if now < len {
             resize(file, len)?;
         }
+        self.unsynced = self.unsynced.min(now);
         Ok(())
     }
 
     /// Cuts the file. A length not below the present one changes nothing.
     pub(crate) fn shorten(&mut self, len: u64) -> Result<(), Failed> {
+        if matches!(self.access, Access::Look) {
+            return Err(Failed);
+        }
         let Some(file) = self.found()? else {
             return Ok(());
         };
@@ -85,13 +122,13 @@ impl Kept {
 
     /// Syncs the file, and the first time its folder too, without which the file itself may be lost.
     pub(crate) fn sync(&mut self) -> Result<(), Failed> {
-        let Some(file) = self.found()? else {
+        if self.found()?.is_none() {
             return Ok(());
-        };
-        sync(file)?;
-        if !self.entered {
+        }
+        self.sync_open()?;
+        if !self.is_entered {
             sync_folder(&self.rt, self.folder.as_str())?;
-            self.entered = true;
+            self.is_entered = true;
         }
         Ok(())
     }
@@ -99,18 +136,68 @@ impl Kept {
     /// The open file, where it is there.
     fn found(&mut self) -> Result<Option<&mut File>, Failed> {
         if self.file.is_none() {
-            self.file = find(&self.rt, self.path.as_str())?;
+            self.file = self.open(false)?;
         }
+        self.mend()?;
         Ok(self.file.as_mut())
     }
 
-    /// The open file, made where it is not there.
-    fn made(&mut self) -> Result<&mut File, Failed> {
-        let file = match self.file.take() {
-            Some(file) => file,
-            None => make(&self.rt, self.path.as_str())?,
+    /// The open file, made where it is not there. It is to be written from this place on.
+    fn made(&mut self, at: u64) -> Result<&mut File, Failed> {
+        if matches!(self.access, Access::Look) {
+            return Err(Failed);
+        }
+        if self.file.is_none() {
+            self.file = self.open(true)?;
+        }
+        self.mend()?;
+        self.unsynced = self.unsynced.min(at);
+        self.file.as_mut().ok_or(Failed)
+    }
+
+    /// Opens the file, and locks it where it is to be written. None is a file that is not there.
+    ///
+    /// One that was told as missing has no bytes: else another program has made it meanwhile.
+    fn open(&mut self, create: bool) -> Result<Option<File>, Failed> {
+        let was_missing = mem::replace(&mut self.is_missing, false);
+        if matches!(self.access, Access::Look) {
+            return look_at(&self.rt, self.path.as_str());
+        }
+        let Some(file) = find(&self.rt, self.path.as_str(), create)? else {
+            self.is_missing = true;
+            return Ok(None);
         };
-        Ok(self.file.insert(file))
+        lock(&file)?;
+        if was_missing && len_of(&file)? > 0 {
+            return Err(Failed);
+        }
+        Ok(Some(file))
+    }
+
+    /// After a sync that failed, writes again all since the last one that succeeded, and syncs it.
+    /// Linux takes bytes that it could not write for written, so the next sync alone could succeed
+    /// while the device lacks bytes that reads give.
+    fn mend(&mut self) -> Result<(), Failed> {
+        if !self.is_doubted {
+            return Ok(());
+        }
+        match self.file.as_ref() {
+            Some(file) if self.unsynced < LIMIT => write_again(file, self.unsynced)?,
+            _ => {}
+        }
+        self.sync_open()
+    }
+
+    /// Syncs the open file.
+    fn sync_open(&mut self) -> Result<(), Failed> {
+        let Some(file) = self.file.as_mut() else {
+            return Ok(());
+        };
+        self.is_doubted = true;
+        sync(file)?;
+        self.is_doubted = false;
+        self.unsynced = LIMIT;
+        Ok(())
     }
 }
 
@@ -146,23 +233,51 @@ fn sync(file: &mut File) -> Result<(), Failed> {
     file.sync_all().map_err(|_| Failed)
 }
 
-/// Opens a file for reads and writes. None is a file that is not there.
-fn find(rt: &HostRuntime, path: &str) -> Result<Option<File>, Failed> {
-    match OpenOptions::new().read(true).write(true).open(rt, path) {
+/// Writes the file's bytes again from a place on, as reads give them.
+fn write_again(file: &File, from: u64) -> Result<(), Failed> {
+    let mut at = from;
+    let mut piece = [0; PIECE];
+    for _ in 0..u64::MAX {
+        let count = read_some(file, at, &mut piece)?;
+        if count == 0 {
+            return Ok(());
+        }
+        file.write_all_at(&piece[..count], at).map_err(|_| Failed)?;
+        at = at.saturating_add(count as u64);
+    }
+    Err(Failed)
+}
+
+/// Opens a file for reads and writes, and may make it where it is not there. None is a file that is not there.
+fn find(rt: &HostRuntime, path: &str, create: bool) -> Result<Option<File>, Failed> {
+    let mut how = OpenOptions::new();
+    match how.read(true).write(true).create(create).open(rt, path) {
         Ok(file) => Ok(Some(file)),
         Err(error) if error.kind() == ErrorKind::NotFound => Ok(None),
         Err(_) => Err(Failed),
     }
 }
 
-/// Opens a file for reads and writes, and makes it where it is not there.
-fn make(rt: &HostRuntime, path: &str) -> Result<File, Failed> {
-    OpenOptions::new()
-        .read(true)
-        .write(true)
-        .create(true)
-        .open(rt, path)
-        .map_err(|_| Failed)
+/// Opens a file for reads. None is a file that is not there.
+fn look_at(rt: &HostRuntime, path: &str) -> Result<Option<File>, Failed> {
+    match File::open(rt, path) {
+        Ok(file) => match file.metadata() {
+            // (a folder can be opened too)
+            Ok(found) if found.is_file() => Ok(Some(file)),
+            _ => Err(Failed),
+        },
+        Err(error) if error.kind() == ErrorKind::NotFound => Ok(None),
+        Err(_) => Err(Failed),
+    }
+}
+
+/// Locks an open file until it is closed. Fails where another program has it open and locked.
+fn lock(file: &File) -> Result<(), Failed> {
+    match file.try_lock() {
+        Err(TryLockError::WouldBlock) => Err(Failed),
+        // A file system without locks is passed over.
+        Ok(()) | Err(TryLockError::Error(_)) => Ok(()),
+    }
 }
 
 /// Gives the folder's entries to the device.

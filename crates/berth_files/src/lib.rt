@@ -1,6 +1,7 @@
 //! The edge to the system: a berth over the two files of a leaf, which tells what the files tell; standard input and output.
 #![tactic(auto)]
 
+mod access;
 mod berth;
 mod calls;
 mod folder;
@@ -9,6 +10,7 @@ mod leaf_file;
 mod standard;
 mod whole;
 
+pub use access::Access;
 pub use berth::FileBerth;
 pub use calls::FileCalls;
 pub use folder::FolderFiles;

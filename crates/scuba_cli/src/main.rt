@@ -10,7 +10,7 @@ ghost use Rattle.scuba_cli.specs.Fresh.{IsEmptyBerth};
 mod command_line;
 
 use berth_face::{Berth, OpenGate};
-use berth_files::{FileBerth, FolderFiles, StdSink, StdSource};
+use berth_files::{Access, FileBerth, FolderFiles, StdSink, StdSource};
 use berth_mem::MemBerth;
 use command_line::{CommandLine, Refusal, split};
 use play::{Bases, EmptyBerths, Status, fault_text, run};
@@ -33,7 +33,7 @@ fn main(rt: HostRuntime) -> ExitCode {
     let words = line.words.as_slice();
     match line.folder.as_str() {
         "mem" => serve::<EmptyBerths, _, _>(&rt, words, fresh_berths(rt.alloc())),
-        folder => serve::<Brand, _, _>(&rt, words, file_berths(rt, folder)),
+        folder => serve::<Brand, _, _>(&rt, words, file_berths(rt, folder, access(words))),
     }
 }
 
@@ -88,11 +88,23 @@ fn fresh_berth(alloc: Global) -> MemBerth
     MemBerth::new(Vec::new(alloc), Vec::new(alloc))
 }
 
+/// What these words open files for.
+fn access(words: &[String]) -> Access {
+    match words.first() {
+        Some(word) if word.as_str() == "inspect" => Access::Look,
+        _ => Access::Serve,
+    }
+}
+
 /// Berths over the files of a folder, which are made where a leaf writes.
-fn file_berths(rt: HostRuntime, folder: &str) -> Result<Vec<FileBerth<FolderFiles>>, AllocError> {
+fn file_berths(
+    rt: HostRuntime,
+    folder: &str,
+    access: Access,
+) -> Result<Vec<FileBerth<FolderFiles>>, AllocError> {
     let mut berths = Vec::with_capacity(rt.alloc(), BERTHS as usize)?;
     for leaf in 0..BERTHS {
-        berths.push(FileBerth::new(rt, folder, leaf)?)?;
+        berths.push(FileBerth::new(rt, folder, leaf, access)?)?;
     }
     Ok(berths)
 }
