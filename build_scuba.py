@@ -8,6 +8,9 @@ first the one with the longest chain of crates above it. The libraries stay in c
 and one whose sum is still the same is not proved again. (They lie below out/rlib since rt refuses source files in any other place of out/. When rt builds the
 library itself it removes that folder, and the library is then proved again here.)
 
+With SCUBA_KEEP=1 in the environment libraries are built beside these, in out/rlib/kept, and what each check proved stays in out/incremental, where rt check has its own. A change of a body
+then costs that crate's changed proofs and, of each crate above, what reading takes. Such a program trusts what lies in out/: the gate proves all from nothing.
+
 The words of rattle are those that rt gives it. Where this toolchain has other words, or crates.txt says more than names, rt run builds the program.
 Exit status: 0 where the program is built, else 1."""
 import fcntl
@@ -23,9 +26,11 @@ import time
 TOP = os.path.dirname(os.path.realpath(__file__))
 PARTS = ("src", "specs", "proofs")
 # The words of rattle build that are given below, as its help spells them.
-WORDS = "--crate-name --extern dependency=DIR --antt-project --logic-built --links --jobs --statements --toolchain --backend"
+WORDS = "--crate-name --extern dependency=DIR --antt-project --logic-built --links --jobs --statements --incremental --toolchain --backend"
 # The processors that a group of processes may use, as a quota and a period of time.
 QUOTAS = [("/sys/fs/cgroup/cpu.max",) * 2, ("/sys/fs/cgroup/cpu/cpu.cfs_quota_us", "/sys/fs/cgroup/cpu/cpu.cfs_period_us")]
+# Whether what a check proved is kept for the next one.
+KEEPS = os.environ.get("SCUBA_KEEP") == "1"
 # Compiling a program takes about as long as proving so many bytes of source.
 COMPILES = 8000
 
@@ -124,11 +129,11 @@ class Crate:
         self.below = []
         for it in self.uses:
             self.below += [under for under in [*it.below, it] if under not in self.below]
-        self.kept = f"{self.folder}/out/rlib/statements"
+        self.kept = f"{self.folder}/out/rlib/{'kept' if KEEPS else 'statements'}"
         self.rlib, self.sum, self.log = f"{self.kept}/{name}.rlib", f"{self.kept}/sum", f"{self.folder}/out/build.log"
         self.program = f"{self.folder}/out/{name}"
         if self.is_program:
-            self.sum = f"{self.program}.sum"
+            self.sum = f"{self.program}.{'kept' if KEEPS else 'sum'}"
         self.measure()
         known[name] = self
 
@@ -187,8 +192,9 @@ class Crate:
         for it in self.below:
             words += ["-L", f"dependency={it.kept}"]
         words += ["--antt-project", kit.project, "--logic-built", kit.logic, "--jobs", str(jobs), "--links", f"{self.name}="]
+        words += ["--incremental", f"{self.folder}/out/incremental"] if KEEPS else []
         if not self.is_program:
-            return [[kit.rattle, "build", *words, "--statements", "-o", self.rlib]]
+            return [[kit.rattle, "build", *words, *([] if KEEPS else ["--statements"]), "-o", self.rlib]]
         words += ["--toolchain", kit.toolchain, "--backend", "llvm", "-o", f"{self.program}.o"]
         links = ["--target", "x86_64-unknown-linux-gnu", "--toolchain", kit.toolchain, "-o", f"{self.program}.new", f"{self.program}.o", *kit.in_c]
         return [[kit.rattle, "build", *words], [kit.link, *links]]
