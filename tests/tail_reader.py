@@ -1,5 +1,5 @@
 """Tells which leaves a tail has to ask and which one takes its rows, as docs/SCRIPT.md has it, and reads what a script of tails printed. It was written from that page and from PCG's
-reference steps alone, and shares nothing with the program. `examples/tails` compares the program with it."""
+reference steps alone, and shares nothing with the program. `tests/tails` compares the program with it."""
 
 import collections
 import json

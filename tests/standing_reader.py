@@ -225,5 +225,5 @@ if __name__ == "__main__":
             try:
                 print(*read(script.read(), output.read(), sys.argv[4] if len(sys.argv) > 4 else None))
             except Wrong as why:
-                print(f"examples: {why}")
+                print(f"tests: {why}")
                 sys.exit(1)

@@ -1,5 +1,5 @@
 """Reads what a leaf's two files mean, as docs/FORMATS.md and docs/OPERATIONS.md have it: which tables a start opens from a region and a log, what it says, and what it leaves of
-both files. It was written from these pages alone, and shares nothing with the program. `examples/damage` compares the program with it."""
+both files. It was written from these pages alone, and shares nothing with the program. `tests/damage` compares the program with it."""
 
 import json
 
@@ -82,7 +82,7 @@ class Start:
 
 
 class Reader:
-    """The methods with one short rule each are those that a wrong reader has otherwise (`examples/damage`)."""
+    """The methods with one short rule each are those that a wrong reader has otherwise (`tests/damage`)."""
 
     def start(self, region, disk, names):
         why, region, end, found = self.look(region, names)
