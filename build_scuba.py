@@ -31,6 +31,8 @@ WORDS = "--crate-name --extern dependency=DIR --antt-project --logic-built --lin
 QUOTAS = [("/sys/fs/cgroup/cpu.max",) * 2, ("/sys/fs/cgroup/cpu/cpu.cfs_quota_us", "/sys/fs/cgroup/cpu/cpu.cfs_period_us")]
 # Whether what a check proved is kept for the next one.
 KEEPS = os.environ.get("SCUBA_KEEP") == "1"
+# What proving takes, in seconds of a processor for each byte of source.
+SECONDS_A_BYTE = 0.003
 # Compiling a program takes about as long as proving so many bytes of source.
 COMPILES = 8000
 
@@ -286,7 +288,9 @@ def side_by_side(crates, began):
     if any(os.path.isfile(it.sum) for it in crates):
         say(f"proving and building the program: at most {len(left)} of its {len(crates)} crates, those that changed")
     else:
-        say(f"proving and building the program, {len(crates)} crates; the first time takes about 20 minutes on four processors")
+        # (what runs side by side at the end leaves processors free)
+        minutes = max(round(1.3 * whole * SECONDS_A_BYTE / at_once / 60), 1)
+        say(f"proving and building the program, {len(crates)} crates; the first time takes some {minutes} minutes with {at_once} processors")
     guard = Guard()
     try:
         while left or running:

@@ -1,8 +1,8 @@
 // Two plays, one after the other, over a berth in memory that holds nothing at first.
 ghost use Rattle.std.specs.Prelude.{◌≡◌, Some, map, IfOk, string_bytes};
 ghost use Rattle.std.specs.List.{AllByRecursion};
-ghost use Rattle.play.specs.Words.{request_of};
-ghost use Rattle.play.specs.declared.words.Request.TheVariants.{Play};
+ghost use Rattle.run_words.specs.Words.{request_of};
+ghost use Rattle.run_words.specs.declared.words.Request.TheVariants.{Play};
 ghost use Rattle.again_tests.specs.Fresh.{IsEmptyBerth};
 
 use berth_face::OpenGate;

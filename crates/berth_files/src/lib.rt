@@ -1,4 +1,4 @@
-//! The edge to the system: a berth over the two files of a leaf, which tells what the files tell; standard input and output.
+//! The edge to the system: a berth over the two files of a leaf, which tells what the files tell.
 #![tactic(auto)]
 
 mod access;
@@ -7,7 +7,6 @@ mod calls;
 mod folder;
 mod kept;
 mod leaf_file;
-mod standard;
 mod whole;
 
 pub use access::Access;
@@ -15,4 +14,3 @@ pub use berth::FileBerth;
 pub use calls::FileCalls;
 pub use folder::FolderFiles;
 pub use leaf_file::LeafFile;
-pub use standard::{StdSink, StdSource};

@@ -63,7 +63,5 @@ fn mark_all(marks: &mut Vec<bool>)
 fn unmarked(alloc: Global, count: u32) -> Result<Vec<bool>, AllocError>
     ensures { IfOk result (λ marks. marks.items ≡ replicate count false) }
 {
-    let mut marks = Vec::new(alloc);
-    marks.resize(count as usize, false)?;
-    Ok(marks)
+    vec![in alloc; false; count as usize]
 }

@@ -89,3 +89,18 @@ coded_more cells codes more old new i code len made kept here before =
     let is = here value e in
     let same : slice_index more i ≡ code = ap (λ xs. slice_index xs i) made ∙ ap (slice_index (codes ++ code ∷ [])) (sym len) ∙ get_or-append_seam codes code [] 0 in
     (subst (λ n. n < length new) (sym same) is.0, is.1 ∙ ap values.Text (ap (λ n. slice_index_or new n []) (sym same))))
+
+-- one value more of a list of texts that was coded
+pub value_more : (values : List (List ℕ)) (codes more : List ℕ) (old new : List (List ℕ)) (i code : ℕ)
+    → length codes ≡ i → more ≡ codes ++ code ∷ [] → AreKept old new → code < length new → slice_index_or new code [] ≡ slice_index_or values i []
+    → ((k : ℕ) → k < i → (slice_index codes k < length old) × (slice_index_or old (slice_index codes k) [] ≡ slice_index_or values k []))
+    → (k : ℕ) → k < i + 1 → (slice_index more k < length new) × (slice_index_or new (slice_index more k) [] ≡ slice_index_or values k [])
+value_more values codes more old new i code len made kept below here before =
+    below_more (λ k. (slice_index more k < length new) × (slice_index_or new (slice_index more k) [] ≡ slice_index_or values k [])) i
+    (λ k h.
+    let was = before k h in
+    let stays = kept (slice_index codes k) was.0 in
+    let same : slice_index more k ≡ slice_index codes k = ap (λ xs. slice_index xs k) made ∙ get_or_append_left codes (code ∷ []) 0 k (omega arith) in
+    (subst (λ n. n < length new) (sym same) stays.0, ap (λ n. slice_index_or new n []) same ∙ stays.1 ∙ was.1))
+    (let same : slice_index more i ≡ code = ap (λ xs. slice_index xs i) made ∙ ap (slice_index (codes ++ code ∷ [])) (sym len) ∙ get_or-append_seam codes code [] 0 in
+    (subst (λ n. n < length new) (sym same) below, ap (λ n. slice_index_or new n []) same ∙ here))

@@ -4,7 +4,7 @@ use Rattle.berth_face.specs.Causes.{Rose}
 use Rattle.run_ends.specs.Outcome.{IfScript, UnlessCutOff}
 use Rattle.run_ends.specs.declared.status.Status.{Status}
 use Rattle.play.specs.Outcome.{IsTextRefused, verdict}
-use Rattle.play.specs.declared.words.Request.{Request}
+use Rattle.run_words.specs.declared.words.Request.{Request}
 
 -- what the clauses `words`, `script`, `read_fault`, `write_fault` and `exact` of `run` say of a status: over so many berths, of a source and a sink whose counts of faults were and are these
 pub record HasCauses (berths : ℕ) (request : Option Request) (before after : Option (List ℕ)) (source_was source_now sink_was sink_now : ℕ) (status : Status) : Type 0 where

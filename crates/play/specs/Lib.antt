@@ -1,5 +1,4 @@
 pub mod Standing
-pub mod Words
 pub mod Empty
 pub mod Played
 pub mod Inspected

@@ -3,10 +3,10 @@ use Rattle.std.specs.Prelude.{◌≡◌, ℕ, List, nat_le, nat_lt, if◌then◌
 use Rattle.berth_face.specs.Berth.{Meaning}
 use Rattle.crash_moments.specs.Left.{NamedStates}
 use Rattle.rollover_watch.specs.Watches.{Held}
-use Rattle.script_text.specs.declared.fault.Why.{Why}
-use Rattle.script_text.specs.declared.fault.Why.TheVariants as why
-use Rattle.script_text.specs.declared.fault.ScriptFault.{ScriptFault}
-use Rattle.script_text.specs.declared.fault.ScriptFault.TheVariants.{At, NoMemory}
+use Rattle.text_faults.specs.declared.fault.Why.{Why}
+use Rattle.text_faults.specs.declared.fault.Why.TheVariants as why
+use Rattle.text_faults.specs.declared.fault.ScriptFault.{ScriptFault}
+use Rattle.text_faults.specs.declared.fault.ScriptFault.TheVariants.{At, NoMemory}
 use Rattle.script_text.specs.declared.script.Script.{Script}
 use Rattle.script_text.specs.Commands.{Fault}
 use Rattle.script_text.specs.Script.{script_of}
@@ -16,8 +16,8 @@ use Rattle.row_count.specs.declared.count.Range.{Range}
 use Rattle.run_ends.specs.declared.status.Status.{Status}
 use Rattle.play.specs.Inspected.{IsInspected}
 use Rattle.play.specs.Played.{IsPlayed, IsSoaked, leaves_in, soak_leaves}
-use Rattle.play.specs.declared.words.Request.{Request}
-use Rattle.play.specs.declared.words.Request.TheVariants.{Count, Inspect, Play, Soak}
+use Rattle.run_words.specs.declared.words.Request.{Request}
+use Rattle.run_words.specs.declared.words.Request.TheVariants.{Count, Inspect, Play, Soak}
 
 -- ---- what was done
 
@@ -78,11 +78,6 @@ UnlessPlayed Status.Words P = P
 UnlessPlayed (Status.Script line why) P = P
 UnlessPlayed Status.ReadFault P = P
 UnlessPlayed _ P = Unit {0}
-
--- what holds of a count
-abbrev pub IfCount : Option Request → (Range → Type 0) → Type 0
-IfCount (Some (Count range)) P = P range
-IfCount _ P = Unit {0}
 
 -- what holds of a look at a leaf's berth
 abbrev pub IfInspect : Option Request → (ℕ → Type 0) → Type 0

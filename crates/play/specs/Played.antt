@@ -13,8 +13,8 @@ use Rattle.script_text.specs.Script.{script_of}
 use Rattle.soak.specs.Soak.{soak_script}
 use Rattle.transcript.specs.Pieces.{script_fleet}
 use Rattle.transcript.specs.Leaving.{IsWritten}
-use Rattle.play.specs.declared.words.Request.{Request}
-use Rattle.play.specs.declared.words.Request.TheVariants.{Inspect, Play, Soak}
+use Rattle.run_words.specs.declared.words.Request.{Request}
+use Rattle.run_words.specs.declared.words.Request.TheVariants.{Inspect, Play, Soak}
 
 -- how many leaves a script's fleet has
 abbrev pub leaves_in : List Item → ℕ

@@ -27,8 +27,8 @@ use Rattle.transcript_fleet.specs.Session.{Session}
 use Rattle.play.specs.Inspected.{InspectEndsShort}
 use Rattle.play.specs.Played.{leaves_in, soak_leaves}
 use Rattle.play.specs.Runs.{AreCounted, HoldsKeep, berths_in}
-use Rattle.play.specs.declared.words.Request.{Request}
-use Rattle.play.specs.declared.words.Request.TheVariants.{Inspect, Play, Soak}
+use Rattle.run_words.specs.declared.words.Request.{Request}
+use Rattle.run_words.specs.declared.words.Request.TheVariants.{Inspect, Play, Soak}
 
 -- ---- in the middle
 

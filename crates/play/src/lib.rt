@@ -10,7 +10,6 @@ mod script;
 mod soaking;
 mod standing;
 mod tables;
-mod words;
 
 pub use bases::{Bases, EmptyBerths};
 pub use laws::complete;

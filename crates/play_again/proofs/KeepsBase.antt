@@ -39,8 +39,8 @@ use Rattle.play_again.specs.Keeping.{ArePlayedTwice, IsKeptOf, KeepsBy, KeepsEac
 use Rattle.play.specs.Outcome.{IsDone, UnlessPlayed}
 use Rattle.play.specs.Shortened.{EndsShort, IfShort, IsShort}
 use Rattle.run_ends.specs.declared.status.Status.{Status}
-use Rattle.play.specs.declared.words.Request.{Request}
-use Rattle.play.specs.declared.words.Request.TheVariants.{Play}
+use Rattle.run_words.specs.declared.words.Request.{Request}
+use Rattle.run_words.specs.declared.words.Request.TheVariants.{Play}
 
 -- ---- what is known of a beginning, by its base
 

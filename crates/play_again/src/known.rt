@@ -7,11 +7,12 @@ ghost use Rattle.run_ends.specs.Outcome.{IfScript, UnlessCutOff, UnlessWritten, 
 ghost use Rattle.row_count.specs.Outcome.{IsCutShort};
 ghost use Rattle.run_ends.specs.Source.{most_taken};
 ghost use Rattle.play_again.specs.Keeping.{ArePlayedTwice, IsKeptBase, Kept, LeavesKnown, bases_of, states_of};
-ghost use Rattle.play.specs.Outcome.{IsDone, IsTextRefused, IfCount, IfInspect, IfUnread, UnlessPlayed, verdict};
+ghost use Rattle.play.specs.Outcome.{IsDone, IsTextRefused, IfInspect, IfUnread, UnlessPlayed, verdict};
+ghost use Rattle.run_words.specs.Words.{IfCount};
 ghost use Rattle.play.specs.Shortened.{EndsShort, IfShort, IsShort};
 ghost use Rattle.play.specs.Played.{AreBases, IsBase, IsPlayed, LeavesBerths, leaves_asked};
-ghost use Rattle.play.specs.Words.{request_of};
-ghost use Rattle.play.specs.declared.words.Request.TheVariants.{Play};
+ghost use Rattle.run_words.specs.Words.{request_of};
+ghost use Rattle.run_words.specs.declared.words.Request.TheVariants.{Play};
 
 use crate::kept::{Choice, KnownBerths};
 use berth_face::{Berth, Gate, Sink, Source};

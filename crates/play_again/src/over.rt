@@ -8,10 +8,10 @@ ghost use Rattle.berth_face.specs.Streams.{TakesAtMost};
 ghost use Rattle.run_ends.specs.Outcome.{IfScript, UnlessCutOff, UnlessWritten, TakesText};
 ghost use Rattle.run_ends.specs.Source.{most_taken};
 ghost use Rattle.row_count.specs.Outcome.{IsCutShort};
-ghost use Rattle.play.specs.Outcome.{IsDone, IsTextRefused, IfCount, IfInspect, IfUnread, UnlessPlayed, verdict};
+ghost use Rattle.play.specs.Outcome.{IsDone, IsTextRefused, IfInspect, IfUnread, UnlessPlayed, verdict};
 ghost use Rattle.play.specs.Played.{LeavesBerths, leaves_asked};
 ghost use Rattle.play.specs.Shortened.{IfShort, IsShort};
-ghost use Rattle.play.specs.Words.{request_of};
+ghost use Rattle.run_words.specs.Words.{IfCount, request_of};
 ghost use Rattle.play_again.specs.Keeping.{Kept, bases_of};
 ghost use Rattle.play_again.specs.Over.{HasBase, HaveBases, KeepsBases};
 

@@ -11,8 +11,8 @@ use Rattle.leaf_model.specs.declared.queries.Agg.TheVariants.{Count, Sum, Min, M
 use Rattle.leaf_model.specs.declared.queries.Query.{Query}
 use Rattle.query_text.specs.declared.tokens.Token.{Token}
 use Rattle.query_text.specs.declared.tokens.Token.TheVariants as token
-use Rattle.query_text.specs.declared.fault.QueryFault.{QueryFault}
-use Rattle.query_text.specs.declared.fault.QueryFault.TheVariants.{Syntax, NoTime, TooLarge, NoMemory}
+use Rattle.leaf_model.specs.declared.query_fault.QueryFault.{QueryFault}
+use Rattle.leaf_model.specs.declared.query_fault.QueryFault.TheVariants.{Syntax, NoTime, TooLarge, NoMemory}
 use Rattle.query_text.specs.Tokens.{Placed, tokens_of}
 use Rattle.leaf_model.specs.Names.{is_table_name}
 use Rattle.query_text.specs.Roles.{name_of, is_has, is_word, is_int, is_orderable, same_agg}

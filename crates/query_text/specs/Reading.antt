@@ -8,8 +8,8 @@ use Rattle.leaf_model.specs.declared.queries.Agg.{Agg}
 use Rattle.leaf_model.specs.declared.queries.Query.{Query}
 use Rattle.query_text.specs.declared.tokens.Token.{Token}
 use Rattle.query_text.specs.declared.tokens.Token.TheVariants as token
-use Rattle.query_text.specs.declared.fault.QueryFault.{QueryFault}
-use Rattle.query_text.specs.declared.fault.QueryFault.TheVariants.{Syntax, NoTime, TooLarge}
+use Rattle.leaf_model.specs.declared.query_fault.QueryFault.{QueryFault}
+use Rattle.leaf_model.specs.declared.query_fault.QueryFault.TheVariants.{Syntax, NoTime, TooLarge}
 use Rattle.query_text.specs.declared.places.Place.{Place}
 use Rattle.query_text.specs.declared.places.Place.TheVariants.{Select, Item, NameEnd, Opening, Inside, Closing, AggEnd, NextAgg, Table, Where, LowTime, LowSign, LowBound, And, HighTime, HighSign, HighBound, CondEnd, CondName, CondOp, CondValue, By, GroupName, GroupEnd, OrderBy, OrderAgg, OrderOpening, OrderInside, OrderClosing, Ordered, LimitNumber, Last}
 use Rattle.query_text.specs.declared.places.Move.{Move}

@@ -3,7 +3,6 @@
 
 mod aggregates;
 mod builders;
-mod fault;
 mod laws;
 mod numbers;
 mod places;
@@ -16,7 +15,6 @@ mod spellings;
 mod steps;
 mod tokens;
 
-pub use fault::QueryFault;
 pub use laws::{grammar_meaning, print_reads_back};
 pub use printing::print;
 pub use reading::parse;

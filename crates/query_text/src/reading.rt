@@ -1,17 +1,16 @@
 // The query that a text is, or its first fault.
 ghost use Rattle.std.specs.Prelude.{◌≡◌, ◌≢◌, Err, IfOk};
-ghost use Rattle.query_text.specs.declared.fault.QueryFault.TheVariants as fault;
+ghost use Rattle.leaf_model.specs.declared.query_fault.QueryFault.TheVariants as fault;
 ghost use Rattle.query_text.specs.Grammar.{IsQuery};
 ghost use Rattle.query_text.specs.Reading.{takes_int, is_in_range, plain_fault, fault_of, may_end, query_of};
 
 use crate::builders::start;
-use crate::fault::QueryFault;
 use crate::places::{Move, Place};
 use crate::roles::{is_has, is_number};
 use crate::scanner::{next_solid, token_at};
 use crate::steps::{is_grouped, step};
 use crate::tokens::Token;
-use leaf_model::Query;
+use leaf_model::{Query, QueryFault};
 use std::alloc::{AllocError, Global};
 
 fn wants_number(place: &Place) -> bool

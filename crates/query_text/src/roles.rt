@@ -14,20 +14,23 @@ const MAX_LIMIT: i64 = 100_000;
 pub fn is_reserved(word: &str) -> bool
     ensures { result ≡ is_keyword word.now }
 {
-    word == "HAS"
-        || word == "SELECT"
-        || word == "FROM"
-        || word == "WHERE"
-        || word == "AND"
-        || word == "GROUP"
-        || word == "BY"
-        || word == "ORDER"
-        || word == "LIMIT"
-        || word == "COUNT"
-        || word == "SUM"
-        || word == "MIN"
-        || word == "MAX"
-        || word == "AVG"
+    matches!(
+        word,
+        "HAS"
+            | "SELECT"
+            | "FROM"
+            | "WHERE"
+            | "AND"
+            | "GROUP"
+            | "BY"
+            | "ORDER"
+            | "LIMIT"
+            | "COUNT"
+            | "SUM"
+            | "MIN"
+            | "MAX"
+            | "AVG"
+    )
 }
 
 /// That very word, which is not quoted.
@@ -60,18 +63,13 @@ pub fn take_name(token: Token) -> Option<Text>
 fn kind_named(word: &str) -> Option<Kind>
     ensures { result ≡ kind_of (Word word.now) }
 {
-    if word == "COUNT" {
-        Some(Kind::Count)
-    } else if word == "SUM" {
-        Some(Kind::Sum)
-    } else if word == "MIN" {
-        Some(Kind::Min)
-    } else if word == "MAX" {
-        Some(Kind::Max)
-    } else if word == "AVG" {
-        Some(Kind::Avg)
-    } else {
-        None
+    match word {
+        "COUNT" => Some(Kind::Count),
+        "SUM" => Some(Kind::Sum),
+        "MIN" => Some(Kind::Min),
+        "MAX" => Some(Kind::Max),
+        "AVG" => Some(Kind::Avg),
+        _ => None,
     }
 }
 

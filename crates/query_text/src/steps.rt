@@ -1,8 +1,8 @@
 // What a token does where it stands.
 ghost use Rattle.std.specs.Prelude.{◌≡◌, IfOk, slice_get};
-ghost use Rattle.query_text.specs.Roles.{name_of};
+ghost use Rattle.query_text.specs.Roles.{is_word, name_of};
 ghost use Rattle.query_text.specs.Reading.{goes_on, has_keys, sign_fits, on_if, is_key, order_or_limit};
-ghost use Rattle.query_text.specs.declared.places.Place.TheVariants.{Item, Inside, Closing, AggEnd, NextAgg, Table, LowBound, HighBound, CondEnd, CondName, CondOp, CondValue, GroupName, GroupEnd, OrderAgg, OrderInside, OrderClosing, LimitNumber};
+ghost use Rattle.query_text.specs.declared.places.Place.TheVariants.{Item, NameEnd, Opening, Inside, Closing, AggEnd, NextAgg, Table, LowSign, LowBound, HighSign, HighBound, CondEnd, CondName, CondOp, CondValue, GroupName, GroupEnd, OrderAgg, OrderOpening, OrderInside, OrderClosing, LimitNumber};
 
 use crate::aggregates::{any_is_kind, any_takes_order, find_agg, is_same_text, take_inside};
 use crate::builders::{
@@ -25,6 +25,13 @@ fn on_when(is_so: bool, query: Query, place: Place) -> Move
     } else {
         Move::Stuck
     }
+}
+
+/// On where the token is that word.
+fn on_word(query: Query, token: Token, word: &str, place: Place) -> Move
+    ensures { result ≡ on_if (is_word word.now token) query place }
+{
+    on_when(is_the_word(&token, word), query, place)
 }
 
 fn order_here(query: Query, token: &Token) -> Move
@@ -62,10 +69,22 @@ fn item(query: Query, token: Token) -> Result<Move, AllocError>
     }
 }
 
-fn next_agg(query: Query, token: &Token) -> Move
-    ensures { result ≡ goes_on query NextAgg token.now }
+fn name_end(query: Query, token: Token) -> Move
+    ensures { result ≡ goes_on query NameEnd token }
 {
-    match kind_in(token) {
+    on_when(is_the_comma(&token), query, Place::Item)
+}
+
+fn opening(query: Query, kind: Kind, token: Token) -> Move
+    ensures { result ≡ goes_on query (Opening kind) token }
+{
+    on_when(opens(&token), query, Place::Inside(kind))
+}
+
+fn next_agg(query: Query, token: Token) -> Move
+    ensures { result ≡ goes_on query NextAgg token }
+{
+    match kind_in(&token) {
         Some(kind) => Move::On(query, Place::Opening(kind)),
         None => Move::Stuck,
     }
@@ -80,23 +99,23 @@ fn inside(query: Query, kind: Kind, token: Token) -> Move
     }
 }
 
-fn closing(query: Query, agg: Agg, token: &Token) -> Result<Move, AllocError>
-    ensures { IfOk result (λ moved. moved ≡ goes_on query (Closing agg) token.now) }
+fn closing(query: Query, agg: Agg, token: Token) -> Result<Move, AllocError>
+    ensures { IfOk result (λ moved. moved ≡ goes_on query (Closing agg) token) }
 {
-    if closes(token) {
+    if closes(&token) {
         Ok(Move::On(push_agg(query, agg)?, Place::AggEnd))
     } else {
         Ok(Move::Stuck)
     }
 }
 
-fn agg_end(query: Query, token: &Token) -> Move
-    ensures { result ≡ goes_on query AggEnd token.now }
+fn agg_end(query: Query, token: Token) -> Move
+    ensures { result ≡ goes_on query AggEnd token }
 {
-    if is_the_comma(token) {
+    if is_the_comma(&token) {
         Move::On(query, Place::NextAgg)
     } else {
-        on_when(is_the_word(token, "FROM"), query, Place::Table)
+        on_when(is_the_word(&token, "FROM"), query, Place::Table)
     }
 }
 
@@ -120,19 +139,31 @@ fn is_sign(op: Option<Op>, is_low: bool) -> bool
     }
 }
 
-fn low_bound(query: Query, token: &Token) -> Move
-    ensures { result ≡ goes_on query LowBound token.now }
+fn low_sign(query: Query, token: Token) -> Move
+    ensures { result ≡ goes_on query LowSign token }
 {
-    match number_in(token) {
+    on_when(is_sign(op_in(&token), true), query, Place::LowBound)
+}
+
+fn high_sign(query: Query, token: Token) -> Move
+    ensures { result ≡ goes_on query HighSign token }
+{
+    on_when(is_sign(op_in(&token), false), query, Place::HighBound)
+}
+
+fn low_bound(query: Query, token: Token) -> Move
+    ensures { result ≡ goes_on query LowBound token }
+{
+    match number_in(&token) {
         None => Move::Stuck,
         Some(n) => Move::On(set_low(query, n), Place::And),
     }
 }
 
-fn high_bound(query: Query, token: &Token) -> Move
-    ensures { result ≡ goes_on query HighBound token.now }
+fn high_bound(query: Query, token: Token) -> Move
+    ensures { result ≡ goes_on query HighBound token }
 {
-    match number_in(token) {
+    match number_in(&token) {
         None => Move::Stuck,
         Some(n) => Move::On(set_high(query, n), Place::CondEnd),
     }
@@ -145,15 +176,15 @@ pub fn is_grouped(query: &Query) -> bool
     query.keys.as_slice().len() > 0
 }
 
-fn cond_end(query: Query, token: &Token) -> Move
-    ensures { result ≡ goes_on query CondEnd token.now }
+fn cond_end(query: Query, token: Token) -> Move
+    ensures { result ≡ goes_on query CondEnd token }
 {
-    if is_the_word(token, "AND") {
+    if is_the_word(&token, "AND") {
         Move::On(query, Place::CondName)
     } else if is_grouped(&query) {
-        on_when(is_the_word(token, "GROUP"), query, Place::By)
+        on_when(is_the_word(&token, "GROUP"), query, Place::By)
     } else {
-        order_here(query, token)
+        order_here(query, &token)
     }
 }
 
@@ -166,10 +197,10 @@ fn cond_name(query: Query, token: Token) -> Move
     }
 }
 
-fn cond_op(query: Query, name: Text, token: &Token) -> Move
-    ensures { result ≡ goes_on query (CondOp name) token.now }
+fn cond_op(query: Query, name: Text, token: Token) -> Move
+    ensures { result ≡ goes_on query (CondOp name) token }
 {
-    match op_in(token) {
+    match op_in(&token) {
         None => Move::Stuck,
         Some(op) => Move::On(query, Place::CondValue(name, op)),
     }
@@ -220,10 +251,10 @@ fn group_end(query: Query, i: u64, token: &Token) -> Move
     }
 }
 
-fn order_agg(query: Query, token: &Token) -> Move
-    ensures { result ≡ goes_on query OrderAgg token.now }
+fn order_agg(query: Query, token: Token) -> Move
+    ensures { result ≡ goes_on query OrderAgg token }
 {
-    match kind_in(token) {
+    match kind_in(&token) {
         None => Move::Stuck,
         Some(kind) => on_when(
             any_is_kind(kind, query.aggs.as_slice()),
@@ -233,20 +264,26 @@ fn order_agg(query: Query, token: &Token) -> Move
     }
 }
 
-fn order_closing(query: Query, i: u64, token: &Token) -> Move
-    ensures { result ≡ goes_on query (OrderClosing i) token.now }
+fn order_opening(query: Query, kind: Kind, token: Token) -> Move
+    ensures { result ≡ goes_on query (OrderOpening kind) token }
 {
-    if closes(token) {
+    on_when(opens(&token), query, Place::OrderInside(kind))
+}
+
+fn order_closing(query: Query, i: u64, token: Token) -> Move
+    ensures { result ≡ goes_on query (OrderClosing i) token }
+{
+    if closes(&token) {
         Move::On(set_order(query, i), Place::Ordered)
     } else {
         Move::Stuck
     }
 }
 
-fn limit_number(query: Query, token: &Token) -> Move
-    ensures { result ≡ goes_on query LimitNumber token.now }
+fn limit_number(query: Query, token: Token) -> Move
+    ensures { result ≡ goes_on query LimitNumber token }
 {
-    match limit_in(token) {
+    match limit_in(&token) {
         None => Move::Stuck,
         Some(n) => Move::On(set_limit(query, n), Place::Last),
     }
@@ -257,37 +294,37 @@ pub fn step(query: Query, place: Place, token: Token) -> Result<Move, AllocError
     ensures { IfOk result (λ moved. moved ≡ goes_on query place token) }
 {
     match place {
-        Place::Select => Ok(on_when(is_the_word(&token, "SELECT"), query, Place::Item)),
+        Place::Select => Ok(on_word(query, token, "SELECT", Place::Item)),
         Place::Item => item(query, token),
-        Place::NameEnd => Ok(on_when(is_the_comma(&token), query, Place::Item)),
-        Place::Opening(kind) => Ok(on_when(opens(&token), query, Place::Inside(kind))),
+        Place::NameEnd => Ok(name_end(query, token)),
+        Place::Opening(kind) => Ok(opening(query, kind, token)),
         Place::Inside(kind) => Ok(inside(query, kind, token)),
-        Place::Closing(agg) => closing(query, agg, &token),
-        Place::AggEnd => Ok(agg_end(query, &token)),
-        Place::NextAgg => Ok(next_agg(query, &token)),
+        Place::Closing(agg) => closing(query, agg, token),
+        Place::AggEnd => Ok(agg_end(query, token)),
+        Place::NextAgg => Ok(next_agg(query, token)),
         Place::Table => Ok(table(query, token)),
-        Place::Where => Ok(on_when(is_the_word(&token, "WHERE"), query, Place::LowTime)),
-        Place::LowTime => Ok(on_when(is_the_word(&token, "time"), query, Place::LowSign)),
-        Place::LowSign => Ok(on_when(is_sign(op_in(&token), true), query, Place::LowBound)),
-        Place::LowBound => Ok(low_bound(query, &token)),
-        Place::And => Ok(on_when(is_the_word(&token, "AND"), query, Place::HighTime)),
-        Place::HighTime => Ok(on_when(is_the_word(&token, "time"), query, Place::HighSign)),
-        Place::HighSign => Ok(on_when(is_sign(op_in(&token), false), query, Place::HighBound)),
-        Place::HighBound => Ok(high_bound(query, &token)),
-        Place::CondEnd => Ok(cond_end(query, &token)),
+        Place::Where => Ok(on_word(query, token, "WHERE", Place::LowTime)),
+        Place::LowTime => Ok(on_word(query, token, "time", Place::LowSign)),
+        Place::LowSign => Ok(low_sign(query, token)),
+        Place::LowBound => Ok(low_bound(query, token)),
+        Place::And => Ok(on_word(query, token, "AND", Place::HighTime)),
+        Place::HighTime => Ok(on_word(query, token, "time", Place::HighSign)),
+        Place::HighSign => Ok(high_sign(query, token)),
+        Place::HighBound => Ok(high_bound(query, token)),
+        Place::CondEnd => Ok(cond_end(query, token)),
         Place::CondName => Ok(cond_name(query, token)),
-        Place::CondOp(name) => Ok(cond_op(query, name, &token)),
+        Place::CondOp(name) => Ok(cond_op(query, name, token)),
         Place::CondValue(name, op) => cond_value(query, name, op, token),
-        Place::By => Ok(on_when(is_the_word(&token, "BY"), query, Place::GroupName(0))),
+        Place::By => Ok(on_word(query, token, "BY", Place::GroupName(0))),
         Place::GroupName(i) => Ok(group_name(query, i, token)),
         Place::GroupEnd(i) => Ok(group_end(query, i, &token)),
-        Place::OrderBy => Ok(on_when(is_the_word(&token, "BY"), query, Place::OrderAgg)),
-        Place::OrderAgg => Ok(order_agg(query, &token)),
-        Place::OrderOpening(kind) => Ok(on_when(opens(&token), query, Place::OrderInside(kind))),
+        Place::OrderBy => Ok(on_word(query, token, "BY", Place::OrderAgg)),
+        Place::OrderAgg => Ok(order_agg(query, token)),
+        Place::OrderOpening(kind) => Ok(order_opening(query, kind, token)),
         Place::OrderInside(kind) => Ok(order_inside(query, kind, token)),
-        Place::OrderClosing(i) => Ok(order_closing(query, i, &token)),
-        Place::Ordered => Ok(on_when(is_the_word(&token, "LIMIT"), query, Place::LimitNumber)),
-        Place::LimitNumber => Ok(limit_number(query, &token)),
+        Place::OrderClosing(i) => Ok(order_closing(query, i, token)),
+        Place::Ordered => Ok(on_word(query, token, "LIMIT", Place::LimitNumber)),
+        Place::LimitNumber => Ok(limit_number(query, token)),
         Place::Last => Ok(Move::Stuck),
     }
 }

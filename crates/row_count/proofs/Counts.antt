@@ -10,8 +10,8 @@ use Rattle.row_count.specs.declared.count.CountError.TheVariants.{Fault, NoMemor
 use Rattle.row_count.specs.declared.count.LineFault.{LineFault}
 use Rattle.row_count.specs.declared.count.PartCount.{PartCount}
 use Rattle.row_count.specs.declared.count.Range.{Range}
-use Rattle.script_text.specs.Lines.{lines, lines_of, is_blank, without_return}
-use Rattle.script_text.specs.Parts.{lines_of_parts}
+use Rattle.text_lines.specs.Lines.{lines, lines_of, is_blank, without_return}
+use Rattle.text_lines.specs.Parts.{lines_of_parts}
 use Rattle.row_count.specs.Count.{IfFault, IsPartCounted, with_row, rows_of_lines, rows_of, is_in, count_in, count_of, error_behind}
 
 -- how many rows are in the range, of the text that follows the line n

@@ -4,7 +4,7 @@ use Rattle.std.specs.Int.RustNames.{int_le}
 use Rattle.leaf_model.specs.declared.rows.Row.{Row}
 use Rattle.row_json.specs.declared.object.RowFault.{RowFault}
 use Rattle.row_json.specs.Row.{row_of}
-use Rattle.script_text.specs.Lines.{lines, lines_of, without_return, is_blank}
+use Rattle.text_lines.specs.Lines.{lines, lines_of, without_return, is_blank}
 use Rattle.row_count.specs.declared.count.CountError.{CountError}
 use Rattle.row_count.specs.declared.count.CountError.TheVariants.{Fault, NoMemory}
 use Rattle.row_count.specs.declared.count.LineFault.{LineFault}

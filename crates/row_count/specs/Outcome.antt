@@ -2,7 +2,7 @@
 use Rattle.std.specs.Prelude.{◌≡◌, ℕ, List, [], ◌∷◌, ◌++◌, Option, Result, Ok, Err, codes, decimal}
 use Rattle.std.specs.Io.KnownBytes.{Appends}
 use Rattle.berth_face.specs.Streams.{ReadsAll, WritesFront}
-use Rattle.script_text.specs.declared.fault.Why.TheVariants as why
+use Rattle.text_faults.specs.declared.fault.Why.TheVariants as why
 use Rattle.run_ends.specs.Outcome.{if_short}
 use Rattle.run_ends.specs.declared.status.Status.{Status}
 use Rattle.row_count.specs.Count.{count_of}

@@ -6,7 +6,7 @@ ghost use Rattle.row_json.specs.Row.{row_of};
 ghost use Rattle.leaf_model.specs.declared.rows.Cell.{Cell};
 ghost use Rattle.berth_face.specs.Causes.{Rose};
 ghost use Rattle.berth_face.specs.Streams.{TakesAtMost};
-ghost use Rattle.script_text.specs.Lines.{lines_of};
+ghost use Rattle.text_lines.specs.Lines.{lines_of};
 ghost use Rattle.row_count.specs.declared.count.CountError.TheVariants.{NoMemory};
 ghost use Rattle.row_count.specs.Count.{count_of, is_in, IfFault, IsPartCounted, error_behind};
 ghost use Rattle.run_ends.specs.Outcome.{IsRefused, IfScript, UnlessCutOff, UnlessWritten, TakesText};
@@ -18,10 +18,11 @@ use leaf_model::Row;
 use rayon::prelude::*;
 use row_json::{RowFault, RowRoom, quick_time};
 use run_ends::{ReadError, Status, read_all, write_all};
-use script_text::{Why, cut_line, is_blank, parts_of, without_return};
 use std::alloc::{AllocError, Global};
 use std::collections::VecDeque;
 use std::thread::Threads;
+use text_faults::Why;
+use text_lines::{cut_line, is_blank, parts_of, without_return};
 
 /// The times from `from` to `to`.
 #[derive(Clone, Copy)]

@@ -4,10 +4,10 @@ use Rattle.serde_json.specs.Data.{string}
 use Rattle.serde_json.specs.Written.{compact_text}
 use Rattle.row_json.specs.declared.object.RowFault.{RowFault}
 use Rattle.row_json.specs.declared.object.RowFault.TheVariants as fault
-use Rattle.query_text.specs.declared.fault.QueryFault.{QueryFault}
-use Rattle.query_text.specs.declared.fault.QueryFault.TheVariants as query
-use Rattle.script_text.specs.declared.fault.Why.{Why}
-use Rattle.script_text.specs.declared.fault.Why.TheVariants as why
+use Rattle.leaf_model.specs.declared.query_fault.QueryFault.{QueryFault}
+use Rattle.leaf_model.specs.declared.query_fault.QueryFault.TheVariants as query
+use Rattle.text_faults.specs.declared.fault.Why.{Why}
+use Rattle.text_faults.specs.declared.fault.Why.TheVariants as why
 use Rattle.run_ends.specs.declared.status.Status.{Status}
 
 -- a name of a cell as a JSON string, so that the text is one line whatever the name is

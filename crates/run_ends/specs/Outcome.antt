@@ -1,8 +1,8 @@
 -- How a run ends: why its source is refused, and what holds at which status.
 use Rattle.std.specs.Prelude.{◌≡◌, ℕ, List, length, nat_lt, if◌then◌else◌, Option}
 use Rattle.berth_face.specs.Streams.{ReadsAll, TakesAtMost, TakesCount}
-use Rattle.script_text.specs.declared.fault.Why.{Why}
-use Rattle.script_text.specs.declared.fault.Why.TheVariants as why
+use Rattle.text_faults.specs.declared.fault.Why.{Why}
+use Rattle.text_faults.specs.declared.fault.Why.TheVariants as why
 use Rattle.run_ends.specs.Source.{longest_text, most_taken}
 use Rattle.run_ends.specs.declared.status.Status.{Status}
 

@@ -4,12 +4,11 @@ ghost use Rattle.row_json.specs.declared.object.RowFault.TheVariants as fault;
 ghost use Rattle.run_ends.specs.Faults.{at_line, cause_of, fault_text, query_cause, quoted, row_cause};
 
 use crate::status::Status;
-use leaf_model::Text;
-use query_text::QueryFault;
+use leaf_model::{QueryFault, Text};
 use row_json::RowFault;
-use script_text::Why;
 use serde_json::Value;
 use std::alloc::{AllocError, Global};
+use text_faults::Why;
 
 /// What a status other than Done says to the one who ran the program: one line, without its end.
 pub fn fault_text(alloc: Global, status: &Status) -> Result<Text, AllocError>

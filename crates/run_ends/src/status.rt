@@ -1,5 +1,5 @@
 // How a run ended.
-use script_text::Why;
+use text_faults::Why;
 
 /// How a run ended.
 #[derive(Debug, Drop)]

@@ -8,7 +8,7 @@ use Rattle.std.specs.List.{AllByRecursion, filter, list_any}
 use Rattle.std.specs.Prelude.{IfOk, nat_lt}
 use Rattle.script_text.specs.declared.command.Command.{Command}
 use Rattle.script_text.specs.declared.command.Command.TheVariants as command
-use Rattle.script_text.specs.declared.fault.ScriptFault.{ScriptFault}
+use Rattle.text_faults.specs.declared.fault.ScriptFault.{ScriptFault}
 use Rattle.script_text.specs.declared.fleet.Fleet.{Fleet}
 use Rattle.script_text.specs.declared.item.Item.{Item}
 use Rattle.script_text.specs.declared.item.Item.TheVariants as item
@@ -23,7 +23,7 @@ use Rattle.script_text.specs.Aims.{Aim, AtLeaf, AtLeaves, aim_of, is_for_some_st
 use Rattle.script_text.specs.Bursts.{end_burst, inside, next_lane, stepped, line_at, with_item, with_standing}
 use Rattle.script_text.specs.Commands.{Fault, IsFleet, leaf_count}
 use Rattle.script_text.specs.Fits.{AreItems, IsAlone, IsBurst, IsCommand, IsItem, IsScript, OneSteward, TellAbove, TellsDeclared, declared_by, declared_in}
-use Rattle.script_text.specs.Lines.{is_blank}
+use Rattle.text_lines.specs.Lines.{is_blank}
 use Rattle.script_text.specs.Readings.{Begun, IsReading}
 use Rattle.script_text.specs.Script.{ParsesAs, closed}
 use Rattle.script_text.specs.Stewards.{has_steward, has_stewards, is_a_stewards, is_second, is_stewards}

@@ -5,7 +5,8 @@ use Rattle.std.proofs.lemmas.Bool.Decides.{nat_tests}
 use Rattle.std.proofs.lemmas.Nat.{mul-le}
 use Rattle.std.specs.Option.{option_map}
 use Rattle.std.specs.Prelude.{if◌then◌else◌}
-use Rattle.script_text.specs.Words.{capped, are_tables}
+use Rattle.script_text.specs.Words.{are_tables}
+use Rattle.text_lines.specs.Numbers.{capped}
 use Rattle.script_text.specs.Commands.{fleet_with, leaves_in_range}
 use Rattle.script_text.specs.Fits.{AreLeaves}
 

@@ -6,11 +6,11 @@ use Rattle.leaf_model.specs.declared.rows.Row.{Row}
 use Rattle.row_json.specs.declared.object.RowFault.{RowFault}
 use Rattle.row_json.specs.Row.{row_of}
 use Rattle.query_text.specs.Reading.{query_of}
-use Rattle.query_text.specs.declared.fault.QueryFault.{QueryFault}
+use Rattle.leaf_model.specs.declared.query_fault.QueryFault.{QueryFault}
 use Rattle.script_text.specs.declared.command.Command.{Command}
 use Rattle.script_text.specs.declared.command.Command.TheVariants as command
-use Rattle.script_text.specs.declared.fault.Why.{Why}
-use Rattle.script_text.specs.declared.fault.Why.TheVariants as why
+use Rattle.text_faults.specs.declared.fault.Why.{Why}
+use Rattle.text_faults.specs.declared.fault.Why.TheVariants as why
 use Rattle.script_text.specs.declared.fleet.Fleet.{Fleet}
 use Rattle.script_text.specs.declared.item.Item.TheVariants as item
 use Rattle.script_text.specs.declared.reading.Reading.{Reading}
@@ -23,8 +23,9 @@ use Rattle.script_text.specs.declared.line_word.CommandWord.{CommandWord}
 use Rattle.script_text.specs.declared.line_word.CommandWord.TheVariants as command_word
 use Rattle.script_text.specs.declared.line_word.LineWord.{LineWord}
 use Rattle.script_text.specs.declared.line_word.LineWord.TheVariants as line_word
-use Rattle.script_text.specs.Lines.{lines_of, is_blank, is_skipped}
-use Rattle.script_text.specs.Words.{words_of, first_word, behind_word, trimmed, number_of, count_of, time_of, place_of}
+use Rattle.text_lines.specs.Lines.{lines_of, is_blank, is_skipped}
+use Rattle.script_text.specs.Words.{words_of, first_word, behind_word, trimmed, place_of}
+use Rattle.text_lines.specs.Numbers.{number_of, count_of, time_of}
 use Rattle.script_text.specs.Commands.{Fault, ◌>>=◌, on_line, or_words, fleet_of, leaf_count, leaf_in, table_in, target_in, TargetForm, target_words, of_target, within, rows_from, rows_behind, add_at, TailForm, tail_of, tail_words, query_command, one_number, leaf_of, standing_at, standing_leaf, standing_of, tell_in, tell_of, flush_words, DrainForm, drain_words, drain_of, rollover_words, first_command, command_of, row_count, line_word_of}
 use Rattle.script_text.specs.Script.{NumberedLine, begun, closed, read_from, next_line, script_at, script_of}
 use Rattle.script_text.specs.Bursts.{end_burst, inside, lane_more, next_burst, next_lane, one_more, step_of, stepped, line_at, with_item, with_standing}

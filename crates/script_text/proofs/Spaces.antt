@@ -3,9 +3,9 @@ use Rattle.std.proofs.Common.{◌≡◌, ◌<◌, ◌≤◌, ◌-◌, ℕ, zero,
 use Rattle.std.proofs.Math.Seq.{take-length}
 use Rattle.std.specs.List.{filter}
 use Rattle.std.proofs.lemmas.Bool.Decides.{nat_tests}
-use Rattle.script_text.specs.Lines.{pieces, before, behind, is_blank}
+use Rattle.text_lines.specs.Lines.{pieces, before, behind, is_blank}
 use Rattle.script_text.specs.Words.{words_of, unindented, first_word, behind_word, trimmed}
-use Rattle.script_text.proofs.Cut.{pieces_cut, behind_shorter}
+use Rattle.text_lines.proofs.Cut.{pieces_cut, behind_shorter}
 
 -- a space before the first word
 space_word : (b : ℕ) (bs : List ℕ) → eqb b 32 ≡ true → unindented (b ∷ bs) ≡ unindented bs

@@ -6,9 +6,9 @@ use Rattle.std.specs.Option.{option_map}
 use Rattle.leaf_model.specs.declared.queries.Query.{Query}
 use Rattle.script_text.specs.declared.command.Command.{Command}
 use Rattle.script_text.specs.declared.command.Command.TheVariants.{Standing}
-use Rattle.script_text.specs.declared.fault.ScriptFault.{ScriptFault}
+use Rattle.text_faults.specs.declared.fault.ScriptFault.{ScriptFault}
 use Rattle.script_text.specs.declared.fleet.Fleet.{Fleet}
-use Rattle.script_text.specs.Words.{capped}
+use Rattle.text_lines.specs.Numbers.{capped}
 use Rattle.script_text.specs.Commands.{Fault, ◌>>=◌, leaf_count, leaf_in, or_words, standing_at, table_in}
 use Rattle.script_text.specs.Script.{ParsesAs}
 

@@ -2,17 +2,17 @@
 use Rattle.std.proofs.Common.{◌≡◌, ◌+◌, ◌++◌, ℕ, zero, suc, List, [], ◌∷◌, drop, refl, ap, sym, ◌∙◌, arith, Option, Some, None, Result, Ok, Err, Bool, true, false, append_assoc, add-zero, subst}
 use Rattle.std.specs.List.{AllByRecursion}
 use Rattle.script_text.specs.declared.fleet.Fleet.{Fleet}
-use Rattle.script_text.specs.declared.fault.ScriptFault.{ScriptFault}
-use Rattle.script_text.specs.declared.fault.ScriptFault.TheVariants.{At, NoMemory}
+use Rattle.text_faults.specs.declared.fault.ScriptFault.{ScriptFault}
+use Rattle.text_faults.specs.declared.fault.ScriptFault.TheVariants.{At, NoMemory}
 use Rattle.script_text.specs.declared.reading.Reading.{Reading}
 use Rattle.script_text.specs.declared.reading.Step.{Step}
 use Rattle.script_text.specs.declared.script.Script.{Script}
 use Rattle.script_text.specs.Words.{first_word}
-use Rattle.script_text.specs.Lines.{is_skipped}
+use Rattle.text_lines.specs.Lines.{is_skipped}
 use Rattle.script_text.specs.Commands.{Fault, ◌>>=◌, first_command, line_word_of}
 use Rattle.script_text.specs.Bursts.{step_of}
 use Rattle.script_text.specs.Script.{NumberedLine, IfAt, ParsesAs, begun, closed, read_from, next_line, script_at, script_of}
-use Rattle.script_text.specs.Lines.{lines_of}
+use Rattle.text_lines.specs.Lines.{lines_of}
 use Rattle.std.specs.Prelude.{IfOk, IfErr, length}
 
 -- what was read before what is read after it, or the first fault

@@ -1,9 +1,9 @@
 -- What a line behind a fleet does to what was read before it, outside bursts and inside one.
 use Rattle.std.specs.Prelude.{ℕ, ◌+◌, ◌==◌, List, [], ◌∷◌, ◌++◌, length, nat_lt, if◌then◌else◌, ok_or, Result, Ok, Err}
 use Rattle.script_text.specs.declared.command.Command.{Command}
-use Rattle.script_text.specs.declared.fault.ScriptFault.{ScriptFault}
-use Rattle.script_text.specs.declared.fault.ScriptFault.TheVariants.{At, NoMemory}
-use Rattle.script_text.specs.declared.fault.Why.TheVariants as why
+use Rattle.text_faults.specs.declared.fault.ScriptFault.{ScriptFault}
+use Rattle.text_faults.specs.declared.fault.ScriptFault.TheVariants.{At, NoMemory}
+use Rattle.text_faults.specs.declared.fault.Why.TheVariants as why
 use Rattle.script_text.specs.declared.fleet.Fleet.{Fleet}
 use Rattle.script_text.specs.declared.item.Item.{Item}
 use Rattle.script_text.specs.declared.item.Item.TheVariants as item
@@ -14,7 +14,7 @@ use Rattle.script_text.specs.declared.reading.Position.TheVariants as position
 use Rattle.script_text.specs.declared.script.Script.{Script}
 use Rattle.script_text.specs.declared.line_word.LineWord.{LineWord}
 use Rattle.script_text.specs.declared.line_word.LineWord.TheVariants as line_word
-use Rattle.script_text.specs.Lines.{is_blank}
+use Rattle.text_lines.specs.Lines.{is_blank}
 use Rattle.script_text.specs.Stewards.{is_second}
 use Rattle.script_text.specs.Words.{first_word, behind_word, words_of}
 use Rattle.script_text.specs.Commands.{Fault, ◌>>=◌, command_of, one_number, row_count, line_word_of, standing_of, tell_of}

@@ -4,13 +4,13 @@ use Rattle.std.specs.Str.{bytes_eq}
 use Rattle.leaf_model.specs.declared.queries.Query.{Query}
 use Rattle.leaf_model.specs.declared.rows.Row.{Row}
 use Rattle.row_json.specs.Row.{row_of}
-use Rattle.query_text.specs.declared.fault.QueryFault.{QueryFault}
+use Rattle.leaf_model.specs.declared.query_fault.QueryFault.{QueryFault}
 use Rattle.query_text.specs.Reading.{query_of}
 use Rattle.script_text.specs.declared.command.Command.{Command}
 use Rattle.script_text.specs.declared.command.Command.TheVariants.{Add, Expire, Keep, Tail, Flush, Drain, Kill, Start, Rollover, Standing, Tell}
 use Rattle.script_text.specs.declared.command.Command.TheVariants as command
-use Rattle.script_text.specs.declared.fault.Why.{Why}
-use Rattle.script_text.specs.declared.fault.Why.TheVariants as why
+use Rattle.text_faults.specs.declared.fault.Why.{Why}
+use Rattle.text_faults.specs.declared.fault.Why.TheVariants as why
 use Rattle.script_text.specs.declared.fleet.Fleet.{Fleet}
 use Rattle.script_text.specs.declared.target.Target.{Target}
 use Rattle.script_text.specs.declared.line_word.CommandWord.{CommandWord}
@@ -19,7 +19,8 @@ use Rattle.script_text.specs.declared.line_word.LineWord.{LineWord}
 use Rattle.script_text.specs.declared.line_word.LineWord.TheVariants as line_word
 use Rattle.leaf_model.specs.Names.{is_table_name}
 use Rattle.script_text.specs.Fits.{AreLeaves, AreTables}
-use Rattle.script_text.specs.Words.{words_of, first_word, behind_word, trimmed, number_of, capped, count_of, time_of, are_tables, place_of}
+use Rattle.script_text.specs.Words.{words_of, first_word, behind_word, trimmed, are_tables, place_of}
+use Rattle.text_lines.specs.Numbers.{number_of, capped, count_of, time_of}
 
 -- a line's number, and its first fault
 abbrev pub Fault : Type 0

@@ -1,52 +1,14 @@
--- A text in parts that are cut at line ends, and the rows of each.
+-- The rows of the parts of a text.
 use Rattle.std.specs.Prelude.{◌≡◌, ◌<◌, ◌≤◌, ◌==◌, ◌+◌, ◌⊎◌, ℕ, List, [], ◌∷◌, ◌++◌, length, take, drop, Bool, true, if◌then◌else◌, Result, IfOk}
 use Rattle.std.specs.Borrow.{Bor}
 use Rattle.std.specs.List.{AllByRecursion, flat_map}
 use Rattle.leaf_model.specs.declared.rows.Row.{Row}
 use Rattle.leaf_model.specs.Values.{IsRow}
-use Rattle.script_text.specs.declared.fault.ScriptFault.{ScriptFault}
-use Rattle.script_text.specs.declared.fault.ScriptFault.TheVariants.{At, NoMemory}
+use Rattle.text_faults.specs.declared.fault.ScriptFault.{ScriptFault}
+use Rattle.text_faults.specs.declared.fault.ScriptFault.TheVariants.{At, NoMemory}
 use Rattle.script_text.specs.Commands.{rows_from}
-use Rattle.script_text.specs.Lines.{lines_of}
+use Rattle.text_lines.specs.Lines.{lines_of}
 use Rattle.script_text.specs.Script.{ParsesAs}
-
--- The text is a line, a byte 10 and the rest; or it is its last line, which has no end.
-abbrev pub IsLineCut : List ℕ → List ℕ → List ℕ → Type 0
-IsLineCut text line rest = (text ≡ line ++ 10 ∷ rest) ⊎ ((text ≡ line) × (rest ≡ []))
-
--- whether a text is nothing, or its last line has its end
-abbrev pub ends_line : List ℕ → Bool
-ends_line [] = true
-ends_line (b ∷ []) = b == 10
-ends_line (b ∷ c ∷ bs) = ends_line (c ∷ bs)
-
--- how many lines of a text have their end
-abbrev pub ends : List ℕ → ℕ
-ends [] = 0
-ends (b ∷ bs) = (if b == 10 then 1 else 0) + ends bs
-
--- a text in two, whose lines are those of both
-pub record IsTextCut (text front back : List ℕ) : Type 0 where
-  pub joined : front ++ back ≡ text
-  pub lines : lines_of front ++ lines_of back ≡ lines_of text
-
--- so many lines of a text stand before the rest
-pub record IsFront (text rest : List ℕ) (count : ℕ) : Type 0 where
-  pub front : List ℕ
-  pub both : front ++ rest ≡ text
-  pub first : lines_of front ≡ take count (lines_of text)
-  pub others : lines_of rest ≡ drop count (lines_of text)
-  pub within : count ≤ length (lines_of text)
-  pub short : count + length rest ≤ length text
-  pub ended : 0 < length rest → ends_line front ≡ true
-
--- the bytes of parts, one part behind another
-abbrev pub bytes_of_parts : List (Bor (List ℕ)) → List ℕ
-bytes_of_parts parts = flat_map (λ (part : Bor (List ℕ)). part.now) parts
-
--- the lines of parts, one part behind another
-abbrev pub lines_of_parts : List (Bor (List ℕ)) → List (List ℕ)
-lines_of_parts parts = flat_map (λ (part : Bor (List ℕ)). lines_of part.now) parts
 
 -- What was read of a part: the rows that its lines are, or its first fault, where its first line has the number 1.
 pub record IsPartRead (part : List ℕ) (read : Result (List Row) ScriptFault) : Type 0 where

@@ -6,11 +6,11 @@ use Rattle.script_text.specs.declared.reading.Reading.{Reading}
 use Rattle.script_text.specs.declared.reading.Position.{Position}
 use Rattle.script_text.specs.declared.reading.Position.TheVariants as position
 use Rattle.script_text.specs.declared.script.Script.{Script}
-use Rattle.script_text.specs.declared.fault.Why.{Why}
-use Rattle.script_text.specs.declared.fault.Why.TheVariants as why
-use Rattle.script_text.specs.declared.fault.ScriptFault.{ScriptFault}
-use Rattle.script_text.specs.declared.fault.ScriptFault.TheVariants.{At, NoMemory}
-use Rattle.script_text.specs.Lines.{lines_of, is_skipped}
+use Rattle.text_faults.specs.declared.fault.Why.{Why}
+use Rattle.text_faults.specs.declared.fault.Why.TheVariants as why
+use Rattle.text_faults.specs.declared.fault.ScriptFault.{ScriptFault}
+use Rattle.text_faults.specs.declared.fault.ScriptFault.TheVariants.{At, NoMemory}
+use Rattle.text_lines.specs.Lines.{lines_of, is_skipped}
 use Rattle.script_text.specs.Words.{first_word}
 use Rattle.script_text.specs.Commands.{Fault, ◌>>=◌, first_command, fleet_command, line_word_of}
 use Rattle.script_text.specs.Bursts.{step_of}

@@ -5,7 +5,7 @@ use Rattle.std.specs.List.{filter, list_all, position_from}
 use Rattle.std.specs.Str.{bytes_eq}
 use Rattle.std.specs.Str.Parse.{digits_value}
 use Rattle.leaf_model.specs.Names.{is_table_name, is_among, are_distinct}
-use Rattle.script_text.specs.Lines.{pieces, before, behind, is_blank}
+use Rattle.text_lines.specs.Lines.{pieces, before, behind, is_blank}
 
 -- the words of a line: its pieces between spaces, but for the empty ones
 abbrev pub words_of : List ℕ → List (List ℕ)
@@ -28,26 +28,6 @@ behind_word line = behind 32 (unindented line)
 abbrev pub trimmed : List ℕ → List ℕ
 trimmed [] = []
 trimmed (b ∷ bs) = if is_blank (b ∷ bs) then [] else b ∷ trimmed bs
-
--- 1 to 20 digits
-abbrev pub is_number : List ℕ → Bool
-is_number word = nat_lt 0 (length word) && nat_le (length word) 20 && list_all is_ascii_digit word
-
--- the number that a word of 1 to 20 digits is
-abbrev pub number_of : List ℕ → Option ℕ
-number_of word = if is_number word then Some (digits_value 10 word) else None
-
--- a number that a 64-bit word holds, or the greatest such
-abbrev pub capped : ℕ → ℕ
-capped n = min n (2 ^ 64 - 1)
-
--- the number that a word of 1 to 20 digits is, where a 64-bit word holds it
-abbrev pub count_of : List ℕ → Option ℕ
-count_of word = if is_number word && nat_lt (digits_value 10 word) (2 ^ 64) then Some (digits_value 10 word) else None
-
--- the time that a word of 1 to 20 digits is
-abbrev pub time_of : List ℕ → Option ℤ
-time_of word = if is_number word && nat_lt (digits_value 10 word) (2 ^ 63) then Some (pos (digits_value 10 word)) else None
 
 -- the place of a name among the names, from 0
 abbrev pub place_of : List (List ℕ) → List ℕ → Option ℕ

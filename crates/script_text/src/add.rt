@@ -3,22 +3,23 @@ ghost use Rattle.std.specs.Prelude.{◌≡◌, ◌+◌, ◌≤◌, ◌<◌, ◌^
 ghost use Rattle.std.specs.List.{AllByRecursion};
 ghost use Rattle.leaf_model.specs.Values.{IsRow};
 ghost use Rattle.leaf_model.specs.declared.limits.TheConstants.{MAX_ROWS};
-ghost use Rattle.script_text.specs.Lines.{lines_of};
-ghost use Rattle.script_text.specs.Words.{number_of, words_of};
+ghost use Rattle.text_lines.specs.Lines.{lines_of};
+ghost use Rattle.script_text.specs.Words.{words_of};
+ghost use Rattle.text_lines.specs.Numbers.{number_of};
 ghost use Rattle.script_text.specs.Commands.{IsFleet, add_of, leaf_count, row_count, rows_behind, target_words, within};
 ghost use Rattle.script_text.specs.Fits.{IsCommand};
 ghost use Rattle.script_text.specs.Script.{ParsesAs};
 
 use crate::command::Command;
-use crate::fault::{ScriptFault, Why, fault_at};
 use crate::fleet::Fleet;
-use crate::lines::cut_lines;
 use crate::row_parts::read_rows;
 use crate::target::{target_in, target_words};
 use crate::words::number_of;
 use leaf_model::{MAX_ROWS, Rows};
 use std::alloc::Global;
 use std::thread::Threads;
+use text_faults::{ScriptFault, Why, fault_at};
+use text_lines::cut_lines;
 
 /// The add `L T N` of these words, which stand on the line of this number. Its rows are the lines of the text after it.
 pub fn add<R: Threads + Sync>(

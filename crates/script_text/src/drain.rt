@@ -1,16 +1,17 @@
 // A drain.
 ghost use Rattle.std.specs.Prelude.{◌≡◌, ◌≤◌, IfOk, IfSome, option_map};
-ghost use Rattle.script_text.specs.Words.{words_of, capped};
+ghost use Rattle.script_text.specs.Words.{words_of};
+ghost use Rattle.text_lines.specs.Numbers.{capped};
 ghost use Rattle.script_text.specs.Commands.{DrainForm, IsFleet, drain_of, drain_words, leaf_count, row_count};
 ghost use Rattle.script_text.specs.Fits.{IsCommand};
 ghost use Rattle.script_text.specs.Script.{ParsesAs};
 
 use crate::command::Command;
-use crate::fault::{ScriptFault, Why, fault_at};
 use crate::fleet::Fleet;
 use crate::line_word::is_word;
 use crate::target::leaf_in;
 use crate::words::{next_word, number_of};
+use text_faults::{ScriptFault, Why, fault_at};
 
 /// The most steps after which a drain is stopped.
 const MAX_STEPS: u64 = 1_000_000;

@@ -6,10 +6,10 @@ ghost use Rattle.script_text.specs.Fits.{IsCommand};
 ghost use Rattle.script_text.specs.Script.{ParsesAs};
 
 use crate::command::Command;
-use crate::fault::{ScriptFault, Why, fault_at};
 use crate::fleet::Fleet;
 use crate::target::{target_in, target_words};
 use crate::words::time_of;
+use text_faults::{ScriptFault, Why, fault_at};
 
 /// The expiry `L T H` of these words, which stand on the line of this number.
 pub fn expire(fleet: &Fleet, words: &[u8], number: u64) -> Result<Command, ScriptFault>

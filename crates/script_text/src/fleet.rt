@@ -7,11 +7,11 @@ ghost use Rattle.script_text.specs.Commands.{IsFleet, first_command, fleet_of, l
 ghost use Rattle.script_text.specs.Fits.{AreLeaves, AreTables};
 ghost use Rattle.script_text.specs.Script.{ParsesAs};
 
-use crate::fault::{ScriptFault, Why, fault_at};
 use crate::line_word::{LineWord, line_word_of};
 use crate::words::{cut_word, next_word, number_of, place_of};
 use leaf_model::{Names, Text, is_table_name};
 use std::alloc::{AllocError, Global};
+use text_faults::{ScriptFault, Why, fault_at};
 
 /// The most tables of a fleet.
 const MAX_TABLES: usize = 16;

@@ -6,11 +6,11 @@ ghost use Rattle.script_text.specs.Fits.{IsCommand};
 ghost use Rattle.script_text.specs.Script.{ParsesAs};
 
 use crate::command::Command;
-use crate::fault::{ScriptFault, Why, fault_at};
 use crate::fleet::Fleet;
 use crate::target::target_in;
 use crate::words::{next_word, number_of};
 use leaf_model::is_table_name;
+use text_faults::{ScriptFault, Why, fault_at};
 
 /// The words of a flush. A leaf's number that is greater than a `u64` can hold is the greatest `u64`.
 #[derive(Clone, Copy)]

@@ -1,7 +1,8 @@
 // The commands behind a fleet.
 ghost use Rattle.std.specs.Prelude.{◌≡◌, ◌≤◌, ◌<◌, ◌+◌, ◌^◌, Some, IfOk, length, option_map};
-ghost use Rattle.script_text.specs.Lines.{lines_of};
-ghost use Rattle.script_text.specs.Words.{words_of, capped};
+ghost use Rattle.text_lines.specs.Lines.{lines_of};
+ghost use Rattle.script_text.specs.Words.{words_of};
+ghost use Rattle.text_lines.specs.Numbers.{capped};
 ghost use Rattle.script_text.specs.Commands.{IsFleet, command_of, leaf_of, leaf_count, one_number, row_count};
 ghost use Rattle.script_text.specs.Fits.{IsCommand};
 ghost use Rattle.script_text.specs.Script.{ParsesAs};
@@ -10,7 +11,6 @@ use crate::add::add;
 use crate::command::Command;
 use crate::drain::drain;
 use crate::expire::expire;
-use crate::fault::{ScriptFault, Why, fault_at};
 use crate::fleet::Fleet;
 use crate::flush::flush;
 use crate::keep::keep;
@@ -22,6 +22,7 @@ use crate::target::leaf_in;
 use crate::words::{next_word, number_of, trimmed};
 use std::alloc::Global;
 use std::thread::Threads;
+use text_faults::{ScriptFault, Why, fault_at};
 
 /// The command of this first word with the words behind it, on the line of this number, where this text follows.
 pub fn command<R: Threads + Sync>(

@@ -1,20 +1,19 @@
 // A script from its text.
 ghost use Rattle.std.specs.Prelude.{◌≡◌, ◌+◌, ◌<◌, ◌≤◌, ◌^◌, Ok, Err, IfOk, IfErr, IfSome, option_map, length, drop};
-ghost use Rattle.script_text.specs.Lines.{lines_of};
+ghost use Rattle.text_lines.specs.Lines.{lines_of};
 ghost use Rattle.script_text.specs.Commands.{IsFleet};
 ghost use Rattle.script_text.specs.Fits.{IsScript};
 ghost use Rattle.script_text.specs.Script.{NumberedLine, begun, closed, read_from, script_of, IfAt, ParsesAs, next_line};
 
 use crate::command::Command;
-use crate::ends::line_count;
-use crate::fault::{ScriptFault, Why, fault_at};
 use crate::fleet::{Fleet, first_command};
 use crate::item::{Item, Items};
-use crate::lines::{cut_line, cut_lines, is_skipped, without_return};
 use crate::reading::{Position, Reading, read_line};
 use crate::script::Script;
 use std::alloc::{AllocError, Global};
 use std::thread::Threads;
+use text_faults::{ScriptFault, Why, fault_at};
+use text_lines::{cut_line, cut_lines, is_skipped, line_count, without_return};
 
 /// A line that may be a command, its number from 1, and the text behind it.
 #[derive(Clone, Copy)]

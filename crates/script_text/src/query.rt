@@ -2,18 +2,18 @@
 ghost use Rattle.std.specs.Prelude.{◌≡◌, IfOk};
 ghost use Rattle.query_text.specs.Grammar.{IsQuery};
 ghost use Rattle.query_text.specs.Reading.{query_of};
-ghost use Rattle.script_text.specs.declared.fault.Why.TheVariants as why;
+ghost use Rattle.text_faults.specs.declared.fault.Why.TheVariants as why;
 ghost use Rattle.script_text.specs.Commands.{IsFleet, leaf_count, on_line, query_command, row_count};
 ghost use Rattle.script_text.specs.Fits.{IsCommand};
 ghost use Rattle.script_text.specs.Script.{ParsesAs};
 
 use crate::command::Command;
-use crate::fault::{ScriptFault, Why, fault_at};
 use crate::fleet::Fleet;
 use crate::words::place_of;
-use leaf_model::Query;
-use query_text::{QueryFault, parse};
+use leaf_model::{Query, QueryFault};
+use query_text::parse;
 use std::alloc::Global;
+use text_faults::{ScriptFault, Why, fault_at};
 
 /// The query of this text, which stands on the line of this number.
 pub fn query(alloc: Global, fleet: &Fleet, text: &[u8], number: u64) -> Result<Command, ScriptFault>

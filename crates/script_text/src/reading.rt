@@ -2,7 +2,7 @@
 ghost use Rattle.std.specs.Prelude.{◌≡◌, ◌+◌, ◌++◌, ◌<◌, ◌≤◌, ◌^◌, [], ◌∷◌, IfOk, length};
 ghost use Rattle.script_text.specs.declared.fleet.Fleet.{Fleet};
 ghost use Rattle.script_text.specs.declared.reading.Position.TheVariants as position;
-ghost use Rattle.script_text.specs.Lines.{lines_of};
+ghost use Rattle.text_lines.specs.Lines.{lines_of};
 ghost use Rattle.script_text.specs.Commands.{IsFleet, command_of, row_count, standing_of};
 ghost use Rattle.script_text.specs.Bursts.{fault_inside, next_burst, next_lane, end_burst, lane_more, standing_more, step_of, stepped, line_at, with_item, with_standing};
 ghost use Rattle.script_text.specs.Readings.{IsReading};
@@ -10,17 +10,17 @@ ghost use Rattle.script_text.specs.Script.{ParsesAs};
 
 use crate::command::{Command, Commands};
 use crate::earlier::EarlierLanes;
-use crate::fault::{ScriptFault, Why, fault_at};
 use crate::fleet::Fleet;
 use crate::item::{Item, Items};
 use crate::later::command;
 use crate::line_word::{CommandWord, LineWord, line_word_of};
-use crate::lines::is_blank;
 use crate::script::Script;
 use crate::standing::{standing, tell};
 use crate::words::cut_word;
 use std::alloc::{AllocError, Global};
 use std::thread::Threads;
+use text_faults::{ScriptFault, Why, fault_at};
+use text_lines::is_blank;
 
 /// The most lanes of a burst.
 const MAX_LANES: usize = 16;

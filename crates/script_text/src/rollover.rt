@@ -1,14 +1,15 @@
 // A rollover.
 ghost use Rattle.std.specs.Prelude.{◌≡◌, ◌<◌, ◌≤◌, ℕ, List, IfOk, IfSome, option_map};
 ghost use Rattle.script_text.specs.declared.command.Command.TheVariants.{Rollover};
-ghost use Rattle.script_text.specs.Words.{words_of, number_of};
+ghost use Rattle.script_text.specs.Words.{words_of};
+ghost use Rattle.text_lines.specs.Numbers.{number_of};
 ghost use Rattle.script_text.specs.Commands.{or_words, rollover_words, row_count, within};
 ghost use Rattle.script_text.specs.Fits.{IsCommand};
 ghost use Rattle.script_text.specs.Script.{ParsesAs};
 
 use crate::command::Command;
-use crate::fault::{ScriptFault, Why, fault_at};
 use crate::words::{next_word, number_of};
+use text_faults::{ScriptFault, Why, fault_at};
 
 /// The percent of the leaves that a wave has at most, where none is named.
 const USUAL_PERCENT: u32 = 2;

@@ -5,21 +5,20 @@ ghost use Rattle.std.specs.List.{AllByRecursion, AllZip};
 ghost use Rattle.row_json.specs.Row.{row_of};
 ghost use Rattle.leaf_model.specs.Values.{IsRow};
 ghost use Rattle.leaf_model.specs.declared.limits.TheConstants.{MAX_ROWS};
-ghost use Rattle.script_text.specs.Lines.{lines_of};
-ghost use Rattle.script_text.specs.declared.fault.Why.TheVariants as why;
+ghost use Rattle.text_lines.specs.Lines.{lines_of};
+ghost use Rattle.text_faults.specs.declared.fault.Why.TheVariants as why;
 ghost use Rattle.script_text.specs.Commands.{on_line, rows_from};
 ghost use Rattle.script_text.specs.Parts.{IsPartRead, fault_behind};
 ghost use Rattle.script_text.specs.Script.{IfAt, ParsesAs};
 
-use crate::fault::{ScriptFault, Why, fault_at};
-use crate::lines::{cut_line, without_return};
-use crate::parts::{MANY_LINES, parts_of};
 use leaf_model::{LentRow, PackedRows, Row, Rows};
 use rayon::prelude::*;
 use row_json::{RowFault, RowRoom, quick_row};
 use std::alloc::{AllocError, Global};
 use std::collections::VecDeque;
 use std::thread::Threads;
+use text_faults::{ScriptFault, Why, fault_at};
+use text_lines::{MANY_LINES, cut_line, parts_of, without_return};
 
 /// The rows that the lines of a text are, so many, where the line before them has this number. The first fault in the
 /// order of the lines decides, whichever part is read first.

@@ -1,14 +1,14 @@
 // Standing queries, which are declared once and told from then on.
 ghost use Rattle.std.specs.Prelude.{◌≡◌, ◌<◌, ◌≤◌, IfOk, option_map, if◌then◌else◌, nat_lt, None};
 ghost use Rattle.query_text.specs.Grammar.{IsQuery};
-ghost use Rattle.script_text.specs.Words.{capped, first_word, number_of, words_of};
+ghost use Rattle.script_text.specs.Words.{first_word, words_of};
+ghost use Rattle.text_lines.specs.Numbers.{capped, number_of};
 ghost use Rattle.script_text.specs.Commands.{IsFleet, leaf_count, one_number, standing_at, standing_leaf, standing_of, tell_of};
 ghost use Rattle.script_text.specs.Fits.{IsAlone, TellsDeclared, declared_by};
 ghost use Rattle.script_text.specs.declared.item.Item.TheVariants.{One};
 ghost use Rattle.script_text.specs.Script.{ParsesAs};
 
 use crate::command::Command;
-use crate::fault::{ScriptFault, Why, fault_at};
 use crate::fleet::Fleet;
 use crate::later::one_number;
 use crate::query::read_query;
@@ -16,6 +16,7 @@ use crate::target::leaf_in;
 use crate::words::{cut_word, number_of, place_of, trimmed};
 use leaf_model::Query;
 use std::alloc::Global;
+use text_faults::{ScriptFault, Why, fault_at};
 
 /// The most standing queries of a script.
 const MAX_STANDINGS: u32 = 16;

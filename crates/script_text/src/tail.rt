@@ -1,7 +1,7 @@
 // A tail, and its rows.
 ghost use Rattle.std.specs.Prelude.{◌≡◌, ◌+◌, ◌≤◌, ◌<◌, ◌^◌, IfOk, IfSome, length, option_map};
 ghost use Rattle.leaf_model.specs.declared.limits.TheConstants.{MAX_ROWS};
-ghost use Rattle.script_text.specs.Lines.{lines_of};
+ghost use Rattle.text_lines.specs.Lines.{lines_of};
 ghost use Rattle.script_text.specs.Words.{words_of};
 ghost use Rattle.script_text.specs.Commands.{IsFleet, TailForm, leaf_count, row_count, tail_of, tail_words};
 ghost use Rattle.script_text.specs.Fits.{IsCommand};
@@ -9,13 +9,13 @@ ghost use Rattle.script_text.specs.Script.{ParsesAs};
 
 use crate::add::{row_number, rows_behind};
 use crate::command::Command;
-use crate::fault::{ScriptFault, Why, fault_at};
 use crate::fleet::Fleet;
 use crate::target::table_in;
 use crate::words::{count_of, next_word};
 use leaf_model::is_table_name;
 use std::alloc::Global;
 use std::thread::Threads;
+use text_faults::{ScriptFault, Why, fault_at};
 
 /// The words of a tail: its key, the name of its table, and how many rows it has.
 #[derive(Clone, Copy)]

@@ -4,10 +4,10 @@ ghost use Rattle.script_text.specs.Words.{words_of};
 ghost use Rattle.script_text.specs.Commands.{IsFleet, TargetForm, capped_target, leaf_in, leaf_count, table_in, target_in, target_words};
 ghost use Rattle.script_text.specs.Script.{ParsesAs};
 
-use crate::fault::{ScriptFault, Why, fault_at};
 use crate::fleet::Fleet;
 use crate::words::{next_word, number_of, place_of};
 use leaf_model::is_table_name;
+use text_faults::{ScriptFault, Why, fault_at};
 
 /// A leaf, and a table by its place.
 #[derive(Clone, Copy)]

@@ -3,11 +3,12 @@ ghost use Rattle.std.specs.Prelude.{◌≡◌, ◌==◌, slice_index, ◌<◌, �
 ghost use Rattle.std.specs.Char.{is_ascii_digit};
 ghost use Rattle.std.specs.List.{list_all};
 ghost use Rattle.leaf_model.specs.Values.{IsTime};
-ghost use Rattle.script_text.specs.Lines.{before, behind};
-ghost use Rattle.script_text.specs.Words.{words_of, unindented, first_word, behind_word, trimmed, is_number, number_of, capped, count_of, time_of, place_of};
+ghost use Rattle.text_lines.specs.Lines.{before, behind};
+ghost use Rattle.script_text.specs.Words.{words_of, unindented, first_word, behind_word, trimmed, place_of};
+ghost use Rattle.text_lines.specs.Numbers.{is_number, number_of, capped, count_of, time_of};
 
-use crate::lines::cut_at;
 use leaf_model::Text;
+use text_lines::cut_at;
 
 /// The first word of a line, and all that follows it and one space. Both are empty where the line has no word.
 pub fn cut_word(line: &[u8]) -> (&[u8], &[u8])

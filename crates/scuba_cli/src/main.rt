@@ -1,26 +1,24 @@
 //! The program: `scuba DIR WORD..`.
 #![tactic(auto)]
 
-ghost use Rattle.std.specs.Prelude.{◌≡◌, IfOk};
+ghost use Rattle.std.specs.Prelude.{IfOk};
 ghost use Rattle.std.specs.List.{AllByRecursion};
 ghost use Rattle.play.specs.Played.{AreBases};
-ghost use Rattle.scuba_cli.specs.Exit.{exit_number};
 ghost use Rattle.scuba_cli.specs.Fresh.{IsEmptyBerth};
 
-mod command_line;
-
 use berth_face::{Berth, OpenGate};
-use berth_files::{Access, FileBerth, FolderFiles, StdSink, StdSource};
+use berth_files::{Access, FileBerth, FolderFiles};
 use berth_mem::MemBerth;
-use command_line::{CommandLine, Refusal, split};
-use play::{Bases, EmptyBerths, Status, fault_text, run};
+use command_line::{ended, read_line, refusal_status};
+use play::{Bases, EmptyBerths, Status, run};
 use rollover_watch::{CountWatch, Watch};
 use std::alloc::{AllocError, Global};
+use std::io;
 use std::marker::Brand;
 use std::process::ExitCode;
 use std::sync::Wait;
 use std::thread::Threads;
-use std::{env, io};
+use std_streams::{StdSink, StdSource};
 
 /// How many leaves may have a berth.
 const BERTHS: u32 = 256;
@@ -107,48 +105,4 @@ fn file_berths(
         berths.push(FileBerth::new(rt, folder, leaf, access)?)?;
     }
     Ok(berths)
-}
-
-/// How the program ends at this status: it says why on standard error, where not all was done.
-fn ended<R: AllocGlobal + Eprint>(rt: &R, status: &Status) -> ExitCode {
-    tell(rt, status);
-    ExitCode::from(status_number(status))
-}
-
-/// Says on standard error why the run was not done. Where there is no memory for that, nothing is said.
-fn tell<R: AllocGlobal + Eprint>(rt: &R, status: &Status) {
-    if matches!(status, Status::Done) {
-        return;
-    }
-    if let Ok(text) = fault_text(rt.alloc(), status) {
-        let _ = eprintln!(rt; "scuba: {}", text.as_str());
-    }
-}
-
-/// The command line, the program's name apart.
-fn read_line(rt: &HostRuntime) -> Result<CommandLine, Refusal> {
-    let words: Vec<String> = env::args(rt)?.collect(rt.alloc())?;
-    split(rt.alloc(), words.as_slice())
-}
-
-/// The number of a status as the program ends with it.
-fn status_number(status: &Status) -> u8
-    ensures { result ≡ exit_number status.now }
-{
-    match status {
-        Status::Done => 0,
-        Status::Words => 2,
-        Status::Script { .. } => 3,
-        Status::ReadFault => 4,
-        Status::WriteFault => 5,
-        Status::NoMemory => 6,
-    }
-}
-
-/// The status where there is no command line.
-fn refusal_status(refusal: Refusal) -> Status {
-    match refusal {
-        Refusal::Words => Status::Words,
-        Refusal::NoMemory => Status::NoMemory,
-    }
 }

@@ -3,6 +3,62 @@ use Rattle.leaf_table.specs.Lists.{lists_in}
 use Rattle.player.proofs.Begun.{all_but_first, begun_more, first_of_all, front_gone, front_is, seated_same, seats_row, step_ready}
 use Rattle.player.proofs.begin.begin_all.Goals as goal
 
+pub begin-requires-clause-named : goal.begin-requires-clause-named
+begin-requires-clause-named g c = λ κs bounds.
+    let was = c.loop-number in
+    let so_far = was.invariant in
+    let names = c.args.names.now in
+    let stewards = c.args.stewards.items in
+    let below : was.number < length stewards = omega (arith, c.loop-number-test.true, c.len-number-end.ensures, c.args.stewards.ok.0) in
+    let copy_is = first_of_all (λ copy. copy ≡ names) was.copies.items c.remove-copy.result (omega (arith, so_far.copies_left, below)) c.remove-copy.ensures.value so_far.same in
+    let seats_at = front_is stewards was.stewards.items was.number c.remove-seats.result so_far.stewards (omega (arith, so_far.stewards_left, below)) c.remove-seats.ensures.value in
+    let seats_are = seats_row stewards was.number c.remove-seats.result seats_at in
+    let berth_at = front_is c.args.berths.now.items was.berths.items was.number c.remove-berth.result so_far.berths (omega (arith, so_far.berths_left, below)) c.remove-berth.ensures.value in
+    (step_ready g.B.Berth.meaning names c.remove-copy.result c.args.tables.now (lists_in stewards) c.args.berths.now.items was.number c.leaf.result.now c.remove-seats.result.items c.remove-berth.result
+    copy_is c.leaf.ensures seats_are berth_at (c.requires.ready was.number below)).named
+
+pub begin-requires-clause-names : goal.begin-requires-clause-names
+begin-requires-clause-names g c = λ κs bounds.
+    let was = c.loop-number in
+    let so_far = was.invariant in
+    let names = c.args.names.now in
+    let stewards = c.args.stewards.items in
+    let below : was.number < length stewards = omega (arith, c.loop-number-test.true, c.len-number-end.ensures, c.args.stewards.ok.0) in
+    let copy_is = first_of_all (λ copy. copy ≡ names) was.copies.items c.remove-copy.result (omega (arith, so_far.copies_left, below)) c.remove-copy.ensures.value so_far.same in
+    let seats_at = front_is stewards was.stewards.items was.number c.remove-seats.result so_far.stewards (omega (arith, so_far.stewards_left, below)) c.remove-seats.ensures.value in
+    let seats_are = seats_row stewards was.number c.remove-seats.result seats_at in
+    let berth_at = front_is c.args.berths.now.items was.berths.items was.number c.remove-berth.result so_far.berths (omega (arith, so_far.berths_left, below)) c.remove-berth.ensures.value in
+    (step_ready g.B.Berth.meaning names c.remove-copy.result c.args.tables.now (lists_in stewards) c.args.berths.now.items was.number c.leaf.result.now c.remove-seats.result.items c.remove-berth.result
+    copy_is c.leaf.ensures seats_are berth_at (c.requires.ready was.number below)).names_are
+
+pub begin-requires-clause-count : goal.begin-requires-clause-count
+begin-requires-clause-count g c = λ κs bounds.
+    let was = c.loop-number in
+    let so_far = was.invariant in
+    let names = c.args.names.now in
+    let stewards = c.args.stewards.items in
+    let below : was.number < length stewards = omega (arith, c.loop-number-test.true, c.len-number-end.ensures, c.args.stewards.ok.0) in
+    let copy_is = first_of_all (λ copy. copy ≡ names) was.copies.items c.remove-copy.result (omega (arith, so_far.copies_left, below)) c.remove-copy.ensures.value so_far.same in
+    let seats_at = front_is stewards was.stewards.items was.number c.remove-seats.result so_far.stewards (omega (arith, so_far.stewards_left, below)) c.remove-seats.ensures.value in
+    let seats_are = seats_row stewards was.number c.remove-seats.result seats_at in
+    let berth_at = front_is c.args.berths.now.items was.berths.items was.number c.remove-berth.result so_far.berths (omega (arith, so_far.berths_left, below)) c.remove-berth.ensures.value in
+    (step_ready g.B.Berth.meaning names c.remove-copy.result c.args.tables.now (lists_in stewards) c.args.berths.now.items was.number c.leaf.result.now c.remove-seats.result.items c.remove-berth.result
+    copy_is c.leaf.ensures seats_are berth_at (c.requires.ready was.number below)).count
+
+pub begin-requires-clause-alike : goal.begin-requires-clause-alike
+begin-requires-clause-alike g c = λ κs bounds.
+    let was = c.loop-number in
+    let so_far = was.invariant in
+    let names = c.args.names.now in
+    let stewards = c.args.stewards.items in
+    let below : was.number < length stewards = omega (arith, c.loop-number-test.true, c.len-number-end.ensures, c.args.stewards.ok.0) in
+    let copy_is = first_of_all (λ copy. copy ≡ names) was.copies.items c.remove-copy.result (omega (arith, so_far.copies_left, below)) c.remove-copy.ensures.value so_far.same in
+    let seats_at = front_is stewards was.stewards.items was.number c.remove-seats.result so_far.stewards (omega (arith, so_far.stewards_left, below)) c.remove-seats.ensures.value in
+    let seats_are = seats_row stewards was.number c.remove-seats.result seats_at in
+    let berth_at = front_is c.args.berths.now.items was.berths.items was.number c.remove-berth.result so_far.berths (omega (arith, so_far.berths_left, below)) c.remove-berth.ensures.value in
+    (step_ready g.B.Berth.meaning names c.remove-copy.result c.args.tables.now (lists_in stewards) c.args.berths.now.items was.number c.leaf.result.now c.remove-seats.result.items c.remove-berth.result
+    copy_is c.leaf.ensures seats_are berth_at (c.requires.ready was.number below)).alike
+
 pub begin-requires-clause-unused : goal.begin-requires-clause-unused
 begin-requires-clause-unused g c = λ κs bounds.
     let was = c.loop-number in

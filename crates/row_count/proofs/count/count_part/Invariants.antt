@@ -1,5 +1,5 @@
 use Rattle.std.proofs.Common.{◌≡◌, ◌+◌, ◌≤◌, length}
-use Rattle.script_text.specs.Lines.{lines_of}
+use Rattle.text_lines.specs.Lines.{lines_of}
 use Rattle.row_count.specs.Count.{count_of}
 use Rattle.row_count.proofs.Counts.{count_after, more_by}
 use Rattle.row_count.proofs.count.count_part.Given as goal

@@ -1,5 +1,5 @@
 use Rattle.std.proofs.Common.{rules, ◌≡◌, ◌^◌, [], arith}
-use Rattle.script_text.proofs.InParts.{lines_short}
+use Rattle.text_lines.proofs.InParts.{lines_short}
 use Rattle.row_count.proofs.Counts.{all_counted, counts_fit, error_fits, none_counted, one_counted, part_refused}
 use Rattle.row_count.proofs.count.count_rows.Goals as goal
 

@@ -1,5 +1,6 @@
 use Rattle.std.proofs.Common.{◌≤◌, sym, arith}
-use Rattle.script_text.specs.Words.{words_of, number_of}
+use Rattle.script_text.specs.Words.{words_of}
+use Rattle.text_lines.specs.Numbers.{number_of}
 use Rattle.script_text.proofs.Leaves.{are_leaves, few_machines, fleet_sizes}
 use Rattle.script_text.proofs.fleet.sizes_of.Goals as goal
 

@@ -1,5 +1,5 @@
 use Rattle.std.proofs.Common.{rules, Err, ◌≡◌, [], ◌∙◌, ap}
-use Rattle.script_text.specs.Lines.{lines_of}
+use Rattle.text_lines.specs.Lines.{lines_of}
 use Rattle.script_text.specs.Script.{IfAt, NumberedLine, script_of}
 use Rattle.script_text.proofs.Steps.{if_parsed, if_refused, script_is, script_none, script_first_fault}
 use Rattle.script_text.proofs.parsing.parse.Goals as goal

@@ -1,5 +1,5 @@
 use Rattle.std.proofs.Common.{rules, ◌≡◌, ◌+◌, Err, sym, ◌∙◌, ap, arith}
-use Rattle.script_text.specs.Lines.{lines_of}
+use Rattle.text_lines.specs.Lines.{lines_of}
 use Rattle.script_text.specs.Script.{IfAt, NumberedLine, begun, read_from}
 use Rattle.script_text.proofs.Keeps.{closed_fits_as}
 use Rattle.script_text.proofs.Steps.{parses_as, read_end, read_step, refused_at}

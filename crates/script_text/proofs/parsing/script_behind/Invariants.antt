@@ -1,5 +1,5 @@
 use Rattle.std.proofs.Common.{◌≡◌, ◌+◌, ◌≤◌, length}
-use Rattle.script_text.specs.Lines.{lines_of}
+use Rattle.text_lines.specs.Lines.{lines_of}
 use Rattle.script_text.specs.Readings.{IsReading}
 use Rattle.script_text.specs.Script.{begun, read_from}
 use Rattle.script_text.proofs.parsing.script_behind.Given as goal

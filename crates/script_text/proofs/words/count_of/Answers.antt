@@ -1,5 +1,6 @@
 use Rattle.std.proofs.Common.{sym, ◌∙◌}
-use Rattle.script_text.proofs.Names.{digits_utf8, number_digits, count_parsed}
+use Rattle.script_text.proofs.Names.{digits_utf8}
+use Rattle.text_lines.proofs.Numbers.{number_digits, count_parsed}
 use Rattle.script_text.proofs.words.count_of.Goals as goal
 
 pub unreachable-requires : goal.unreachable-requires

@@ -76,3 +76,19 @@ returns-clause-all g c =
       seats = new_seats new.0 count c.args.names c.args.tables.now c.args.stewards callers c.requires.named
           (subst (λ ls. IsNewFleet new.0 count c.args.names 65536 c.args.tables.now c.args.stewards ls) (sym callers_are) new.1) c.begin_all.new.leaves.items begun.length_is;
     }
+
+pub begin_all-requires-clause-tables : goal.begin_all-requires-clause-tables
+begin_all-requires-clause-tables g c = λ κs bounds.
+    let count = c.args.machines * c.args.per_machine in
+    let new = c.requires.new in
+    let stewards_are = c.into_inner.ensures in
+    let size : length c.into_inner.result.items ≡ count = omega (arith, lists_count c.into_inner.result.items, ap (λ ls. length ls) stewards_are, new.1.counts.1) in
+    omega (arith, size, new.1.counts.0)
+
+pub begin_all-requires-clause-enough : goal.begin_all-requires-clause-enough
+begin_all-requires-clause-enough g c = λ κs bounds.
+    let count = c.args.machines * c.args.per_machine in
+    let new = c.requires.new in
+    let stewards_are = c.into_inner.ensures in
+    let size : length c.into_inner.result.items ≡ count = omega (arith, lists_count c.into_inner.result.items, ap (λ ls. length ls) stewards_are, new.1.counts.1) in
+    omega (arith, size, c.requires.enough)

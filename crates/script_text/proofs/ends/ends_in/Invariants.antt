@@ -1,6 +1,0 @@
-use Rattle.std.proofs.Common.{◌≡◌, ◌≤◌, take}
-use Rattle.script_text.specs.Parts.{ends}
-use Rattle.script_text.proofs.ends.ends_in.Given as goal
-
-abbrev pub invariant-loop-byte : goal.invariant-loop-byte
-invariant-loop-byte l = (l.count ≡ ends (take l.byte-index l.text)) × (l.count ≤ l.byte-index)

@@ -1,0 +1,4 @@
+pub mod Cut
+pub mod InParts
+pub mod Counted
+pub mod Numbers

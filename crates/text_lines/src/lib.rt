@@ -1,0 +1,11 @@
+//! The lines of a text: cut one by one, counted, passed over many at once, and in parts that threads read side by side.
+#![tactic(auto)]
+
+mod ends;
+mod lines;
+mod parts;
+mod passing;
+
+pub use ends::line_count;
+pub use lines::{cut_at, cut_line, cut_lines, is_blank, is_skipped, without_return};
+pub use parts::{MANY_LINES, parts_of};

@@ -1,0 +1,55 @@
+// A text in parts that threads read side by side.
+ghost use Rattle.std.specs.Prelude.{◌≡◌, ◌<◌, length, true, IfOk};
+ghost use Rattle.text_lines.specs.Lines.{lines_of};
+ghost use Rattle.text_lines.specs.Parts.{IsTextCut, bytes_of_parts, ends_line, lines_of_parts};
+
+use crate::lines::{cut_line, cut_lines};
+use std::alloc::{AllocError, Global};
+
+/// So few lines are read by one thread: another would cost more than it takes over.
+pub const MANY_LINES: u64 = 2048;
+
+/// A text of many lines is cut into so many parts, a few for each processor, since parts take unlike times.
+const PARTS: usize = 16;
+
+/// The parts of a text that are read side by side: one alone of a text of few lines.
+pub fn parts_of(alloc: Global, text: &[u8]) -> Result<Vec<&[u8]>, AllocError>
+    ensures joined { IfOk result (λ parts. bytes_of_parts parts.items ≡ text.now) }
+    ensures lines { IfOk result (λ parts. lines_of_parts parts.items ≡ lines_of text.now) }
+{
+    let count = if cut_lines(text, MANY_LINES).is_some() {
+        PARTS
+    } else {
+        1
+    };
+    cut_parts(alloc, text, count)
+}
+
+/// The text in at most so many parts, each of which but the last ends with a line's end.
+fn cut_parts(alloc: Global, text: &[u8], count: usize) -> Result<Vec<&[u8]>, AllocError>
+    requires { 0 < count }
+    ensures joined { IfOk result (λ parts. bytes_of_parts parts.items ≡ text.now) }
+    ensures lines { IfOk result (λ parts. lines_of_parts parts.items ≡ lines_of text.now) }
+{
+    let least = text.len() / count;
+    let mut parts = Vec::with_capacity(alloc, count)?;
+    let mut rest = text;
+    while rest.len() > least {
+        let (part, after) = cut_behind(rest, least);
+        parts.push(part)?;
+        rest = after;
+    }
+    parts.push(rest)?;
+    Ok(parts)
+}
+
+/// The text up to the end of the line that its byte at this place belongs to, and what stands behind it.
+pub fn cut_behind(text: &[u8], place: usize) -> (&[u8], &[u8])
+    requires { place < length text.now }
+    ensures cut { IsTextCut text.now result.0.now result.1.now }
+    ensures ended { 0 < length result.1.now → ends_line result.0.now ≡ true }
+    ensures shorter { length result.1.now < length text.now }
+{
+    let (_, rest) = cut_line(&text[place..]);
+    text.split_at(text.len() - rest.len())
+}
