@@ -1,7 +1,7 @@
 // A status as one line for people.
 ghost use Rattle.std.specs.Prelude.{◌≡◌, ◌≢◌, IfOk, string_bytes};
 ghost use Rattle.row_json.specs.declared.object.RowFault.TheVariants as fault;
-ghost use Rattle.run_ends.specs.Faults.{at_line, cause_of, fault_text, query_cause, quoted, row_cause};
+ghost use Rattle.run_ends.specs.Faults.{at_line, cause_of, fault_text, query_cause, quoted, row_cause, with_forms};
 
 use crate::status::Status;
 use leaf_model::{QueryFault, Text};
@@ -19,7 +19,7 @@ pub fn fault_text(alloc: Global, status: &Status) -> Result<Text, AllocError>
         Status::Done => String::from_str(alloc, ""),
         Status::Words => String::from_str(
             alloc,
-            "the words are none of `count FROM TO`, `play`, `soak SEED ROWS` and `inspect L`",
+            "the words are none of `scuba DIR count FROM TO`, `scuba DIR play`, `scuba DIR soak SEED ROWS` and `scuba DIR inspect L`; DIR is `mem` or a folder, FROM and TO are at most 9223372036854775807, ROWS is 8 to 800000, L is at most 255",
         ),
         Status::Script { line, why } => at_line(alloc, *line, cause_of(alloc, why)?),
         Status::ReadFault => String::from_str(alloc, "the input could not be read"),
@@ -44,12 +44,18 @@ fn cause_of(alloc: Global, why: &Why) -> Result<String, AllocError>
     ensures { IfOk result (λ text. string_bytes text ≡ cause_of why.now) }
 {
     match why {
-        Why::TooLong => String::from_str(alloc, "the input has more than 16777216 bytes"),
-        Why::Command => String::from_str(alloc, "no such command"),
+        Why::TooLong => String::from_str(
+            alloc,
+            "the input has more than 16777216 bytes; give it in pieces",
+        ),
+        Why::Command => with_forms(alloc, "no such command"),
         Why::NoFleet => String::from_str(alloc, "a command before any fleet"),
         Why::Place => String::from_str(alloc, "the command is out of its place"),
-        Why::Words => String::from_str(alloc, "the words do not fit the command"),
-        Why::Leaf => String::from_str(alloc, "the fleet has no such leaf"),
+        Why::Words => with_forms(alloc, "the words do not fit the command"),
+        Why::Leaf => String::from_str(
+            alloc,
+            "the fleet has no such leaf; its leaves are numbered from 0",
+        ),
         Why::Table => String::from_str(alloc, "the fleet has no such table"),
         Why::Lanes => String::from_str(alloc, "the burst has more than 16 lanes"),
         Why::TwoStewards => String::from_str(
@@ -63,16 +69,29 @@ fn cause_of(alloc: Global, why: &Why) -> Result<String, AllocError>
     }
 }
 
+/// A cause with the forms of the commands, for one who typed none of them.
+fn with_forms(alloc: Global, cause: &str) -> Result<String, AllocError>
+    ensures { IfOk result (λ text. string_bytes text ≡ with_forms cause.now) }
+{
+    format!(in alloc; "{cause}; the commands are fleet M P T.., add L T N, expire L T H, keep L T N, tail K T N, query TEXT, standing L TEXT, tell S, flush L T, drain L [stop N], kill L, start L, rollover [P], burst, lane, end")
+}
+
 /// What is wrong with a row.
 fn row_cause(alloc: Global, fault: &RowFault) -> Result<String, AllocError>
     ensures { IfOk result (λ text. string_bytes text ≡ row_cause fault.now) }
 {
     match fault {
-        RowFault::Json => String::from_str(alloc, "the row is no JSON"),
-        RowFault::NotObject => String::from_str(alloc, "the row is no object"),
+        RowFault::Json => String::from_str(
+            alloc,
+            "the row is no JSON; a row is one object on a line, in UTF-8 without a byte order mark",
+        ),
+        RowFault::NotObject => String::from_str(
+            alloc,
+            "the row is no object; a row is one JSON object on a line",
+        ),
         RowFault::NoTime => String::from_str(
             alloc,
-            "`time` is no integer from 0 to 9223372036854775807",
+            "the row has no `time` that is an integer from 0 to 9223372036854775807",
         ),
         RowFault::TooMany => String::from_str(alloc, "the row has more than 1024 cells"),
         RowFault::Name(name) => bad_name(alloc, name),
@@ -86,13 +105,13 @@ fn query_cause(alloc: Global, fault: QueryFault) -> Result<String, AllocError>
     ensures { IfOk result (λ text. string_bytes text ≡ query_cause fault) }
 {
     match fault {
-        QueryFault::Syntax(at) => format!(in alloc; "the query is at fault at byte {at}"),
+        QueryFault::Syntax(at) => format!(in alloc; "the query is at fault at byte {at} of its text, from 0"),
         QueryFault::NoTime => String::from_str(
             alloc,
-            "the query has no range `time >= A AND time <= B` behind WHERE",
+            "the query has no range `time >= A AND time <= B` after WHERE",
         ),
         QueryFault::TooLarge(at) => {
-            format!(in alloc; "the query has an integer out of its range at byte {at}")
+            format!(in alloc; "the query has an integer out of its range at byte {at} of its text, from 0")
         }
         QueryFault::NoMemory => String::from_str(alloc, "out of memory"),
     }
@@ -109,7 +128,7 @@ fn bad_value(alloc: Global, name: &Text) -> Result<String, AllocError>
     ensures { IfOk result (λ text. string_bytes text ≡ row_cause (fault.Value name.now)) }
 {
     let name = quoted(alloc, name)?;
-    format!(in alloc; "{name} has no value that a cell may have")
+    format!(in alloc; "{name} has no value that a cell may have; a cell is an integer of 64 bits, a text of at most 65535 bytes, or an array of at most 1024 texts")
 }
 
 /// A name as a JSON string.

@@ -59,3 +59,8 @@ IsInRange (Inspect leaf) = leaf ≤ 255
 abbrev pub IfCount : Option Request → (Range → Type 0) → Type 0
 IfCount (Some (Count range)) P = P range
 IfCount _ P = ⊤
+
+-- what holds of all other words
+abbrev pub UnlessCount : Option Request → Type 0 → Type 0
+UnlessCount (Some (Count range)) P = ⊤
+UnlessCount _ P = P

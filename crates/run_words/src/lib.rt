@@ -1,6 +1,8 @@
-//! What the words of a command line ask for.
+//! What the words of a command line ask for, and a count by itself.
 #![tactic(auto)]
 
+mod counting;
 mod words;
 
+pub use counting::run_count;
 pub use words::{Request, request_of};

@@ -42,7 +42,7 @@ fn skip_left(blocks: &[RowBlock], skip: u32, horizon: i64) -> u32
     }
 }
 
-/// Lets go of the blocks that have no row at or after the horizon, and answers how many rows of the first one are cut away then. It takes no memory.
+/// Lets go of the blocks that have no row at or after the horizon, and answers how many rows of the first one are cut away then. It needs no memory: a block that horizons cut often sorts its times if there is some.
 pub fn leave_live(blocks: &mut Blocks, skip: u32, horizon: i64) -> u32
     requires cut { IsSkip skip blocks.old }
     requires sealed { AllByRecursion IsBlock blocks.old }
@@ -53,6 +53,7 @@ pub fn leave_live(blocks: &mut Blocks, skip: u32, horizon: i64) -> u32
 {
     let left = skip_left(blocks.as_slice(), skip, horizon);
     blocks.retain_live(horizon);
+    blocks.note_horizon(horizon);
     left
 }
 

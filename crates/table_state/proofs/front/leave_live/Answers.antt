@@ -15,25 +15,25 @@ pub returns-clause-cut : goal.returns-clause-cut
 returns-clause-cut c =
     let h = to_z w64 (of_z w64 c.args.horizon) in let blocks = c.args.blocks.now in
     let cut = c.skip_left-left.ensures ∙ ap (λ (l : List Block). skip_left c.args.skip h l) c.as_slice.ensures in
-    subst (λ (l : List Block). IsSkip c.skip_left-left.result l) (sym c.retain_live.ensures)
+    subst (λ (l : List Block). IsSkip c.skip_left-left.result l) (sym (c.note_horizon.ensures ∙ c.retain_live.ensures))
     (subst (λ (n : ℕ). IsSkip n (filter (has_live h) blocks)) (sym cut) (live_cut c.args.skip h blocks c.requires.sealed c.requires.cut))
 
 pub returns-clause-sealed : goal.returns-clause-sealed
 returns-clause-sealed c =
     let h = to_z w64 (of_z w64 c.args.horizon) in
-    subst (AllByRecursion IsBlock) (sym c.retain_live.ensures) (live_blocks h c.args.blocks.now c.requires.sealed)
+    subst (AllByRecursion IsBlock) (sym (c.note_horizon.ensures ∙ c.retain_live.ensures)) (live_blocks h c.args.blocks.now c.requires.sealed)
 
 pub returns-clause-rows : goal.returns-clause-rows
 returns-clause-rows c =
     let h = to_z w64 (of_z w64 c.args.horizon) in let blocks = c.args.blocks.now in
     let cut = c.skip_left-left.ensures ∙ ap (λ (l : List Block). skip_left c.args.skip h l) c.as_slice.ensures in
     let same = to_z-of_z w64 c.args.horizon c.ranges.horizon in
-    ap (λ (t : ℤ). sealed_rows c.retain_live.new.self c.skip_left-left.result t) (sym same)
-    ∙ ap₂ (λ (l : List Block) (n : ℕ). sealed_rows l n h) c.retain_live.ensures cut
+    ap (λ (t : ℤ). sealed_rows c.note_horizon.new.self c.skip_left-left.result t) (sym same)
+    ∙ ap₂ (λ (l : List Block) (n : ℕ). sealed_rows l n h) (c.note_horizon.ensures ∙ c.retain_live.ensures) cut
     ∙ live_left c.args.skip h blocks c.requires.cut
     ∙ ap (λ (t : ℤ). sealed_rows blocks c.args.skip t) same
 
 pub returns-clause-columns : goal.returns-clause-columns
 returns-clause-columns c =
     let h = to_z w64 (of_z w64 c.args.horizon) in
-    subst (λ (l : List Block). columns_count l ≤ columns_count c.args.blocks.now) (sym c.retain_live.ensures) (columns_live h c.args.blocks.now)
+    subst (λ (l : List Block). columns_count l ≤ columns_count c.args.blocks.now) (sym (c.note_horizon.ensures ∙ c.retain_live.ensures)) (columns_live h c.args.blocks.now)
