@@ -3,7 +3,7 @@ ghost use Rattle.std.specs.Prelude.{◌≡◌, Some, map, IfOk, string_bytes};
 ghost use Rattle.std.specs.List.{AllByRecursion};
 ghost use Rattle.run_words.specs.Words.{request_of};
 ghost use Rattle.run_words.specs.declared.words.Request.TheVariants.{Play};
-ghost use Rattle.again_tests.specs.Fresh.{IsEmptyBerth};
+ghost use Rattle.play_tests.specs.Fresh.{IsEmptyBerth};
 
 use berth_face::OpenGate;
 use berth_mem::{MemBerth, MemSink, MemSource};

@@ -1,7 +1,7 @@
 use Rattle.std.proofs.Common.{[], subst}
 use Rattle.berth_mem.specs.Forms.{FreshOn}
 use Rattle.play.specs.Empty.{is_fresh_base}
-use Rattle.again_tests.proofs.again.fresh_berth.Goals as goal
+use Rattle.play_tests.proofs.again.fresh_berth.Goals as goal
 
 pub returns : goal.returns
 returns c =
