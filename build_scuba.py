@@ -271,53 +271,103 @@ class Failed(Exception):
         self.crate, self.status = crate, status
 
 
+class Progress:
+    """Tells how far a build is: on a terminal in one line that is written over each second, elsewhere in a line a minute."""
+
+    def __init__(self, crates, left, began):
+        self.crates, self.began, self.told = crates, began, 0
+        self.whole, self.is_terminal = sum(it.weight for it in left), sys.stderr.isatty()
+        # (what runs side by side at the end leaves processors free)
+        self.expected = 1.3 * self.whole * SECONDS_A_BYTE / processors()
+        name = crates[-1].name
+        if any(os.path.isfile(it.sum) for it in crates):
+            say(f"proving and building {name}: at most {len(left)} of its {len(crates)} crates, those that changed")
+        else:
+            say(f"proving and building {name}, {len(crates)} crates; the first time takes some {self.minutes(self.expected)} with {processors()} processors")
+
+    @staticmethod
+    def minutes(seconds):
+        count = max(round(seconds / 60), 1)
+        return f"{count} minute{'s' * (count > 1)}"
+
+    def left(self, share, spent):
+        """Returns about how many seconds are left: by what was expected at first, and later by what was seen."""
+        return (1 - share) * (spent / share if share > 0.2 else max(self.expected, spent))
+
+    def tell(self, built, running, left):
+        now = time.time()
+        if now - self.told < (1 if self.is_terminal else 60) or not running:
+            return
+        self.told, spent = now, now - self.began
+        undone = sum(it.weight for it in left) + sum(run.crate.weight for run in running) / 2
+        share = (self.whole - undone) / self.whole
+        text = f"{100 * share:.0f} %, some {self.minutes(self.left(share, spent))} left; {len(built)} of {len(self.crates)} crates are proved, now {', '.join(run.crate.name for run in running)}"
+        if self.is_terminal:
+            width = shutil.get_terminal_size().columns
+            print(f"\r\033[Kscuba: {text}"[: width + 4], end="", file=sys.stderr, flush=True)
+        else:
+            say(text)
+
+    def end(self):
+        if self.is_terminal:
+            print("\r\033[K", end="", file=sys.stderr, flush=True)
+
+
+class Build:
+    """Crates that are built side by side, lowest first, those with the longest chain of crates above them before others."""
+
+    def __init__(self, crates, built, guard):
+        self.built, self.guard, self.running, self.stale = built, guard, [], set()
+        self.behind = {}
+        for it in reversed(crates):
+            self.behind[it] = it.weight + max([self.behind[above] for above in self.behind if it in above.uses], default=0)
+        self.left = sorted((it for it in crates if it not in built), key=lambda it: -self.behind[it])
+        self.memory, self.at_once = 0.85 * free(), processors()
+
+    def start_ready(self):
+        """Starts what stands on built crates alone, as far as there are processors and memory."""
+        for it in [it for it in self.left if all(under in self.built for under in it.below)]:
+            if it not in self.stale and it.is_built():
+                # (a library below changed, and came out the same)
+                self.left.remove(it)
+                self.built.append(it)
+                continue
+            self.stale.add(it)
+            room = self.memory - sum(run.crate.needs(run.jobs) for run in self.running)
+            rank = sum(self.behind[run.crate] > self.behind[it] for run in self.running)
+            # (each job reads again what the others have read: only what all wait for gets more than one)
+            most = 1 if rank else min(self.at_once, 8)
+            jobs = [jobs for jobs in range(most, 0, -1) if it.needs(jobs) <= room]
+            if len(self.running) < self.at_once and (jobs or not self.running):
+                self.left.remove(it)
+                self.running.append(Run(it, jobs[0] if jobs else 1, rank, self.guard))
+
+    def take_ended(self):
+        for run in [it for it in self.running if it.ended()]:
+            self.running.remove(run)
+            self.built.append(run.crate)
+
+
 def side_by_side(crates, began):
     """Builds the crates, lowest first, that are not built yet, and returns whether there were any."""
-    at_once, built = processors(), []
+    built = []
     for it in crates:
         if all(under in built for under in it.below) and it.is_built():
             built.append(it)
-    left = [it for it in crates if it not in built]
-    if not left:
+    if len(built) == len(crates):
         return False
-    behind = {}
-    for it in reversed(crates):
-        behind[it] = it.weight + max([behind[above] for above in behind if it in above.uses], default=0)
-    left.sort(key=lambda it: -behind[it])
-    whole, memory, running, stale = sum(it.weight for it in left), 0.85 * free(), [], set()
-    if any(os.path.isfile(it.sum) for it in crates):
-        say(f"proving and building the program: at most {len(left)} of its {len(crates)} crates, those that changed")
-    else:
-        # (what runs side by side at the end leaves processors free)
-        minutes = max(round(1.3 * whole * SECONDS_A_BYTE / at_once / 60), 1)
-        say(f"proving and building the program, {len(crates)} crates; the first time takes some {minutes} minutes with {at_once} processors")
+    progress = Progress(crates, [it for it in crates if it not in built], began)
     guard = Guard()
     try:
-        while left or running:
-            for it in [it for it in left if all(under in built for under in it.below)]:
-                if it not in stale and it.is_built():
-                    # (a library below changed, and came out the same)
-                    left.remove(it)
-                    built.append(it)
-                    continue
-                stale.add(it)
-                room = memory - sum(run.crate.needs(run.jobs) for run in running)
-                rank = sum(behind[run.crate] > behind[it] for run in running)
-                # (each job reads again what the others have read: only what all wait for gets more than one)
-                most = 1 if rank else min(at_once, 8)
-                jobs = [jobs for jobs in range(most, 0, -1) if it.needs(jobs) <= room]
-                if len(running) < at_once and (jobs or not running):
-                    left.remove(it)
-                    running.append(Run(it, jobs[0] if jobs else 1, rank, guard))
+        build = Build(crates, built, guard)
+        while build.left or build.running:
+            build.start_ready()
+            progress.tell(build.built, build.running, build.left)
             time.sleep(0.05)
-            for run in [it for it in running if it.ended()]:
-                running.remove(run)
-                built.append(run.crate)
-                share = 100 * (whole - sum(it.weight for it in [*left, *[it.crate for it in running]])) // whole
-                now = f"; now {', '.join(it.crate.name for it in running)}" if running else ""
-                say(f"{len(built)} of {len(crates)} crates, {run.crate.name} ({share} % in {time.time() - began:.0f} seconds{now})")
+            build.take_ended()
     finally:
         guard.end()
+        progress.end()
     return True
 
 
