@@ -21,7 +21,7 @@ pub struct Question<'q> {
     pub table: u32,
 }
 
-/// Asks the leaves from the first on, as many as there are seats, those with many rows in threads of their own where these can be made.
+/// Asks the leaves from the first on, as many as there are seats, by two threads at least where these can be made, and those with many rows in threads of their own.
 #[cycle(halves)]
 pub fn ask_each<'q, R: Threads + Wait + Sync, G: Gate>(
     rt: &R,
@@ -44,7 +44,7 @@ pub fn ask_each<'q, R: Threads + Wait + Sync, G: Gate>(
     ask_both(rt, gate, question, first, low, front, high, back);
 }
 
-// Asks both halves, at once where both have many rows. The second begins behind the first.
+// Asks both halves: at once where they are all leaves, or both have many rows. The second begins behind the first.
 #[cycle(halves)]
 fn ask_both<'q, R: Threads + Wait + Sync, G: Gate>(
     rt: &R,
@@ -63,7 +63,9 @@ fn ask_both<'q, R: Threads + Wait + Sync, G: Gate>(
     ensures high { Asked question.now.query.now question.now.fleet.now question.now.table (first + length low.old) high.old back.new high.new }
 {
     let next = first + low.len() as u32;
-    if has_few(question, first, low.len()) || has_few(question, next, high.len()) {
+    if is_part(question, low.len(), high.len())
+        && (has_few(question, first, low.len()) || has_few(question, next, high.len()))
+    {
         ask_each(rt, gate, question, first, low, front);
         ask_each(rt, gate, question, next, high, back);
         return;
@@ -77,6 +79,11 @@ fn ask_both<'q, R: Threads + Wait + Sync, G: Gate>(
         ensures { Asked question.entry.now.query.now question.entry.now.fleet.now question.entry.now.table next high.entry.now back.exit.now high.exit.now }
     { ask_each(rt, gate, question, next, high, back) };
     join_mut(rt, &mut one, &mut other);
+}
+
+// Whether two halves of so many leaves are not all leaves. These are asked by two threads at least, so that no leaf that holds its answer back keeps all others from theirs.
+fn is_part(question: &Question<'_>, low: usize, high: usize) -> bool {
+    low.saturating_add(high) < question.fleet.count()
 }
 
 // Whether so many leaves have few rows together.

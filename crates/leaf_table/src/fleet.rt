@@ -132,6 +132,13 @@ impl FleetTables {
         self.leaves[leaf as usize].as_slice()
     }
 
+    /// How many leaves there are.
+    pub fn count(&self) -> usize
+        ensures { result ≡ length self.now }
+    {
+        self.leaves.len()
+    }
+
     /// About how many rows the tables of that number have at so many leaves from the first on. Nothing is claimed of it.
     pub fn weight(&self, table: u32, first: u32, count: usize) -> u64 {
         let mut weight = 0u64;
