@@ -7,3 +7,4 @@ pub mod Outcome
 pub mod Complete
 pub mod Cut
 pub mod Shortened
+pub mod Ran

@@ -1,6 +1,7 @@
 -- Where a leaf may begin over each berth, a base of each can be kept.
-use Rattle.std.proofs.Common.{◌≡◌, ℕ, List, length, Option, Some, None, refl}
-use Rattle.std.specs.Prelude.{IfSome, slice_get}
+use Rattle.std.proofs.Common.{◌≡◌, ◌<◌, ◌∙◌, ℕ, Bool, true, false, List, length, Option, Some, None, refl, sym}
+use Rattle.std.specs.Prelude.{IfSome, nat_lt, slice_get}
+use Rattle.std.proofs.lemmas.Bool.{false≢true, lt-ltb, ltb-true}
 use Rattle.berth_face.specs.Berth.{Meaning, OpenedOn, Pair}
 use Rattle.region_layout.specs.Region.{reads}
 use Rattle.leaf_history.specs.History.{base_of}
@@ -19,24 +20,28 @@ base_opened tables p m left opened there =
     let begins = begins_on tables p m left opened there in
     (λ name. base_of (begins.logged name) (length (begins.logged name)), record { begins = begins.begins; is = λ name. refl })
 
-kept_is_base : (m : Meaning) (k : Option (List Kept)) → IsBaseKept m k → IfSome (base_kept k) (λ states. IsBase states m)
-kept_is_base m None keeps = absurd keeps
-kept_is_base m (Some kept) keeps = keeps
+module _ {B : Type 0} (leaves : ℕ) (meaning : B → Meaning) (berths : List B) (have : HaveBases leaves meaning berths) where
+  -- what is kept of a berth: a base, where a leaf uses it
+  abbrev IsKeptAt : ℕ → B → Option (List Kept) → Type 0
+  IsKeptAt leaf b k = IfSome (base_kept k) (λ states. IsBase states (meaning b)) × (leaf < leaves → IsBaseKept (meaning b) k)
 
-module _ {B : Type 0} (meaning : B → Meaning) (berths : List B) (have : HaveBases meaning berths) where
-  kept_one : (leaf : ℕ) (b : B) → slice_get berths leaf ≡ Some b → (k : Option (List Kept)) × IsBaseKept (meaning b) k
-  kept_one leaf b at =
-      let own = have leaf b at in
+  kept_at : (leaf : ℕ) (b : B) → slice_get berths leaf ≡ Some b → (is_used : Bool) → nat_lt leaf leaves ≡ is_used → (k : Option (List Kept)) × IsKeptAt leaf b k
+  kept_at leaf b at true used =
+      let own = have leaf b (ltb-true leaf leaves used) at in
       let kept = list_kept own.0 own.0 (meaning b) own.1 (λ name. front_same (own.0 name)) in
-      (Some kept.0, kept.1.is_base)
+      (Some kept.0, kept.1.is_base, λ _. kept.1.is_base)
+  kept_at leaf b at false unused = (None, tt, λ used. absurd (false≢true (sym unused ∙ lt-ltb leaf leaves used)))
 
-  pub all_kept : (kept : List (Option (List Kept))) × KeepsBases meaning berths kept
+  kept_one : (leaf : ℕ) (b : B) → slice_get berths leaf ≡ Some b → (k : Option (List Kept)) × IsKeptAt leaf b k
+  kept_one leaf b at = kept_at leaf b at (nat_lt leaf leaves) refl
+
+  pub all_kept : (kept : List (Option (List Kept))) × KeepsBases leaves meaning berths kept
   all_kept =
-      let all = choose_each (λ leaf (b : B) k. IsBaseKept (meaning b) k) berths kept_one in (
+      let all = choose_each IsKeptAt berths kept_one in (
         all.0,
         record {
           as_many = all.1;
-          each = all.2;
-          bases = λ leaf b at. base_there meaning b all.0 leaf (λ k is. kept_is_base (meaning b) k (all.2 leaf b k at is));
+          each = λ leaf b k used at is. (all.2 leaf b k at is).1 used;
+          bases = λ leaf b at. base_there meaning b all.0 leaf (λ k is. (all.2 leaf b k at is).0);
         },
       )

@@ -35,7 +35,7 @@ use Rattle.transcript_leaf.proofs.Lists.{element_at, same_some, within}
 use Rattle.play.proofs.Lists.{choose_each}
 use Rattle.play_again.proofs.Listing.{front_same, list_kept}
 use Rattle.play.specs.Played.{AreBases, IsBase, IsPlayed}
-use Rattle.play_again.specs.Keeping.{ArePlayedTwice, IsKeptOf, KeepsBy, KeepsEach, KeepsOne, KeepsSame, Kept, LeavesKnown, base_kept, bases_of, tables_left}
+use Rattle.play_again.specs.Keeping.{IsKeptOf, KeepsBy, KeepsEach, KeepsOne, KeepsSame, Kept, LeavesKnown, base_kept, bases_of, tables_left}
 use Rattle.play.specs.Outcome.{IsDone, UnlessPlayed}
 use Rattle.play.specs.Shortened.{EndsShort, IfShort, IsShort}
 use Rattle.run_ends.specs.declared.status.Status.{Status}
@@ -296,14 +296,3 @@ unless_then Status.NoMemory P Q follows holds = tt
 pub is_short : {B : Type 0} (base : ℕ → Option NamedStates) (meaning : B → Meaning) (request : Option Request) (status : Status) (before after was now : Option (List ℕ)) (old new : List B) (watching watched : List Held)
     → request ≡ Some Play → IfShort status (IsShort base meaning request before after was now old new watching watched) → IfShort status (EndsShort base meaning before after was now old new watching watched)
 is_short base meaning request status before after was now old new watching watched e ends = subst (λ (r : Option Request). IfShort status (IsShort base meaning r before after was now old new watching watched)) e ends
-
-pub played_twice : {B : Type 0} (status : Status) (base : ℕ → Option NamedStates) (meaning : B → Meaning) (request : Option Request) (before after was now next_before next_after next_was next_now : Option (List ℕ)) (old between new : List B) (meanwhile watched : List Held) (next : List (Option (List Kept)))
-    → request ≡ Some Play → LeavesKnown status base meaning before after was now old between next → IsDone (bases_of next) meaning request next_before next_after next_was next_now between new meanwhile watched
-    → ArePlayedTwice status base meaning before after was now next_before next_after next_was next_now old new watched
-played_twice status base meaning request before after was now next_before next_after next_was next_now old between new meanwhile watched next e first done = record {
-  between = between;
-  next = next;
-  meanwhile = meanwhile;
-  first = first;
-  second = is_played (bases_of next) meaning request next_before next_after next_was next_now between new meanwhile watched e done;
-}

@@ -1,5 +1,6 @@
 -- What is known of berths that a run left, and two runs one after the other.
-use Rattle.std.specs.Prelude.{◌≡◌, ◌≢◌, ℕ, zero, suc, List, [], ◌∷◌, length, map, slice_get, Option, Some, None, Ok, bytes_eq, nat_lt, if◌then◌else◌}
+use Rattle.std.specs.Prelude.{◌≡◌, ◌≢◌, ℕ, zero, suc, List, [], ◌∷◌, length, map, slice_get, Option, Some, None, Ok, Vec, bytes_eq, nat_lt, if◌then◌else◌}
+use Rattle.std.specs.Global.{Global}
 use Rattle.leaf_model.specs.declared.writes.Write.{Write}
 use Rattle.berth_face.specs.Berth.{Meaning}
 use Rattle.leaf_history.specs.History.{Entry, base_of, no_base}
@@ -21,6 +22,8 @@ use Rattle.transcript.specs.Leaving.{AreKnown, IsToldRun}
 use Rattle.transcript.specs.Transcript.{Known}
 use Rattle.play.specs.Played.{IsBase, IsPlayed}
 use Rattle.play.specs.Cut.{IsShortened}
+use Rattle.play.specs.Ran.{HasRun, Outside, Sight, outside}
+use Rattle.run_words.specs.declared.words.Request.{Request}
 
 -- ---- a base as a list, which unlike a function can be kept
 
@@ -110,10 +113,17 @@ pub data LeavesKnown {B : Type 0} (status : Status) (base : ℕ → Option Named
 
 -- ---- two runs
 
--- one play ended so, and then another was done over what the first left, with the bases that are kept of it
-pub record ArePlayedTwice {B : Type 0} (status : Status) (base : ℕ → Option NamedStates) (meaning : B → Meaning) (before after was now : Option (List ℕ)) (next_before next_after next_was next_now : Option (List ℕ)) (old new : List B) (watched : List Held) : Type 0 where
-  pub between : List B
-  pub next : List (Option (List Kept))
-  pub meanwhile : List Held
-  pub first : LeavesKnown status base meaning before after was now old between next
-  pub second : IsPlayed (bases_of next) meaning next_before next_after next_was next_now between new meanwhile watched
+-- after a run that ended so over berths that are these now, another ran over what the first left known; where nothing could be kept of that, none did
+abbrev pub RunsNext : {S K B W : Type 0} → (B → Meaning) → Sight S K → Option Request → Option Status → (List (Option (List Kept)) → Type 0) → Outside S K B W → Outside S K B W → Type 0
+RunsNext meaning of request None leaves old new = new ≡ old
+RunsNext meaning of request (Some status) leaves old new = (kept : List (Option (List Kept))) × leaves kept × HasRun (bases_of kept) meaning of request status old new
+
+-- a run, from the first of these to a source and a sink of its own, and then the next one over its berths and watches, with its own source and sink
+pub record RanTwice {S K B W : Type 0} (base : ℕ → Option NamedStates) (meaning : B → Meaning) (of : Sight S K) (request : Option Request) (status : Status) (next : Option Status) (old : Outside S K B W) (source : S) (sink : K) (next_source : S) (next_sink : K) (new : Outside S K B W) : Type 0 where
+  pub between : Vec B Global
+  pub watches : W
+  pub held : List Held
+  pub first : HasRun base meaning of request status old (outside source sink between watches held)
+  pub second : RunsNext meaning of request next
+      (LeavesKnown status base meaning (of.left old.source) (of.left source) (of.written old.sink) (of.written sink) old.berths.items between.items)
+      (outside next_source next_sink between watches held) new

@@ -1,16 +1,8 @@
 // What a run leaves known of its berths, and runs over that.
-ghost use Rattle.std.specs.Prelude.{◌≡◌, ◌↔◌, List, Option, None, Some, IfOk, IfSome, length, map, string_bytes};
-ghost use Rattle.berth_face.specs.Causes.{Rose};
-ghost use Rattle.berth_face.specs.Streams.{TakesAtMost};
-ghost use Rattle.rollover_watch.specs.Watches.{Held};
-ghost use Rattle.run_ends.specs.Outcome.{IfScript, UnlessCutOff, UnlessWritten, TakesText};
-ghost use Rattle.row_count.specs.Outcome.{IsCutShort};
-ghost use Rattle.run_ends.specs.Source.{most_taken};
-ghost use Rattle.play_again.specs.Keeping.{ArePlayedTwice, IsKeptBase, Kept, LeavesKnown, bases_of, states_of};
-ghost use Rattle.play.specs.Outcome.{IsDone, IsTextRefused, IfInspect, IfUnread, UnlessPlayed, verdict};
-ghost use Rattle.run_words.specs.Words.{IfCount};
-ghost use Rattle.play.specs.Shortened.{EndsShort, IfShort, IsShort};
-ghost use Rattle.play.specs.Played.{AreBases, IsBase, IsPlayed, LeavesBerths, leaves_asked};
+ghost use Rattle.std.specs.Prelude.{◌≡◌, List, Option, Some, IfOk, IfSome, map, string_bytes};
+ghost use Rattle.play_again.specs.Keeping.{IsKeptBase, Kept, LeavesKnown, RanTwice, bases_of, states_of};
+ghost use Rattle.play.specs.Played.{AreBases, IsBase};
+ghost use Rattle.play.specs.Ran.{HasRun, outside, sight};
 ghost use Rattle.run_words.specs.Words.{request_of};
 ghost use Rattle.run_words.specs.declared.words.Request.TheVariants.{Play};
 
@@ -54,31 +46,9 @@ pub fn run_known<R: Wait + Threads + Sync, S: Source, K: Sink, B: Berth, G: Gate
     known: &KnownBerths,
 ) -> Status
     requires bases { AreBases (bases_of known.now) B.meaning berths.old.items }
-    ensures done { result ≡ Status.Done → IsDone (bases_of known.now) B.meaning (request_of (map string_bytes words.now))
-        (S.left source.old) (S.left source.new) (K.written sink.old) (K.written sink.new) berths.old.items berths.new.items
-        (map (λ watch. held watch) watches.old.items) (map (λ watch. held watch) watches.new.items) }
-    ensures short { IfShort result (IsShort (bases_of known.now) B.meaning (request_of (map string_bytes words.now))
-        (S.left source.old) (S.left source.new) (K.written sink.old) (K.written sink.new) berths.old.items berths.new.items
-        (map (λ watch. held watch) watches.old.items) (map (λ watch. held watch) watches.new.items)) }
-    ensures words { (result ≡ Status.Words) ↔ (request_of (map string_bytes words.now) ≡ None) }
-    ensures script { IfScript result (IsTextRefused (length berths.old.items) (request_of (map string_bytes words.now)) (S.left source.old) (S.left source.new)) }
-    ensures read_fault { result ≡ Status.ReadFault → Rose (S.faults source.old) (S.faults source.new) }
-    ensures write_fault { result ≡ Status.WriteFault → Rose (K.faults sink.old) (K.faults sink.new) }
-    ensures exact { IfSome (S.left source.old)
-        (λ text. UnlessCutOff result (result ≡ verdict (length berths.old.items) (request_of (map string_bytes words.now)) text)) }
-    ensures takes { TakesAtMost (S.left source.old) (S.left source.new) most_taken }
-    ensures too_long { TakesText result (S.left source.old) (S.left source.new) }
-    ensures unread { IfUnread (request_of (map string_bytes words.now)) (source.new ≡ source.old) }
-    ensures unwritten { UnlessPlayed result (sink.new ≡ sink.old) }
-    ensures unplayed { UnlessPlayed result (berths.new ≡ berths.old) }
-    ensures unwatched { UnlessPlayed result (watches.new ≡ watches.old) }
-    ensures count_unwritten { IfCount (request_of (map string_bytes words.now)) (λ range. UnlessWritten result (sink.new ≡ sink.old)) }
-    ensures count_cut_short { IfCount (request_of (map string_bytes words.now)) (λ range. result ≡ Status.WriteFault →
-        IsCutShort range (S.left source.old) (S.left source.new) (K.written sink.old) (K.written sink.new)) }
-    ensures count_unplayed { IfCount (request_of (map string_bytes words.now)) (λ range. berths.new ≡ berths.old) }
-    ensures count_unwatched { IfCount (request_of (map string_bytes words.now)) (λ range. watches.new ≡ watches.old) }
-    ensures inspect_unwatched { IfInspect (request_of (map string_bytes words.now)) (λ leaf. watches.new ≡ watches.old) }
-    ensures berths { LeavesBerths B.meaning (leaves_asked (request_of (map string_bytes words.now)) (S.left source.old)) berths.old.items berths.new.items }
+    ensures { HasRun (bases_of known.now) B.meaning (sight S.left S.faults K.written K.faults) (request_of (map string_bytes words.now)) result
+        (outside source.old sink.old berths.old watches.old (map (λ watch. held watch) watches.old.items))
+        (outside source.new sink.new berths.new watches.new (map (λ watch. held watch) watches.new.items)) }
 {
     run_for::<Brand, R, S, K, B, G>(rt, alloc, words, source, sink, berths, gate, watches, known)
 }
@@ -96,31 +66,9 @@ fn run_for<N: Bases, R: Wait + Threads + Sync, S: Source, K: Sink, B: Berth, G: 
     _known: &KnownBerths,
 ) -> Status
     requires bases { AreBases N.base B.meaning berths.old.items }
-    ensures done { result ≡ Status.Done → IsDone N.base B.meaning (request_of (map string_bytes words.now))
-        (S.left source.old) (S.left source.new) (K.written sink.old) (K.written sink.new) berths.old.items berths.new.items
-        (map (λ watch. held watch) watches.old.items) (map (λ watch. held watch) watches.new.items) }
-    ensures short { IfShort result (IsShort N.base B.meaning (request_of (map string_bytes words.now))
-        (S.left source.old) (S.left source.new) (K.written sink.old) (K.written sink.new) berths.old.items berths.new.items
-        (map (λ watch. held watch) watches.old.items) (map (λ watch. held watch) watches.new.items)) }
-    ensures words { (result ≡ Status.Words) ↔ (request_of (map string_bytes words.now) ≡ None) }
-    ensures script { IfScript result (IsTextRefused (length berths.old.items) (request_of (map string_bytes words.now)) (S.left source.old) (S.left source.new)) }
-    ensures read_fault { result ≡ Status.ReadFault → Rose (S.faults source.old) (S.faults source.new) }
-    ensures write_fault { result ≡ Status.WriteFault → Rose (K.faults sink.old) (K.faults sink.new) }
-    ensures exact { IfSome (S.left source.old)
-        (λ text. UnlessCutOff result (result ≡ verdict (length berths.old.items) (request_of (map string_bytes words.now)) text)) }
-    ensures takes { TakesAtMost (S.left source.old) (S.left source.new) most_taken }
-    ensures too_long { TakesText result (S.left source.old) (S.left source.new) }
-    ensures unread { IfUnread (request_of (map string_bytes words.now)) (source.new ≡ source.old) }
-    ensures unwritten { UnlessPlayed result (sink.new ≡ sink.old) }
-    ensures unplayed { UnlessPlayed result (berths.new ≡ berths.old) }
-    ensures unwatched { UnlessPlayed result (watches.new ≡ watches.old) }
-    ensures count_unwritten { IfCount (request_of (map string_bytes words.now)) (λ range. UnlessWritten result (sink.new ≡ sink.old)) }
-    ensures count_cut_short { IfCount (request_of (map string_bytes words.now)) (λ range. result ≡ Status.WriteFault →
-        IsCutShort range (S.left source.old) (S.left source.new) (K.written sink.old) (K.written sink.new)) }
-    ensures count_unplayed { IfCount (request_of (map string_bytes words.now)) (λ range. berths.new ≡ berths.old) }
-    ensures count_unwatched { IfCount (request_of (map string_bytes words.now)) (λ range. watches.new ≡ watches.old) }
-    ensures inspect_unwatched { IfInspect (request_of (map string_bytes words.now)) (λ leaf. watches.new ≡ watches.old) }
-    ensures berths { LeavesBerths B.meaning (leaves_asked (request_of (map string_bytes words.now)) (S.left source.old)) berths.old.items berths.new.items }
+    ensures { HasRun N.base B.meaning (sight S.left S.faults K.written K.faults) (request_of (map string_bytes words.now)) result
+        (outside source.old sink.old berths.old watches.old (map (λ watch. held watch) watches.old.items))
+        (outside source.new sink.new berths.new watches.new (map (λ watch. held watch) watches.new.items)) }
 {
     run::<N, R, S, K, B, G>(rt, alloc, words, source, sink, berths, gate, watches)
 }
@@ -138,12 +86,10 @@ pub fn run_keeping<N: Bases, R: Wait + Threads + Sync, S: Source, K: Sink, B: Be
 ) -> (Status, Option<KnownBerths>)
     requires words { request_of (map string_bytes words.now) ≡ Some Play }
     requires bases { AreBases N.base B.meaning berths.old.items }
-    ensures done { result.0 ≡ Status.Done → IsPlayed N.base B.meaning (S.left source.old) (S.left source.new) (K.written sink.old) (K.written sink.new) berths.old.items berths.new.items
-        (map (λ watch. held watch) watches.old.items) (map (λ watch. held watch) watches.new.items) }
-    ensures short { IfShort result.0 (EndsShort N.base B.meaning (S.left source.old) (S.left source.new) (K.written sink.old) (K.written sink.new) berths.old.items berths.new.items
-        (map (λ watch. held watch) watches.old.items) (map (λ watch. held watch) watches.new.items)) }
+    ensures ran { HasRun N.base B.meaning (sight S.left S.faults K.written K.faults) (request_of (map string_bytes words.now)) result.0
+        (outside source.old sink.old berths.old watches.old (map (λ watch. held watch) watches.old.items))
+        (outside source.new sink.new berths.new watches.new (map (λ watch. held watch) watches.new.items)) }
     ensures known { IfSome result.1 (λ known. LeavesKnown result.0 N.base B.meaning (S.left source.old) (S.left source.new) (K.written sink.old) (K.written sink.new) berths.old.items berths.new.items known) }
-    ensures berths { LeavesBerths B.meaning (leaves_asked (request_of (map string_bytes words.now)) (S.left source.old)) berths.old.items berths.new.items }
 {
     let source_was = Snapshot::of(&*source);
     let sink_was = Snapshot::of(&*sink);
@@ -182,7 +128,6 @@ fn keep_left<N: Choice, S, K, B>(
 }
 
 /// Two plays, one after the other, over the same berths: the second is begun however the first ended, where there was memory to keep what it left known.
-#[tactic(auto, using(crate::proofs::KeepsBase::bases_left, crate::proofs::KeepsBase::played_twice))]
 pub fn run_twice<N: Bases, R: Wait + Threads + Sync, S: Source, K: Sink, B: Berth, G: Gate>(
     rt: &R,
     alloc: Global,
@@ -198,12 +143,10 @@ pub fn run_twice<N: Bases, R: Wait + Threads + Sync, S: Source, K: Sink, B: Bert
     requires words { request_of (map string_bytes words.now) ≡ Some Play }
     requires bases { AreBases N.base B.meaning berths.old.items }
 
-    // Where the first is done, it was told over the bases of N; where the second is, over a base that the first left, however that ended.
-    ensures first { result.0 ≡ Status.Done → (between : List B) × (meanwhile : List Held) × IsPlayed N.base B.meaning (S.left source.old) (S.left source.new) (K.written sink.old) (K.written sink.new) berths.old.items between
-        (map (λ watch. held watch) watches.old.items) meanwhile }
-    ensures both { result.1 ≡ Some Status.Done → ArePlayedTwice result.0 N.base B.meaning (S.left source.old) (S.left source.new) (K.written sink.old) (K.written sink.new)
-        (S.left next_source.old) (S.left next_source.new) (K.written next_sink.old) (K.written next_sink.new) berths.old.items berths.new.items
-        (map (λ watch. held watch) watches.new.items) }
+    // The first ran over the bases of N, and the second over a base that the first left, however that ended.
+    ensures { RanTwice N.base B.meaning (sight S.left S.faults K.written K.faults) (request_of (map string_bytes words.now)) result.0 result.1
+        (outside source.old sink.old berths.old watches.old (map (λ watch. held watch) watches.old.items)) source.new sink.new next_source.old next_sink.old
+        (outside next_source.new next_sink.new berths.new watches.new (map (λ watch. held watch) watches.new.items)) }
 {
     let (status, known) = run_keeping::<N, R, S, K, B, G>(
         rt, alloc, words, source, sink, berths, gate, watches,

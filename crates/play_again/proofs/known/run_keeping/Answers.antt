@@ -12,7 +12,7 @@ keep_left-requires g c =
     let was = c.args.berths.now.items in
     leaves_kept base meaning left written c.args.source.now c.of-source_was.result.value then.new.source c.args.sink.now c.of-sink_was.result.value then.new.sink
     was c.of-berths_were.result.value.items then.new.berths.items then.result c.of-source_was.ensures c.of-sink_was.ensures (ap (λ v. v.items) c.of-berths_were.ensures)
-    (left_by base meaning (left c.args.source.now) (left then.new.source) (written c.args.sink.now) (written then.new.sink) was then.new.berths.items _ _ c.requires.bases then.ensures.berths.as_many then.result
+    (left_by base meaning (left c.args.source.now) (left then.new.source) (written c.args.sink.now) (written then.new.sink) was then.new.berths.items _ _ c.requires.bases then.ensures.left.as_many then.result
     (λ done. is_played _ _ _ _ _ _ _ _ _ _ _ c.requires.words (then.ensures.done done))
     (is_short _ _ _ then.result _ _ _ _ _ _ _ _ c.requires.words then.ensures.short)
     (unless_then then.result _ _ (λ same. ap written same) then.ensures.unwritten)

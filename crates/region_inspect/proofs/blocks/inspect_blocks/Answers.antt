@@ -111,6 +111,41 @@ loop-places-preserved g c =
       few = omega (arith, few);
     }
 
+pub loop-places-preserved-in_ok-put : goal.loop-places-preserved-in_ok-put
+loop-places-preserved-in_ok-put g c =
+    let old = g.B.Berth.meaning c.args.berth.now in
+    let mid = g.B.Berth.meaning c.loop-places.berth in
+    let region = old.held.region in
+    let all = c.args.blocks.items in
+    let h = to_z w64 (of_z w64 c.args.horizon) in
+    let cut = c.loop-places.cut in
+    let places = c.in-Some.places in
+    let block = c.in-Some-2.block in
+    let so_far = c.loop-places.invariant.untouched in
+    let few = c.if-live-gt-MOST_ROWS.false in
+    let inside = subst (CutsInside cut) c.in-Some.ensures.items c.loop-places.invariant.inside in
+    record {
+      told = λ told.
+          let told_mid = subst IsTrue (sym so_far.time.tells) told in
+          let same = subst (λ (p : Pair). block ≡ block_in p.region places) (so_far.stays told).held (subst (λ f. IfSome f (λ (b : Block). b ≡ block_in mid.held.region places)) c.in-Some-2.is (c.in_ok-block.ensures.some told_mid)) in
+          let is_block = subst IsBlock same (subst (λ f. IfSome f IsBlock) c.in-Some-2.is c.in_ok-block.ensures.block) in
+          let kinds = subst (HasKinds c.args.version) same (are_of_kinds c.args.version block.columns (sym (ap (list_all _) c.columns.ensures) ∙ sym c.are_allowed.ensures ∙ c.if-not-are_allowed.false)) in
+          let count = c.from-live.ensures ∙ c.count_live.ensures ∙ ap (λ (b : Block). length (live_rows cut h b)) same in
+          let shows : ShowsBlock region places c.line_of.result = record {
+            rows = c.line_of.ensures.rows ∙ ap (λ (b : Block). b.rows) same;
+            times = subst (λ (b : Block). IsRange (times_of (rows_in b)) c.line_of.result.from c.line_of.result.to) same c.line_of.ensures.times;
+            columns = c.line_of.ensures.columns ∙ c.size_of-size.ensures.columns;
+            bytes = c.line_of.ensures.bytes ∙ c.size_of-size.ensures.bytes;
+          } in
+          subst (λ (ls : List BlockLine). SoFar c.args.version region all c.args.skip h ls (c.loop-places.live + c.from-live.result) 0 c.pop_front.new.self.items) (sym c.in_ok-put.ensures)
+          (one_more region c.args.version all c.args.skip h c.loop-places.lines.items c.loop-places.live cut c.loop-places.rest.items c.pop_front.new.self.items places (c.loop-places.invariant.told told) c.in-Some.ensures.items
+          c.from-live.result inside count c.line_of.result is_block kinds shows);
+      untouched = untouched_on old mid (g.B.Berth.meaning c.read_block.new.berth) so_far c.read_block.ensures.untouched;
+      small = (subst (AllByRecursion IsSmall) c.in-Some.ensures.items c.loop-places.invariant.small).1;
+      inside = uncut c.pop_front.new.self.items;
+      few = omega (arith, few);
+    }
+
 pub returns-clause-some : goal.returns-clause-some
 returns-clause-some g c =
     λ told.
