@@ -29,7 +29,7 @@ has() {
 find_scuba() {
   scuba=${SCUBA-}
   if [ -n "$scuba" ]; then return; fi
-  "$top/scuba" mem count 0 0 </dev/null >/dev/null || exit 1
+  "$top/scuba" mem play </dev/null >/dev/null || exit 1
   scuba=$top/crates/scuba_cli/out/scuba_cli
 }
 

@@ -1,5 +1,5 @@
 /* To be loaded before the C library (LD_PRELOAD): refuses the one allocation whose number, counted from 1 over the whole process, stands in REFUSE_NTH, and then makes the file that
-   REFUSE_TOLD names. It is no part of the program; `bench/refused` builds and uses it. */
+   REFUSE_TOLD names. It is no part of the program; `tests/refused` builds and uses it. */
 #define _GNU_SOURCE
 #include <errno.h>
 #include <fcntl.h>
