@@ -29,8 +29,8 @@ module _ {B : Type 0} (leaves : ℕ) (meaning : B → Meaning) (berths : List B)
   kept_at leaf b at true used =
       let own = have leaf b (ltb-true leaf leaves used) at in
       let kept = list_kept own.0 own.0 (meaning b) own.1 (λ name. front_same (own.0 name)) in
-      (Some kept.0, kept.1.is_base, λ _. kept.1.is_base)
-  kept_at leaf b at false unused = (None, tt, λ used. absurd (false≢true (sym unused ∙ lt-ltb leaf leaves used)))
+      (Some kept.0, (kept.1.is_base, λ _. kept.1.is_base))
+  kept_at leaf b at false unused = (None, (tt, λ used. absurd (false≢true (sym unused ∙ lt-ltb leaf leaves used))))
 
   kept_one : (leaf : ℕ) (b : B) → slice_get berths leaf ≡ Some b → (k : Option (List Kept)) × IsKeptAt leaf b k
   kept_one leaf b at = kept_at leaf b at (nat_lt leaf leaves) refl
