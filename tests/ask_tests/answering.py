@@ -18,7 +18,9 @@ host      COUNT(*)  AVG(code)
 -                1          -
 7                2      5.000
 ""               1          -
+" a"             1          -
 "-"              1      1.000
+"[]"             1          -
 a,b "c"          2      1.500
 "l\nm"           1          -
 "\u2028"         1          -
@@ -29,7 +31,9 @@ host,COUNT(*),AVG(code)
 ,1,
 7,2,5.0
 "",1,
+ a,1,
 -,1,1.0
+[],1,
 "a,b ""c""",2,1.5
 "l
 m",1,
@@ -131,8 +135,8 @@ def looks(t):
     """The forms by examples that were written by hand."""
     at = t.work / "looks"
     at.mkdir()
-    hosts = [None, 7, 7, "", "-", 'a,b "c"', 'a,b "c"', "l\nm", "日本", "\u2028"]
-    codes = [None, 4, 6, None, 1, 1, 2, "text", None, None]
+    hosts = [None, 7, 7, "", "-", 'a,b "c"', 'a,b "c"', "l\nm", "日本", "\u2028", " a", "[]"]
+    codes = [None, 4, 6, None, 1, 1, 2, "text", None, None, None, None]
     pairs = ({"host": host, "code": code} for host, code in zip(hosts, codes))
     rows = [{"time": 5, **{name: it for name, it in pair.items() if it is not None}} for pair in pairs]
     ups = [(0, -1), (60, 2), (61, 0), (119, 0), (240, 1)]

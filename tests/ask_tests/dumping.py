@@ -1,9 +1,10 @@
 """tools/dump: all rows, of leaves that were drained and that were not, and the way back into a folder."""
 
+import os
 import re
 import subprocess
 
-from scuba_tools import merge
+from scuba_tools import merge, output
 from scuba_tools.region import Region
 
 from .trial import FLEET, PERF, TOOLS, add, bag, bag_of, environment, spoil, state_of
@@ -27,6 +28,7 @@ def dumps(t):
         with open("/dev/full", "wb") as full:
             ran = t.tool("dump", t.whole, "events", stdout=full, env=environment(**variables))
         t.refused("a full output", 1, "^dump: the rows could not be written: No space left on device$", ran)
+    short_writes(t)
     in_pieces(t)
     loads_again(t, t.tool("dump", t.whole, "events").out)
 
@@ -49,6 +51,17 @@ def logs(t):
         t.expect("dump of a leaf without region and log", want, (ran.status, bag_of(ran.out)))
         cause = re.compile(r"^dump: leaf 0: its region is no image \(closed 0\), and it has no log: it has no rows$")
         t.expect("its warning", cause, ran.err)
+
+
+def short_writes(t):
+    """A system that writes some bytes at a time."""
+    got, write = [], os.write
+    os.write = lambda _, data: got.append(bytes(data[:7])) or len(got[-1])
+    try:
+        output.write_all([b"some bytes, ", b"and some more\n"])
+    finally:
+        os.write = write
+    t.expect("writes of a part", b"some bytes, and some more\n", b"".join(got))
 
 
 def in_pieces(t):

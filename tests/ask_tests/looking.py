@@ -15,13 +15,15 @@ def told(t, name, at, status, starts, *causes):
     before, ran = state_of(at), t.tool("folder", "--json", at)
     found = json.loads(ran.out)
     says = ["{} {}".format(leaf["next"], leaf["why"]).strip() for leaf in found["leaves"]]
+    new = [leaf["region"]["bytes"] is None and leaf["log"]["bytes"] is None for leaf in found["leaves"]]
     warnings = [it for leaf in found["leaves"] for it in leaf["warnings"]] + found["warnings"]
     t.expect("folder: " + name, (status, starts, len(causes)), (ran.status, says, len(warnings)))
     for cause, warning in zip(causes, warnings):
         t.expect("folder: {}: its warning".format(name), re.compile(cause), warning)
     text = t.tool("folder", at)
-    shown = [it for it in says + warnings if it not in text.out]
-    t.expect("folder: {}: to people".format(name), (status, [], found["well"]), (text.status, shown, status == 0))
+    hidden = [it for it, is_new in zip(says, new) if not is_new and it not in text.out]
+    hidden += [it for it in warnings if it not in text.out]
+    t.expect("folder: {}: to people".format(name), (status, [], found["well"]), (text.status, hidden, status == 0))
     t.expect("folder: {}: the files after it".format(name), before, state_of(at))
 
 
@@ -75,10 +77,11 @@ def starts(t):
         (at / "fleet").write_text("fleet 2 2 perf\n")
         says = ["fault stranger events"] * 3 + ["disk nohead"]
         told(t, "a fleet of another table and more leaves", at, 1, says)
-        (at / "fleet").write_text("fleet 2 2 events perf\n")
-        told(t, "a fleet with a leaf that is new", at, 0, ["memory"] * 3 + ["disk nohead"])
-        note = "^NOTE the fleet's leaves 3 have no files: "
-        t.expect("folder: its note", re.compile(note, re.M), t.tool("folder", at).out)
+        for fleet, new, name in (("2 2", 1, "leaf 3"), ("1 7", 4, "the leaves 3 to 6")):
+            (at / "fleet").write_text("fleet {} events perf\n".format(fleet))
+            told(t, "a fleet with leaves that are new", at, 0, ["memory"] * 3 + ["disk nohead"] * new)
+            note = "^NOTE there are no files of {}: ".format(name)
+            t.expect("folder: its note", re.compile(note, re.M), t.tool("folder", at).out)
         (at / "fleet").write_text("fleet 1 2 events perf\n")
         left_out = "DIR/fleet has 2 leaves, and leaves out the rows of leaf 2$"
         told(t, "a fleet that leaves a leaf out", at, 1, ["memory"] * 3, left_out)

@@ -37,6 +37,10 @@ class Rows:
         self.first, self.second = (
             [[make_row(draw) for _ in range(40 + 10 * leaf)] for leaf in range(3)] for _ in range(2)
         )
+        # The keep takes the least time of leaf 2 away, and the horizon that of leaf 1.
+        for row in self.first[2] + self.second[2]:
+            row["time"] = max(row["time"], 1)
+        self.first[1][0]["time"] = self.first[2][0]["time"] = 0
 
     def leaf(self, leaf):
         rows = self.first[leaf] + self.second[leaf]

@@ -1,1 +1,1 @@
-"""What the tools share. Each tool stands beside this package, and needs Python's standard library alone (3.8 or later)."""
+"""What the tools share. They stand beside this package, and need Python's standard library alone (3.8 or later)."""

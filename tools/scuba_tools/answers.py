@@ -1,8 +1,11 @@
-"""Reads what the program prints: the answers with their values, how each leaf started, and the lines that say that something was not done."""
+"""Reads what the program prints: answers, how each leaf started, and the lines that tell of something not done."""
 
 import collections
+import itertools
 import json
 import re
+
+from .program import Fault
 
 # A line that says that a command was not done, or not whole. The last two are those of a standing query and of a tail.
 TROUBLE = re.compile(
@@ -30,12 +33,16 @@ class Answer:
         self.named, self.of, self.lines = named, of, lines
 
     def rows(self):
-        """A list of values for each line: None where there is none, an int, a str, a list of str for a set, or an Average."""
+        """The values of each line: an int, a str, a list of str for a set, an Average, or None for a missing one."""
         return [values(line.decode()) for line in self.lines]
 
 
 class Printed:
-    """What a run printed: `answers` in the order of the queries, `starts` by leaf (`memory`, `disk closed 0`, `fault region`), `troubles` as lines."""
+    """What a run printed.
+
+    `answers` stand in the order of the queries; `starts` has for each leaf what its start said (`memory`,
+    `disk closed 0`, `fault region`); `troubles` are the lines that tell of something not done.
+    """
 
     def __init__(self, printed):
         self.answers, self.starts, self.troubles = [], {}, []
@@ -48,7 +55,9 @@ class Printed:
         answer, start = ANSWER.fullmatch(line), START.fullmatch(line)
         if answer:
             named, of, count = (int(it or 1) for it in answer.groups())
-            self.answers.append(Answer(named, of, [next(lines) for _ in range(count)]))
+            self.answers.append(Answer(named, of, list(itertools.islice(lines, count))))
+            if len(self.answers[-1].lines) < count:
+                raise Fault("the program printed a part of an answer")
         if start:
             self.starts[int(start.group(1))] = start.group(2).decode()
         if TROUBLE.match(line):
@@ -74,7 +83,10 @@ Column = collections.namedtuple("Column", "label name aggregate")
 
 
 def columns(query):
-    """The columns of a query that the program took: what to call each, the name that it reads (None of COUNT(*)), and its aggregate (None of a key)."""
+    """The columns of a query that the program took.
+
+    Each has a label, the name of the cell that it reads (None of COUNT(*)), and its aggregate (None of a key).
+    """
     tokens, found = TOKEN.finditer(query), []
     next(tokens)
     while True:

@@ -1,7 +1,7 @@
 """Copies of a folder's files in memory, over which the program can run: the folder itself stays as it is.
 
-A copy is a file without a name (`memfd_create`), and the program finds it by a link in a folder of links. So nothing of a copy is left where a tool is killed, and the size of /dev/shm
-is no limit.
+A copy is a file without a name (`memfd_create`), which the program finds by a link in a folder of links. So a tool that
+is killed leaves no copy behind, and the size of /dev/shm is no limit.
 """
 
 import os
@@ -15,7 +15,7 @@ THREADS = 4
 
 
 class Copies:
-    """A folder of links, `path`, and the files behind them. With `files` handed to the program it may start the leaves there, and change them."""
+    """A folder of links, `path`, and the files behind them. A program that inherits `files` may run over the folder."""
 
     def __init__(self):
         self.path, self.files, self.made = links_folder(), [], {}
@@ -24,9 +24,13 @@ class Copies:
         return self
 
     def __exit__(self, *_):
+        self.close()
+
+    def close(self):
         for file in self.files:
             os.close(file)
-        for name in self.made:
+        # The program makes files there too, of leaves that have none.
+        for name in os.listdir(self.path):
             os.unlink(os.path.join(self.path, name))
         os.rmdir(self.path)
 
@@ -53,10 +57,16 @@ class Copies:
         faults = []
         threads = [threading.Thread(target=copy_all, args=(tasks, faults)) for _ in range(min(THREADS, len(tasks)))]
         tasks.reverse()
-        for thread in threads:
-            thread.start()
-        for thread in threads:
-            thread.join()
+        try:
+            for thread in threads:
+                thread.start()
+            for thread in threads:
+                thread.join()
+        finally:
+            # A signal may end the wait: no thread may write to a file that is closed then.
+            tasks.clear()
+            for thread in threads:
+                thread.join()
         if faults:
             raise Fault("the copy in memory failed: {}".format(faults[0].strerror))
 
@@ -98,7 +108,8 @@ def need_memory(size):
     with open("/proc/meminfo", encoding="ascii") as lines:
         found = [int(line.split()[1]) << 10 for line in lines if line.startswith("MemAvailable:")]
     if found and size > found[0]:
-        raise Fault("a copy takes {:.0f} MB of memory, and the machine has {:.0f} MB".format(size / 1e6, found[0] / 1e6))
+        sizes = "{:.0f} MB of memory, and the machine has {:.0f} MB".format(size / 1e6, found[0] / 1e6)
+        raise Fault("a copy takes {}".format(sizes))
 
 
 def need_descriptors(count):
@@ -106,4 +117,5 @@ def need_descriptors(count):
     soft, hard = resource.getrlimit(resource.RLIMIT_NOFILE)
     needed = 4 * count + 256
     if soft != resource.RLIM_INFINITY and soft < needed:
-        resource.setrlimit(resource.RLIMIT_NOFILE, (needed if hard == resource.RLIM_INFINITY else min(needed, hard), hard))
+        most = needed if hard == resource.RLIM_INFINITY else min(needed, hard)
+        resource.setrlimit(resource.RLIMIT_NOFILE, (most, hard))

@@ -7,6 +7,7 @@ import re
 from .program import Fault
 
 MOST_LEAVES, MOST_TABLES = 256, 16
+LOCKS = "/proc/locks"
 LEAF_FILE = re.compile(r"leaf-(0|[1-9][0-9]{0,2})\.(?:region|disk)")
 TABLE_NAME = re.compile(r"[a-z][a-z0-9_]{0,63}")
 # A line of /proc/locks: the process, the device's two numbers in hexadecimal, and the inode.
@@ -100,7 +101,7 @@ class Folder:
             os.close(folder)
 
     def lock(self, exclusive, wait):
-        """Locks the folder itself, and gives the descriptor that holds the lock. The program takes no notice of this lock; tools do."""
+        """Locks the folder itself, and gives the descriptor that has the lock. The program does not look at it."""
         try:
             folder = os.open(self.path, os.O_RDONLY | os.O_DIRECTORY)
         except OSError as error:
@@ -116,24 +117,78 @@ class Folder:
 
     def serving(self):
         """The leaves whose files a program has locked, each with its process. No lock is taken for that."""
-        holders, found = lock_holders(), {}
-        for leaf in self.leaves() if holders else ():
+        held, found = locks(), {}
+        for leaf in self.leaves() if held else ():
             for path in (self.region(leaf), self.disk(leaf)):
-                try:
-                    told = os.stat(path)
-                except OSError:
-                    continue
-                pid = holders.get((os.major(told.st_dev), os.minor(told.st_dev), told.st_ino))
+                pid = holder_of(path, held)
                 if pid is not None:
                     found.setdefault(leaf, pid)
         return found
 
 
-def lock_holders():
-    """The process that holds a lock by `flock` on each file of the machine: by the device's two numbers and the inode. A process of another namespace has the number 0."""
+def locks():
+    """The locks by `flock` on the machine: for each inode the device's two numbers and the process."""
+    held = {}
     try:
-        with open("/proc/locks", encoding="ascii", errors="replace") as lines:
-            matches = [LOCK_LINE.match(line) for line in lines]
+        with open(LOCKS, encoding="ascii", errors="replace") as lines:
+            for found in filter(None, map(LOCK_LINE.match, lines)):
+                device = int(found.group(2), 16), int(found.group(3), 16)
+                held.setdefault(int(found.group(4)), []).append((device, int(found.group(1))))
     except OSError:
-        return {}
-    return {(int(m.group(2), 16), int(m.group(3), 16), int(m.group(4))): int(m.group(1)) for m in matches if m}
+        # Without /proc nothing is known of locks.
+        pass
+    return held
+
+
+def holder_of(path, held):
+    """The process that has locked a file, or None."""
+    try:
+        told = os.stat(path)
+    except OSError:
+        return None
+    for device, pid in held.get(told.st_ino, ()):
+        # Btrfs tells another device there than here. So a process that has the file open is taken too.
+        if device == (os.major(told.st_dev), os.minor(told.st_dev)) or has_open(pid, told):
+            return pid
+    return None
+
+
+def has_open(pid, told):
+    """Whether a process has a file open, as far as this user may know."""
+    files = "/proc/{}/fd".format(pid)
+    try:
+        paths = [os.path.join(files, name) for name in os.listdir(files)]
+    except OSError:
+        return False
+    for path in paths:
+        try:
+            if os.path.samestat(os.stat(path), told):
+                return True
+        except OSError:
+            continue
+    return False
+
+
+def identity(path):
+    """Inode, size, times and first 16 bytes of a file: they tell that it was written or replaced. None without it."""
+    try:
+        file = os.open(path, os.O_RDONLY)
+    except FileNotFoundError:
+        return None
+    except OSError as error:
+        raise Fault("{} cannot be read: {}".format(path, error.strerror))
+    try:
+        told = os.fstat(file)
+        return told.st_ino, told.st_size, told.st_mtime_ns, told.st_ctime_ns, os.pread(file, 16, 0)
+    finally:
+        os.close(file)
+
+
+def process_name(pid):
+    """A process as its user knows it: its number and its words."""
+    try:
+        with open("/proc/{}/cmdline".format(pid), "rb") as kept:
+            words = kept.read(4096).replace(b"\0", b" ").decode(errors="replace").strip()
+    except OSError:
+        words = ""
+    return "process {} ({})".format(pid, words) if words else "process {}".format(pid)

@@ -1,14 +1,21 @@
-"""Reads a leaf's log by its format (docs/FORMATS.md): where its records stand, of which tables they are, and where it ends. Nothing is changed, and no lock is taken."""
+"""Reads a leaf's log by its format (docs/FORMATS.md): its records, their tables, and where it ends.
 
+Nothing is changed, and no lock is taken.
+"""
+
+import collections
 import os
+
+from .region import read_all
+
+# The place of the open gate before a record, the length of the record, and its table.
+Record = collections.namedtuple("Record", "place length table")
+# A gate, the length of a record, its kind, and a name of at most 255 bytes with its length.
+RECORD_HEAD = 1 + 8 + 1 + 1 + 255
 
 
 class Damaged(Exception):
-    """An open gate at `place` has no record and gate behind it."""
-
-    def __init__(self, place):
-        super().__init__(place)
-        self.place = place
+    """An open gate has no record and gate behind it."""
 
 
 class Log:
@@ -19,40 +26,36 @@ class Log:
             self.file = os.open(path, os.O_RDONLY)
         except FileNotFoundError:
             self.file = None
-        self.size = 0 if self.file is None else os.fstat(self.file).st_size
-        # Where the log ends, as far as `records` went
+        self.is_there = self.file is not None
+        self.size = os.fstat(self.file).st_size if self.is_there else 0
+        # Where the log ends, as far as `records` went.
         self.end = 0
 
     def __enter__(self):
         return self
 
     def __exit__(self, *_):
-        if self.file is not None:
+        if self.is_there:
             os.close(self.file)
 
     def records(self):
-        """The place of each open gate, and the length of the record behind it. What a record holds is not looked at."""
+        """The records up to the log's end, by gates and lengths. What else a record holds is not looked at."""
         while self.size > 1:
-            head = os.pread(self.file, 9, self.end)
+            head = os.pread(self.file, RECORD_HEAD, self.end)
             if head[:1] != b"\1":
                 return
-            length = int.from_bytes(head[1:], "little")
-            if len(head) < 9 or self.end + 9 + length >= self.size:
-                raise Damaged(self.end)
-            yield self.end, length
+            length = int.from_bytes(head[1:9], "little")
+            if len(head) < 11 or self.end + 9 + length >= self.size:
+                raise Damaged
+            yield Record(self.end, length, head[11 : 11 + head[10]].decode(errors="replace"))
             self.end += 9 + length
 
-    def record(self, place, length):
-        """The bytes of the record behind the gate at a place."""
-        return os.pread(self.file, length, place + 9)
+    def bytes_of(self, record):
+        return read_all(self.file, record.place + 9, record.length)
 
-    def table(self, place):
-        """The table of the record behind the gate at a place."""
-        head = os.pread(self.file, 256, place + 10)
-        return head[1 : 1 + head[0]].decode(errors="replace")
-
-    def is_closed_at(self, place):
-        """Whether a closed gate stands at this place. An empty log has one at the place 0."""
-        if place == 0 and self.size <= 1:
-            return True
-        return self.file is not None and os.pread(self.file, 1, place) not in (b"", b"\1")
+    def may_end_at(self, place):
+        """Whether the log ends at this place, as far as two of its bytes tell. `records` tells it exactly."""
+        if self.size <= 1:
+            return place == 0
+        first, there = os.pread(self.file, 1, 0), os.pread(self.file, 1, place)
+        return there not in (b"", b"\1") and (place == 0 or first == b"\1")

@@ -1,7 +1,6 @@
-"""Finds the program, and runs it over a folder."""
+"""Finds the program, and runs it."""
 
 import os
-import shutil
 import subprocess
 
 TREE = os.path.dirname(os.path.dirname(os.path.dirname(os.path.realpath(__file__))))
@@ -12,27 +11,48 @@ class Fault(Exception):
 
 
 def find_program(given=None):
-    """The path of the program: `given`, else the variable SCUBA, else the program of the tree beside the tools, else `scuba` on the PATH."""
+    """The path of the program.
+
+    It is the one that `given` names, else the variable SCUBA, else that of the tree beside the tools, else `scuba` on
+    the PATH.
+    """
     for source, name in (("--scuba", given), ("the variable SCUBA", os.environ.get("SCUBA"))):
         if name:
-            found = shutil.which(name)
+            found = runnable(name)
             if not found:
                 raise Fault("{} names {}, which is no program".format(source, name))
-            return os.path.abspath(found)
-    found = built_program() or shutil.which("scuba")
+            return found
+    found = built_program() or runnable("scuba")
     if not found:
-        raise Fault("the program is not there: name it with --scuba or the variable SCUBA, or put `scuba` on the PATH")
-    return os.path.abspath(found)
+        raise Fault("there is no program: name it with --scuba or the variable SCUBA, or put `scuba` on the PATH")
+    return found
+
+
+def runnable(name):
+    """The path of a program: of a name without a slash the first on the PATH. None if there is none."""
+    folders = [""] if os.sep in name else os.get_exec_path()
+    for path in (os.path.join(folder, name) for folder in folders):
+        if os.path.isfile(path) and os.access(path, os.X_OK):
+            return os.path.abspath(path)
+    return None
 
 
 def built_program():
-    """The program of the tree, which its launcher builds where it is missing or older than its sources. None where there is no tree, or no build."""
-    launcher, built = os.path.join(TREE, "scuba"), os.path.join(TREE, "crates/scuba_cli/out/scuba_cli")
-    if not os.access(launcher, os.X_OK) or not os.path.isdir(os.path.join(TREE, "crates/scuba_cli")):
+    """The program of the tree, which its launcher builds if it is missing or older than its sources. It may be None."""
+    launcher, crate = os.path.join(TREE, "scuba"), os.path.join(TREE, "crates", "scuba_cli")
+    if not os.access(launcher, os.X_OK) or not os.path.isdir(crate):
         return None
-    # An empty script makes the launcher look at the whole program, and plays nothing. It says on standard error why it cannot build.
+    # An empty script makes the launcher look at the whole program, and plays nothing. The launcher says on standard
+    # error what it builds, and why it cannot.
     ran = subprocess.run([launcher, "mem", "play"], stdin=subprocess.DEVNULL, stdout=subprocess.DEVNULL)
+    built = os.path.join(crate, "out", "scuba_cli")
     return built if ran.returncode == 0 and os.access(built, os.X_OK) else None
+
+
+def add_option(parser):
+    """The option that names the program."""
+    what = "the program; else the variable SCUBA, the program of this tree, or `scuba` on the PATH"
+    parser.add_argument("--scuba", metavar="PROGRAM", help=what)
 
 
 class Ran:
@@ -44,8 +64,9 @@ class Ran:
 
 def run(program, words, script=b"", pass_fds=()):
     """Runs the program with these words and this input."""
+    pipe = subprocess.PIPE
     try:
-        ran = subprocess.run([program, *words], input=script, stdout=subprocess.PIPE, stderr=subprocess.PIPE, pass_fds=pass_fds)
+        ran = subprocess.run([program, *words], input=script, stdout=pipe, stderr=pipe, pass_fds=pass_fds)
     except OSError as error:
         raise Fault("{} cannot be run: {}".format(program, error.strerror))
     return Ran(ran.returncode, ran.stdout, ran.stderr.decode(errors="replace").strip())
