@@ -17,6 +17,9 @@ def lines_of(rows):
     return "".join(compact(row) + "\n" for row in rows).encode()
 
 
+ROWS = [{"time": i, "id": i, "h": "h{}".format(i % 9)} for i in range(120)]
+
+
 # ---- records from a seed
 
 
@@ -69,20 +72,25 @@ def plain_row(chance, number):
     return {name: row[name] for name in row if name == "time" or chance.random() < 0.7}
 
 
+LONG_NAME = "k" * 90
+MIXED_NAMES = ["id", *("{}.{}".format(LONG_NAME, end) for end in "abcd")]
+
+
 def mixed():
-    """An input of which some pieces of 20 lines are taken as they are, some make several scripts of 5,120 bytes, and
-    some have lines that are no rows; its rows; and those lines."""
+    """An input of three pieces of 20 lines; its rows; and the lines that are none.
+
+    The first piece is taken as it is. The rows of the second make three scripts of 5,120 bytes. The third has lines
+    that are no rows.
+    """
     lines, rows, bad = [], [], []
     for i in range(60):
-        row = {"time": i, "id": i, "x": "x" * (20 if i < 20 else 150)}
-        text = compact(row)
-        if 20 <= i < 40 and i % 5 == 0:
-            row, text = {**row, "f": "1.5"}, compact({**row, "f": 1.5})
-        if i in (27, 44, 45):
+        row = {"time": i, "id": i}
+        inner = {"a": i, "b": 2, "c": 3, "d": 4} if 20 <= i < 40 else {}
+        if i in (44, 45):
             bad.append((len(lines) + 1, "no JSON object", str(i)))
             lines.append(str(i))
-        lines.append(text)
-        rows.append(row)
+        lines.append(compact({**row, LONG_NAME: inner} if inner else row))
+        rows.append({**row, **{"{}.{}".format(LONG_NAME, name): value for name, value in inner.items()}})
     return "\n".join(lines).encode(), rows, bad
 
 

@@ -8,9 +8,9 @@ import re
 import subprocess
 import time
 
-from load_cases import compact, mixed
-from load_runs import ALL_TIMES, COUNTS, GUARD, Place, ask, bag, bag_of, begin, expect, kill, load, new
-from load_runs import refused, sums, sums_of, until, wrapper
+from load_cases import MIXED_NAMES, compact, lines_of, mixed
+from load_runs import ALL_TIMES, COUNTS, GUARD, Place, ask, bag, bag_of, begin, expect, journal_of, kill, load
+from load_runs import new, refused, sums, sums_of, until, wrapper
 
 WHY_FULL = re.compile(
     "^load: [^\n]*(the disk is full|cannot be written: (No space left on device|it could not be written whole)).*\n$"
@@ -43,13 +43,23 @@ def killed_once(case):
         COUNTS["kills"] += first.status in (3, -9)
     name = "kill of {}, run {}".format(what, at)
     expect(name + ": status", True, first.status in (3, -9, 1) and last.status == 1)
-    expect(name + ": rows", bag_of(rows, ["id", "x", "f"]), bag(folder, ["id", "x", "f"]))
+    three = re.findall(r'"read":1,"rows":\[\d+,\d+,\d+\]', journal_of(folder))
+    expect(name + ": parts of the second piece", 1, len(three))
+    expect(name + ": rows", bag_of(rows, MIXED_NAMES), bag(folder, MIXED_NAMES))
     expect(name + ": put aside", bad, refused(folder))
 
 
 def section_steps():
     with concurrent.futures.ThreadPoolExecutor(2) as pool:
         list(pool.map(killed_once, itertools.product(KILLED, (1, 2, 4, 5))))
+    folder, name = new("beside"), "kill while a piece is read and its leaf has another run: "
+    rows = [{"time": i, "id": i} for i in range(7999)]
+    data = b"none\n" + lines_of(rows)
+    words = [*"--leaves 1 --piece 4000 --jobs 2".split(), folder, "t"]
+    first = load(data, *words, program=wrapper(folder, "[ $n -ne 2 ] || { kill -KILL $PPID; sleep 0.05; }"))
+    expect(name + "status", (-9, 1), (first.status, load(data, *words).status))
+    expect(name + "rows", sums_of(rows), sums(folder))
+    expect(name + "put aside", [(1, "none")], [it[::2] for it in refused(folder)])
 
 
 def section_kills():
@@ -79,7 +89,7 @@ def kill_until_whole(path, words, folder, chance, took):
         if kills < 30:
             # Each load does something before it is killed.
             until(lambda: journal_size(folder) > size or run.poll() is not None)
-            time.sleep(chance.random() * took / 8)
+            time.sleep(chance.random() * took / 20)
             kills += kill(run, chance)
         status = run.wait()
     with GUARD:
@@ -123,3 +133,9 @@ def fill(point):
     expect("a full disk: how often", True, ends.count(3) >= 3)
     expect("a full disk: rows", sums_of(rows), sums(folder))
     expect("a full disk: put aside", list(range(501, 511)), [line for line, _, _ in refused(folder)])
+    subprocess.run(["mount", "-o", "remount,ro", str(point)], check=True)
+    why = re.compile("^load: [^\n]*: Read-only file system[^\n]*\n$")
+    for words, status in (([folder, "t"], 3), ([folder, "u"], 2), ([point / "new", "t"], 2)):
+        ended = load(b'{"time":1}\n', "--batch", "ro", *words)
+        expect("a folder that cannot be written: status", status, ended.status)
+        expect("a folder that cannot be written", why, ended.err)

@@ -180,7 +180,7 @@ def batch_of(found, front):
         size, told = journal.head["front"]
         if size < len(front) and sum_of(front[:size]) == told:
             raise Fault(
-                "the first {} lines of the input are those of the batch {b}: `--batch {b}` goes on behind them, and "
+                "the first {} lines of the input are those of the batch {b}: `--batch {b}` goes on after them, and "
                 "`--batch NEWNAME` loads all lines".format(front.count(b"\n", 0, size), b=journal.batch)
             )
     return own

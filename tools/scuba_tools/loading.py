@@ -117,10 +117,13 @@ class Load:
 
     def begin_one(self):
         """Begins a process, or makes something ready for one. False where nothing can be begun now."""
-        if self.to_load:
-            return bool(self.leaves.idle) and self.begin_run(self.to_load.popleft())
+        if self.to_load and self.leaves.idle:
+            return self.begin_run(self.to_load.popleft())
         if self.to_read:
             return self.begin_reading(self.to_read.popleft())
+        if self.to_load:
+            # More input would wait in memory.
+            return False
         piece = None if self.is_over else self.next_piece()
         if piece is None:
             self.is_over = True
@@ -160,7 +163,10 @@ class Load:
             file.write("{}\t{}\t".format(piece.line, cause).encode())
             self.cutter.long_line(piece, file.write)
 
+        # What other processes read is put aside behind the whole line.
+        self.cutter.idle = self.tell
         size = self.journal.put_aside(write)
+        self.cutter.idle = self.idle
         told = {"read": piece.number, "rows": [], "refused": 1, "aside": size}
         self.journal.note(step_of(piece), told, is_synced=True)
 
@@ -237,8 +243,8 @@ class Load:
     def no_rows(self, piece):
         with open(self.journal.refused_path, "rb") as file:
             line, cause = file.readline(BLOCK).decode(errors="replace").split("\t")[:2]
-        return "none of the first {} lines is a row: of line {} the cause is `{}`, and {} has the others. {}".format(
-            piece.lines, line, cause, self.journal.refused_name, "The same command goes on behind them"
+        return "none of the first {} lines is a row: of line {} the cause is `{}`, and {} has the others".format(
+            piece.lines, line, cause, self.journal.refused_name
         )
 
     # ---- runs

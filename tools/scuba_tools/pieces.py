@@ -15,10 +15,10 @@ BLOCK = 1 << 20
 MOST_SCRIPT, HEAD, DRAIN = 16 << 20, 2048, b"drain 0\n"
 BYTE_ORDER_MARK = b"\xef\xbb\xbf"
 STRANGE = (
-    (b"\x1f\x8b", "it is packed by gzip: give it as `zcat FILE | tools/load ..`"),
-    (b"\x28\xb5\x2f\xfd", "it is packed by zstd: give it as `zstdcat FILE | tools/load ..`"),
-    (b"\xff\xfe", "it is UTF-16: give it as `iconv -f UTF-16 -t UTF-8 FILE | tools/load ..`"),
-    (b"\xfe\xff", "it is UTF-16: give it as `iconv -f UTF-16 -t UTF-8 FILE | tools/load ..`"),
+    (b"\x1f\x8b", "it is packed by gzip: give what `zcat` prints"),
+    (b"\x28\xb5\x2f\xfd", "it is packed by zstd: give what `zstdcat` prints"),
+    (b"\xff\xfe", "it is UTF-16: give what `iconv -f UTF-16 -t UTF-8` prints"),
+    (b"\xfe\xff", "it is UTF-16: give what `iconv -f UTF-16 -t UTF-8` prints"),
 )
 
 

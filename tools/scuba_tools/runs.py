@@ -116,7 +116,7 @@ class Leaves:
             last = printed.strip().split("\n")[-1]
             told = ": " + last if last.startswith("scuba: ") else ""
             return "leaf {}: the run ended with {}{}".format(leaf, ending(status), told)
-        why = next(why for word, why in CAUSES if word in lines[0])
+        why = next((why for word, why in CAUSES if word in lines[0]), "the program refused it")
         if re.search("fault (disk|region)", lines[0]):
             space, serving = os.statvfs(self.folder.path), self.folder.serving()
             if leaf in serving:
