@@ -1,12 +1,14 @@
 -- What is looked for in rows.
-use Rattle.std.specs.Prelude.{ℕ, List, [], ◌∷◌, map, ℤ, Bool, false, Option, Some, None, if◌then◌else◌, bytes_eq}
+use Rattle.std.specs.Prelude.{ℕ, List, [], ◌∷◌, ◌++◌, take, drop, map, ℤ, Bool, false, Option, Some, None, if◌then◌else◌, bytes_eq}
 use Rattle.leaf_model.specs.declared.rows.Value.{Value}
 use Rattle.leaf_model.specs.declared.rows.Value.TheVariants as values
 use Rattle.leaf_model.specs.declared.rows.Cell.{Cell}
 use Rattle.leaf_model.specs.declared.rows.Row.{Row}
 use Rattle.leaf_model.specs.declared.looks.Sought.{Sought}
 use Rattle.leaf_model.specs.declared.looks.Sought.TheVariants as sought
+use Rattle.leaf_model.specs.declared.lent_cells.LentValue.{LentValue}
 use Rattle.leaf_model.specs.Groups.{cell_value}
+use Rattle.leaf_model.specs.Lent.{each_value}
 
 -- what a row has of it
 abbrev pub sought_in : Row → Sought → Option Value
@@ -36,3 +38,7 @@ abbrev pub filled : List Sought → List (Option Value) → List Cell → List (
 filled [] values cells = []
 filled (s ∷ ss) [] cells = []
 filled (s ∷ ss) (v ∷ vs) cells = filled_one s v cells ∷ filled ss vs cells
+
+-- the same behind a cell and some others, where the first so many have had the cell
+abbrev pub filled_from : List Sought → List (Option LentValue) → ℕ → Cell → List Cell → List (Option Value)
+filled_from all items i c others = filled (take i all) (each_value (take i items)) others ++ filled (drop i all) (each_value (drop i items)) (c ∷ others)

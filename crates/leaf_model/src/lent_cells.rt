@@ -72,7 +72,7 @@ impl<'a> LentCell<'a> {
 
 /// The texts of a set behind their number, and what follows them.
 #[tactic(auto, unfolding(crate::specs::Reading::set_at))]
-fn set_in(bytes: &[u8]) -> (LentTexts<'_>, &[u8])
+pub(crate) fn set_in(bytes: &[u8]) -> (LentTexts<'_>, &[u8])
     requires { IsSome (set_at bytes.now) }
     ensures { set_at bytes.now ≡ Some (lent_texts result.0, result.1.now) }
 {
@@ -83,7 +83,7 @@ fn set_in(bytes: &[u8]) -> (LentTexts<'_>, &[u8])
 
 /// A value at the front of bytes, and what follows it.
 #[tactic(auto, unfolding(crate::specs::Reading::value_at))]
-fn value_in(bytes: &[u8]) -> (LentValue<'_>, &[u8])
+pub(crate) fn value_in(bytes: &[u8]) -> (LentValue<'_>, &[u8])
     requires { IsSome (value_at bytes.now) }
     ensures { value_at bytes.now ≡ Some (lent_value result.0, result.1.now) }
 {
@@ -106,7 +106,7 @@ fn value_in(bytes: &[u8]) -> (LentValue<'_>, &[u8])
 
 /// A cell at the front of bytes, and what follows it.
 #[tactic(auto, unfolding(crate::specs::Fronts::any_cell_at))]
-pub(crate) fn cell_in(bytes: &[u8]) -> (LentCell<'_>, &[u8])
+fn cell_in(bytes: &[u8]) -> (LentCell<'_>, &[u8])
     requires { IsSome (any_cell_at bytes.now) }
     ensures { any_cell_at bytes.now ≡ Some (lent_cell result.0, result.1.now) }
 {

@@ -1,18 +1,22 @@
 // Rows of which some values are looked for: each row is walked once, to its end.
-ghost use Rattle.std.specs.Prelude.{◌≡◌, ◌∷◌, List, length, map, option_map, IsSome, IfSome, Some};
+ghost use Rattle.std.specs.Prelude.{◌≡◌, ◌≤◌, ◌<◌, ◌∷◌, ℕ, List, Option, length, map, option_map, slice_index_or, true, IsSome, IfSome, Some};
+ghost use Rattle.std.specs.Str.{bytes_eq};
 ghost use Rattle.std.specs.Vec.{vec_len};
 ghost use Rattle.leaf_model.specs.declared.rows.Cell.{Cell};
 ghost use Rattle.leaf_model.specs.declared.rows.Row.{Row};
-ghost use Rattle.leaf_model.specs.Fronts.{any_cells_at, front_of};
+ghost use Rattle.leaf_model.specs.declared.rows.Value.{Value};
+ghost use Rattle.leaf_model.specs.declared.lent_cells.LentValue.{LentValue};
+ghost use Rattle.leaf_model.specs.declared.looks.Sought.{Sought};
+ghost use Rattle.leaf_model.specs.Fronts.{any_cell_at, any_cells_at, front_of};
 ghost use Rattle.leaf_model.specs.Groups.{value_of};
 ghost use Rattle.leaf_model.specs.Lent.{each_value, lent_cell, lent_cells, lent_row, lent_rows, lent_value, rows_before, rows_parted, spelled_rows};
-ghost use Rattle.leaf_model.specs.Looks.{begun, begun_one, filled, filled_one, is_sought, sought_in};
-ghost use Rattle.leaf_model.specs.Reading.{row_at};
+ghost use Rattle.leaf_model.specs.Looks.{begun, begun_one, filled, filled_from, filled_one, is_sought, sought_in};
+ghost use Rattle.leaf_model.specs.Reading.{row_at, value_at};
 
 use crate::fronts::{SpelledCells, SpelledRows};
-use crate::lent_cells::{LentCell, LentCells, LentValue, cell_in};
+use crate::lent_cells::{LentCell, LentCells, LentValue, set_in, value_in};
 use crate::lent_rows::{LentRow, LentRows};
-use crate::spelled::{time_in, u16_in};
+use crate::spelled::{long_text_in, name_in, time_in, u16_in, u64_in};
 use crate::text::Text;
 
 /// What is looked for in a row: its time, or what it has under a name.
@@ -34,45 +38,171 @@ impl<'a> Sought<'a> {
         }
     }
 
-    /// What is there before any cell was looked at.
-    fn begin<'b>(self, time: i64) -> Option<LentValue<'b>>
-        ensures { option_map lent_value result ≡ begun_one time self.entry }
-    {
-        match self {
-            Sought::Time => Some(LentValue::Int(time)),
-            Sought::Cell(_name) => None,
-        }
-    }
-
-    /// Whether it is the cell's value.
-    fn is(self, cell: &LentCell) -> bool
-        ensures { result ≡ is_sought self.entry cell.now.name.now }
+    /// Whether it is what the cell of that name has.
+    #[inline(always)]
+    fn is(self, name: &str) -> bool
+        ensures { result ≡ is_sought self.entry name.now }
     {
         match self {
             Sought::Time => false,
-            Sought::Cell(name) => name.as_bytes() == cell.name.as_bytes(),
+            Sought::Cell(other) => is_same(other.as_bytes(), name.as_bytes()),
         }
     }
 }
 
-/// One cell more that was looked at: it counts where nothing is there yet.
-fn note_one<'b>(sought: Sought, cell: &LentCell<'b>, seen: &mut Option<LentValue<'b>>)
-    ensures { (others : List Cell) → filled_one sought.entry (option_map lent_value seen.new) others ≡ filled_one sought.entry (option_map lent_value seen.old) (lent_cell cell.now ∷ others) }
+/// Whether two names are one: those that are not mostly differ in their length or in their first byte.
+#[inline(always)]
+fn is_same(a: &[u8], b: &[u8]) -> bool
+    ensures { result ≡ bytes_eq a.now b.now }
 {
-    if seen.is_none() && sought.is(cell) {
-        *seen = Some(cell.value);
+    if a.len() != b.len() {
+        return false;
+    }
+    let mut i: usize = 0;
+    while i < a.len() {
+        if a[i] != b[i] {
+            return false;
+        }
+        i += 1;
+    }
+    true
+}
+
+/// The first place from this one on where a name is looked for, or how many places there are.
+#[inline(always)]
+fn place_from(sought: &[Sought], from: usize, name: &str) -> usize
+    requires { from ≤ length sought.now }
+    ensures bound { result ≤ length sought.now }
+    ensures onward { from ≤ result }
+    ensures hit { result < length sought.now → (s : Sought) → is_sought (slice_index_or sought.now result s) name.now ≡ true }
+    ensures passed { (items : List (Option LentValue)) (value : Value) (others : List Cell) → length items ≡ length sought.now → filled_from sought.now items result (record { name = name.now; value = value }) others ≡ filled_from sought.now items from (record { name = name.now; value = value }) others }
+{
+    let mut i = from;
+    while i < sought.len() {
+        if sought[i].is(name) {
+            return i;
+        }
+        i += 1;
+    }
+    i
+}
+
+/// Notes a value where nothing is there yet.
+#[inline(always)]
+fn note_one<'b>(value: LentValue<'b>, seen: &mut Option<LentValue<'b>>)
+    ensures { (s : Sought) (name : List ℕ) (others : List Cell) → is_sought s name ≡ true → filled_one s (option_map lent_value seen.new) others ≡ filled_one s (option_map lent_value seen.old) (record { name = name; value = lent_value value.entry } ∷ others) }
+{
+    if seen.is_none() {
+        *seen = Some(value);
     }
 }
 
+/// Notes a cell whose name is looked for at this place and at none before it.
+#[inline(always)]
+fn note_from<'b>(
+    sought: &[Sought],
+    from: usize,
+    name: &str,
+    value: LentValue<'b>,
+    seen: &mut Vec<Option<LentValue<'b>>>,
+)
+    requires same { vec_len seen.old ≡ length sought.now }
+    requires bound { from ≤ length sought.now }
+    requires hit { from < length sought.now → (s : Sought) → is_sought (slice_index_or sought.now from s) name.now ≡ true }
+    ensures same { vec_len seen.new ≡ length sought.now }
+    ensures filled { (others : List Cell) → filled sought.now (each_value seen.new.items) others ≡ filled_from sought.now seen.old.items from (record { name = name.now; value = lent_value value.entry }) others }
+{
+    let mut i = from;
+    while i < sought.len() {
+        note_one(value, &mut seen[i]);
+        i = place_from(sought, i + 1, name);
+    }
+}
+
+/// One cell more that was looked at.
 fn note<'b>(sought: &[Sought], cell: &LentCell<'b>, seen: &mut Vec<Option<LentValue<'b>>>)
     requires { vec_len seen.old ≡ length sought.now }
     ensures same { vec_len seen.new ≡ length sought.now }
     ensures filled { (others : List Cell) → filled sought.now (each_value seen.new.items) others ≡ filled sought.now (each_value seen.old.items) (lent_cell cell.now ∷ others) }
 {
-    let mut i: usize = 0;
-    while i < sought.len() {
-        note_one(sought[i], cell, &mut seen[i]);
-        i += 1;
+    let place = place_from(sought, 0, cell.name);
+    note_from(sought, place, cell.name, cell.value, seen);
+}
+
+/// Notes a value whose name is looked for at this place and at none before it, and gives what follows it.
+/// Each kind is noted by itself: a value that is copied through memory costs more than it takes to read it.
+#[inline(always)]
+#[tactic(auto, unfolding(crate::specs::Reading::value_at))]
+fn look_value<'b>(
+    bytes: &'b [u8],
+    sought: &[Sought],
+    place: usize,
+    name: &str,
+    seen: &mut Vec<Option<LentValue<'b>>>,
+) -> &'b [u8]
+    requires value { IsSome (value_at bytes.now) }
+    requires same { vec_len seen.old ≡ length sought.now }
+    requires bound { place ≤ length sought.now }
+    requires hit { place < length sought.now → (s : Sought) → is_sought (slice_index_or sought.now place s) name.now ≡ true }
+    ensures same { vec_len seen.new ≡ length sought.now }
+    ensures looked { (x : Value × List ℕ) → value_at bytes.now ≡ Some x → (result.now ≡ x.1) × ((others : List Cell) → filled sought.now (each_value seen.new.items) others ≡ filled_from sought.now seen.old.items place (record { name = name.now; value = x.0 }) others) }
+{
+    match bytes {
+        [1, rest @ ..] => {
+            let (number, after) = u64_in(rest);
+            note_from(
+                sought,
+                place,
+                name,
+                LentValue::Int(number.cast_signed()),
+                seen,
+            );
+            after
+        }
+        [2, rest @ ..] => {
+            let (text, after) = long_text_in(rest);
+            note_from(sought, place, name, LentValue::Text(text), seen);
+            after
+        }
+        [3, rest @ ..] => {
+            let (members, after) = set_in(rest);
+            note_from(sought, place, name, LentValue::Set(members), seen);
+            after
+        }
+        _ => unreachable!(),
+    }
+}
+
+/// Looks at a cell, and gives what follows it: its value is passed over where its name is not looked for.
+#[inline(always)]
+#[tactic(auto, unfolding(crate::specs::Fronts::any_cell_at))]
+fn look_cell<'b>(
+    bytes: &'b [u8],
+    sought: &[Sought],
+    seen: &mut Vec<Option<LentValue<'b>>>,
+) -> &'b [u8]
+    requires cell { IsSome (any_cell_at bytes.now) }
+    requires same { vec_len seen.old ≡ length sought.now }
+    ensures same { vec_len seen.new ≡ length sought.now }
+    ensures looked { (x : Cell × List ℕ) → any_cell_at bytes.now ≡ Some x → (result.now ≡ x.1) × ((others : List Cell) → filled sought.now (each_value seen.new.items) others ≡ filled sought.now (each_value seen.old.items) (x.0 ∷ others)) }
+{
+    let (name, after) = name_in(bytes);
+    let place = place_from(sought, 0, name);
+    if place < sought.len() {
+        return look_value(after, sought, place, name, seen);
+    }
+    let (_value, rest) = value_in(after);
+    rest
+}
+
+/// What is there before any cell was looked at.
+#[inline(always)]
+fn begin_one(sought: Sought, time: i64, seen: &mut Option<LentValue>)
+    ensures { option_map lent_value seen.new ≡ begun_one time sought.entry }
+{
+    match sought {
+        Sought::Time => *seen = Some(LentValue::Int(time)),
+        Sought::Cell(_name) => *seen = None,
     }
 }
 
@@ -84,12 +214,13 @@ fn begin(sought: &[Sought], time: i64, seen: &mut Vec<Option<LentValue>>)
 {
     let mut i: usize = 0;
     while i < sought.len() {
-        seen[i] = sought[i].begin(time);
+        begin_one(sought[i], time, &mut seen[i]);
         i += 1;
     }
 }
 
 /// Looks at so many cells, and gives what follows them.
+#[inline(always)]
 fn look_behind<'b>(
     count: u16,
     bytes: &'b [u8],
@@ -104,14 +235,13 @@ fn look_behind<'b>(
 {
     let mut rest = bytes;
     for _ in 0..count {
-        let (cell, after) = cell_in(rest);
-        note(sought, &cell, seen);
-        rest = after;
+        rest = look_cell(rest, sought, seen);
     }
     rest
 }
 
 /// Looks at a row at the front of bytes, and gives it with what follows.
+#[inline(always)]
 #[tactic(auto, unfolding(crate::specs::Reading::row_at))]
 fn look_in<'b>(
     bytes: &'b [u8],
@@ -147,6 +277,7 @@ fn look_at<'b>(row: &LentRow<'b>, sought: &[Sought], seen: &mut Vec<Option<LentV
 }
 
 impl<'a> SpelledRows<'a> {
+    #[inline(always)]
     fn split_seen(
         &self,
         sought: &[Sought],
@@ -168,6 +299,7 @@ impl<'a> SpelledRows<'a> {
 
 impl<'a> LentRows<'a> {
     /// The first and the others, as `split_first` gives them, and in `seen` what the first has of each that is looked for.
+    #[inline(always)]
     pub fn split_seen(
         &self,
         sought: &[Sought],
