@@ -10,7 +10,7 @@ use Rattle.leaf_model.specs.Content.{rows_from}
 use Rattle.row_blocks.specs.Blocks.{Block, IsBlock, row_at, rows_in}
 use Rattle.row_blocks.specs.Held.{IsSkip, block_rows, live_rows}
 use Rattle.row_blocks.specs.Live.{has_live}
-use Rattle.table_state.specs.Stored.{IsCut, sealed_rows, skip_left}
+use Rattle.table_state.specs.Stored.{AreAhead, IsCut, sealed_rows, skip_left}
 
 pub counted : (b : Block) → length (rows_in b) ≡ b.rows
 counted b = length-map-range_with_len (row_at b.columns) 0 b.rows
@@ -75,6 +75,9 @@ module _ (blocks : List Block) (i : ℕ) (b : Block) (cut : ℕ) (h : ℤ) (with
       ∙ sym (drop-append-le left (live_rows cut h b) rest (omega (arith, few)))
       ∙ ap (drop left) (sym sealed_at) ∙ so_far
 
+  pub ahead_here : (place n : ℕ) → n ≤ length (live_rows place h b) → AreAhead n (drop i blocks) place h
+  ahead_here place n few = subst (λ (l : List Block). AreAhead n l place h) (sym next_block) few
+
   -- or behind it
   pub ends_behind : (left live now : ℕ) (all : List Row) → live ≡ length (live_rows cut h b) → live ≤ left → now ≡ left - live → left ≤ length (sealed_rows (drop i blocks) cut h)
       → drop left (sealed_rows (drop i blocks) cut h) ≡ all
@@ -121,7 +124,7 @@ any_none h (row ∷ rows) (suc k) e = by (int_le h row.time) e (any_none h rows 
     by true f rest = absurd cc
     by false f rest = rest f
 
-dead : (h : ℤ) (b : Block) (k : ℕ) → has_live h b ≡ false → live_rows k h b ≡ []
+pub dead : (h : ℤ) (b : Block) (k : ℕ) → has_live h b ≡ false → live_rows k h b ≡ []
 unfolding has_live
 dead h b k e = any_none h (rows_in b) k e
 

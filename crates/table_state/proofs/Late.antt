@@ -1,5 +1,5 @@
 -- Rows that are not late.
-use Rattle.std.proofs.Common.{ℕ, ◌≤◌, ℤ, List, length, arith}
+use Rattle.std.proofs.Common.{◌≤◌, ℤ, List, length, arith}
 use Rattle.std.specs.Prelude.{int_le}
 use Rattle.std.proofs.lemmas.List.Sums.{count_by-le-length, length-filter}
 use Rattle.leaf_model.specs.declared.rows.Row.{Row}

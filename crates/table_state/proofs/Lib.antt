@@ -1,5 +1,7 @@
 mod Late
+mod Ahead
 mod Keeping
+mod Least
 mod Fronts
 mod Runs
 mod Counting

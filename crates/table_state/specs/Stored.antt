@@ -1,10 +1,10 @@
 -- Rows as they stand: sealed blocks, of the first of which some rows are cut away, and a tail behind them.
-use Rattle.std.specs.Prelude.{◌≡◌, ℕ, ◌+◌, ◌*◌, ◌/◌, ◌≤◌, List, [], ◌∷◌, ◌++◌, length, if◌then◌else◌, ℤ}
+use Rattle.std.specs.Prelude.{◌≡◌, ℕ, ◌+◌, ◌*◌, ◌/◌, ◌≤◌, List, [], ◌∷◌, ◌++◌, length, if◌then◌else◌, true, int_le, ℤ}
 use Rattle.std.specs.List.{AllByRecursion}
 use Rattle.leaf_model.specs.declared.rows.Row.{Row}
 use Rattle.leaf_model.specs.Values.{IsTime}
 use Rattle.row_blocks.specs.Blocks.{Block, IsBlock}
-use Rattle.row_blocks.specs.Held.{IsSkip, block_rows, blocks_held, columns_count, rows_and_cells}
+use Rattle.row_blocks.specs.Held.{IsSkip, block_rows, blocks_held, columns_count, live_rows, rows_and_cells}
 use Rattle.row_blocks.specs.Live.{has_live}
 use Rattle.table_state.specs.Tables.{IsHeldRow, most_rows}
 
@@ -20,6 +20,15 @@ sealed_rows blocks skip horizon = blocks_held blocks skip horizon
 abbrev pub IsCut : ℕ → List Block → Type 0
 IsCut cut [] = cut ≡ 0
 IsCut cut (b ∷ blocks) = cut ≤ b.rows
+
+-- none of the rows is below a time
+abbrev pub AreFrom : ℤ → List Row → Type 0
+AreFrom t rows = AllByRecursion (λ (row : Row). int_le t row.time ≡ true) rows
+
+-- of the rows of the first block that are not cut away, at least so many are live
+abbrev pub AreAhead : ℕ → List Block → ℕ → ℤ → Type 0
+AreAhead n [] skip horizon = n ≡ 0
+AreAhead n (b ∷ blocks) skip horizon = n ≤ length (live_rows skip horizon b)
 
 -- what a table's fields keep: the cut leaves some row of the first block, the tail is short and has no row below the horizon, and the live rows
 -- of the blocks are counted

@@ -1,9 +1,9 @@
 // The blocks of a table: how many of their rows are live, and how rows leave them.
-ghost use Rattle.std.specs.Prelude.{◌≡◌, ◌≤◌, drop, length, IfOk};
+ghost use Rattle.std.specs.Prelude.{◌≡◌, ◌<◌, ◌≤◌, ℕ, drop, length, IfOk};
 ghost use Rattle.std.specs.List.{AllByRecursion};
 ghost use Rattle.row_blocks.specs.Blocks.{IsBlock};
 ghost use Rattle.row_blocks.specs.Held.{IsSkip, columns_count, live_rows};
-ghost use Rattle.table_state.specs.Stored.{IsCut, sealed_rows, skip_left};
+ghost use Rattle.table_state.specs.Stored.{AreAhead, IsCut, sealed_rows, skip_left};
 ghost use Rattle.table_state.specs.Tables.{most_rows};
 
 use crate::held::{drop_first, retain_from};
@@ -11,11 +11,19 @@ use leaf_model::Row;
 use row_blocks::{Blocks, RowBlock};
 use std::alloc::{AllocError, Global};
 
-/// How many blocks leave from the front, and how many rows of the next one are cut away.
+/// How many rows of the first block are cut away. Of its other rows at least `ahead` are live: a keep that removes fewer does not count them.
+#[derive(Clone, Copy)]
+pub struct Cut {
+    pub skip: u32,
+    pub ahead: u32,
+}
+
+/// How many blocks leave from the front, and the cut of the next one.
 #[derive(Clone, Copy)]
 struct Front {
     blocks: usize,
     skip: u32,
+    ahead: u32,
 }
 
 /// How many live rows the blocks have. It takes no memory.
@@ -31,6 +39,30 @@ pub fn count_live(blocks: &[RowBlock], skip: u32, horizon: i64) -> u64
         cut = 0;
     }
     live
+}
+
+/// How many live rows the blocks have, and a lower bound of how many of them are in the first block.
+#[derive(Clone, Copy)]
+pub struct Live {
+    pub all: u64,
+    pub ahead: u32,
+}
+
+/// Counts the live rows of the blocks, unless they were counted for the same horizon.
+pub fn recount(blocks: &[RowBlock], skip: u32, horizon: i64, old: i64, counted: Live) -> Live
+    requires cut { IsCut skip blocks.now }
+    requires few { length (sealed_rows blocks.now skip horizon) ≤ most_rows }
+    requires same { old ≡ horizon → (counted.all ≡ length (sealed_rows blocks.now skip horizon)) × AreAhead counted.ahead blocks.now skip horizon }
+    ensures all { result.all ≡ length (sealed_rows blocks.now skip horizon) }
+    ensures ahead { AreAhead result.ahead blocks.now skip horizon }
+{
+    if old == horizon {
+        return counted;
+    }
+    Live {
+        all: count_live(blocks, skip, horizon),
+        ahead: 0,
+    }
 }
 
 fn skip_left(blocks: &[RowBlock], skip: u32, horizon: i64) -> u32
@@ -49,6 +81,7 @@ pub fn leave_live(blocks: &mut Blocks, skip: u32, horizon: i64) -> u32
     ensures cut { IsSkip result blocks.new }
     ensures sealed { AllByRecursion IsBlock blocks.new }
     ensures rows { sealed_rows blocks.new result horizon ≡ sealed_rows blocks.old skip horizon }
+    ensures ahead { (n : ℕ) → AreAhead n blocks.old skip horizon → AreAhead n blocks.new result horizon }
     ensures columns { columns_count blocks.new ≤ columns_count blocks.old }
 {
     let left = skip_left(blocks.as_slice(), skip, horizon);
@@ -64,6 +97,7 @@ fn front_of(blocks: &[RowBlock], skip: u32, horizon: i64, gone: u64) -> Front
     ensures blocks { result.blocks ≤ length blocks.now }
     ensures cut { IsSkip result.skip (drop result.blocks blocks.now) }
     ensures rows { sealed_rows (drop result.blocks blocks.now) result.skip horizon ≡ drop gone (sealed_rows blocks.now skip horizon) }
+    ensures ahead { AreAhead result.ahead (drop result.blocks blocks.now) result.skip horizon }
 {
     let mut left = gone;
     let mut cut = skip;
@@ -71,7 +105,12 @@ fn front_of(blocks: &[RowBlock], skip: u32, horizon: i64, gone: u64) -> Front
         let live = blocks[i].count_live(cut, horizon);
         if left < u64::from(live) {
             let skip = blocks[i].place_behind(cut, horizon, left as u32);
-            return Front { blocks: i, skip };
+            let ahead = live - left as u32;
+            return Front {
+                blocks: i,
+                skip,
+                ahead,
+            };
         }
         left -= u64::from(live);
         cut = 0;
@@ -79,22 +118,49 @@ fn front_of(blocks: &[RowBlock], skip: u32, horizon: i64, gone: u64) -> Front
     Front {
         blocks: blocks.len(),
         skip: 0,
+        ahead: 0,
     }
 }
 
-/// Lets go of the first live rows, with each block that they are the last of, and answers how many rows of the first block are cut away then.
-pub fn cut_front(blocks: &mut Blocks, skip: u32, horizon: i64, gone: u64) -> u32
-    requires cut { IsSkip skip blocks.old }
+/// The cut behind the first live rows, which end in the first block. A walk passes these rows alone.
+fn cut_first(blocks: &[RowBlock], cut: Cut, horizon: i64, gone: u32) -> Cut
+    requires cut { IsSkip cut.skip blocks.now }
+    requires ahead { AreAhead cut.ahead blocks.now cut.skip horizon }
+    requires few { gone < cut.ahead }
+    ensures cut { IsSkip result.skip blocks.now }
+    ensures rows { sealed_rows blocks.now result.skip horizon ≡ drop gone (sealed_rows blocks.now cut.skip horizon) }
+    ensures ahead { AreAhead result.ahead blocks.now result.skip horizon }
+{
+    match blocks {
+        [] => unreachable!(),
+        [first, ..] => Cut {
+            skip: first.place_behind(cut.skip, horizon, gone),
+            ahead: cut.ahead - gone,
+        },
+    }
+}
+
+/// Lets go of the first live rows, with each block that they are the last of, and answers the cut of the first block then.
+pub fn cut_front(blocks: &mut Blocks, cut: Cut, horizon: i64, gone: u64) -> Cut
+    requires cut { IsSkip cut.skip blocks.old }
+    requires ahead { AreAhead cut.ahead blocks.old cut.skip horizon }
     requires sealed { AllByRecursion IsBlock blocks.old }
-    requires few { gone ≤ length (sealed_rows blocks.old skip horizon) }
-    ensures cut { IsSkip result blocks.new }
+    requires few { gone ≤ length (sealed_rows blocks.old cut.skip horizon) }
+    ensures cut { IsSkip result.skip blocks.new }
     ensures sealed { AllByRecursion IsBlock blocks.new }
-    ensures rows { sealed_rows blocks.new result horizon ≡ drop gone (sealed_rows blocks.old skip horizon) }
+    ensures rows { sealed_rows blocks.new result.skip horizon ≡ drop gone (sealed_rows blocks.old cut.skip horizon) }
+    ensures ahead { AreAhead result.ahead blocks.new result.skip horizon }
     ensures columns { columns_count blocks.new ≤ columns_count blocks.old }
 {
-    let front = front_of(blocks.as_slice(), skip, horizon, gone);
+    if gone < u64::from(cut.ahead) {
+        return cut_first(blocks.as_slice(), cut, horizon, gone as u32);
+    }
+    let front = front_of(blocks.as_slice(), cut.skip, horizon, gone);
     blocks.drop_first(front.blocks);
-    front.skip
+    Cut {
+        skip: front.skip,
+        ahead: front.ahead,
+    }
 }
 
 /// A copy of the live rows of a block.

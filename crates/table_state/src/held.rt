@@ -4,7 +4,8 @@ ghost use Rattle.leaf_model.specs.Content.{rows_from};
 ghost use Rattle.leaf_model.specs.Lent.{lent_rows};
 ghost use Rattle.table_state.specs.Tables.{most_rows};
 
-use leaf_model::{LentRows, PackedRows, Row};
+use crate::tail::Tail;
+use leaf_model::{LentRows, Row};
 
 /// The most rows that a table holds.
 pub const MOST_ROWS: u64 = 1 << 40;
@@ -38,7 +39,7 @@ fn count_from(horizon: i64, rows: &LentRows) -> u64
 }
 
 /// Lets go of the first rows of a tail. Where there are none, nothing is moved.
-pub fn drop_front(tail: &mut PackedRows, count: usize)
+pub fn drop_front(tail: &mut Tail, count: usize)
     requires { count ≤ length tail.old }
     ensures { tail.new ≡ drop count tail.old }
 {

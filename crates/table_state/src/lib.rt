@@ -8,6 +8,7 @@ mod parts;
 mod sealing;
 mod table;
 mod tables;
+mod tail;
 
 pub use fault::{AddFault, Added};
 pub use held::MOST_ROWS;

@@ -12,7 +12,8 @@ ghost use Rattle.table_state.specs.declared.fault.AddFault.TheVariants as fault;
 
 use crate::fault::AddFault;
 use crate::held::{drop_front, has_room};
-use leaf_model::{LentRows, PackedRows};
+use crate::tail::Tail;
+use leaf_model::LentRows;
 use row_blocks::{Blocks, RowBlock, seal};
 use std::alloc::{AllocError, Global};
 
@@ -39,7 +40,7 @@ fn runs_of(alloc: Global, rows: &LentRows) -> Result<Vec<RowBlock>, AllocError>
 }
 
 /// Seals the whole runs at the front of the tail behind the blocks, and leaves the tail as it is. Rows that are no whole run are not looked at.
-fn seal_runs(blocks: &mut Blocks, tail: &PackedRows) -> Result<(), AllocError>
+fn seal_runs(blocks: &mut Blocks, tail: &Tail) -> Result<(), AllocError>
     ensures sealed { OnOk result (AreSealed blocks.old (take (in_runs (length tail.now)) tail.now) blocks.new) }
     ensures refused { OnErr result (blocks.new ≡ blocks.old) }
 {
@@ -52,7 +53,7 @@ fn seal_runs(blocks: &mut Blocks, tail: &PackedRows) -> Result<(), AllocError>
 pub fn prepare(
     live: u64,
     blocks: &mut Blocks,
-    tail: &mut PackedRows,
+    tail: &mut Tail,
     horizon: i64,
     more: &LentRows,
 ) -> Result<u64, AddFault>
@@ -83,7 +84,7 @@ pub fn prepare(
 }
 
 /// Lets go of the whole runs at the front of the tail, and answers how many rows those were.
-pub fn drop_runs(tail: &mut PackedRows) -> u64
+pub fn drop_runs(tail: &mut Tail) -> u64
     ensures rows { tail.new ≡ drop (in_runs (length tail.old)) tail.old }
     ensures gone { result ≡ in_runs (length tail.old) }
 {
@@ -93,7 +94,7 @@ pub fn drop_runs(tail: &mut PackedRows) -> u64
 }
 
 /// Seals the rows of the tail as one block behind the others, and leaves the tail as it is.
-pub fn seal_behind(blocks: &mut Blocks, tail: &PackedRows) -> Result<(), AllocError>
+pub fn seal_behind(blocks: &mut Blocks, tail: &Tail) -> Result<(), AllocError>
     requires some { 0 < length tail.now }
     requires few { length tail.now ≤ 65536 }
     ensures sealed { OnOk result (AreSealed blocks.old tail.now blocks.new) }

@@ -8,12 +8,13 @@ ghost use Rattle.row_blocks.specs.Held.{rows_and_cells};
 ghost use Rattle.table_state.specs.Tables.{added_by, bare, columns_most, empty_table, most_rows, replayed, Adds, IsParts, IsPartsOf, IsStored, MayWrite, Removes, Replays, Seals, Takes};
 
 use crate::fault::{AddFault, Added};
-use crate::front::{copy_blocks, count_live, cut_front, leave_live};
+use crate::front::{Cut, Live, copy_blocks, count_live, cut_front, leave_live, recount};
 use crate::held::drop_front;
 use crate::parts::Parts;
 use crate::sealing::{drop_runs, prepare, seal_behind};
+use crate::tail::Tail;
 use expiry::{cut_for, masks_and_cuts};
-use leaf_model::{LentRows, PackedRows, Row, Rows, Text, Write};
+use leaf_model::{LentRows, Row, Rows, Text, Write};
 use row_blocks::Blocks;
 use row_records::Pending;
 use std::alloc::{AllocError, Global};
@@ -25,8 +26,9 @@ use std::mem::replace;
 pub struct TableState {
     blocks: Blocks,
     skip: u32,
+    ahead: u32,
     live: u64,
-    tail: PackedRows,
+    tail: Tail,
     horizon: i64,
     writes: u64,
     pending: Pending,
@@ -35,13 +37,13 @@ pub struct TableState {
 impl Model for TableState {
     ghost use Rattle.std.specs.Prelude.{◌++◌};
     ghost use Rattle.table_state.specs.Tables.{Table};
-    ghost use Rattle.table_state.specs.Stored.{Stands, sealed_rows};
+    ghost use Rattle.table_state.specs.Stored.{AreAhead, Stands, sealed_rows};
 
     ghost Value = { Table };
 
     ghost view = { λ t. record { contents = record { rows = sealed_rows t.blocks t.skip t.horizon ++ t.tail; horizon = t.horizon }; writes = t.writes; pending = t.pending; store = record { blocks = t.blocks; skip = t.skip; tail = t.tail } } };
 
-    ghost invariant = { λ t. Stands t.blocks t.skip t.tail t.horizon t.live };
+    ghost invariant = { λ t. Stands t.blocks t.skip t.tail t.horizon t.live × AreAhead t.ahead t.blocks t.skip t.horizon };
 }
 
 impl TableState {
@@ -52,8 +54,9 @@ impl TableState {
         TableState {
             blocks: Blocks::new(alloc),
             skip: 0,
+            ahead: 0,
             live: 0,
-            tail: PackedRows::new(alloc),
+            tail: Tail::new(alloc),
             horizon: 0,
             writes: 0,
             pending: Pending::new(alloc),
@@ -160,9 +163,22 @@ impl TableState {
         ensures columns { columns_most self.new.store ≤ columns_most self.old.store }
     {
         masks_and_cuts();
-        self.horizon = self.horizon.max(horizon);
+        let old = self.horizon;
+        self.horizon = old.max(horizon);
         self.skip = leave_live(&mut self.blocks, self.skip, self.horizon);
-        self.live = count_live(self.blocks.as_slice(), self.skip, self.horizon);
+        let counted = Live {
+            all: self.live,
+            ahead: self.ahead,
+        };
+        let live = recount(
+            self.blocks.as_slice(),
+            self.skip,
+            self.horizon,
+            old,
+            counted,
+        );
+        self.live = live.all;
+        self.ahead = live.ahead;
         self.tail.retain_from(self.horizon);
         self.writes += 1;
     }
@@ -177,7 +193,13 @@ impl TableState {
     {
         let gone = cut_for(self.live + self.tail.len() as u64, n);
         let first = gone.min(self.live);
-        self.skip = cut_front(&mut self.blocks, self.skip, self.horizon, first);
+        let cut = Cut {
+            skip: self.skip,
+            ahead: self.ahead,
+        };
+        let cut = cut_front(&mut self.blocks, cut, self.horizon, first);
+        self.skip = cut.skip;
+        self.ahead = cut.ahead;
         self.live -= first;
         drop_front(&mut self.tail, (gone - first) as usize);
         self.writes += 1;
@@ -305,8 +327,9 @@ impl TableState {
         TableState {
             blocks: Blocks::of(blocks),
             skip: parts.skip,
+            ahead: 0,
             live,
-            tail: PackedRows::new(alloc),
+            tail: Tail::new(alloc),
             horizon: parts.horizon,
             writes: parts.writes,
             pending: Pending::new(alloc),

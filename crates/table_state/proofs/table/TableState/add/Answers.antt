@@ -1,4 +1,4 @@
-use Rattle.std.proofs.Common.{◌≡◌, ◌≤◌, ◌+◌, ◌-◌, ◌++◌, ℕ, List, Option, Some, length, drop, ap₂, subst, arith, rules}
+use Rattle.std.proofs.Common.{◌≡◌, ◌≤◌, ◌+◌, ◌-◌, ◌++◌, ℕ, List, Option, Some, length, drop, take, ap₂, subst, arith, rules}
 use Rattle.leaf_model.specs.declared.rows.Row.{Row}
 use Rattle.leaf_model.specs.declared.writes.Write.TheVariants.{Add}
 use Rattle.leaf_model.specs.Content.{kept_count, late_count, rows_from}
@@ -8,6 +8,7 @@ use Rattle.row_blocks.specs.Held.{columns_count, rows_and_cells}
 use Rattle.table_state.specs.Stored.{in_runs, sealed_rows}
 use Rattle.table_state.specs.Tables.{Table, columns_most, most_rows, no_store, table_with_write}
 use Rattle.table_state.proofs.Counting.{add_columns}
+use Rattle.table_state.proofs.Ahead.{sealed_ahead}
 use Rattle.table_state.proofs.Stood.{add_rows, add_stands, held_count}
 use Rattle.table_state.proofs.table.TableState.add.Goals as goal
 
@@ -17,8 +18,10 @@ invariant_of-self-2 c =
     let put : all ≡ t.tail ++ rows_from h c.args.rows = search rules in
     let rest : c.drop_runs.new.tail ≡ drop (in_runs (length all)) all = search rules in
     let count : c.drop_runs.result ≡ in_runs (length all) = search rules in
-    let few : t.live + length t.tail + length (rows_from h c.args.rows) ≤ most_rows = search rules in
-    add_stands t.blocks t.skip t.tail h t.live c.self.invariant c.args.rows c.requires.rows all put c.prepare.new.blocks c.in_ok-kept.ensures.sealed c.drop_runs.new.tail rest c.drop_runs.result count few
+    let few : t.live + length t.tail + length (rows_from h c.args.rows) ≤ most_rows = search rules in (
+      add_stands t.blocks t.skip t.tail h t.live c.self.invariant.0 c.args.rows c.requires.rows all put c.prepare.new.blocks c.in_ok-kept.ensures.sealed c.drop_runs.new.tail rest c.drop_runs.result count few,
+      sealed_ahead t.ahead t.blocks t.skip h (take (in_runs (length all)) all) c.prepare.new.blocks c.in_ok-kept.ensures.sealed c.self.invariant.1,
+    )
 
 pub returns-clause-does : goal.returns-clause-does
 returns-clause-does c =
@@ -34,11 +37,11 @@ returns-clause-does c =
     = λ x. (length x.contents.rows + kept_count x.contents c.args.rows ≤ most_rows) × (c.in_ok-kept.kept ≡ kept_count x.contents c.args.rows)
     × (c.len.result - c.in_ok-kept.kept ≡ late_count x.contents c.args.rows) × (table ≡ table_with_write c.args.table.now x (Add c.args.rows)) in
     subst P c.self.view_is (
-      omega (arith, held_count t.blocks t.skip t.tail h t.live c.self.invariant, c.in_ok-kept.ensures.fits, kept),
+      omega (arith, held_count t.blocks t.skip t.tail h t.live c.self.invariant.0, c.in_ok-kept.ensures.fits, kept),
       kept,
       ap₂ (λ (m n : ℕ). m - n) len kept,
       ap₂ made
-          (add_rows t.blocks t.skip t.tail h t.live c.self.invariant c.args.rows c.requires.rows all put c.prepare.new.blocks c.in_ok-kept.ensures.sealed c.drop_runs.new.tail rest)
+          (add_rows t.blocks t.skip t.tail h t.live c.self.invariant.0 c.args.rows c.requires.rows all put c.prepare.new.blocks c.in_ok-kept.ensures.sealed c.drop_runs.new.tail rest)
           pushed,
     )
 

@@ -11,7 +11,7 @@ returns-clause-of c =
     let none = ap (λ (x : Table). x.store.tail) c.self.view_is ∙ c.requires.tail in
     subst (λ (h : ℤ). IsPartsOf (record { horizon = h; writes = t.writes; skip = t.skip; blocks = t.blocks }) c.args.self) (sym same)
     (subst (IsPartsOf (record { horizon = t.horizon; writes = t.writes; skip = t.skip; blocks = t.blocks })) c.self.view_is
-    (parts_of t.blocks t.skip t.tail t.horizon t.live c.self.invariant t.writes t.pending none))
+    (parts_of t.blocks t.skip t.tail t.horizon t.live c.self.invariant.0 t.writes t.pending none))
 
 pub returns-clause-parts : goal.returns-clause-parts
 returns-clause-parts c =
@@ -19,4 +19,4 @@ returns-clause-parts c =
     let same : to_z w64 (of_z w64 t.horizon) ≡ t.horizon = search rules in
     let none = ap (λ (x : Table). x.store.tail) c.self.view_is ∙ c.requires.tail in
     subst (λ (h : ℤ). IsParts (record { horizon = h; writes = t.writes; skip = t.skip; blocks = t.blocks })) (sym same)
-    (are_parts t.blocks t.skip t.tail t.horizon t.live c.self.invariant t.writes none)
+    (are_parts t.blocks t.skip t.tail t.horizon t.live c.self.invariant.0 t.writes none)

@@ -6,4 +6,4 @@ use Rattle.table_state.proofs.table.TableState.stands.Goals as goal
 pub returns : goal.returns
 returns c =
     let t = c.self.inside in
-    subst IsStored c.self.view_is (stored t.blocks t.skip t.tail t.horizon t.live c.self.invariant t.writes t.pending)
+    subst IsStored c.self.view_is (stored t.blocks t.skip t.tail t.horizon t.live c.self.invariant.0 t.writes t.pending)

@@ -1,0 +1,148 @@
+// The rows behind the blocks of a table.
+ghost use Rattle.std.specs.Prelude.{◌≡◌, ◌≤◌, ◌++◌, [], drop, int_le, length, take, true, OnErr, OnOk};
+ghost use Rattle.std.specs.List.{AllByRecursion};
+ghost use Rattle.leaf_model.specs.Content.{rows_from};
+ghost use Rattle.leaf_model.specs.Lent.{lent_rows};
+ghost use Rattle.leaf_model.specs.Values.{IsRow};
+ghost use Rattle.table_state.specs.Stored.{AreFrom};
+
+use leaf_model::{LentRows, PackedRows};
+use std::alloc::{AllocError, Global};
+use std::marker::Model;
+
+/// Rows, and a time that none of them is below: an expiry up to that time does not look at them. Contracts see the rows.
+#[derive(Drop)]
+pub struct Tail {
+    rows: PackedRows,
+    least: i64,
+}
+
+impl Model for Tail {
+    ghost use Rattle.std.specs.Prelude.{List};
+    ghost use Rattle.leaf_model.specs.declared.rows.Row.{Row};
+    ghost use Rattle.table_state.specs.Stored.{AreFrom};
+
+    ghost Value = { List Row };
+
+    ghost view = { λ t. t.rows };
+
+    ghost invariant = { λ t. AreFrom t.least t.rows };
+}
+
+impl Tail {
+    /// No rows.
+    pub fn new(alloc: Global) -> Tail
+        ensures { result ≡ [] }
+    {
+        Tail {
+            rows: PackedRows::new(alloc),
+            least: i64::MIN,
+        }
+    }
+
+    /// How many there are.
+    pub fn len(&self) -> usize
+        ensures { result ≡ length self.now }
+    {
+        self.rows.len()
+    }
+
+    /// What holds of each of them.
+    pub fn are_rows(&self)
+        ensures { AllByRecursion IsRow self.now }
+    {
+        self.rows.are_rows();
+    }
+
+    /// The rows, lent.
+    pub fn lend(&self) -> LentRows<'_>
+        ensures { lent_rows result ≡ self.now }
+    {
+        self.rows.lend()
+    }
+
+    /// Puts those of some rows behind the others whose time is at least the horizon.
+    pub fn extend_from(&mut self, more: &LentRows, horizon: i64) -> Result<(), AllocError>
+        requires { AllByRecursion IsRow (lent_rows more.now) }
+        ensures put { OnOk result (self.new ≡ self.old ++ rows_from horizon (lent_rows more.now)) }
+        ensures kept { OnErr result (self.new ≡ self.old) }
+    {
+        self.rows.extend_from(more, horizon)?;
+        self.least = least_with(self.least, horizon, more);
+        Ok(())
+    }
+
+    /// Lets go of the rows below the horizon.
+    pub fn retain_from(&mut self, horizon: i64)
+        ensures { self.new ≡ rows_from horizon self.old }
+    {
+        if horizon <= self.least {
+            return;
+        }
+        let before = self.rows.len();
+        self.rows.retain_from(horizon);
+        // After a removal the horizon is a bound that costs no walk. A walk that removed nothing is worth one more, for the least time.
+        let most = if self.rows.len() < before {
+            horizon
+        } else {
+            i64::MAX
+        };
+        self.least = least_with(most, horizon, &self.rows.lend());
+    }
+
+    /// Lets go of the first rows.
+    pub fn drop_first(&mut self, count: usize)
+        requires { count ≤ length self.old }
+        ensures { self.new ≡ drop count self.old }
+    {
+        self.rows.drop_first(count);
+    }
+
+    /// Lets go of all but the first rows.
+    pub fn truncate(&mut self, count: usize)
+        requires { count ≤ length self.old }
+        ensures { self.new ≡ take count self.old }
+    {
+        self.rows.truncate(count);
+    }
+
+    /// Lets go of all rows.
+    pub fn clear(&mut self)
+        ensures { self.new ≡ [] }
+    {
+        self.rows.clear();
+    }
+
+    /// Where their memory comes from.
+    pub fn allocator(&self) -> Global {
+        self.rows.allocator()
+    }
+}
+
+/// A time that is at most `most`, and that no row at or after the horizon is below. If `most` is not above the horizon, it is `most`, and no row is looked at.
+fn least_with(most: i64, horizon: i64, rows: &LentRows) -> i64
+    ensures most { int_le result most ≡ true }
+    ensures least { AreFrom result (rows_from horizon (lent_rows rows.now)) }
+{
+    if most <= horizon {
+        return most;
+    }
+    least_in(most, horizon, rows)
+}
+
+/// The same, by a walk over the rows.
+fn least_in(most: i64, horizon: i64, rows: &LentRows) -> i64
+    ensures most { int_le result most ≡ true }
+    ensures least { AreFrom result (rows_from horizon (lent_rows rows.now)) }
+{
+    let mut least = most;
+    let mut left = *rows;
+    while let Some((row, others)) = left.split_first() {
+        left = others;
+        if row.time < horizon {
+            continue;
+        }
+        least = least.min(row.time);
+    }
+    least
+}
