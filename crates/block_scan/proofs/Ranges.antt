@@ -7,7 +7,8 @@ use Rattle.std.proofs.lemmas.Int.{ints, clamps}
 use Rattle.leaf_model.specs.declared.rows.Row.{Row}
 use Rattle.leaf_model.specs.declared.queries.Query.{Query}
 use Rattle.leaf_model.specs.Groups.{groups, passes, least, greatest}
-use Rattle.row_blocks.specs.Blocks.{Block, IsAmong, IsRange, rows_in, times_of}
+use Rattle.row_blocks.specs.Blocks.{Block, rows_in, times_of}
+use Rattle.time_range.specs.Ranges.{IsAmong, IsRange}
 use Rattle.row_blocks.specs.Held.{live_rows}
 use Rattle.block_scan.specs.Scanning.{block_steps, is_from, is_up_to, meets, named_columns}
 use Rattle.block_scan.proofs.Lists.{all_drop, all_filter, none_passes}

@@ -20,7 +20,8 @@ use Rattle.leaf_model.specs.declared.groups.Fold.{Fold}
 use Rattle.leaf_model.specs.Values.{time_name}
 use Rattle.leaf_model.specs.Groups.{agg_ints, as_int, cell_value, cond_accepts, distinct_keys, fold_of, group_of, groups, ints_of, key_of, keys_cmp, keys_of, passes, rows_with, value_of, with_keys}
 use Rattle.row_blocks.specs.declared.column.BlockColumn.{BlockColumn}
-use Rattle.row_blocks.specs.Blocks.{Block, IsRange, row_at, rows_in, time_of, times_of, value_in}
+use Rattle.row_blocks.specs.Blocks.{Block, row_at, rows_in, time_of, times_of, value_in}
+use Rattle.time_range.specs.Ranges.{IsRange}
 use Rattle.row_blocks.specs.Held.{live_rows}
 use Rattle.block_scan.specs.Reads.{is_wanted, row_of, wanted_places}
 use Rattle.block_scan.specs.Scanning.{is_of_agg, is_of_cond}

@@ -7,7 +7,8 @@ use Rattle.std.proofs.lemmas.List.Sums.{length-filter, count_by-le-length}
 use Rattle.leaf_model.specs.declared.queries.Query.{Query}
 use Rattle.leaf_model.specs.Groups.{least, greatest}
 use Rattle.row_blocks.specs.declared.column.BlockColumn.{BlockColumn}
-use Rattle.row_blocks.specs.Blocks.{Block, IsRange, rows_in, times_of}
+use Rattle.row_blocks.specs.Blocks.{Block, rows_in, times_of}
+use Rattle.time_range.specs.Ranges.{IsRange}
 use Rattle.block_scan.specs.Scanning.{block_steps, is_from, is_named, is_up_to, meets, most_steps, named_columns}
 
 least_from : (from n : ℤ) (ns : List ℤ) → from ≤ℤ n → ((i : ℕ) → i < length ns → from ≤ℤ slice_index_or ns i (pos 0)) → from ≤ℤ fold int_min n ns

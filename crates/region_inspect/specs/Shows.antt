@@ -1,7 +1,8 @@
 -- What a region shows.
 use Rattle.std.specs.Prelude.{◌≡◌, ℕ, true, List, [], length, map}
 use Rattle.std.specs.List.{AllZip, sum}
-use Rattle.row_blocks.specs.Blocks.{IsRange, rows_in, times_of}
+use Rattle.row_blocks.specs.Blocks.{rows_in, times_of}
+use Rattle.time_range.specs.Ranges.{IsRange}
 use Rattle.row_blocks.specs.Held.{rows_held}
 use Rattle.region_layout.specs.Images.{TableImage}
 use Rattle.region_layout.specs.declared.directory.Place.{Place}

@@ -18,8 +18,8 @@ use Rattle.row_blocks.specs.Headings.{heading, heading_cmp}
 use Rattle.row_blocks.specs.Blocks.{AreTimes, Block, IsBlock, IsOther, IsTimeCell, cells_at, row_at, rows_in, time_of, times_of, value_in}
 use Rattle.row_blocks.specs.declared.fault.BlockFault.{BlockFault}
 use Rattle.row_blocks.specs.declared.fault.BlockFault.TheVariants.{NoMemory, NoRows}
-use Rattle.row_blocks.specs.declared.times.TimeRange.{TimeRange}
-use Rattle.row_blocks.specs.Ordered.{IsRangeOf}
+use Rattle.time_range.specs.declared.times.TimeRange.{TimeRange}
+use Rattle.time_range.specs.Ranges.{IsRangeOf}
 use Rattle.row_blocks.specs.Places.{AreSeen, FitARow}
 use Rattle.row_blocks.specs.Times.{AreFound}
 use Rattle.row_blocks.specs.Deciding.{Decides}

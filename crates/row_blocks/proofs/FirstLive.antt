@@ -7,7 +7,8 @@ use Rattle.leaf_model.specs.declared.rows.Row.{Row}
 use Rattle.row_blocks.specs.Blocks.{Block, rows_in, times_of}
 use Rattle.row_blocks.specs.Held.{live_rows}
 use Rattle.row_blocks.specs.Live.{time_at}
-use Rattle.row_blocks.specs.Ordered.{IsFirstLive, NeverFall}
+use Rattle.row_blocks.specs.Ordered.{IsFirstLive}
+use Rattle.time_range.specs.Ranges.{NeverFall}
 use Rattle.row_blocks.proofs.LivePlaces.{counted, counted_times, live_next, none_left, one_before}
 use Rattle.row_blocks.proofs.Taking.{no_row}
 

@@ -23,12 +23,12 @@ use Rattle.leaf_model.specs.Values.{IsRow}
 use Rattle.row_blocks.specs.declared.column.BlockColumn.{BlockColumn}
 use Rattle.row_blocks.specs.Headings.{Heading, heading, heading_cmp, heading_of}
 use Rattle.row_blocks.specs.Columns.{MeanCells, cells_in}
-use Rattle.row_blocks.specs.Merging.{AreTaken, BeginsWith, HoldCells, IsEarliest, IsNotBefore, front_value, rest_after}
+use Rattle.row_blocks.specs.Merging.{AreCells, AreTaken, BeginsWith, HoldCells, IsEarliest, IsNotBefore, front_value, rest_after}
 use Rattle.row_blocks.specs.Places.{names_of}
-use Rattle.row_blocks.specs.Runs.{HoldRests, Rise, comes_before, comes_under, is_at, last_value, row_cells}
+use Rattle.row_blocks.specs.Runs.{AreLeft, HoldRests, Rise, comes_before, comes_under, is_at, last_value, row_cells}
 use Rattle.row_blocks.proofs.Lent.{same_by_places}
 use Rattle.row_blocks.proofs.Order.{exact_heading, heading_total}
-use Rattle.row_blocks.proofs.Taking.{AreCells, after_name, all_taken, fronts_are_of_kind, one_more_taken, rest_are}
+use Rattle.row_blocks.proofs.Taking.{after_name, all_taken, fronts_are_of_kind, one_more_taken, rest_are}
 
 abbrev pub cell_in : PlacedCell → Cell
 cell_in p = lent_cell p.cell
@@ -236,13 +236,6 @@ module _ (rests : List (List Cell)) (p : PlacedCell) (ps : List PlacedCell) (are
   is_earliest = ((p.place, begins_inside (lent_cell p.cell) rests p.place begins, begins), λ i within. not_before i)
 
 -- ---- rows and columns
-
--- these columns were taken off the rows, and these cells are left, in the order of their headings
-pub record AreLeft (rows : List Row) (columns : List BlockColumn) (ps : List PlacedCell) : Type 0 where
-  pub rests : List (List Cell)
-  pub taken : AreTaken rows columns rests
-  pub rise : Rise ps
-  pub hold : HoldRests rests ps
 
 pub rests_are : (rows : List Row) (columns : List BlockColumn) (rests : List (List Cell)) → AllByRecursion IsRow rows → AreTaken rows columns rests → (i : ℕ) → AreCells (slice_index_or rests i [])
 rests_are rows columns rests are taken = are_anywhere rests (λ i within. rest_are rows columns rests i are taken within)

@@ -1,15 +1,15 @@
 -- Times in their order: how many of a block's rows are at or after a horizon is where these begin.
-use Rattle.std.proofs.Common.{◌≡◌, ℕ, zero, suc, ◌+◌, ◌-◌, ◌<◌, ◌≤◌, Bool, true, false, cond, List, [], ◌∷◌, length, take, drop, map, filter, count_by, sum_by, slice_index_or, ℤ, pos, int_le, IsPermutation, refl, sym, ap, ◌∙◌, arith}
+use Rattle.std.proofs.Common.{◌≡◌, ℕ, zero, suc, ◌+◌, ◌-◌, ◌<◌, ◌≤◌, Bool, true, false, cond, List, [], ◌∷◌, length, count_by, slice_index_or, ℤ, pos, int_le, IsPermutation, refl, sym, ap, ◌∙◌, arith}
 use Rattle.std.proofs.lemmas.Bool.{false_from_ne_true, true_from_ne_false}
 use Rattle.std.proofs.lemmas.Int.{ints}
 use Rattle.std.proofs.lemmas.List.Sums.{length-filter, sum_by-cons}
-use Rattle.std.proofs.lemmas.List.Sorted.{sum_by-IsPermutation, length_permutation}
+use Rattle.std.proofs.lemmas.List.Sorted.{sum_by-IsPermutation}
 use Rattle.leaf_model.specs.declared.rows.Row.{Row}
 use Rattle.leaf_model.specs.Content.{rows_from}
 use Rattle.row_blocks.specs.Blocks.{Block, rows_in, times_of}
 use Rattle.row_blocks.specs.Held.{live_rows}
-use Rattle.row_blocks.specs.Ordered.{NeverFall, Parts}
-use Rattle.row_blocks.proofs.LivePlaces.{counted_times}
+use Rattle.row_blocks.specs.Ordered.{Parts}
+use Rattle.time_range.specs.Ranges.{NeverFall}
 
 -- ---- one look more
 

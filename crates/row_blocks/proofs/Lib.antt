@@ -11,7 +11,6 @@ pub mod Accepted
 pub mod Adjacent
 pub mod LivePlaces
 pub mod FirstLive
-pub mod Passing
 pub mod Lent
 pub mod Sorting
 pub mod FrontRun

@@ -13,7 +13,8 @@ use Rattle.leaf_model.specs.declared.rows.Row.{Row}
 use Rattle.leaf_model.specs.Content.{rows_from}
 use Rattle.column_bytes.specs.Cells.{Coded}
 use Rattle.row_blocks.specs.declared.column.BlockColumn.{BlockColumn}
-use Rattle.row_blocks.specs.Blocks.{Block, IsBlock, IsRange, IsTimeCell, cell_of, cells_at, row_at, rows_in, time_of, times_of, value_in}
+use Rattle.row_blocks.specs.Blocks.{Block, IsBlock, IsTimeCell, cell_of, cells_at, row_at, rows_in, time_of, times_of, value_in}
+use Rattle.time_range.specs.Ranges.{IsRange}
 use Rattle.row_blocks.specs.Columns.{IsSeen}
 use Rattle.row_blocks.specs.Held.{live_rows}
 use Rattle.row_blocks.specs.Live.{AreTimesOf, has_live, time_at}

@@ -8,8 +8,6 @@ use Rattle.leaf_model.specs.declared.rows.Value.{Value}
 use Rattle.leaf_model.specs.declared.rows.Value.TheVariants.{Int}
 use Rattle.leaf_model.specs.declared.rows.Cell.{Cell}
 use Rattle.leaf_model.specs.declared.rows.Row.{Row}
-use Rattle.leaf_model.specs.declared.lent_rows.LentRow.{LentRow}
-use Rattle.leaf_model.specs.Lent.{each_row, lent_row}
 use Rattle.leaf_model.specs.Values.{IsRow, time_name}
 use Rattle.column_bytes.specs.Coding.{AreIntegers}
 use Rattle.column_bytes.specs.Column.{kind_in}
@@ -17,19 +15,14 @@ use Rattle.column_bytes.specs.declared.kind.Kind.TheVariants.{Ints}
 use Rattle.row_blocks.specs.declared.column.BlockColumn.{BlockColumn}
 use Rattle.row_blocks.specs.Columns.{MeanCells, cells_in}
 use Rattle.row_blocks.specs.Blocks.{Block, IsBlock, IsTimeCell, row_at, rows_in, time_of, times_of, value_in}
-use Rattle.row_blocks.specs.declared.times.TimeRange.{TimeRange}
+use Rattle.time_range.specs.declared.times.TimeRange.{TimeRange}
 use Rattle.row_blocks.specs.Merging.{AreBare, HoldCells, cells_of_rows}
-use Rattle.row_blocks.specs.Ordered.{IsRangeOf}
+use Rattle.time_range.specs.Ranges.{IsRangeOf}
 use Rattle.row_blocks.proofs.Taking.{cells_at_row, no_row, row_is}
 
 -- as many times as rows
-pub counted_times : (rows : List LentRow) (times : List ℤ) → times ≡ times_of (each_row rows) → length times ≡ length rows
-counted_times rows times same =
-    ap (λ (l : List ℤ). length l) same ∙ length-map (each_row rows) (λ (row : Row). row.time) ∙ length-map rows lent_row
-
--- as many times as rows that are lent
-pub counted_by : (rows : List Row) (times : List ℤ) → times ≡ times_of rows → length times ≡ length rows
-counted_by rows times same = ap (λ (l : List ℤ). length l) same ∙ length-map rows (λ (row : Row). row.time)
+pub counted_times : (rows : List Row) (times : List ℤ) → times ≡ times_of rows → length times ≡ length rows
+counted_times rows times same = ap (λ (l : List ℤ). length l) same ∙ length-map rows (λ (row : Row). row.time)
 
 -- where no row has a cell, no column holds them
 none_there : (rows : List Row) (i : ℕ) → AreBare rows → slice_index_or (cells_of_rows rows) i [] ≡ []

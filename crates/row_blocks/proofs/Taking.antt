@@ -19,7 +19,7 @@ use Rattle.row_blocks.specs.Columns.{MeanCells, cells_in}
 use Rattle.row_blocks.specs.Headings.{Heading, heading, heading_of, heading_cmp, kind_of, kind_place}
 use Rattle.column_bytes.specs.Coding.{AreOfKind, IsOfKind}
 use Rattle.row_blocks.specs.Blocks.{IsOther, cell_of, cells_at, value_in}
-use Rattle.row_blocks.specs.Merging.{AreTaken, BeginsWith, HoldCells, IsBehind, IsEarliest, IsNotBefore, cells_count, cells_of_rows, front_value, rest_after}
+use Rattle.row_blocks.specs.Merging.{AreCells, AreTaken, BeginsWith, HoldCells, IsBehind, IsEarliest, IsNotBefore, cells_count, cells_of_rows, front_value, rest_after}
 use Rattle.row_blocks.proofs.Fewer.{one_fewer}
 use Rattle.row_blocks.proofs.Order.{exact_heading, heading_total}
 
@@ -52,11 +52,6 @@ sorted_back [] ys sorted = sorted
 sorted_back (x ∷ xs) ys sorted = sorted_back xs ys sorted.1
 
 -- ---- cells of one row
-
--- each is a cell, and their names ascend
-pub record AreCells (cells : List Cell) : Type 0 where
-  pub each : AllByRecursion IsCell cells
-  pub ascending : IsStrictlySortedBy (slice_cmp nat_cmp) (map (λ (c : Cell). c.name) cells)
 
 pub after_name : (c d : Cell) → slice_cmp nat_cmp c.name d.name ≡ Less → heading_cmp (heading_of c) (heading_of d) ≡ Less
 after_name c d e = ap (λ (o : Ordering). ordering_then o (nat_cmp (kind_place (heading_of c).kind) (kind_place (heading_of d).kind))) e

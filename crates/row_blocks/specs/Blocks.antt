@@ -1,5 +1,5 @@
 -- A block: columns of one number of cells, which mean rows.
-use Rattle.std.specs.Prelude.{◌≡◌, ℕ, ◌<◌, ◌≤◌, ◌==◌, List, [], ◌∷◌, length, map, slice_index_or, ℤ, pos, ◌≤ℤ◌, Option, Some, None, Bool, ◌&&◌, bytes_eq}
+use Rattle.std.specs.Prelude.{◌≡◌, ℕ, ◌<◌, ◌≤◌, ◌==◌, List, [], ◌∷◌, map, slice_index_or, ℤ, pos, Option, Some, None, Bool, ◌&&◌, bytes_eq}
 use Rattle.std.specs.List.{range_with_len, flat_map, AllByRecursion}
 use Rattle.std.specs.List.Sorted.{IsStrictlySortedBy}
 use Rattle.leaf_model.specs.declared.rows.Value.{Value}
@@ -80,15 +80,6 @@ pub record IsBlock (b : Block) : Type 0 where
   pub rows_are : AllByRecursion IsRow (rows_in b)
 
 -- ---- what is asked of a block
-
-abbrev pub IsAmong : ℤ → List ℤ → Type 0
-IsAmong t times = (i : ℕ) × (i < length times) × (slice_index_or times i (pos 0) ≡ t)
-
--- of some times the least and the greatest
-pub record IsRange (times : List ℤ) (from to : ℤ) : Type 0 where
-  pub within : (i : ℕ) → i < length times → (from ≤ℤ slice_index_or times i (pos 0)) × (slice_index_or times i (pos 0) ≤ℤ to)
-  pub first : IsAmong from times
-  pub last : IsAmong to times
 
 abbrev pub times_of : List Row → List ℤ
 times_of rows = map (λ (row : Row). row.time) rows

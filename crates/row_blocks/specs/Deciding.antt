@@ -3,9 +3,9 @@ use Rattle.std.specs.Prelude.{ℕ, ⊤, List, Result, Ok, Err}
 use Rattle.row_blocks.specs.declared.column.BlockColumn.{BlockColumn}
 use Rattle.row_blocks.specs.declared.fault.BlockFault.{BlockFault}
 use Rattle.row_blocks.specs.declared.fault.BlockFault.TheVariants.{NoRows, NoMemory}
-use Rattle.row_blocks.specs.declared.times.TimeRange.{TimeRange}
+use Rattle.time_range.specs.declared.times.TimeRange.{TimeRange}
 use Rattle.row_blocks.specs.Blocks.{IsBlock, rows_in, times_of}
-use Rattle.row_blocks.specs.Ordered.{IsRangeOf}
+use Rattle.time_range.specs.Ranges.{IsRangeOf}
 
 -- they are one with this range, or none, or memory ran out
 abbrev pub Decides : ℕ → List BlockColumn → Result TimeRange BlockFault → Type 0

@@ -1,16 +1,18 @@
 -- Rows taken apart into columns: what is left of each row's cells, and the column that comes next.
-use Rattle.std.specs.Prelude.{◌≡◌, ℕ, ◌+◌, ◌<◌, ◌≤◌, take, List, [], ◌∷◌, ◌++◌, length, map, slice_index_or, Option, Some, None, option_map, if◌then◌else◌, ⊤}
+use Rattle.std.specs.Prelude.{◌≡◌, ℕ, ◌+◌, ◌<◌, ◌≤◌, List, [], ◌∷◌, ◌++◌, length, map, slice_index_or, Option, Some, None, if◌then◌else◌, ⊤}
 use Rattle.std.specs.List.{AllByRecursion}
 use Rattle.std.specs.List.Sorted.{IsStrictlySortedBy}
-use Rattle.std.specs.declared.cmp.Ordering.{Ordering}
 use Rattle.std.specs.declared.cmp.Ordering.TheVariants.{Less, Greater}
-use Rattle.std.specs.Ordering.{is_eq, is_gt}
+use Rattle.std.specs.Ordering.{is_eq, is_gt, nat_cmp}
+use Rattle.std.specs.Cmp.Lexicographic.{slice_cmp}
 use Rattle.leaf_model.specs.declared.rows.Value.{Value}
 use Rattle.leaf_model.specs.declared.rows.Cell.{Cell}
 use Rattle.leaf_model.specs.declared.rows.Row.{Row}
-use Rattle.leaf_model.specs.declared.lent_cells.LentValue.{LentValue}
-use Rattle.leaf_model.specs.Lent.{lent_value}
+use Rattle.leaf_model.specs.declared.lent_cells.LentCells.{LentCells}
+use Rattle.leaf_model.specs.Lent.{each_cells}
+use Rattle.leaf_model.specs.Values.{IsCell}
 use Rattle.row_blocks.specs.declared.column.BlockColumn.{BlockColumn}
+use Rattle.row_blocks.specs.Columns.{MeanCells, cells_in}
 use Rattle.row_blocks.specs.Headings.{Heading, heading, heading_of, heading_cmp}
 use Rattle.row_blocks.specs.Blocks.{IsOther, cells_at}
 
@@ -52,33 +54,14 @@ abbrev pub BeginsWith : Cell → List Cell → Type 0
 BeginsWith c [] = ⊥
 BeginsWith c (d ∷ cells) = d ≡ c
 
+-- one of the first cells is this one
+abbrev pub HasFront : Cell → List (List Cell) → Type 0
+HasFront c rests = (i : ℕ) × (i < length rests) × BeginsWith c (slice_index_or rests i [])
+
 -- of all first cells one under the earliest heading, or none where there are no cells
 abbrev pub IsEarliest : Option Cell → List (List Cell) → Type 0
 IsEarliest None rests = (i : ℕ) → i < length rests → slice_index_or rests i [] ≡ []
-IsEarliest (Some c) rests = ((i : ℕ) × (i < length rests) × BeginsWith c (slice_index_or rests i [])) × ((i : ℕ) → i < length rests → IsNotBefore (heading_of c) (slice_index_or rests i []))
-
--- the value of the first cell, where it has the heading of another, if there is one
-abbrev pub value_under : Option Cell → List Cell → Option Value
-value_under None cells = None
-value_under (Some c) cells = front_value (heading_of c) cells
-
--- the heading of a cell, if there is one yet, beside that of another: no cell comes behind all
-abbrev pub first_cmp : Option Cell → Cell → Ordering
-first_cmp None c = Greater
-first_cmp (Some a) c = heading_cmp (heading_of a) (heading_of c)
-
--- the same beside the first of some cells: no cells come behind all
-abbrev pub front_cmp : Option Cell → List Cell → Ordering
-front_cmp like [] = Less
-front_cmp like (c ∷ cells) = first_cmp like c
-
--- of the first so many rows this is a first cell under the earliest heading, which none before a place has, and these are the values under it
-pub record AreLent (rests : List (List Cell)) (values : List (Option LentValue)) (like : Option Cell) (from count : ℕ) : Type 0 where
-  pub same : length values ≡ length rests
-  pub within : from ≤ count
-  pub first : IsEarliest like (take count rests)
-  pub each : (k : ℕ) → k < count → option_map lent_value (slice_index_or values k None) ≡ value_under like (slice_index_or rests k [])
-  pub none : (k : ℕ) → k < from → slice_index_or values k None ≡ None
+IsEarliest (Some c) rests = HasFront c rests × ((i : ℕ) → i < length rests → IsNotBefore (heading_of c) (slice_index_or rests i []))
 
 -- how many cells there are
 abbrev pub cells_count : List (List Cell) → ℕ
@@ -100,6 +83,29 @@ pub record HoldCells (rows : List Row) (columns : List BlockColumn) : Type 0 whe
   pub ascend : IsStrictlySortedBy heading_cmp (map heading columns)
   pub cells : (i : ℕ) → i < length rows → cells_at i columns ≡ slice_index_or (cells_of_rows rows) i []
   pub few : length columns ≤ cells_count (cells_of_rows rows)
+
+-- each is a cell, and their names ascend
+pub record AreCells (cells : List Cell) : Type 0 where
+  pub each : AllByRecursion IsCell cells
+  pub ascending : IsStrictlySortedBy (slice_cmp nat_cmp) (map (λ (c : Cell). c.name) cells)
+
+-- the values under a heading at the fronts of the rows
+abbrev pub fronts : Heading → List LentCells → List (Option Value)
+fronts h rests = map (front_value h) (each_cells rests)
+
+-- no row has a first cell under an earlier heading, and these cells are left without those under the heading
+pub record ArePassed (h : Heading) (rests nexts : List (List Cell)) : Type 0 where
+  pub first : AllByRecursion (IsNotBefore h) rests
+  pub left : nexts ≡ map (rest_after h) rests
+
+-- the column holds the first cells under the earliest heading, and these are the cells that are left without them
+pub record IsNext (rests nexts : List (List Cell)) (column : BlockColumn) : Type 0 where
+  pub cell : Cell
+  pub first : IsEarliest (Some cell) rests
+  pub under : heading column ≡ heading_of cell
+  pub means : MeanCells column.bytes (length rests)
+  pub cells : cells_in column.bytes ≡ map (front_value (heading_of cell)) rests
+  pub left : nexts ≡ map (rest_after (heading_of cell)) rests
 
 -- no row has a cell
 abbrev pub AreBare : List Row → Type 0

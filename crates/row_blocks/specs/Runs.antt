@@ -4,9 +4,12 @@ use Rattle.std.specs.List.{AllByRecursion, filter, last_or}
 use Rattle.std.specs.Ordering.{is_eq, is_lt}
 use Rattle.leaf_model.specs.declared.rows.Value.{Value}
 use Rattle.leaf_model.specs.declared.rows.Cell.{Cell}
+use Rattle.leaf_model.specs.declared.rows.Row.{Row}
 use Rattle.leaf_model.specs.Lent.{lent_cell}
+use Rattle.row_blocks.specs.declared.column.BlockColumn.{BlockColumn}
 use Rattle.row_blocks.specs.declared.runs.PlacedCell.{PlacedCell}
 use Rattle.row_blocks.specs.Headings.{Heading, heading_cmp, heading_of}
+use Rattle.row_blocks.specs.Merging.{AreTaken}
 
 -- the cell is of the row at a place
 abbrev pub is_at : ℕ → PlacedCell → Bool
@@ -40,3 +43,10 @@ comes_under h p = is_eq (heading_cmp h (heading_of (lent_cell p.cell)))
 -- the value of the last of some cells
 abbrev pub last_value : List Cell → Option Value
 last_value cells = last_or None (map (λ (c : Cell). c.value) cells)
+
+-- these columns were taken off the rows, and these cells are left, in the order of their headings
+pub record AreLeft (rows : List Row) (columns : List BlockColumn) (ps : List PlacedCell) : Type 0 where
+  pub rests : List (List Cell)
+  pub taken : AreTaken rows columns rests
+  pub rise : Rise ps
+  pub hold : HoldRests rests ps

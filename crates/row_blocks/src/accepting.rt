@@ -6,8 +6,8 @@ use crate::column::BlockColumn;
 use crate::fault::BlockFault;
 use crate::places::fit_rows;
 use crate::rules::{do_ascend, times_of_column, views_of_others};
-use crate::times::{TimeRange, range_of};
 use std::alloc::Global;
+use time_range::{TimeRange, range_of};
 
 fn range_of_parts(
     alloc: Global,

@@ -3,19 +3,19 @@ ghost use Rattle.std.specs.Prelude.{◌≡◌, ◌<◌, ◌≤◌, true, length,
 ghost use Rattle.std.specs.List.{find};
 ghost use Rattle.row_blocks.specs.declared.column.BlockColumn.{BlockColumn};
 ghost use Rattle.row_blocks.specs.declared.fault.BlockFault.TheVariants.{NoRows};
-ghost use Rattle.row_blocks.specs.Blocks.{Block, IsBlock, IsRange, is_column, rows_in, times_of};
-ghost use Rattle.row_blocks.specs.Ordered.{IsRangeOf, NeverFall};
+ghost use Rattle.row_blocks.specs.Blocks.{Block, IsBlock, is_column, rows_in, times_of};
+ghost use Rattle.time_range.specs.Ranges.{IsRange, IsRangeOf, NeverFall};
 
 use crate::accepting::range_of_block;
 use crate::column::{BlockColumn, BlockColumns};
 use crate::fault::BlockFault;
 use crate::headings::{is_kind, kind_in};
 use crate::in_order::{FEW_CUTS, TimeOrder, sorted_times};
-use crate::times::TimeRange;
 use column_bytes::Kind;
 use leaf_model::Text;
 use std::alloc::Global;
 use std::marker::Model;
+use time_range::TimeRange;
 
 /// 1 to 65,536 rows as columns, with their least and greatest time and whether their times never fall. Contracts see the number of rows and the columns.
 #[derive(Debug, Drop)]
@@ -28,7 +28,8 @@ pub struct RowBlock {
 
 impl Model for RowBlock {
     ghost use Rattle.row_blocks.specs.Blocks.{Block, IsBlock, rows_in, times_of};
-    ghost use Rattle.row_blocks.specs.Ordered.{AreSorted, IsRangeOf};
+    ghost use Rattle.row_blocks.specs.Ordered.{AreSorted};
+    ghost use Rattle.time_range.specs.Ranges.{IsRangeOf};
 
     ghost Value = { Block };
 

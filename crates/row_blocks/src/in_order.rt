@@ -3,13 +3,14 @@ ghost use Rattle.std.specs.Prelude.{◌≡◌, ◌<◌, ◌≤◌, ℕ, length, 
 ghost use Rattle.row_blocks.specs.Blocks.{rows_in, times_of};
 ghost use Rattle.row_blocks.specs.Held.{live_rows};
 ghost use Rattle.row_blocks.specs.Live.{AreTimesOf};
-ghost use Rattle.row_blocks.specs.Ordered.{AreSorted, NeverFall, Parts};
+ghost use Rattle.row_blocks.specs.Ordered.{AreSorted, Parts};
+ghost use Rattle.time_range.specs.Ranges.{NeverFall};
 
 use crate::block::RowBlock;
 use crate::live::{times_view, walked_time};
-use crate::times::range_of;
 use column_bytes::ColumnView;
 use std::alloc::{AllocError, Global};
+use time_range::range_of;
 
 /// So many horizons may cut a block before its times are sorted, since a sort takes as long as some walks.
 pub(crate) const FEW_CUTS: u32 = 8;

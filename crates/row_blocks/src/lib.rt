@@ -7,9 +7,9 @@ mod blocks;
 mod column;
 mod counting;
 mod fault;
+mod fronts;
 mod headings;
 mod in_order;
-mod lending;
 mod live;
 mod merge;
 mod places;
@@ -18,7 +18,6 @@ mod rows;
 mod rules;
 mod runs;
 mod sealing;
-mod times;
 
 pub use block::RowBlock;
 pub use blocks::Blocks;

@@ -3,7 +3,8 @@ ghost use Rattle.std.specs.Prelude.{◌≡◌, ◌-◌, ◌<◌, ◌≤◌, leng
 ghost use Rattle.row_blocks.specs.Blocks.{rows_in, times_of};
 ghost use Rattle.row_blocks.specs.Held.{live_rows};
 ghost use Rattle.row_blocks.specs.Live.{AreTimesOf, has_live, time_at};
-ghost use Rattle.row_blocks.specs.Ordered.{IsFirstLive, NeverFall};
+ghost use Rattle.row_blocks.specs.Ordered.{IsFirstLive};
+ghost use Rattle.time_range.specs.Ranges.{NeverFall};
 
 use crate::block::RowBlock;
 use crate::in_order::first_from;
@@ -46,7 +47,13 @@ fn is_live(block: &RowBlock, times: &ColumnView, place: u32, horizon: i64) -> bo
 
 /// The time at a place of a walk that begins at `skip`, given the time before it: the first is decoded alone, each other one from that before it.
 #[inline(always)]
-pub(crate) fn walked_time(block: &RowBlock, times: &ColumnView, skip: u32, place: u32, before: i64) -> i64
+pub(crate) fn walked_time(
+    block: &RowBlock,
+    times: &ColumnView,
+    skip: u32,
+    place: u32,
+    before: i64,
+) -> i64
     requires times { AreTimesOf times.now block.now }
     requires behind { skip ≤ place }
     requires place { place < block.now.rows }

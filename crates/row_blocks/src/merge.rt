@@ -1,24 +1,46 @@
-// Rows taken apart into columns: what is left of the rows' cells.
-ghost use Rattle.std.specs.Prelude.{◌≡◌, length, map, option_map, IfOk};
-ghost use Rattle.leaf_model.specs.Lent.{each_cells, each_row, each_value, lent_cells, lent_value};
-ghost use Rattle.row_blocks.specs.Headings.{Heading};
-ghost use Rattle.row_blocks.specs.Merging.{cells_of_rows, front_value, rest_after};
+// Rows taken apart into columns: their times, and the cells that are left of each.
+ghost use Rattle.std.specs.Prelude.{◌≡◌, [], length, IfOk, IfSome};
+ghost use Rattle.leaf_model.specs.Lent.{each_cells, lent_rows};
+ghost use Rattle.row_blocks.specs.Blocks.{times_of};
+ghost use Rattle.row_blocks.specs.Merging.{AreBare, cells_of_rows};
 
-use leaf_model::{LentCells, LentRow, LentValue};
+use leaf_model::{LentCells, LentRows, LentValue};
 use std::alloc::{AllocError, Global};
 
-/// The cells of each row.
-pub(crate) fn rests_of<'a>(
+/// The time of each row, and the cells of each.
+pub(crate) fn parts_of<'a>(
     alloc: Global,
-    rows: &[LentRow<'a>],
-) -> Result<Vec<LentCells<'a>>, AllocError>
-    ensures { IfOk result (λ rests. each_cells rests.items ≡ cells_of_rows (each_row rows.now)) }
+    rows: &LentRows<'a>,
+) -> Result<(Vec<i64>, Vec<LentCells<'a>>), AllocError>
+    ensures times { IfOk result (λ parts. parts.0.items ≡ times_of (lent_rows rows.now)) }
+    ensures cells { IfOk result (λ parts. each_cells parts.1.items ≡ cells_of_rows (lent_rows rows.now)) }
 {
-    let mut rests = Vec::with_capacity(alloc, rows.len())?;
-    for row in rows {
-        rests.push(row.cells)?;
+    let mut times = Vec::with_capacity(alloc, rows.len())?;
+    let mut cells = Vec::with_capacity(alloc, rows.len())?;
+    let mut left = *rows;
+    while let Some((row, others)) = left.split_first() {
+        times.push(row.time)?;
+        cells.push(row.cells)?;
+        left = others;
     }
-    Ok(rests)
+    Ok((times, cells))
+}
+
+/// The times of the rows, where none of them has a cell.
+pub(crate) fn bare_times(alloc: Global, rows: &LentRows) -> Result<Option<Vec<i64>>, AllocError>
+    ensures times { IfOk result (λ found. IfSome found (λ times. times.items ≡ times_of (lent_rows rows.now))) }
+    ensures bare { IfOk result (λ found. IfSome found (λ _. AreBare (lent_rows rows.now))) }
+{
+    let mut times = Vec::with_capacity(alloc, rows.len())?;
+    let mut left = *rows;
+    while let Some((row, others)) = left.split_first() {
+        if row.cells.len() > 0 {
+            return Ok(None);
+        }
+        times.push(row.time)?;
+        left = others;
+    }
+    Ok(Some(times))
 }
 
 /// A place for the value of each row, of which none is lent.
@@ -33,27 +55,4 @@ pub(crate) fn no_values<'a>(
         values.push(None)?;
     }
     Ok(values)
-}
-
-/// The cells without the first, where its value was lent.
-fn rest_after<'a>(value: &Option<LentValue>, rest: &LentCells<'a>) -> LentCells<'a>
-    ensures { (h : Heading) → option_map lent_value value.now ≡ front_value h (lent_cells rest.now) → lent_cells result ≡ rest_after h (lent_cells rest.now) }
-{
-    if value.is_none() {
-        return *rest;
-    }
-    match rest.split_first() {
-        None => *rest,
-        Some((_first, others)) => others,
-    }
-}
-
-/// What is left of each row's cells behind the column whose values were lent.
-pub(crate) fn move_on<'a>(values: &[Option<LentValue>], rests: &mut [LentCells<'a>])
-    requires { length values.now ≡ length rests.old }
-    ensures { (h : Heading) → each_value values.now ≡ map (front_value h) (each_cells rests.old) → each_cells rests.new ≡ map (rest_after h) (each_cells rests.old) }
-{
-    for i in 0..rests.len() {
-        rests[i] = rest_after(&values[i], &rests[i]);
-    }
 }

@@ -1,5 +1,5 @@
 // Cells in the order of their headings: those at the front under one heading are the values of a column.
-ghost use Rattle.std.specs.Prelude.{◌≡◌, ℕ, ◌<◌, ◌==◌, ◌++◌, [], length, None, IfOk, OnOk, option_map, slice_index_or, if◌then◌else◌};
+ghost use Rattle.std.specs.Prelude.{◌≡◌, ℕ, ◌<◌, ◌≤◌, ◌==◌, ◌++◌, [], length, None, IfOk, OnOk, option_map, slice_index_or, if◌then◌else◌};
 ghost use Rattle.std.specs.List.{All, prefix_len};
 ghost use Rattle.std.specs.List.Sorted.{IsStrictlySortedBy};
 ghost use Rattle.std.specs.Ordering.{nat_cmp};
@@ -11,7 +11,6 @@ ghost use Rattle.row_blocks.specs.Places.{names_of};
 ghost use Rattle.row_blocks.specs.Runs.{HoldRests, Rise, comes_under, last_value, row_cells};
 
 use crate::headings::compare_cells;
-use crate::lending::forget;
 use leaf_model::{LentCell, LentCells, LentValue};
 use std::alloc::{AllocError, Global};
 
@@ -85,6 +84,19 @@ pub(crate) fn run_len(like: &LentCell, cells: &[PlacedCell]) -> usize
         }
     }
     cells.len()
+}
+
+/// Takes the values back that were lent from a place on.
+fn forget(values: &mut [Option<LentValue>], from: usize, to: usize)
+    requires order { from ≤ to }
+    requires within { to ≤ length values.old }
+    requires before { (k : ℕ) → k < from → slice_index_or values.old k None ≡ None }
+    ensures same { length values.new ≡ length values.old }
+    ensures none { (k : ℕ) → k < to → slice_index_or values.new k None ≡ None }
+{
+    for i in from..to {
+        values[i] = None;
+    }
 }
 
 /// Lends the values of these cells, each at its row's place, and none at any other.

@@ -3,7 +3,8 @@ use Rattle.std.specs.Int.{w64}
 use Rattle.std.specs.List.{AllByRecursion, list_all}
 use Rattle.std.proofs.lemmas.Int.{to_z-of_z}
 use Rattle.table_state.specs.Tables.{most_rows}
-use Rattle.row_blocks.specs.Blocks.{Block, IsBlock, IsRange, rows_in, times_of}
+use Rattle.row_blocks.specs.Blocks.{Block, IsBlock, rows_in, times_of}
+use Rattle.time_range.specs.Ranges.{IsRange}
 use Rattle.row_blocks.specs.Held.{live_rows}
 use Rattle.adopt.specs.Finishing.{live_count}
 use Rattle.region_layout.specs.Region.{block_in}

@@ -1,5 +1,5 @@
 use Rattle.std.proofs.Common.{◌<◌, List, length, ℤ, sym, subst}
-use Rattle.row_blocks.specs.Ordered.{IsRangeOf}
+use Rattle.time_range.specs.Ranges.{IsRangeOf}
 use Rattle.row_blocks.proofs.Accepted.{AreParts, block_is, parts_are, range_is, some_times}
 use Rattle.row_blocks.proofs.accepting.range_of_parts.Goals as goal
 use Rattle.row_blocks.proofs.accepting.range_of_parts.Goals.{else-do_ascend-via-then-do_ascend+in_ok-fit_rows+else-branch, else-do_ascend-via-else-do_ascend}

@@ -1,4 +1,4 @@
-use Rattle.std.proofs.Common.{◌≡◌, ◌+◌, ◌-◌, ◌/◌, ◌<◌, ◌≤◌, arith, rules, true, false, int_le, slice_index_or, pos, of_z, to_z}
+use Rattle.std.proofs.Common.{◌≡◌, ◌+◌, ◌-◌, ◌/◌, arith, rules, true, false, int_le, slice_index_or, pos, of_z, to_z}
 use Rattle.std.specs.Int.{w64}
 use Rattle.row_blocks.proofs.Halves.{late_part, old_part}
 use Rattle.row_blocks.proofs.in_order.first_from.Goals as goal

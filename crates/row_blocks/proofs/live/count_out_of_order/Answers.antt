@@ -1,4 +1,4 @@
-use Rattle.std.proofs.Common.{◌≡◌, ◌-◌, ℕ, ℤ, arith, length, of_z, to_z, sym, ap, ◌∙◌}
+use Rattle.std.proofs.Common.{ℕ, ℤ, arith, length, of_z, to_z, sym, ap, ◌∙◌}
 use Rattle.std.specs.Int.{w64}
 use Rattle.std.proofs.lemmas.Int.{to_z-of_z}
 use Rattle.std.proofs.lemmas.List.Sorted.{length_permutation}

@@ -1,7 +1,7 @@
 use Rattle.std.proofs.Common.{List, sym, subst}
 use Rattle.row_blocks.specs.declared.column.BlockColumn.{BlockColumn}
 use Rattle.row_blocks.specs.Blocks.{IsBlock, rows_in, times_of}
-use Rattle.row_blocks.specs.Ordered.{IsRangeOf}
+use Rattle.time_range.specs.Ranges.{IsRangeOf}
 use Rattle.row_blocks.proofs.Accepted.{refused_as}
 use Rattle.row_blocks.proofs.block.RowBlock.from_columns.Goals as goal
 
