@@ -8,6 +8,7 @@ pub mod Merged
 pub mod Decodes
 pub mod Split
 pub mod Timed
+pub mod Keyed
 pub mod Laid
 pub mod InTurn
 pub mod Joined

@@ -22,7 +22,7 @@ use Rattle.row_blocks.specs.declared.column.BlockColumn.{BlockColumn}
 use Rattle.block_scan.specs.Decoded.{IsSized, conds_hold}
 use Rattle.block_scan.specs.Reads.{is_wanted, row_of}
 use Rattle.block_scan.specs.declared.slots.Slots.{Slots}
-use Rattle.block_scan.specs.Slots.{AreOfAggs, AreSlots, agg_at, fold_at, integer_of, keys_at, slot_at, slots_in}
+use Rattle.block_scan.specs.Slots.{AreOfAggs, IsKeyed, StandsIn, agg_at, fold_at, integer_of, keys_at, slot_at, slots_in}
 use Rattle.group_table.proofs.Laws.{groups-append, joined-nil, joined-one, no_row, one_row}
 
 abbrev Single : Query → Row → List Group
@@ -118,15 +118,15 @@ folds_at n row places inside (agg ∷ aggs) (d ∷ decoded) are =
     (ap fold_of (sym (agg_ints_at agg (map row places) ∙ ints_mapped (agg_at agg) row places ∙ ints_alike (λ i. agg_at agg (row i)) (integer_of d) n are.0.each places inside)))
     (folds_at n row places inside aggs decoded are.1)
 
-passing_rows : (q : Query) (row : ℕ → Row) (places : List ℕ) → AllByRecursion (λ i. passes q (row i) ≡ true) places → filter (passes q) (map row places) ≡ map row places
-passing_rows q row [] pass = refl
-passing_rows q row (i ∷ places) pass =
-    ap (λ (b : Bool). cond b (row i ∷ filter (passes q) (map row places)) (filter (passes q) (map row places))) pass.0 ∙ ap (λ (l : List Row). row i ∷ l) (passing_rows q row places pass.1)
+passing_rows : (q : Query) (row : ℕ → Row) (slots : Slots) (places : List ℕ) → AllByRecursion (IsKeyed q row slots) places → filter (passes q) (map row places) ≡ map row places
+passing_rows q row slots [] are = refl
+passing_rows q row slots (i ∷ places) are =
+    ap (λ (b : Bool). cond b (row i ∷ filter (passes q) (map row places)) (filter (passes q) (map row places))) are.0.passes ∙ ap (λ (l : List Row). row i ∷ l) (passing_rows q row slots places are.1)
 
-keys_alike : (q : Query) (n : ℕ) (row : ℕ → Row) (slots : Slots) (s : ℕ) (places : List ℕ) → AreSlots q n row slots → AllByRecursion (λ i. i < n) places → AllByRecursion (λ i. slot_at slots i ≡ s) places
+keys_alike : (q : Query) (row : ℕ → Row) (slots : Slots) (s : ℕ) (places : List ℕ) → AllByRecursion (IsKeyed q row slots) places → AllByRecursion (λ i. slot_at slots i ≡ s) places
     → AllByRecursion (λ (r : Row). keys_of q r ≡ keys_at q slots s) (map row places)
-keys_alike q n row slots s [] are inside same = tt
-keys_alike q n row slots s (i ∷ places) are inside same = (are.keyed i inside.0 ∙ ap (keys_at q slots) same.0, keys_alike q n row slots s places are inside.1 same.1)
+keys_alike q row slots s [] are same = tt
+keys_alike q row slots s (i ∷ places) are same = (are.0.keyed ∙ ap (keys_at q slots) same.0, keys_alike q row slots s places are.1 same.1)
 
 some_group : (q : Query) (keys : List Key) (row : ℕ → Row) (places : List ℕ) → 0 < length places → class_group q keys (map row places) ≡ group_of q keys (map row places) ∷ []
 some_group q keys row [] some = absurd (omega (arith, some))
@@ -134,16 +134,16 @@ some_group q keys row (i ∷ places) some = refl
 
 -- the group of places in one slot
 pub one_group : (q : Query) (n : ℕ) (row : ℕ → Row) (slots : Slots) (s : ℕ) (decoded : List Decoded) (places : List ℕ) (keys : List Key) (count : ℕ) (folds : List Fold)
-    → AreSlots q n row slots → AreOfAggs n row q.aggs decoded → AllByRecursion (λ i. passes q (row i) ≡ true) places → AllByRecursion (λ i. i < n) places
+    → AreOfAggs n row q.aggs decoded → AllByRecursion (IsKeyed q row slots) places → AllByRecursion (λ i. i < n) places
     → AllByRecursion (λ i. slot_at slots i ≡ s) places → 0 < length places → keys ≡ keys_at q slots s → count ≡ length places → folds ≡ map (fold_at places) decoded
     → record { keys = keys; count = count; folds = folds } ∷ [] ≡ groups q (map row places)
-one_group q n row slots s decoded places keys count folds are aggs pass inside same some keys_are count_is folds_are =
+one_group q n row slots s decoded places keys count folds aggs are inside same some keys_are count_is folds_are =
     let k = keys_at q slots s in
     let c = count_is ∙ sym (length-map places row) in
     let f = folds_are ∙ folds_at n row places inside q.aggs decoded aggs in
     (λ i. record { keys = keys_are i; count = c i; folds = f i } ∷ [])
-    ∙ sym (some_group q k row places some) ∙ ap (class_group q k) (sym (passing_rows q row places pass))
-    ∙ sym (class_of q k (map row places) (keys_alike q n row slots s places are inside same))
+    ∙ sym (some_group q k row places some) ∙ ap (class_group q k) (sym (passing_rows q row slots places are))
+    ∙ sym (class_of q k (map row places) (keys_alike q row slots s places are same))
 
 -- ---- places that all pass
 
@@ -153,9 +153,14 @@ aggs_sized n row [] (d ∷ decoded) are = absurd are
 aggs_sized n row (agg ∷ aggs) [] are = absurd are
 aggs_sized n row (agg ∷ aggs) (d ∷ decoded) are = (are.0.sized, aggs_sized n row aggs decoded are.1)
 
-pub slots_high : (q : Query) (n : ℕ) (row : ℕ → Row) (slots : Slots) (places : List ℕ) → AreSlots q n row slots → AllByRecursion (λ i. i < n) places → AllByRecursion (λ i. slot_at slots i < slots_in slots) places
-slots_high q n row slots [] are inside = tt
-slots_high q n row slots (i ∷ places) are inside = (are.sized i inside.0, slots_high q n row slots places are inside.1)
+pub slots_high : (q : Query) (row : ℕ → Row) (slots : Slots) (places : List ℕ) → AllByRecursion (StandsIn q row slots) places → AllByRecursion (λ i. slot_at slots i < slots_in slots) places
+slots_high q row slots [] are = tt
+slots_high q row slots (i ∷ places) are = (are.0.sized, slots_high q row slots places are.1)
+
+pub all_keyed : (q : Query) (row : ℕ → Row) (slots : Slots) (places : List ℕ) → AllByRecursion (StandsIn q row slots) places → AllByRecursion (λ i. passes q (row i) ≡ true) places
+    → AllByRecursion (IsKeyed q row slots) places
+all_keyed q row slots [] are pass = tt
+all_keyed q row slots (i ∷ places) are pass = (record { passes = pass.0; keyed = are.0.keyed }, all_keyed q row slots places are.1 pass.1)
 
 passing : (a b c d : Bool) → (a && (b && c)) ≡ true → d ≡ true → (b && (c && d)) ≡ true
 passing true true true d e f = f

@@ -4,4 +4,5 @@ pub mod Seen
 pub mod Timed
 pub mod Viewed
 pub mod Decoded
+pub mod Keyed
 pub mod Slots

@@ -1,4 +1,4 @@
--- Places in slots, by the code of the one key that they have, and what aggregates look at there.
+-- Places in slots, by the keys that they have, and what aggregates look at there.
 use Rattle.std.specs.Prelude.{◌≡◌, ⊤, ℕ, zero, suc, ◌<◌, ◌==◌, Bool, true, false, List, [], ◌∷◌, length, map, filter, ℤ, slice_index, slice_index_or, Option, Some, None, if◌then◌else◌, filter_map, option_and_then, Vec}
 use Rattle.std.specs.declared.alloc.Global.{Global}
 use Rattle.std.specs.declared.cmp.Ordering.TheVariants.{Less}
@@ -11,40 +11,54 @@ use Rattle.leaf_model.specs.declared.groups.Key.{Key}
 use Rattle.leaf_model.specs.declared.groups.Key.TheVariants as key
 use Rattle.leaf_model.specs.declared.groups.Fold.{Fold}
 use Rattle.leaf_model.specs.declared.groups.Group.{Group}
-use Rattle.leaf_model.specs.Groups.{as_int, fold_of, key_of, keys_cmp, keys_of, value_of}
+use Rattle.leaf_model.specs.Groups.{as_int, fold_of, key_of, keys_cmp, keys_of, passes, value_of}
 use Rattle.column_bytes.specs.Cells.{entries, no_value}
 use Rattle.block_scan.specs.declared.decoded.Decoded.{Decoded}
 use Rattle.block_scan.specs.declared.decoded.Decoded.TheVariants.{Codes}
 use Rattle.block_scan.specs.declared.slots.Slots.{Slots}
-use Rattle.block_scan.specs.declared.slots.Slots.TheVariants.{Alone, Coded}
+use Rattle.block_scan.specs.declared.slots.Slots.TheVariants.{Alone, Coded, Found}
 use Rattle.block_scan.specs.Decoded.{IsSized, decoded_at}
+use Rattle.block_scan.specs.Keyed.{keys_seen}
 
--- where a place stands: in the first slot where it has no value, and else behind it by the value's code
+-- where a place stands: in the first slot where it has no value, and else behind it by the value's code; or in the slot that was found
 abbrev pub slot_at : Slots → ℕ → ℕ
 slot_at Alone i = 0
 slot_at (Coded d) i = if slice_index_or d.present.items i false then suc (slice_index d.codes.items i) else 0
+slot_at (Found s) i = slice_index s.at.items i
 
 -- how many slots there are
 abbrev pub slots_in : Slots → ℕ
 slots_in Alone = 1
 slots_in (Coded d) = suc (length (entries d.view.now.book))
+slots_in (Found s) = length s.firsts.items
 
 -- the keys of a slot
 abbrev pub keys_at : Query → Slots → ℕ → List Key
-keys_at q slots zero = map (λ (name : List ℕ). key.Missing) q.keys
-keys_at q Alone (suc code) = []
+keys_at q Alone slot = map (λ (name : List ℕ). key.Missing) q.keys
+keys_at q (Coded d) zero = map (λ (name : List ℕ). key.Missing) q.keys
 keys_at q (Coded d) (suc code) = key_of (Some (slice_index_or (entries d.view.now.book) code no_value)) ∷ []
+keys_at q (Found s) slot = keys_seen s.keys.items (slice_index s.firsts.items slot)
 
 -- so much was decoded
 abbrev pub IsHeld : ℕ → Slots → Type 0
 IsHeld n Alone = ⊤
 IsHeld n (Coded d) = IsSized n (Codes d)
+IsHeld n (Found s) = AllByRecursion (IsSized n) s.keys.items × ((length s.at.items ≡ n) × AllByRecursion (λ place. place < n) s.firsts.items)
 
--- each place stands in a slot of its keys
-pub record AreSlots (q : Query) (n : ℕ) (row : ℕ → Row) (slots : Slots) : Type 0 where
+-- a place stands in a slot of its keys
+pub record StandsIn (q : Query) (row : ℕ → Row) (slots : Slots) (i : ℕ) : Type 0 where
+  pub sized : slot_at slots i < slots_in slots
+  pub keyed : keys_of q (row i) ≡ keys_at q slots (slot_at slots i)
+
+-- so does each of some places
+pub record AreSlots (q : Query) (n : ℕ) (row : ℕ → Row) (slots : Slots) (places : List ℕ) : Type 0 where
   pub held : IsHeld n slots
-  pub sized : (i : ℕ) → i < n → slot_at slots i < slots_in slots
-  pub keyed : (i : ℕ) → i < n → keys_of q (row i) ≡ keys_at q slots (slot_at slots i)
+  pub each : AllByRecursion (StandsIn q row slots) places
+
+-- a row that passes, of the keys of the slot in which its place stands
+pub record IsKeyed (q : Query) (row : ℕ → Row) (slots : Slots) (i : ℕ) : Type 0 where
+  pub passes : passes q (row i) ≡ true
+  pub keyed : keys_of q (row i) ≡ keys_at q slots (slot_at slots i)
 
 -- what an aggregate looks at in a row
 abbrev pub agg_at : Agg → Row → Option ℤ

@@ -50,7 +50,7 @@ fn fold_slots(
 ) -> Result<Groups, AllocError>
     requires few { length times.now ≤ 65536 }
     requires read { AllByRecursion (IsRead (length times.now)) others.now }
-    requires slots { AreSlots query.now (length times.now) (row_of times.now (columns_of others.now)) slots.now }
+    requires slots { AreSlots query.now (length times.now) (row_of times.now (columns_of others.now)) slots.now places.now }
     requires places { AllByRecursion (λ place. place < length times.now) places.now }
     requires short { length places.now ≤ 65536 }
     requires passing { AllByRecursion (λ place. passes query.now (row_of times.now (columns_of others.now) place) ≡ true) places.now }
@@ -70,6 +70,9 @@ fn fold_slots(
     }
 }
 
+/// Where fewer than one row of so many passes, rows are made: to decode a column takes as long as some cells.
+const FEW: usize = 32;
+
 /// The groups of the rows at places that all pass.
 fn fold_passing(
     alloc: Global,
@@ -86,7 +89,10 @@ fn fold_passing(
     ensures groups { IfOk result (λ gs. gs ≡ groups query.now (map (row_of times.now (columns_of others.now)) places.now)) }
     ensures within { IfOk result (λ gs. AllByRecursion (IsWithin (length places.now)) gs) }
 {
-    match slots_of(alloc, query, times, others)? {
+    if places.len() < times.len() / FEW {
+        return fold_places(alloc, query, times, others, places);
+    }
+    match slots_of(alloc, query, times, others, places)? {
         Some(slots) => fold_slots(alloc, query, times, others, &slots, places),
         None => fold_places(alloc, query, times, others, places),
     }

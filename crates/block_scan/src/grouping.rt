@@ -1,11 +1,11 @@
 // The groups of places, slot by slot.
-ghost use Rattle.std.specs.Prelude.{◌≡◌, ℕ, ◌<◌, ◌≤◌, true, List, [], ◌∷◌, length, map, IfOk};
+ghost use Rattle.std.specs.Prelude.{◌≡◌, ℕ, ◌<◌, ◌≤◌, List, [], ◌∷◌, length, map, IfOk};
 ghost use Rattle.std.specs.List.{AllByRecursion};
 ghost use Rattle.leaf_model.specs.declared.rows.Row.{Row};
-ghost use Rattle.leaf_model.specs.Groups.{groups, passes};
+ghost use Rattle.leaf_model.specs.Groups.{groups};
 ghost use Rattle.group_table.specs.Joined.{IsWithin};
 ghost use Rattle.block_scan.specs.Decoded.{IsSized};
-ghost use Rattle.block_scan.specs.Slots.{AreInSlots, AreOfAggs, AreSlots, IsHeld, fold_at, gathered, keys_at, lists_in, slot_at, slots_in};
+ghost use Rattle.block_scan.specs.Slots.{AreInSlots, AreOfAggs, IsHeld, IsKeyed, fold_at, gathered, keys_at, lists_in, slot_at, slots_in};
 
 use crate::decoded::Decoded;
 use crate::folding::fold_all;
@@ -33,6 +33,7 @@ fn fold_slot(
     slot: u64,
     places: &[u32],
 ) -> Result<Groups, AllocError>
+    requires held { IsHeld rows slots.now }
     requires sized { AllByRecursion (IsSized rows) decoded.now }
     requires slot { slot < slots_in slots.now }
     requires inside { AllByRecursion (λ place. place < rows) places.now }
@@ -40,7 +41,7 @@ fn fold_slot(
     ensures groups { IfOk result (λ gs. gs ≡ record { keys = keys_at query.now slots.now slot; count = length places.now; folds = map (fold_at places.now) decoded.now } ∷ []) }
     ensures within { IfOk result (λ gs. AllByRecursion (IsWithin (length places.now)) gs) }
 {
-    let keys = keys_of_slot(alloc, query, slots, slot)?;
+    let keys = keys_of_slot(alloc, query, rows, slots, slot)?;
     let folds = fold_all(alloc, rows, decoded, places)?;
     let count = places.len() as u64;
     only(alloc, Group { keys, count, folds })
@@ -56,12 +57,13 @@ fn fold_list(
     slot: u64,
     places: &[u32],
 ) -> Result<Groups, AllocError>
+    requires held { IsHeld rows slots.now }
     requires sized { AllByRecursion (IsSized rows) decoded.now }
     requires slot { slot < slots_in slots.now }
     requires inside { AllByRecursion (λ place. place < rows) places.now }
     requires same { AllByRecursion (λ place. slot_at slots.now place ≡ slot) places.now }
     requires few { length places.now ≤ 65536 }
-    ensures groups { (row : ℕ → Row) → AreSlots query.now rows row slots.now → AreOfAggs rows row query.now.aggs decoded.now → AllByRecursion (λ place. passes query.now (row place) ≡ true) places.now → IfOk result (λ gs. gs ≡ groups query.now (map row places.now)) }
+    ensures groups { (row : ℕ → Row) → AreOfAggs rows row query.now.aggs decoded.now → AllByRecursion (IsKeyed query.now row slots.now) places.now → IfOk result (λ gs. gs ≡ groups query.now (map row places.now)) }
     ensures within { IfOk result (λ gs. AllByRecursion (IsWithin (length places.now)) gs) }
 {
     if places.is_empty() {
@@ -80,11 +82,12 @@ fn fold_lists(
     lists: &[Vec<u32>],
     order: &[usize],
 ) -> Result<Groups, AllocError>
+    requires held { IsHeld rows slots.now }
     requires sized { AllByRecursion (IsSized rows) decoded.now }
     requires laid { AreInSlots rows slots.now (lists_in lists.now) }
     requires order { AllByRecursion (λ slot. slot < slots_in slots.now) order.now }
     requires few { length (gathered (lists_in lists.now) order.now) ≤ 65536 }
-    ensures groups { (row : ℕ → Row) → AreSlots query.now rows row slots.now → AreOfAggs rows row query.now.aggs decoded.now → AllByRecursion (λ place. passes query.now (row place) ≡ true) (gathered (lists_in lists.now) order.now) → IfOk result (λ gs. gs ≡ groups query.now (map row (gathered (lists_in lists.now) order.now))) }
+    ensures groups { (row : ℕ → Row) → AreOfAggs rows row query.now.aggs decoded.now → AllByRecursion (IsKeyed query.now row slots.now) (gathered (lists_in lists.now) order.now) → IfOk result (λ gs. gs ≡ groups query.now (map row (gathered (lists_in lists.now) order.now))) }
     ensures within { IfOk result (λ gs. AllByRecursion (IsWithin (length (gathered (lists_in lists.now) order.now))) gs) }
 {
     match order {
@@ -116,11 +119,11 @@ pub(crate) fn fold_by_slot(
     requires sized { AllByRecursion (λ place. slot_at slots.now place < slots_in slots.now) places.now }
     requires inside { AllByRecursion (λ place. place < rows) places.now }
     requires few { length places.now ≤ 65536 }
-    ensures groups { (row : ℕ → Row) → AreSlots query.now rows row slots.now → AreOfAggs rows row query.now.aggs decoded.now → AllByRecursion (λ place. passes query.now (row place) ≡ true) places.now → IfOk result (λ gs. gs ≡ groups query.now (map row places.now)) }
+    ensures groups { (row : ℕ → Row) → AreOfAggs rows row query.now.aggs decoded.now → AllByRecursion (IsKeyed query.now row slots.now) places.now → IfOk result (λ gs. gs ≡ groups query.now (map row places.now)) }
     ensures within { IfOk result (λ gs. AllByRecursion (IsWithin (length places.now)) gs) }
 {
     let lists = lay_out(alloc, rows, slots, places)?;
-    let order = slots_in_order(alloc, slots, lists.as_slice())?;
+    let order = slots_in_order(alloc, rows, slots, lists.as_slice())?;
     fold_lists(
         alloc,
         query,

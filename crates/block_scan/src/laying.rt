@@ -1,10 +1,11 @@
-// Places laid out by slot, and the slots that have some, in the order of their texts.
+// Places laid out by slot, and the slots that have some, in the order of their keys.
 ghost use Rattle.std.specs.Prelude.{◌≡◌, ℕ, ◌<◌, ◌^◌, ◌++◌, [], ◌∷◌, length, map, set, if◌then◌else◌, IfOk};
 ghost use Rattle.std.specs.List.{AllByRecursion};
 ghost use Rattle.std.specs.List.Sorted.{IsPermutation};
 ghost use Rattle.block_scan.specs.Slots.{AreLaid, IsHeld, is_used, lists_in, list_at, slot_at, slots_in, used_slots};
 
 use crate::narrowing::entry_of;
+use crate::ranking::slots_by_keys;
 use crate::slots::{Slots, slots_in};
 use column_bytes::ValueRef;
 use std::alloc::{AllocError, Global};
@@ -25,6 +26,7 @@ fn slot_of(rows: u32, slots: &Slots, place: u32) -> u64
                 0
             }
         }
+        Slots::Found(found) => u64::from(found.at[place as usize]),
     }
 }
 
@@ -71,7 +73,7 @@ fn text_of<'a>(slots: &Slots<'_, 'a>, slot: u64) -> &'a str
     requires { slot < slots_in slots.now }
 {
     match slots {
-        Slots::Alone => "",
+        Slots::Alone | Slots::Found(_) => "",
         Slots::Coded(found) => {
             if slot == 0 {
                 return "";
@@ -127,15 +129,29 @@ fn slots_alone(alloc: Global, used: &[(&str, usize)]) -> Result<Vec<usize>, Allo
 }
 
 /// The slots that have places, in the order of their texts.
-pub(crate) fn slots_in_order(
-    alloc: Global,
-    slots: &Slots,
-    lists: &[Vec<u32>],
-) -> Result<Vec<usize>, AllocError>
+fn slots_by_text(alloc: Global, slots: &Slots, lists: &[Vec<u32>]) -> Result<Vec<usize>, AllocError>
     requires { length lists.now ≡ slots_in slots.now }
     ensures { IfOk result (λ order. IsPermutation (used_slots (lists_in lists.now)) order.items) }
 {
     let mut used = used_slots(alloc, slots, lists)?;
     used.sort_unstable();
     slots_alone(alloc, used.as_slice())
+}
+
+/// The slots that have places, in the order of their keys.
+pub(crate) fn slots_in_order(
+    alloc: Global,
+    rows: u32,
+    slots: &Slots,
+    lists: &[Vec<u32>],
+) -> Result<Vec<usize>, AllocError>
+    requires held { IsHeld rows slots.now }
+    requires count { length lists.now ≡ slots_in slots.now }
+    ensures { IfOk result (λ order. IsPermutation (used_slots (lists_in lists.now)) order.items) }
+{
+    let order = slots_by_text(alloc, slots, lists)?;
+    match slots {
+        Slots::Alone | Slots::Coded(_) => Ok(order),
+        Slots::Found(found) => slots_by_keys(alloc, rows, found, order),
+    }
 }

@@ -6,7 +6,7 @@ use Rattle.block_scan.specs.declared.decoded.Decoded.{Decoded}
 use Rattle.block_scan.specs.Decoded.{IsSized}
 use Rattle.block_scan.specs.Reads.{columns_of, row_of}
 use Rattle.block_scan.specs.Slots.{AreOfAggs}
-use Rattle.block_scan.proofs.Split.{aggs_sized, slots_high}
+use Rattle.block_scan.proofs.Split.{aggs_sized, all_keyed, slots_high}
 use Rattle.block_scan.proofs.columns.fold_slots.Goals as goal
 
 pub fold_by_slot-requires : goal.fold_by_slot-requires
@@ -16,7 +16,7 @@ fold_by_slot-requires c =
     record {
       held = c.requires.slots.held;
       decoded = subst (AllByRecursion (IsSized n)) (sym c.as_slice-in-Some.ensures.value) (aggs_sized n row c.as_slice.result.now c.in-Some.decoded.items all);
-      sized = slots_high c.args.query.now n row slots c.args.places.now c.requires.slots c.requires.places;
+      sized = slots_high c.args.query.now row slots c.args.places.now c.requires.slots.each;
       inside = c.requires.places;
       few = c.requires.short;
     }
@@ -27,4 +27,4 @@ returns-in-Some-clause-groups c =
     let all = subst (λ (f : Option (Vec Decoded Global)). IfSome f (λ ds. AreOfAggs n row c.as_slice.result.now ds.items)) c.in-Some.is c.in_ok-decoded.ensures in
     let aggs = subst (λ (as_ : List Agg). AreOfAggs n row as_ c.as_slice-in-Some.result.now) c.as_slice.ensures
     (subst (AreOfAggs n row c.as_slice.result.now) (sym c.as_slice-in-Some.ensures.value) all) in
-    c.fold_by_slot.ensures.groups row c.requires.slots aggs c.requires.passing
+    c.fold_by_slot.ensures.groups row aggs (all_keyed c.args.query.now row c.args.slots.now c.args.places.now c.requires.slots.each c.requires.passing)

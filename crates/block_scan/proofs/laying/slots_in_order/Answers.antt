@@ -1,13 +1,12 @@
-use Rattle.std.proofs.Common.{◌≡◌, ℕ, List, map, sym, subst, ◌∙◌, ap}
+use Rattle.std.proofs.Common.{ℕ, Vec, Global}
 use Rattle.std.specs.List.Sorted.{IsPermutation}
-use Rattle.std.proofs.lemmas.List.Sorted.{IsPermutation-map}
+use Rattle.std.proofs.lemmas.List.Sorted.{IsPermutation-trans}
 use Rattle.block_scan.specs.Slots.{lists_in, used_slots}
 use Rattle.block_scan.proofs.Lists.{if_ok}
 use Rattle.block_scan.proofs.laying.slots_in_order.Goals as goal
 
-pub returns : goal.returns
-returns c =
-    let mixed = subst (λ (l : List ℕ). IsPermutation {X = ℕ} l (map (λ u. u.1) c.sort_unstable.new.self.items)) c.in_ok-used.ensures
-    (IsPermutation-map (λ u. u.1) c.in_ok-used.used.items c.sort_unstable.new.self.items c.sort_unstable.ensures.permutation) in
-    if_ok (λ order. order.items ≡ map (λ u. u.1) c.as_slice.result.now) (λ order. IsPermutation {X = ℕ} (used_slots (lists_in c.args.lists.now)) order.items) c.slots_alone.result c.slots_alone.ensures
-    (λ order is. subst (λ (l : List ℕ). IsPermutation {X = ℕ} (used_slots (lists_in c.args.lists.now)) l) (sym (is ∙ ap (λ l. map (λ u. u.1) l) c.as_slice.ensures.value)) mixed)
+pub returns-in-Found : goal.returns-in-Found
+returns-in-Found c =
+    let used = used_slots (lists_in c.args.lists.now) in
+    if_ok (λ (order : Vec ℕ Global). IsPermutation {X = ℕ} c.in_ok-order.order.items order.items) (λ (order : Vec ℕ Global). IsPermutation {X = ℕ} used order.items) c.slots_by_keys.result c.slots_by_keys.ensures
+    (λ order is. IsPermutation-trans used c.in_ok-order.order.items order.items c.in_ok-order.ensures is)

@@ -1,0 +1,6 @@
+use Rattle.std.proofs.Common.{◌≡◌, take}
+use Rattle.block_scan.specs.Keyed.{keys_seen}
+use Rattle.block_scan.proofs.keys_seen.are_same_keys.Given as goal
+
+abbrev pub invariant-loop-key : goal.invariant-loop-key
+invariant-loop-key l = keys_seen (take l.key-index l.keys) l.a ≡ keys_seen (take l.key-index l.keys) l.b
